@@ -1,0 +1,96 @@
+-- Values as they are written, line by line.
+use Rattle.std.proofs.Common.{◌≡◌, ℕ, Bool, true, false, IsTrue, List, [], ◌∷◌, ◌++◌, ◌==◌, ◌&&◌, not, Result, Ok, Err, OnOk, sym, ap, refl, ◌∙◌, append_assoc, append-nil}
+use Rattle.std.specs.Prelude.{if◌then◌else◌}
+use Rattle.std.specs.Result.{is_ok}
+use Rattle.std.proofs.lemmas.Bool.{and_parts, not-true}
+use Rattle.rec_text.specs.Lines.{is_unbroken, ends_backslash, BeginsLine}
+use Rattle.rec_text.specs.Canonical.{folded, is_foldable, Extends}
+use Rattle.rec_text.proofs.LogicalLineLemmas.{ends_backslash-newline}
+
+-- ---- which values can be written
+
+is_foldable-line : (before : ℕ) (line behind : List ℕ) → IsTrue (is_unbroken line) → is_foldable before (line ++ 10 ∷ behind) ≡ (not (ends_backslash (before ∷ line)) && is_foldable 10 behind)
+is_foldable-line before [] behind unbroken = refl
+is_foldable-line before (x ∷ xs) behind unbroken =
+    let parts = and_parts _ _ unbroken in rw (not-true (x == 10) parts.0) (is_foldable-line x xs behind parts.1)
+
+is_foldable-end : (before : ℕ) (line : List ℕ) → IsTrue (is_unbroken line) → is_foldable before line ≡ not (ends_backslash (before ∷ line))
+is_foldable-end before [] unbroken = refl
+is_foldable-end before (x ∷ xs) unbroken =
+    let parts = and_parts _ _ unbroken in rw (not-true (x == 10) parts.0) (is_foldable-end x xs parts.1)
+
+-- the rest decides
+pub record DecidesFoldable (value rest : List ℕ) : Type 0 where
+  pub same : is_foldable 32 value ≡ is_foldable 10 rest
+
+pub is_foldable-same : (before after : ℕ) (text : List ℕ) → (before == 92) ≡ (after == 92) → is_foldable before text ≡ is_foldable after text
+is_foldable-same before after [] e = rw e
+is_foldable-same before after (b ∷ bs) e = rw e
+
+pub DecidesFoldable-none : (value : List ℕ) → DecidesFoldable value value
+DecidesFoldable-none value = record { same = is_foldable-same 32 10 value refl }
+
+module _ {value rest line behind : List ℕ} (so_far : DecidesFoldable value rest) (first : BeginsLine rest line behind) where
+  by_line : is_foldable 32 value ≡ (not (ends_backslash line) && is_foldable 10 behind)
+  by_line =
+      so_far.same
+      ∙ ap (is_foldable 10) first.parts
+      ∙ is_foldable-line 10 line behind first.unbroken
+      ∙ ap (λ ends. not ends && is_foldable 10 behind) (ends_backslash-newline line)
+
+  pub DecidesFoldable-next : false ≡ ends_backslash line → DecidesFoldable value behind
+  DecidesFoldable-next ends = record { same = by_line ∙ ap (λ b. not b && is_foldable 10 behind) (sym ends) }
+
+  pub line_forbids : true ≡ ends_backslash line → false ≡ is_foldable 32 value
+  line_forbids ends = sym (by_line ∙ ap (λ b. not b && is_foldable 10 behind) (sym ends))
+
+pub not-moved : (none some ends : Bool) → some ≡ not none → some ≡ ends → none ≡ not ends
+not-moved true some ends e f = ap not (sym e ∙ f)
+not-moved false some ends e f = ap not (sym e ∙ f)
+
+pub end_decides : {value rest : List ℕ} → DecidesFoldable value rest → IsTrue (is_unbroken rest) → not (ends_backslash rest) ≡ is_foldable 32 value
+end_decides {value} {rest} so_far unbroken =
+    sym (so_far.same ∙ is_foldable-end 10 rest unbroken ∙ ap not (ends_backslash-newline rest))
+
+-- ---- how they are written
+
+folded-line : (line behind : List ℕ) → IsTrue (is_unbroken line) → folded (line ++ 10 ∷ behind) ≡ line ++ 10 ∷ 43 ∷ 32 ∷ folded behind
+folded-line [] behind unbroken = refl
+folded-line (x ∷ xs) behind unbroken =
+    let parts = and_parts _ _ unbroken in rw (not-true (x == 10) parts.0) (ap (λ bs. x ∷ bs) (folded-line xs behind parts.1))
+
+folded-end : (line : List ℕ) → IsTrue (is_unbroken line) → folded line ≡ line
+folded-end [] unbroken = refl
+folded-end (x ∷ xs) unbroken =
+    let parts = and_parts _ _ unbroken in rw (not-true (x == 10) parts.0) (ap (λ bs. x ∷ bs) (folded-end xs parts.1))
+
+-- what is done, with the rest of the value behind it, is what was there before and the value
+pub record HasFolded (old value done rest : List ℕ) : Type 0 where
+  pub whole : done ++ folded rest ≡ old ++ folded value
+  pub front : Extends old done
+
+pub HasFolded-none : (old value : List ℕ) → HasFolded old value old value
+HasFolded-none old value = record { whole = refl; front = ([], sym (append-nil old)) }
+
+pub Extends-more : (old done more new : List ℕ) → Extends old done → new ≡ done ++ more → Extends old new
+Extends-more old done more new before e = (before.0 ++ more, e ∙ ap (λ bs. bs ++ more) before.1 ∙ append_assoc old before.0 more)
+
+pub HasFolded-next : {old value done rest line behind : List ℕ} → HasFolded old value done rest → BeginsLine rest line behind → (mid new : List ℕ) → mid ≡ done ++ line → new ≡ mid ++ 10 ∷ 43 ∷ 32 ∷ [] → HasFolded old value new behind
+HasFolded-next {old = old} {done = done} {line = line} {behind = behind} so_far first mid new extended marked =
+    record {
+      whole = ap (λ bs. bs ++ folded behind) (marked ∙ ap (λ bs. bs ++ 10 ∷ 43 ∷ 32 ∷ []) extended)
+          ∙ append_assoc (done ++ line) (10 ∷ 43 ∷ 32 ∷ []) (folded behind)
+          ∙ append_assoc done line (10 ∷ 43 ∷ 32 ∷ folded behind)
+          ∙ ap (λ bs. done ++ bs) (sym (ap folded first.parts ∙ folded-line line behind first.unbroken))
+          ∙ so_far.whole;
+      front = Extends-more old mid _ new (Extends-more old done line mid so_far.front extended) marked;
+    }
+
+pub HasFolded-all : {old value done rest : List ℕ} → HasFolded old value done rest → IsTrue (is_unbroken rest) → done ++ rest ≡ old ++ folded value
+HasFolded-all {done = done} {rest = rest} so_far unbroken = ap (λ bs. done ++ bs) (sym (folded-end rest unbroken)) ∙ so_far.whole
+
+-- ---- a call that appends, and whose answer is handed on
+
+pub OnOk-appended : {T E : Type 0} (now done more whole : List ℕ) (r : Result T E) → now ≡ (if is_ok r then done ++ more else done) → done ++ more ≡ whole → OnOk r (now ≡ whole)
+OnOk-appended now done more whole (Ok x) e parts = e ∙ parts
+OnOk-appended now done more whole (Err fault) e parts = tt

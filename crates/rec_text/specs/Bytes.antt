@@ -1,0 +1,34 @@
+-- Classes of bytes, and tests on the ends of a text. 9 is a tab, 10 a newline, 32 a space, 35 `#`, 37 `%`, 43 `+`, 58 `:`, 92 a backslash.
+use Rattle.std.specs.Prelude.{ℕ, Bool, true, false, List, [], ◌∷◌, ◌==◌, ◌||◌, ◌&&◌, nat_le}
+
+-- a space or a tab
+abbrev pub is_blank : ℕ → Bool
+is_blank b = b == 32 || b == 9
+
+-- a letter
+abbrev pub is_letter : ℕ → Bool
+is_letter b = (nat_le 65 b && nat_le b 90) || (nat_le 97 b && nat_le b 122)
+
+-- a byte that a name may begin with: a letter or %
+abbrev pub begins_name : ℕ → Bool
+begins_name b = is_letter b || b == 37
+
+-- a byte that a name may go on with: a letter, a digit or _
+abbrev pub continues_name : ℕ → Bool
+continues_name b = is_letter b || (nat_le 48 b && nat_le b 57) || b == 95
+
+-- there is no byte
+abbrev pub is_nil : List ℕ → Bool
+is_nil [] = true
+is_nil (b ∷ bs) = false
+
+-- a `+` comes first
+abbrev pub begins_plus : List ℕ → Bool
+begins_plus [] = false
+begins_plus (b ∷ bs) = b == 43
+
+-- the last byte is a newline
+abbrev pub ends_newline : List ℕ → Bool
+ends_newline [] = false
+ends_newline (b ∷ []) = b == 10
+ends_newline (b ∷ c ∷ cs) = ends_newline (c ∷ cs)

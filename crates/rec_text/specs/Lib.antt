@@ -1,0 +1,14 @@
+pub mod Bytes
+pub mod Lines
+pub mod Elements
+pub mod Reading
+pub mod Scan
+pub mod Places
+pub mod Values
+pub mod Spellings
+pub mod Canonical
+pub mod Records
+pub mod Scanned
+pub mod Sought
+pub mod Faults
+pub mod Sink

@@ -1,0 +1,93 @@
+//! Fields as recu writes them.
+ghost use Rattle.std.specs.Prelude.{◌≡◌, ◌++◌, IsTrue, OnOk, OnErr};
+ghost use Rattle.rec_text.specs.declared.element.Kind.TheVariants.{Field};
+ghost use Rattle.std.specs.List.{list_all};
+ghost use Rattle.rec_text.specs.Bytes.{continues_name as may_continue};
+ghost use Rattle.rec_text.specs.Canonical.{field_of, put_outcome, folded, is_plain_name as may_be_written, is_foldable as can_be_folded, Extends};
+ghost use Rattle.rec_text.specs.Elements.{is_field, name_of};
+ghost use Rattle.rec_text.specs.Faults.{UnlessMemory};
+ghost use Rattle.rec_text.specs.Values.{value_of};
+
+use crate::fault::Fault;
+use crate::lines::{split_line, strip_backslash};
+use crate::name::continues_name;
+use std::alloc::AllocError;
+
+fn all_continue(bytes: &[u8]) -> bool
+    ensures { result ≡ list_all may_continue bytes.now }
+{
+    bytes.iter().all(|byte| continues_name(*byte))
+}
+
+fn is_plain_name(name: &[u8]) -> bool
+    ensures { result ≡ may_be_written name.now }
+{
+    match name.split_first() {
+        Some((first, rest)) => first.is_ascii_alphabetic() && all_continue(rest),
+        None => false,
+    }
+}
+
+/// Whether no line of a value ends in a backslash.
+fn is_foldable(value: &[u8]) -> bool
+    ensures { result ≡ can_be_folded 32 value.now }
+{
+    let mut rest = value;
+    while let Some((line, behind)) = split_line(rest) {
+        if strip_backslash(line).is_some() {
+            return false;
+        }
+        rest = behind;
+    }
+    strip_backslash(rest).is_none()
+}
+
+/// Appends a value, each newline of it as a newline, a plus and a space.
+fn append_folded(out: &mut Vec<u8>, value: &[u8]) -> Result<(), AllocError>
+    ensures value { OnOk result (out.new.items ≡ out.old.items ++ folded value.now) }
+    ensures front { Extends out.old.items out.new.items }
+{
+    let mut rest = value;
+    while let Some((line, behind)) = split_line(rest) {
+        out.extend_from_slice(line)?;
+        out.extend_from_slice(b"\n+ ")?;
+        rest = behind;
+    }
+    out.extend_from_slice(rest)
+}
+
+/// Appends a field. What was there before stays its front, also without memory for the rest.
+fn append_field(out: &mut Vec<u8>, name: &[u8], value: &[u8]) -> Result<(), AllocError>
+    ensures field { OnOk result (out.new.items ≡ out.old.items ++ field_of name.now value.now) }
+    ensures front { Extends out.old.items out.new.items }
+{
+    out.extend_from_slice(name)?;
+    out.extend_from_slice(b": ")?;
+    append_folded(out, value)?;
+    out.extend_from_slice(b"\n")
+}
+
+/// Appends the canonical field of this name and value. A refusal leaves `out` as it was.
+pub fn put_field(out: &mut Vec<u8>, name: &[u8], value: &[u8]) -> Result<(), Fault>
+    ensures field { OnOk result (out.new.items ≡ out.old.items ++ field_of name.now value.now) }
+    ensures unchanged { OnErr result (out.new.items ≡ out.old.items) }
+    // Whether it succeeds, and else why not.
+    ensures outcome { UnlessMemory result (λ answer. answer ≡ put_outcome name.now value.now) }
+    // What is written is a field, and reads as this name and value.
+    ensures well_formed { OnOk result (IsTrue (is_field (field_of name.now value.now))) }
+    ensures name { OnOk result (name_of (record { kind = Field; bytes = field_of name.now value.now }) ≡ name.now) }
+    ensures value { OnOk result (value_of (record { kind = Field; bytes = field_of name.now value.now }) ≡ value.now) }
+{
+    if !is_plain_name(name) {
+        return Err(Fault::BadName);
+    }
+    if !is_foldable(value) {
+        return Err(Fault::BadValue);
+    }
+    let len = out.len();
+    if let Err(error) = append_field(out, name, value) {
+        out.truncate(len);
+        return Err(Fault::from(error));
+    }
+    Ok(())
+}

@@ -1,0 +1,23 @@
+//! Lines of a text, cut at its newlines.
+ghost use Rattle.std.specs.Prelude.{◌≡◌, ◌++◌, ◌∷◌, [], IsTrue, MatchOption, false};
+ghost use Rattle.std.specs.Option.{is_some};
+ghost use Rattle.rec_text.specs.Lines.{is_unbroken, ends_backslash, BeginsLine};
+
+use memchr::memchr;
+
+/// The first line without its newline, and what stands behind that newline.
+pub(crate) fn split_line(text: &[u8]) -> Option<(&[u8], &[u8])>
+    ensures { MatchOption result (IsTrue (is_unbroken text.now)) (λ cut. BeginsLine text.now cut.0.now cut.1.now) }
+{
+    let at = memchr(b'\n', text)?;
+    Some((&text[..at], &text[at + 1..]))
+}
+
+/// A line that ends in a backslash, without it.
+pub(crate) fn strip_backslash(line: &[u8]) -> Option<&[u8]>
+    ensures variant { is_some result ≡ ends_backslash line.now }
+    ensures cases { MatchOption result (ends_backslash line.now ≡ false) (λ front. line.now ≡ front.now ++ 92 ∷ []) }
+{
+    let (last, front) = line.split_last()?;
+    if *last == b'\\' { Some(front) } else { None }
+}

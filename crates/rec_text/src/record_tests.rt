@@ -1,0 +1,209 @@
+use crate::bytes::Bytes;
+use crate::element::{Element, Kind};
+use crate::fault::Fault;
+use crate::reader::read;
+use crate::records::{Paragraphs, Records};
+use crate::sink::{Output, Sink, put_all};
+use crate::violations::{Rule, Violation, Violations};
+use std::alloc::Global;
+use std::test::Fail;
+
+/// Two violations.
+fn two_violations(alloc: Global) -> Result<Violations, Fault> {
+    let mut listed = Vec::new(alloc);
+    for line in [3, 7] {
+        listed.push(Violation {
+            line,
+            rule: Rule::Key,
+            name: Bytes::copy_of(alloc, b"Name")?,
+        })?;
+    }
+    Ok(Violations::from_vec(listed))
+}
+
+#[test]
+fn faults_have_numbers_and_texts(rt: HostRuntime) -> Result<(), Fail> {
+    let alloc = rt.alloc();
+    let cases = [
+        (Fault::OutOfMemory, 1, "out of memory"),
+        (
+            Fault::BadLine { line: 4 },
+            2,
+            "line 4: not a field, comment or blank line",
+        ),
+        (
+            Fault::OpenLine { line: 12 },
+            3,
+            "line 12: nothing follows the backslash",
+        ),
+        (
+            Fault::BadDescriptor { line: 1 },
+            4,
+            "line 1: bad descriptor field",
+        ),
+        (Fault::Unsupported { line: 2 }, 5, "line 2: not supported"),
+        (
+            Fault::BadExpression { at: 0 },
+            6,
+            "expression: error at byte 0",
+        ),
+        (Fault::BadPattern, 7, "pattern not accepted"),
+        (
+            Fault::BadFieldList { at: 5 },
+            8,
+            "field list: error at byte 5",
+        ),
+        (
+            Fault::BadIndexList { at: 9 },
+            9,
+            "index list: error at byte 9",
+        ),
+        (Fault::NoSelection, 10, "no selection given, use --force"),
+        (Fault::TypeNeeded, 11, "several record types, use -t"),
+        (Fault::NoSuchType, 12, "no such record type"),
+        (Fault::BadName, 13, "bad name"),
+        (
+            Fault::BadValue,
+            14,
+            "a line of the value ends in a backslash",
+        ),
+        (Fault::BadRecord, 15, "not exactly one record"),
+        (
+            Fault::Integrity(two_violations(alloc)?),
+            16,
+            "violations: 2",
+        ),
+        (Fault::AutoImpossible, 17, "no automatic value"),
+        (Fault::DigestClash, 18, "two texts share a digest"),
+        (
+            Fault::BadJournal { line: 57 },
+            19,
+            "journal line 57: not a journal of recu",
+        ),
+        (Fault::NothingToUndo, 20, "nothing to undo"),
+        (Fault::NothingToRedo, 21, "nothing to redo"),
+        (Fault::Drifted, 22, "the file was changed outside"),
+        (
+            Fault::StoreFailed,
+            23,
+            "a file could not be read or written",
+        ),
+        (Fault::BadUsage, 24, "bad usage"),
+    ];
+    for (fault, number, text) in &cases {
+        assert_eq!(rt; fault.number(), *number, "{text}");
+        let shown = format!(in alloc; "{fault}")?;
+        assert_eq!(rt; shown.as_str(), *text);
+    }
+    Ok(())
+}
+
+#[test]
+fn output_takes_what_its_writer_takes(rt: HostRuntime) -> Result<(), Fail> {
+    let mut output = Output {
+        writer: Vec::new(rt.alloc()),
+        failed: 0,
+    };
+    put_all(&mut output, b"A: 1\n")?;
+    put_all(&mut output, b"")?;
+    put_all(&mut output, b"B: 2\n")?;
+    assert_eq!(rt; output.writer.as_slice(), b"A: 1\nB: 2\n".as_slice());
+    assert_eq!(rt; output.failures(), 0);
+    Ok(())
+}
+
+#[test]
+fn full_writer_is_a_failure(rt: HostRuntime) {
+    let mut room = [0; 4];
+    let mut output = Output {
+        writer: room.as_mut_slice(),
+        failed: 0,
+    };
+    assert!(rt; put_all(&mut output, b"A: 1\n").is_err());
+    assert_eq!(rt; output.failures(), 1);
+    assert!(rt; output.write(b"").is_ok(), "nothing to take is no failure");
+    assert!(rt; matches!(output.write(b"B"), Err(Fault::StoreFailed)));
+    assert_eq!(rt; output.failures(), 2);
+    assert_eq!(rt; room.as_slice(), b"A: 1".as_slice(), "a front went out");
+}
+
+/// An element for each letter: b blank, c comment, f field.
+fn elements_of(alloc: Global, letters: &str) -> Result<Vec<Element<'static>>, Fail> {
+    let mut elements = Vec::new(alloc);
+    for letter in letters.bytes() {
+        let (kind, raw) = match letter {
+            b'b' => (Kind::Blank, b"\n".as_slice()),
+            b'c' => (Kind::Comment, b"#\n".as_slice()),
+            _ => (Kind::Field, b"A:1\n".as_slice()),
+        };
+        elements.push(Element { kind, at: 0, raw })?;
+    }
+    Ok(elements)
+}
+
+#[test]
+fn paragraphs_end_at_blanks_and_records_at_fields(rt: HostRuntime) -> Result<(), Fail> {
+    let alloc = rt.alloc();
+    let cases: [(&str, &[(usize, usize)], &[(usize, usize)]); 7] = [
+        ("", &[], &[]),
+        ("bbb", &[], &[]),
+        ("f", &[(0, 1)], &[(0, 1)]),
+        ("cc", &[(0, 2)], &[]),
+        ("bcfcb", &[(1, 4)], &[(2, 3)]),
+        (
+            "cffcfcbbcbf",
+            &[(0, 6), (8, 9), (10, 11)],
+            &[(1, 5), (10, 11)],
+        ),
+        (
+            "fbfbbcf",
+            &[(0, 1), (2, 3), (5, 7)],
+            &[(0, 1), (2, 3), (6, 7)],
+        ),
+    ];
+    for (letters, paragraphs, records) in cases {
+        let elements = elements_of(alloc, letters)?;
+        let mut wanted = paragraphs.iter();
+        for found in Paragraphs::of(&elements) {
+            assert_eq!(rt; Some(&(found.start, found.end)), wanted.next(), "{letters}");
+        }
+        assert!(rt; wanted.next().is_none(), "{letters}");
+        let mut wanted = records.iter();
+        for found in Records::of(&elements) {
+            assert_eq!(rt; Some(&(found.start, found.end)), wanted.next(), "{letters}");
+        }
+        assert!(rt; wanted.next().is_none(), "{letters}");
+    }
+    Ok(())
+}
+
+fn is_named(element: &Element<'_>, name: &str) -> bool {
+    element.name() == name.as_bytes()
+}
+
+#[test]
+fn a_text_has_names_records_and_lines(rt: HostRuntime) -> Result<(), Fail> {
+    let text = b"# contacts\n\n%rec: Person\n# note\n%key: Name\n\nName: A\\\nB\n+ C\n\n#end";
+    let database = read(rt.alloc(), text)?;
+    assert_eq!(rt; database.text(), text.as_slice());
+    let mut paragraphs = database.paragraphs();
+    assert_eq!(rt; paragraphs.next(), Some(0..1));
+    assert_eq!(rt; paragraphs.next(), Some(2..5));
+    assert_eq!(rt; paragraphs.next(), Some(6..7));
+    assert_eq!(rt; paragraphs.next(), Some(8..9));
+    assert_eq!(rt; paragraphs.next(), None);
+    let mut records = database.records();
+    assert_eq!(rt; records.next(), Some(2..5));
+    assert_eq!(rt; records.next(), Some(6..7));
+    assert_eq!(rt; records.next(), None);
+    let names = ["", "", "%rec", "", "%key", "", "Name", "", ""];
+    assert_eq!(rt; database.elements().len(), names.len());
+    for (element, name) in database.elements().iter().zip(&names) {
+        assert!(rt; is_named(element, name), "{name}");
+    }
+    assert!(rt; 64 <= database.text().len());
+    for (at, line) in [(0, 1), (10, 1), (11, 2), (44, 7), (53, 8), (64, 11)] {
+        assert_eq!(rt; database.line_of(at), line, "at {at}");
+    }
+    Ok(())
+}

@@ -1,0 +1,17 @@
+pub mod LineLemmas
+pub mod AppendLemmas
+pub mod TextLemmas
+pub mod PatchLemmas
+pub mod WeaveLemmas
+pub mod PatchExamples
+pub mod UniqueLemmas
+pub mod OutcomeLemmas
+pub mod PartLemmas
+pub mod StretchLemmas
+pub mod EventLemmas
+pub mod Gaps
+pub mod Folds
+pub mod Scans
+pub mod Pieces
+pub mod Openings
+pub mod PlanLemmas

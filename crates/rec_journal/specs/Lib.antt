@@ -1,0 +1,9 @@
+pub mod Patch
+pub mod Weave
+pub mod Event
+pub mod Head
+pub mod Lines
+pub mod Reading
+pub mod History
+pub mod Scan
+pub mod Plans

@@ -1,0 +1,13 @@
+pub mod FaultLemmas
+pub mod UntypedLemmas
+pub mod ChangeLemmas
+pub mod MachineLemmas
+pub mod RunLemmas
+pub mod RunAllLemmas
+pub mod IndexListLemmas
+pub mod IndexListReading
+pub mod TextLemmas
+pub mod RangeLemmas
+pub mod DeletionLemmas
+pub mod RemovalLemmas
+pub mod DeletionExamples

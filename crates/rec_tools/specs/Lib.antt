@@ -1,0 +1,10 @@
+pub mod Home
+pub mod IndexList
+pub mod IndexItems
+pub mod Deletion
+pub mod RemovedRuns
+pub mod Decision
+pub mod Machine
+pub mod Guarantee
+pub mod Changes
+pub mod Memory

@@ -1,0 +1,23 @@
+//! Requests on a file and its journal, run on any home of the two.
+//! `docs/guarantees.md` says what is promised, and `specs/` states it, from `Home` to `Guarantee`.
+#![tactic(auto)]
+
+mod decision;
+mod deletion;
+#[cfg(test)]
+mod deletion_tests;
+mod home;
+mod index_list;
+#[cfg(test)]
+mod index_list_tests;
+mod memory;
+mod request;
+mod runner;
+#[cfg(test)]
+mod tests;
+
+pub use home::{Home, Which};
+pub use memory::{MemoryHome, StoreFault};
+pub use rec_text::{Bytes, Fault, Output, Rule, Sink, Violation, Violations};
+pub use request::{Ask, Pick, Reply, Request};
+pub use runner::{run, run_all};

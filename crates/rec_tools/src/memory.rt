@@ -1,0 +1,165 @@
+//! A home in memory, some of whose calls fail.
+ghost use Rattle.std.specs.Prelude.{◌≡◌, ◌≤◌, [], ◌∷◌, ◌++◌, Some, OnOk, OnErr, MatchOption, IsSome};
+ghost use Rattle.rec_text.specs.Sink.{HasRisen, UnlessStoreFailed};
+ghost use Rattle.rec_tools.specs.Home.{Contents, content_of, with_content};
+ghost use Rattle.rec_tools.specs.Memory.{fault_of, held};
+
+use crate::home::{Home, Which};
+use rec_text::{Bytes, Fault};
+use std::alloc::{AllocError, Global};
+
+/// How a call of a home in memory fails.
+#[derive(Clone, Copy, Debug, PartialEq, Eq)]
+pub enum StoreFault {
+    /// Nothing is changed.
+    LeavesOld,
+    /// The new content stands, and the call fails all the same.
+    LeavesNew,
+}
+
+/// A call that fails, by its number: calls are counted from 0, reads and replaces alike.
+#[derive(Clone, Copy, Debug)]
+pub struct Failing {
+    pub call: u64,
+    pub fault: StoreFault,
+}
+
+/// A file and a journal in memory.
+#[derive(Debug, Drop)]
+pub struct MemoryHome {
+    pub file: Bytes,
+    pub journal: Bytes,
+    pub faults: Vec<Failing>,
+    pub calls: u64,
+    pub failed: u64,
+    pub alloc: Global,
+}
+
+/// How the call of this number fails, if it does.
+fn fault_at(faults: &[Failing], call: u64) -> Option<StoreFault>
+    ensures { result ≡ fault_of faults.now call }
+{
+    for failing in faults {
+        if failing.call == call {
+            return Some(failing.fault);
+        }
+    }
+    None
+}
+
+impl MemoryHome {
+    /// A home with these contents, none of whose calls fails.
+    pub fn new(alloc: Global, file: Bytes, journal: Bytes) -> MemoryHome
+        ensures contents { held result ≡ record { file = file; journal = journal } }
+        ensures faults { result.faults.items ≡ [] }
+        ensures calls { result.calls ≡ 0 }
+        ensures failed { result.failed ≡ 0 }
+    {
+        MemoryHome {
+            file,
+            journal,
+            faults: Vec::new(alloc),
+            calls: 0,
+            failed: 0,
+            alloc,
+        }
+    }
+
+    /// Lets the call of this number fail, unless another fault was given for it before.
+    pub fn fail(&mut self, call: u64, fault: StoreFault) -> Result<(), AllocError>
+        ensures added { OnOk result (self.new.faults.items ≡ self.old.faults.items ++ record { call = call; fault = fault } ∷ []) }
+        ensures unchanged { OnErr result (self.new.faults.items ≡ self.old.faults.items) }
+        ensures contents { held self.new ≡ held self.old }
+        ensures calls { self.new.calls ≡ self.old.calls }
+        ensures failed { self.new.failed ≡ self.old.failed }
+    {
+        self.faults.push(Failing { call, fault })?;
+        Ok(())
+    }
+
+    /// The bytes of the file.
+    pub fn file(&self) -> &[u8]
+        ensures { result.now ≡ self.now.file }
+    {
+        self.file.as_slice()
+    }
+
+    /// The bytes of the journal.
+    pub fn journal(&self) -> &[u8]
+        ensures { result.now ≡ self.now.journal }
+    {
+        self.journal.as_slice()
+    }
+
+    fn content(&self, which: Which) -> &[u8]
+        ensures { result.now ≡ content_of (held self.now) which }
+    {
+        match which {
+            Which::Base => self.file(),
+            Which::Journal => self.journal(),
+        }
+    }
+
+    /// Counts a call, and a failure where the call fails.
+    fn next_fault(&mut self) -> Option<StoreFault>
+        ensures fault { result ≡ fault_of self.old.faults.items self.old.calls }
+        ensures contents { held self.new ≡ held self.old }
+        ensures counted { self.old.failed ≤ self.new.failed }
+        ensures failed { IsSome result → HasRisen self.old.failed self.new.failed }
+    {
+        let fault = fault_at(&self.faults, self.calls);
+        self.calls = self.calls.saturating_add(1);
+        if fault.is_some() {
+            self.failed = self.failed.saturating_add(1);
+        }
+        fault
+    }
+
+    /// Puts a copy of these bytes in the place of a content. Where memory is refused, the old content stays, and the
+    /// home has failed.
+    fn put(&mut self, which: Which, bytes: &[u8]) -> Result<(), Fault>
+        ensures put { OnOk result (held self.new ≡ with_content (held self.old) which bytes.now) }
+        ensures old { OnErr result (held self.new ≡ held self.old) }
+        ensures counted { self.old.failed ≤ self.new.failed }
+        ensures failed { OnErr result (HasRisen self.old.failed self.new.failed) }
+        ensures refusals { UnlessStoreFailed result }
+    {
+        let Ok(copy) = Bytes::copy_of(self.alloc, bytes) else {
+            self.failed = self.failed.saturating_add(1);
+            return Err(Fault::StoreFailed);
+        };
+        match which {
+            Which::Base => self.file = copy,
+            Which::Journal => self.journal = copy,
+        }
+        Ok(())
+    }
+}
+
+impl Home for MemoryHome {
+    ghost contents = { λ home. Some (held home) };
+
+    ghost failure_count = { λ home. home.failed };
+
+    fn read(&mut self, alloc: Global, which: Which) -> Result<Bytes, Fault> {
+        if self.next_fault().is_some() {
+            return Err(Fault::StoreFailed);
+        }
+        Ok(Bytes::copy_of(alloc, self.content(which))?)
+    }
+
+    fn replace(&mut self, which: Which, bytes: &[u8]) -> Result<(), Fault> {
+        match self.next_fault() {
+            Some(StoreFault::LeavesOld) => Err(Fault::StoreFailed),
+            Some(StoreFault::LeavesNew) => {
+                self.put(which, bytes)?;
+                Err(Fault::StoreFailed)
+            }
+            None => self.put(which, bytes),
+        }
+    }
+
+    fn failures(&self) -> u64 {
+        self.failed
+    }
+}

@@ -1,0 +1,37 @@
+//! What the program says at its end: the line of a fault, and the exit status.
+ghost use Rattle.std.specs.Prelude.{◌≡◌};
+ghost use Rattle.recu.specs.Status.{status_of};
+
+use rec_text::put_all;
+use rec_tools::{Fault, Reply, Sink};
+use std::fmt;
+use std::fmt::Write;
+
+/// Prints `recu: `, the fault's text and a newline, cut where the sink fails. The result is the exit status.
+pub fn finish<W: Sink>(answer: &Result<Reply, Fault>, err: &mut W) -> u8
+    ensures status { result ≡ status_of answer.now }
+{
+    match answer {
+        Ok(_) => 0,
+        Err(fault) => {
+            let mut text = Text { sink: err };
+            let _ = writeln!(text, "recu: {fault}");
+            1
+        }
+    }
+}
+
+/// A sink that takes formatted text.
+#[derive(Drop)]
+struct Text<'s, W> {
+    sink: &'s mut W,
+}
+
+impl<W: Sink> fmt::Write for Text<'_, W> {
+    fn write_str(&mut self, text: &str) -> fmt::Result {
+        match put_all(self.sink, text.as_bytes()) {
+            Ok(()) => Ok(()),
+            Err(_) => Err(fmt::Error),
+        }
+    }
+}

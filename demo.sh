@@ -1,0 +1,16 @@
+#!/usr/bin/env bash
+# Builds recu and deletes a record of a copy of sample/contacts.rec, then takes it back.
+set -euo pipefail
+cd "$(dirname "$0")"
+(cd crates/recu && rt run -- --version) > /dev/null
+recu=$PWD/crates/recu/out/recu
+folder=$(mktemp -d)
+trap 'rm -r "$folder"' EXIT
+cp sample/contacts.rec "$folder"
+cd "$folder"
+show() { echo "--- $1"; cat contacts.rec; }
+show 'contacts.rec'
+"$recu" recdel -n 1 contacts.rec
+show 'after: recu recdel -n 1 contacts.rec'
+"$recu" undo contacts.rec
+show 'after: recu undo contacts.rec'

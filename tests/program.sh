@@ -1,0 +1,513 @@
+#!/usr/bin/env bash
+# Runs of the built program on real files: the status, both outputs and both files, byte for byte.
+# Prints nothing where all is well. At the first run that differs it says which one, and ends with status 1.
+#     tests/program.sh [PROGRAM]
+set -u
+program=$(realpath "${1:-$(dirname "$0")/../crates/recu/out/recu}") || exit 1
+folder=$(mktemp -d) || exit 1
+work=$folder/work
+holder=
+as_user=()
+trap 'if [ -n "$holder" ]; then kill "$holder"; fi 2>/dev/null; chmod -R u+rwx "$folder"; rm -rf "$folder"' EXIT
+cp "$program" "$folder/recu" || exit 1
+chmod 755 "$folder" "$folder/recu"
+
+store_failed='recu: a file could not be read or written\n'
+three='A: 1\n\nB: 2\n\nC: 3\n'
+header='%rec: RecEdit\n%doc: recu journal, format 1\n%key: Number\n\n'
+
+fail() {
+    printf 'tests/program.sh: %s: %s\n' "$what" "$*" >&2
+    exit 1
+}
+
+# An empty folder for the runs that follow.
+begin() {
+    what=$1
+    rm -rf "$work"
+    mkdir "$work"
+    cd "$work" || exit 1
+}
+
+# put FILE TEXT, where the text has the escapes of printf's %b
+put() {
+    printf '%b' "$2" >"$1"
+}
+
+# run STATUS WORD..
+run() {
+    local wanted=$1 status=0
+    shift
+    "${as_user[@]}" "$folder/recu" "$@" >"$folder/out" 2>"$folder/err" </dev/null || status=$?
+    [ "$status" = "$wanted" ] || fail "recu $* ended with status $status: $(cat "$folder/err")"
+}
+
+# The texts of both outputs of the last run.
+prints() {
+    printf '%b' "$1" | cmp -s - "$folder/out" || fail "standard output is: $(cat "$folder/out")"
+    printf '%b' "$2" | cmp -s - "$folder/err" || fail "standard error is: $(cat "$folder/err")"
+}
+
+# The last run was refused as bad usage, and explained that.
+refuses_usage() {
+    [ ! -s "$folder/out" ] || fail "something stands on standard output"
+    [ "$(tail -n 1 "$folder/err")" = 'recu: bad usage' ] || fail "the last line is: $(tail -n 1 "$folder/err")"
+    [ "$(wc -l <"$folder/err")" -gt 1 ] || fail "no line explains it"
+}
+
+# has FILE TEXT
+has() {
+    printf '%b' "$2" | cmp -s - "$1" || fail "$1 holds: $(cat -A "$1")"
+}
+
+# Nothing stands in the folder but these names.
+only() {
+    local there
+    there=$(ls -A | LC_ALL=C sort)
+    [ "$there" = "$(printf '%s\n' "$@" | LC_ALL=C sort)" ] || fail "in the folder stands:" $there
+}
+
+# digest TEXT
+digest() {
+    printf '%b' "$1" | sha256sum | cut -d ' ' -f 1
+}
+
+first_example() {
+    begin 'delete, undo, undo'
+    put db.rec "$three"
+    local after='A: 1\n\nC: 3\n'
+    local edit="Number: 1\nKind: edit\nTool: recdel\nBefore: $(digest "$three")\nAfter: $(digest "$after")\n"
+    edit+='At: 6\nOld: B: 2$\n+ $\n+ $\nNew: $\n\n'
+    local undo="Number: 2\nKind: undo\nOf: 1\nBefore: $(digest "$after")\nAfter: $(digest "$three")\n\n"
+
+    run 0 recdel -n 1 db.rec
+    prints '' ''
+    has db.rec "$after"
+    has db.rec.journal "$header$edit"
+
+    run 0 undo db.rec
+    prints '' ''
+    has db.rec "$three"
+    has db.rec.journal "$header$edit$undo"
+
+    run 1 undo db.rec
+    prints '' 'recu: nothing to undo\n'
+    has db.rec "$three"
+    has db.rec.journal "$header$edit$undo"
+    only db.rec db.rec.journal
+
+    begin 'an edit that changes nothing'
+    put db.rec "$three"
+    run 0 recdel -n 7 db.rec
+    prints '' ''
+    has db.rec "$three"
+    only db.rec
+
+    begin 'a journal of another name'
+    put db.rec "$three"
+    mkdir journals
+    run 0 recdel --journal journals/j --number=0,2 db.rec
+    has db.rec 'B: 2\n\n'
+    run 0 undo --journal=journals/j db.rec
+    has db.rec "$three"
+    only db.rec journals
+}
+
+refusals_of_requests() {
+    begin 'refused requests'
+    put db.rec "$three"
+    run 1 recdel -n 3-1 db.rec
+    prints '' 'recu: index list: error at byte 2\n'
+    run 1 undo db.rec
+    prints '' 'recu: nothing to undo\n'
+    put bad.rec 'A: 1\nno field\n'
+    run 1 recdel -n 0 bad.rec
+    prints '' 'recu: line 2: not a field, comment or blank line\n'
+    put journal 'hello\n'
+    run 1 undo --journal journal db.rec
+    prints '' 'recu: journal line 1: not a journal of recu\n'
+    has db.rec "$three"
+    has bad.rec 'A: 1\nno field\n'
+    has journal 'hello\n'
+    only bad.rec db.rec journal
+}
+
+help_and_version() {
+    begin 'help and version'
+    local words
+    for words in --help -h help 'help recdel' 'help undo' 'recdel --help' 'recdel -h' 'undo --help' 'undo -h'; do
+        run 0 $words
+        grep -q 'Usage: recu' "$folder/out" || fail "recu $words prints no usage"
+        grep -q 'FILE.new' "$folder/out" || fail "recu $words does not name FILE.new"
+        [ ! -s "$folder/err" ] || fail "recu $words prints on standard error"
+    done
+    for words in --version -V; do
+        run 0 $words
+        prints 'recu 0.1.0\n' ''
+    done
+    for words in 'recdel --version' 'recdel -V' 'undo --version' 'undo -V'; do
+        run 0 $words
+        [ -s "$folder/out" ] && [ ! -s "$folder/err" ] || fail "recu $words prints no version"
+    done
+    local status=0
+    "$folder/recu" --help >/dev/full 2>"$folder/err" || status=$?
+    [ "$status" = 1 ] || fail "help to a full device ends with status $status"
+    put "$folder/out" ''
+    prints '' "standard output: No space left on device (os error 28)\n$store_failed"
+    only
+}
+
+bad_usage() {
+    begin 'bad usage'
+    put db.rec "$three"
+    put j.new ''
+    local words
+    for words in '' db.rec 'recdel' 'recdel db.rec' 'recdel -n 0' 'recdel -n 0 db.rec x' 'recdel -n 0 -n 0 db.rec' \
+        'recdel -n -1 db.rec' 'recdel --num 0 db.rec' 'recdel -n' 'recdel --force -n 0 db.rec' '-n 0 recdel db.rec' \
+        'recd -n 0 db.rec' 'undo' 'undo db.rec x' 'undo --journal db.rec db.rec' 'undo --journal db.rec.new db.rec' \
+        'recdel -n 0 --journal j j.new' 'undo --journal a --journal b db.rec' 'undo --help=x' 'help x'; do
+        run 1 $words
+        refuses_usage
+    done
+    run 1 undo db.rec ''
+    refuses_usage
+    run 1 undo $'db\xff.rec'
+    refuses_usage
+    run 1 undo --journal db.rec db.rec
+    prints '' '--journal: FILE and PATH are one path, or one is the other with .new appended\nrecu: bad usage\n'
+    has db.rec "$three"
+    only db.rec j.new
+}
+
+paths() {
+    begin 'paths that cannot be read'
+    put db.rec "$three"
+    mkdir d
+    run 1 undo missing
+    prints '' "missing: No such file or directory (os error 2)\n$store_failed"
+    run 1 recdel -n 0 ''
+    prints '' ": No such file or directory (os error 2)\n$store_failed"
+    run 1 recdel -n 0 --journal '' db.rec
+    prints '' ": No such file or directory (os error 2)\n$store_failed"
+    run 1 recdel -n 0 d
+    prints '' "d: Is a directory (os error 21)\n$store_failed"
+    run 1 undo --journal d db.rec
+    prints '' "d: not a regular file\n$store_failed"
+    run 1 undo db.rec/x
+    prints '' "db.rec/x: Not a directory (os error 20)\n$store_failed"
+    run 1 undo --journal db.rec/x db.rec
+    prints '' "db.rec/x: Not a directory (os error 20)\n$store_failed"
+    run 1 undo --journal no/j db.rec
+    prints '' 'recu: nothing to undo\n'
+    run 1 recdel -n 0 --journal no/j db.rec
+    prints '' "no/j: No such file or directory (os error 2)\n$store_failed"
+    truncate -s 1073741825 big
+    run 1 recdel -n 0 big
+    prints '' "big: more than 1073741824 bytes\n$store_failed"
+    run 1 undo --journal big db.rec
+    prints '' "big: more than 1073741824 bytes\n$store_failed"
+    has db.rec "$three"
+    only big d db.rec
+
+    begin 'a file named -'
+    put - "$three"
+    run 0 recdel -n 0 -
+    has - 'B: 2\n\nC: 3\n'
+    run 0 undo -- -
+    has - "$three"
+    only - -.journal
+}
+
+modes() {
+    begin 'the mode is kept'
+    put db.rec "$three"
+    chmod 640 db.rec
+    run 0 recdel -n 0 db.rec
+    [ "$(stat -c %a db.rec db.rec.journal | tr '\n' ' ')" = '640 640 ' ] || fail "the modes are: $(stat -c %a db.rec db.rec.journal)"
+    chmod 604 db.rec.journal
+    run 0 undo db.rec
+    [ "$(stat -c %a db.rec db.rec.journal | tr '\n' ' ')" = '640 604 ' ] || fail "the modes are: $(stat -c %a db.rec db.rec.journal)"
+    has db.rec "$three"
+}
+
+links() {
+    begin 'symbolic links are followed and kept'
+    mkdir files
+    put files/db.rec "$three"
+    ln -s files/db.rec link
+    run 0 recdel -n 0 link
+    [ "$(readlink link)" = files/db.rec ] || fail "the link is gone"
+    has files/db.rec 'B: 2\n\nC: 3\n'
+    mv link.journal files/j
+    ln -s files/j link.journal
+    run 0 undo link
+    [ "$(readlink link.journal)" = files/j ] || fail "the journal's link is gone"
+    has files/db.rec "$three"
+    only files link link.journal
+
+    begin 'two paths of one file'
+    put db.rec "$three"
+    ln -s db.rec link
+    run 1 recdel -n 0 --journal link db.rec
+    has db.rec "$three"
+    run 1 recdel -n 0 --journal ./db.rec db.rec
+    has db.rec "$three"
+    only db.rec link
+
+    begin 'a link that leads nowhere'
+    put db.rec "$three"
+    ln -s gone link
+    run 1 recdel -n 0 --journal link db.rec
+    prints '' "link: No such file or directory (os error 2)\n$store_failed"
+    has db.rec "$three"
+    only db.rec link
+}
+
+special_files() {
+    begin 'pipes and devices'
+    put db.rec "$three"
+    mkfifo pipe
+    timeout 20 bash -c 'cat db.rec >pipe' &
+    local writer=$!
+    run 1 recdel -n 0 pipe
+    wait "$writer"
+    prints '' "pipe: not a regular file\n$store_failed"
+    run 1 recdel -n 0 --journal pipe db.rec
+    prints '' "pipe: not a regular file\n$store_failed"
+    ln -s /dev/null device
+    run 1 undo device
+    prints '' 'recu: nothing to undo\n'
+    has db.rec "$three"
+    only db.rec device pipe
+}
+
+# Root may write everything, so these runs are another user's; without one they are left out.
+permissions() {
+    if [ "$(id -u)" = 0 ]; then
+        as_user=(setpriv --reuid=65534 --regid=65534 --clear-groups)
+        "${as_user[@]}" true 2>"$folder/err" || { as_user=(); return; }
+    fi
+    begin 'a file that may not be written'
+    put db.rec "$three"
+    chmod 444 db.rec
+    chmod 777 .
+    run 1 recdel -n 0 db.rec
+    prints '' "db.rec: Permission denied (os error 13)\n$store_failed"
+    has db.rec "$three"
+    only db.rec
+
+    begin 'a journal that may not be written'
+    put db.rec "$three"
+    put j "$header"
+    chmod 666 db.rec
+    chmod 444 j
+    chmod 777 .
+    run 1 recdel -n 0 --journal j db.rec
+    prints '' "j: Permission denied (os error 13)\n$store_failed"
+    has db.rec "$three"
+    has j "$header"
+    only db.rec j
+
+    begin 'a file that may not be read'
+    put db.rec "$three"
+    chmod 200 db.rec
+    [ "$(id -u)" != 0 ] || chown 65534 db.rec
+    run 1 recdel -n 0 db.rec
+    prints '' "db.rec: Permission denied (os error 13)\n$store_failed"
+
+    begin 'a folder that may not be written'
+    put db.rec "$three"
+    put db.rec.journal "$header"
+    chmod 666 db.rec db.rec.journal
+    chmod 555 .
+    run 1 recdel -n 0 db.rec
+    prints '' "db.rec.journal: Permission denied (os error 13)\n$store_failed"
+    chmod 755 .
+    has db.rec "$three"
+    has db.rec.journal "$header"
+    only db.rec db.rec.journal
+    as_user=()
+}
+
+leftovers() {
+    begin 'what a stopped program left'
+    put db.rec "$three"
+    put db.rec.new 'half a fi'
+    put db.rec.journal.new ''
+    chmod 400 db.rec.new
+    run 0 recdel -n 0 db.rec
+    prints '' ''
+    has db.rec 'B: 2\n\nC: 3\n'
+    put db.rec.new 'A'
+    run 0 undo db.rec
+    has db.rec "$three"
+    only db.rec db.rec.journal
+
+    begin 'no leftover but a folder or a link'
+    put db.rec "$three"
+    put other 'other'
+    mkdir db.rec.journal.new
+    run 1 recdel -n 0 db.rec
+    has db.rec "$three"
+    only db.rec db.rec.journal.new other
+    rmdir db.rec.journal.new
+    ln -s other db.rec.journal.new
+    run 1 recdel -n 0 db.rec
+    has db.rec "$three"
+    has other 'other'
+    only db.rec db.rec.journal.new other
+}
+
+# hold NAME: another process makes the file and keeps it locked.
+hold() {
+    (
+        exec 9>"$1" && flock 9 && : >held && exec sleep 60
+    ) &
+    holder=$!
+    for _ in $(seq 100); do
+        [ ! -e held ] || break
+        sleep 0.1
+    done
+    rm held || fail "no lock could be taken"
+}
+
+let_go() {
+    kill "$holder"
+    wait "$holder" 2>/dev/null
+    holder=
+}
+
+names_in_use() {
+    begin 'the journal is being written by another program'
+    put db.rec "$three"
+    hold db.rec.journal.new
+    run 1 recdel -n 0 db.rec
+    prints '' "db.rec.journal: in use: another program is writing it\n$store_failed"
+    has db.rec "$three"
+    only db.rec db.rec.journal.new
+    let_go
+    run 0 recdel -n 0 db.rec
+    has db.rec 'B: 2\n\nC: 3\n'
+    only db.rec db.rec.journal
+
+    begin 'the file is being written by another program'
+    put db.rec "$three"
+    hold db.rec.new
+    run 1 recdel -n 0 db.rec
+    prints '' "db.rec: in use: another program is writing it\n$store_failed"
+    has db.rec "$three"
+    let_go
+    run 1 undo db.rec
+    prints '' 'recu: nothing to undo\n'
+    run 0 recdel -n 1 db.rec
+    run 0 undo db.rec
+    has db.rec "$three"
+    only db.rec db.rec.journal
+}
+
+# After two deletions at once the file has lost no record, the first, or the first two.
+two_at_once() {
+    begin 'two programs at once'
+    awk 'BEGIN { for (i = 0; i < 20000; i++) printf "Name: record %d\nNote: some words\n\n", i }' >whole
+    tail -n +4 whole >one_less
+    tail -n +7 whole >two_less
+    local pair first second
+    for pair in $(seq 20); do
+        cp whole db.rec
+        rm -f db.rec.journal
+        "$folder/recu" recdel -n 0 db.rec >"$folder/out" 2>"$folder/err" &
+        first=$!
+        "$folder/recu" recdel -n 0 db.rec >"$folder/out2" 2>"$folder/err2" &
+        second=$!
+        wait "$first"
+        wait "$second"
+        cmp -s db.rec one_less || cmp -s db.rec two_less || cmp -s db.rec whole || fail "the file is torn in pair $pair"
+        only db.rec db.rec.journal one_less two_less whole
+    done
+}
+
+changed_outside() {
+    begin 'a file that was changed by hand'
+    put db.rec "$three"
+    run 0 recdel -n 1 db.rec
+    put db.rec 'A: 7\n\nC: 3\n'
+    cp db.rec.journal before
+    run 1 undo db.rec
+    prints '' 'recu: the file was changed outside\n'
+    has db.rec 'A: 7\n\nC: 3\n'
+    cmp -s before db.rec.journal || fail 'the journal changed'
+    run 0 recdel -n 0 db.rec
+    has db.rec 'C: 3\n'
+    run 0 undo db.rec
+    has db.rec 'A: 7\n\nC: 3\n'
+    only before db.rec db.rec.journal
+}
+
+# layout TEXT LIST AFTER: the edit gives the text after, and undo brings all bytes back.
+layout() {
+    put db.rec "$1"
+    rm -f db.rec.journal
+    run 0 recdel -n "$2" db.rec
+    prints '' ''
+    has db.rec "$3"
+    run 0 undo db.rec
+    prints '' ''
+    has db.rec "$1"
+    only db.rec db.rec.journal
+}
+
+layouts() {
+    begin 'layouts of a file'
+    layout 'A: 1\n' 0 ''
+    layout 'A: 1' 0 ''
+    layout 'A: 1\n\n' 0 ''
+    layout '\n\nA: 1' 0 '\n\n'
+    layout ' \t\nA: 1\n \t' 0 ' \t\n'
+    layout 'A: 1\n\nB: 2' 1 'A: 1\n\n'
+    layout 'A: 1\n\nB: 2' 0 'B: 2'
+    layout 'A: 1\n\n\n\t\n  \nB: 2\n' 0 'B: 2\n'
+    layout 'A: 1\n\n\n\t\n  \nB: 2\n' 1 'A: 1\n\n\n\t\n  \n'
+    layout 'A: 1\n \nB: 2\n\t\t\nC: 3\n\n' 1 'A: 1\n \nC: 3\n\n'
+    layout 'A: 1\n \nB: 2\n\t\t\nC: 3\n\n' 0,2 'B: 2\n\t\t\n'
+    layout 'A: 1\nB: 2\nA: 3\n\nC: 4\n' 0 'C: 4\n'
+    layout 'A:\t1\nB:2\nC:  3 \n\nD:\n' 0 'D:\n'
+    layout 'A:\t1\nB:2\nC:  3 \n\nD:\n' 1 'A:\t1\nB:2\nC:  3 \n\n'
+    layout '# head\nA: 1\n# inner\nB: 2\n# tail\n\nC: 3\n' 0 '# head\n# tail\n\nC: 3\n'
+    layout '# head\nA: 1\n# inner\nB: 2\n# tail\n\nC: 3\n' 1 '# head\nA: 1\n# inner\nB: 2\n# tail\n\n'
+    layout '# alone\n\n# head\nA: 1' 0 '# alone\n\n# head\n'
+    layout '#\n#\\\n# A: 1\n\nA: 1\n#' 0 '#\n#\\\n# A: 1\n\n#'
+    layout 'A: 1\n\n# between\n\nB: 2\n' 0 '# between\n\nB: 2\n'
+    layout 'A: 1\n# tail\n\n\nB: 2\n' 0 '# tail\n\n\nB: 2\n'
+    layout 'A: a\\\nb\nB: 2\n\nC: 3\n' 0 'C: 3\n'
+    layout 'A: a\\\n\\\n b\n\nC: 3\n' 0 'C: 3\n'
+    layout 'A: a\\\n# no comment\n\nC: 3\n' 0 'C: 3\n'
+    layout 'A: a\\\\\n\n\nC: 3\n' 0 'C: 3\n'
+    layout 'A: x\n\nC: c\\\n\n' 0 'C: c\\\n\n'
+    layout 'A: 1\n+ 2\n+\n+ + 3\n\nB: 2\n+' 0 'B: 2\n+'
+    layout 'A: 1\n+ 2\n+\n+ + 3\n\nB: 2\n+' 1 'A: 1\n+ 2\n+\n+ + 3\n\n'
+    layout 'A: 1\\\n+ 2\n+ 3\\\n4\n\nB: 2\n' 0 'B: 2\n'
+    layout 'A: \0377\0200\n\nB: \0303\0244\n' 0 'B: \0303\0244\n'
+    layout 'A: \0377\0200\n\nB: \0303\0244\n' 1 'A: \0377\0200\n\n'
+    layout 'A: x\0000y\n\nB: \0000' 0 'B: \0000'
+    layout 'A: x\0000y\n\nB: \0000' 1 'A: x\0000y\n\n'
+    layout 'A: 1\r\n\nB: 2\r\n' 0 'B: 2\r\n'
+    layout 'A: $\n+ + $\n\nOld: $\nNew: $\n' 0 'Old: $\nNew: $\n'
+    layout 'A_1z: %\n%doc: %s\nZ:: :\n\nB: 2\n' 0 'B: 2\n'
+    layout '# \0377\0000\t\n \t \nA:\t1 \nB:\n+\tx\n# \\\nC: \\\n\n+  y\r\n#\n\n\t\n# z\nD: 1\nE: 2' 0 \
+        '# \0377\0000\t\n \t \n#\n\n\t\n# z\nD: 1\nE: 2'
+}
+
+first_example
+refusals_of_requests
+help_and_version
+bad_usage
+paths
+modes
+links
+special_files
+permissions
+leftovers
+names_in_use
+two_at_once
+changed_outside
+layouts

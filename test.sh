@@ -5,3 +5,4 @@ set -euo pipefail
 cd "$(dirname "$0")"
 rt ci
 bash tests/program.sh crates/recu/out/recu
+bash tests/memory.sh crates/recu/out/recu

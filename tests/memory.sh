@@ -1,0 +1,94 @@
+#!/usr/bin/env bash
+# Each allocation of the built program fails in turn, on a deletion and on its undo.
+#     tests/memory.sh PROGRAM
+# Each such run says that memory ran out, or that a file could not be written, or does what was asked; after `out of
+# memory` both files are as before; and the same command again does what was asked. Prints nothing when all is well.
+set -u
+program=$(realpath "$1") || exit 1
+command -v cc > /dev/null || { echo "tests/memory.sh: no C compiler to build the failing allocator with"; exit 1; }
+folder=$(mktemp -d) || exit 1
+trap 'rm -rf "$folder"' EXIT
+cd "$folder" || exit 1
+
+# The allocator's calls, of which one fails: the one whose number, from 1, stands in FAILS. It says so in the file `hit`.
+cat > failing.c <<'C'
+#define _GNU_SOURCE
+#include <dlfcn.h>
+#include <errno.h>
+#include <fcntl.h>
+#include <stdlib.h>
+#include <unistd.h>
+static long calls, fails = -1;
+static int refused(void) {
+    if (fails < 0) { const char *text = getenv("FAILS"); fails = text ? atol(text) : 0; }
+    if (++calls != fails) return 0;
+    close(open("hit", O_CREAT | O_WRONLY, 0600));
+    errno = ENOMEM;
+    return 1;
+}
+void *malloc(size_t size) {
+    static void *(*next)(size_t);
+    if (!next) next = (void *(*)(size_t))dlsym(RTLD_NEXT, "malloc");
+    return refused() ? NULL : next(size);
+}
+void *realloc(void *old, size_t size) {
+    static void *(*next)(void *, size_t);
+    if (!next) next = (void *(*)(void *, size_t))dlsym(RTLD_NEXT, "realloc");
+    return refused() ? NULL : next(old, size);
+}
+int posix_memalign(void **at, size_t align, size_t size) {
+    static int (*next)(void **, size_t, size_t);
+    if (!next) next = (int (*)(void **, size_t, size_t))dlsym(RTLD_NEXT, "posix_memalign");
+    return refused() ? ENOMEM : next(at, align, size);
+}
+void *aligned_alloc(size_t align, size_t size) {
+    static void *(*next)(size_t, size_t);
+    if (!next) next = (void *(*)(size_t, size_t))dlsym(RTLD_NEXT, "aligned_alloc");
+    return refused() ? NULL : next(align, size);
+}
+C
+cc -O1 -shared -fPIC -o failing.so failing.c -ldl || exit 1
+
+fail() {
+    echo "tests/memory.sh: $1, allocation $n: $2"
+    exit 1
+}
+
+# run NAME FILE_AFTER WORD..: the command at each failing allocation, from the contents in start/
+run() {
+    local name=$1 after=$2 status
+    shift 2
+    for n in $(seq 1 100000); do
+        rm -f hit db.rec db.rec.journal
+        cp start/* .
+        FAILS=$n LD_PRELOAD=$PWD/failing.so "$program" "$@" db.rec > out 2> err
+        status=$?
+        case "$status/$(tail -n 1 err)" in
+            0/*) cmp -s db.rec "$after" || fail "$name" 'another file' ;;
+            '1/recu: out of memory')
+                cmp -s db.rec start/db.rec || fail "$name" 'the file was changed'
+                [ "$(cat db.rec.journal 2> /dev/null)" = "$(cat start/db.rec.journal 2> /dev/null)" ] || fail "$name" 'the journal was changed' ;;
+            '1/recu: a file could not be read or written') cmp -s db.rec start/db.rec || cmp -s db.rec "$after" || fail "$name" 'another file' ;;
+            1/) cmp -s db.rec start/db.rec || fail "$name" 'changed without a word' ;;
+            *) fail "$name" "status $status: $(cat err)" ;;
+        esac
+        [ -e db.rec.new ] || [ -e db.rec.journal.new ] && fail "$name" 'a working file is left'
+        if [ ! -e hit ]; then
+            [ "$status" = 0 ] || fail "$name" 'refused without a failing allocation'
+            return
+        fi
+        if ! cmp -s db.rec "$after"; then
+            "$program" "$@" db.rec > out 2> err || fail "$name" "the same again: $(cat err)"
+            cmp -s db.rec "$after" || fail "$name" 'the same again gives another file'
+        fi
+    done
+    fail "$name" 'no end'
+}
+
+mkdir start
+printf 'A: 1\n\nB: 2\n\nC: 3\n' > start/db.rec
+cp start/db.rec before.rec
+printf 'A: 1\n\nC: 3\n' > after.rec
+run recdel after.rec recdel -n 1
+cp db.rec db.rec.journal start/
+run undo before.rec undo

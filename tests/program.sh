@@ -25,8 +25,7 @@ fail() {
 begin() {
     what=$1
     rm -rf "$work"
-    mkdir "$work"
-    cd "$work" || exit 1
+    mkdir "$work" && cd "$work" || exit 1
 }
 
 # put FILE TEXT, where the text has the escapes of printf's %b
@@ -62,8 +61,7 @@ has() {
 
 # Nothing stands in the folder but these names.
 only() {
-    local there
-    there=$(ls -A | LC_ALL=C sort)
+    local there=$(ls -A | LC_ALL=C sort)
     [ "$there" = "$(printf '%s\n' "$@" | LC_ALL=C sort)" ] || fail "in the folder stands:" $there
 }
 
@@ -134,7 +132,7 @@ refusals_of_requests() {
 
 help_and_version() {
     begin 'help and version'
-    local words
+    local words status=0
     for words in --help -h help 'help recdel' 'help undo' 'recdel --help' 'recdel -h' 'undo --help' 'undo -h'; do
         run 0 $words
         grep -q 'Usage: recu' "$folder/out" || fail "recu $words prints no usage"
@@ -149,10 +147,9 @@ help_and_version() {
         run 0 $words
         [ -s "$folder/out" ] && [ ! -s "$folder/err" ] || fail "recu $words prints no version"
     done
-    local status=0
     "$folder/recu" --help >/dev/full 2>"$folder/err" || status=$?
     [ "$status" = 1 ] || fail "help to a full device ends with status $status"
-    put "$folder/out" ''
+    : >"$folder/out"
     prints '' "standard output: No space left on device (os error 28)\n$store_failed"
     only
 }
@@ -419,8 +416,7 @@ two_at_once() {
         first=$!
         "$folder/recu" recdel -n 0 db.rec >"$folder/out2" 2>"$folder/err2" &
         second=$!
-        wait "$first"
-        wait "$second"
+        wait "$first" "$second"
         cmp -s db.rec one_less || cmp -s db.rec two_less || cmp -s db.rec whole || fail "the file is torn in pair $pair"
         only db.rec db.rec.journal one_less two_less whole
     done
@@ -497,17 +493,7 @@ layouts() {
         '# \0377\0000\t\n \t \n#\n\n\t\n# z\nD: 1\nE: 2'
 }
 
-first_example
-refusals_of_requests
-help_and_version
-bad_usage
-paths
-modes
-links
-special_files
-permissions
-leftovers
-names_in_use
-two_at_once
-changed_outside
-layouts
+for part in first_example refusals_of_requests help_and_version bad_usage paths modes links special_files permissions \
+    leftovers names_in_use two_at_once changed_outside layouts; do
+    "$part"
+done

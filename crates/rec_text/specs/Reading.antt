@@ -53,3 +53,7 @@ IsReading text (Ok pieces) = AreElementsOf pieces text
 IsReading text (Err (BadLine line)) = HasBadLine text line
 IsReading text (Err (OpenLine line)) = HasOpenLine text line
 IsReading text (Err _) = ⊥
+
+-- a text has one reading
+abbrev pub OneReading : Type 0
+OneReading = (text : List ℕ) (one other : Result (List Piece) Fault) → IsReading text one → IsReading text other → one ≡ other

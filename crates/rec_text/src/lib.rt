@@ -29,7 +29,7 @@ pub use canonical::put_field;
 pub use database::Database;
 pub use element::{Element, Kind};
 pub use fault::Fault;
-pub use laws::one_list_of_records;
+pub use laws::{one_list_of_records, one_reading};
 pub use reader::read;
 pub use records::{Paragraphs, Records};
 pub use sink::{Output, Sink, put_all};

@@ -6,6 +6,7 @@ pub mod RunLemmas
 pub mod RunAllLemmas
 pub mod IndexListLemmas
 pub mod IndexListReading
+pub mod DecisionLemmas
 pub mod TextLemmas
 pub mod RangeLemmas
 pub mod DeletionLemmas

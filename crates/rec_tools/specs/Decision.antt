@@ -98,3 +98,7 @@ IsUndoDecision c =
 abbrev pub IsDecision : Contents → Request → Result Decision Fault → Type 0
 IsDecision c (Delete pick force) = IsDeleteDecision c pick
 IsDecision c Undo = IsUndoDecision c
+
+-- a request on two contents has one decision at most
+abbrev pub OneDecision : Type 0
+OneDecision = (c : Contents) (request : Request) (one other : Result Decision Fault) → IsDecision c request one → IsDecision c request other → one ≡ other

@@ -10,6 +10,7 @@ mod home;
 mod index_list;
 #[cfg(test)]
 mod index_list_tests;
+mod laws;
 mod memory;
 mod request;
 mod runner;
@@ -17,6 +18,7 @@ mod runner;
 mod tests;
 
 pub use home::{Home, Which};
+pub use laws::one_decision;
 pub use memory::{MemoryHome, StoreFault};
 pub use rec_text::{Bytes, Fault, Output, Rule, Sink, Violation, Violations};
 pub use request::{Ask, Pick, Reply, Request};

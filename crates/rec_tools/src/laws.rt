@@ -1,0 +1,7 @@
+//! Laws of the definitions, which no function computes.
+ghost use Rattle.rec_tools.specs.Decision.{OneDecision};
+
+/// A request on two contents has one decision at most.
+pub fn one_decision()
+    ensures { OneDecision }
+{}

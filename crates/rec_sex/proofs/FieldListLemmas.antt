@@ -1,0 +1,166 @@
+-- Names, items and whole field lists.
+use Rattle.std.proofs.Common.{◌≡◌, ◌∙◌, ℕ, ◌+◌, ◌-◌, true, false, cond, List, [], ◌∷◌, ◌++◌, length, take, drop, Option, Some, None, Result, Ok, refl, ap, sym, subst, inl, inr, arith, ltb, not, unwrap_or}
+use Rattle.std.proofs.lemmas.List.{append_assoc, append-nil, nil_from_length, length-append, take-append-drop}
+use Rattle.std.proofs.Math.Numerals.{one-add}
+use Rattle.std.proofs.lemmas.List.Sums.{prefix_len-le-length}
+use Rattle.std.proofs.lemmas.Bool.{cases_Bool, eqb-true}
+use Rattle.std.specs.List.{prefix_len, position_or_len}
+use Rattle.rec_text.specs.Bytes.{begins_name, continues_name}
+use Rattle.rec_sex.specs.declared.index_list.Span.{Span}
+use Rattle.rec_sex.specs.declared.field_list.Item.{Item}
+use Rattle.rec_sex.specs.IndexItems.{BeginsNumber}
+use Rattle.rec_sex.specs.Lists.{begins_continuation, IsItem, AreItems, AreItemsBefore, ends_item, IsSecondFault, IsSubscriptFault, IsItemFault, HasFault}
+use Rattle.rec_sex.specs.FieldItems.{BeginsName, BeginsSubscript, BeginsItem}
+use Rattle.rec_sex.proofs.IndexListLemmas.{prefix_len-not_not, count_from_place, list_all-front, digits_alone}
+
+-- ---- names
+
+-- the place of the first byte that a name can't go on with is how many bytes it goes on with
+pub continuation_len_is : (bytes : List ℕ) (place : Option ℕ) (count : ℕ)
+    → place ≡ cond (ltb (position_or_len (λ b. not (continues_name b)) bytes) (length bytes)) (Some (position_or_len (λ b. not (continues_name b)) bytes)) None
+    → count ≡ unwrap_or place (length bytes) → count ≡ prefix_len continues_name bytes
+continuation_len_is bytes place count found answered =
+    count_from_place place count _ _ (length bytes) found answered (prefix_len-not_not continues_name bytes) (prefix_len-le-length continues_name bytes)
+
+begins_continuation-behind : (bytes : List ℕ) → begins_continuation (drop (prefix_len continues_name bytes) bytes) ≡ false
+begins_continuation-behind [] = refl
+begins_continuation-behind (b ∷ bytes) =
+    elim (cases_Bool (continues_name b)) [
+      | inl passes ↦ rw (passes, one-add) (begins_continuation-behind bytes)
+      | inr fails ↦ rw fails fails
+    ]
+
+-- the name at the front of a text, whose first byte begins one
+BeginsName-first : (b : ℕ) (bytes : List ℕ) → begins_name b ≡ true
+    → BeginsName (b ∷ bytes) (b ∷ take (prefix_len continues_name bytes) bytes) (drop (prefix_len continues_name bytes) bytes)
+BeginsName-first b bytes begins = (
+  ap (λ t. b ∷ t) (sym (take-append-drop (prefix_len continues_name bytes) bytes)),
+  record {
+    well_formed = rw begins (list_all-front continues_name bytes);
+    ended = begins_continuation-behind bytes;
+  },
+)
+
+-- a text cut behind the name at its front
+pub cut_behind_name : (text : List ℕ) (b : ℕ) (bytes : List ℕ) (count : ℕ) (front back : List ℕ) → text ≡ b ∷ bytes → begins_name b ≡ true
+    → count ≡ prefix_len continues_name bytes → front ≡ take (1 + count) text → back ≡ drop (1 + count) text → BeginsName text front back
+cut_behind_name text b bytes count front back parts begins is front_is back_is =
+    let cut_front : front ≡ b ∷ take (prefix_len continues_name bytes) bytes =
+    front_is ∙ ap (take (1 + count)) parts ∙ ap (λ n. take (1 + n) (b ∷ bytes)) is ∙ rw one-add in
+    let cut_back : back ≡ drop (prefix_len continues_name bytes) bytes = back_is ∙ ap (drop (1 + count)) parts ∙ ap (λ n. drop (1 + n) (b ∷ bytes)) is ∙ rw one-add in
+    let P : List ℕ → Type 0 = λ t. BeginsName t front back in
+    let Q : List ℕ → Type 0 = λ f. BeginsName (b ∷ bytes) f back in
+    let R : List ℕ → Type 0 = BeginsName (b ∷ bytes) (b ∷ take (prefix_len continues_name bytes) bytes) in
+    subst P (sym parts) (subst Q (sym cut_front) (subst R (sym cut_back) (BeginsName-first b bytes begins)))
+
+-- ---- items
+
+-- a fault in the second number of a pair
+pub IsSubscriptFault-in_second : (text : List ℕ) (first : ℕ) (rest second : List ℕ) (at : ℕ) → BeginsNumber text first rest → rest ≡ 45 ∷ second → IsSecondFault first second at
+    → IsSubscriptFault text (length text - length rest + 1 + at)
+IsSubscriptFault-in_second text first rest second at (digits, parts, are, value, small) hyphen fault =
+    let P : ℕ → Type 0 = λ n. IsSecondFault n second at in
+    inr (digits, rest, parts, are, inr (inr (omega arith, second, at, hyphen, subst P (sym value) fault, omega (arith, ap length parts, length-append digits rest))))
+
+-- a name alone
+pub BeginsItem-name : (text name rest : List ℕ) → BeginsName text name rest → ends_item rest ≡ true → BeginsItem text (record { name = name; occurrences = None }) rest
+BeginsItem-name text name rest (parts, is) ended = (name, parts, ([], sym (append-nil name), is.well_formed, refl), ended)
+
+-- what stands from the name's end to that of the subscript
+cut_behind_subscript : (text name behind inside subscript rest : List ℕ) → text ≡ name ++ behind → behind ≡ 91 ∷ inside → inside ≡ subscript ++ rest
+    → text ≡ (name ++ 91 ∷ subscript) ++ rest
+cut_behind_subscript text name behind inside subscript rest parts opening cut =
+    parts ∙ ap (λ b. name ++ b) (opening ∙ ap (λ i. 91 ∷ i) cut) ∙ sym (append_assoc name (91 ∷ subscript) rest)
+
+-- an index and its bracket
+cut_behind_index : (inside digits behind rest : List ℕ) → inside ≡ digits ++ behind → behind ≡ 93 ∷ rest → inside ≡ (digits ++ 93 ∷ []) ++ rest
+cut_behind_index inside digits behind rest parts closing = parts ∙ ap (λ b. digits ++ b) closing ∙ sym (append_assoc digits (93 ∷ []) rest)
+
+-- a name and its subscript
+pub BeginsItem-subscript : (text name behind inside : List ℕ) (span : Span) (rest : List ℕ) → BeginsName text name behind → behind ≡ 91 ∷ inside → BeginsSubscript inside span rest
+    → BeginsItem text (record { name = name; occurrences = Some span }) rest
+BeginsItem-subscript text name behind inside span rest (parts, is) opening (after, (digits, number_parts, are, value, small), inl (same, (closing, ended))) =
+    let subscript = digits ++ 93 ∷ [] in (
+      name ++ 91 ∷ subscript,
+      cut_behind_subscript text name behind inside subscript rest parts opening (cut_behind_index inside digits after rest number_parts closing),
+      (91 ∷ subscript, refl, is.well_formed, inl (digits, refl, digits_alone digits after are, value, same, small)),
+      ended,
+    )
+BeginsItem-subscript text name behind inside span rest (parts, is) opening
+    (after, (a, first_parts, first_are, first_value, first_small), inr (second, hyphen, (closed, (b, second_parts, second_are, second_value, second_small), ordered, (closing, ended)))) =
+    let pair = b ++ 93 ∷ [] in
+    let subscript = a ++ 45 ∷ pair in
+    let cut : inside ≡ subscript ++ rest =
+    first_parts ∙ ap (λ r. a ++ r) (hyphen ∙ ap (λ s. 45 ∷ s) (cut_behind_index second b closed rest second_parts closing)) ∙ sym (append_assoc a (45 ∷ pair) rest) in (
+      name ++ 91 ∷ subscript,
+      cut_behind_subscript text name behind inside subscript rest parts opening cut,
+      (91 ∷ subscript, refl, is.well_formed, inr (a, b, refl, digits_alone a after first_are, digits_alone b closed second_are, first_value, second_value, ordered, second_small)),
+      ended,
+    )
+
+-- ---- whole lists
+
+-- one more item, with its comma
+pub AreItemsBefore-push : (before : List ℕ) (items : List Item) (front : List ℕ) (item : Item) → AreItemsBefore before items → IsItem front item
+    → AreItemsBefore (before ++ (front ++ 44 ∷ [])) (items ++ item ∷ [])
+AreItemsBefore-push before [] front item none is =
+    (front, [], ap (λ b. b ++ (front ++ 44 ∷ [])) none, is, refl)
+AreItemsBefore-push before (first ∷ items) front item (first_front, rest, parts, first_is, whole) is = (
+  first_front,
+  rest ++ (front ++ 44 ∷ []),
+  ap (λ b. b ++ (front ++ 44 ∷ [])) parts ∙ append_assoc first_front (44 ∷ rest) (front ++ 44 ∷ []),
+  first_is,
+  AreItemsBefore-push rest items front item whole is,
+)
+
+-- the last item, with no comma
+pub AreItems-push : (before : List ℕ) (items : List Item) (front : List ℕ) (item : Item) → AreItemsBefore before items → IsItem front item
+    → AreItems (before ++ front) (items ++ item ∷ [])
+AreItems-push before [] front item none is = let P : List ℕ → Type 0 = λ b. IsItem (b ++ front) item in subst P (sym none) is
+AreItems-push before (first ∷ []) front item (first_front, rest, parts, first_is, whole) is =
+    (first_front, rest ++ front, ap (λ b. b ++ front) parts ∙ append_assoc first_front (44 ∷ rest) front, first_is, AreItems-push rest [] front item whole is)
+AreItems-push before (first ∷ next ∷ items) front item (first_front, rest, parts, first_is, whole) is =
+    (first_front, rest ++ front, ap (λ b. b ++ front) parts ∙ append_assoc first_front (44 ∷ rest) front, first_is, AreItems-push rest (next ∷ items) front item whole is)
+
+is_comma : (b : ℕ) (rest : List ℕ) → ends_item (b ∷ rest) ≡ true → b ≡ 44
+is_comma b rest ended = eqb-true b 44 ended
+
+-- whole items stand before what is left to read
+abbrev pub ReadUpTo : List ℕ → List ℕ → List Item → Type 0
+ReadUpTo text rest items = (before : List ℕ) × (text ≡ before ++ rest) × AreItemsBefore before items
+
+-- the item that was pushed, with the name that was copied
+pub pushed_with_copy : {E : Type 0} (more items : List Item) (name copy : List ℕ) (occurrences : Option Span) → more ≡ items ++ record { name = copy; occurrences = occurrences } ∷ []
+    → ◌≡◌ {A = Result (List ℕ) E} (Ok copy) (Ok name) → more ≡ items ++ record { name = name; occurrences = occurrences } ∷ []
+pushed_with_copy more items name copy occurrences pushed copied =
+    let same : copy ≡ name = cc in pushed ∙ ap (λ n. items ++ record { name = n; occurrences = occurrences } ∷ []) same
+
+pub read_all : (text rest : List ℕ) (items : List Item) (item : Item) (behind : List ℕ) (more : List Item) → ReadUpTo text rest items → BeginsItem rest item behind → length behind ≡ 0
+    → more ≡ items ++ item ∷ [] → AreItems text more
+read_all text rest items item behind more (before, parts, whole) (front, halves, is, ended) none pushed =
+    let last : text ≡ before ++ front = parts ∙ ap (λ r. before ++ r) (halves ∙ ap (λ b. front ++ b) (nil_from_length behind none) ∙ append-nil front) in
+    let P : List Item → Type 0 = AreItems text in
+    let Q : List ℕ → Type 0 = λ t. AreItems t (items ++ item ∷ []) in
+    subst P (sym pushed) (subst Q (sym last) (AreItems-push before items front item whole is))
+
+pub read_more : (text rest : List ℕ) (items : List Item) (item : Item) (behind : List ℕ) (b : ℕ) (next : List ℕ) (more : List Item) → ReadUpTo text rest items
+    → BeginsItem rest item behind → behind ≡ b ∷ next → more ≡ items ++ item ∷ [] → ReadUpTo text next more
+read_more text rest items item behind b next more (before, parts, whole) (front, halves, is, ended) follows pushed =
+    let comma : b ≡ 44 = is_comma b next (ap ends_item (sym follows) ∙ ended) in
+    let P : List Item → Type 0 = AreItemsBefore (before ++ (front ++ 44 ∷ [])) in (
+      before ++ (front ++ 44 ∷ []),
+      parts ∙ ap (λ r. before ++ r) (halves ∙ ap (λ r. front ++ r) (follows ∙ ap (λ c. c ∷ next) comma) ∙ sym (append_assoc front (44 ∷ []) next)) ∙ sym (append_assoc before (front ++ 44 ∷ []) next),
+      subst P (sym pushed) (AreItemsBefore-push before items front item whole is),
+    )
+
+pub read_fault : (text rest : List ℕ) (items : List Item) (place : ℕ) → ReadUpTo text rest items → IsItemFault rest place → HasFault text (length text - length rest + place)
+read_fault text rest items place (before, parts, whole) fault = record {
+  before = before;
+  items = items;
+  rest = rest;
+  at = place;
+  parts = parts;
+  whole = whole;
+  bad = fault;
+  behind = omega (arith, ap length parts, length-append before rest);
+}

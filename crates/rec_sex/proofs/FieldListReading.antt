@@ -1,0 +1,306 @@
+-- A text has at most one reading as a field list: the one that is computed here.
+use Rattle.std.proofs.Common.{◌≡◌, ◌∙◌, ℕ, suc, zero, ◌+◌, ◌-◌, ◌<◌, ◌≤◌, Bool, true, false, cond, List, [], ◌∷◌, ◌++◌, length, take, drop, Option, Some, None, Result, Ok, Err, refl, ap, sym, subst, inl, inr, arith, ltb}
+use Rattle.std.proofs.lemmas.List.{append_assoc, append-nil, length-append, take_at, drop_at}
+use Rattle.std.proofs.lemmas.Bool.{and_parts, cases_lt, cond-true, cond-false, lt-ltb, le-ltb, eqb-true}
+use Rattle.std.specs.List.{list_all, prefix_len}
+use Rattle.rec_text.specs.Bytes.{begins_name, continues_name}
+use Rattle.rec_text.specs.declared.fault.Fault.{Fault}
+use Rattle.rec_text.specs.declared.fault.Fault.TheVariants.{BadFieldList}
+use Rattle.rec_sex.specs.declared.index_list.Span.{Span}
+use Rattle.rec_sex.specs.declared.field_list.Item.{Item}
+use Rattle.rec_sex.specs.IndexList.{AreDigits, value_of, begins_digit, greatest}
+use Rattle.rec_sex.specs.IndexItems.{BeginsNumber}
+use Rattle.rec_sex.specs.Lists.{is_field_name, begins_field, begins_continuation, IsName, AreItems, AreItemsBefore, begins_with, ends_item, IsClosingFault, IsSecondFault, IsSubscriptFault, IsItemFault, IsFieldList}
+use Rattle.rec_sex.specs.FieldItems.{BeginsName, Closes, ClosesPair, BeginsSubscript, BeginsItem}
+use Rattle.rec_sex.proofs.IndexListReading.{number_of, number_of-some, number_of-none}
+
+-- ---- a name
+
+abbrev name_len : List ℕ → ℕ
+name_len [] = 0
+name_len (b ∷ bytes) = 1 + prefix_len continues_name bytes
+
+abbrev name_of : List ℕ → Option (List ℕ × List ℕ)
+name_of text = cond (begins_field text) (Some (take (name_len text) text, drop (name_len text) text)) None
+
+prefix_len-continuation : (bytes rest : List ℕ) → list_all continues_name bytes ≡ true → begins_continuation rest ≡ false → prefix_len continues_name (bytes ++ rest) ≡ length bytes
+prefix_len-continuation [] [] all ended = refl
+prefix_len-continuation [] (b ∷ rest) all ended = rw ended refl
+prefix_len-continuation (d ∷ bytes) rest all ended =
+    let parts = and_parts (continues_name d) (list_all continues_name bytes) all in
+    let more = prefix_len-continuation bytes rest parts.1 ended in
+    rw (parts.0, more) (omega arith)
+
+-- the two parts of a test for a name
+name_parts : (first all : Bool) → cond first all false ≡ true → (first ≡ true) × (all ≡ true)
+name_parts true all is = (refl, is)
+name_parts false all is = absurd (cc)
+
+name_of-at : (b : ℕ) (bytes rest : List ℕ) → is_field_name (b ∷ bytes) ≡ true → begins_continuation rest ≡ false → name_of (b ∷ (bytes ++ rest)) ≡ Some (b ∷ bytes, rest)
+name_of-at b bytes rest is ended =
+    let parts = name_parts (begins_name b) (list_all continues_name bytes) is in
+    let count : 1 + prefix_len continues_name (bytes ++ rest) ≡ length (b ∷ bytes) = omega (arith, prefix_len-continuation bytes rest parts.1 ended) in
+    let whole = b ∷ (bytes ++ rest) in
+    cond-true (begins_name b) (Some (take (name_len whole) whole, drop (name_len whole) whole)) None parts.0
+    ∙ ap (λ n. Some (take n whole, drop n whole)) count
+    ∙ ap (λ f. Some (f, drop (length (b ∷ bytes)) whole)) (take_at (b ∷ bytes) rest (length (b ∷ bytes)) refl)
+    ∙ ap (λ r. Some (b ∷ bytes, r)) (drop_at (b ∷ bytes) rest (length (b ∷ bytes)) refl)
+
+name_of-some : (text name rest : List ℕ) → BeginsName text name rest → name_of text ≡ Some (name, rest)
+name_of-some text [] rest (parts, is) = absurd (let none : false ≡ true = is.well_formed in cc)
+name_of-some text (b ∷ bytes) rest (parts, is) = ap name_of parts ∙ name_of-at b bytes rest is.well_formed is.ended
+
+name_of-none : (text : List ℕ) → begins_field text ≡ false → name_of text ≡ None
+name_of-none text none = cond-false (begins_field text) (Some (take (name_len text) text, drop (name_len text) text)) None none
+
+-- ---- a closing bracket
+
+abbrev closing_of : List ℕ → Result (List ℕ) ℕ
+closing_of text = cond (begins_with 93 text) (cond (ends_item (drop 1 text)) (Ok (drop 1 text)) (Err 1)) (Err 0)
+
+closing_of-ok : (text rest : List ℕ) → Closes text rest → closing_of text ≡ Ok rest
+closing_of-ok text rest (closing, ended) = ap closing_of closing ∙ cond-true (ends_item rest) (Ok rest) (Err 1) ended
+
+closing_of-err : (text : List ℕ) (place : ℕ) → IsClosingFault text place → closing_of text ≡ Err place
+closing_of-err text place (inl (unclosed, at_front)) = cond-false (begins_with 93 text) (cond (ends_item (drop 1 text)) (Ok (drop 1 text)) (Err 1)) (Err 0) unclosed ∙ ap Err (sym at_front)
+closing_of-err text place (inr (rest, closing, unended, behind)) = ap closing_of closing ∙ cond-false (ends_item rest) (Ok rest) (Err 1) unended ∙ ap Err (sym behind)
+
+-- ---- a pair
+
+abbrev last_with : ℕ → ℕ → Result (List ℕ) ℕ → Result (ℕ × List ℕ) ℕ
+last_with last end (Ok rest) = Ok (last, rest)
+last_with last end (Err at) = Err (end + at)
+
+abbrev last_from : ℕ → ℕ → Option (ℕ × List ℕ) → Result (ℕ × List ℕ) ℕ
+last_from first size None = Err 0
+last_from first size (Some (last, behind)) = cond (ltb last first) (Err 0) (last_with last (size - length behind) (closing_of behind))
+
+abbrev last_of : ℕ → List ℕ → Result (ℕ × List ℕ) ℕ
+last_of first text = last_from first (length text) (number_of text)
+
+last_of-number : (first : ℕ) (text : List ℕ) (last : ℕ) (behind : List ℕ) → BeginsNumber text last behind → first ≤ last
+    → last_of first text ≡ last_with last (length text - length behind) (closing_of behind)
+last_of-number first text last behind number ordered =
+    ap (last_from first (length text)) (number_of-some text last behind number)
+    ∙ cond-false _ (Err 0) (last_with last (length text - length behind) (closing_of behind)) (le-ltb last first ordered)
+
+last_of-ok : (first : ℕ) (text : List ℕ) (last : ℕ) (rest : List ℕ) → ClosesPair first text last rest → last_of first text ≡ Ok (last, rest)
+last_of-ok first text last rest (behind, number, ordered, closes) =
+    last_of-number first text last behind number ordered ∙ ap (last_with last (length text - length behind)) (closing_of-ok behind rest closes)
+
+last_of-err : (first : ℕ) (text : List ℕ) (place : ℕ) → IsSecondFault first text place → last_of first text ≡ Err place
+last_of-err first text place (inl (no_digit, at_front)) = ap (last_from first (length text)) (number_of-none text (inl no_digit)) ∙ ap Err (sym at_front)
+last_of-err first text place (inr (digits, rest, parts, are, inl (inl large, at_front))) =
+    ap (last_from first (length text)) (number_of-none text (inr (digits, rest, parts, are, large))) ∙ ap Err (sym at_front)
+last_of-err first text place (inr (digits, rest, parts, are, inl (inr falls, at_front))) =
+    elim (cases_lt greatest (value_of digits)) [
+      | inl large ↦ ap (last_from first (length text)) (number_of-none text (inr (digits, rest, parts, are, large))) ∙ ap Err (sym at_front)
+      | inr small ↦
+          ap (last_from first (length text)) (number_of-some text (value_of digits) rest (digits, parts, are, refl, small))
+          ∙ cond-true _ (Err 0) (last_with (value_of digits) (length text - length rest) (closing_of rest)) (lt-ltb (value_of digits) first falls)
+          ∙ ap Err (sym at_front)
+    ]
+last_of-err first text place (inr (digits, rest, parts, are, inr (ordered, small, at, fault, behind))) =
+    let place_is : length text - length rest + at ≡ place = omega (arith, behind, ap length parts, length-append digits rest) in
+    last_of-number first text (value_of digits) rest (digits, parts, are, refl, small) ordered
+    ∙ ap (last_with (value_of digits) (length text - length rest)) (closing_of-err rest at fault)
+    ∙ ap Err place_is
+
+-- ---- a subscript
+
+abbrev pair_with : ℕ → ℕ → Result (ℕ × List ℕ) ℕ → Result (Span × List ℕ) ℕ
+pair_with first end (Ok (last, rest)) = Ok (record { first = first; last = last }, rest)
+pair_with first end (Err at) = Err (end + 1 + at)
+
+abbrev index_with : ℕ → ℕ → Result (List ℕ) ℕ → Result (Span × List ℕ) ℕ
+index_with first end (Ok rest) = Ok (record { first = first; last = first }, rest)
+index_with first end (Err at) = Err (end + at)
+
+abbrev subscript_with : ℕ → ℕ → List ℕ → Result (Span × List ℕ) ℕ
+subscript_with first end behind = cond (begins_with 45 behind) (pair_with first end (last_of first (drop 1 behind))) (index_with first end (closing_of behind))
+
+abbrev subscript_from : ℕ → Option (ℕ × List ℕ) → Result (Span × List ℕ) ℕ
+subscript_from size None = Err 0
+subscript_from size (Some (first, behind)) = subscript_with first (size - length behind) behind
+
+abbrev subscript_of : List ℕ → Result (Span × List ℕ) ℕ
+subscript_of text = subscript_from (length text) (number_of text)
+
+subscript_of-index : (text : List ℕ) (first : ℕ) (behind : List ℕ) → BeginsNumber text first behind → begins_with 45 behind ≡ false
+    → subscript_of text ≡ index_with first (length text - length behind) (closing_of behind)
+subscript_of-index text first behind number alone =
+    ap (subscript_from (length text)) (number_of-some text first behind number)
+    ∙ cond-false _ (pair_with first (length text - length behind) (last_of first (drop 1 behind))) (index_with first (length text - length behind) (closing_of behind)) alone
+
+subscript_of-pair : (text : List ℕ) (first : ℕ) (behind second : List ℕ) → BeginsNumber text first behind → behind ≡ 45 ∷ second
+    → subscript_of text ≡ pair_with first (length text - length behind) (last_of first second)
+subscript_of-pair text first behind second number hyphen =
+    ap (subscript_from (length text)) (number_of-some text first behind number) ∙ ap (subscript_with first (length text - length behind)) hyphen
+
+no_hyphen : (behind rest : List ℕ) → Closes behind rest → begins_with 45 behind ≡ false
+no_hyphen behind rest (closing, ended) = ap (begins_with 45) closing
+
+subscript_of-ok : (text : List ℕ) (span : Span) (rest : List ℕ) → BeginsSubscript text span rest → subscript_of text ≡ Ok (span, rest)
+subscript_of-ok text span rest (behind, number, inl (same, closes)) =
+    subscript_of-index text span.first behind number (no_hyphen behind rest closes)
+    ∙ ap (index_with span.first (length text - length behind)) (closing_of-ok behind rest closes)
+    ∙ ap (λ last. Ok (record { first = span.first; last = last }, rest)) (sym same)
+subscript_of-ok text span rest (behind, number, inr (second, hyphen, closes)) =
+    subscript_of-pair text span.first behind second number hyphen
+    ∙ ap (pair_with span.first (length text - length behind)) (last_of-ok span.first second span.last rest closes)
+
+subscript_of-err : (text : List ℕ) (place : ℕ) → IsSubscriptFault text place → subscript_of text ≡ Err place
+subscript_of-err text place (inl (no_digit, at_front)) = ap (subscript_from (length text)) (number_of-none text (inl no_digit)) ∙ ap Err (sym at_front)
+subscript_of-err text place (inr (digits, rest, parts, are, inl (large, at_front))) =
+    ap (subscript_from (length text)) (number_of-none text (inr (digits, rest, parts, are, large))) ∙ ap Err (sym at_front)
+subscript_of-err text place (inr (digits, rest, parts, are, inr (inl (small, alone, at, fault, behind)))) =
+    let place_is : length text - length rest + at ≡ place = omega (arith, behind, ap length parts, length-append digits rest) in
+    subscript_of-index text (value_of digits) rest (digits, parts, are, refl, small) alone
+    ∙ ap (index_with (value_of digits) (length text - length rest)) (closing_of-err rest at fault) ∙ ap Err place_is
+subscript_of-err text place (inr (digits, rest, parts, are, inr (inr (small, second, at, hyphen, fault, behind)))) =
+    let place_is : length text - length rest + 1 + at ≡ place = omega (arith, behind, ap length parts, length-append digits rest) in
+    subscript_of-pair text (value_of digits) rest second (digits, parts, are, refl, small) hyphen
+    ∙ ap (pair_with (value_of digits) (length text - length rest)) (last_of-err (value_of digits) second at fault) ∙ ap Err place_is
+
+-- ---- an item
+
+abbrev named_with : List ℕ → Result (Span × List ℕ) ℕ → Result (Item × List ℕ) ℕ
+named_with name (Ok (span, rest)) = Ok (record { name = name; occurrences = Some span }, rest)
+named_with name (Err at) = Err (length name + 1 + at)
+
+abbrev item_with : List ℕ → List ℕ → Result (Item × List ℕ) ℕ
+item_with name behind =
+    cond (ends_item behind) (Ok (record { name = name; occurrences = None }, behind))
+    (cond (begins_with 91 behind) (named_with name (subscript_of (drop 1 behind))) (Err (length name)))
+
+abbrev item_from : Option (List ℕ × List ℕ) → Result (Item × List ℕ) ℕ
+item_from None = Err 0
+item_from (Some (name, behind)) = item_with name behind
+
+abbrev item_of : List ℕ → Result (Item × List ℕ) ℕ
+item_of text = item_from (name_of text)
+
+item_of-subscript : (text name behind inside : List ℕ) → BeginsName text name behind → behind ≡ 91 ∷ inside → item_of text ≡ named_with name (subscript_of inside)
+item_of-subscript text name behind inside is opening = ap item_from (name_of-some text name behind is) ∙ ap (item_with name) opening
+
+item_of-err : (text : List ℕ) (place : ℕ) → IsItemFault text place → item_of text ≡ Err place
+item_of-err text place (inl (no_name, at_front)) = ap item_from (name_of-none text no_name) ∙ ap Err (sym at_front)
+item_of-err text place (inr (name, rest, parts, is, inl (no_subscript, unended, behind))) =
+    let otherwise = cond (begins_with 91 rest) (named_with name (subscript_of (drop 1 rest))) (Err (length name)) in
+    ap item_from (name_of-some text name rest (parts, is))
+    ∙ cond-false (ends_item rest) (Ok (record { name = name; occurrences = None }, rest)) otherwise unended
+    ∙ cond-false (begins_with 91 rest) (named_with name (subscript_of (drop 1 rest))) (Err (length name)) no_subscript
+    ∙ ap Err (sym behind)
+item_of-err text place (inr (name, rest, parts, is, inr (inside, at, opening, fault, behind))) =
+    item_of-subscript text name rest inside (parts, is) opening ∙ ap (named_with name) (subscript_of-err inside at fault) ∙ ap Err (sym behind)
+
+-- what stands behind a whole item goes on with no name and with no digit
+no_continuation_behind : (rest : List ℕ) → ends_item rest ≡ true → begins_continuation rest ≡ false
+no_continuation_behind [] ended = refl
+no_continuation_behind (b ∷ rest) ended = let comma : b ≡ 44 = eqb-true b 44 ended in ap continues_name comma
+
+-- digits alone are all the digits that stand before a byte that is none
+digits_before : (digits : List ℕ) (b : ℕ) (rest : List ℕ) → AreDigits digits [] → begins_digit (b ∷ rest) ≡ false → AreDigits digits (b ∷ rest)
+digits_before digits b rest are ended = record { some = are.some; all = are.all; ended = ended }
+
+BeginsSubscript-index : (digits rest : List ℕ) (span : Span) → AreDigits digits [] → value_of digits ≡ span.first → span.last ≡ span.first → span.first ≤ greatest → ends_item rest ≡ true
+    → BeginsSubscript (digits ++ 93 ∷ rest) span rest
+BeginsSubscript-index digits rest span are value same small ended =
+    (93 ∷ rest, (digits, refl, digits_before digits 93 rest are refl, value, small), inl (same, (refl, ended)))
+
+BeginsSubscript-pair : (a b rest : List ℕ) (span : Span) → AreDigits a [] → AreDigits b [] → value_of a ≡ span.first → value_of b ≡ span.last → span.first ≤ span.last
+    → span.last ≤ greatest → ends_item rest ≡ true → BeginsSubscript (a ++ 45 ∷ (b ++ 93 ∷ rest)) span rest
+BeginsSubscript-pair a b rest span first_are second_are first_value second_value ordered small ended = (
+  45 ∷ (b ++ 93 ∷ rest),
+  (a, refl, digits_before a 45 (b ++ 93 ∷ rest) first_are refl, first_value, omega arith),
+  inr (b ++ 93 ∷ rest, refl, (93 ∷ rest, (b, refl, digits_before b 93 rest second_are refl, second_value, small), ordered, (refl, ended))),
+)
+
+item_of-ok : (text name : List ℕ) (occurrences : Option Span) (rest : List ℕ) → BeginsItem text (record { name = name; occurrences = occurrences }) rest
+    → item_of text ≡ Ok (record { name = name; occurrences = occurrences }, rest)
+item_of-ok text name None rest (front, parts, (subscript, halves, well_formed, none), ended) =
+    let whole : text ≡ name ++ rest = parts ∙ ap (λ f. f ++ rest) (halves ∙ ap (λ s. name ++ s) none ∙ append-nil name) in
+    let is : IsName name rest = record { well_formed = well_formed; ended = no_continuation_behind rest ended } in
+    ap item_from (name_of-some text name rest (whole, is))
+    ∙ cond-true (ends_item rest) (Ok (record { name = name; occurrences = None }, rest))
+    (cond (begins_with 91 rest) (named_with name (subscript_of (drop 1 rest))) (Err (length name))) ended
+item_of-ok text name (Some span) rest (front, parts, (subscript, halves, well_formed, inl (digits, written, are, value, same, small)), ended) =
+    let inside = digits ++ 93 ∷ rest in
+    let regrouped : (digits ++ 93 ∷ []) ++ rest ≡ inside = append_assoc digits (93 ∷ []) rest in
+    let whole : text ≡ name ++ 91 ∷ inside =
+    parts ∙ ap (λ f. f ++ rest) (halves ∙ ap (λ s. name ++ s) written) ∙ append_assoc name (91 ∷ (digits ++ 93 ∷ [])) rest ∙ ap (λ i. name ++ 91 ∷ i) regrouped in
+    let is : IsName name (91 ∷ inside) = record { well_formed = well_formed; ended = refl } in
+    item_of-subscript text name (91 ∷ inside) inside (whole, is) refl
+    ∙ ap (named_with name) (subscript_of-ok inside span rest (BeginsSubscript-index digits rest span are value same small ended))
+item_of-ok text name (Some span) rest
+    (front, parts, (subscript, halves, well_formed, inr (a, b, written, first_are, second_are, first_value, second_value, ordered, small)), ended) =
+    let inside = a ++ 45 ∷ (b ++ 93 ∷ rest) in
+    let regrouped : (a ++ 45 ∷ (b ++ 93 ∷ [])) ++ rest ≡ inside =
+    append_assoc a (45 ∷ (b ++ 93 ∷ [])) rest ∙ ap (λ i. a ++ 45 ∷ i) (append_assoc b (93 ∷ []) rest) in
+    let whole : text ≡ name ++ 91 ∷ inside =
+    parts ∙ ap (λ f. f ++ rest) (halves ∙ ap (λ s. name ++ s) written) ∙ append_assoc name (91 ∷ (a ++ 45 ∷ (b ++ 93 ∷ []))) rest ∙ ap (λ i. name ++ 91 ∷ i) regrouped in
+    let is : IsName name (91 ∷ inside) = record { well_formed = well_formed; ended = refl } in
+    item_of-subscript text name (91 ∷ inside) inside (whole, is) refl
+    ∙ ap (named_with name) (subscript_of-ok inside span rest (BeginsSubscript-pair a b rest span first_are second_are first_value second_value ordered small ended))
+
+-- ---- a whole list
+
+abbrev list_with : Item → Result (List Item) ℕ → Result (List Item) ℕ
+list_with item (Ok items) = Ok (item ∷ items)
+list_with item (Err place) = Err place
+
+abbrev list_from : (ℕ → List ℕ → Result (List Item) ℕ) → ℕ → ℕ → Result (Item × List ℕ) ℕ → Result (List Item) ℕ
+list_from next start size (Err place) = Err (start + place)
+list_from next start size (Ok (item, [])) = Ok (item ∷ [])
+list_from next start size (Ok (item, b ∷ rest)) = list_with item (next (start + (size - length rest)) rest)
+
+-- the list that a text of fewer bytes than this begins with, at this place of a whole text
+abbrev list_of : ℕ → ℕ → List ℕ → Result (List Item) ℕ
+list_of zero start text = Err start
+list_of (suc bytes) start text = list_from (list_of bytes) start (length text) (item_of text)
+
+list_of-ok : (bytes start : ℕ) (text : List ℕ) (items : List Item) → length text < bytes → AreItems text items → list_of bytes start text ≡ Ok items
+list_of-ok zero start text items short are = absurd (omega arith)
+list_of-ok (suc bytes) start text [] short are = absurd are
+list_of-ok (suc bytes) start text (item ∷ []) short is =
+    ap (list_from (list_of bytes) start (length text)) (item_of-ok text item.name item.occurrences [] (text, sym (append-nil text), is, refl))
+list_of-ok (suc bytes) start text (item ∷ next ∷ items) short (front, rest, parts, is, more) =
+    let shorter : length rest < bytes = omega (arith, short, ap length parts, length-append front (44 ∷ rest)) in
+    ap (list_from (list_of bytes) start (length text)) (item_of-ok text item.name item.occurrences (44 ∷ rest) (front, parts, is, refl))
+    ∙ ap (list_with item) (list_of-ok bytes (start + (length text - length rest)) rest (next ∷ items) shorter more)
+
+list_of-err : (bytes start : ℕ) (text before : List ℕ) (items : List Item) (rest : List ℕ) (at : ℕ) → length text < bytes → text ≡ before ++ rest
+    → AreItemsBefore before items → IsItemFault rest at → list_of bytes start text ≡ Err (start + (length before + at))
+list_of-err zero start text before items rest at short parts whole fault = absurd (omega arith)
+list_of-err (suc bytes) start text before [] rest at short parts none fault =
+    let P : List ℕ → Type 0 = λ t. IsItemFault t at in
+    let place_is : start + at ≡ start + (length before + at) = omega (arith, ap length none) in
+    ap (list_from (list_of bytes) start (length text)) (item_of-err text at (subst P (sym (parts ∙ ap (λ b. b ++ rest) none)) fault)) ∙ ap Err place_is
+list_of-err (suc bytes) start text before (item ∷ items) rest at short parts (front, more, halves, is, whole) fault =
+    let cut : text ≡ front ++ (44 ∷ (more ++ rest)) = parts ∙ ap (λ b. b ++ rest) halves ∙ append_assoc front (44 ∷ more) rest in
+    let size : length text ≡ length front + suc (length (more ++ rest)) = ap length cut ∙ length-append front (44 ∷ (more ++ rest)) in
+    let size_before : length before ≡ length front + suc (length more) = ap length halves ∙ length-append front (44 ∷ more) in
+    let place_is : start + (length text - length (more ++ rest)) + (length more + at) ≡ start + (length before + at) = omega arith in
+    ap (list_from (list_of bytes) start (length text)) (item_of-ok text item.name item.occurrences (44 ∷ (more ++ rest)) (front, cut, is, refl))
+    ∙ ap (list_with item) (list_of-err bytes (start + (length text - length (more ++ rest))) (more ++ rest) more items rest at (omega arith) refl whole fault)
+    ∙ ap Err place_is
+
+-- ---- the one reading
+
+abbrev with_fault : Result (List Item) ℕ → Result (List Item) Fault
+with_fault (Ok items) = Ok items
+with_fault (Err place) = Err (BadFieldList place)
+
+abbrev reading_of : List ℕ → Result (List Item) Fault
+reading_of text = with_fault (list_of (length text + 1) 0 text)
+
+is_reading_of : (text : List ℕ) (answer : Result (List Item) Fault) → IsFieldList text answer → reading_of text ≡ answer
+is_reading_of text (Ok items) are = ap with_fault (list_of-ok (length text + 1) 0 text items (omega arith) are)
+is_reading_of text (Err (BadFieldList place)) has =
+    ap with_fault (list_of-err (length text + 1) 0 text has.before has.items has.rest has.at (omega arith) has.parts has.whole has.bad)
+    ∙ ap (λ n. Err (BadFieldList n)) (let e : 0 + (length has.before + has.at) ≡ place = omega (arith, has.behind) in e)
+is_reading_of text (Err _) none = absurd none
+
+-- a text has at most one reading
+pub one_field_list : (text : List ℕ) (some : Result (List Item) Fault) → IsFieldList text some → (other : Result (List Item) Fault) → IsFieldList text other → some ≡ other
+one_field_list text some is other is_too = sym (is_reading_of text some is) ∙ is_reading_of text other is_too

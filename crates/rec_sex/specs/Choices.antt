@@ -1,0 +1,81 @@
+-- Choices and patterns in memory, the expression that a tree stands for with them, and the walk over all choices.
+use Rattle.std.specs.Prelude.{◌≡◌, ℕ, zero, suc, Bool, false, ◌||◌, ◌&&◌, not, nat_lt, List, [], ◌∷◌, ◌++◌, length, slice_get, unwrap_or, if◌then◌else◌}
+use Rattle.std.specs.Str.{bytes_eq}
+use Rattle.regex.specs.Patterns.{Re, empty}
+use Rattle.rec_text.specs.Elements.{Piece}
+use Rattle.rec_sex.specs.declared.tree.Tree.{Tree, Integer, Literal, Name, Occurrence, Count, Not', Negate', Binary', Found', Choice'}
+use Rattle.rec_sex.specs.declared.occurrences.Chosen.{Chosen}
+use Rattle.rec_sex.specs.Grammar.{Term, number, literal, field, occurrence, count, inverse, negated, binary, found, choice}
+use Rattle.rec_sex.specs.Meaning.{Choice_, values_of, sem, is_true, is_found}
+
+-- ---- expressions under a choice
+
+-- a name and its chosen occurrence
+abbrev pub Entry : Type 0
+Entry = List ℕ × ℕ
+
+abbrev pub entry_of : Chosen → Entry
+entry_of chosen = (chosen.name.now, chosen.occurrence)
+
+-- the occurrence that is chosen for a name; the first one where none is
+abbrev pub chosen_in : List Entry → Choice_
+chosen_in [] name = 0
+chosen_in (entry ∷ entries) name = if bytes_eq entry.0 name then entry.1 else chosen_in entries name
+
+-- the pattern of a number; the empty one where there is none
+abbrev pub pattern_in : List Re → ℕ → Re
+pattern_in patterns i = unwrap_or (slice_get patterns i) empty
+
+-- the expression that a tree stands for, with these patterns
+abbrev pub term_under : List Re → Tree → Term
+term_under patterns (Integer n) = number n
+term_under patterns (Literal text) = literal text
+term_under patterns (Name name) = field name
+term_under patterns (Occurrence name i) = occurrence name i
+term_under patterns (Count name) = count name
+term_under patterns (Not' p a) = inverse (term_under patterns a)
+term_under patterns (Negate' p a) = negated (term_under patterns a)
+term_under patterns (Binary' op p a q b) = binary op (term_under patterns a) (term_under patterns b)
+term_under patterns (Found' p a i) = found (term_under patterns a) (pattern_in patterns i)
+term_under patterns (Choice' p c q a r b) = choice (term_under patterns c) (term_under patterns a) (term_under patterns b)
+
+-- ---- the walk over choices
+
+-- the name is among these
+abbrev pub is_among : List ℕ → List (List ℕ) → Bool
+is_among name [] = false
+is_among name (one ∷ more) = bytes_eq one name || is_among name more
+
+-- a name that occurs more than once comes behind the others, unless it is among them
+abbrev pub with_repeated : List Piece → List (List ℕ) → List ℕ → List (List ℕ)
+with_repeated pieces names name =
+    if nat_lt 1 (length (values_of name pieces)) && not (is_among name names) then names ++ name ∷ [] else names
+
+-- the names for which an expression chooses among several occurrences, behind these
+abbrev pub repeated_names : List Piece → List (List ℕ) → Tree → List (List ℕ)
+repeated_names pieces names (Integer n) = names
+repeated_names pieces names (Literal text) = names
+repeated_names pieces names (Name name) = with_repeated pieces names name
+repeated_names pieces names (Occurrence name i) = names
+repeated_names pieces names (Count name) = names
+repeated_names pieces names (Not' p a) = repeated_names pieces names a
+repeated_names pieces names (Negate' p a) = repeated_names pieces names a
+repeated_names pieces names (Binary' op p a q b) = repeated_names pieces (repeated_names pieces names a) b
+repeated_names pieces names (Found' p a i) = repeated_names pieces names a
+repeated_names pieces names (Choice' p c q a r b) =
+    repeated_names pieces (repeated_names pieces (repeated_names pieces names c) a) b
+
+-- the test holds for a number below n
+abbrev pub any_below : ℕ → (ℕ → Bool) → Bool
+any_below zero test = false
+any_below (suc n) test = any_below n test || test n
+
+-- with these entries, some occurrences of the names make the expression true
+abbrev pub any_choice : Term → List Piece → List (List ℕ) → List Entry → Bool
+any_choice term pieces [] entries = is_true (sem term pieces (chosen_in entries))
+any_choice term pieces (name ∷ names) entries =
+    any_below (length (values_of name pieces)) (λ i. any_choice term pieces names (entries ++ (name, i) ∷ []))
+
+-- the patterns of each number are found in the same texts
+abbrev pub FindAlike : List Re → List Re → Type 0
+FindAlike some other = (i : ℕ) (text : List ℕ) → is_found (pattern_in some i) text ≡ is_found (pattern_in other i) text

@@ -1,0 +1,33 @@
+-- What a text begins with, where an item of a field list is read.
+use Rattle.std.specs.Prelude.{◌≡◌, ◌⊎◌, ℕ, ◌≤◌, Bool, true, ◌&&◌, nat_le, List, ◌∷◌, ◌++◌, Option, Some, None}
+use Rattle.rec_sex.specs.declared.index_list.Span.{Span}
+use Rattle.rec_sex.specs.declared.field_list.Item.{Item}
+use Rattle.rec_sex.specs.IndexItems.{BeginsNumber}
+use Rattle.rec_sex.specs.Lists.{IsName, IsItem, ends_item}
+
+-- a name comes first, with all that it goes on with, and this stands behind it
+abbrev pub BeginsName : List ℕ → List ℕ → List ℕ → Type 0
+BeginsName text name rest = (text ≡ name ++ rest) × IsName name rest
+
+-- a closing bracket comes first, and what stands behind it ends the item
+abbrev pub Closes : List ℕ → List ℕ → Type 0
+Closes text rest = (text ≡ 93 ∷ rest) × (ends_item rest ≡ true)
+
+-- the second index of a pair comes first, with the bracket that closes it
+abbrev pub ClosesPair : ℕ → List ℕ → ℕ → List ℕ → Type 0
+ClosesPair first text last rest = (behind : List ℕ) × BeginsNumber text last behind × (first ≤ last) × Closes behind rest
+
+-- behind its opening bracket the rest of a subscript comes first: one index or a pair, and the closing bracket
+abbrev pub BeginsSubscript : List ℕ → Span → List ℕ → Type 0
+BeginsSubscript text span rest = (behind : List ℕ) × BeginsNumber text span.first behind
+    × (((span.last ≡ span.first) × Closes behind rest)
+    ⊎ ((second : List ℕ) × (behind ≡ 45 ∷ second) × ClosesPair span.first second span.last rest))
+
+-- a whole item comes first, and what stands behind it ends it
+abbrev pub BeginsItem : List ℕ → Item → List ℕ → Type 0
+BeginsItem text item rest = (front : List ℕ) × (text ≡ front ++ rest) × IsItem front item × (ends_item rest ≡ true)
+
+-- an occurrence is among these; where none are named, each is
+abbrev pub is_among : Option Span → ℕ → Bool
+is_among None i = true
+is_among (Some span) i = nat_le span.first i && nat_le i span.last

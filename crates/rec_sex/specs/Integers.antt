@@ -1,0 +1,51 @@
+-- The integers of values and expressions: 64 bits, decimal, octal behind a leading zero, hexadecimal behind 0x.
+use Rattle.std.specs.Prelude.{◌≡◌, ℕ, zero, suc, ℤ, pos, negsuc, ◌+◌, ◌-◌, ◌*◌, ◌^◌, Bool, true, false, ◌==◌, ◌||◌, ◌&&◌, nat_le, nat_lt, List, [], ◌∷◌, reverse, Option, Some, None, if◌then◌else◌}
+use Rattle.std.specs.Option.{option_map, option_and_then}
+use Rattle.rec_text.specs.Bytes.{is_blank, is_nil}
+
+-- without the blanks that come first
+abbrev pub without_blanks : List ℕ → List ℕ
+without_blanks [] = []
+without_blanks (b ∷ bs) = if is_blank b then without_blanks bs else b ∷ bs
+
+-- without the blanks at both ends
+abbrev pub trimmed : List ℕ → List ℕ
+trimmed text = reverse (without_blanks (reverse (without_blanks text)))
+
+-- the value of a digit, of up to 16 digits
+abbrev pub digit_of : ℕ → Option ℕ
+digit_of b = if nat_le 48 b && nat_le b 57 then Some (b - 48)
+    else if nat_le 97 b && nat_le b 102 then Some (b - 87)
+    else if nat_le 65 b && nat_le b 70 then Some (b - 55)
+    else None
+
+-- the number that digits of this base write, behind the number so far
+abbrev pub number_from : ℕ → ℕ → List ℕ → Option ℕ
+number_from base n [] = Some n
+number_from base n (b ∷ bs) = option_and_then (λ digit. if nat_lt digit base then number_from base (n * base + digit) bs else None) (digit_of b)
+
+-- behind a zero: hexadecimal digits behind an x, at least one, or octal digits, possibly none
+abbrev pub behind_zero : List ℕ → Option ℕ
+behind_zero [] = Some 0
+behind_zero (b ∷ bs) = if b == 120 || b == 88 then (if is_nil bs then None else number_from 16 0 bs) else number_from 8 0 (b ∷ bs)
+
+-- a number without a sign
+abbrev pub magnitude_of : List ℕ → Option ℕ
+magnitude_of [] = None
+magnitude_of (b ∷ bs) = if b == 48 then behind_zero bs else number_from 10 0 (b ∷ bs)
+
+abbrev pub negative : ℕ → ℤ
+negative zero = pos 0
+negative (suc n) = negsuc n
+
+-- a number of 64 bits with its sign
+abbrev pub signed_of : List ℕ → Option ℤ
+signed_of [] = None
+signed_of (b ∷ bs) =
+    if b == 45
+    then option_and_then (λ n. if nat_le n (2 ^ 63) then Some (negative n) else None) (magnitude_of bs)
+    else option_and_then (λ n. if nat_lt n (2 ^ 63) then Some (pos n) else None) (magnitude_of (b ∷ bs))
+
+-- the integer reading of a text, if it has one
+abbrev pub int_of : List ℕ → Option ℤ
+int_of text = signed_of (trimmed text)

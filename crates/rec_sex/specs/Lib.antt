@@ -1,0 +1,16 @@
+pub mod Integers
+pub mod Magnitudes
+pub mod IndexList
+pub mod IndexItems
+pub mod Tokens
+pub mod Grammar
+pub mod Lexing
+pub mod Meaning
+pub mod Operands
+pub mod Choices
+pub mod Patterns
+pub mod Expressions
+pub mod Parsing
+pub mod Searching
+pub mod Lists
+pub mod FieldItems

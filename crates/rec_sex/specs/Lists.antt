@@ -1,0 +1,130 @@
+-- Lists of fields, and what they pick of a record. (Lists of indexes stand in `IndexList`.)
+use Rattle.std.specs.Prelude.{◌≡◌, ◌⊎◌, ℕ, ◌+◌, ◌<◌, ◌≤◌, Bool, true, false, ◌==◌, List, [], ◌∷◌, ◌++◌, length, take, drop, Option, Some, None, Result, Ok, Err, if◌then◌else◌}
+use Rattle.std.specs.List.{list_all, flat_map}
+use Rattle.std.specs.Str.{bytes_eq}
+use Rattle.rec_text.specs.declared.fault.Fault.{Fault}
+use Rattle.rec_text.specs.declared.fault.Fault.TheVariants.{BadFieldList}
+use Rattle.rec_text.specs.Bytes.{begins_name, continues_name}
+use Rattle.rec_text.specs.Elements.{Piece, name_of}
+use Rattle.rec_sex.specs.declared.index_list.Span.{Span}
+use Rattle.rec_sex.specs.declared.field_list.Item.{Item}
+use Rattle.rec_sex.specs.IndexList.{AreDigits, value_of, greatest, begins_digit}
+
+-- a letter or %, then letters, digits and _
+abbrev pub is_field_name : List ℕ → Bool
+is_field_name [] = false
+is_field_name (b ∷ bs) = if begins_name b then list_all continues_name bs else false
+
+-- a byte that a name begins with comes first
+abbrev pub begins_field : List ℕ → Bool
+begins_field [] = false
+begins_field (b ∷ bs) = begins_name b
+
+-- a byte that a name goes on with comes first
+abbrev pub begins_continuation : List ℕ → Bool
+begins_continuation [] = false
+begins_continuation (b ∷ bs) = continues_name b
+
+-- a name, and all that a name goes on with there
+pub record IsName (name rest : List ℕ) : Type 0 where
+  pub well_formed : is_field_name name ≡ true
+  pub ended : begins_continuation rest ≡ false
+
+-- the occurrences that an item without a subscript means, and those from the first to the last
+abbrev pub IsSubscript : List ℕ → Option Span → Type 0
+IsSubscript text None = text ≡ []
+IsSubscript text (Some span) =
+    ((digits : List ℕ) × (text ≡ 91 ∷ (digits ++ 93 ∷ [])) × AreDigits digits [] × (value_of digits ≡ span.first) × (span.last ≡ span.first) × (span.first ≤ greatest))
+    ⊎ ((a b : List ℕ) × (text ≡ 91 ∷ (a ++ 45 ∷ (b ++ 93 ∷ []))) × AreDigits a [] × AreDigits b []
+    × (value_of a ≡ span.first) × (value_of b ≡ span.last) × (span.first ≤ span.last) × (span.last ≤ greatest))
+
+-- an item: FIELD, FIELD[i] or FIELD[i-j]
+abbrev pub IsItem : List ℕ → Item → Type 0
+IsItem text item = (subscript : List ℕ) × (text ≡ item.name ++ subscript) × (is_field_name item.name ≡ true) × IsSubscript subscript item.occurrences
+
+-- items joined by commas, at least one
+abbrev pub AreItems : List ℕ → List Item → Type 0
+AreItems text [] = ⊥
+AreItems text (item ∷ []) = IsItem text item
+AreItems text (item ∷ next ∷ items) = (front rest : List ℕ) × (text ≡ front ++ 44 ∷ rest) × IsItem front item × AreItems rest (next ∷ items)
+
+-- what stands behind the whole items, each with its comma
+abbrev pub AreItemsBefore : List ℕ → List Item → Type 0
+AreItemsBefore before [] = before ≡ []
+AreItemsBefore before (item ∷ items) = (front rest : List ℕ) × (before ≡ front ++ 44 ∷ rest) × IsItem front item × AreItemsBefore rest items
+
+-- this byte comes first
+abbrev pub begins_with : ℕ → List ℕ → Bool
+begins_with c [] = false
+begins_with c (b ∷ bs) = b == c
+
+-- nothing more, or a comma
+abbrev pub ends_item : List ℕ → Bool
+ends_item [] = true
+ends_item (b ∷ bs) = b == 44
+
+-- behind a number of a subscript: its closing bracket is missing at the front of the text, or something else than the end or a comma follows it
+abbrev pub IsClosingFault : List ℕ → ℕ → Type 0
+IsClosingFault text place =
+    ((begins_with 93 text ≡ false) × (place ≡ 0))
+    ⊎ ((rest : List ℕ) × (text ≡ 93 ∷ rest) × (ends_item rest ≡ false) × (place ≡ 1))
+
+-- the second number of a pair, behind the hyphen, has a fault at this place
+abbrev pub IsSecondFault : ℕ → List ℕ → ℕ → Type 0
+IsSecondFault first text place =
+    ((begins_digit text ≡ false) × (place ≡ 0))
+    ⊎ ((digits rest : List ℕ) × (text ≡ digits ++ rest) × AreDigits digits rest
+    × ((((greatest < value_of digits) ⊎ (value_of digits < first)) × (place ≡ 0))
+    ⊎ ((first ≤ value_of digits) × (value_of digits ≤ greatest) × (at : ℕ) × IsClosingFault rest at × (place ≡ length digits + at))))
+
+-- a subscript has a fault at this place, counted behind its opening bracket
+abbrev pub IsSubscriptFault : List ℕ → ℕ → Type 0
+IsSubscriptFault text place =
+    ((begins_digit text ≡ false) × (place ≡ 0))
+    ⊎ ((digits rest : List ℕ) × (text ≡ digits ++ rest) × AreDigits digits rest
+    × (((greatest < value_of digits) × (place ≡ 0))
+    ⊎ ((value_of digits ≤ greatest) × (begins_with 45 rest ≡ false) × (at : ℕ) × IsClosingFault rest at × (place ≡ length digits + at))
+    ⊎ ((value_of digits ≤ greatest) × (second : List ℕ) × (at : ℕ) × (rest ≡ 45 ∷ second)
+    × IsSecondFault (value_of digits) second at × (place ≡ length digits + 1 + at))))
+
+-- An item has a fault at this place: the first byte that can't go on, or its end where it ends too early; or the first
+-- digit of a number that is too large or, in a pair, less than the one before it.
+abbrev pub IsItemFault : List ℕ → ℕ → Type 0
+IsItemFault text place =
+    ((begins_field text ≡ false) × (place ≡ 0))
+    ⊎ ((name rest : List ℕ) × (text ≡ name ++ rest) × IsName name rest
+    × (((begins_with 91 rest ≡ false) × (ends_item rest ≡ false) × (place ≡ length name))
+    ⊎ ((subscript : List ℕ) × (at : ℕ) × (rest ≡ 91 ∷ subscript) × IsSubscriptFault subscript at × (place ≡ length name + 1 + at))))
+
+-- behind whole items, each with its comma, stands one with a fault
+pub record HasFault (text : List ℕ) (place : ℕ) : Type 0 where
+  pub before : List ℕ
+  pub items : List Item
+  pub rest : List ℕ
+  pub at : ℕ
+  pub parts : text ≡ before ++ rest
+  pub whole : AreItemsBefore before items
+  pub bad : IsItemFault rest at
+  pub behind : place ≡ length before + at
+
+-- the one answer for a text, memory aside
+abbrev pub IsFieldList : List ℕ → Result (List Item) Fault → Type 0
+IsFieldList text (Ok items) = AreItems text items
+IsFieldList text (Err (BadFieldList place)) = HasFault text place
+IsFieldList text (Err _) = ⊥
+
+-- ---- what a list picks
+
+-- the places of the fields of a name; the first of the fields has this place
+abbrev pub places_from : ℕ → List ℕ → List Piece → List ℕ
+places_from i name [] = []
+places_from i name (field ∷ fields) = if bytes_eq (name_of field) name then i ∷ places_from (i + 1) name fields else places_from (i + 1) name fields
+
+-- all of these, or those of the occurrences from the first to the last
+abbrev pub occurrences : Option Span → List ℕ → List ℕ
+occurrences None places = places
+occurrences (Some span) places = drop span.first (take (span.last + 1) places)
+
+-- for each item in order the places of its occurrences, in record order
+abbrev pub picks : List Item → List Piece → List ℕ
+picks items fields = flat_map (λ item. occurrences item.occurrences (places_from 0 item.name fields)) items

@@ -1,0 +1,20 @@
+-- Patterns that are built from texts, and texts that are refused as patterns.
+use Rattle.std.specs.Prelude.{◌≡◌, ◌≢◌, ℕ, List}
+use Rattle.regex.specs.Patterns.{default_config}
+use Rattle.regex.specs.Strings.{regex_source, regex_config, IsReadFromSource}
+use Rattle.regex.specs.Sources.{IsRefusal}
+use Rattle.regex.specs.Failures.{IsRightKind}
+use Rattle.regex.specs.declared.string.regex.Regex.{Regex}
+use Rattle.regex.specs.declared.error.Error.{Error}
+use Rattle.regex.specs.declared.error.Error.TheVariants.{OutOfMemory}
+
+-- the pattern is what `regex` builds of the text, with its default options
+abbrev pub IsBuiltFrom : List ℕ → Regex → Type 0
+IsBuiltFrom text pattern = (regex_source pattern ≡ text) × (regex_config pattern ≡ default_config) × IsReadFromSource pattern
+
+-- `regex` may refuse the text, for another cause than memory: its grammar refuses it, or the pattern is too big
+pub record IsRefusedPattern (text : List ℕ) : Type 0 where
+  pub error : Error
+  pub refused : IsRefusal default_config text error
+  pub kind : IsRightKind default_config text error
+  pub not_memory : error ≢ OutOfMemory

@@ -1,0 +1,132 @@
+-- The tokens of an expression, and the place of its leftmost fault.
+use Rattle.std.specs.Prelude.{◌≡◌, ℕ, ℤ, pos, zero, suc, ◌+◌, ◌-◌, ◌^◌, Bool, true, false, ◌==◌, ◌||◌, ◌&&◌, nat_le, nat_lt, List, [], ◌∷◌, ◌++◌, length, drop, codes, Option, Some, None, if◌then◌else◌, take_while}
+use Rattle.std.specs.Char.{is_ascii_digit}
+use Rattle.std.specs.Option.{option_map}
+use Rattle.std.specs.Str.{bytes_eq}
+use Rattle.rec_text.specs.Bytes.{is_blank, is_letter, continues_name}
+use Rattle.rec_sex.specs.declared.token.Operator.{Operator}
+use Rattle.rec_sex.specs.declared.token.Operator.TheVariants.{Equal, NotEqual, Less, Greater, LessOrEqual, GreaterOrEqual, Join, Add, Subtract, Multiply, Divide, Remainder, And, Or, Implies}
+use Rattle.rec_sex.specs.declared.token.Token.{Token}
+use Rattle.rec_sex.specs.declared.token.Token.TheVariants.{Integer, Literal, Name, Occurrence, Count, Not, Binary, Found, Open, Close, Then, Else, Unused}
+use Rattle.rec_sex.specs.IndexList.{value_of, greatest}
+use Rattle.rec_sex.specs.Integers.{magnitude_of}
+
+-- ---- one token
+
+-- A token of so many bytes; or a fault, at this offset where an operand is wanted, and at the first byte elsewhere.
+pub data Lexeme : Type 0 where
+  Whole : Token → ℕ → Lexeme
+  Broken : ℕ → Lexeme
+
+-- blanks and newlines stand between tokens
+abbrev pub is_space : ℕ → Bool
+is_space b = is_blank b || b == 10
+
+-- one byte more
+abbrev pub with_byte : ℕ → Option (List ℕ × ℕ) → Option (List ℕ × ℕ)
+with_byte b found = option_map (λ x. (b ∷ x.0, x.1 + 1)) found
+
+-- A text literal behind its opening quote: its text, and its bytes up to and with the closing quote. A backslash directly
+-- before either quote is dropped, and that quote is part of the text.
+abbrev pub literal_from : ℕ → List ℕ → Option (List ℕ × ℕ)
+literal_from quote [] = None
+literal_from quote (b ∷ []) = if b == quote then Some ([], 1) else None
+literal_from quote (b ∷ c ∷ bs) =
+    if b == quote then Some ([], 1)
+    else if b == 92 && (c == 39 || c == 34) then option_map (λ x. (c ∷ x.0, x.1 + 2)) (literal_from quote bs)
+    else with_byte b (literal_from quote (c ∷ bs))
+
+abbrev pub literal_at : List ℕ → Lexeme
+literal_at [] = Broken 0
+literal_at (quote ∷ bs) = elim (literal_from quote bs) [ None ↦ Broken 0 | Some x ↦ Whole (Literal x.0) (x.1 + 1) ]
+
+-- an integer: all letters, digits and _ that stand there
+abbrev pub integer_at : List ℕ → Lexeme
+integer_at text = elim (magnitude_of (take_while continues_name text)) [
+  | None ↦ Broken 0
+  | Some n ↦ if nat_lt n (2 ^ 63) then Whole (Integer (pos n)) (length (take_while continues_name text)) else Broken 0
+]
+
+-- a subscript's closing bracket, behind so many bytes
+abbrev pub closing_at : List ℕ → ℕ → List ℕ → ℕ → Lexeme
+closing_at name n [] len = Broken len
+closing_at name n (b ∷ bs) len = if b == 93 then Whole (Occurrence name n) (len + 1) else Broken len
+
+-- a subscript behind a name and its opening bracket, which have so many bytes
+abbrev pub subscript_at : List ℕ → List ℕ → ℕ → Lexeme
+subscript_at name text len =
+    let digits = take_while is_ascii_digit text in
+    if length digits == 0 || nat_lt greatest (value_of digits) then Broken len
+    else closing_at name (value_of digits) (drop (length digits) text) (len + length digits)
+
+-- behind a name: its subscript, where a bracket stands directly behind it
+abbrev pub behind_name : List ℕ → List ℕ → Lexeme
+behind_name name [] = Whole (Name name) (length name)
+behind_name name (b ∷ bs) = if b == 91 then subscript_at name bs (length name + 1) else Whole (Name name) (length name)
+
+abbrev pub name_at : List ℕ → Lexeme
+name_at text = let name = take_while continues_name text in behind_name name (drop (length name) text)
+
+-- `#` and a name directly behind it
+abbrev pub count_at : List ℕ → Lexeme
+count_at [] = Broken 0
+count_at (b ∷ bs) = if is_letter b then (let name = take_while continues_name (b ∷ bs) in Whole (Count name) (length name + 1)) else Broken 0
+
+-- operators and parentheses, the longest first: those of two bytes, and those of one
+abbrev pub token_of_two : ℕ → ℕ → Option Token
+token_of_two b c =
+    if bytes_eq (b ∷ c ∷ []) (codes "=>") then Some (Binary Implies)
+    else if bytes_eq (b ∷ c ∷ []) (codes "!=") then Some (Binary NotEqual)
+    else if bytes_eq (b ∷ c ∷ []) (codes "<=") then Some (Binary LessOrEqual)
+    else if bytes_eq (b ∷ c ∷ []) (codes ">=") then Some (Binary GreaterOrEqual)
+    else if bytes_eq (b ∷ c ∷ []) (codes "&&") then Some (Binary And)
+    else if bytes_eq (b ∷ c ∷ []) (codes "||") then Some (Binary Or)
+    else if bytes_eq (b ∷ c ∷ []) (codes "==") || bytes_eq (b ∷ c ∷ []) (codes "<<") || bytes_eq (b ∷ c ∷ []) (codes ">>") then Some Unused
+    else None
+
+abbrev pub token_of_one : ℕ → Option Token
+token_of_one b =
+    if b == 61 then Some (Binary Equal) else if b == 60 then Some (Binary Less) else if b == 62 then Some (Binary Greater)
+    else if b == 38 then Some (Binary Join) else if b == 43 then Some (Binary Add) else if b == 45 then Some (Binary Subtract)
+    else if b == 42 then Some (Binary Multiply) else if b == 47 then Some (Binary Divide) else if b == 37 then Some (Binary Remainder)
+    else if b == 33 then Some Not else if b == 126 then Some Found else if b == 40 then Some Open else if b == 41 then Some Close
+    else if b == 63 then Some Then else if b == 58 then Some Else else None
+
+abbrev pub of_one : ℕ → Lexeme
+of_one b = elim (token_of_one b) [ None ↦ Broken 0 | Some token ↦ Whole token 1 ]
+
+abbrev pub operator_at : List ℕ → Lexeme
+operator_at [] = Broken 0
+operator_at (b ∷ []) = of_one b
+operator_at (b ∷ c ∷ bs) = elim (token_of_two b c) [ None ↦ of_one b | Some token ↦ Whole token 2 ]
+
+-- the token at the front of a text that begins with no space
+abbrev pub lexeme_at : List ℕ → Lexeme
+lexeme_at [] = Broken 0
+lexeme_at (b ∷ bs) =
+    if is_ascii_digit b then integer_at (b ∷ bs)
+    else if is_letter b then name_at (b ∷ bs)
+    else if b == 35 then count_at bs
+    else if b == 39 || b == 34 then literal_at (b ∷ bs)
+    else operator_at (b ∷ bs)
+
+-- ---- all tokens
+
+pub record Placed : Type 0 where
+  pub place : ℕ
+  pub lexeme : Lexeme
+
+abbrev pub len_of : Lexeme → ℕ
+len_of (Whole token len) = len
+len_of (Broken at) = 1
+
+-- the tokens of a text, past bytes that were looked at already; the first byte has this place
+abbrev pub lexemes_from : ℕ → ℕ → List ℕ → List Placed
+lexemes_from skip place [] = []
+lexemes_from (suc skip) place (b ∷ bs) = lexemes_from skip (place + 1) bs
+lexemes_from zero place (b ∷ bs) =
+    if is_space b then lexemes_from 0 (place + 1) bs
+    else record { place = place; lexeme = lexeme_at (b ∷ bs) } ∷ lexemes_from (len_of (lexeme_at (b ∷ bs)) - 1) (place + 1) bs
+
+abbrev pub lexemes : List ℕ → List Placed
+lexemes text = lexemes_from 0 0 text

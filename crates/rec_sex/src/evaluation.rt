@@ -1,0 +1,105 @@
+//! The meaning of an expression under one choice of occurrences.
+ghost use Rattle.std.specs.Prelude.{◌≡◌, IfOk, IfErr, map, pos, length};
+ghost use Rattle.std.specs.Option.{option_map};
+ghost use Rattle.regex.specs.Strings.{matcher_pattern};
+ghost use Rattle.rec_text.specs.Places.{pieces_of};
+ghost use Rattle.rec_sex.specs.Meaning.{is_found as is_found_in_text, text_of, sem, values_of};
+ghost use Rattle.rec_sex.specs.Operands.{meaning_of};
+ghost use Rattle.rec_sex.specs.Choices.{entry_of, chosen_in, pattern_in, term_under};
+
+use crate::occurrences::{Chosen, count_of, value_at};
+use crate::operand::{Operand, apply_operator, inverse, negated, reading, truth};
+use crate::tree::Tree;
+use itoa::Buffer;
+use rec_text::{Element, Fault, Value};
+use regex::Matcher;
+use std::alloc::Global;
+
+/// The occurrence that is chosen for a name; the first one where none is.
+fn occurrence_of(chosen: &[Chosen<'_>], name: &[u8]) -> usize
+    ensures { result ≡ chosen_in (map entry_of chosen.now) name.now }
+{
+    for entry in chosen {
+        if entry.name == name {
+            return entry.occurrence;
+        }
+    }
+    0
+}
+
+fn count(fields: &[Element<'_>], name: &[u8]) -> i64
+    ensures { result ≡ pos (length (values_of name.now (pieces_of fields.now))) }
+{
+    count_of(fields, name) as i64
+}
+
+/// Whether a pattern is found in an operand's text. Texts that aren't UTF-8 hold none.
+fn is_found(matchers: &mut [Matcher<'_>], pattern: usize, operand: &Operand<'_>) -> bool
+    ensures found { result ≡ is_found_in_text (pattern_in (map matcher_pattern matchers.old) pattern) (text_of (meaning_of operand.now)) }
+    ensures same { map matcher_pattern matchers.new ≡ map matcher_pattern matchers.old }
+{
+    let mut buffer = Buffer::new();
+    let Ok(text) = std::str::from_utf8(operand.text(&mut buffer)) else {
+        return false;
+    };
+    // The empty pattern, which stands for one that is not there, is found in any text.
+    if pattern >= matchers.len() {
+        return true;
+    }
+    matchers[pattern].is_match(text)
+}
+
+/// The meaning of an expression, where it is defined.
+pub(crate) fn evaluate<'v>(
+    alloc: Global,
+    tree: &'v Tree,
+    fields: &[Element<'v>],
+    chosen: &[Chosen<'_>],
+    matchers: &mut [Matcher<'_>],
+) -> Result<Option<Operand<'v>>, Fault>
+    ensures meaning { IfOk result (λ operand. option_map meaning_of operand ≡ sem (term_under (map matcher_pattern matchers.old) tree.now) (pieces_of fields.now) (chosen_in (map entry_of chosen.now))) }
+    ensures same { map matcher_pattern matchers.new ≡ map matcher_pattern matchers.old }
+    ensures refusals { IfErr result (λ fault. fault ≡ Fault.OutOfMemory) }
+{
+    match tree {
+        Tree::Integer(integer) => Ok(Some(Operand::Integer(*integer))),
+        Tree::Literal(text) => Ok(Some(Operand::Text(Value::Part(text.as_slice())))),
+        Tree::Name(name) => {
+            let occurrence = occurrence_of(chosen, name.as_slice());
+            let value = value_at(alloc, fields, name.as_slice(), occurrence)?;
+            Ok(Some(Operand::Text(value)))
+        }
+        Tree::Occurrence(name, occurrence) => {
+            let value = value_at(alloc, fields, name.as_slice(), *occurrence)?;
+            Ok(Some(Operand::Text(value)))
+        }
+        Tree::Count(name) => Ok(Some(Operand::Integer(count(fields, name.as_slice())))),
+        Tree::Not(operand) => {
+            let operand = evaluate(alloc, operand, fields, chosen, matchers)?;
+            Ok(inverse(operand))
+        }
+        Tree::Negate(operand) => {
+            let operand = evaluate(alloc, operand, fields, chosen, matchers)?;
+            Ok(negated(operand))
+        }
+        Tree::Binary(operator, left, right) => {
+            let left = evaluate(alloc, left, fields, chosen, matchers)?;
+            let right = evaluate(alloc, right, fields, chosen, matchers)?;
+            apply_operator(alloc, *operator, left, right)
+        }
+        Tree::Found(operand, pattern) => {
+            match evaluate(alloc, operand, fields, chosen, matchers)? {
+                Some(operand) => Ok(Some(truth(is_found(matchers, *pattern, &operand)))),
+                None => Ok(None),
+            }
+        }
+        Tree::Choice(condition, yes, no) => {
+            let condition = evaluate(alloc, condition, fields, chosen, matchers)?;
+            match reading(condition) {
+                Some(0) => evaluate(alloc, no, fields, chosen, matchers),
+                Some(_) => evaluate(alloc, yes, fields, chosen, matchers),
+                None => Ok(None),
+            }
+        }
+    }
+}

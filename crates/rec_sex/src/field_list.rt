@@ -1,0 +1,216 @@
+//! Lists of fields, such as `Name,Email[0-1]`.
+ghost use Rattle.std.specs.Prelude.{◌≡◌, ◌∷◌, ◌++◌, false, IfOk, IfErr, MatchOption, MatchResult};
+ghost use Rattle.std.specs.List.{prefix_len};
+ghost use Rattle.rec_text.specs.Bytes.{begins_name as may_begin, continues_name as may_continue};
+ghost use Rattle.rec_text.specs.Places.{pieces_of};
+ghost use Rattle.rec_sex.specs.Lists.{begins_field, begins_with, occurrences, places_from, IsClosingFault, IsSecondFault, IsSubscriptFault, IsItemFault};
+ghost use Rattle.rec_sex.specs.FieldItems.{is_among, BeginsName, Closes, ClosesPair, BeginsSubscript, BeginsItem};
+
+use crate::index_list::{Span, behind_hyphen, ends_item, number};
+use rec_text::{Bytes, Element, Fault};
+use std::alloc::Global;
+use std::marker::Model;
+
+/// A field by its name: all its occurrences in a record, or some of them, counted from 0.
+#[derive(Debug, Drop)]
+pub struct Item {
+    pub name: Bytes,
+    pub occurrences: Option<Span>,
+}
+
+/// A list of fields, in the order in which they were written.
+#[derive(Debug, Drop)]
+pub struct FieldList {
+    items: Vec<Item>,
+}
+
+impl Model for FieldList {
+    ghost use Rattle.std.specs.Prelude.{List};
+    ghost use Rattle.rec_sex.specs.declared.field_list.Item.{Item};
+
+    ghost Value = { List Item };
+
+    ghost view = { λ list. list.items.items };
+}
+
+fn begins_name(byte: u8) -> bool
+    ensures { result ≡ may_begin byte }
+{
+    byte.is_ascii_alphabetic() || byte == b'%'
+}
+
+fn continues_name(byte: u8) -> bool
+    ensures { result ≡ may_continue byte }
+{
+    byte.is_ascii_alphanumeric() || byte == b'_'
+}
+
+/// How many bytes that a name may go on with come first.
+fn continuation_len(text: &[u8]) -> usize
+    ensures { result ≡ prefix_len may_continue text.now }
+{
+    text.iter()
+        .position(|byte| !continues_name(*byte))
+        .unwrap_or(text.len())
+}
+
+/// The name that a text begins with, and what stands behind it.
+fn leading_name(text: &[u8]) -> Option<(&[u8], &[u8])>
+    ensures { MatchOption result (begins_field text.now ≡ false) (λ (name, rest). BeginsName text.now name.now rest.now) }
+{
+    let (first, behind) = text.split_first()?;
+    if !begins_name(*first) {
+        return None;
+    }
+    Some(text.split_at(1 + continuation_len(behind)))
+}
+
+/// What stands behind the opening bracket, where one comes first.
+fn behind_opening(rest: &[u8]) -> Option<&[u8]>
+    ensures { MatchOption result (begins_with 91 rest.now ≡ false) (λ inside. rest.now ≡ 91 ∷ inside.now) }
+{
+    match rest.split_first() {
+        Some((b'[', inside)) => Some(inside),
+        _ => None,
+    }
+}
+
+/// What stands behind the bracket that closes a subscript; or the place of the fault.
+fn behind_bracket(text: &[u8]) -> Result<&[u8], usize>
+    ensures { MatchResult result (λ rest. Closes text.now rest.now) (λ place. IsClosingFault text.now place) }
+{
+    let Some((b']', rest)) = text.split_first() else {
+        return Err(0);
+    };
+    if !ends_item(rest) {
+        return Err(1);
+    }
+    Ok(rest)
+}
+
+/// The second index of a pair, behind the first and the hyphen, and what stands behind its bracket; or the place of the fault.
+fn last_of_subscript(first: usize, text: &[u8]) -> Result<(usize, &[u8]), usize>
+    ensures { MatchResult result (λ (last, rest). ClosesPair first text.now last rest.now) (λ place. IsSecondFault first text.now place) }
+{
+    let Some((last, behind)) = number(text) else {
+        return Err(0);
+    };
+    if last < first {
+        return Err(0);
+    }
+    match behind_bracket(behind) {
+        Ok(rest) => Ok((last, rest)),
+        Err(place) => Err(text.len() - behind.len() + place),
+    }
+}
+
+/// The occurrences that a subscript names, behind its opening bracket, and what stands behind it; or the place of the fault.
+fn subscript(text: &[u8]) -> Result<(Span, &[u8]), usize>
+    ensures { MatchResult result (λ (span, rest). BeginsSubscript text.now span rest.now) (λ place. IsSubscriptFault text.now place) }
+{
+    let Some((first, behind)) = number(text) else {
+        return Err(0);
+    };
+    let end = text.len() - behind.len();
+    if let Some(second) = behind_hyphen(behind) {
+        return match last_of_subscript(first, second) {
+            Ok((last, rest)) => Ok((Span { first, last }, rest)),
+            Err(place) => Err(end + 1 + place),
+        };
+    }
+    match behind_bracket(behind) {
+        Ok(rest) => Ok((Span { first, last: first }, rest)),
+        Err(place) => Err(end + place),
+    }
+}
+
+/// The item that a text begins with, its name and its occurrences, and what stands behind it; or the place of its fault.
+fn leading_item(text: &[u8]) -> Result<(&[u8], Option<Span>, &[u8]), usize>
+    ensures { MatchResult result (λ (name, occurrences, rest). BeginsItem text.now (record { name = name.now; occurrences = occurrences }) rest.now) (λ place. IsItemFault text.now place) }
+{
+    let Some((name, behind)) = leading_name(text) else {
+        return Err(0);
+    };
+    if ends_item(behind) {
+        return Ok((name, None, behind));
+    }
+    let Some(inside) = behind_opening(behind) else {
+        return Err(name.len());
+    };
+    match subscript(inside) {
+        Ok((span, rest)) => Ok((name, Some(span), rest)),
+        Err(place) => Err(name.len() + 1 + place),
+    }
+}
+
+/// Whether an occurrence is among these; all are where none are named.
+fn is_among(span: Option<Span>, occurrence: usize) -> bool
+    ensures { result ≡ is_among span occurrence }
+{
+    match span {
+        None => true,
+        Some(span) => span.first <= occurrence && occurrence <= span.last,
+    }
+}
+
+/// Adds the places of an item's occurrences.
+fn add_places(item: &Item, fields: &[Element], places: &mut Vec<usize>) -> Result<(), Fault>
+    ensures added { IfOk result (λ _. places.new.items ≡ places.old.items ++ occurrences item.now.occurrences (places_from 0 item.now.name (pieces_of fields.now))) }
+    ensures refusals { IfErr result (λ fault. fault ≡ Fault.OutOfMemory) }
+{
+    let mut occurrence = 0;
+    for (place, field) in fields.iter().enumerate() {
+        if field.name() == item.name.as_slice() {
+            if is_among(item.occurrences, occurrence) {
+                places.push(place)?;
+            }
+            occurrence += 1;
+        }
+    }
+    Ok(())
+}
+
+impl FieldList {
+    ghost use Rattle.std.specs.Prelude.{◌≡◌, List, Result, IfOk, IfErr};
+    ghost use Rattle.rec_text.specs.declared.fault.Fault.{Fault};
+    ghost use Rattle.rec_text.specs.Faults.{UnlessMemory};
+    ghost use Rattle.rec_text.specs.Places.{pieces_of};
+    ghost use Rattle.rec_sex.specs.declared.field_list.Item.{Item};
+    ghost use Rattle.rec_sex.specs.Lists.{IsFieldList, picks};
+
+    /// Reads a list. A fault is refused with its place.
+    pub fn parse(alloc: Global, text: &[u8]) -> Result<FieldList, Fault>
+        ensures found { UnlessMemory result (IsFieldList text.now) }
+        ensures only { (other : Result (List Item) Fault) → IsFieldList text.now other → UnlessMemory result (λ answer. answer ≡ other) }
+    {
+        let mut items = Vec::new(alloc);
+        let mut rest = text;
+        loop {
+            let (name, occurrences, behind) = match leading_item(rest) {
+                Ok(found) => found,
+                Err(place) => {
+                    let at = text.len() - rest.len() + place;
+                    return Err(Fault::BadFieldList { at });
+                }
+            };
+            let name = Bytes::copy_of(alloc, name)?;
+            items.push(Item { name, occurrences })?;
+            match behind.split_first() {
+                None => return Ok(FieldList { items }),
+                Some((_, next)) => rest = next,
+            }
+        }
+    }
+
+    /// For each item in order the places of its occurrences among a record's elements, in record order.
+    pub fn picks(&self, alloc: Global, fields: &[Element]) -> Result<Vec<usize>, Fault>
+        ensures places { IfOk result (λ places. places.items ≡ picks self.now (pieces_of fields.now)) }
+        ensures refusals { IfErr result (λ fault. fault ≡ Fault.OutOfMemory) }
+    {
+        let mut places = Vec::new(alloc);
+        for item in &self.items {
+            add_places(item, fields, &mut places)?;
+        }
+        Ok(places)
+    }
+}

@@ -1,0 +1,164 @@
+//! Lists of indexes, such as `0,4-7`.
+ghost use Rattle.std.specs.Prelude.{◌≡◌, ◌≤◌, ◌∷◌, true, false, MatchOption, MatchResult};
+ghost use Rattle.std.specs.Char.{is_ascii_digit};
+ghost use Rattle.std.specs.List.{list_all, prefix_len};
+ghost use Rattle.std.specs.Option.{SomeIff};
+ghost use Rattle.rec_sex.specs.IndexList.{value_of, greatest, begins_comma_or_ends, begins_hyphen, IsSecondFault, IsItemFault};
+ghost use Rattle.rec_sex.specs.IndexItems.{BeginsNumber, BeginsNoNumber, EndsPair, BeginsItem};
+
+use rec_text::Fault;
+use std::alloc::Global;
+use std::marker::Model;
+
+/// The greatest index that a list may name.
+const GREATEST: usize = 4_294_967_295;
+
+/// The indexes from the first to the last.
+#[derive(Clone, Copy, Debug, PartialEq, Eq)]
+pub struct Span {
+    pub first: usize,
+    pub last: usize,
+}
+
+/// A list of indexes, as spans in the order in which they were written.
+#[derive(Debug, Drop)]
+pub struct IndexList {
+    spans: Vec<Span>,
+}
+
+impl Model for IndexList {
+    ghost use Rattle.std.specs.Prelude.{List};
+    ghost use Rattle.rec_sex.specs.declared.index_list.Span.{Span};
+
+    ghost Value = { List Span };
+
+    ghost view = { λ list. list.spans.items };
+}
+
+/// The number that digits write, if it is an index.
+fn index_of(digits: &[u8]) -> Option<usize>
+    requires { list_all is_ascii_digit digits.now ≡ true }
+    ensures { SomeIff result (value_of digits.now ≤ greatest) (value_of digits.now) }
+{
+    let mut value = 0;
+    for digit in digits {
+        value = value * 10 + usize::from(*digit - b'0');
+        if value > GREATEST {
+            return None;
+        }
+    }
+    Some(value)
+}
+
+/// How many digits a text begins with.
+fn digit_count(text: &[u8]) -> usize
+    ensures { result ≡ prefix_len is_ascii_digit text.now }
+{
+    text.iter()
+        .position(|byte| !byte.is_ascii_digit())
+        .unwrap_or(text.len())
+}
+
+/// The index that a text begins with, and what stands behind it.
+pub(crate) fn number(text: &[u8]) -> Option<(usize, &[u8])>
+    ensures { MatchOption result (BeginsNoNumber text.now) (λ (index, rest). BeginsNumber text.now index rest.now) }
+{
+    let (digits, rest) = text.split_at(digit_count(text));
+    if digits.is_empty() {
+        return None;
+    }
+    Some((index_of(digits)?, rest))
+}
+
+/// Whether an item may end before this text.
+pub(crate) fn ends_item(rest: &[u8]) -> bool
+    ensures { result ≡ begins_comma_or_ends rest.now }
+{
+    matches!(rest.first(), None | Some(b','))
+}
+
+/// What stands behind the hyphen, where one comes first.
+pub(crate) fn behind_hyphen(rest: &[u8]) -> Option<&[u8]>
+    ensures { MatchOption result (begins_hyphen rest.now ≡ false) (λ second. rest.now ≡ 45 ∷ second.now) }
+{
+    match rest.split_first() {
+        Some((b'-', second)) => Some(second),
+        _ => None,
+    }
+}
+
+/// The second index of a pair, behind the first and the hyphen, and what stands behind it; or the place of the fault.
+fn last_of_pair(first: usize, text: &[u8]) -> Result<(usize, &[u8]), usize>
+    ensures { MatchResult result (λ (last, rest). EndsPair first text.now last rest.now) (λ place. IsSecondFault first text.now place) }
+{
+    let Some((last, rest)) = number(text) else {
+        return Err(0);
+    };
+    if last < first {
+        return Err(0);
+    }
+    if !ends_item(rest) {
+        return Err(text.len() - rest.len());
+    }
+    Ok((last, rest))
+}
+
+/// The item that a text begins with, and what stands behind it; or the place of its fault.
+fn item(text: &[u8]) -> Result<(Span, &[u8]), usize>
+    ensures { MatchResult result (λ (span, rest). BeginsItem text.now span rest.now) (λ place. IsItemFault text.now place) }
+{
+    let Some((first, behind)) = number(text) else {
+        return Err(0);
+    };
+    if ends_item(behind) {
+        return Ok((Span { first, last: first }, behind));
+    }
+    let end = text.len() - behind.len();
+    let Some(second) = behind_hyphen(behind) else {
+        return Err(end);
+    };
+    match last_of_pair(first, second) {
+        Ok((last, rest)) => Ok((Span { first, last }, rest)),
+        Err(place) => Err(end + 1 + place),
+    }
+}
+
+impl IndexList {
+    ghost use Rattle.std.specs.Prelude.{◌≡◌, List, Result};
+    ghost use Rattle.rec_text.specs.declared.fault.Fault.{Fault};
+    ghost use Rattle.rec_text.specs.Faults.{UnlessMemory};
+    ghost use Rattle.rec_sex.specs.declared.index_list.Span.{Span};
+    ghost use Rattle.rec_sex.specs.IndexList.{IsIndexList, has};
+
+    /// Reads a list. A fault is refused with its place.
+    pub fn parse(alloc: Global, text: &[u8]) -> Result<IndexList, Fault>
+        ensures found { UnlessMemory result (IsIndexList text.now) }
+        ensures only { (other : Result (List Span) Fault) → IsIndexList text.now other → UnlessMemory result (λ answer. answer ≡ other) }
+    {
+        let mut spans = Vec::new(alloc);
+        let mut rest = text;
+        loop {
+            let (span, behind) = match item(rest) {
+                Ok(found) => found,
+                Err(place) => {
+                    let at = text.len() - rest.len() + place;
+                    return Err(Fault::BadIndexList { at });
+                }
+            };
+            spans.push(span)?;
+            match behind.split_first() {
+                None => return Ok(IndexList { spans }),
+                Some((_, items)) => rest = items,
+            }
+        }
+    }
+
+    /// Whether an index is in the list.
+    pub fn has(&self, index: usize) -> bool
+        ensures { result ≡ has self.now index }
+    {
+        self.spans
+            .iter()
+            .any(|span| span.first <= index && index <= span.last)
+    }
+}

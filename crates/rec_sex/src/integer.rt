@@ -1,0 +1,74 @@
+//! The integer reading of a text.
+ghost use Rattle.std.specs.Prelude.{◌≡◌, ◌^◌, nat_le, nat_lt, pos, Some, None, reverse, if◌then◌else◌};
+ghost use Rattle.rec_text.specs.Bytes.{is_blank};
+ghost use Rattle.rec_sex.specs.Integers.{without_blanks, negative, signed_of, int_of};
+
+use crate::magnitude::magnitude_of;
+
+fn is_blank(byte: u8) -> bool
+    ensures { result ≡ is_blank byte }
+{
+    byte == b' ' || byte == b'\t'
+}
+
+/// The text without the blanks that come first.
+fn without_blanks(text: &[u8]) -> &[u8]
+    ensures { result.now ≡ without_blanks text.now }
+{
+    let mut rest = text;
+    while let [first, more @ ..] = rest {
+        if !is_blank(*first) {
+            break;
+        }
+        rest = more;
+    }
+    rest
+}
+
+/// The text without the blanks that come last.
+fn without_last_blanks(text: &[u8]) -> &[u8]
+    ensures { result.now ≡ reverse (without_blanks (reverse text.now)) }
+{
+    let mut rest = text;
+    while let [more @ .., last] = rest {
+        if !is_blank(*last) {
+            break;
+        }
+        rest = more;
+    }
+    rest
+}
+
+fn negative_of(magnitude: u64) -> Option<i64>
+    ensures { result ≡ (if nat_le magnitude (2 ^ 63) then Some (negative magnitude) else None) }
+{
+    if magnitude == 0 {
+        return Some(0);
+    }
+    let below = i64::try_from(magnitude - 1).ok()?;
+    Some(-1 - below)
+}
+
+fn positive_of(magnitude: u64) -> Option<i64>
+    ensures { result ≡ (if nat_lt magnitude (2 ^ 63) then Some (pos magnitude) else None) }
+{
+    i64::try_from(magnitude).ok()
+}
+
+/// The integer of 64 bits that a text without blanks at its ends writes.
+fn signed_of(text: &[u8]) -> Option<i64>
+    ensures { result ≡ signed_of text.now }
+{
+    match text {
+        [b'-', digits @ ..] => negative_of(magnitude_of(digits)?),
+        _ => positive_of(magnitude_of(text)?),
+    }
+}
+
+/// The integer that a text reads as: blanks at both ends are dropped; a hyphen makes it negative; `0x` begins
+/// hexadecimal digits, another leading zero octal ones. None where it reads as none of 64 bits.
+pub fn int_of(text: &[u8]) -> Option<i64>
+    ensures { result ≡ int_of text.now }
+{
+    signed_of(without_last_blanks(without_blanks(text)))
+}

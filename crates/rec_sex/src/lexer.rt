@@ -1,0 +1,57 @@
+//! The tokens of an expression.
+ghost use Rattle.std.specs.Prelude.{◌≡◌, ◌⊎◌, ℕ, Some, None, IfOk, IfErr, IsErrOf, ◌||◌, ◌==◌};
+ghost use Rattle.rec_sex.specs.Tokens.{lexemes, is_space as stands_between};
+ghost use Rattle.rec_sex.specs.Grammar.{AreTokens, AreTaken, fault_of};
+
+use crate::lexeme::{Lexeme, lexeme_at};
+use crate::token::Token;
+use crate::walk::Walk;
+use rec_text::Fault;
+use std::alloc::Global;
+
+/// An expression has at most so many tokens.
+const MOST_TOKENS: usize = 1000;
+
+/// Whether a byte is a blank or a newline.
+fn is_space(byte: u8) -> bool
+    ensures { result ≡ stands_between byte }
+{
+    byte == b' ' || byte == b'\t' || byte == b'\n'
+}
+
+/// The tokens of an expression. The leftmost fault is refused with its place.
+pub(crate) fn tokens_of(alloc: Global, text: &[u8]) -> Result<Vec<Token>, Fault>
+    ensures tokens { IfOk result (λ tokens. AreTokens (lexemes text.now) tokens.items × AreTaken tokens.items × (fault_of text.now ≡ None)) }
+    ensures bad_expression { (place : ℕ) → IsErrOf result (Fault.BadExpression place) → fault_of text.now ≡ Some place }
+    ensures refusals { IfErr result (λ fault. (fault ≡ Fault.OutOfMemory) ⊎ ((place : ℕ) × (fault ≡ Fault.BadExpression place))) }
+{
+    let mut tokens = Vec::new(alloc);
+    let mut walk = Walk::start(alloc);
+    let mut at = 0;
+    while at < text.len() {
+        if is_space(text[at]) {
+            at += 1;
+            continue;
+        }
+        if tokens.len() == MOST_TOKENS {
+            return Err(Fault::BadExpression { at });
+        }
+        match lexeme_at(alloc, &text[at..])? {
+            Lexeme::Whole(token, len) => {
+                if !walk.step(&token)? {
+                    return Err(Fault::BadExpression { at });
+                }
+                tokens.push(token)?;
+                at += len;
+            }
+            Lexeme::Broken(inside) => {
+                let at = at + walk.fault_inside(inside);
+                return Err(Fault::BadExpression { at });
+            }
+        }
+    }
+    if !walk.may_end() {
+        return Err(Fault::BadExpression { at: text.len() });
+    }
+    Ok(tokens)
+}

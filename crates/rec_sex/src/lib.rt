@@ -1,0 +1,44 @@
+//! Selection expressions, lists of fields and of indexes, and the integers of values.
+//! `docs/expressions.md` describes them, and `specs/` defines them.
+#![tactic(auto)]
+
+mod choices;
+mod evaluation;
+mod evaluator;
+#[cfg(test)]
+mod evaluator_tests;
+mod expr;
+#[cfg(test)]
+mod expr_tests;
+mod field_list;
+#[cfg(test)]
+mod field_list_tests;
+mod index_list;
+#[cfg(test)]
+mod index_list_tests;
+mod integer;
+#[cfg(test)]
+mod integer_tests;
+mod laws;
+mod lexeme;
+mod lexer;
+mod magnitude;
+mod occurrences;
+mod operand;
+mod parser;
+#[cfg(test)]
+mod parser_tests;
+mod pattern;
+mod token;
+#[cfg(test)]
+mod token_tests;
+mod tree;
+mod walk;
+
+pub use evaluator::Search;
+pub use expr::Expr;
+pub use field_list::{FieldList, Item};
+pub use index_list::{IndexList, Span};
+pub use integer::int_of;
+pub use laws::walk_is_grammar;
+pub use rec_text::{Bytes, Element, Fault};

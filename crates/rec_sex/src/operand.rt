@@ -1,0 +1,176 @@
+//! Operands, and what the operators make of them.
+ghost use Rattle.std.specs.Prelude.{◌≡◌, ◌++◌, IfOk, IfErr, neg_ℤ};
+ghost use Rattle.std.specs.Option.{option_map, option_and_then};
+ghost use Rattle.rec_sex.specs.Meaning.{truth as meaning_of_truth, is_true as is_true_meaning, is_zero, in_range, reading_of, text_of, are_equal as are_equal_meanings, apply_operator as meaning_of_operator, integer, text};
+ghost use Rattle.rec_sex.specs.Operands.{meaning_of, fitting, combined as combined_integers, combined_readings};
+
+use crate::integer::int_of;
+use crate::token::Operator;
+use itoa::Buffer;
+use rec_text::{Bytes, Fault, Value};
+use std::alloc::{AllocError, Global};
+
+/// What an expression means where it is defined.
+#[derive(Debug, Drop)]
+pub(crate) enum Operand<'v> {
+    Integer(i64),
+    Text(Value<'v>),
+}
+
+impl<'v> Operand<'v> {
+    /// The integer of this operand, which a text may lack.
+    pub(crate) fn reading(&self) -> Option<i64>
+        ensures { result ≡ reading_of (meaning_of self.now) }
+    {
+        match self {
+            Operand::Integer(integer) => Some(*integer),
+            Operand::Text(value) => int_of(value.bytes()),
+        }
+    }
+
+    /// The text of this operand. The digits of an integer stand in the buffer.
+    pub(crate) fn text<'a>(&'a self, buffer: &'a mut Buffer) -> &'a [u8]
+        ensures { result.now ≡ text_of (meaning_of self.now) }
+    {
+        match self {
+            Operand::Integer(integer) => buffer.format(*integer).as_bytes(),
+            Operand::Text(value) => value.bytes(),
+        }
+    }
+}
+
+pub(crate) fn truth<'v>(holds: bool) -> Operand<'v>
+    ensures { meaning_of result ≡ meaning_of_truth holds }
+{
+    Operand::Integer(i64::from(holds))
+}
+
+/// The integer of an operand, if it is defined and has one.
+pub(crate) fn reading(operand: Option<Operand<'_>>) -> Option<i64>
+    ensures { result ≡ option_and_then reading_of (option_map meaning_of operand.entry) }
+{
+    operand?.reading()
+}
+
+/// Whether a meaning is defined and reads as another integer than 0.
+pub(crate) fn is_true(operand: Option<Operand<'_>>) -> bool
+    ensures { result ≡ is_true_meaning (option_map meaning_of operand.entry) }
+{
+    match reading(operand) {
+        Some(integer) => integer != 0,
+        None => false,
+    }
+}
+
+pub(crate) fn inverse<'v>(operand: Option<Operand<'_>>) -> Option<Operand<'v>>
+    ensures { option_map meaning_of result ≡ option_and_then (λ x. option_map (λ z. meaning_of_truth (is_zero z)) (reading_of x)) (option_map meaning_of operand.entry) }
+{
+    Some(truth(operand?.reading()? == 0))
+}
+
+pub(crate) fn negated<'v>(operand: Option<Operand<'_>>) -> Option<Operand<'v>>
+    ensures { option_map meaning_of result ≡ option_and_then (λ x. option_and_then (λ z. in_range (neg_ℤ z)) (reading_of x)) (option_map meaning_of operand.entry) }
+{
+    Some(Operand::Integer(operand?.reading()?.checked_neg()?))
+}
+
+fn are_equal(left: &Operand<'_>, right: &Operand<'_>) -> bool
+    ensures { result ≡ are_equal_meanings (meaning_of left.now) (meaning_of right.now) }
+{
+    match (left, right) {
+        (Operand::Integer(x), Operand::Integer(y)) => x == y,
+        (Operand::Text(a), Operand::Text(b)) => a.bytes() == b.bytes(),
+        (Operand::Integer(x), Operand::Text(b)) => int_of(b.bytes()) == Some(*x),
+        (Operand::Text(a), Operand::Integer(y)) => int_of(a.bytes()) == Some(*y),
+    }
+}
+
+fn joined<'v>(
+    alloc: Global,
+    left: &Operand<'_>,
+    right: &Operand<'_>,
+) -> Result<Operand<'v>, AllocError>
+    ensures { IfOk result (λ both. meaning_of both ≡ text (text_of (meaning_of left.now) ++ text_of (meaning_of right.now))) }
+{
+    let mut buffer = Buffer::new();
+    let mut text = Vec::from_slice(alloc, left.text(&mut buffer))?;
+    text.extend_from_slice(right.text(&mut buffer))?;
+    Ok(Operand::Text(Value::Made(Bytes::from_vec(text))))
+}
+
+/// An operator on two integers; none for those that take texts.
+fn combined(operator: Operator, x: i64, y: i64) -> Option<i64>
+    ensures { result ≡ combined_integers operator x y }
+{
+    match operator {
+        Operator::Less => Some(i64::from(x < y)),
+        Operator::Greater => Some(i64::from(x > y)),
+        Operator::LessOrEqual => Some(i64::from(x <= y)),
+        Operator::GreaterOrEqual => Some(i64::from(x >= y)),
+        Operator::Add => x.checked_add(y),
+        Operator::Subtract => x.checked_sub(y),
+        Operator::Multiply => x.checked_mul(y),
+        Operator::Divide => x.checked_div(y),
+        Operator::Remainder => remainder(x, y),
+        Operator::And => Some(i64::from(x != 0 && y != 0)),
+        Operator::Or => Some(i64::from(x != 0 || y != 0)),
+        Operator::Implies => Some(i64::from(x == 0 || y != 0)),
+        Operator::Equal | Operator::NotEqual | Operator::Join => None,
+    }
+}
+
+/// Of the least integer and -1 it is 0, though their quotient has no 64 bits.
+fn remainder(x: i64, y: i64) -> Option<i64>
+    ensures { result ≡ combined_integers Operator.Remainder x y }
+{
+    if y == 0 {
+        None
+    } else {
+        Some(x.wrapping_rem(y))
+    }
+}
+
+fn combined_readings<'v>(
+    operator: Operator,
+    left: &Operand<'_>,
+    right: &Operand<'_>,
+) -> Option<Operand<'v>>
+    ensures { option_map meaning_of result ≡ option_map integer (combined_readings operator (meaning_of left.now) (meaning_of right.now)) }
+{
+    let x = left.reading()?;
+    let y = right.reading()?;
+    Some(Operand::Integer(combined(operator, x, y)?))
+}
+
+fn apply_to_defined<'v>(
+    alloc: Global,
+    operator: Operator,
+    left: &Operand<'_>,
+    right: &Operand<'_>,
+) -> Result<Option<Operand<'v>>, Fault>
+    ensures meaning { IfOk result (λ both. option_map meaning_of both ≡ meaning_of_operator operator (meaning_of left.now) (meaning_of right.now)) }
+    ensures refusals { IfErr result (λ fault. fault ≡ Fault.OutOfMemory) }
+{
+    match operator {
+        Operator::Equal => Ok(Some(truth(are_equal(left, right)))),
+        Operator::NotEqual => Ok(Some(truth(!are_equal(left, right)))),
+        Operator::Join => Ok(Some(joined(alloc, left, right)?)),
+        _ => Ok(combined_readings(operator, left, right)),
+    }
+}
+
+/// An operator on two operands; undefined where one of them is.
+pub(crate) fn apply_operator<'v>(
+    alloc: Global,
+    operator: Operator,
+    left: Option<Operand<'_>>,
+    right: Option<Operand<'_>>,
+) -> Result<Option<Operand<'v>>, Fault>
+    ensures meaning { IfOk result (λ both. option_map meaning_of both ≡ option_and_then (λ x. option_and_then (λ y. meaning_of_operator operator x y) (option_map meaning_of right.entry)) (option_map meaning_of left.entry)) }
+    ensures refusals { IfErr result (λ fault. fault ≡ Fault.OutOfMemory) }
+{
+    match (left, right) {
+        (Some(left), Some(right)) => apply_to_defined(alloc, operator, &left, &right),
+        _ => Ok(None),
+    }
+}

@@ -6,15 +6,16 @@ use Rattle.regex.specs.Sources.{IsRefusal}
 use Rattle.regex.specs.Failures.{IsRightKind}
 use Rattle.regex.specs.declared.string.regex.Regex.{Regex}
 use Rattle.regex.specs.declared.error.Error.{Error}
-use Rattle.regex.specs.declared.error.Error.TheVariants.{OutOfMemory}
+use Rattle.regex.specs.declared.error.Error.TheVariants.{Internal, OutOfMemory}
 
 -- the pattern is what `regex` builds of the text, with its default options
 abbrev pub IsBuiltFrom : List ℕ → Regex → Type 0
 IsBuiltFrom text pattern = (regex_source pattern ≡ text) × (regex_config pattern ≡ default_config) × IsReadFromSource pattern
 
--- `regex` may refuse the text, for another cause than memory: its grammar refuses it, or the pattern is too big
+-- `regex` may refuse the text, for another cause than memory: its grammar refuses it, or it is a pattern that is too big
 pub record IsRefusedPattern (text : List ℕ) : Type 0 where
   pub error : Error
   pub refused : IsRefusal default_config text error
   pub kind : IsRightKind default_config text error
   pub not_memory : error ≢ OutOfMemory
+  pub not_internal : error ≢ Internal

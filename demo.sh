@@ -2,10 +2,14 @@
 # Builds recu and deletes a record of a copy of sample/contacts.rec, then takes it back.
 set -euo pipefail
 cd "$(dirname "$0")"
-(cd crates/recu && rt run -- --version) > /dev/null
 recu=$PWD/crates/recu/out/recu
 folder=$(mktemp -d)
 trap 'rm -r "$folder"' EXIT
+echo 'Building recu; what it stands on is proved first, which takes some minutes from nothing.'
+if ! (cd crates/recu && rt run -- --version) > "$folder/log" 2>&1; then
+    cat "$folder/log" >&2
+    exit 1
+fi
 cp sample/contacts.rec "$folder"
 cd "$folder"
 show() { echo "--- $1"; cat contacts.rec; }

@@ -19,7 +19,8 @@ fn all_continue(bytes: &[u8]) -> bool
     bytes.iter().all(|byte| continues_name(*byte))
 }
 
-fn is_plain_name(name: &[u8]) -> bool
+/// Whether a text is a letter, and then letters, digits and `_`: a name that recu writes, and a type.
+pub fn is_plain_name(name: &[u8]) -> bool
     ensures { result ≡ may_be_written name.now }
 {
     match name.split_first() {

@@ -1,5 +1,5 @@
 //! Where printed text goes.
-ghost use Rattle.std.specs.Prelude.{◌≡◌, ℕ, List, Option, OnOk, OnErr};
+ghost use Rattle.std.specs.Prelude.{◌≡◌, ◌≤◌, ℕ, List, Option, OnOk, OnErr};
 ghost use Rattle.std.specs.Io.KnownBytes.{Appends};
 ghost use Rattle.rec_text.specs.Sink.{Took, AppendsFront, HasRisen, UnlessStoreFailed};
 
@@ -18,6 +18,7 @@ pub trait Sink {
     fn write(&mut self, bytes: &[u8]) -> Result<usize, Fault>
         ensures took { Took (contents self.old) (contents self.new) result bytes.now }
         ensures kept { OnOk result (failure_count self.new ≡ failure_count self.old) }
+        ensures counted { failure_count self.old ≤ failure_count self.new }
         ensures failed { OnErr result (HasRisen (failure_count self.old) (failure_count self.new)) }
         ensures refusals { UnlessStoreFailed result };
 
@@ -58,6 +59,7 @@ pub fn put_all<S: Sink>(sink: &mut S, bytes: &[u8]) -> Result<(), Fault>
     ensures all { OnOk result (Appends (S.contents sink.old) (S.contents sink.new) bytes.now) }
     ensures front { OnErr result (AppendsFront (S.contents sink.old) (S.contents sink.new) bytes.now) }
     ensures kept { OnOk result (S.failure_count sink.new ≡ S.failure_count sink.old) }
+    ensures counted { S.failure_count sink.old ≤ S.failure_count sink.new }
     ensures failed { OnErr result (HasRisen (S.failure_count sink.old) (S.failure_count sink.new)) }
     ensures refusals { UnlessStoreFailed result }
 {

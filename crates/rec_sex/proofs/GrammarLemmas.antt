@@ -34,16 +34,16 @@ takes_operator : (op : Operator) (stack : List Opened) (rest : List Token) → t
 takes_operator Implies stack rest h = h
 takes_operator op stack rest h = h
 
-regroup : (left right rest : List Token) (token : Token) → (left ++ token ∷ right) ++ rest ≡ left ++ token ∷ (right ++ rest)
+pub regroup : (left right rest : List Token) (token : Token) → (left ++ token ∷ right) ++ rest ≡ left ++ token ∷ (right ++ rest)
 regroup left right rest token = append_assoc left (token ∷ right) rest
 
-takes_as : (tokens these : List Token) (stack : List Opened) → tokens ≡ these → takes_from Operand stack these ≡ true → takes_from Operand stack tokens ≡ true
+pub takes_as : (tokens these : List Token) (stack : List Opened) → tokens ≡ these → takes_from Operand stack these ≡ true → takes_from Operand stack tokens ≡ true
 takes_as tokens these stack e h = ap (λ x. takes_from Operand stack x) e ∙ h
 
 pub utf8_of_pattern : (text : List ℕ) (pattern : Re) → IsPatternOf text pattern → is_utf8 text ≡ true
 utf8_of_pattern text pattern p = subst (λ x. is_utf8 x ≡ true) p.1 (is_utf8-from_IsUtf8 (regex_source p.0) (IsUtf8-string_bytes p.0.pattern.source))
 
-takes_derived : (level : ℕ) (tokens : List Token) (a : Term) → Derives level tokens a → (stack : List Opened) (rest : List Token) → takes_from (behind_level level) stack rest ≡ true → takes_from Operand stack (tokens ++ rest) ≡ true
+pub takes_derived : (level : ℕ) (tokens : List Token) (a : Term) → Derives level tokens a → (stack : List Opened) (rest : List Token) → takes_from (behind_level level) stack rest ≡ true → takes_from Operand stack (tokens ++ rest) ≡ true
 takes_derived level tokens a (by_choice _ condition yes_ no_ c x y e dc dx dy) stack rest h =
     takes_as (tokens ++ rest) (condition ++ Then ∷ (yes_ ++ Else ∷ (no_ ++ rest))) stack
     (ap (λ t. t ++ rest) e ∙ regroup condition (yes_ ++ Else ∷ no_) rest Then ∙ ap (λ t. condition ++ Then ∷ t) (regroup yes_ no_ rest Else))

@@ -1,18 +1,16 @@
 -- Indexes and text literals, byte by byte.
-use Rattle.std.proofs.Common.{◌≡◌, ◌≢◌, ℕ, ◌+◌, ◌-◌, ◌*◌, ◌^◌, ◌<◌, ◌≤◌, Bool, true, false, ◌==◌, ◌||◌, ◌&&◌, List, [], ◌∷◌, ◌++◌, Option, Some, None, length, take, drop, get_or, refl, ap, sym, ◌∙◌, subst, inl, inr, arith, cond, zero-add, add-zero}
+use Rattle.std.proofs.Common.{◌≡◌, ◌≢◌, ℕ, ◌+◌, ◌-◌, ◌*◌, ◌^◌, ◌<◌, ◌≤◌, Bool, true, false, ◌==◌, ◌||◌, ◌&&◌, List, [], ◌∷◌, ◌++◌, Option, Some, None, length, drop, get_or, refl, ap, sym, ◌∙◌, subst, arith, cond, add-zero}
 use Rattle.std.specs.Prelude.{if◌then◌else◌, nat_lt, take_while}
 use Rattle.std.specs.Char.{is_ascii_digit}
 use Rattle.std.specs.Option.{option_map}
-use Rattle.std.specs.List.{fold, slice_get}
-use Rattle.std.proofs.lemmas.List.{append-nil, append_assoc, at_drop_more, at_drop_all, drop_more, drop-drop, length-drop, get_or-drop}
+use Rattle.std.specs.List.{fold}
+use Rattle.std.proofs.lemmas.List.{append_assoc, drop_more, drop-drop, length-drop, get_or-drop}
 use Rattle.std.proofs.lemmas.List.Sums.{take_while-cons}
-use Rattle.std.proofs.lemmas.Option.{slice_get_within, get_or_from_slice_get}
-use Rattle.rec_text.specs.Bytes.{continues_name}
 use Rattle.std.proofs.lemmas.Bool.Decides.{nat_tests}
 use Rattle.rec_sex.specs.declared.token.Token.TheVariants.{Literal}
-use Rattle.rec_sex.specs.IndexList.{value_of, greatest}
-use Rattle.rec_sex.specs.Tokens.{Lexeme, Whole, Broken, with_byte, behind_name, name_at, subscript_at, literal_from, literal_at}
-use Rattle.rec_sex.specs.Lexing.{index_at, literal_byte}
+use Rattle.rec_sex.specs.IndexList.{greatest}
+use Rattle.rec_sex.specs.Tokens.{Lexeme, Whole, Broken, with_byte, literal_from, literal_at}
+use Rattle.rec_sex.specs.Lexing.{literal_byte}
 
 -- ---- indexes
 

@@ -19,3 +19,7 @@ pub mod PatternLemmas
 pub mod ChoiceLemmas
 pub mod BuildLemmas
 pub mod SelectLemmas
+pub mod SplitLemmas
+pub mod FaultlessLemmas
+pub mod UniqueLemmas
+pub mod MergeLemmas

@@ -1,10 +1,10 @@
 -- A token, or the place of the fault in a broken one, lies within the text.
-use Rattle.std.proofs.Common.{◌≡◌, ◌≢◌, ℕ, suc, zero, ◌+◌, ◌-◌, ◌^◌, ◌<◌, ◌≤◌, Bool, true, false, ◌==◌, ◌||◌, ◌&&◌, List, [], ◌∷◌, ◌++◌, Option, Some, None, pos, length, take, drop, get_or, refl, ap, sym, ◌∙◌, subst, inl, inr, arith, cond, add-zero}
+use Rattle.std.proofs.Common.{◌≡◌, ℕ, ◌+◌, ◌^◌, ◌≤◌, Bool, true, false, ◌==◌, ◌||◌, ◌&&◌, List, [], ◌∷◌, Option, Some, None, pos, length, drop, refl, ap, ◌∙◌, subst, arith, cond}
 use Rattle.std.specs.Prelude.{if◌then◌else◌, nat_lt, take_while}
 use Rattle.std.specs.Char.{is_ascii_digit}
 use Rattle.std.specs.Option.{option_map}
 use Rattle.std.specs.List.{prefix_len}
-use Rattle.std.proofs.lemmas.List.{append-nil, append_assoc, length_push, length-take, length-drop, at_drop_all, drop_more, drop-drop}
+use Rattle.std.proofs.lemmas.List.{length-take, length-drop}
 use Rattle.std.proofs.lemmas.List.Sums.{take_while-cons, prefix_len-le-length}
 use Rattle.std.proofs.lemmas.Bool.Decides.{nat_tests}
 use Rattle.rec_text.specs.Bytes.{is_letter, continues_name}
@@ -12,8 +12,7 @@ use Rattle.rec_sex.specs.declared.token.Token.{Token}
 use Rattle.rec_sex.specs.declared.token.Token.TheVariants.{Integer, Literal, Name, Occurrence, Count}
 use Rattle.rec_sex.specs.IndexList.{value_of, greatest}
 use Rattle.rec_sex.specs.Integers.{magnitude_of}
-use Rattle.rec_sex.specs.Tokens.{Lexeme, Whole, Broken, Placed, is_space, with_byte, literal_from, literal_at, integer_at, name_at, behind_name, subscript_at, closing_at, count_at, token_of_one, token_of_two, of_one, operator_at, lexeme_at, len_of, lexemes_from, lexemes}
-use Rattle.rec_sex.specs.Grammar.{Walk, walk_start, behind, walked, may_end, fault_inside, fault_from, fault_of, AreTokens, AreTaken}
+use Rattle.rec_sex.specs.Tokens.{Lexeme, Whole, Broken, with_byte, literal_from, literal_at, integer_at, name_at, behind_name, subscript_at, closing_at, count_at, token_of_one, token_of_two, of_one, operator_at, lexeme_at}
 
 -- ---- a token lies within the text
 

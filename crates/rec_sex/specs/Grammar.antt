@@ -1,5 +1,5 @@
 -- The grammar of expressions, and the place of the leftmost fault of a text that it doesn't derive.
-use Rattle.std.specs.Prelude.{◌≡◌, ◌≢◌, ◌⊎◌, ℕ, ℤ, zero, suc, ◌+◌, ◌≤◌, Bool, true, false, ◌==◌, List, [], ◌∷◌, ◌++◌, length, map, Option, Some, None, Result, Ok, Err, if◌then◌else◌, nat_le}
+use Rattle.std.specs.Prelude.{◌≡◌, ℕ, ℤ, zero, suc, ◌+◌, ◌≤◌, Bool, true, false, List, [], ◌∷◌, ◌++◌, length, Option, Some, None, if◌then◌else◌, nat_le}
 use Rattle.std.specs.Str.{is_utf8}
 use Rattle.regex.specs.Patterns.{Re, default_config}
 use Rattle.regex.specs.Strings.{regex_pattern, regex_source, regex_config, IsReadFromSource}
@@ -7,8 +7,8 @@ use Rattle.regex.specs.declared.string.regex.Regex.{Regex}
 use Rattle.rec_sex.specs.declared.token.Operator.{Operator}
 use Rattle.rec_sex.specs.declared.token.Operator.TheVariants.{Equal, NotEqual, Less, Greater, LessOrEqual, GreaterOrEqual, Join, Add, Subtract, Multiply, Divide, Remainder, And, Or, Implies}
 use Rattle.rec_sex.specs.declared.token.Token.{Token}
-use Rattle.rec_sex.specs.declared.token.Token.TheVariants.{Integer, Literal, Name, Occurrence, Count, Not, Binary, Found, Open, Close, Then, Else, Unused}
-use Rattle.rec_sex.specs.Tokens.{Lexeme, Whole, Broken, Placed, lexemes}
+use Rattle.rec_sex.specs.declared.token.Token.TheVariants.{Integer, Literal, Name, Occurrence, Count, Not, Binary, Found, Open, Close, Then, Else}
+use Rattle.rec_sex.specs.Tokens.{Whole, Broken, Placed, lexemes}
 
 -- ---- the grammar
 

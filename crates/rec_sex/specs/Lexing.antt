@@ -1,5 +1,5 @@
 -- What the values of the code that reads tokens stand for.
-use Rattle.std.specs.Prelude.{ℕ, ◌==◌, ◌||◌, ◌&&◌, ◌+◌, Bool, true, false, nat_lt, List, [], ◌∷◌, Option, Some, None, length, map, reverse, if◌then◌else◌, ◌≡◌, take_while}
+use Rattle.std.specs.Prelude.{ℕ, ◌==◌, ◌||◌, ◌&&◌, Bool, true, false, nat_lt, List, [], ◌∷◌, Option, Some, None, length, map, reverse, if◌then◌else◌, ◌≡◌, take_while}
 use Rattle.std.specs.Char.{is_ascii_digit}
 use Rattle.rec_sex.specs.declared.token.Token.{Token}
 use Rattle.rec_sex.specs.declared.lexeme.Lexeme.{Lexeme as ReadLexeme}

@@ -1,19 +1,8 @@
 //! Texts of expressions, with what they are read as or refused for.
 use crate::expr::Expr;
+use crate::token_tests::FAULTS;
 use rec_text::Fault;
 use std::alloc::Global;
-
-/// With the place of the fault.
-const FAULTS: [(&[u8], usize); 6] = [
-    (b"A =", 3),
-    (b"", 0),
-    (b"A ~ B", 4),
-    // A pattern is in UTF-8.
-    (b"A ~ '\xff'", 4),
-    // A fault decides, also one behind a pattern that isn't accepted.
-    (b"A ~ '(' = ", 10),
-    (b"A ~ '(' + 1", 8),
-];
 
 const BAD_PATTERNS: [&[u8]; 3] = [b"A ~ '('", b"A ~ 'a' || B ~ '['", b"A ~ '*' ~ 'a'"];
 

@@ -1,13 +1,13 @@
 //! Lists of indexes, such as `0,4-7`.
-ghost use Rattle.std.specs.Prelude.{◌≡◌, ◌≤◌, ◌∷◌, true, false, MatchOption, MatchResult};
+ghost use Rattle.std.specs.Prelude.{◌≡◌, ◌≤◌, ◌∷◌, true, false, MatchOption, MatchResult, IfOk};
 ghost use Rattle.std.specs.Char.{is_ascii_digit};
 ghost use Rattle.std.specs.List.{list_all, prefix_len};
 ghost use Rattle.std.specs.Option.{SomeIff};
 ghost use Rattle.rec_sex.specs.IndexList.{value_of, greatest, begins_comma_or_ends, begins_hyphen, IsSecondFault, IsItemFault};
-ghost use Rattle.rec_sex.specs.IndexItems.{BeginsNumber, BeginsNoNumber, EndsPair, BeginsItem};
+ghost use Rattle.rec_sex.specs.IndexItems.{BeginsNumber, BeginsNoNumber, EndsPair, BeginsItem, AreSorted, reach_from};
 
 use rec_text::Fault;
-use std::alloc::Global;
+use std::alloc::{AllocError, Global};
 use std::marker::Model;
 
 /// The greatest index that a list may name.
@@ -24,6 +24,9 @@ pub struct Span {
 #[derive(Debug, Drop)]
 pub struct IndexList {
     spans: Vec<Span>,
+    /// Spans of the same indexes, of which none begins or ends before an earlier one.
+    sorted: Vec<Span>,
+    ghost searchable: { AreSorted sorted.items spans.items },
 }
 
 impl Model for IndexList {
@@ -123,6 +126,31 @@ fn item(text: &[u8]) -> Result<(Span, &[u8]), usize>
     }
 }
 
+/// The spans again, each of them ending no earlier than those before it.
+fn reaching(alloc: Global, spans: &[Span]) -> Result<Vec<Span>, AllocError>
+    ensures { IfOk result (λ reaching. reaching.items ≡ reach_from 0 spans.now) }
+{
+    let mut reaching = Vec::with_capacity(alloc, spans.len())?;
+    let mut end = 0;
+    for span in spans {
+        end = span.last.max(end);
+        reaching.push(Span {
+            first: span.first,
+            last: end,
+        })?;
+    }
+    Ok(reaching)
+}
+
+/// Spans of the same indexes, of which none begins or ends before an earlier one.
+fn sorted_spans(alloc: Global, spans: &[Span]) -> Result<Vec<Span>, AllocError>
+    ensures { IfOk result (λ sorted. AreSorted sorted.items spans.now) }
+{
+    let mut sorted = Vec::from_slice(alloc, spans)?;
+    sorted.sort_unstable_by_key(|span| span.first);
+    reaching(alloc, &sorted)
+}
+
 impl IndexList {
     ghost use Rattle.std.specs.Prelude.{◌≡◌, List, Result};
     ghost use Rattle.rec_text.specs.declared.fault.Fault.{Fault};
@@ -147,7 +175,10 @@ impl IndexList {
             };
             spans.push(span)?;
             match behind.split_first() {
-                None => return Ok(IndexList { spans }),
+                None => {
+                    let sorted = sorted_spans(alloc, &spans)?;
+                    return Ok(IndexList { spans, sorted });
+                }
                 Some((_, items)) => rest = items,
             }
         }
@@ -157,8 +188,10 @@ impl IndexList {
     pub fn has(&self, index: usize) -> bool
         ensures { result ≡ has self.now index }
     {
-        self.spans
-            .iter()
-            .any(|span| span.first <= index && index <= span.last)
+        let at = self.sorted.partition_point(|span| span.last < index);
+        match self.sorted.get(at) {
+            Some(span) => span.first <= index,
+            None => false,
+        }
     }
 }

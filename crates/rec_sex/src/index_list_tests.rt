@@ -53,3 +53,17 @@ fn lists_have_their_indexes(rt: HostRuntime) -> Result<(), Fail> {
     }
     Ok(())
 }
+
+#[test]
+fn unsorted_ranges_have_their_indexes(rt: HostRuntime) -> Result<(), Fail> {
+    let list = IndexList::parse(rt.alloc(), b"30-40,5,0-20,7-9,35-50,5-6,60,42")?;
+    let inside = [0, 5, 7, 10, 20, 30, 40, 41, 42, 50, 60];
+    for index in inside {
+        assert!(rt; list.has(index), "{index}");
+    }
+    let outside = [21, 29, 51, 59, 61];
+    for index in outside {
+        assert!(rt; !list.has(index), "{index}");
+    }
+    Ok(())
+}

@@ -29,6 +29,8 @@ mod parser;
 #[cfg(test)]
 mod parser_tests;
 mod pattern;
+#[cfg(test)]
+mod selection_tests;
 mod token;
 #[cfg(test)]
 mod token_tests;
@@ -40,5 +42,5 @@ pub use expr::Expr;
 pub use field_list::{FieldList, Item};
 pub use index_list::{IndexList, Span};
 pub use integer::int_of;
-pub use laws::walk_is_grammar;
+pub use laws::{one_expression, walk_is_grammar};
 pub use rec_text::{Bytes, Element, Fault};

@@ -4,7 +4,8 @@ use crate::lexer::tokens_of;
 use rec_text::Fault;
 use std::alloc::{AllocError, Global};
 
-const FAULTS: [(&[u8], usize); 60] = [
+/// With the place of the leftmost fault.
+pub(crate) const FAULTS: [(&[u8], usize); 63] = [
     // Subscripts: a fault lies inside only where an operand is wanted.
     (b"A[x]", 2),
     (b"A = B[x]", 6),
@@ -46,7 +47,8 @@ const FAULTS: [(&[u8], usize); 60] = [
     (b"A=<B", 2),
     (b"A>==B", 3),
     (b"A === B", 2),
-    (b"A << 1", 2),
+    (b"A == B", 2),
+    (b"A << B", 2),
     (b"A >> 1", 2),
     (b"A &&& B", 4),
     // Texts and patterns.
@@ -59,10 +61,13 @@ const FAULTS: [(&[u8], usize); 60] = [
     (b"A ~ ('x')", 4),
     (b"A ~ 'x' + 1", 8),
     (b"A ~ 'x' & 'y'", 8),
+    // A fault decides, also one behind a pattern that isn't accepted.
+    (b"A ~ '(' = ", 10),
+    (b"A ~ '(' + 1", 8),
     // Parentheses and choices.
-    (b"A)", 1),
+    (b"1)", 1),
     (b"()", 1),
-    (b"A : B", 2),
+    (b"1 : 2", 2),
     (b"A ? B : C : D", 10),
     (b"(A ? B) : C", 6),
     // Ends.
@@ -71,8 +76,8 @@ const FAULTS: [(&[u8], usize); 60] = [
     (b"A ~", 3),
     (b"A =", 3),
     (b"A && ", 5),
-    (b"(A", 2),
-    (b"A ? B", 5),
+    (b"(1", 2),
+    (b"1 ? 2", 5),
 ];
 
 const TOKENS: [(&[u8], &str); 8] = [

@@ -1,0 +1,9 @@
+use Rattle.rec_check.proofs.SchemaLemmas.{IsSchemaUpTo}
+use Rattle.rec_check.proofs.schema.Schema.read.Given as goal
+
+abbrev pub invariant-loop-index : goal.invariant-loop-index
+invariant-loop-index l = record {
+  can : (goal.iterator-loop-index).can_next l.index-iterator;
+  finite : (goal.iterator-loop-index).is_finite l.index-iterator;
+  so_far : IsSchemaUpTo l.database l.index-iterator.count l.index-iterator.iter l.sets.items;
+}

@@ -1,0 +1,4 @@
+pub mod Descriptors
+pub mod Sets
+pub mod Schemas
+pub mod Steps

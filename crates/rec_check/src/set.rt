@@ -1,0 +1,53 @@
+//! One set of records, and the sets of a text as they grow.
+ghost use Rattle.std.specs.Prelude.{◌≡◌, ◌-◌, ◌<◌, ◌^◌, OnOk};
+ghost use Rattle.rec_check.specs.Sets.{is_of_type};
+ghost use Rattle.rec_check.specs.Steps.{with_record};
+
+use rec_text::Bytes;
+use std::alloc::AllocError;
+use std::ops::Range;
+
+/// A set of records: the untyped one, or a descriptor's. Records are counted from 0, descriptors too.
+#[derive(Debug, Drop)]
+pub struct Set_ {
+    /// The type; none for the untyped set.
+    pub kind: Option<Bytes>,
+    /// The descriptor.
+    pub head: Option<usize>,
+    /// The records that the set holds, its descriptor aside.
+    pub members: Range<usize>,
+}
+
+pub(crate) fn has_type(set: &Set_, kind: &[u8]) -> bool
+    ensures { result ≡ is_of_type kind.now set.now }
+{
+    match &set.kind {
+        Some(own) => own.as_slice() == kind,
+        None => false,
+    }
+}
+
+/// Adds the record of an index behind the others: a descriptor of a type, or one more of the last set.
+pub(crate) fn add_record(
+    sets: &mut Vec<Set_>,
+    index: usize,
+    kind: Option<Bytes>,
+) -> Result<(), AllocError>
+    requires { index < 2 ^ 64 - 1 }
+    ensures { OnOk result (sets.new.items ≡ with_record sets.old.items index kind) }
+{
+    let end = index + 1;
+    match kind {
+        Some(kind) => sets.push(Set_ {
+            kind: Some(kind),
+            head: Some(index),
+            members: end..end,
+        })?,
+        None => {
+            if let Some(last) = sets.last_mut() {
+                last.members.end = end;
+            }
+        }
+    }
+    Ok(())
+}

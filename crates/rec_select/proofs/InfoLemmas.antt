@@ -1,0 +1,445 @@
+-- What is printed of record sets, put to a sink part by part.
+use Rattle.std.proofs.Common.{◌≡◌, ℕ, suc, zero, Bool, true, false, cond, not, ◌==◌, if◌then◌else◌, nat_lt, ◌+◌, ◌-◌, ◌<◌, ◌≤◌, List, [], ◌∷◌, ◌++◌, Option, Some, None, Result, Ok, Err, length, take, drop, get_or, flat_map, map, refl, sym, ap, subst, ◌∙◌, inl, inr, append_assoc, append-nil, length-append, length-drop, drop-drop, add-one, drop-cons, arith}
+use Rattle.std.specs.Iterator.{SkipsThenYields, Yields, YieldsFirst}
+use Rattle.std.specs.List.{AllByRecursion, filter, filter_map, find, join_with_byte, position, position_or_len, slice_get}
+use Rattle.std.specs.Option.{option_map_or}
+use Rattle.std.specs.declared.ops.Range.{Range}
+use Rattle.std.proofs.lemmas.Bool.{cases_Bool, false≢true}
+use Rattle.std.proofs.lemmas.Bool.Decides.{nat_tests}
+use Rattle.std.proofs.lemmas.List.{drop_all, drop-map, drop-take, length-map, length-replicate, take-map}
+use Rattle.std.proofs.lemmas.List.Folds.{find_at}
+use Rattle.std.proofs.lemmas.List.Quantifiers.{position-Some}
+use Rattle.std.proofs.lemmas.Option.{slice_get_read, slice_get_past}
+use Rattle.rec_text.specs.Bytes.{is_nil, ends_newline}
+use Rattle.rec_text.specs.declared.element.Element.{Element}
+use Rattle.rec_text.specs.Elements.{Piece}
+use Rattle.rec_text.specs.Places.{piece_of, pieces_of}
+use Rattle.rec_text.specs.Records.{AreAscending, IsRecord, AreRecords, is_field_at, is_field_piece}
+use Rattle.rec_text.specs.declared.fault.Fault.{Fault}
+use Rattle.rec_text.specs.declared.fault.Fault.TheVariants.{NoSuchType}
+use Rattle.rec_text.proofs.RecordLemmas.{OneListOfRecords-holds}
+use Rattle.rec_check.specs.declared.set.Set_.{Set_}
+use Rattle.rec_check.specs.Descriptors.{elements_in, type_of}
+use Rattle.rec_check.specs.Schemas.{Described, IsDescribed}
+use Rattle.rec_check.specs.Sets.{AreFrom, BeginsAt, is_of_type, named_in}
+use Rattle.rec_select.specs.declared.records.Shape.TheVariants.{Blocks}
+use Rattle.rec_select.specs.Printing.{block_of, closed, joined_blocks}
+use Rattle.rec_select.specs.Heads.{AreHeads, HeadsFrom}
+use Rattle.rec_select.specs.Selection.{record_at}
+use Rattle.rec_select.specs.Info.{info, sets_for}
+use Rattle.rec_select.specs.declared.info.InfoForm.TheVariants.{Descriptors}
+use Rattle.rec_select.specs.Taken.{HasTaken, HasStopped, Prints}
+use Rattle.rec_select.proofs.PutsLemmas.{HasTaken-nil, HasTaken-as, HasTaken-append, HasStopped-as, HasStopped-append, HasStopped-within}
+
+-- ---- parts of a text, put one after another
+
+-- the rest of a text is still to be put, and what stands before it was taken
+pub record IsTakenTo (text : List ℕ) (old new : Option (List ℕ)) (before after : ℕ) (rest : List ℕ) : Type 0 where
+  pub front : List ℕ
+  pub parts : text ≡ front ++ rest
+  pub taken : HasTaken front old new before after
+
+pub IsTakenTo-none : (text : List ℕ) (old : Option (List ℕ)) (before : ℕ) → IsTakenTo text old old before before text
+IsTakenTo-none text old before = record { front = []; parts = refl; taken = HasTaken-nil old before }
+
+parts_of : {text rest : List ℕ} (front part later : List ℕ) → text ≡ front ++ rest → rest ≡ part ++ later → text ≡ (front ++ part) ++ later
+parts_of front part later parts more = parts ∙ ap (λ r. front ++ r) more ∙ sym (append_assoc front part later)
+
+-- a part more was taken
+pub IsTakenTo-more : {text rest : List ℕ} {old mid new : Option (List ℕ)} {before between after : ℕ} → (part later : List ℕ)
+    → IsTakenTo text old mid before between rest → rest ≡ part ++ later → HasTaken part mid new between after → IsTakenTo text old new before after later
+IsTakenTo-more part later so_far more taken = record {
+  front = so_far.front ++ part;
+  parts = parts_of so_far.front part later so_far.parts more;
+  taken = HasTaken-append so_far.taken taken;
+}
+
+-- a part stopped, and so did the whole
+pub IsTakenTo-stopped : {text rest : List ℕ} {old mid new : Option (List ℕ)} {before between after : ℕ} {fault : Fault} → (part later : List ℕ)
+    → IsTakenTo text old mid before between rest → rest ≡ part ++ later → HasStopped part mid new between after fault → HasStopped text old new before after fault
+IsTakenTo-stopped part later so_far more stopped = HasStopped-within _ later (parts_of so_far.front part later so_far.parts more) so_far.taken stopped
+
+-- nothing is left
+pub IsTakenTo-all : {text rest : List ℕ} {old new : Option (List ℕ)} {before after : ℕ} → IsTakenTo text old new before after rest → rest ≡ [] → HasTaken text old new before after
+IsTakenTo-all so_far none = HasTaken-as (sym (so_far.parts ∙ ap (λ r. so_far.front ++ r) none ∙ append-nil so_far.front)) so_far.taken
+
+-- ---- a text for each element of a list
+
+flat_map-drop : {X : Type 0} (f : X → List ℕ) (xs : List X) (i : ℕ) (d x : X) → i < length xs → x ≡ get_or xs i d → flat_map f (drop i xs) ≡ f x ++ flat_map f (drop (i + 1) xs)
+flat_map-drop f xs i d x there is = rw (add-one, is, drop-cons xs i d)
+
+-- the text of one element more was taken
+pub one_taken : {X : Type 0} (f : X → List ℕ) (xs : List X) (i : ℕ) (d x : X) {old mid new : Option (List ℕ)} {before between after : ℕ}
+    → IsTakenTo (flat_map f xs) old mid before between (flat_map f (drop i xs)) → i < length xs → x ≡ get_or xs i d → HasTaken (f x) mid new between after
+    → IsTakenTo (flat_map f xs) old new before after (flat_map f (drop (i + 1) xs))
+one_taken f xs i d x so_far there is taken = IsTakenTo-more (f x) _ so_far (flat_map-drop f xs i d x there is) taken
+
+-- the text of one element stopped
+pub one_stopped : {X : Type 0} (f : X → List ℕ) (xs : List X) (i : ℕ) (d x : X) {old mid new : Option (List ℕ)} {before between after : ℕ} {fault : Fault}
+    → IsTakenTo (flat_map f xs) old mid before between (flat_map f (drop i xs)) → i < length xs → x ≡ get_or xs i d → HasStopped (f x) mid new between after fault
+    → HasStopped (flat_map f xs) old new before after fault
+one_stopped f xs i d x so_far there is stopped = IsTakenTo-stopped (f x) (flat_map f (drop (i + 1) xs)) so_far (flat_map-drop f xs i d x there is) stopped
+
+-- ---- the sets that are printed
+
+chosen : (b : Bool) (n i : ℕ) → cond b (Some n) None ≡ Some i → n ≡ i
+chosen false n i e = cc
+chosen true n i e = cc
+
+not_chosen : (b : Bool) (n : ℕ) → cond b (Some n) None ≡ None → b ≡ false
+not_chosen false n e = refl
+not_chosen true n e = cc
+
+find-position : {X : Type 0} (test : X → Bool) (xs : List X) (i : ℕ) (x : X) → position test xs ≡ Some i → x ≡ get_or xs i x → find test xs ≡ Some x
+find-position test xs i x at is =
+    let there = position-Some test xs i x at in
+    let place : position_or_len test xs ≡ i = chosen (nat_lt (position_or_len test xs) (length xs)) _ i at in
+    find_at test xs ∙ ap (slice_get xs) place ∙ slice_get_read xs (length xs) i x refl there.0 is
+
+find-no_position : {X : Type 0} (test : X → Bool) (xs : List X) → position test xs ≡ None → find test xs ≡ None
+find-no_position test xs none =
+    let over : nat_lt (position_or_len test xs) (length xs) ≡ false = not_chosen _ (position_or_len test xs) none in
+    find_at test xs ∙ slice_get_past xs (position_or_len test xs) (grind (arith, nat_tests))
+
+sets_for-find : (kind : List ℕ) (sets : List Set_) (s : Set_) → find (is_of_type kind) sets ≡ Some s → sets_for (Some kind) sets ≡ Ok (s ∷ [])
+sets_for-find kind sets s found = rw (found, sets_for)
+
+sets_for-no_find : (kind : List ℕ) (sets : List Set_) → find (is_of_type kind) sets ≡ None → sets_for (Some kind) sets ≡ Err NoSuchType
+sets_for-no_find kind sets none = rw (none, sets_for)
+
+-- the set of a type stands at the first place of a set of that type
+pub sets_for-found : (kind : List ℕ) (sets : List Set_) (i : ℕ) (s : Set_) → position (is_of_type kind) sets ≡ Some i → s ≡ get_or sets i s → sets_for (Some kind) sets ≡ Ok (s ∷ [])
+sets_for-found kind sets i s at is = sets_for-find kind sets s (find-position (is_of_type kind) sets i s at is)
+
+pub sets_for-missing : (kind : List ℕ) (sets : List Set_) → position (is_of_type kind) sets ≡ None → sets_for (Some kind) sets ≡ Err NoSuchType
+sets_for-missing kind sets none = sets_for-no_find kind sets (find-no_position (is_of_type kind) sets none)
+
+-- ---- the blocks of descriptors
+
+pub Prints-append : {old mid : Option (List ℕ)} {before between : ℕ} → (some more : List ℕ) (new : Option (List ℕ)) (after : ℕ) (result : Result (Unit {0}) Fault)
+    → HasTaken some old mid before between → Prints more mid new between after result → Prints (some ++ more) old new before after result
+Prints-append some more new after (Ok done) first next = HasTaken-append first next
+Prints-append some more new after (Err fault) first next = HasStopped-append first next
+
+-- what stands before a block: an empty line, unless it is the first
+abbrev pub gap : Bool → List ℕ
+gap is_first = if is_first then [] else 10 ∷ []
+
+-- what is printed of blocks, from the first of all or from a later one on
+abbrev pub text_from : Bool → List (List ℕ) → List ℕ
+text_from is_first [] = []
+text_from is_first (block ∷ blocks) = if is_nil block then text_from is_first blocks else (gap is_first ++ block) ++ text_from false blocks
+
+-- an empty line before each block
+abbrev behind : List (List ℕ) → List ℕ
+behind [] = []
+behind (block ∷ blocks) = 10 ∷ join_with_byte 10 (block ∷ blocks)
+
+join_with_byte-cons : (block : List ℕ) (blocks : List (List ℕ)) → join_with_byte 10 (block ∷ blocks) ≡ block ++ behind blocks
+join_with_byte-cons block [] = sym (append-nil block)
+join_with_byte-cons block (next ∷ blocks) = refl
+
+text_from-false : (blocks : List (List ℕ)) → text_from false blocks ≡ behind (filter (λ block. not (is_nil block)) blocks)
+text_from-false [] = refl
+text_from-false ([] ∷ blocks) = text_from-false blocks
+text_from-false ((b ∷ bs) ∷ blocks) = ap (λ t. 10 ∷ ((b ∷ bs) ++ t)) (text_from-false blocks) ∙ ap (λ t. 10 ∷ t) (sym (join_with_byte-cons (b ∷ bs) _))
+
+-- all blocks, joined, are what is printed from the first on
+joined_blocks-text_from : (blocks : List (List ℕ)) → joined_blocks false blocks ≡ text_from true blocks
+joined_blocks-text_from [] = refl
+joined_blocks-text_from ([] ∷ blocks) = joined_blocks-text_from blocks
+joined_blocks-text_from ((b ∷ bs) ∷ blocks) = join_with_byte-cons (b ∷ bs) _ ∙ ap (λ t. (b ∷ bs) ++ t) (sym (text_from-false blocks))
+
+text_from-cons : (is_first : Bool) (block : List ℕ) (blocks : List (List ℕ)) → is_nil block ≡ false → text_from is_first (block ∷ blocks) ≡ (gap is_first ++ block) ++ text_from false blocks
+text_from-cons is_first block blocks full = rw full refl
+
+-- ---- a record's block is full
+
+ended : (bytes more : List ℕ) → ends_newline bytes ≡ true → is_nil (bytes ++ more) ≡ false
+ended [] more e = absurd (false≢true e)
+ended (b ∷ bs) more e = refl
+
+opened : (bytes more : List ℕ) → is_nil ((bytes ++ 10 ∷ []) ++ more) ≡ false
+opened [] more = refl
+opened (b ∷ bs) more = refl
+
+closed-full : (piece : Piece) (more : List ℕ) → is_nil (closed piece ++ more) ≡ false
+closed-full piece more = elim (cases_Bool (ends_newline piece.bytes)) [
+  | inl ends ↦ rw ends (ended piece.bytes more ends)
+  | inr none ↦ rw none (opened piece.bytes more)
+]
+
+block-full : (fields : List Piece) → is_field_at fields 0 ≡ true → is_nil (block_of Blocks fields) ≡ false
+block-full [] e = absurd (false≢true e)
+block-full (piece ∷ pieces) e = rw e (closed-full piece _)
+
+slice_get-drop : {X : Type 0} (from i : ℕ) (xs : List X) → slice_get (drop from xs) i ≡ slice_get xs (from + i)
+slice_get-drop zero i xs = ap (slice_get xs) (let e : i ≡ 0 + i = omega arith in e)
+slice_get-drop (suc from) i [] = refl
+slice_get-drop (suc from) i (x ∷ xs) = slice_get-drop from i xs ∙ ap (slice_get (x ∷ xs)) (let e : suc (from + i) ≡ suc from + i = omega arith in e)
+
+slice_get-take : {X : Type 0} (n i : ℕ) (xs : List X) → i < n → slice_get (take n xs) i ≡ slice_get xs i
+slice_get-take zero i xs within = absurd (omega (arith, within))
+slice_get-take (suc n) i [] within = refl
+slice_get-take (suc n) zero (x ∷ xs) within = refl
+slice_get-take (suc n) (suc i) (x ∷ xs) within = slice_get-take n i xs (omega (arith, within))
+
+record-full : (pieces : List Piece) (fields : Range ℕ) → IsRecord pieces fields → is_nil (block_of Blocks (elements_in pieces fields)) ≡ false
+record-full pieces fields h =
+    let place : fields.start + 0 ≡ fields.start = omega arith in
+    let first : slice_get (elements_in pieces fields) 0 ≡ slice_get pieces fields.start =
+    slice_get-drop fields.start 0 (take fields.end pieces) ∙ ap (slice_get (take fields.end pieces)) place ∙ slice_get-take fields.end fields.start pieces h.some in
+    block-full (elements_in pieces fields) (ap (λ found. option_map_or is_field_piece found false) first ∙ h.first)
+
+pub elements_in-slice : (elements : List Element) (fields : Range ℕ) → fields.start ≤ fields.end
+    → pieces_of (take (fields.end - fields.start) (drop fields.start elements)) ≡ elements_in (pieces_of elements) fields
+elements_in-slice elements fields ordered =
+    let size : fields.start + (fields.end - fields.start) ≡ fields.end = omega (arith, ordered) in
+    sym (take-map piece_of (fields.end - fields.start) (drop fields.start elements)) ∙ ap (take (fields.end - fields.start)) (sym (drop-map piece_of fields.start elements))
+    ∙ sym (drop-take fields.start (fields.end - fields.start) (pieces_of elements)) ∙ ap (λ n. drop fields.start (take n (pieces_of elements))) size
+
+-- ---- one walk over the records
+
+-- what `next` gave before the record that it gave last, and what is left behind that
+Yields-append : (left xs rest : List (Range ℕ)) → Yields (YieldsFirst (λ (records : List (Range ℕ)). records)) left xs rest → left ≡ xs ++ rest
+Yields-append left [] rest e = e
+Yields-append left (x ∷ xs) rest (later, first, more) = first ∙ ap (λ r. x ∷ r) (Yields-append later xs rest more)
+
+at_seam : {X : Type 0} (xs : List X) (x : X) (ys : List X) → slice_get (xs ++ x ∷ ys) (length xs) ≡ Some x
+at_seam [] x ys = refl
+at_seam (y ∷ xs) x ys = at_seam xs x ys
+
+behind_seam : {X : Type 0} (xs : List X) (x : X) (ys : List X) → drop (suc (length xs)) (xs ++ x ∷ ys) ≡ ys
+behind_seam [] x ys = refl
+behind_seam (y ∷ xs) x ys = behind_seam xs x ys
+
+skipped_to : (left later : List (Range ℕ)) (n : ℕ) (fields : Range ℕ) → SkipsThenYields (YieldsFirst (λ (records : List (Range ℕ)). records)) left n (Some fields) later
+    → (slice_get left n ≡ Some fields) × (drop (n + 1) left ≡ later)
+skipped_to left later n fields (xs, (rest, all, first), count) =
+    let parts : left ≡ xs ++ fields ∷ later = Yields-append left xs rest all ∙ ap (λ r. xs ++ r) first in
+    let next : n + 1 ≡ suc (length xs) = omega (arith, count) in (
+      ap (slice_get left) (sym count) ∙ ap (λ l. slice_get l (length xs)) parts ∙ at_seam xs fields later,
+      ap (λ k. drop k left) next ∙ ap (drop (suc (length xs))) parts ∙ behind_seam xs fields later,
+    )
+
+skipped_all : (left later : List (Range ℕ)) (n : ℕ) → SkipsThenYields (YieldsFirst (λ (records : List (Range ℕ)). records)) left n None later → length left ≤ n
+skipped_all left later n (xs, (rest, all, none), count) =
+    let parts : left ≡ xs = Yields-append left xs rest all ∙ ap (λ r. xs ++ r) none.0 ∙ append-nil xs in
+    omega (arith, ap length parts, count)
+
+-- ---- the descriptors that are printed
+
+AllByRecursion-at : {X : Type 0} (P : X → Type 0) (xs : List X) (i : ℕ) (x : X) → AllByRecursion P xs → slice_get xs i ≡ Some x → P x
+AllByRecursion-at P [] i x each at = cc
+AllByRecursion-at P (y ∷ xs) zero x each at = let same : y ≡ x = cc in subst P same each.0
+AllByRecursion-at P (y ∷ xs) (suc i) x each at = AllByRecursion-at P xs i x each.1 at
+
+-- there are no more records than elements
+length-records : (pieces : List Piece) (least : ℕ) (records : List (Range ℕ)) → least ≤ length pieces → AllByRecursion (IsRecord pieces) records → AreAscending least records
+    → least + length records ≤ length pieces
+length-records pieces least [] within each ascending = omega arith
+length-records pieces least (fields ∷ records) within each ascending =
+    let some = each.0.some in
+    let ended : fields.end ≤ length pieces = omega (arith, each.0.high, each.0.is_paragraph.within) in
+    omega (arith, ascending.0, some, length-records pieces fields.end records ended each.1 ascending.1)
+
+-- what `HeadsFrom` says of a set with this head and of those behind it
+abbrev HeadsBehind : ℕ → ℕ → List Set_ → Option ℕ → Type 0
+HeadsBehind size at sets head = elim head [ None ↦ HeadsFrom size at sets | Some head ↦ (at ≤ head) × HeadsFrom size (head + 1) sets ]
+
+HeadsBehind-low : (size at : ℕ) (sets : List Set_) (head : Option ℕ) → ((least : ℕ) → HeadsFrom size least sets → least ≤ size) → HeadsBehind size at sets head → at ≤ size
+HeadsBehind-low size at sets None low ordered = low at ordered
+HeadsBehind-low size at sets (Some head) low ordered = omega (arith, ordered.0, low (head + 1) ordered.1)
+
+HeadsFrom-low : (size at : ℕ) (sets : List Set_) → HeadsFrom size at sets → at ≤ size
+HeadsFrom-low size at [] ordered = ordered
+HeadsFrom-low size at (s ∷ sets) ordered = HeadsBehind-low size at sets s.head (λ least. HeadsFrom-low size least sets) ordered
+
+HeadsFrom-typed : (size at head : ℕ) (s : Set_) (sets : List Set_) → s.head ≡ Some head → HeadsFrom size at (s ∷ sets) → (at ≤ head) × HeadsFrom size (head + 1) sets
+HeadsFrom-typed size at head s sets is ordered =
+    let P : Option ℕ → Type 0 = HeadsBehind size at sets in
+    subst P is ordered
+
+drop-item : {X : Type 0} (xs : List X) (i : ℕ) (x : X) → i < length xs → x ≡ get_or xs i x → drop i xs ≡ x ∷ drop (i + 1) xs
+drop-item xs i x there is = rw (add-one, drop-cons xs i x) (ap (λ y. y ∷ drop (suc i) xs) (sym is))
+
+is_later : (n : ℕ) → (n + 1 == 0) ≡ false
+is_later n = grind (arith, nat_tests)
+
+module _ (pieces : List Piece) (all : List (Range ℕ)) where
+  -- the blocks of the descriptors of sets
+  abbrev pub head_blocks : List Set_ → List (List ℕ)
+  head_blocks sets = map (λ i. block_of Blocks (record_at pieces all i)) (filter_map (λ s. s.head) sets)
+
+  -- the descriptors up to some sets went out, and these sets and the records behind those passed are left
+  pub record AreHeadsTo (sets : List Set_) (old new : Option (List ℕ)) (before after : ℕ) (passed : ℕ) (left : List (Range ℕ)) (rest : List Set_) : Type 0 where
+    pub taken : IsTakenTo (text_from true (head_blocks sets)) old new before after (text_from (passed == 0) (head_blocks rest))
+    pub left_are : left ≡ drop passed all
+    pub ordered : HeadsFrom (length all) passed rest
+
+  -- the record of a set's descriptor, which is the next that is printed
+  pub record IsNextHead (passed head : ℕ) (fields : Range ℕ) (later : List (Range ℕ)) (rest more : List Set_) : Type 0 where
+    pub is_record : IsRecord pieces fields
+    pub countable : head < length pieces
+    pub text : text_from (passed == 0) (head_blocks rest) ≡ (gap (passed == 0) ++ block_of Blocks (elements_in pieces fields)) ++ text_from false (head_blocks more)
+    pub later_are : later ≡ drop (head + 1) all
+    pub ordered : HeadsFrom (length all) (head + 1) more
+
+  head_blocks-typed : (s : Set_) (sets : List Set_) (head : ℕ) (fields : Range ℕ) → s.head ≡ Some head → slice_get all head ≡ Some fields
+      → head_blocks (s ∷ sets) ≡ block_of Blocks (elements_in pieces fields) ∷ head_blocks sets
+  head_blocks-typed s sets head fields is at = rw (is, at) refl
+
+module _ {pieces : List Piece} {all : List (Range ℕ)} where
+  pub first_head : (sets : List Set_) (old : Option (List ℕ)) (before : ℕ) → AreRecords pieces all → AreHeads pieces sets → AreHeadsTo pieces all sets old old before before 0 all sets
+  first_head sets old before are (records, are_records, ordered) =
+      let P : List (Range ℕ) → Type 0 = λ records. HeadsFrom (length records) 0 sets in
+      record {
+        taken = IsTakenTo-none (text_from true (head_blocks pieces all sets)) old before;
+        left_are = refl;
+        ordered = subst P (OneListOfRecords-holds.records pieces records all are_records are) ordered;
+      }
+
+  module _ {sets : List Set_} {i : ℕ} {s : Set_} {old new : Option (List ℕ)} {before after : ℕ} {passed : ℕ} {left : List (Range ℕ)}
+      (so_far : AreHeadsTo pieces all sets old new before after passed left (drop i sets)) (there : i < length sets) (is : s ≡ get_or sets i s) where
+    rest_are : drop i sets ≡ s ∷ drop (i + 1) sets
+    rest_are = drop-item sets i s there is
+
+    ordered_from : HeadsFrom (length all) passed (s ∷ drop (i + 1) sets)
+    ordered_from =
+        let P : List Set_ → Type 0 = HeadsFrom (length all) passed in
+        subst P rest_are so_far.ordered
+
+    -- the next descriptor stands at the records that are left, or behind
+    pub head_low : (head : ℕ) → s.head ≡ Some head → passed ≤ head
+    head_low head typed = (HeadsFrom-typed (length all) passed head s (drop (i + 1) sets) typed ordered_from).0
+
+    -- there is a record of it
+    pub head_there : (head : ℕ) (later : List (Range ℕ)) → s.head ≡ Some head → SkipsThenYields (YieldsFirst (λ (records : List (Range ℕ)). records)) left (head - passed) None later → ⊥
+    head_there head later typed skipped =
+        let next = HeadsFrom-typed (length all) passed head s (drop (i + 1) sets) typed ordered_from in
+        let few = skipped_all left later (head - passed) skipped in
+        omega (arith, few, next.0, HeadsFrom-low (length all) (head + 1) (drop (i + 1) sets) next.1, length-drop passed all, ap length so_far.left_are)
+
+    pub next_head : (head : ℕ) (fields : Range ℕ) (later : List (Range ℕ)) → AreRecords pieces all → s.head ≡ Some head
+        → SkipsThenYields (YieldsFirst (λ (records : List (Range ℕ)). records)) left (head - passed) (Some fields) later
+        → IsNextHead pieces all passed head fields later (drop i sets) (drop (i + 1) sets)
+    next_head head fields later are typed skipped =
+        let next = HeadsFrom-typed (length all) passed head s (drop (i + 1) sets) typed ordered_from in
+        let met = skipped_to left later (head - passed) fields skipped in
+        let place : passed + (head - passed) ≡ head = omega (arith, next.0) in
+        let at : slice_get all head ≡ Some fields =
+        ap (slice_get all) (sym place) ∙ sym (slice_get-drop passed (head - passed) all) ∙ ap (λ l. slice_get l (head - passed)) (sym so_far.left_are) ∙ met.0 in
+        let full : IsRecord pieces fields = AllByRecursion-at (IsRecord pieces) all head fields are.each at in
+        record {
+          is_record = full;
+          countable = omega (arith, HeadsFrom-low (length all) (head + 1) (drop (i + 1) sets) next.1, length-records pieces 0 all (omega arith) are.each are.ascending);
+          text = ap (text_from (passed == 0)) (ap (head_blocks pieces all) rest_are ∙ head_blocks-typed pieces all s (drop (i + 1) sets) head fields typed at)
+              ∙ text_from-cons (passed == 0) (block_of Blocks (elements_in pieces fields)) (head_blocks pieces all (drop (i + 1) sets)) (record-full pieces fields full);
+          later_are = sym met.1 ∙ ap (drop (head - passed + 1)) so_far.left_are ∙ drop-drop (head - passed + 1) passed all ∙ ap (λ n. drop n all) (let e : passed + (head - passed + 1) ≡ head + 1 = omega (arith, next.0) in e);
+          ordered = next.1;
+        }
+
+  -- what is left of the descriptors after some of them are those of the text
+  text_from-info : (sets : List Set_) (records : List (Range ℕ)) → AreRecords pieces all → AreRecords pieces records → text_from true (head_blocks pieces all sets) ≡ info Descriptors pieces records sets
+  text_from-info sets records are are_records =
+      sym (joined_blocks-text_from (head_blocks pieces all sets)) ∙ ap (λ records. info Descriptors pieces records sets) (OneListOfRecords-holds.records pieces all records are are_records)
+
+  module _ {sets rest more : List Set_} {old mid : Option (List ℕ)} {before between : ℕ} {passed : ℕ} {left later : List (Range ℕ)} {head : ℕ} {fields : Range ℕ}
+      (so_far : AreHeadsTo pieces all sets old mid before between passed left rest) (next : IsNextHead pieces all passed head fields later rest more) (part same : List Piece) (is_part : part ≡ elements_in same fields)
+      (is_same : same ≡ pieces) where
+    block_is : gap (passed == 0) ++ block_of Blocks part ≡ gap (passed == 0) ++ block_of Blocks (elements_in pieces fields)
+    block_is = ap (λ (pieces : List Piece). gap (passed == 0) ++ block_of Blocks pieces) (is_part ∙ ap (λ (pieces : List Piece). elements_in pieces fields) is_same)
+
+    pub head_taken : {new : Option (List ℕ)} {after : ℕ} → HasTaken (gap (passed == 0) ++ block_of Blocks part) mid new between after → AreHeadsTo pieces all sets old new before after (head + 1) later more
+    head_taken {new} {after} taken =
+        let P : Bool → Type 0 = λ is_first. IsTakenTo (text_from true (head_blocks pieces all sets)) old new before after (text_from is_first (head_blocks pieces all more)) in
+        record {
+          taken = subst P (sym (is_later head)) (IsTakenTo-more _ _ so_far.taken next.text (HasTaken-as block_is taken));
+          left_are = next.later_are;
+          ordered = next.ordered;
+        }
+
+    pub head_stopped : {new : Option (List ℕ)} {after : ℕ} {fault : Fault} → HasStopped (gap (passed == 0) ++ block_of Blocks part) mid new between after fault
+        → (records : List (Range ℕ)) → AreRecords pieces all → AreRecords pieces records → HasStopped (info Descriptors pieces records sets) old new before after fault
+    head_stopped stopped records are are_records =
+        HasStopped-as (text_from-info sets records are are_records) (IsTakenTo-stopped _ _ so_far.taken next.text (HasStopped-as block_is stopped))
+
+  pub heads_taken : {sets : List Set_} {i : ℕ} {old new : Option (List ℕ)} {before after : ℕ} {passed : ℕ} {left : List (Range ℕ)} → AreHeadsTo pieces all sets old new before after passed left (drop i sets)
+      → length sets ≤ i → (records : List (Range ℕ)) → AreRecords pieces all → AreRecords pieces records → HasTaken (info Descriptors pieces records sets) old new before after
+  heads_taken {sets} {i} {passed = passed} so_far none records are are_records =
+      HasTaken-as (text_from-info sets records are are_records) (IsTakenTo-all so_far.taken (ap (λ (rest : List Set_). text_from (passed == 0) (head_blocks pieces all rest)) (drop_all i sets none)))
+
+-- the index behind a descriptor's fits
+pub head_fits : (pieces : List Piece) (elements : List Element) (head top : ℕ) → pieces_of elements ≡ pieces → head < length pieces → length elements < top → head + 1 < top
+head_fits pieces elements head top are there few = omega (arith, there, few, ap length are, length-map elements piece_of)
+
+pub fields_within : (pieces : List Piece) (elements : List Element) (fields : Range ℕ) → pieces_of elements ≡ pieces → IsRecord pieces fields → fields.end ≤ length elements
+fields_within pieces elements fields are h = omega (arith, h.high, h.is_paragraph.within, ap length are, length-map elements piece_of)
+
+-- ---- the descriptors of the sets that are printed
+
+HeadsBehind-lower : (size low at : ℕ) (sets : List Set_) (head : Option ℕ) → low ≤ at → (HeadsFrom size at sets → HeadsFrom size low sets) → HeadsBehind size at sets head → HeadsBehind size low sets head
+HeadsBehind-lower size low at sets None le lower ordered = lower ordered
+HeadsBehind-lower size low at sets (Some head) le lower ordered = (omega (arith, le, ordered.0), ordered.1)
+
+HeadsFrom-lower : (size low at : ℕ) (sets : List Set_) → low ≤ at → HeadsFrom size at sets → HeadsFrom size low sets
+HeadsFrom-lower size low at [] le ordered = omega (arith, le, ordered)
+HeadsFrom-lower size low at (s ∷ sets) le ordered = HeadsBehind-lower size low at sets s.head le (HeadsFrom-lower size low at sets le) ordered
+
+-- one of the sets
+HeadsBehind-one : (size at : ℕ) (sets : List Set_) (head : Option ℕ) → HeadsBehind size at sets head → HeadsBehind size 0 [] head
+HeadsBehind-one size at sets None ordered = omega arith
+HeadsBehind-one size at sets (Some head) ordered = (omega arith, HeadsFrom-low size (head + 1) sets ordered.1)
+
+HeadsBehind-rest : (size at : ℕ) (sets : List Set_) (head : Option ℕ) → HeadsBehind size at sets head → (least : ℕ) × HeadsFrom size least sets
+HeadsBehind-rest size at sets None ordered = (at, ordered)
+HeadsBehind-rest size at sets (Some head) ordered = (head + 1, ordered.1)
+
+HeadsFrom-find : (size at : ℕ) (test : Set_ → Bool) (sets : List Set_) (s : Set_) → HeadsFrom size at sets → find test sets ≡ Some s → HeadsFrom size 0 (s ∷ [])
+HeadsFrom-find size at test [] s ordered found = cc
+HeadsFrom-find size at test (x ∷ sets) s ordered found = elim (cases_Bool (test x)) [
+  | inl passes ↦
+      let P : Set_ → Type 0 = λ one. HeadsFrom size 0 (one ∷ []) in
+      let same : x ≡ s = (let first : cond (test x) (Some x) (find test sets) ≡ Some x = rw passes refl in cc) in
+      subst P same (HeadsBehind-one size at sets x.head ordered)
+  | inr fails ↦
+      let rest = HeadsBehind-rest size at sets x.head ordered in
+      let later : find test sets ≡ Some s = rw fails at found in
+      HeadsFrom-find size rest.0 test sets s rest.1 later
+]
+
+HeadsFrom-kept : (size : ℕ) (kind : Option (List ℕ)) (sets kept : List Set_) → sets_for kind sets ≡ Ok kept → HeadsFrom size 0 sets → HeadsFrom size 0 kept
+HeadsFrom-kept size None sets kept e ordered =
+    let P : List Set_ → Type 0 = HeadsFrom size 0 in
+    let same : sets ≡ kept = cc in
+    subst P same ordered
+HeadsFrom-kept size (Some kind) sets kept e ordered = go (find (is_of_type kind) sets) refl where
+  go : (found : Option Set_) → find (is_of_type kind) sets ≡ found → HeadsFrom size 0 kept
+  go None none = (let refused = sets_for-no_find kind sets none in cc)
+  go (Some s) found =
+      let P : List Set_ → Type 0 = HeadsFrom size 0 in
+      let same : s ∷ [] ≡ kept = (let chosen = sets_for-find kind sets s found in cc) in
+      subst P same (HeadsFrom-find size 0 (is_of_type kind) sets s ordered found)
+
+-- a set in front of those behind it, by its kind
+HeadsFrom-cons : (size at : ℕ) (s : Set_) (sets : List Set_) (kind : Option (List ℕ)) → s.kind ≡ kind → BeginsAt at s → size ≡ at + (length (named_in s) + length (flat_map named_in sets))
+    → (size ≡ s.members.end + length (flat_map named_in sets) → HeadsFrom size s.members.end sets) → HeadsFrom size at (s ∷ sets)
+HeadsFrom-cons size at s sets None untyped place sized behind =
+    let begins : (s.head ≡ None) × (s.members.start ≡ at) = rw untyped at place.1 in
+    let count : length (named_in s) ≡ s.members.end - s.members.start = rw untyped (length-replicate (s.members.end - s.members.start) _) in
+    rw begins.0 (HeadsFrom-lower size at s.members.end sets (omega (arith, begins.1, place.0)) (behind (omega (arith, sized, count, begins.1, place.0))))
+HeadsFrom-cons size at s sets (Some kind) typed place sized behind =
+    let begins : (s.head ≡ Some at) × (s.members.start ≡ at + 1) = rw typed at place.1 in
+    let count : length (named_in s) ≡ suc (s.members.end - s.members.start) = rw typed (ap suc (length-replicate (s.members.end - s.members.start) _)) in
+    rw begins.0
+    (omega arith, HeadsFrom-lower size (at + 1) s.members.end sets (omega (arith, begins.1, place.0)) (behind (omega (arith, sized, count, begins.1, place.0))))
+
+HeadsFrom-sets : (size at : ℕ) (sets : List Set_) → AreFrom at sets → size ≡ at + length (flat_map named_in sets) → HeadsFrom size at sets
+HeadsFrom-sets size at [] places sized = omega (arith, sized)
+HeadsFrom-sets size at (s ∷ sets) places sized =
+    HeadsFrom-cons size at s sets s.kind refl places.0 (omega (arith, sized, length-append (named_in s) (flat_map named_in sets))) (HeadsFrom-sets size s.members.end sets places.1)
+
+pub AreHeads-kept : (pieces : List Piece) (described : Described) (kind : Option (List ℕ)) (kept : List Set_) → IsDescribed pieces described → sets_for kind described.sets ≡ Ok kept → AreHeads pieces kept
+AreHeads-kept pieces described kind kept h chosen =
+    let sized : length h.records ≡ 0 + length (flat_map named_in described.sets) = omega (arith, ap length h.sets.joined, length-map h.records (λ record_. type_of (elements_in pieces record_))) in
+    (h.records, h.are, HeadsFrom-kept (length h.records) kind described.sets kept chosen (HeadsFrom-sets (length h.records) 0 described.sets h.sets.places sized))

@@ -1,0 +1,10 @@
+pub mod FilterLemmas
+pub mod SelectionLemmas
+pub mod SelectionExamples
+pub mod IndexLemmas
+pub mod PutsLemmas
+pub mod BlockLemmas
+pub mod InfoLemmas
+pub mod InfoExamples
+pub mod PrintingLemmas
+pub mod PrintingExamples

@@ -1,0 +1,171 @@
+-- What is printed of many records, block by block.
+use Rattle.std.proofs.Common.{◌≡◌, ℕ, ◌+◌, ◌-◌, ◌<◌, ◌≤◌, Bool, true, false, not, List, [], ◌∷◌, ◌++◌, Ok, ◌⊎◌, inl, inr, length, get_or, take, drop, map, zero, suc, refl, sym, ap, subst, ◌∙◌, append-nil, append_assoc, arith}
+use Rattle.std.specs.Prelude.{flat_map}
+use Rattle.std.specs.List.{concat, join_with_byte, AllByRecursion}
+use Rattle.std.specs.declared.ops.Range.{Range}
+use Rattle.std.proofs.lemmas.List.{drop-take, length-map, take-map, map-append, take-append-drop, take_more}
+use Rattle.std.proofs.lemmas.List.Concat.{concat_is}
+use Rattle.std.proofs.lemmas.List.Elements.{filter-append}
+use Rattle.std.proofs.lemmas.Grind.{flat_map-append}
+use Rattle.std.proofs.lemmas.Option.{slice_get-get_or}
+use Rattle.rec_text.specs.Bytes.{is_nil}
+use Rattle.rec_text.specs.Elements.{Piece}
+use Rattle.rec_text.specs.Places.{piece_of, pieces_of}
+use Rattle.rec_text.specs.Records.{AreRecords, IsRecord}
+use Rattle.rec_text.specs.Scanned.{IsWithin}
+use Rattle.rec_text.specs.declared.element.Element.{Element}
+use Rattle.rec_text.proofs.RangeLemmas.{AllByRecursion-weaker}
+use Rattle.rec_text.proofs.RecordLemmas.{one_list_of_records}
+use Rattle.rec_select.specs.Selection.{record_at}
+use Rattle.rec_select.specs.Blocks.{behind, full, separated}
+use Rattle.rec_select.specs.Printing.{AreIndexes, IsPrinted, block_of, joined_blocks, printed}
+use Rattle.rec_select.specs.declared.records.Shape.{Shape}
+use Rattle.rec_select.specs.declared.records.Shape.TheVariants.{Blocks, Print, Values, Row, Count}
+use Rattle.rec_select.proofs.BlockLemmas.{join_with_byte-cons}
+
+-- ---- the elements of a record
+
+pub AllByRecursion-at : {X : Type 0} (P : X → Type 0) (xs : List X) (i : ℕ) (d : X) → i < length xs → AllByRecursion P xs → P (get_or xs i d)
+AllByRecursion-at P [] i d within all = absurd (omega arith)
+AllByRecursion-at P (x ∷ xs) zero d within all = all.0
+AllByRecursion-at P (x ∷ xs) (suc i) d within all = AllByRecursion-at P xs i d (omega arith) all.1
+
+drop-map : {X Y : Type 0} (f : X → Y) (n : ℕ) (xs : List X) → drop n (map f xs) ≡ map f (drop n xs)
+drop-map f zero xs = refl
+drop-map f (suc n) [] = refl
+drop-map f (suc n) (x ∷ xs) = drop-map f n xs
+
+-- a part of the elements, as a slice and as the record's
+sliced : (elements : List Element) (start end : ℕ) → start ≤ end → pieces_of (take (end - start) (drop start elements)) ≡ drop start (take end (pieces_of elements))
+sliced elements start end in_order =
+    let whole : start + (end - start) ≡ end = omega arith in
+    ap pieces_of (sym (drop-take start (end - start) elements) ∙ ap (λ n. drop start (take n elements)) whole)
+    ∙ sym (drop-map piece_of start (take end elements)) ∙ ap (drop start) (sym (take-map piece_of end elements))
+
+pub record_at-sliced : (elements : List Element) (records : List (Range ℕ)) (i : ℕ) (d : Range ℕ) → i < length records → AllByRecursion (IsWithin (length elements)) records
+    → pieces_of (take ((get_or records i d).end - (get_or records i d).start) (drop (get_or records i d).start elements)) ≡ record_at (pieces_of elements) records i
+record_at-sliced elements records i d some within =
+    let record_ : Range ℕ = get_or records i d in
+    let fits = AllByRecursion-at (IsWithin (length elements)) records i d some within in
+    rw (slice_get-get_or records i d some) (sliced elements record_.start record_.end fits.0)
+
+-- ---- blocks one after another
+
+pub behind-full : (before block : List ℕ) → is_nil block ≡ false → behind before block ≡ before ++ block
+behind-full before block e = rw e refl
+
+-- what stands before the next block
+abbrev pub lead : List ℕ → List (List ℕ) → List ℕ
+lead separator [] = []
+lead separator (block ∷ blocks) = separator
+
+separated-push : (separator : List ℕ) (blocks : List (List ℕ)) (next : List ℕ) → separated separator (blocks ++ next ∷ []) ≡ separated separator blocks ++ (lead separator blocks ++ next)
+separated-push separator [] next = append-nil next
+separated-push separator (block ∷ blocks) next =
+    ap (λ t. block ++ t) (flat_map-append (λ other. separator ++ other) blocks (next ∷ []) ∙ ap (λ t. flat_map (λ other. separator ++ other) blocks ++ t) (append-nil (separator ++ next)))
+    ∙ sym (append_assoc block (flat_map (λ other. separator ++ other) blocks) (separator ++ next))
+
+separated-append : (separator : List ℕ) (blocks more : List (List ℕ)) → (rest : List ℕ) × (separated separator (blocks ++ more) ≡ separated separator blocks ++ rest)
+separated-append separator [] more = (separated separator more, refl)
+separated-append separator (block ∷ blocks) more =
+    let rest = flat_map (λ other. separator ++ other) more in
+    (rest, ap (λ t. block ++ t) (flat_map-append (λ other. separator ++ other) blocks more) ∙ sym (append_assoc block (flat_map (λ other. separator ++ other) blocks) rest))
+
+full-append : (xs ys : List (List ℕ)) → full (xs ++ ys) ≡ full xs ++ full ys
+full-append xs ys = filter-append (λ block. not (is_nil block)) xs ys
+
+-- one more block
+separated-more : (separator : List ℕ) (blocks : List (List ℕ)) (next : List ℕ)
+    → separated separator (full (blocks ++ next ∷ [])) ≡ separated separator (full blocks) ++ behind (lead separator (full blocks)) next
+separated-more separator blocks [] =
+    ap (separated separator) (full-append blocks ([] ∷ []) ∙ append-nil (full blocks)) ∙ sym (append-nil (separated separator (full blocks)))
+separated-more separator blocks (b ∷ bs) = ap (separated separator) (full-append blocks ((b ∷ bs) ∷ [])) ∙ separated-push separator (full blocks) (b ∷ bs)
+
+lead-push : (separator : List ℕ) (blocks : List (List ℕ)) (next : List ℕ) → lead separator (blocks ++ next ∷ []) ≡ separator
+lead-push separator [] next = refl
+lead-push separator (block ∷ blocks) next = refl
+
+lead-full : (separator : List ℕ) (blocks : List (List ℕ)) (next : List ℕ) → is_nil next ≡ false → lead separator (full (blocks ++ next ∷ [])) ≡ separator
+lead-full separator blocks [] holds = cc
+lead-full separator blocks (b ∷ bs) holds = ap (lead separator) (full-append blocks ((b ∷ bs) ∷ [])) ∙ lead-push separator (full blocks) (b ∷ bs)
+
+lead-empty : (separator : List ℕ) (blocks : List (List ℕ)) (next : List ℕ) → is_nil next ≡ true → lead separator (full (blocks ++ next ∷ [])) ≡ lead separator (full blocks)
+lead-empty separator blocks [] empty = ap (lead separator) (full-append blocks ([] ∷ []) ∙ append-nil (full blocks))
+lead-empty separator blocks (b ∷ bs) empty = cc
+
+-- ---- the blocks of the selected
+
+module _ (separator : List ℕ) (block : ℕ → List ℕ) (selected : List ℕ) (i : ℕ) (within : i < length selected) where
+  abbrev so_far : List (List ℕ)
+  so_far = map block (take i selected)
+
+  abbrev next : List ℕ
+  next = block (get_or selected i 0)
+
+  map-more : map block (take (i + 1) selected) ≡ so_far ++ next ∷ []
+  map-more = ap (map block) (take_more selected i 0 within) ∙ map-append block (take i selected) (get_or selected i 0 ∷ [])
+
+  pub separated_at : separated separator (full (map block (take (i + 1) selected))) ≡ separated separator (full so_far) ++ behind (lead separator (full so_far)) next
+  separated_at = ap (λ t. separated separator (full t)) map-more ∙ separated-more separator so_far next
+
+  -- with the separator and the block as the code has them
+  pub separated_rest : (before part : List ℕ) → before ≡ lead separator (full so_far) → part ≡ next
+      → (rest : List ℕ) × (separated separator (full (map block selected)) ≡ (separated separator (full so_far) ++ behind before part) ++ rest)
+  separated_rest before part leads is =
+      let done : List (List ℕ) = map block (take (i + 1) selected) in
+      let left : List (List ℕ) = map block (drop (i + 1) selected) in
+      let parts : map block selected ≡ done ++ left = ap (map block) (sym (take-append-drop (i + 1) selected)) ∙ map-append block (take (i + 1) selected) (drop (i + 1) selected) in
+      let rest = separated-append separator (full done) (full left) in
+      (rest.0, ap (λ t. separated separator (full t)) parts ∙ ap (separated separator) (full-append done left) ∙ rest.1 ∙ ap (λ t. t ++ rest.0) (rw (leads, is) separated_at))
+
+  pub lead_behind_full : is_nil next ≡ false → separator ≡ lead separator (full (map block (take (i + 1) selected)))
+  lead_behind_full holds = sym (ap (λ t. lead separator (full t)) map-more ∙ lead-full separator so_far next holds)
+
+  pub lead_behind_empty : is_nil next ≡ true → lead separator (full so_far) ≡ lead separator (full (map block (take (i + 1) selected)))
+  lead_behind_empty empty = sym (ap (λ t. lead separator (full t)) map-more ∙ lead-empty separator so_far next empty)
+
+-- ---- collapsed or not
+
+concat-separated : (blocks : List (List ℕ)) → concat blocks ≡ separated [] blocks
+concat-separated [] = refl
+concat-separated (block ∷ blocks) = ap (λ t. block ++ t) (concat_is blocks)
+
+join-separated : (blocks : List (List ℕ)) → join_with_byte 10 blocks ≡ separated (10 ∷ []) blocks
+join-separated [] = refl
+join-separated (block ∷ blocks) = join_with_byte-cons 10 block blocks
+
+-- the separator, as the code makes it
+abbrev pub SeparatorIs : Bool → List ℕ → Type 0
+SeparatorIs collapse separator = ((collapse ≡ true) × (separator ≡ [])) ⊎ ((collapse ≡ false) × (separator ≡ 10 ∷ []))
+
+separated-joined : (collapse : Bool) (separator : List ℕ) → SeparatorIs collapse separator → (blocks : List (List ℕ)) → separated separator (full blocks) ≡ joined_blocks collapse blocks
+separated-joined collapse separator (inl (e, f)) blocks = rw (e, f) (sym (concat-separated (full blocks)))
+separated-joined collapse separator (inr (e, f)) blocks = rw (e, f) (sym (join-separated (full blocks)))
+
+printed-blocks : (pieces : List Piece) (records : List (Range ℕ)) (selected : List ℕ) (shape : Shape) (collapse : Bool) → (shape ≡ Count → ⊥)
+    → printed pieces records selected shape collapse ≡ joined_blocks collapse (map (λ i. block_of shape (record_at pieces records i)) selected)
+printed-blocks pieces records selected Blocks collapse other = refl
+printed-blocks pieces records selected (Print items) collapse other = refl
+printed-blocks pieces records selected (Values items) collapse other = refl
+printed-blocks pieces records selected (Row items) collapse other = refl
+printed-blocks pieces records selected Count collapse other = absurd (other refl)
+
+pub IsPrinted-blocks : (pieces whole : List Piece) (records : List (Range ℕ)) (selected : List ℕ) (shape : Shape) (collapse : Bool) (separator : List ℕ) → whole ≡ pieces
+    → (shape ≡ Count → ⊥) → SeparatorIs collapse separator → AreRecords pieces records
+    → IsPrinted pieces selected shape collapse (Ok (separated separator (full (map (λ i. block_of shape (record_at whole records i)) selected))))
+IsPrinted-blocks pieces whole records selected shape collapse separator same other is are =
+    let block : ℕ → List ℕ = λ i. block_of shape (record_at pieces records i) in
+    rw same (records, are, separated-joined collapse separator is (map block selected) ∙ sym (printed-blocks pieces records selected shape collapse other))
+
+-- ---- the records
+
+pub records_within : (pieces : List Piece) (elements : List Element) (records : List (Range ℕ)) → pieces_of elements ≡ pieces → AreRecords pieces records
+    → AllByRecursion (IsWithin (length elements)) records
+records_within pieces elements records same are =
+    let fits : length pieces ≡ length elements = ap length (sym same) ∙ length-map elements piece_of in
+    AllByRecursion-weaker (IsRecord pieces) (IsWithin (length elements)) (λ fields is. (omega (arith, is.some), omega (arith, fits, is.high, is.is_paragraph.within))) records are.each
+
+pub indexes_within : (pieces : List Piece) (selected : List ℕ) (records : List (Range ℕ)) → AreIndexes pieces selected → AreRecords pieces records → AllByRecursion (λ i. i < length records) selected
+indexes_within pieces selected records (other, others, within) are =
+    let P : List (Range ℕ) → Type 0 = λ list. AllByRecursion (λ i. i < length list) selected in
+    subst P (one_list_of_records pieces other records others are) within

@@ -1,0 +1,10 @@
+use Rattle.std.proofs.Common.{take, flat_map}
+use Rattle.rec_text.specs.Places.{pieces_of}
+use Rattle.rec_select.specs.Printing.{value_line}
+use Rattle.rec_select.specs.Taken.{HasTaken}
+use Rattle.rec_select.proofs.block.write_values.Given as goal
+
+abbrev pub invariant-loop-element : goal.invariant-loop-element
+invariant-loop-element g l =
+    HasTaken (flat_map value_line (pieces_of (take l.element-index l.elements)))
+    (g.S.Sink.contents l.fn.out) (g.S.Sink.contents l.out) (g.S.Sink.failure_count l.fn.out) (g.S.Sink.failure_count l.out)

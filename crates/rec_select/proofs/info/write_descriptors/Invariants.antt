@@ -1,0 +1,8 @@
+use Rattle.std.proofs.Common.{drop}
+use Rattle.rec_select.proofs.InfoLemmas.{AreHeadsTo}
+use Rattle.rec_select.proofs.info.write_descriptors.Given as goal
+
+abbrev pub invariant-loop-set : goal.invariant-loop-set
+invariant-loop-set g l =
+    AreHeadsTo l.database l.initial.records l.sets (g.S.Sink.contents l.fn.out) (g.S.Sink.contents l.out)
+    (g.S.Sink.failure_count l.fn.out) (g.S.Sink.failure_count l.out) l.passed l.records (drop l.set-index l.sets)

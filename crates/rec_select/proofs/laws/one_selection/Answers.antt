@@ -1,0 +1,5 @@
+use Rattle.rec_select.proofs.SelectionLemmas as lemma
+use Rattle.rec_select.proofs.laws.one_selection.Goals as goal
+
+pub returns : goal.returns
+returns c = lemma.one_selection

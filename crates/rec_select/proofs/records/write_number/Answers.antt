@@ -1,0 +1,11 @@
+use Rattle.std.proofs.Common.{[], ◌∷◌, ◌∙◌}
+use Rattle.rec_select.proofs.PutsLemmas.{HasTaken-as, Prints-put, Prints-append}
+use Rattle.rec_select.proofs.records.write_number.Goals as goal
+
+pub returns : goal.returns
+returns g c =
+    let first = c.in_ok-put_all.ensures in
+    let put = c.put_all-2.ensures in
+    let digits = c.as_bytes.ensures.value ∙ c.format.ensures.text in
+    Prints-append (HasTaken-as digits (record { whole = first.all; sound = first.kept })) _ _ (10 ∷ []) c.put_all-2.result
+    (Prints-put _ _ _ _ (10 ∷ []) c.put_all-2.result put.all put.front put.kept put.counted put.failed put.refusals)

@@ -1,0 +1,39 @@
+use Rattle.std.proofs.Common.{sym, ap, subst, inl, inr}
+use Rattle.rec_text.specs.Records.{AreRecords}
+use Rattle.rec_select.specs.Printing.{IsPrinted}
+use Rattle.rec_select.proofs.PutsLemmas.{Puts-prints, counted-prints, store_failed-prints, refusals-prints}
+use Rattle.rec_select.proofs.PrintingLemmas.{SeparatorIs, IsPrinted-blocks, records_within, indexes_within}
+use Rattle.rec_select.proofs.records.write_records.Goals as goal
+use Rattle.rec_select.proofs.records.write_records.Goals.{then-collapse, else-collapse}
+
+pub write_blocks-requires : goal.write_blocks-requires
+write_blocks-requires g c =
+    let pieces = c.args.database.now in
+    let are = subst (AreRecords pieces) (sym c.deref.ensures.value) c.in_ok-records.ensures.records in
+    record {
+      within = records_within pieces c.elements.result.now c.deref.result.now c.elements.ensures.pieces are;
+      indexes = indexes_within pieces c.args.selected.now c.deref.result.now c.requires are;
+    }
+
+pub returns : goal.returns
+returns g c =
+    let pieces = c.args.database.now in
+    let selected = c.args.selected.now in
+    let shape = c.args.shape.now in
+    let collapse = c.args.collapse in
+    let separator = c.if-collapse.separator.now in
+    let are = subst (AreRecords pieces) (sym c.deref.ensures.value) c.in_ok-records.ensures.records in
+    let is : SeparatorIs collapse separator =
+    elim c.if-collapse.branch [
+      | then-collapse w ↦ inl (w.if-collapse.true, ap (λ s. s.now) w.separator-is)
+      | else-collapse w ↦ inr (w.if-collapse.false, ap (λ s. s.now) w.separator-is)
+    ] in
+    let printed = IsPrinted-blocks pieces _ c.deref.result.now selected shape collapse separator c.elements.ensures.pieces c.in_default.not-Count is are in
+    let answer = c.write_blocks.result in
+    let prints = c.write_blocks.ensures in
+    record {
+      printed = Puts-prints _ _ _ _ _ (IsPrinted pieces selected shape collapse) printed answer prints;
+      counted = counted-prints _ _ _ _ _ answer prints;
+      store_failed = store_failed-prints _ _ _ _ _ answer prints;
+      refusals = refusals-prints _ _ _ _ _ answer prints;
+    }

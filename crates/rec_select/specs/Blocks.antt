@@ -1,0 +1,34 @@
+-- The text of one record's block, and of blocks one after another.
+use Rattle.std.specs.Prelude.{ℕ, not, List, [], ◌∷◌, ◌++◌, map, filter, flat_map, if◌then◌else◌}
+use Rattle.rec_text.specs.Bytes.{is_nil}
+use Rattle.rec_text.specs.Elements.{Piece}
+use Rattle.rec_text.specs.Places.{pieces_of}
+use Rattle.rec_text.specs.Values.{value_of}
+use Rattle.rec_select.specs.declared.block.Block.{Block}
+use Rattle.rec_select.specs.declared.block.Block.TheVariants.{Fields, Elements, Values, Row}
+use Rattle.rec_select.specs.declared.records.Shape.TheVariants.{Blocks}
+use Rattle.rec_select.specs.Printing.{block_of, closed, row_of, value_line}
+
+-- a space, and a value
+abbrev pub spaced_value : Piece → List ℕ
+spaced_value piece = 32 ∷ value_of piece
+
+-- what a block prints
+abbrev pub text_of : Block → List ℕ
+text_of (Fields fields) = block_of Blocks (pieces_of fields.now)
+text_of (Elements elements) = flat_map closed (pieces_of elements.items)
+text_of (Values elements) = flat_map value_line (pieces_of elements.items)
+text_of (Row elements) = row_of (map value_of (pieces_of elements.items))
+
+-- a block behind a text; nothing where the block holds nothing
+abbrev pub behind : List ℕ → List ℕ → List ℕ
+behind before block = if is_nil block then [] else before ++ block
+
+-- the blocks that hold anything
+abbrev pub full : List (List ℕ) → List (List ℕ)
+full blocks = filter (λ block. not (is_nil block)) blocks
+
+-- blocks with a separator between each two
+abbrev pub separated : List ℕ → List (List ℕ) → List ℕ
+separated separator [] = []
+separated separator (block ∷ blocks) = block ++ flat_map (λ other. separator ++ other) blocks

@@ -1,0 +1,20 @@
+-- Filters in memory, and what they stand for.
+use Rattle.std.specs.Prelude.{◌≡◌, ℕ, true, List}
+use Rattle.rec_text.specs.Elements.{Piece}
+use Rattle.rec_text.specs.Records.{is_field_piece}
+use Rattle.rec_text.specs.Values.{value_of}
+use Rattle.rec_sex.specs.Searching.{searched}
+use Rattle.rec_select.specs.declared.filter.Filter.{Filter as Ready}
+use Rattle.rec_select.specs.declared.filter.Filter.TheVariants.{All, Expr, Index, Quick}
+use Rattle.rec_select.specs.Selection.{Filter, all, by_expression, at_places, with_text, Holds}
+
+-- the filter that one in memory stands for
+abbrev pub stands_for : Ready → Filter
+stands_for All = all
+stands_for (Expr search) = by_expression (searched search)
+stands_for (Index list) = at_places list.now
+stands_for (Quick text) = with_text text
+
+-- the element is a field whose value contains the text
+abbrev pub HasText : List ℕ → Piece → Type 0
+HasText text piece = (is_field_piece piece ≡ true) × Holds (value_of piece) text

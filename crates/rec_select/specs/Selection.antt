@@ -1,0 +1,93 @@
+-- The records that a selection takes: a set, and a filter of its members.
+use Rattle.std.specs.Prelude.{◌≡◌, ◌↔◌, ℕ, ◌-◌, ◌<◌, ◌≤◌, Bool, true, List, [], ◌∷◌, ◌++◌, Any, AllPairs, Contains, find, slice_get, nat_lt, Option, Some, None, Result, Ok, Err, if◌then◌else◌}
+use Rattle.std.specs.Option.{option_map_or}
+use Rattle.std.specs.declared.ops.Range.{Range}
+use Rattle.rec_text.specs.declared.fault.Fault.{Fault}
+use Rattle.rec_text.specs.declared.fault.Fault.TheVariants.{TypeNeeded, NoSuchType}
+use Rattle.rec_text.specs.Elements.{Piece}
+use Rattle.rec_text.specs.Records.{AreRecords, is_field_piece}
+use Rattle.rec_text.specs.Values.{value_of}
+use Rattle.rec_sex.specs.declared.index_list.Span.{Span}
+use Rattle.rec_sex.specs.Expressions.{term_of}
+use Rattle.rec_sex.specs.Grammar.{Term}
+use Rattle.rec_sex.specs.IndexList.{has}
+use Rattle.rec_sex.specs.Meaning.{Selects}
+use Rattle.rec_check.specs.declared.set.Set_.{Set_}
+use Rattle.rec_check.specs.Descriptors.{elements_in}
+use Rattle.rec_check.specs.Sets.{is_of_type}
+use Rattle.rec_select.specs.declared.selection.By.{By}
+use Rattle.rec_select.specs.declared.selection.By.TheVariants.{All, Expr, Index, Quick}
+
+-- ---- the set
+
+-- without a type: the untyped set where it has a record, or else the only typed one; there may be no typed one
+abbrev pub only_set : Set_ → List Set_ → Result Set_ Fault
+only_set untyped [] = Ok untyped
+only_set untyped (s ∷ []) = Ok s
+only_set untyped (s ∷ t ∷ sets) = Err TypeNeeded
+
+abbrev pub has_members : Set_ → Bool
+has_members s = nat_lt s.members.start s.members.end
+
+abbrev pub set_without_type : List Set_ → Result Set_ Fault
+set_without_type [] = Err TypeNeeded
+set_without_type (untyped ∷ typed) = if has_members untyped then Ok untyped else only_set untyped typed
+
+-- the set of a type
+abbrev pub set_of_type : List ℕ → List Set_ → Result Set_ Fault
+set_of_type kind sets = elim (find (is_of_type kind) sets) [ None ↦ Err NoSuchType | Some s ↦ Ok s ]
+
+-- the set that is selected from, or why there is none
+abbrev pub set_for : Option (List ℕ) → List Set_ → Result Set_ Fault
+set_for None sets = set_without_type sets
+set_for (Some kind) sets = set_of_type kind sets
+
+-- ---- the filter
+
+-- which members are selected: all; those that an expression selects; those at some places of the set, from 0; those
+-- with a value that holds a text
+pub data Filter : Type 0 where
+  all : Filter
+  by_expression : Term → Filter
+  at_places : List Span → Filter
+  with_text : List ℕ → Filter
+
+abbrev pub filter_of : By → Filter
+filter_of All = all
+filter_of (Expr e) = by_expression (term_of e)
+filter_of (Index list) = at_places list
+filter_of (Quick text) = with_text text
+
+-- the text stands somewhere in the value
+abbrev pub Holds : List ℕ → List ℕ → Type 0
+Holds value text = (front behind : List ℕ) × (value ≡ front ++ (text ++ behind))
+
+-- the member with these elements, at this place of its set, is selected
+abbrev pub Passes : Filter → List Piece → ℕ → Type 0
+Passes all pieces place = Unit {0}
+Passes (by_expression term) pieces place = Selects term pieces
+Passes (at_places spans) pieces place = has spans place ≡ true
+Passes (with_text text) pieces place = Any (λ piece. (is_field_piece piece ≡ true) × Holds (value_of piece) text) pieces
+
+-- ---- the selection
+
+-- the elements of the record of an index
+abbrev pub record_at : List Piece → List (Range ℕ) → ℕ → List Piece
+record_at pieces records i = option_map_or (elements_in pieces) (slice_get records i) []
+
+-- the members of a set that pass a filter, by their indexes among all records, in order
+pub record AreSelected (pieces : List Piece) (s : Set_) (wanted : Filter) (selected : List ℕ) : Type 0 where
+  pub records : List (Range ℕ)
+  pub are : AreRecords pieces records
+  pub ascending : AllPairs (λ a b. a < b) selected
+  pub members : (i : ℕ) → Contains selected i ↔ ((s.members.start ≤ i) × (i < s.members.end) × Passes wanted (record_at pieces records i) (i - s.members.start))
+
+-- the one answer to a selection, memory aside: the records, or why there is no set to select from
+abbrev pub IsSelection : List Piece → List Set_ → Option (List ℕ) → Filter → Result (List ℕ) Fault → Type 0
+IsSelection pieces sets kind wanted (Ok selected) = (s : Set_) × (set_for kind sets ≡ Ok s) × AreSelected pieces s wanted selected
+IsSelection pieces sets kind wanted (Err fault) = set_for kind sets ≡ Err fault
+
+-- a selection has one answer
+abbrev pub OneSelection : Type 0
+OneSelection = (pieces : List Piece) (sets : List Set_) (kind : Option (List ℕ)) (wanted : Filter) (one other : Result (List ℕ) Fault)
+    → IsSelection pieces sets kind wanted one → IsSelection pieces sets kind wanted other → one ≡ other

@@ -1,0 +1,213 @@
+//! What is printed of one record.
+ghost use Rattle.std.specs.Prelude.{◌≡◌, flat_map, map, IfOk, IfErr};
+ghost use Rattle.std.specs.List.{list_any};
+ghost use Rattle.rec_text.specs.Bytes.{ends_newline as newline_is_last};
+ghost use Rattle.rec_text.specs.Places.{piece_of, pieces_of};
+ghost use Rattle.rec_text.specs.Records.{is_field_piece};
+ghost use Rattle.rec_text.specs.Sink.{UnlessStoreFailed};
+ghost use Rattle.rec_text.specs.Values.{value_of};
+ghost use Rattle.rec_select.specs.declared.records.Shape.TheVariants.{Blocks};
+ghost use Rattle.rec_select.specs.Blocks.{spaced_value};
+ghost use Rattle.rec_select.specs.Printing.{block_of, closed, picked as picked_of, row_of, value_line};
+ghost use Rattle.rec_select.specs.Taken.{Prints};
+
+use crate::records::Shape;
+use rec_sex::FieldList;
+use rec_text::{Element, Fault, Kind, Sink, put_all};
+use std::alloc::Global;
+
+/// Whether a newline comes last.
+fn ends_newline(text: &[u8]) -> bool
+    ensures { result ≡ newline_is_last text.now }
+{
+    text.last() == Some(&b'\n')
+}
+
+/// Prints an element, with a newline at its end.
+fn write_closed<S: Sink>(element: &Element, out: &mut S) -> Result<(), Fault>
+    ensures printed { Prints (closed (piece_of element.now)) (S.contents out.old) (S.contents out.new) (S.failure_count out.old) (S.failure_count out.new) result }
+    ensures refusals { UnlessStoreFailed result }
+{
+    put_all(out, element.raw)?;
+    if ends_newline(element.raw) {
+        return Ok(());
+    }
+    put_all(out, b"\n")
+}
+
+/// Prints the fields among elements, each with a newline at its end.
+pub(crate) fn write_fields<S: Sink>(fields: &[Element], out: &mut S) -> Result<(), Fault>
+    ensures printed { Prints (block_of Blocks (pieces_of fields.now)) (S.contents out.old) (S.contents out.new) (S.failure_count out.old) (S.failure_count out.new) result }
+    ensures refusals { UnlessStoreFailed result }
+{
+    for field in fields {
+        if let Kind::Field = field.kind {
+            write_closed(field, out)?;
+        }
+    }
+    Ok(())
+}
+
+/// Prints elements, each with a newline at its end.
+fn write_elements<S: Sink>(elements: &[Element], out: &mut S) -> Result<(), Fault>
+    ensures { Prints (flat_map closed (pieces_of elements.now)) (S.contents out.old) (S.contents out.new) (S.failure_count out.old) (S.failure_count out.new) result }
+{
+    for element in elements {
+        write_closed(element, out)?;
+    }
+    Ok(())
+}
+
+/// Prints the value of an element.
+fn write_value<S: Sink>(alloc: Global, element: &Element, out: &mut S) -> Result<(), Fault>
+    ensures { Prints (value_of (piece_of element.now)) (S.contents out.old) (S.contents out.new) (S.failure_count out.old) (S.failure_count out.new) result }
+{
+    let value = element.value(alloc)?;
+    put_all(out, value.bytes())
+}
+
+/// Prints the value of an element, and a newline.
+fn write_value_line<S: Sink>(alloc: Global, element: &Element, out: &mut S) -> Result<(), Fault>
+    ensures { Prints (value_line (piece_of element.now)) (S.contents out.old) (S.contents out.new) (S.failure_count out.old) (S.failure_count out.new) result }
+{
+    write_value(alloc, element, out)?;
+    put_all(out, b"\n")
+}
+
+/// Prints the values of elements, each with a newline behind it.
+fn write_values<S: Sink>(alloc: Global, elements: &[Element], out: &mut S) -> Result<(), Fault>
+    ensures { Prints (flat_map value_line (pieces_of elements.now)) (S.contents out.old) (S.contents out.new) (S.failure_count out.old) (S.failure_count out.new) result }
+{
+    for element in elements {
+        write_value_line(alloc, element, out)?;
+    }
+    Ok(())
+}
+
+/// Prints the value of an element behind a space.
+fn write_spaced_value<S: Sink>(alloc: Global, element: &Element, out: &mut S) -> Result<(), Fault>
+    ensures { Prints (spaced_value (piece_of element.now)) (S.contents out.old) (S.contents out.new) (S.failure_count out.old) (S.failure_count out.new) result }
+{
+    put_all(out, b" ")?;
+    write_value(alloc, element, out)
+}
+
+/// Prints the values of elements, each behind a space.
+fn write_spaced_values<S: Sink>(
+    alloc: Global,
+    elements: &[Element],
+    out: &mut S,
+) -> Result<(), Fault>
+    ensures { Prints (flat_map spaced_value (pieces_of elements.now)) (S.contents out.old) (S.contents out.new) (S.failure_count out.old) (S.failure_count out.new) result }
+{
+    for element in elements {
+        write_spaced_value(alloc, element, out)?;
+    }
+    Ok(())
+}
+
+/// Prints the values of elements with a space between each two, and a newline.
+fn write_row<S: Sink>(alloc: Global, elements: &[Element], out: &mut S) -> Result<(), Fault>
+    ensures { Prints (row_of (map value_of (pieces_of elements.now))) (S.contents out.old) (S.contents out.new) (S.failure_count out.old) (S.failure_count out.new) result }
+{
+    let Some((first, others)) = elements.split_first() else {
+        return Ok(());
+    };
+    write_value(alloc, first, out)?;
+    write_spaced_values(alloc, others, out)?;
+    put_all(out, b"\n")
+}
+
+/// Whether a field is among elements.
+fn has_field(elements: &[Element]) -> bool
+    ensures { result ≡ list_any is_field_piece (pieces_of elements.now) }
+{
+    for element in elements {
+        if let Kind::Field = element.kind {
+            return true;
+        }
+    }
+    false
+}
+
+/// The elements of a record that a list picks, in the list's order.
+fn picked<'t>(
+    alloc: Global,
+    list: &FieldList,
+    fields: &[Element<'t>],
+) -> Result<Vec<Element<'t>>, Fault>
+    ensures picked { IfOk result (λ elements. pieces_of elements.items ≡ picked_of list.now (pieces_of fields.now)) }
+    ensures refusals { IfErr result (λ fault. fault ≡ Fault.OutOfMemory) }
+{
+    let places = list.picks(alloc, fields)?;
+    let mut elements = Vec::with_capacity(alloc, places.len())?;
+    for place in &places {
+        if let Some(field) = fields.get(*place) {
+            elements.push(*field)?;
+        }
+    }
+    Ok(elements)
+}
+
+/// What is printed of a record.
+#[derive(Drop)]
+pub(crate) enum Block<'f, 't> {
+    /// The fields among these, as they stand in the file.
+    Fields(&'f [Element<'t>]),
+    /// These, as they stand in the file.
+    Elements(Vec<Element<'t>>),
+    /// The values of these, one in a line.
+    Values(Vec<Element<'t>>),
+    /// The values of these in one line.
+    Row(Vec<Element<'t>>),
+}
+
+impl<'f, 't> Block<'f, 't> {
+    ghost use Rattle.std.specs.Prelude.{◌≡◌, IfOk, IfErr};
+    ghost use Rattle.rec_text.specs.Bytes.{is_nil};
+    ghost use Rattle.rec_text.specs.Places.{pieces_of};
+    ghost use Rattle.rec_select.specs.Blocks.{text_of};
+    ghost use Rattle.rec_select.specs.Printing.{block_of};
+    ghost use Rattle.rec_select.specs.Taken.{Prints};
+
+    /// What is printed of the record with these elements.
+    pub(crate) fn of(
+        alloc: Global,
+        fields: &'f [Element<'t>],
+        shape: &Shape,
+    ) -> Result<Block<'f, 't>, Fault>
+        ensures text { IfOk result (λ block. text_of block ≡ block_of shape.now (pieces_of fields.now)) }
+        ensures refusals { IfErr result (λ fault. fault ≡ Fault.OutOfMemory) }
+    {
+        match shape {
+            Shape::Blocks => Ok(Block::Fields(fields)),
+            Shape::Print(list) => Ok(Block::Elements(picked(alloc, list, fields)?)),
+            Shape::Values(list) => Ok(Block::Values(picked(alloc, list, fields)?)),
+            Shape::Row(list) => Ok(Block::Row(picked(alloc, list, fields)?)),
+            Shape::Count => Ok(Block::Fields(&[])),
+        }
+    }
+
+    /// Whether nothing is printed.
+    pub(crate) fn is_empty(&self) -> bool
+        ensures { result ≡ is_nil (text_of self.now) }
+    {
+        match self {
+            Block::Fields(fields) => !has_field(fields),
+            Block::Elements(elements) => elements.is_empty(),
+            Block::Values(elements) => elements.is_empty(),
+            Block::Row(elements) => elements.is_empty(),
+        }
+    }
+
+    pub(crate) fn write<S: Sink>(&self, alloc: Global, out: &mut S) -> Result<(), Fault>
+        ensures { Prints (text_of self.now) (S.contents out.old) (S.contents out.new) (S.failure_count out.old) (S.failure_count out.new) result }
+    {
+        match self {
+            Block::Fields(fields) => write_fields(fields, out),
+            Block::Elements(elements) => write_elements(elements, out),
+            Block::Values(elements) => write_values(alloc, elements, out),
+            Block::Row(elements) => write_row(alloc, elements, out),
+        }
+    }
+}

@@ -1,0 +1,77 @@
+//! Finds the records that a selection takes.
+ghost use Rattle.std.specs.Prelude.{◌≡◌, ℕ, List, Bool, Result, Ok, Err, IfOk, IfErr, MatchResult};
+ghost use Rattle.rec_text.specs.declared.fault.Fault.{Fault};
+ghost use Rattle.rec_text.specs.Faults.{IsMemoryOr};
+ghost use Rattle.rec_check.specs.Schemas.{IsSchema};
+ghost use Rattle.rec_select.specs.Printing.{AreIndexes};
+ghost use Rattle.rec_select.specs.Selection.{IsSelection, filter_of, has_members, set_without_type, set_of_type, set_for};
+
+use crate::filter::Filter;
+use crate::selection::Selection;
+use rec_check::{Schema, Set_};
+use rec_text::{Bytes, Database, Fault};
+use std::alloc::Global;
+
+fn has_records(set: &Set_) -> bool
+    ensures { result ≡ has_members set.now }
+{
+    set.members.start < set.members.end
+}
+
+/// The set that is meant where no type is given.
+fn meant_set(sets: &[Set_]) -> Result<&Set_, Fault>
+    ensures { MatchResult result (λ set. set_without_type sets.now ≡ Ok set.now) (λ fault. set_without_type sets.now ≡ Err fault) }
+{
+    match sets {
+        [untyped, ..] if has_records(untyped) => Ok(untyped),
+        [only] | [_, only] => Ok(only),
+        _ => Err(Fault::TypeNeeded),
+    }
+}
+
+fn typed_set<'s>(schema: &'s Schema, kind: &[u8]) -> Result<&'s Set_, Fault>
+    ensures { MatchResult result (λ set. set_of_type kind.now schema.now.sets ≡ Ok set.now) (λ fault. set_of_type kind.now schema.now.sets ≡ Err fault) }
+{
+    match schema.set_of_type(kind) {
+        Some(place) => Ok(&schema.sets()[place]),
+        None => Err(Fault::NoSuchType),
+    }
+}
+
+/// The set that is selected from.
+fn set_of<'s>(schema: &'s Schema, kind: &Option<Bytes>) -> Result<&'s Set_, Fault>
+    ensures { MatchResult result (λ set. set_for kind.now schema.now.sets ≡ Ok set.now) (λ fault. set_for kind.now schema.now.sets ≡ Err fault) }
+{
+    match kind {
+        Some(kind) => typed_set(schema, kind.as_slice()),
+        None => meant_set(schema.sets()),
+    }
+}
+
+/// The records that a selection takes, as ascending indexes into the list of records. A descriptor is never taken.
+pub fn choose(
+    alloc: Global,
+    database: &Database,
+    schema: &Schema,
+    selection: &Selection,
+) -> Result<Vec<usize>, Fault>
+    requires { IsSchema database.now (Ok schema.now) }
+    ensures selected { IfOk result (λ selected. IsSelection database.now schema.now.sets selection.now.kind (filter_of selection.now.by) (Ok selected.items)) }
+    ensures indexes { IfOk result (λ selected. AreIndexes database.now selected.items) }
+    ensures refused { IfErr result (λ fault. IsMemoryOr fault (IsSelection database.now schema.now.sets selection.now.kind (filter_of selection.now.by) (Err fault))) }
+    ensures only { (other : Result (List ℕ) Fault) → IsSelection database.now schema.now.sets selection.now.kind (filter_of selection.now.by) other → MatchResult result (λ selected. other ≡ Ok selected.items) (λ fault. IsMemoryOr fault (other ≡ Err fault)) }
+{
+    let members = &set_of(schema, &selection.kind)?.members;
+    let mut filter = Filter::of(alloc, &selection.by)?;
+    let elements = database.elements();
+    let mut selected = Vec::new(alloc);
+    for (index, record) in database.records().enumerate().take(members.end) {
+        if index >= members.start {
+            let fields = &elements[record];
+            if filter.passes(alloc, fields, index - members.start)? {
+                selected.push(index)?;
+            }
+        }
+    }
+    Ok(selected)
+}

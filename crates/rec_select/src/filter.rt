@@ -1,0 +1,82 @@
+//! Filters, ready to be tried on many records.
+ghost use Rattle.std.specs.Prelude.{◌≡◌, ◌↔◌, Any, IsTrue, IfOk, IfErr};
+ghost use Rattle.rec_text.specs.Places.{piece_of, pieces_of};
+ghost use Rattle.rec_select.specs.Filters.{HasText};
+
+use crate::selection::By;
+use memchr::memmem::Finder;
+use rec_sex::{IndexList, Search};
+use rec_text::{Element, Fault, Kind};
+use std::alloc::Global;
+
+/// Which members of a set are selected. What an expression or a text is searched with is made once.
+#[derive(Drop)]
+pub(crate) enum Filter<'s> {
+    All,
+    Expr(Search<'s>),
+    Index(&'s IndexList),
+    Quick(Finder<'s>),
+}
+
+/// Whether an element is a field whose value contains a text.
+fn has_text(alloc: Global, element: &Element, text: &Finder) -> Result<bool, Fault>
+    ensures has { IfOk result (λ answer. IsTrue answer ↔ HasText text.now (piece_of element.now)) }
+    ensures refusals { IfErr result (λ fault. fault ≡ Fault.OutOfMemory) }
+{
+    let Kind::Field = element.kind else {
+        return Ok(false);
+    };
+    let value = element.value(alloc)?;
+    Ok(text.find(value.bytes()).is_some())
+}
+
+/// Whether some element is a field whose value contains a text.
+fn any_has_text(alloc: Global, fields: &[Element], text: &Finder) -> Result<bool, Fault>
+    ensures has { IfOk result (λ answer. IsTrue answer ↔ Any (HasText text.now) (pieces_of fields.now)) }
+    ensures refusals { IfErr result (λ fault. fault ≡ Fault.OutOfMemory) }
+{
+    for element in fields {
+        if has_text(alloc, element, text)? {
+            return Ok(true);
+        }
+    }
+    Ok(false)
+}
+
+impl<'s> Filter<'s> {
+    ghost use Rattle.std.specs.Prelude.{◌≡◌, ◌↔◌, IsTrue, IfOk, IfErr};
+    ghost use Rattle.rec_text.specs.Places.{pieces_of};
+    ghost use Rattle.rec_select.specs.Selection.{filter_of, Passes};
+    ghost use Rattle.rec_select.specs.Filters.{stands_for};
+
+    pub(crate) fn of(alloc: Global, by: &'s By) -> Result<Filter<'s>, Fault>
+        ensures filter { IfOk result (λ filter. stands_for filter ≡ filter_of by.now) }
+        ensures refusals { IfErr result (λ fault. fault ≡ Fault.OutOfMemory) }
+    {
+        match by {
+            By::All => Ok(Filter::All),
+            By::Expr(expr) => Ok(Filter::Expr(expr.search(alloc)?)),
+            By::Index(list) => Ok(Filter::Index(list)),
+            By::Quick(text) => Ok(Filter::Quick(Finder::new(text.as_slice()))),
+        }
+    }
+
+    /// Whether the member with these elements, at this place of its set, is selected.
+    pub(crate) fn passes(
+        &mut self,
+        alloc: Global,
+        fields: &[Element],
+        place: usize,
+    ) -> Result<bool, Fault>
+        ensures passes { IfOk result (λ answer. IsTrue answer ↔ Passes (stands_for self.old) (pieces_of fields.now) place) }
+        ensures same { stands_for self.new ≡ stands_for self.old }
+        ensures refusals { IfErr result (λ fault. fault ≡ Fault.OutOfMemory) }
+    {
+        match self {
+            Filter::All => Ok(true),
+            Filter::Expr(search) => search.selects(alloc, fields),
+            Filter::Index(list) => Ok(list.has(place)),
+            Filter::Quick(text) => any_has_text(alloc, fields, text),
+        }
+    }
+}

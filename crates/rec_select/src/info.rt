@@ -1,0 +1,177 @@
+//! Prints what record sets a text has.
+ghost use Rattle.std.specs.Prelude.{◌≡◌, ◌⊎◌, ◌≤◌, ◌++◌, ◌∷◌, [], ℕ, if◌then◌else◌, flat_map, length, List, Ok, Err, IfErr, IsErrOf, MatchResult, option_map};
+ghost use Rattle.std.specs.declared.ops.Range.{Range};
+ghost use Rattle.rec_text.specs.Places.{pieces_of};
+ghost use Rattle.rec_text.specs.Records.{AreRecords};
+ghost use Rattle.rec_text.specs.Sink.{HasRisen, UnlessStoreFailed};
+ghost use Rattle.rec_check.specs.Descriptors.{elements_in};
+ghost use Rattle.rec_check.specs.Schemas.{IsSchema};
+ghost use Rattle.rec_select.specs.declared.info.InfoForm.TheVariants.{Descriptors};
+ghost use Rattle.rec_select.specs.declared.records.Shape.TheVariants.{Blocks};
+ghost use Rattle.rec_select.specs.Heads.{AreHeads};
+ghost use Rattle.rec_select.specs.Info.{IsInfo, count_line, name_line, info, sets_for};
+ghost use Rattle.rec_select.specs.Printing.{Puts, block_of};
+ghost use Rattle.rec_select.specs.Taken.{Prints};
+
+use crate::block::write_fields;
+use itoa::Buffer;
+use rec_check::{Schema, Set_};
+use rec_text::{Database, Element, Fault, Sink, put_all};
+use std::ops::Range;
+use std::slice;
+
+/// What is printed of each set.
+#[derive(Clone, Copy, Debug, PartialEq, Eq)]
+pub enum InfoForm {
+    /// How many records it holds, and its type.
+    Counts,
+    /// Its type.
+    Names,
+    /// Its descriptor.
+    Descriptors,
+}
+
+/// All sets, or that of a type.
+fn sets_for<'s>(schema: &'s Schema, kind: Option<&[u8]>) -> Result<&'s [Set_], Fault>
+    ensures { MatchResult result (λ kept. sets_for (option_map (λ kind. kind.now) kind.entry) schema.now.sets ≡ Ok kept.now) (λ fault. sets_for (option_map (λ kind. kind.now) kind.entry) schema.now.sets ≡ Err fault) }
+{
+    let Some(kind) = kind else {
+        return Ok(schema.sets());
+    };
+    match schema.set_of_type(kind) {
+        Some(place) => Ok(slice::from_ref(&schema.sets()[place])),
+        None => Err(Fault::NoSuchType),
+    }
+}
+
+/// Puts some parts of a text to a sink, one after another.
+fn put_parts<S: Sink>(out: &mut S, parts: &[&[u8]]) -> Result<(), Fault>
+    ensures printed { Prints (flat_map (λ part. part.now) parts.now) (S.contents out.old) (S.contents out.new) (S.failure_count out.old) (S.failure_count out.new) result }
+    ensures refusals { UnlessStoreFailed result }
+{
+    for part in parts {
+        put_all(out, part)?;
+    }
+    Ok(())
+}
+
+fn write_count<S: Sink>(set: &Set_, out: &mut S) -> Result<(), Fault>
+    ensures printed { Prints (count_line set.now) (S.contents out.old) (S.contents out.new) (S.failure_count out.old) (S.failure_count out.new) result }
+    ensures refusals { UnlessStoreFailed result }
+{
+    let size = set.members.len();
+    let mut buffer = Buffer::new();
+    let number = buffer.format(size).as_bytes();
+    match &set.kind {
+        Some(kind) => put_parts(out, &[number, b" ", kind.as_slice(), b"\n"]),
+        None if size > 0 => put_parts(out, &[number, b"\n"]),
+        None => Ok(()),
+    }
+}
+
+fn write_name<S: Sink>(set: &Set_, out: &mut S) -> Result<(), Fault>
+    ensures printed { Prints (name_line set.now) (S.contents out.old) (S.contents out.new) (S.failure_count out.old) (S.failure_count out.new) result }
+    ensures refusals { UnlessStoreFailed result }
+{
+    match &set.kind {
+        Some(kind) => put_parts(out, &[kind.as_slice(), b"\n"]),
+        None => Ok(()),
+    }
+}
+
+fn write_counts<S: Sink>(sets: &[Set_], out: &mut S) -> Result<(), Fault>
+    ensures printed { Prints (flat_map count_line sets.now) (S.contents out.old) (S.contents out.new) (S.failure_count out.old) (S.failure_count out.new) result }
+    ensures refusals { UnlessStoreFailed result }
+{
+    for set in sets {
+        write_count(set, out)?;
+    }
+    Ok(())
+}
+
+fn write_names<S: Sink>(sets: &[Set_], out: &mut S) -> Result<(), Fault>
+    ensures printed { Prints (flat_map name_line sets.now) (S.contents out.old) (S.contents out.new) (S.failure_count out.old) (S.failure_count out.new) result }
+    ensures refusals { UnlessStoreFailed result }
+{
+    for set in sets {
+        write_name(set, out)?;
+    }
+    Ok(())
+}
+
+/// The elements of a record.
+fn elements_of<'d, 't>(elements: &'d [Element<'t>], fields: Range<usize>) -> &'d [Element<'t>]
+    requires ordered { fields.start ≤ fields.end }
+    requires within { fields.end ≤ length elements.now }
+    ensures { pieces_of result.now ≡ elements_in (pieces_of elements.now) fields }
+{
+    &elements[fields]
+}
+
+/// Prints a record, after an empty line unless it is the first.
+fn write_next_block<S: Sink>(elements: &[Element], is_first: bool, out: &mut S) -> Result<(), Fault>
+    ensures printed { Prints ((if is_first then [] else 10 ∷ []) ++ block_of Blocks (pieces_of elements.now)) (S.contents out.old) (S.contents out.new) (S.failure_count out.old) (S.failure_count out.new) result }
+    ensures refusals { UnlessStoreFailed result }
+{
+    if !is_first {
+        put_all(out, b"\n")?;
+    }
+    write_fields(elements, out)
+}
+
+/// Prints the descriptors of sets that stand in file order, in one walk over the records.
+fn write_descriptors<S: Sink>(database: &Database, sets: &[Set_], out: &mut S) -> Result<(), Fault>
+    requires { AreHeads database.now sets.now }
+    ensures printed { (records : List (Range ℕ)) → AreRecords database.now records → Prints (info Descriptors database.now records sets.now) (S.contents out.old) (S.contents out.new) (S.failure_count out.old) (S.failure_count out.new) result }
+    ensures refusals { UnlessStoreFailed result }
+{
+    let elements = database.elements();
+    let mut records = database.records();
+    let mut passed = 0;
+    for set in sets {
+        let Some(head) = set.head else {
+            continue;
+        };
+        let Some(fields) = records.nth(head - passed) else {
+            continue;
+        };
+        write_next_block(elements_of(elements, fields), passed == 0, out)?;
+        passed = head + 1;
+    }
+    Ok(())
+}
+
+fn write_sets<S: Sink>(
+    database: &Database,
+    sets: &[Set_],
+    form: InfoForm,
+    out: &mut S,
+) -> Result<(), Fault>
+    requires { AreHeads database.now sets.now }
+    ensures printed { (records : List (Range ℕ)) → AreRecords database.now records → Prints (info form database.now records sets.now) (S.contents out.old) (S.contents out.new) (S.failure_count out.old) (S.failure_count out.new) result }
+    ensures refusals { UnlessStoreFailed result }
+{
+    match form {
+        InfoForm::Counts => write_counts(sets, out),
+        InfoForm::Names => write_names(sets, out),
+        InfoForm::Descriptors => write_descriptors(database, sets, out),
+    }
+}
+
+/// Prints what sets there are, or what the set of a type is.
+pub fn write_info<S: Sink>(
+    database: &Database,
+    schema: &Schema,
+    kind: Option<&[u8]>,
+    form: InfoForm,
+    out: &mut S,
+) -> Result<(), Fault>
+    requires { IsSchema database.now (Ok schema.now) }
+    ensures printed { Puts (IsInfo database.now schema.now.sets (option_map (λ kind. kind.now) kind.entry) form) (S.contents out.old) (S.contents out.new) result }
+    ensures counted { S.failure_count out.old ≤ S.failure_count out.new }
+    ensures store_failed { IsErrOf result Fault.StoreFailed → HasRisen (S.failure_count out.old) (S.failure_count out.new) }
+    ensures refusals { IfErr result (λ fault. (fault ≡ Fault.NoSuchType) ⊎ (fault ≡ Fault.StoreFailed)) }
+{
+    let sets = sets_for(schema, kind)?;
+    write_sets(database, sets, form, out)
+}

@@ -1,0 +1,140 @@
+//! Prints records.
+ghost use Rattle.std.specs.Prelude.{◌≡◌, ◌⊎◌, ◌<◌, ◌≤◌, not, length, map, IfOk, IfErr, IsErrOf};
+ghost use Rattle.std.specs.List.{AllByRecursion};
+ghost use Rattle.rec_text.specs.Bytes.{is_nil};
+ghost use Rattle.rec_text.specs.Places.{pieces_of};
+ghost use Rattle.rec_text.specs.Records.{AreRecords};
+ghost use Rattle.rec_text.specs.Scanned.{IsWithin};
+ghost use Rattle.rec_text.specs.Sink.{HasRisen};
+ghost use Rattle.rec_select.specs.Selection.{record_at};
+ghost use Rattle.rec_select.specs.Blocks.{behind, full, separated};
+ghost use Rattle.rec_select.specs.Printing.{AreIndexes, IsPrinted, Puts, block_of, number_line};
+ghost use Rattle.rec_select.specs.Taken.{Prints};
+
+use crate::block::Block;
+use itoa::Buffer;
+use rec_sex::FieldList;
+use rec_text::{Database, Element, Fault, Sink, put_all};
+use std::alloc::Global;
+use std::ops::Range;
+
+/// What is printed of each record.
+#[derive(Drop)]
+pub enum Shape {
+    /// All its fields, as they stand in the file.
+    Blocks,
+    /// The fields that a list picks, as they stand in the file.
+    Print(FieldList),
+    /// The values of these, one in a line.
+    Values(FieldList),
+    /// The values of these in one line.
+    Row(FieldList),
+    /// Nothing: the number of the records is printed instead.
+    Count,
+}
+
+/// Prints a number, and a newline.
+fn write_number<S: Sink>(number: usize, out: &mut S) -> Result<(), Fault>
+    ensures { Prints (number_line number) (S.contents out.old) (S.contents out.new) (S.failure_count out.old) (S.failure_count out.new) result }
+{
+    let mut buffer = Buffer::new();
+    put_all(out, buffer.format(number).as_bytes())?;
+    put_all(out, b"\n")
+}
+
+/// Prints a record's block behind `before`, where it holds anything, and tells whether it does.
+fn write_block<S: Sink>(
+    alloc: Global,
+    before: &[u8],
+    fields: &[Element],
+    shape: &Shape,
+    out: &mut S,
+) -> Result<bool, Fault>
+    ensures printed { Prints (behind before.now (block_of shape.now (pieces_of fields.now))) (S.contents out.old) (S.contents out.new) (S.failure_count out.old) (S.failure_count out.new) result }
+    ensures holds { IfOk result (λ holds. holds ≡ not (is_nil (block_of shape.now (pieces_of fields.now)))) }
+{
+    let block = Block::of(alloc, fields, shape)?;
+    if block.is_empty() {
+        return Ok(false);
+    }
+    put_all(out, before)?;
+    block.write(alloc, out)?;
+    Ok(true)
+}
+
+/// The elements of the record of an index.
+fn elements_of<'d, 't>(
+    elements: &'d [Element<'t>],
+    records: &[Range<usize>],
+    index: usize,
+) -> &'d [Element<'t>]
+    requires within { AllByRecursion (IsWithin (length elements.now)) records.now }
+    requires some { index < length records.now }
+    ensures { pieces_of result.now ≡ record_at (pieces_of elements.now) records.now index }
+{
+    let record = &records[index];
+    &elements[record.start..record.end]
+}
+
+/// Prints the blocks that hold anything, with a separator between each two.
+fn write_blocks<S: Sink>(
+    alloc: Global,
+    elements: &[Element],
+    records: &[Range<usize>],
+    selected: &[usize],
+    shape: &Shape,
+    separator: &[u8],
+    out: &mut S,
+) -> Result<(), Fault>
+    requires within { AllByRecursion (IsWithin (length elements.now)) records.now }
+    requires indexes { AllByRecursion (λ i. i < length records.now) selected.now }
+    ensures { Prints (separated separator.now (full (map (λ i. block_of shape.now (record_at (pieces_of elements.now) records.now i)) selected.now))) (S.contents out.old) (S.contents out.new) (S.failure_count out.old) (S.failure_count out.new) result }
+{
+    let mut before: &[u8] = b"";
+    for index in selected {
+        let fields = elements_of(elements, records, *index);
+        if write_block(alloc, before, fields, shape, out)? {
+            before = separator;
+        }
+    }
+    Ok(())
+}
+
+/// The records of a text, as ranges of element indexes.
+pub(crate) fn records_of(alloc: Global, database: &Database) -> Result<Vec<Range<usize>>, Fault>
+    ensures records { IfOk result (λ records. AreRecords database.now records.items) }
+    ensures refusals { IfErr result (λ fault. fault ≡ Fault.OutOfMemory) }
+{
+    Ok(database.records().collect(alloc)?)
+}
+
+/// Prints the records of these indexes into the list of records. With `collapse` no empty line stands between them.
+pub fn write_records<S: Sink>(
+    alloc: Global,
+    database: &Database,
+    selected: &[usize],
+    shape: &Shape,
+    collapse: bool,
+    out: &mut S,
+) -> Result<(), Fault>
+    requires { AreIndexes database.now selected.now }
+    ensures printed { Puts (IsPrinted database.now selected.now shape.now collapse) (S.contents out.old) (S.contents out.new) result }
+    ensures counted { S.failure_count out.old ≤ S.failure_count out.new }
+    ensures store_failed { IsErrOf result Fault.StoreFailed → HasRisen (S.failure_count out.old) (S.failure_count out.new) }
+    ensures refusals { IfErr result (λ fault. (fault ≡ Fault.OutOfMemory) ⊎ (fault ≡ Fault.StoreFailed)) }
+{
+    if let Shape::Count = shape {
+        return write_number(selected.len(), out);
+    }
+    let records = records_of(alloc, database)?;
+    let separator: &[u8] = if collapse { b"" } else { b"\n" };
+    write_blocks(
+        alloc,
+        database.elements(),
+        &records,
+        selected,
+        shape,
+        separator,
+        out,
+    )
+}

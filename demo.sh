@@ -1,5 +1,5 @@
 #!/usr/bin/env bash
-# Builds recu and deletes a record of a copy of sample/contacts.rec, then takes it back.
+# Builds recu, selects records of a copy of sample/contacts.rec, deletes one, and takes it back.
 set -euo pipefail
 cd "$(dirname "$0")"
 recu=$PWD/crates/recu/out/recu
@@ -18,3 +18,5 @@ show 'contacts.rec'
 show 'after: recu recdel -n 1 contacts.rec'
 "$recu" undo contacts.rec
 show 'after: recu undo contacts.rec'
+echo "--- recu recsel -e \"#Phone || Note ~ 'second'\" -P Name contacts.rec"
+"$recu" recsel -e "#Phone || Note ~ 'second'" -P Name contacts.rec

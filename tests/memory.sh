@@ -92,3 +92,38 @@ printf 'A: 1\n\nC: 3\n' > after.rec
 run recdel after.rec recdel -n 1
 cp db.rec db.rec.journal start/
 run undo before.rec undo
+
+# show NAME PRINTED WORD..: the same of a command that prints, which puts out the whole text or a front of it
+show() {
+    local name=$1 printed=$2 status
+    shift 2
+    for n in $(seq 1 100000); do
+        rm -f hit
+        FAILS=$n LD_PRELOAD=$PWD/failing.so "$program" "$@" people.rec > out 2> err
+        status=$?
+        case "$status/$(tail -n 1 err)" in
+            0/*) cmp -s out "$printed" || fail "$name" 'another text' ;;
+            '1/recu: out of memory' | 1/) head -c "$(stat -c %s out)" "$printed" | cmp -s - out || fail "$name" 'no front of the text' ;;
+            *) fail "$name" "status $status: $(cat err)" ;;
+        esac
+        cmp -s people.rec people.kept || fail "$name" 'the file was changed'
+        if [ ! -e hit ]; then
+            [ "$status" = 0 ] || fail "$name" 'refused without a failing allocation'
+            return
+        fi
+    done
+    fail "$name" 'no end'
+}
+
+printf 'X: 1\n\n%%rec: P\n%%doc: people\n\nN: a\nM: x\\\ny\nM: 2\n\nN: b\nM: 3\n\nN: c\n' > people.rec
+cp people.rec people.kept
+printf 'a xy 2\n\nb 3\n' > row
+show 'recsel -e' row recsel -t P -e "M ~ '^[x3]' && #M > 0 && N & M != 'c'" -R N,M
+printf 'M: x\\\ny\nM: 2\n' > joined
+show 'recsel -q' joined recsel -t P -q xy -p M
+printf 'b\nc\n' > values
+show 'recsel -n' values recsel -t P -n 1-2 -P N -C
+printf '1\n3 P\n' > counts
+show 'recinf' counts recinf
+printf '%%rec: P\n%%doc: people\n' > descriptors
+show 'recinf -d' descriptors recinf -t P -d

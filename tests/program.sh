@@ -7,6 +7,7 @@ program=$(realpath "${1:-$(dirname "$0")/../crates/recu/out/recu}") || exit 1
 folder=$(mktemp -d) || exit 1
 work=$folder/work
 holder=
+input=
 as_user=()
 trap 'if [ -n "$holder" ]; then kill "$holder"; fi 2>/dev/null; chmod -R u+rwx "$folder"; rm -rf "$folder"' EXIT
 cp "$program" "$folder/recu" || exit 1
@@ -33,11 +34,11 @@ put() {
     printf '%b' "$2" >"$1"
 }
 
-# run STATUS WORD..
+# run STATUS WORD.., with the file $input on standard input, or nothing
 run() {
     local wanted=$1 status=0
     shift
-    "${as_user[@]}" "$folder/recu" "$@" >"$folder/out" 2>"$folder/err" </dev/null || status=$?
+    "${as_user[@]}" "$folder/recu" "$@" >"$folder/out" 2>"$folder/err" <"${input:-/dev/null}" || status=$?
     [ "$status" = "$wanted" ] || fail "recu $* ended with status $status: $(cat "$folder/err")"
 }
 
@@ -139,11 +140,17 @@ help_and_version() {
         grep -q 'FILE.new' "$folder/out" || fail "recu $words does not name FILE.new"
         [ ! -s "$folder/err" ] || fail "recu $words prints on standard error"
     done
+    for words in 'help recsel' 'help recinf' 'recsel --help' 'recsel -h' 'recsel -c -h' 'recinf --help' 'recinf -h'; do
+        run 0 $words
+        grep -q 'Usage: recu rec[a-z]* \[OPTIONS\] \[FILE\]' "$folder/out" || fail "recu $words prints no usage"
+        [ ! -s "$folder/err" ] || fail "recu $words prints on standard error"
+    done
     for words in --version -V; do
         run 0 $words
         prints 'recu 0.1.0\n' ''
     done
-    for words in 'recdel --version' 'recdel -V' 'undo --version' 'undo -V'; do
+    for words in 'recsel --version' 'recsel -V' 'recinf --version' 'recinf -V' 'recdel --version' 'recdel -V' 'undo --version' \
+        'undo -V'; do
         run 0 $words
         [ -s "$folder/out" ] && [ ! -s "$folder/err" ] || fail "recu $words prints no version"
     done
@@ -162,7 +169,13 @@ bad_usage() {
     for words in '' db.rec 'recdel' 'recdel db.rec' 'recdel -n 0' 'recdel -n 0 db.rec x' 'recdel -n 0 -n 0 db.rec' \
         'recdel -n -1 db.rec' 'recdel --num 0 db.rec' 'recdel -n' 'recdel --force -n 0 db.rec' '-n 0 recdel db.rec' \
         'recd -n 0 db.rec' 'undo' 'undo db.rec x' 'undo --journal db.rec db.rec' 'undo --journal db.rec.new db.rec' \
-        'recdel -n 0 --journal j j.new' 'undo --journal a --journal b db.rec' 'undo --help=x' 'help x'; do
+        'recdel -n 0 --journal j j.new' 'undo --journal a --journal b db.rec' 'undo --help=x' 'help x' \
+        'recsel db.rec x' 'recsel -e' 'recsel -e -5 db.rec' 'recsel -c -c db.rec' 'recsel -cc db.rec' 'recsel -c=1 db.rec' \
+        'recsel --count=x db.rec' 'recsel --coun db.rec' 'recsel --journal j db.rec' 'recsel -d db.rec' '-c recsel db.rec' \
+        'recsel -e A -n 0 db.rec' 'recsel -e A -q 1 db.rec' 'recsel -n 0 -q 1 db.rec' 'recsel -p A -c db.rec' \
+        'recsel -p A -P A db.rec' 'recsel -p A -R A db.rec' 'recsel -P A -R A db.rec' 'recsel -P A -c db.rec' 'recsel -R A -c db.rec' \
+        'recinf db.rec x' 'recinf -t' 'recinf -d -n db.rec' 'recinf -nn db.rec' 'recinf -n=1 db.rec' 'recinf --names db.rec' \
+        'recinf -c db.rec' 'recinf --journal j db.rec' 'recse db.rec'; do
         run 1 $words
         refuses_usage
     done
@@ -172,6 +185,12 @@ bad_usage() {
     refuses_usage
     run 1 undo --journal db.rec db.rec
     prints '' '--journal: FILE and PATH are one path, or one is the other with .new appended\nrecu: bad usage\n'
+    run 1 recsel -e A -n 0 db.rec
+    prints '' 'only one of --expression, --number and --quick can be given\nrecu: bad usage\n'
+    run 1 recsel -p A -c db.rec
+    prints '' 'only one of --print, --print-values, --print-row and --count can be given\nrecu: bad usage\n'
+    run 1 recinf -dn db.rec
+    prints '' 'only one of --descriptor and --names-only can be given\nrecu: bad usage\n'
     has db.rec "$three"
     only db.rec j.new
 }
@@ -493,7 +512,198 @@ layouts() {
         '# \0377\0000\t\n \t \n#\n\n\t\n# z\nD: 1\nE: 2'
 }
 
+# shows TEXT OUT WORD..: the words print this of a file with this text, and of the text on standard input
+shows() {
+    local text=$1 out=$2
+    shift 2
+    put db.rec "$text"
+    run 0 "$@" db.rec
+    prints "$out" ''
+    input=db.rec run 0 "$@"
+    prints "$out" ''
+    has db.rec "$text"
+    only db.rec
+}
+
+# refuses TEXT LINE WORD..: the words are refused with this line
+refuses() {
+    local text=$1 line=$2
+    shift 2
+    put db.rec "$text"
+    run 1 "$@" db.rec
+    prints '' "recu: $line\n"
+    input=db.rec run 1 "$@"
+    prints '' "recu: $line\n"
+    has db.rec "$text"
+    only db.rec
+}
+
+# selects TEXT COUNT EXPRESSION: the expression selects so many records
+selects() {
+    shows "$1" "$2\n" recsel -c -e "$3"
+}
+
+records() {
+    begin 'which records are printed'
+    local two='A: 1\n\nB: 2\n'
+    shows "$two" "$two" recsel
+    shows "$two" "$two" recsel -q ''
+    shows "$two" "$two" recsel -n 1,0
+    shows "$two" 'B: 2\n' recsel -n 1
+    shows "$two" 'B: 2\n' recsel -q 2
+    shows "$two" 'A: 1\n' recsel -e 'A = 1'
+    shows "$two" 'A: 1\nB: 2\n' recsel -C
+    shows "$two" '' recsel -p Z
+    shows "$two" 'A: 1\nA: 1\n' recsel -p A,A -n 0
+    shows '' '' recinf
+    shows '' '' recsel
+    shows '' '0\n' recsel -c
+
+    begin 'fields of records'
+    local person='Name: A\nEmail: a@x.org\nEmail: a@y.net\n'
+    selects "$person" 0 "Email ~ 'org' && Email ~ 'net'"
+    selects "$person" 1 "Email[0] ~ 'org' && Email[1] ~ 'net'"
+    selects "$person" 1 '#Email = 2'
+    selects "$person" 1 "Email ~ 'net'"
+    shows "$person" 'A a@y.net\n' recsel -R 'Name,Email[1]'
+
+    begin 'numbers'
+    local age='Age: 5\n'
+    selects "$age" 0 'Age / 0 = 1 || 1 = 1'
+    selects "$age" 0 '9223372036854775807 + 1 > 0'
+    selects "$age" 1 'Age + 1 = 6'
+    selects "$age" 1 'Town = 3 || Age = 5'
+    selects "$age" 0 'Town + 0 = 0'
+    selects "$age" 0 '1 = 1 || Age / 0 = 1'
+    selects "$age" 1 'Age = 5 ? 1 : Age / 0'
+    selects "$age" 1 '(-9223372036854775807 - 1) % -1 = 0'
+    selects "$age" 0 '(-9223372036854775807 - 1) / -1 != 0'
+
+    begin 'texts'
+    selects "N: it's\n" 1 "N = 'it\\'s'"
+    refuses "N: it's\n" 'expression: error at byte 4' recsel -c -e "N = 'it\\'"
+    shows 'N: x\0377y\n' '1\n' recsel -c -q y
+    selects 'N: x\0377y\n' 0 "N ~ 'y'"
+}
+
+record_types() {
+    begin 'a typed and an untyped set'
+    local typed='X: 1\n\n%rec: P\n\nN: 1\n\nN: 2\n'
+    shows "$typed" '1\n2 P\n' recinf
+    shows "$typed" 'P\n' recinf -n
+    shows "$typed" '%rec: P\n' recinf -d
+    shows "$typed" 'X: 1\n' recsel
+    shows "$typed" 'N: 1\n\nN: 2\n' recsel -t P
+    shows "$typed" 'N: 1\nN: 2\n' recsel -t P -C
+    shows "$typed" '1\n\n2\n' recsel -t P -P N
+    refuses "$typed" 'no such record type' recsel -t Q
+
+    begin 'descriptors'
+    refuses '%rec: P\n\n%rec: Q\n' 'several record types, use -t' recsel
+    refuses '%rec: 1P\n' 'line 1: bad descriptor field' recsel
+    refuses '%rec: 1P\n' 'line 1: bad descriptor field' recinf
+    refuses '%rec: P x\n' 'line 1: not supported' recsel
+    refuses '%rec: P x\n' 'line 1: not supported' recinf
+    local book='# -*- mode: rec -*-\n\n%rec: Book\n%mandatory: Title\n%type: Location enum loaned home unknown\n%sort: Title\n'
+    book+='%doc:\n+ My books.\n\nTitle: GNU Emacs Manual\nAuthor: Richard M. Stallman\nLocation: home\n'
+    shows "$book" 'GNU Emacs Manual\n' recsel -e "Location = 'home'" -P Title
+}
+
+refused_texts() {
+    begin 'texts of options that are refused'
+    local one='A: 1\n'
+    refuses "$one" 'expression: error at byte 3' recsel -e 'A ='
+    refuses "$one" 'pattern not accepted' recsel -e "A ~ '('"
+    refuses "$one" 'field list: error at byte 3' recsel -p 'A[1'
+    refuses "$one" 'index list: error at byte 2' recsel -n 3-1
+    refuses 'A: 1\nno field\n' 'line 2: not a field, comment or blank line' recsel
+    refuses 'A: 1\nno field\n' 'line 2: not a field, comment or blank line' recinf
+}
+
+inputs() {
+    begin 'files and standard input'
+    local tool error='No such file or directory (os error 2)' status
+    put db.rec 'A: 1\n'
+    put - 'A: 2\n'
+    put db.rec.journal 'no journal\n'
+    mkdir d
+    for tool in recsel recinf; do
+        run 1 "$tool" missing
+        prints '' "missing: $error\n$store_failed"
+        run 1 "$tool" ''
+        prints '' ": $error\n$store_failed"
+        run 1 "$tool" d
+        prints '' "d: Is a directory (os error 21)\n$store_failed"
+        input=d run 1 "$tool"
+        prints '' "standard input: Is a directory (os error 21)\n$store_failed"
+        status=0
+        "$folder/recu" "$tool" >"$folder/out" 2>"$folder/err" <&- || status=$?
+        [ "$status" = 1 ] || fail "$tool with standard input closed ends with status $status"
+        prints '' "standard input: Bad file descriptor (os error 9)\n$store_failed"
+        status=0
+        "$folder/recu" "$tool" db.rec 2>"$folder/err" >/dev/full || status=$?
+        [ "$status" = 1 ] || fail "$tool to a full device ends with status $status"
+        : >"$folder/out"
+        prints '' "standard output: No space left on device (os error 28)\n$store_failed"
+    done
+    run 0 recsel -
+    prints 'A: 2\n' ''
+    input=db.rec run 0 recsel -
+    prints 'A: 2\n' ''
+    run 0 recsel db.rec
+    prints 'A: 1\n' ''
+    input=- run 0 recsel db.rec
+    prints 'A: 1\n' ''
+    run 0 recinf db.rec
+    prints '1\n' ''
+    cat db.rec | "$folder/recu" recsel >"$folder/out" 2>"$folder/err" || fail 'recsel on a pipe is refused'
+    prints 'A: 1\n' ''
+    (printf 'A: '; sleep 0.2; printf '3\n') | "$folder/recu" recinf >"$folder/out" 2>"$folder/err" || fail 'recinf on a pipe is refused'
+    prints '1\n' ''
+    only - d db.rec db.rec.journal
+
+    begin 'a named pipe is read'
+    put db.rec 'A: 1\n'
+    mkfifo pipe
+    timeout 20 bash -c 'cat db.rec >pipe' &
+    local writer=$!
+    run 0 recsel pipe
+    wait "$writer"
+    prints 'A: 1\n' ''
+    only db.rec pipe
+
+    begin 'much output'
+    awk 'BEGIN { for (i = 0; i < 20000; i++) printf "Name: record %d\n\n", i }' >more.rec
+    head -c -1 more.rec >db.rec
+    input=db.rec run 0 recsel
+    cmp -s db.rec "$folder/out" || fail 'not all of it is printed'
+    status=0
+    "$folder/recu" recsel db.rec 2>"$folder/err" >/dev/full || status=$?
+    [ "$status" = 1 ] || fail "much output to a full device ends with status $status"
+    : >"$folder/out"
+    prints '' "standard output: No space left on device (os error 28)\n$store_failed"
+    "$folder/recu" recsel db.rec 2>"$folder/err" | head -c 1 >"$folder/out"
+    [ "${PIPESTATUS[0]}" = 1 ] || fail 'output that nobody reads ends well'
+    prints 'N' "standard output: Broken pipe (os error 32)\n$store_failed"
+    only db.rec more.rec
+
+    begin 'too long a file'
+    truncate -s 1073741825 big
+    run 1 recsel big
+    prints '' "big: more than 1073741824 bytes\n$store_failed"
+    run 1 recinf big
+    prints '' "big: more than 1073741824 bytes\n$store_failed"
+    # It is read into memory, so there has to be some.
+    if [ "$(awk '/^MemAvailable:/ { print int($2 / 1048576) }' /proc/meminfo)" -ge 4 ]; then
+        input=big run 1 recsel
+        prints '' "standard input: more than 1073741824 bytes\n$store_failed"
+        input=big run 1 recinf
+        prints '' "standard input: more than 1073741824 bytes\n$store_failed"
+    fi
+    only big
+}
+
 for part in first_example refusals_of_requests help_and_version bad_usage paths modes links special_files permissions \
-    leftovers names_in_use two_at_once changed_outside layouts; do
+    leftovers names_in_use two_at_once changed_outside layouts records record_types refused_texts inputs; do
     "$part"
 done

@@ -1,37 +1,21 @@
--- Worked examples of index lists and deletions, which compute.
+-- Worked examples of deletions, which compute.
 use Rattle.std.proofs.Common.{◌≡◌, ℕ, true, false, List, [], ◌∷◌, refl}
 use Rattle.std.specs.declared.ops.Range.{Range}
 use Rattle.rec_text.specs.declared.element.Kind.TheVariants.{Blank, Comment, Field}
 use Rattle.rec_text.specs.Elements.{Piece}
-use Rattle.rec_tools.specs.declared.index_list.Span.{Span}
-use Rattle.rec_tools.specs.IndexList.{value_of, has}
-use Rattle.rec_tools.specs.Deletion.{belongs, is_removed, left_from, removal}
+use Rattle.rec_tools.specs.Deletion.{belongs, is_among, is_removed, left_from, removal}
 use Rattle.rec_tools.specs.RemovedRuns.{with_run}
 
--- ---- index lists
+-- ---- ascending indexes
 
--- 0,4-7
-abbrev list : List Span
-list = record { first = 0; last = 0 } ∷ record { first = 4; last = 7 } ∷ []
+pub an_index_of_the_list_is_chosen : is_among (0 ∷ 4 ∷ 7 ∷ []) 4 ≡ true
+an_index_of_the_list_is_chosen = refl
 
-pub a_lone_index_is_in : has list 0 ≡ true
-a_lone_index_is_in = refl
+pub between_two_is_none : is_among (0 ∷ 4 ∷ 7 ∷ []) 5 ≡ false
+between_two_is_none = refl
 
-pub between_items_is_out : has list 3 ≡ false
-between_items_is_out = refl
-
-pub a_pair_has_its_first : has list 4 ≡ true
-a_pair_has_its_first = refl
-
-pub a_pair_has_its_last : has list 7 ≡ true
-a_pair_has_its_last = refl
-
-pub behind_the_pair_is_out : has list 8 ≡ false
-behind_the_pair_is_out = refl
-
--- 0042
-pub zeros_may_lead : value_of (48 ∷ 48 ∷ 52 ∷ 50 ∷ []) ≡ 42
-zeros_may_lead = refl
+pub no_index_chooses_none : is_among [] 0 ≡ false
+no_index_chooses_none = refl
 
 -- ---- three records, a blank line behind the first two
 
@@ -63,7 +47,7 @@ the_blank_line_before_stays = refl
 pub the_next_record_stays : belongs three (range 2 3) 4 ≡ false
 the_next_record_stays = refl
 
-pub what_is_left_of_three : left_from 0 (is_removed three records_of_three (has (record { first = 1; last = 1 } ∷ []))) three ≡ field 65 ∷ blank ∷ field 67 ∷ []
+pub what_is_left_of_three : left_from 0 (is_removed three records_of_three (is_among (1 ∷ []))) three ≡ field 65 ∷ blank ∷ field 67 ∷ []
 what_is_left_of_three = refl
 
 pub the_hunk_of_the_second : removal three (range 2 4) ≡ record { at = 6; old = 66 ∷ 58 ∷ 32 ∷ 49 ∷ 10 ∷ 10 ∷ []; new = [] }
@@ -83,18 +67,18 @@ among_comments = comment ∷ field 65 ∷ comment ∷ field 66 ∷ comment ∷ b
 abbrev first_record : List (Range ℕ)
 first_record = range 1 4 ∷ range 6 7 ∷ []
 
-pub the_comment_before_stays : is_removed among_comments first_record (has (record { first = 0; last = 0 } ∷ [])) 0 ≡ false
+pub the_comment_before_stays : is_removed among_comments first_record (is_among (0 ∷ [])) 0 ≡ false
 the_comment_before_stays = refl
 
-pub the_comment_between_goes : is_removed among_comments first_record (has (record { first = 0; last = 0 } ∷ [])) 2 ≡ true
+pub the_comment_between_goes : is_removed among_comments first_record (is_among (0 ∷ [])) 2 ≡ true
 the_comment_between_goes = refl
 
-pub the_comment_behind_stays : is_removed among_comments first_record (has (record { first = 0; last = 0 } ∷ [])) 4 ≡ false
+pub the_comment_behind_stays : is_removed among_comments first_record (is_among (0 ∷ [])) 4 ≡ false
 the_comment_behind_stays = refl
 
 -- the blank line isn't directly behind the record
-pub the_blank_line_behind_a_comment_stays : is_removed among_comments first_record (has (record { first = 0; last = 0 } ∷ [])) 5 ≡ false
+pub the_blank_line_behind_a_comment_stays : is_removed among_comments first_record (is_among (0 ∷ [])) 5 ≡ false
 the_blank_line_behind_a_comment_stays = refl
 
-pub an_index_past_the_records_takes_nothing : left_from 0 (is_removed three records_of_three (has (record { first = 7; last = 7 } ∷ []))) three ≡ three
+pub an_index_past_the_records_takes_nothing : left_from 0 (is_removed three records_of_three (is_among (7 ∷ []))) three ≡ three
 an_index_past_the_records_takes_nothing = refl

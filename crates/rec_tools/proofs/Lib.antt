@@ -2,13 +2,14 @@ pub mod FaultLemmas
 pub mod UntypedLemmas
 pub mod ChangeLemmas
 pub mod MachineLemmas
+pub mod PrintLemmas
 pub mod RunLemmas
 pub mod RunAllLemmas
-pub mod IndexListLemmas
-pub mod IndexListReading
 pub mod DecisionLemmas
+pub mod SelectedLemmas
 pub mod TextLemmas
 pub mod RangeLemmas
 pub mod DeletionLemmas
 pub mod RemovalLemmas
 pub mod DeletionExamples
+pub mod PrintingLemmas

@@ -18,12 +18,15 @@ use Rattle.std.specs.Str.{bytes_eq}
 use Rattle.std.specs.Prelude.{if◌then◌else◌, ◌↔◌, IsTrue}
 use Rattle.rec_tools.specs.declared.deletion.Edited.{Edited}
 use Rattle.rec_tools.specs.declared.request.Pick.{Pick}
+use Rattle.rec_tools.specs.declared.request.Request.{Request}
 use Rattle.rec_tools.specs.declared.request.Request.TheVariants.{Delete, Undo}
+use Rattle.rec_tools.specs.declared.request.Reply.{Reply}
 use Rattle.rec_tools.specs.declared.request.Reply.TheVariants.{Edited as EditedReply, Unchanged, Undone}
 use Rattle.rec_tools.specs.declared.decision.Change.{Change}
 use Rattle.rec_tools.specs.declared.decision.Decision.{Decision}
 use Rattle.rec_tools.specs.declared.decision.Decision.TheVariants.{Put}
 use Rattle.rec_tools.specs.Home.{Contents}
+use Rattle.rec_tools.specs.Printouts.{Printed}
 use Rattle.rec_tools.specs.Decision.{IsEditDecision, IsDeleteDecision}
 use Rattle.rec_tools.specs.Machine.{State, Entry, Stands, IsStep, IsAnswer, IsDeleteOutcome, Clashes, IsPast, IsFuture, IsUndoStep, state_after_edit, state_after_undo}
 use Rattle.rec_tools.specs.Guarantee.{contents_of, StepsAsMachine}
@@ -44,31 +47,25 @@ true_is_not_false e = cc
 
 -- ---- a delete is decided by the change that it asks for
 
-decided : (c : Contents) (pick : Pick) (r : Result Change Fault) (answer : Result Decision Fault)
+decided : (c : Contents) (pick : Pick) (force : Bool) (r : Result Change Fault) (answer : Result Decision Fault)
     → ((fault : Fault) → r ≡ Err fault → answer ≡ Err fault)
     → ((o : Opened) (edited : Edited) → r ≡ Ok (record { history = o; edited = edited }) → IsEditDecision o c edited answer)
-    → IsChangeByDelete c pick r → IsDeleteDecision c pick answer
-decided c pick r answer refused last (inl h) = inl (h.0, h.1, refused h.0 h.2)
-decided c pick r answer refused last (inr (pieces, read, inl h)) = inr (pieces, read, inl (h.0, h.1, refused h.0 h.2))
-decided c pick r answer refused last (inr (pieces, read, inr (same, untyped, inl h))) =
-    inr (pieces, read, inr (same, untyped, inl (h.0, h.1, refused h.0 h.2)))
-decided c pick r answer refused last (inr (pieces, read, inr (same, untyped, inr (o, opens, inl h)))) =
-    inr (pieces, read, inr (same, untyped, inr (o, opens, inl (h.0, h.1, refused h.0 h.2))))
-decided c pick r answer refused last (inr (pieces, read, inr (same, untyped, inr (o, opens, inr (spans, list, inl h))))) =
-    inr (pieces, read, inr (same, untyped, inr (o, opens, inr (spans, list, inl (h.0, h.1, refused h.0 h.2)))))
-decided c pick r answer refused last (inr (pieces, read, inr (same, untyped, inr (o, opens, inr (spans, list, inr (done, known, inl h)))))) =
-    inr (pieces, read, inr (same, untyped, inr (o, opens, inr (spans, list, inr (done, known, inl (h.0, h.1, refused h.0 h.2))))))
-decided c pick r answer refused last (inr (pieces, read, inr (same, untyped, inr (o, opens, inr (spans, list, inr (done, known, inr (edited, deleted, is))))))) =
-    inr (pieces, read, inr (same, untyped, inr (o, opens, inr (spans, list, inr (done, known, inr (edited, deleted, last o edited is))))))
+    → IsChangeByDelete c pick force r → IsDeleteDecision c pick force answer
+decided c pick force r answer refused last (inl h) = inl (h.0, h.1, refused h.0 h.2)
+decided c pick force r answer refused last (inr (base, is, inl h)) = inr (base, is, inl (h.0, h.1, refused h.0 h.2))
+decided c pick force r answer refused last (inr (base, is, inr (o, opens, inl h))) = inr (base, is, inr (o, opens, inl (h.0, h.1, refused h.0 h.2)))
+decided c pick force r answer refused last (inr (base, is, inr (o, opens, inr (edited, deleted, e)))) =
+    inr (base, is, inr (o, opens, inr (edited, deleted, last o edited e)))
 
 -- a refused change is a refused delete
-pub decided-refused : (c : Contents) (pick : Pick) (fault : Fault) → IsMemoryOr fault (IsChangeByDelete c pick (Err fault)) → IsMemoryOr fault (IsDeleteDecision c pick (Err fault))
-decided-refused c pick fault h = memory_or_weaker fault _ _ (decided c pick (Err fault) (Err fault) (λ f e. cc) (λ o edited e. cc)) h
+pub decided-refused : (c : Contents) (pick : Pick) (force : Bool) (fault : Fault) → IsMemoryOr fault (IsChangeByDelete c pick force (Err fault))
+    → IsMemoryOr fault (IsDeleteDecision c pick force (Err fault))
+decided-refused c pick force fault h = memory_or_weaker fault _ _ (decided c pick force (Err fault) (Err fault) (λ f e. cc) (λ o edited e. cc)) h
 
 -- a change is decided as its edit is
-pub decided-edit : (c : Contents) (pick : Pick) (change : Change) (answer : Result Decision Fault) → IsChangeByDelete c pick (Ok change)
-    → IsEditDecision change.history c change.edited answer → IsDeleteDecision c pick answer
-decided-edit c pick change answer found edit = decided c pick (Ok change) answer (λ f e. cc)
+pub decided-edit : (c : Contents) (pick : Pick) (force : Bool) (change : Change) (answer : Result Decision Fault) → IsChangeByDelete c pick force (Ok change)
+    → IsEditDecision change.history c change.edited answer → IsDeleteDecision c pick force answer
+decided-edit c pick force change answer found edit = decided c pick force (Ok change) answer (λ f e. cc)
     (λ o edited e. subst (λ x. IsEditDecision x.history c x.edited answer) (same_change change _ e) edit) found
 
 -- an edit with a hunk changes the text
@@ -79,16 +76,17 @@ differs b patch text file idle is_false same e = true_is_not_false (sym (idle.1 
 abbrev pub IsPlanOf : Change → List ℕ → List ℕ → Result Plan Fault → Type 0
 IsPlanOf change journal text r = IsEditPlan change.history journal RecDel change.edited.patch text r
 
-pub decided-clash : (c : Contents) (pick : Pick) (change : Change) (text : List ℕ) (fault : Fault) → text ≡ change.edited.text → change.edited.text ≢ c.file
-    → IsChangeByDelete c pick (Ok change) → IsMemoryOr fault (IsPlanOf change c.journal text (Err fault)) → IsMemoryOr fault (IsDeleteDecision c pick (Err fault))
-decided-clash c pick change text fault same other found h = memory_or_weaker fault _ _
-    (λ refused. decided-edit c pick change (Err fault) found
+pub decided-clash : (c : Contents) (pick : Pick) (force : Bool) (change : Change) (text : List ℕ) (fault : Fault) → text ≡ change.edited.text → change.edited.text ≢ c.file
+    → IsChangeByDelete c pick force (Ok change) → IsMemoryOr fault (IsPlanOf change c.journal text (Err fault)) → IsMemoryOr fault (IsDeleteDecision c pick force (Err fault))
+decided-clash c pick force change text fault same other found h = memory_or_weaker fault _ _
+    (λ refused. decided-edit c pick force change (Err fault) found
     (inr (other, inl (fault, subst (λ t. IsPlanOf change c.journal t (Err fault)) same refused, refl)))) h
 
-pub decided-put : (c : Contents) (pick : Pick) (change : Change) (text : List ℕ) (plan : Plan) → text ≡ change.edited.text → change.edited.text ≢ c.file
-    → IsChangeByDelete c pick (Ok change) → IsPlanOf change c.journal text (Ok plan) → IsDeleteDecision c pick (Ok (Put plan (EditedReply change.edited.changed)))
-decided-put c pick change text plan same other found planned =
-    decided-edit c pick change (Ok (Put plan (EditedReply change.edited.changed))) found
+pub decided-put : (c : Contents) (pick : Pick) (force : Bool) (change : Change) (text : List ℕ) (plan : Plan) → text ≡ change.edited.text → change.edited.text ≢ c.file
+    → IsChangeByDelete c pick force (Ok change) → IsPlanOf change c.journal text (Ok plan)
+    → IsDeleteDecision c pick force (Ok (Put plan (EditedReply change.edited.changed)))
+decided-put c pick force change text plan same other found planned =
+    decided-edit c pick force change (Ok (Put plan (EditedReply change.edited.changed))) found
     (inr (other, inr (plan, subst (λ t. IsPlanOf change c.journal t (Ok plan)) same planned, refl)))
 
 -- ---- contents that stand for a state, by a history that is known
@@ -144,31 +142,29 @@ only-clash o journal tool patch text _ h = absurd h
 
 -- ---- a delete steps as the machine does
 
+-- the answer is the machine's where nothing is printed
+abbrev pub IsSilentAnswer : State → Request → Result Reply Fault → State → Type 0
+IsSilentAnswer s request answer t = (p : Printed) → p.text ≡ [] → IsAnswer s request answer p t
+
 -- the outcome of a delete leads to this answer
 abbrev pub Leads : Opened → Result Edited Fault → Result Change Fault → Type 0
 Leads o (Err fault) answer = answer ≡ Err fault
 Leads o (Ok edited) answer = answer ≡ Ok (record { history = o; edited = edited })
 
-outcome : (o : Opened) (file : List ℕ) (pick : Pick) (answer : Result Change Fault) → IsChangeFrom o file pick answer
-    → (r : Result Edited Fault) × IsDeleteOutcome file pick r × Leads o r answer
-outcome o file pick answer (inl h) = (Err h.0, inl (h.0, h.1, refl), h.2)
-outcome o file pick answer (inr (pieces, read, inl h)) = (Err h.0, inr (pieces, read, inl (h.0, h.1, refl)), h.2)
-outcome o file pick answer (inr (pieces, read, inr (same, untyped, inl h))) =
-    (Err h.0, inr (pieces, read, inr (same, untyped, inl (h.0, h.1, refl))), h.2)
-outcome o file pick answer (inr (pieces, read, inr (same, untyped, inr (spans, list, inl h)))) =
-    (Err h.0, inr (pieces, read, inr (same, untyped, inr (spans, list, inl (h.0, h.1, refl)))), h.2)
-outcome o file pick answer (inr (pieces, read, inr (same, untyped, inr (spans, list, inr (done, known, inl h))))) = absurd h.1
-outcome o file pick answer (inr (pieces, read, inr (same, untyped, inr (spans, list, inr (done, known, inr (edited, deleted, is)))))) =
-    (Ok edited, inr (pieces, read, inr (same, untyped, inr (spans, list, inr (done, known, deleted)))), is)
+outcome : (o : Opened) (file : List ℕ) (pick : Pick) (force : Bool) (answer : Result Change Fault) → IsChangeFrom o file pick force answer
+    → (r : Result Edited Fault) × IsDeleteOutcome file pick force r × Leads o r answer
+outcome o file pick force answer (inl h) = (Err h.0, inl (h.0, h.1, refl), h.2)
+outcome o file pick force answer (inr (base, is, inl h)) = (Err h.0, inr (base, is, h.1), h.2)
+outcome o file pick force answer (inr (base, is, inr (edited, deleted, e))) = (Ok edited, inr (base, is, deleted), e)
 
 led-refused : (o : Opened) (r : Result Edited Fault) (fault : Fault) → Leads o r (Err fault) → r ≡ Err fault
 led-refused o (Err f) fault e = cc
 led-refused o (Ok edited) fault e = cc
 
-outcome-refused : (o : Opened) (file : List ℕ) (pick : Pick) (fault : Fault) → IsChangeFrom o file pick (Err fault) → IsDeleteOutcome file pick (Err fault)
-outcome-refused o file pick fault change =
-    let found = outcome o file pick (Err fault) change in
-    subst (λ r. IsDeleteOutcome file pick r) (led-refused o found.0 fault found.2) found.1
+outcome-refused : (o : Opened) (file : List ℕ) (pick : Pick) (force : Bool) (fault : Fault) → IsChangeFrom o file pick force (Err fault) → IsDeleteOutcome file pick force (Err fault)
+outcome-refused o file pick force fault change =
+    let found = outcome o file pick force (Err fault) change in
+    subst (λ r. IsDeleteOutcome file pick force r) (led-refused o found.0 fault found.2) found.1
 
 led-edited : (o : Opened) (r : Result Edited Fault) (change : Change) → Leads o r (Ok change) → (r ≡ Ok change.edited) × (change.history ≡ o)
 led-edited o (Err f) change e = cc
@@ -177,60 +173,61 @@ led-edited o (Ok edited) change e =
     (ap (λ (x : Change). Ok x.edited) (sym same), ap (λ (x : Change). x.history) same)
 
 -- the change goes on from the history as it opens, and its edit is the delete's outcome
-pub record IsEdit (o : Opened) (file : List ℕ) (pick : Pick) (change : Change) : Type 0 where
-  pub outcome : IsDeleteOutcome file pick (Ok change.edited)
+pub record IsEdit (o : Opened) (file : List ℕ) (pick : Pick) (force : Bool) (change : Change) : Type 0 where
+  pub outcome : IsDeleteOutcome file pick force (Ok change.edited)
   pub same : change.history ≡ o
 
-pub edit-outcome : (o : Opened) (file : List ℕ) (pick : Pick) (change : Change) → IsChangeFrom o file pick (Ok change) → IsEdit o file pick change
-edit-outcome o file pick change is =
-    let found = outcome o file pick (Ok change) is in
+pub edit-outcome : (o : Opened) (file : List ℕ) (pick : Pick) (force : Bool) (change : Change) → IsChangeFrom o file pick force (Ok change) → IsEdit o file pick force change
+edit-outcome o file pick force change is =
+    let found = outcome o file pick force (Ok change) is in
     let led = led-edited o found.0 change found.2 in
-    record { outcome = subst (λ r. IsDeleteOutcome file pick r) led.0 found.1; same = led.1 }
+    record { outcome = subst (λ r. IsDeleteOutcome file pick force r) led.0 found.1; same = led.1 }
 
 module _ (file journal : List ℕ) (pick : Pick) (force : Bool) (s : State) (stands : Stands (record { file = file; journal = journal }) s) where
   -- the outcome is that of the state's text
-  on_present : (r : Result Edited Fault) → IsDeleteOutcome file pick r → IsDeleteOutcome s.present pick r
-  on_present r h = subst (λ t. IsDeleteOutcome t pick r) (sym stands.present) h
+  on_present : (r : Result Edited Fault) → IsDeleteOutcome file pick force r → IsDeleteOutcome s.present pick force r
+  on_present r h = subst (λ t. IsDeleteOutcome t pick force r) (sym stands.present) h
 
-  pub delete_steps-refused : (fault : Fault) → IsMemoryOr fault (IsChangeFrom stands.opened file pick (Err fault)) → IsMemoryOr fault (IsAnswer s (Delete pick force) (Err fault) s)
+  pub delete_steps-refused : (fault : Fault) → IsMemoryOr fault (IsChangeFrom stands.opened file pick force (Err fault))
+      → IsMemoryOr fault (IsSilentAnswer s (Delete pick force) (Err fault) s)
   delete_steps-refused fault h = memory_or_weaker fault _ _
-      (λ refused. inl (Err fault, on_present (Err fault) (outcome-refused stands.opened file pick fault refused), (refl, refl))) h
+      (λ refused p none. inl (Err fault, on_present (Err fault) (outcome-refused stands.opened file pick force fault refused), (refl, refl), none)) h
 
-  module _ (change : Change) (is : IsEdit stands.opened file pick change) where
-    deleted : IsDeleteOutcome s.present pick (Ok change.edited)
+  module _ (change : Change) (is : IsEdit stands.opened file pick force change) where
+    deleted : IsDeleteOutcome s.present pick force (Ok change.edited)
     deleted = on_present (Ok change.edited) is.outcome
 
     by : StandsBy change.history file journal s
     by = stands_by change.history file journal s stands is.same
 
-    pub delete_steps-unchanged : change.edited.text ≡ file → IsAnswer s (Delete pick force) (Ok Unchanged) s
-    delete_steps-unchanged same = inl (Ok change.edited, deleted, inl (same ∙ sym stands.present, refl, refl))
+    pub delete_steps-unchanged : change.edited.text ≡ file → IsSilentAnswer s (Delete pick force) (Ok Unchanged) s
+    delete_steps-unchanged same p none = inl (Ok change.edited, deleted, inl (same ∙ sym stands.present, refl, refl), none)
 
     module _ (differs : change.edited.text ≢ file) where
       other : change.edited.text ≢ s.present
       other same = differs (same ∙ stands.present)
 
-      step : IsStep s (Delete pick force) (Ok (EditedReply change.edited.changed)) (state_after_edit s RecDel change.edited.text)
-      step = (Ok change.edited, deleted, inr (other, refl, refl))
+      step : (printed : List ℕ) → printed ≡ [] → IsStep s (Delete pick force) (Ok (EditedReply change.edited.changed)) printed (state_after_edit s RecDel change.edited.text)
+      step printed none = (Ok change.edited, deleted, inr (other, refl, refl), none)
 
       clashes : ShareDigest file change.edited.text → Clashes s (Delete pick force)
       clashes same = record {
         reply = EditedReply change.edited.changed;
         later = state_after_edit s RecDel change.edited.text;
-        step = step;
+        step = step [] refl;
         differ = other;
         same_digest = subst (λ t. ShareDigest t change.edited.text) (sym stands.present) same;
       }
 
-      clashing : (fault : Fault) → IsEditPlan change.history journal RecDel change.edited.patch change.edited.text (Err fault) → IsAnswer s (Delete pick force) (Err fault) s
-      clashing fault refused =
+      clashing : (fault : Fault) → IsEditPlan change.history journal RecDel change.edited.patch change.edited.text (Err fault) → IsSilentAnswer s (Delete pick force) (Err fault) s
+      clashing fault refused p none =
           let e = only-clash change.history journal RecDel change.edited.patch change.edited.text fault refused in
           let same : ShareDigest file change.edited.text = clash-digest file journal change.edited.text change.history RecDel change.edited.patch by.opens
           (subst (λ f. IsEditPlan change.history journal RecDel change.edited.patch change.edited.text (Err f)) e refused) in
-          inr (inr (ap Err e, refl, clashes same))
+          inr (inr (inr (ap Err e, refl, none, clashes same)))
 
       pub delete_steps-clash : (text : List ℕ) (fault : Fault) → text ≡ change.edited.text → IsMemoryOr fault (IsPlanOf change journal text (Err fault))
-          → IsMemoryOr fault (IsAnswer s (Delete pick force) (Err fault) s)
+          → IsMemoryOr fault (IsSilentAnswer s (Delete pick force) (Err fault) s)
       delete_steps-clash text fault same h =
           memory_or_weaker fault _ _ (λ refused. clashing fault (subst (λ t. IsPlanOf change journal t (Err fault)) same refused)) h
 
@@ -244,7 +241,7 @@ module _ (file journal : List ℕ) (pick : Pick) (force : Bool) (s : State) (sta
           (subst (λ t. Related edit file t) (sym planned.1)
           (related-edit file journal change.edited.text change.history RecDel change.edited.patch by.opens splices)) in (
             state_after_edit s RecDel change.edited.text,
-            inl step,
+            λ p none. inl (step p.text none),
             record {
               opened = after_edit_plan change.history journal RecDel change.edited.patch change.edited.text;
               opens = opens;
@@ -267,7 +264,7 @@ module _ (file journal : List ℕ) (pick : Pick) (force : Bool) (s : State) (sta
 -- ---- an undo steps as the machine does
 
 -- contents that stand for a state have an opening
-pub undo_steps-no_opening : (fault : Fault) (o : Opened) (s : State) → IsMemoryOr fault (Err fault ≡ Ok o) → IsMemoryOr fault (IsAnswer s Undo (Err fault) s)
+pub undo_steps-no_opening : (fault : Fault) (o : Opened) (s : State) → IsMemoryOr fault (Err fault ≡ Ok o) → IsMemoryOr fault (IsSilentAnswer s Undo (Err fault) s)
 undo_steps-no_opening fault o s h = memory_or_weaker fault _ _ (λ e. ok_is_no_err o fault _ e) h
 
 -- what stands behind the newest of the past, where there is one
@@ -301,12 +298,12 @@ module _ (file journal : List ℕ) (s : State) (o : Opened) (by : StandsBy o fil
   newest_of_state : (newest : Edit) (older : List Edit) → o.past ≡ newest ∷ older → HasNewest newest older s file
   newest_of_state newest older e = newest-of newest older s.past s file refl (subst (λ es. IsPast es s.past file) e by.past)
 
-  nothing : o.past ≡ [] → IsAnswer s Undo (Err NothingToUndo) s
-  nothing e =
+  nothing : o.past ≡ [] → IsSilentAnswer s Undo (Err NothingToUndo) s
+  nothing e p silent =
       let none : s.past ≡ [] = nothing-of s.past s file refl (subst (λ es. IsPast es s.past file) e by.past) in
-      inl (subst (λ es. IsUndoStep s es (Err NothingToUndo) s) (sym none) (refl, refl))
+      inl (subst (λ es. IsUndoStep s es (Err NothingToUndo) s) (sym none) (refl, refl), silent)
 
-  undo-refused : (fault : Fault) → IsUndoPlan o file journal (Err fault) → IsAnswer s Undo (Err fault) s
+  undo-refused : (fault : Fault) → IsUndoPlan o file journal (Err fault) → IsSilentAnswer s Undo (Err fault) s
   undo-refused Drifted (inl drifted) = absurd (true_is_not_false (sym drifted ∙ by.settled))
   undo-refused Drifted (inr (settled, none)) =
       let newest = newest_of_state none.newest none.older none.past in
@@ -314,7 +311,7 @@ module _ (file journal : List ℕ) (s : State) (o : Opened) (by : StandsBy o fil
   undo-refused NothingToUndo h = nothing h.1
   undo-refused _ h = absurd h
 
-  pub undo_steps-refused : (fault : Fault) → IsMemoryOr fault (IsUndoPlan o file journal (Err fault)) → IsMemoryOr fault (IsAnswer s Undo (Err fault) s)
+  pub undo_steps-refused : (fault : Fault) → IsMemoryOr fault (IsUndoPlan o file journal (Err fault)) → IsMemoryOr fault (IsSilentAnswer s Undo (Err fault) s)
   undo_steps-refused fault h = memory_or_weaker fault _ _ (undo-refused fault) h
 
   module _ (plan : Plan) (number : ℕ) (newest : Edit) (older : List Edit) (past : o.past ≡ newest ∷ older) (named : number ≡ newest.number) where
@@ -348,11 +345,11 @@ module _ (file journal : List ℕ) (s : State) (o : Opened) (by : StandsBy o fil
           next = ap (λ n. n + 1) by.next;
         }
 
-    undo_step : IsStep s Undo (Ok (Undone number)) after
+    undo_step : IsUndoStep s s.past (Ok (Undone number)) after
     unfolding after
     undo_step = subst (λ es. IsUndoStep s es (Ok (Undone number)) after) (sym state.are) (ap (λ n. Ok (Undone n)) (named ∙ state.number), refl)
 
     pub undo_steps-put : ((other : Result Plan Fault) → IsUndoPlan o file journal other → Ok plan ≡ other)
         → IsOpening plan.file plan.journal (Ok (after_undo_plan o journal newest older))
         → StepsAsMachine s Undo (Ok (Put plan (Undone number)))
-    undo_steps-put only opens = (after, inl undo_step, stands_after (same_plan _ _ (only (Ok back) is_back)) opens)
+    undo_steps-put only opens = (after, λ p none. inl (undo_step, none), stands_after (same_plan _ _ (only (Ok back) is_back)) opens)

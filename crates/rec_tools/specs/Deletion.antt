@@ -1,6 +1,6 @@
 -- The deletion of records. A record's own elements go, from its first to its last field, and the blank elements directly
 -- behind them; comments around it stay.
-use Rattle.std.specs.Prelude.{◌≡◌, ℕ, ◌+◌, Bool, ◌&&◌, ◌||◌, nat_le, nat_lt, List, [], ◌∷◌, length, take, drop, map, count_by, if◌then◌else◌}
+use Rattle.std.specs.Prelude.{◌≡◌, ℕ, ◌+◌, Bool, ◌==◌, ◌&&◌, ◌||◌, nat_le, nat_lt, List, [], ◌∷◌, length, take, drop, map, count_by, if◌then◌else◌}
 use Rattle.std.specs.List.{list_all, list_any, enumerate_from}
 use Rattle.std.specs.declared.ops.Range.{Range}
 use Rattle.rec_text.specs.Elements.{Piece, text_of}
@@ -29,6 +29,10 @@ removal pieces run = record {
   old = text_of (drop run.start (take run.end pieces));
   new = [];
 }
+
+-- the index is one of the list
+abbrev pub is_among : List ℕ → ℕ → Bool
+is_among indexes i = list_any (λ index. index == i) indexes
 
 -- the text without the chosen records; one hunk for each maximal run of elements that go; and how many records those are
 pub record IsDeletion (pieces : List Piece) (records : List (Range ℕ)) (chosen : ℕ → Bool) (edited : Edited) : Type 0 where

@@ -1,6 +1,7 @@
 pub mod Home
-pub mod IndexList
-pub mod IndexItems
+pub mod Steps
+pub mod Asking
+pub mod Printouts
 pub mod Deletion
 pub mod RemovedRuns
 pub mod Decision

@@ -1,20 +1,24 @@
 //! What a request makes of a file and a journal, before anything is replaced.
-ghost use Rattle.std.specs.Prelude.{◌≡◌, ◌↔◌, Bool, IsTrue, [], codes, Ok, Err, IfOk, MatchResult};
-ghost use Rattle.rec_text.specs.Faults.{UnlessMemory};
-ghost use Rattle.rec_text.specs.Elements.{name_of};
+ghost use Rattle.std.specs.Prelude.{◌≡◌, ◌↔◌, Bool, IsTrue, [], codes, Ok, Err, IfOk, IfErr, MatchResult};
+ghost use Rattle.rec_text.specs.Faults.{IsMemoryOr, UnlessMemory};
+ghost use Rattle.rec_text.specs.Elements.{name_of, text_of};
 ghost use Rattle.rec_text.specs.Places.{piece_of};
 ghost use Rattle.rec_journal.specs.Patch.{Splices};
+ghost use Rattle.rec_check.specs.Schemas.{IsSchema};
 ghost use Rattle.rec_journal.specs.History.{Opened, Opens, IsOpening};
-ghost use Rattle.rec_tools.specs.Decision.{IsUntyped, IsKnownType, IsDeleteDecision, IsUndoDecision, IsDecision, indexes_of};
+ghost use Rattle.rec_tools.specs.Decision.{IsUntyped, IsEditBase, IsDeletionBy, IsDeleteDecision, IsUndoDecision, allowed};
 ghost use Rattle.rec_tools.specs.Machine.{State, Stands};
-ghost use Rattle.rec_tools.specs.Guarantee.{StepsAsMachine};
+ghost use Rattle.rec_tools.specs.Guarantee.{StepsAsMachine, IsRefusal};
 ghost use Rattle.rec_tools.specs.Changes.{IsChangeByDelete, IsChangeFrom};
 
+use crate::base::Base;
 use crate::deletion::{Edited, delete};
-use crate::index_list::IndexList;
 use crate::request::{Ask, Pick, Reply, Request};
+use crate::selecting::selection_of;
+use rec_check::Schema;
 use rec_journal::{History, Plan, Tool, plan_edit, plan_undo};
-use rec_text::{Bytes, Database, Element, Fault, read};
+use rec_select::choose;
+use rec_text::{Database, Element, Fault, read};
 use std::alloc::Global;
 
 /// Either a reply alone, or a plan that is to be put in place first.
@@ -52,23 +56,40 @@ fn require_untyped(database: &Database) -> Result<(), Fault>
     Ok(())
 }
 
-/// Refuses a type: a base without descriptors has none.
-fn require_known(kind: &Option<Bytes>) -> Result<(), Fault>
-    ensures { IsKnownType kind.now result }
+/// Reads a file as a base that may be edited.
+fn edit_base_of(alloc: Global, file: &[u8]) -> Result<Base<'_>, Fault>
+    ensures found { IfOk result (λ base. IsEditBase file.now (Ok (record { pieces = base.database; sets = base.schema.sets }))) }
+    ensures refused { IfErr result (λ fault. IsMemoryOr fault (IsEditBase file.now (Err fault))) }
+    ensures schema { IfOk result (λ base. IsSchema base.database (Ok base.schema)) }
+    ensures text { IfOk result (λ base. text_of base.database ≡ file.now) }
 {
-    match kind {
-        None => Ok(()),
-        Some(_) => Err(Fault::NoSuchType),
+    let database = read(alloc, file)?;
+    require_untyped(&database)?;
+    let schema = Schema::read(alloc, &database)?;
+    Ok(Base { database, schema })
+}
+
+/// Refuses the deletion of all records of a set where it isn't forced.
+fn require_selection(pick: &Pick, force: bool) -> Result<(), Fault>
+    ensures { result ≡ allowed pick.now.by force }
+{
+    match pick.by {
+        Ask::All if !force => Err(Fault::NoSelection),
+        _ => Ok(()),
     }
 }
 
-/// The list of a selection by index.
-fn list_of(pick: &Pick) -> &[u8]
-    ensures { result.now ≡ indexes_of pick.now }
+/// Deletes the records that a pick selects.
+pub fn delete_by(alloc: Global, base: &Base, pick: &Pick, force: bool) -> Result<Edited, Fault>
+    requires { IsSchema base.now.database (Ok base.now.schema) }
+    ensures found { UnlessMemory result (IsDeletionBy (record { pieces = base.now.database; sets = base.now.schema.sets }) pick.now force) }
+    ensures leads { IfOk result (λ edited. Splices edited.patch (text_of base.now.database) edited.text) }
+    ensures unchanged { IfOk result (λ edited. (edited.patch ≡ []) ↔ (edited.text ≡ text_of base.now.database)) }
 {
-    match &pick.by {
-        Ask::Index(list) => list.as_slice(),
-    }
+    let selection = selection_of(alloc, pick)?;
+    let selected = choose(alloc, &base.database, &base.schema, &selection)?;
+    require_selection(pick, force)?;
+    delete(alloc, &base.database, &selected)
 }
 
 /// The edit that a delete asks for. The elements of the file are let go before a plan is made, which needs memory too.
@@ -77,19 +98,17 @@ fn change_by_delete(
     file: &[u8],
     journal: &[u8],
     pick: &Pick,
+    force: bool,
 ) -> Result<Change, Fault>
-    ensures found { UnlessMemory result (IsChangeByDelete (record { file = file.now; journal = journal.now }) pick.now) }
-    ensures from { (o : Opened) → Opens file.now journal.now o → UnlessMemory result (IsChangeFrom o file.now pick.now) }
+    ensures found { UnlessMemory result (IsChangeByDelete (record { file = file.now; journal = journal.now }) pick.now force) }
+    ensures from { (o : Opened) → Opens file.now journal.now o → UnlessMemory result (IsChangeFrom o file.now pick.now force) }
     ensures opened { IfOk result (λ change. IsOpening file.now journal.now (Ok change.history)) }
     ensures leads { IfOk result (λ change. Splices change.edited.patch file.now change.edited.text) }
     ensures unchanged { IfOk result (λ change. (change.edited.patch ≡ []) ↔ (change.edited.text ≡ file.now)) }
 {
-    let database = read(alloc, file)?;
-    require_untyped(&database)?;
+    let base = edit_base_of(alloc, file)?;
     let history = History::load(alloc, file, journal)?;
-    let list = IndexList::parse(alloc, list_of(pick))?;
-    require_known(&pick.kind)?;
-    let edited = delete(alloc, &database, &list)?;
+    let edited = delete_by(alloc, &base, pick, force)?;
     Ok(Change { history, edited })
 }
 
@@ -100,11 +119,21 @@ fn is_idle(edited: &Edited) -> bool
     edited.patch.hunks().is_empty()
 }
 
-fn decide_delete(alloc: Global, file: &[u8], journal: &[u8], pick: &Pick) -> Result<Decision, Fault>
-    ensures found { UnlessMemory result (IsDeleteDecision (record { file = file.now; journal = journal.now }) pick.now) }
-    ensures stands { (force : Bool) (s : State) → Stands (record { file = file.now; journal = journal.now }) s → UnlessMemory result (StepsAsMachine s (Request.Delete pick.now force)) }
+/// Decides a deletion on a file and a journal.
+pub fn decide_delete(
+    alloc: Global,
+    file: &[u8],
+    journal: &[u8],
+    pick: &Pick,
+    force: bool,
+) -> Result<Decision, Fault>
+    ensures found { UnlessMemory result (IsDeleteDecision (record { file = file.now; journal = journal.now }) pick.now force) }
+
+    // Contents that stand for a state are led to contents that stand for the machine's next state, with its reply.
+    ensures stands { (s : State) → Stands (record { file = file.now; journal = journal.now }) s → UnlessMemory result (StepsAsMachine s (Request.Delete pick.now force)) }
+    ensures refusals { IfErr result IsRefusal }
 {
-    let Change { history, edited } = change_by_delete(alloc, file, journal, pick)?;
+    let Change { history, edited } = change_by_delete(alloc, file, journal, pick, force)?;
     if is_idle(&edited) {
         return Ok(Decision::Stay(Reply::Unchanged));
     }
@@ -121,32 +150,16 @@ fn decide_delete(alloc: Global, file: &[u8], journal: &[u8], pick: &Pick) -> Res
     Ok(Decision::Put(plan, Reply::Edited(edited.changed)))
 }
 
-fn decide_undo(alloc: Global, file: &[u8], journal: &[u8]) -> Result<Decision, Fault>
+/// Decides an undo on a file and a journal.
+pub fn decide_undo(alloc: Global, file: &[u8], journal: &[u8]) -> Result<Decision, Fault>
     ensures found { UnlessMemory result (IsUndoDecision (record { file = file.now; journal = journal.now })) }
     ensures stands { (s : State) → Stands (record { file = file.now; journal = journal.now }) s → UnlessMemory result (StepsAsMachine s Request.Undo) }
+    ensures refusals { IfErr result IsRefusal }
 {
     let history = History::load(alloc, file, journal)?;
     let plan = plan_undo(alloc, &history, file, journal)?;
     match history.newest() {
         Some(number) => Ok(Decision::Put(plan, Reply::Undone(number))),
         None => Err(Fault::NothingToUndo),
-    }
-}
-
-/// Decides a request on a file and a journal.
-pub fn decide(
-    alloc: Global,
-    file: &[u8],
-    journal: &[u8],
-    request: &Request,
-) -> Result<Decision, Fault>
-    ensures found { UnlessMemory result (IsDecision (record { file = file.now; journal = journal.now }) request.now) }
-
-    // Contents that stand for a state are led to contents that stand for the machine's next state, with its reply.
-    ensures stands { (s : State) → Stands (record { file = file.now; journal = journal.now }) s → UnlessMemory result (StepsAsMachine s request.now) }
-{
-    match request {
-        Request::Delete { pick, .. } => decide_delete(alloc, file, journal, pick),
-        Request::Undo => decide_undo(alloc, file, journal),
     }
 }

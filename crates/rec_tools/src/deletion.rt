@@ -1,5 +1,5 @@
 //! The deletion of records, as a patch over the text.
-ghost use Rattle.std.specs.Prelude.{◌≡◌, ◌↔◌, ◌+◌, ◌≤◌, [], take, drop, length, map, IfOk, OnOk};
+ghost use Rattle.std.specs.Prelude.{◌≡◌, ◌↔◌, ◌+◌, ◌<◌, ◌≤◌, AllPairs, [], take, drop, length, map, IfOk, OnOk};
 ghost use Rattle.std.specs.List.{prefix_len, AllByRecursion};
 ghost use Rattle.rec_text.specs.Elements.{text_of};
 ghost use Rattle.rec_text.specs.Faults.{UnlessMemory};
@@ -7,11 +7,9 @@ ghost use Rattle.rec_text.specs.Places.{piece_of, pieces_of, AreWhole};
 ghost use Rattle.rec_text.specs.Records.{is_blank_piece};
 ghost use Rattle.rec_journal.specs.Patch.{Splices};
 ghost use Rattle.rec_tools.specs.Decision.{IsDeletionOf};
-ghost use Rattle.rec_tools.specs.Deletion.{removal};
-ghost use Rattle.rec_tools.specs.IndexList.{has};
+ghost use Rattle.rec_tools.specs.Deletion.{removal, is_among};
 ghost use Rattle.rec_tools.specs.RemovedRuns.{with_run, AreApart, AreRemoved};
 
-use crate::index_list::IndexList;
 use rec_journal::{Hunk, Patch};
 use rec_text::{Bytes, Database, Element, Fault, Kind};
 use std::alloc::{AllocError, Global};
@@ -59,22 +57,25 @@ fn add_run(runs: &mut Vec<Range<usize>>, run: Range<usize>) -> Result<(), AllocE
     Ok(())
 }
 
-/// The runs of elements that go with the records whose indexes are in the list, and how many records these are.
+/// The runs of elements that go with the records of these indexes, and how many records these are.
 fn removed_runs(
     alloc: Global,
     database: &Database,
-    list: &IndexList,
+    selected: &[usize],
 ) -> Result<(Vec<Range<usize>>, usize), AllocError>
-    ensures { IfOk result (λ (runs, changed). AreRemoved database.now (has list.now) runs.items changed) }
+    requires { AllPairs (λ a b. a < b) selected.now }
+    ensures { IfOk result (λ (runs, changed). AreRemoved database.now (is_among selected.now) runs.items changed) }
 {
     let elements = database.elements();
     let mut runs = Vec::new(alloc);
     let mut changed = 0;
+    let mut rest = selected;
     for (index, record) in database.records().enumerate() {
-        if list.has(index) {
+        if let Some(behind) = rest.strip_prefix(&[index]) {
             let end = record.end + blank_count(&elements[record.end..]);
             add_run(&mut runs, record.start..end)?;
             changed += 1;
+            rest = behind;
         }
     }
     Ok((runs, changed))
@@ -130,9 +131,10 @@ fn patch_of(
     Ok(Patch::new(hunks).unwrap())
 }
 
-/// Deletes the records whose indexes are in the list.
-pub fn delete(alloc: Global, database: &Database, list: &IndexList) -> Result<Edited, Fault>
-    ensures found { UnlessMemory result (IsDeletionOf database.now list.now) }
+/// Deletes the records of these ascending indexes.
+pub fn delete(alloc: Global, database: &Database, selected: &[usize]) -> Result<Edited, Fault>
+    requires { AllPairs (λ a b. a < b) selected.now }
+    ensures found { UnlessMemory result (IsDeletionOf database.now selected.now) }
 
     // The patch leads from the text to the edited one, and it has no hunk exactly where the two are equal.
     ensures leads { IfOk result (λ edited. Splices edited.patch (text_of database.now) edited.text) }
@@ -140,7 +142,7 @@ pub fn delete(alloc: Global, database: &Database, list: &IndexList) -> Result<Ed
 {
     let before = database.text();
     let elements = database.elements();
-    let (runs, changed) = removed_runs(alloc, database, list)?;
+    let (runs, changed) = removed_runs(alloc, database, selected)?;
     let patch = patch_of(alloc, before, elements, &runs)?;
     let text = patch.apply(alloc, before)?;
     Ok(Edited {

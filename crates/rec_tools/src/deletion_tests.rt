@@ -1,8 +1,11 @@
 //! Deletions of records, with the hunks of their patches.
 
-use crate::deletion::delete;
-use crate::index_list::IndexList;
-use rec_text::read;
+use crate::base::base_of;
+use crate::decision::delete_by;
+use crate::deletion::Edited;
+use crate::request::{Ask, Pick};
+use rec_text::{Bytes, Fault};
+use std::alloc::Global;
 use std::test::Fail;
 
 /// A text, the list of indexes, the text without those records, and the place and the old text of each hunk.
@@ -66,16 +69,21 @@ const CASES: [Case<'static>; 10] = [
         &[(0, "A: 1\n\n"), (12, "C: 3")],
         2,
     ),
-    // A descriptor is a record too.
-    ("%rec: T\n\nA: 1\n", "0", "A: 1\n", &[(0, "%rec: T\n\n")], 1),
+    // A descriptor is no member of its set.
+    ("%rec: T\n\nA: 1\n", "0", "%rec: T\n\n", &[(9, "A: 1\n")], 1),
 ];
+
+/// The text without the records of a list.
+fn deleted(alloc: Global, text: &[u8], list: &[u8]) -> Result<Edited, Fault> {
+    let base = base_of(alloc, text)?;
+    let by = Ask::Index(Bytes::copy_of(alloc, list)?);
+    delete_by(alloc, &base, &Pick { kind: None, by }, false)
+}
 
 #[test]
 fn records_go_with_the_blank_lines_behind_them(rt: HostRuntime) -> Result<(), Fail> {
     for (before, indexes, after, hunks, changed) in CASES {
-        let database = read(rt.alloc(), before.as_bytes())?;
-        let list = IndexList::parse(rt.alloc(), indexes.as_bytes())?;
-        let edited = delete(rt.alloc(), &database, &list)?;
+        let edited = deleted(rt.alloc(), before.as_bytes(), indexes.as_bytes())?;
         assert_eq!(rt;
             edited.text.as_slice(),
             after.as_bytes(),
@@ -102,9 +110,7 @@ fn records_go_with_the_blank_lines_behind_them(rt: HostRuntime) -> Result<(), Fa
 
 #[test]
 fn bytes_that_are_no_text_stay(rt: HostRuntime) -> Result<(), Fail> {
-    let database = read(rt.alloc(), b"A: \xff\0\n\nB: 2\n#\xfe")?;
-    let list = IndexList::parse(rt.alloc(), b"1")?;
-    let edited = delete(rt.alloc(), &database, &list)?;
+    let edited = deleted(rt.alloc(), b"A: \xff\0\n\nB: 2\n#\xfe", b"1")?;
     assert_eq!(rt; edited.text.as_slice(), b"A: \xff\0\n\n#\xfe".as_slice());
     Ok(())
 }

@@ -1,25 +1,62 @@
 //! What a user asks for, and what is answered.
+use rec_select::InfoForm;
 use rec_text::Bytes;
 
 /// How records are selected.
 #[derive(Debug, Drop)]
 pub enum Ask {
+    /// All of them.
+    All,
+    /// Those that an expression selects, such as `Age > 17 && #Email`.
+    Expr(Bytes),
     /// By their places in the set, from 0: a list such as `0,4-7`.
     Index(Bytes),
+    /// Those with a value that contains these bytes.
+    Quick(Bytes),
 }
 
-/// Which records of which type. Without a type they are those of the untyped set.
+/// Which records of which type. Without a type they are those of the untyped set where that has a record, and else of
+/// the only typed set.
 #[derive(Debug, Drop)]
 pub struct Pick {
     pub kind: Option<Bytes>,
     pub by: Ask,
 }
 
+/// What is printed of each record. A list of fields is a text such as `Name,Email[0-1]`.
+#[derive(Debug, Drop)]
+pub enum Form {
+    /// All its fields, as they stand in the file.
+    Blocks,
+    /// The fields that a list picks, as they stand in the file.
+    Print(Bytes),
+    /// The values of these, one in a line.
+    Values(Bytes),
+    /// The values of these in one line.
+    Row(Bytes),
+    /// Nothing: the number of the records is printed instead.
+    Count,
+}
+
 /// A request on a file and its journal.
 #[derive(Debug, Drop)]
 pub enum Request {
-    /// Deletes records.
-    Delete { pick: Pick, force: bool },
+    /// Prints records. With `collapse` no empty line stands between them.
+    Show {
+        pick: Pick,
+        form: Form,
+        collapse: bool,
+    },
+    /// Prints what record sets there are, or what that of a type is.
+    Info {
+        kind: Option<Bytes>,
+        form: InfoForm,
+    },
+    /// Deletes records; all records of a set only with `force`.
+    Delete {
+        pick: Pick,
+        force: bool,
+    },
     /// Takes the newest edit back.
     Undo,
 }
@@ -27,6 +64,8 @@ pub enum Request {
 /// The answer to a request that isn't refused.
 #[derive(Clone, Copy, Debug, PartialEq, Eq)]
 pub enum Reply {
+    /// What was asked for was printed.
+    Shown,
     /// So many records were changed.
     Edited(usize),
     /// The text stays as it is; no event is made.

@@ -3,11 +3,13 @@ ghost use Rattle.std.specs.Prelude.{◌≡◌, ◌⊎◌, ◌≤◌, ℕ, List, 
 ghost use Rattle.std.specs.List.{AllByRecursion};
 ghost use Rattle.rec_text.specs.Sink.{HasRisen, UnlessStoreFailed};
 ghost use Rattle.rec_tools.specs.Home.{Contents};
-ghost use Rattle.rec_tools.specs.Machine.{State, Stands, IsAnswer};
-ghost use Rattle.rec_tools.specs.Guarantee.{contents_of, MayHold, Attempts, AttemptsAll, IsRefusal, IsSilent, Guarantee};
+ghost use Rattle.rec_tools.specs.Printouts.{Printed, WentOut};
+ghost use Rattle.rec_tools.specs.Machine.{State, Stands};
+ghost use Rattle.rec_tools.specs.Guarantee.{contents_of, MayHold, MayCarryOut, Attempts, AttemptsAll, GoesAsMachine, IsRefusal, IsLook, IsSilent, Guarantee};
 
-use crate::decision::{Decision, decide};
+use crate::decision::{Decision, decide_delete, decide_undo};
 use crate::home::{Home, Which};
+use crate::printing::{inform, show};
 use crate::request::{Reply, Request};
 use rec_journal::Plan;
 use rec_text::{Bytes, Fault, Sink};
@@ -39,35 +41,71 @@ fn put_in_place<H: Home>(home: &mut H, plan: &Plan) -> Result<(), Fault>
     home.replace(Which::Base, plan.file.as_slice())
 }
 
-/// Runs one request: reads the contents, decides, and puts a plan in place, the journal first.
+/// Carries a decision out.
+fn carry_out<H: Home>(home: &mut H, decision: Decision) -> Result<Reply, Fault>
+    ensures carried { IfSome (H.contents home.old) (λ c. (d : Contents) × (H.contents home.new ≡ Some d) × MayCarryOut c decision result d) }
+    ensures counted { H.failure_count home.old ≤ H.failure_count home.new }
+    ensures store_failed { OnErr result (HasRisen (H.failure_count home.old) (H.failure_count home.new)) }
+    ensures refusals { UnlessStoreFailed result }
+{
+    match decision {
+        Decision::Stay(reply) => Ok(reply),
+        Decision::Put(plan, reply) => {
+            put_in_place(home, &plan)?;
+            Ok(reply)
+        }
+    }
+}
+
+/// Runs one request: reads the contents, and prints, or decides and puts a plan in place, the journal first.
 pub fn run<H: Home, S: Sink>(
     alloc: Global,
     home: &mut H,
     out: &mut S,
     request: &Request,
 ) -> Result<Reply, Fault>
-    // On any file and journal that the home tells: the refusals in their order, the edited text, the plan put in place.
-    ensures attempts { IfSome (H.contents home.old) (λ c. (d : Contents) × (H.contents home.new ≡ Some d) × Attempts c request.now result d) }
+    // On any file and journal that the home tells: the refusals in their order, the printed text, the edited text, the
+    // plan put in place.
+    ensures attempts { IfSome (H.contents home.old) (λ c. (d : Contents) × (p : Printed) × (H.contents home.new ≡ Some d)
+        × WentOut (S.contents out.old) (S.contents out.new) (S.failure_count out.old) (S.failure_count out.new) p × Attempts c request.now result p d) }
 
-    // Contents that stand for a state become contents that stand for the machine's next state, with its reply.
+    // Contents that stand for a state become contents that stand for the machine's next state, with its reply and what it prints.
     ensures stands { ¬ HasRisen (H.failure_count home.old) (H.failure_count home.new) → IfSome (H.contents home.old) (λ c. (s : State) → Stands c s →
-        (d : Contents) × (t : State) × (H.contents home.new ≡ Some d) × IsAnswer s request.now result t × Stands d t) }
+        (d : Contents) × (t : State) × (p : Printed) × (H.contents home.new ≡ Some d)
+        × WentOut (S.contents out.old) (S.contents out.new) (S.failure_count out.old) (S.failure_count out.new) p × GoesAsMachine c s request.now result p d t) }
 
-    // A store failed only where the home's failures rose.
-    ensures store_failed { IsErrOf result Fault.StoreFailed → HasRisen (H.failure_count home.old) (H.failure_count home.new) }
-    ensures counted { H.failure_count home.old ≤ H.failure_count home.new }
+    // A store failed only where the failures of the home or of the sink rose.
+    ensures store_failed { IsErrOf result Fault.StoreFailed → HasRisen (H.failure_count home.old) (H.failure_count home.new) ⊎ HasRisen (S.failure_count out.old) (S.failure_count out.new) }
+    ensures counted { (H.failure_count home.old ≤ H.failure_count home.new) × (S.failure_count out.old ≤ S.failure_count out.new) }
     ensures refusals { IfErr result IsRefusal }
 
-    // After any other refusal both contents are as before.
+    // After any other refusal both contents are as before; so they are after every request that replaces nothing.
     ensures unchanged { IfErr result (λ fault. (fault ≡ Fault.StoreFailed) ⊎ (H.contents home.new ≡ H.contents home.old)) }
+    ensures looks { IsLook request.now → H.contents home.new ≡ H.contents home.old }
     ensures silent { IsSilent request.now → out.new ≡ out.old }
 {
-    let (file, journal) = read_both(alloc, home)?;
-    match decide(alloc, file.as_slice(), journal.as_slice(), request)? {
-        Decision::Stay(reply) => Ok(reply),
-        Decision::Put(plan, reply) => {
-            put_in_place(home, &plan)?;
-            Ok(reply)
+    match request {
+        Request::Show {
+            pick,
+            form,
+            collapse,
+        } => {
+            let file = home.read(alloc, Which::Base)?;
+            show(alloc, file.as_slice(), pick, form, *collapse, out)
+        }
+        Request::Info { kind, form } => {
+            let file = home.read(alloc, Which::Base)?;
+            inform(alloc, file.as_slice(), kind, *form, out)
+        }
+        Request::Delete { pick, force } => {
+            let (file, journal) = read_both(alloc, home)?;
+            let decision = decide_delete(alloc, file.as_slice(), journal.as_slice(), pick, *force)?;
+            carry_out(home, decision)
+        }
+        Request::Undo => {
+            let (file, journal) = read_both(alloc, home)?;
+            let decision = decide_undo(alloc, file.as_slice(), journal.as_slice())?;
+            carry_out(home, decision)
         }
     }
 }
@@ -81,17 +119,20 @@ pub fn run_all<H: Home, S: Sink>(
     requests: &[Request],
 ) -> Result<Vec<Result<Reply, Fault>>, Fault>
     // One answer for each request, whatever fails.
-    ensures attempts { IfOk result (λ answers. IfSome (H.contents home.old) (λ c. (d : Contents) × (H.contents home.new ≡ Some d)
-        × AttemptsAll c requests.now answers.items d)) }
+    ensures attempts { IfOk result (λ answers. IfSome (H.contents home.old) (λ c. (d : Contents) × (p : Printed) × (H.contents home.new ≡ Some d)
+        × WentOut (S.contents out.old) (S.contents out.new) (S.failure_count out.old) (S.failure_count out.new) p
+        × AttemptsAll c requests.now answers.items p d)) }
 
     // From any file and an empty journal, while the home tells its contents and doesn't fail, every run of requests is
-    // a run of the history machine, and after each request the contents stand for its state.
+    // a run of the history machine: its answers, what it prints, and after each request contents that stand for its state.
     ensures guarantee { IfOk result (λ answers. (file : List ℕ) → H.contents home.old ≡ Some (record { file = file; journal = [] }) →
         ¬ HasRisen (H.failure_count home.old) (H.failure_count home.new) →
-        (d : Contents) × (H.contents home.new ≡ Some d) × Guarantee file requests.now answers.items d) }
+        (d : Contents) × (p : Printed) × (H.contents home.new ≡ Some d)
+        × WentOut (S.contents out.old) (S.contents out.new) (S.failure_count out.old) (S.failure_count out.new) p
+        × Guarantee file requests.now answers.items p d) }
 
-    ensures unreserved { IfErr result (λ fault. (fault ≡ Fault.OutOfMemory) × (home.new ≡ home.old)) }
-    ensures counted { H.failure_count home.old ≤ H.failure_count home.new }
+    ensures unreserved { IfErr result (λ fault. (fault ≡ Fault.OutOfMemory) × (home.new ≡ home.old) × (out.new ≡ out.old)) }
+    ensures counted { (H.failure_count home.old ≤ H.failure_count home.new) × (S.failure_count out.old ≤ S.failure_count out.new) }
     ensures silent { AllByRecursion IsSilent requests.now → out.new ≡ out.old }
 {
     let mut answers = Vec::with_capacity(alloc, requests.len())?;

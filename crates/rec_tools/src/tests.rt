@@ -1,6 +1,7 @@
 //! Requests run on a home in memory. All bytes of both contents are compared.
 mod deletions;
 mod layouts;
+mod printing;
 mod refusals;
 mod stops;
 mod texts;

@@ -1,1 +1,2 @@
 pub mod UsageLemmas
+pub mod WordsLemmas

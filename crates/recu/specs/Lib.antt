@@ -1,3 +1,4 @@
 pub mod Usage
+pub mod Options
 pub mod Words
 pub mod Status

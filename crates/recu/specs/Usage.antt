@@ -1,15 +1,27 @@
 -- The tools and their options, as clap is told of them. A word of the command line is its bytes.
-use Rattle.std.specs.Prelude.{true, codes, Some}
-use Rattle.clap.specs.Words.{App, Rule, new_app, new_rule, with_rule, with_subcommand}
+use Rattle.std.specs.Prelude.{true, List, [], ◌∷◌, codes, Some, slice_get, fold}
+use Rattle.clap.specs.Words.{App, Rule, Text, new_app, new_rule, with_rule, with_subcommand}
+use Rattle.clap.specs.declared.builder.action.ArgAction.TheVariants.{SetTrue}
+
+-- `-x VALUE` or `--name VALUE`
+abbrev pub valued : Text → Text → Rule
+valued letter name = record (new_rule name) {
+  short = slice_get letter 0;
+  long = Some name;
+  value_names = 1;
+}
+
+-- `-x` or `--name`
+abbrev pub flag : Text → Text → Rule
+flag letter name = record (new_rule name) {
+  short = slice_get letter 0;
+  long = Some name;
+  action = Some SetTrue;
+}
 
 -- `-n LIST` or `--number LIST`, which has to be there
-abbrev pub number_option : Rule
-number_option = record (new_rule (codes "number")) {
-  short = Some 110;
-  long = Some (codes "number");
-  value_names = 1;
-  required = true;
-}
+abbrev pub needed_number : Rule
+needed_number = record (valued (codes "n") (codes "number")) { required = true }
 
 -- `--journal PATH`
 abbrev pub journal_option : Rule
@@ -18,16 +30,45 @@ journal_option = record (new_rule (codes "journal")) {
   value_names = 1;
 }
 
--- FILE, which has to be there
+-- FILE
 abbrev pub file_word : Rule
-file_word = record (new_rule (codes "file")) { value_names = 1; required = true }
+file_word = record (new_rule (codes "file")) { value_names = 1 }
+
+-- FILE, which has to be there
+abbrev pub needed_file : Rule
+needed_file = record file_word { required = true }
+
+-- a tool with these rules, in their order
+abbrev pub tool_with : Text → List Rule → App
+tool_with name rules = fold with_rule (new_app name) rules
+
+abbrev pub recsel_usage : App
+recsel_usage = tool_with (codes "recsel") (
+    valued (codes "t") (codes "type")
+    ∷ valued (codes "e") (codes "expression")
+    ∷ valued (codes "n") (codes "number")
+    ∷ valued (codes "q") (codes "quick")
+    ∷ valued (codes "p") (codes "print")
+    ∷ valued (codes "P") (codes "print-values")
+    ∷ valued (codes "R") (codes "print-row")
+    ∷ flag (codes "c") (codes "count")
+    ∷ flag (codes "C") (codes "collapse")
+    ∷ file_word
+    ∷ [])
+
+abbrev pub recinf_usage : App
+recinf_usage = tool_with (codes "recinf") (
+    valued (codes "t") (codes "type")
+    ∷ flag (codes "d") (codes "descriptor")
+    ∷ flag (codes "n") (codes "names-only")
+    ∷ file_word
+    ∷ [])
 
 abbrev pub recdel_usage : App
-recdel_usage =
-    with_rule (with_rule (with_rule (new_app (codes "recdel")) number_option) journal_option) file_word
+recdel_usage = tool_with (codes "recdel") (needed_number ∷ journal_option ∷ needed_file ∷ [])
 
 abbrev pub undo_usage : App
-undo_usage = with_rule (with_rule (new_app (codes "undo")) journal_option) file_word
+undo_usage = tool_with (codes "undo") (journal_option ∷ needed_file ∷ [])
 
 -- the words are those behind the program's name, and the first of them is a tool
 abbrev pub plain_usage : App
@@ -42,4 +83,6 @@ plain_usage = record {
 }
 
 abbrev pub usage : App
-usage = with_subcommand (with_subcommand plain_usage recdel_usage.top) undo_usage.top
+usage = with_subcommand
+    (with_subcommand (with_subcommand (with_subcommand plain_usage recsel_usage.top) recinf_usage.top) recdel_usage.top)
+    undo_usage.top

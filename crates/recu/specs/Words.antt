@@ -1,17 +1,76 @@
 -- What a command line asks for, and the paths that it names. A path is its bytes.
-use Rattle.std.specs.Prelude.{◌≡◌, ◌≢◌, ℕ, false, List, ◌++◌, codes, Option, Some, None, option_map, string_bytes}
-use Rattle.clap.specs.Words.{Row, Text, first_of, subcommand_of}
+use Rattle.std.specs.Prelude.{◌≡◌, ◌≢◌, ℕ, Bool, true, false, List, ◌++◌, codes, Option, Some, None, option_map, string_bytes}
+use Rattle.std.specs.Option.{option_map_or}
+use Rattle.std.specs.Str.{bytes_eq}
+use Rattle.clap.specs.Words.{Row, Text, first_of, one_of, subcommand_of}
+use Rattle.rec_select.specs.declared.info.InfoForm.{InfoForm}
+use Rattle.rec_select.specs.declared.info.InfoForm.TheVariants.{Counts, Names, Descriptors}
+use Rattle.rec_tools.specs.declared.request.Ask.{Ask}
+use Rattle.rec_tools.specs.declared.request.Ask.TheVariants.{All, Expr, Index, Quick}
+use Rattle.rec_tools.specs.declared.request.Form.{Form}
+use Rattle.rec_tools.specs.declared.request.Form.TheVariants.{Blocks, Print, Values, Row as OneRow, Count}
 use Rattle.rec_tools.specs.declared.request.Request.{Request}
-use Rattle.rec_tools.specs.declared.request.Request.TheVariants.{Delete, Undo}
-use Rattle.rec_tools.specs.Decision.{indexes_of}
+use Rattle.rec_tools.specs.declared.request.Request.TheVariants.{Show, Info, Delete, Undo}
 use Rattle.recu.specs.declared.args.Asked.{Asked}
 use Rattle.recu.specs.Usage.{usage}
 
--- the request of a tool and of the list that its option `--number` gives
-abbrev pub Asks : List ℕ → Option (List ℕ) → Request → Type 0
-Asks tool number (Delete pick force) =
-    (tool ≡ codes "recdel") × (number ≡ Some (indexes_of pick)) × (pick.kind ≡ None) × (force ≡ false)
-Asks tool number Undo = tool ≡ codes "undo"
+-- ---- the request
+
+-- a flag is given: clap reads the text `true` of it
+abbrev pub has_flag : Text → List Row → Bool
+has_flag name options = option_map_or (λ text. bytes_eq text (codes "true")) (one_of name options) false
+
+-- the texts of `--expression`, `--number` and `--quick`
+abbrev pub selection_given : List Row → Option Text × Option Text × Option Text
+selection_given options = (first_of (codes "expression") options, first_of (codes "number") options, first_of (codes "quick") options)
+
+-- and what they are where these records are asked for: one of them is given, or none
+abbrev pub selection_for : Ask → Option Text × Option Text × Option Text
+selection_for All = (None, None, None)
+selection_for (Expr text) = (Some text, None, None)
+selection_for (Index list) = (None, Some list, None)
+selection_for (Quick text) = (None, None, Some text)
+
+-- the texts of `--print`, `--print-values` and `--print-row`, and whether `--count` is given
+abbrev pub form_given : List Row → Option Text × Option Text × Option Text × Bool
+form_given options = (
+  first_of (codes "print") options,
+  first_of (codes "print-values") options,
+  first_of (codes "print-row") options,
+  has_flag (codes "count") options,
+)
+
+-- and what they are where this form is asked for: one of them is given, or none
+abbrev pub form_for : Form → Option Text × Option Text × Option Text × Bool
+form_for Blocks = (None, None, None, false)
+form_for (Print list) = (Some list, None, None, false)
+form_for (Values list) = (None, Some list, None, false)
+form_for (OneRow list) = (None, None, Some list, false)
+form_for Count = (None, None, None, true)
+
+-- whether `--descriptor` and `--names-only` are given
+abbrev pub info_form_given : List Row → Bool × Bool
+info_form_given options = (has_flag (codes "descriptor") options, has_flag (codes "names-only") options)
+
+-- and what they are where this form is asked for: one of them is given, or none
+abbrev pub info_form_for : InfoForm → Bool × Bool
+info_form_for Counts = (false, false)
+info_form_for Names = (false, true)
+info_form_for Descriptors = (true, false)
+
+-- the request of a tool and of the options that are found
+abbrev pub Asks : Text → List Row → Request → Type 0
+Asks tool options (Show pick form collapse) =
+    (tool ≡ codes "recsel") × (pick.kind ≡ first_of (codes "type") options) × (selection_for pick.by ≡ selection_given options)
+    × (form_for form ≡ form_given options) × (collapse ≡ has_flag (codes "collapse") options)
+Asks tool options (Info kind form) =
+    (tool ≡ codes "recinf") × (kind ≡ first_of (codes "type") options) × (info_form_for form ≡ info_form_given options)
+Asks tool options (Delete pick force) =
+    (tool ≡ codes "recdel") × ((list : Text) × (first_of (codes "number") options ≡ Some list) × (pick ≡ record { kind = None; by = Index list }))
+    × (force ≡ false)
+Asks tool options Undo = tool ≡ codes "undo"
+
+-- ---- the paths
 
 -- the name under which a file is written before it takes its place
 abbrev pub working_name : List ℕ → List ℕ
@@ -28,14 +87,26 @@ pub record AreApart (file journal : List ℕ) : Type 0 where
   pub journal_beside : journal ≢ working_name file
   pub file_beside : file ≢ working_name journal
 
+-- the journal of a file that is edited, by the two paths that are given
+pub record IsEditJournal (file given journal : Option (List ℕ)) : Type 0 where
+  pub path : List ℕ
+  pub file_given : file ≡ Some path
+  pub kept : journal ≡ Some (journal_of path given)
+  pub apart : AreApart path (journal_of path given)
+
+-- the journal of a request, by the two paths that are given; a request that prints has none
+abbrev pub IsJournal : Request → Option (List ℕ) → Option (List ℕ) → Option (List ℕ) → Type 0
+IsJournal (Show pick form collapse) file given journal = journal ≡ None
+IsJournal (Info kind form) file given journal = journal ≡ None
+IsJournal (Delete pick force) file given journal = IsEditJournal file given journal
+IsJournal Undo file given journal = IsEditJournal file given journal
+
 -- what the words ask for: the tool that they name, and what is made of its options
 pub record IsAsked (words : List Text) (asked : Asked) : Type 0 where
   pub tool : Text
   pub options : List Row
   pub named : subcommand_of usage words ≡ Some (tool, options)
-  pub request : Asks tool (first_of (codes "number") options) asked.request
-  pub file : Text
-  pub file_given : first_of (codes "file") options ≡ Some file
-  pub file_kept : option_map string_bytes asked.file ≡ Some file
-  pub journal_kept : option_map string_bytes asked.journal ≡ Some (journal_of file (first_of (codes "journal") options))
-  pub apart : AreApart file (journal_of file (first_of (codes "journal") options))
+  pub request : Asks tool options asked.request
+  pub file : option_map string_bytes asked.file ≡ first_of (codes "file") options
+  pub journal : IsJournal asked.request (first_of (codes "file") options) (first_of (codes "journal") options)
+      (option_map string_bytes asked.journal)

@@ -1,13 +1,15 @@
 //! Reads the command line. No other file knows clap.
-ghost use Rattle.std.specs.Prelude.{◌≡◌, true, false, map, ◌⊎◌, IfOk, IfErr, IfSome, string_bytes, codes, option_map};
-ghost use Rattle.clap.specs.Words.{app_of, first_value, found_of, rule_of};
+ghost use Rattle.std.specs.Prelude.{◌≡◌, ◌⊎◌, false, map, fold, IfOk, IfErr, string_bytes, codes, option_map};
+ghost use Rattle.clap.specs.Words.{app_of, first_of, found_of, rows_of, rule_of};
 ghost use Rattle.clap.specs.declared.builder.command.Command.TheViews.{out-Command as fields_of};
-ghost use Rattle.recu.specs.Usage.{number_option, journal_option, file_word, recdel_usage, undo_usage, plain_usage, usage};
-ghost use Rattle.recu.specs.Words.{Asks, AreApart, IsAsked, journal_of, working_name};
+ghost use Rattle.recu.specs.Options.{rule_of_option, with_option};
+ghost use Rattle.recu.specs.Usage.{needed_number, journal_option, file_word, needed_file, recsel_usage, recinf_usage, recdel_usage, undo_usage, plain_usage, usage};
+ghost use Rattle.recu.specs.Words.{has_flag, selection_given, selection_for, form_given, form_for, info_form_given, info_form_for, Asks, IsJournal, IsAsked};
 
+use crate::paths::{are_apart, copied, journal_path};
 use clap::error::ErrorKind;
-use clap::{Arg, ArgMatches, Command};
-use rec_tools::{Ask, Bytes, Fault, Pick, Request};
+use clap::{Arg, ArgAction, ArgMatches, Command};
+use rec_tools::{Ask, Bytes, Fault, Form, InfoForm, Pick, Request};
 use std::alloc::{AllocError, Global};
 use std::convert::AsStr;
 use std::rt::Env;
@@ -15,12 +17,119 @@ use std::{env, io};
 
 const VERSION: &str = "0.1.0";
 
-const ABOUT: &str = "Edits rec files, and takes edits back";
+const ABOUT: &str = "Prints and edits rec files, and takes edits back";
 
 const WORKING_NAMES: &str =
     "FILE.new and the journal's .new are working names of recu: each file is written under its own\nbefore it takes its place. What stands there is removed, unless a running recu is writing it.";
 
+const RECSEL_RULES: &str =
+    "Only one of -e, -n and -q can be given, and only one of -p, -P, -R and -c.";
+
+const RECINF_RULES: &str = "Only one of -d and -n can be given.";
+
 const CLASH: &str = "--journal: FILE and PATH are one path, or one is the other with .new appended";
+
+/// An option of a tool that prints. One that has no value is a flag.
+struct ToolOption {
+    letter: char,
+    name: &'static str,
+    value: Option<&'static str>,
+    help: &'static str,
+}
+
+static RECSEL: [ToolOption; 9] = [
+    ToolOption {
+        letter: 't',
+        name: "type",
+        value: Some("TYPE"),
+        help: "The records of this type [default: those of no type, or else of the only type]",
+    },
+    ToolOption {
+        letter: 'e',
+        name: "expression",
+        value: Some("EXPR"),
+        help: "The records for which EXPR is true, such as 'Age > 17 && #Email'",
+    },
+    ToolOption {
+        letter: 'n',
+        name: "number",
+        value: Some("LIST"),
+        help: "The records at these places among those of the type, from 0, such as 0,4-7",
+    },
+    ToolOption {
+        letter: 'q',
+        name: "quick",
+        value: Some("TEXT"),
+        help: "The records with a value that contains TEXT",
+    },
+    ToolOption {
+        letter: 'p',
+        name: "print",
+        value: Some("FIELDS"),
+        help: "Print these fields alone, such as Name,Email[0-1]",
+    },
+    ToolOption {
+        letter: 'P',
+        name: "print-values",
+        value: Some("FIELDS"),
+        help: "Print the values of these fields, one in a line",
+    },
+    ToolOption {
+        letter: 'R',
+        name: "print-row",
+        value: Some("FIELDS"),
+        help: "Print the values of these fields, those of a record in one line",
+    },
+    ToolOption {
+        letter: 'c',
+        name: "count",
+        value: None,
+        help: "Print the number of the records",
+    },
+    ToolOption {
+        letter: 'C',
+        name: "collapse",
+        value: None,
+        help: "Print no empty line between records",
+    },
+];
+
+static RECINF: [ToolOption; 3] = [
+    ToolOption {
+        letter: 't',
+        name: "type",
+        value: Some("TYPE"),
+        help: "The record set of this type alone",
+    },
+    ToolOption {
+        letter: 'd',
+        name: "descriptor",
+        value: None,
+        help: "Print the descriptor of each set",
+    },
+    ToolOption {
+        letter: 'n',
+        name: "names-only",
+        value: None,
+        help: "Print the type of each set",
+    },
+];
+
+impl ToolOption {
+    fn arg<'a>(&self, alloc: Global) -> Arg<'a>
+        ensures rule { rule_of result ≡ rule_of_option self.now }
+        ensures alone { result.global ≡ false }
+    {
+        let named = Arg::new(alloc, self.name)
+            .short(self.letter)
+            .long(self.name)
+            .help(self.help);
+        match self.value {
+            Some(value) => named.value_name(value),
+            None => named.action(ArgAction::SetTrue),
+        }
+    }
+}
 
 /// What the words ask for, and the two files that it is asked of.
 #[derive(Debug, Drop)]
@@ -121,34 +230,40 @@ fn read<S: AsStr>(alloc: Global, words: &[S]) -> Result<Asked, Refusal>
     ensures { IfOk result (IsAsked (map S.text words.now)) }
 {
     let matches = command(alloc)?.try_get_matches_from(words)?;
-    let Some((tool, matches)) = matches.subcommand() else {
+    let Some((tool, options)) = matches.subcommand() else {
         return Err(Refusal::Rule("a tool is needed"));
     };
-    let request = request(alloc, tool, matches)?;
-    let Some(file) = matches.get_str("file") else {
-        return Err(Refusal::Rule("FILE is needed"));
-    };
-    let journal = journal_path(alloc, file, matches.get_str("journal"))?;
-    if !are_apart(alloc, file, journal.as_str())? {
-        return Err(Refusal::Rule(CLASH));
-    }
+    let request = request(alloc, tool, options)?;
+    let file = options.get_str("file");
+    let journal = journal(alloc, &request, file, options.get_str("journal"))?;
     Ok(Asked {
         request,
-        file: Some(String::from_str(alloc, file)?),
-        journal: Some(journal),
+        file: copied(alloc, file)?,
+        journal,
     })
 }
 
 /// The request of a tool, from the options that were found.
 fn request(alloc: Global, tool: &str, options: &ArgMatches) -> Result<Request, Refusal>
-    ensures { IfOk result (Asks tool.now (first_value (found_of options.now) (codes "number"))) }
+    ensures { IfOk result (Asks tool.now (rows_of (found_of options.now))) }
 {
     match tool {
+        "recsel" => Ok(Request::Show {
+            pick: Pick {
+                kind: text(alloc, options, "type")?,
+                by: ask(alloc, options)?,
+            },
+            form: form(alloc, options)?,
+            collapse: is_given(options, "collapse"),
+        }),
+        "recinf" => Ok(Request::Info {
+            kind: text(alloc, options, "type")?,
+            form: info_form(options)?,
+        }),
         "recdel" => {
-            let Some(list) = options.get_str("number") else {
+            let Some(list) = text(alloc, options, "number")? else {
                 return Err(Refusal::Rule("recdel: --number is needed"));
             };
-            let list = Bytes::copy_of(alloc, list.as_bytes())?;
             Ok(Request::Delete {
                 pick: Pick {
                     kind: None,
@@ -162,29 +277,97 @@ fn request(alloc: Global, tool: &str, options: &ArgMatches) -> Result<Request, R
     }
 }
 
-/// The path of a file's journal.
-fn journal_path(alloc: Global, file: &str, given: Option<&str>) -> Result<String, AllocError>
-    ensures { IfOk result (λ path. string_bytes path ≡ journal_of file.now (option_map (λ path. path.now) given.entry)) }
+/// The options that select records.
+fn ask(alloc: Global, options: &ArgMatches) -> Result<Ask, Refusal>
+    ensures { IfOk result (λ by. selection_for by ≡ selection_given (rows_of (found_of options.now))) }
 {
-    match given {
-        Some(path) => String::from_str(alloc, path),
-        None => format!(in alloc; "{file}.journal"),
+    let expression = text(alloc, options, "expression")?;
+    let number = text(alloc, options, "number")?;
+    let quick = text(alloc, options, "quick")?;
+    match (expression, number, quick) {
+        (None, None, None) => Ok(Ask::All),
+        (Some(text), None, None) => Ok(Ask::Expr(text)),
+        (None, Some(list), None) => Ok(Ask::Index(list)),
+        (None, None, Some(text)) => Ok(Ask::Quick(text)),
+        _ => Err(Refusal::Rule("only one of --expression, --number and --quick can be given")),
     }
 }
 
-/// The name under which a file is written.
-pub fn beside(alloc: Global, path: &str) -> Result<String, AllocError>
-    ensures { IfOk result (λ name. string_bytes name ≡ working_name path.now) }
+/// The options that say what is printed of records.
+fn form(alloc: Global, options: &ArgMatches) -> Result<Form, Refusal>
+    ensures { IfOk result (λ form. form_for form ≡ form_given (rows_of (found_of options.now))) }
 {
-    format!(in alloc; "{path}.new")
+    let print = text(alloc, options, "print")?;
+    let values = text(alloc, options, "print-values")?;
+    let row = text(alloc, options, "print-row")?;
+    match (print, values, row, is_given(options, "count")) {
+        (None, None, None, false) => Ok(Form::Blocks),
+        (Some(list), None, None, false) => Ok(Form::Print(list)),
+        (None, Some(list), None, false) => Ok(Form::Values(list)),
+        (None, None, Some(list), false) => Ok(Form::Row(list)),
+        (None, None, None, true) => Ok(Form::Count),
+        _ => Err(Refusal::Rule(
+            "only one of --print, --print-values, --print-row and --count can be given",
+        )),
+    }
 }
 
-fn are_apart(alloc: Global, file: &str, journal: &str) -> Result<bool, AllocError>
-    ensures { IfOk result (λ apart. apart ≡ true → AreApart file.now journal.now) }
+/// The options that say what is printed of record sets.
+fn info_form(options: &ArgMatches) -> Result<InfoForm, Refusal>
+    ensures { IfOk result (λ form. info_form_for form ≡ info_form_given (rows_of (found_of options.now))) }
 {
-    let file_beside = beside(alloc, file)?;
-    let journal_beside = beside(alloc, journal)?;
-    Ok(journal != file && journal != file_beside.as_str() && file != journal_beside.as_str())
+    match (
+        is_given(options, "descriptor"),
+        is_given(options, "names-only"),
+    ) {
+        (false, false) => Ok(InfoForm::Counts),
+        (false, true) => Ok(InfoForm::Names),
+        (true, false) => Ok(InfoForm::Descriptors),
+        (true, true) => Err(Refusal::Rule(
+            "only one of --descriptor and --names-only can be given",
+        )),
+    }
+}
+
+/// The text of an option.
+fn text(alloc: Global, options: &ArgMatches, name: &str) -> Result<Option<Bytes>, AllocError>
+    ensures { IfOk result (λ text. text ≡ first_of name.now (rows_of (found_of options.now))) }
+{
+    match options.get_str(name) {
+        Some(text) => Ok(Some(Bytes::copy_of(alloc, text.as_bytes())?)),
+        None => Ok(None),
+    }
+}
+
+/// Whether a flag is given.
+fn is_given(options: &ArgMatches, name: &str) -> bool
+    ensures { result ≡ has_flag name.now (rows_of (found_of options.now)) }
+{
+    options.get_one(name).unwrap_or(false)
+}
+
+/// The journal of a request. One that prints has none; one that edits needs a file.
+fn journal(
+    alloc: Global,
+    request: &Request,
+    file: Option<&str>,
+    given: Option<&str>,
+) -> Result<Option<String>, Refusal>
+    ensures { IfOk result (λ journal. IsJournal request.now (option_map (λ path. path.now) file.entry) (option_map (λ path. path.now) given.entry) (option_map string_bytes journal)) }
+{
+    match request {
+        Request::Show { .. } | Request::Info { .. } => Ok(None),
+        Request::Delete { .. } | Request::Undo => {
+            let Some(file) = file else {
+                return Err(Refusal::Rule("FILE is needed"));
+            };
+            let journal = journal_path(alloc, file, given)?;
+            if !are_apart(alloc, file, journal.as_str())? {
+                return Err(Refusal::Rule(CLASH));
+            }
+            Ok(Some(journal))
+        }
+    }
 }
 
 fn command<'a>(alloc: Global) -> Result<Command<'a>, AllocError>
@@ -192,8 +375,10 @@ fn command<'a>(alloc: Global) -> Result<Command<'a>, AllocError>
 {
     let program = program(alloc)?;
     program
-        .subcommand(deletion(alloc)?)?
-        .subcommand(taking_back(alloc)?)
+        .subcommand(recsel(alloc)?)?
+        .subcommand(recinf(alloc)?)?
+        .subcommand(recdel(alloc)?)?
+        .subcommand(undo(alloc)?)
 }
 
 fn program<'a>(alloc: Global) -> Result<Command<'a>, AllocError>
@@ -211,31 +396,66 @@ fn program<'a>(alloc: Global) -> Result<Command<'a>, AllocError>
     )
 }
 
-fn deletion<'a>(alloc: Global) -> Result<Command<'a>, AllocError>
+fn recsel<'a>(alloc: Global) -> Result<Command<'a>, AllocError>
+    ensures usage { IfOk result (λ command. app_of command ≡ recsel_usage) }
+    ensures alone { IfOk result (λ command. (fields_of command).has_globals ≡ false) }
+{
+    let tool = Command::new(alloc, "recsel")
+        .about("Prints records")
+        .after_help(RECSEL_RULES);
+    with_options(alloc, tool, RECSEL.as_slice())?.arg(input_arg(alloc))
+}
+
+fn recinf<'a>(alloc: Global) -> Result<Command<'a>, AllocError>
+    ensures usage { IfOk result (λ command. app_of command ≡ recinf_usage) }
+    ensures alone { IfOk result (λ command. (fields_of command).has_globals ≡ false) }
+{
+    let tool = Command::new(alloc, "recinf")
+        .about("Prints which record sets there are")
+        .after_help(RECINF_RULES);
+    with_options(alloc, tool, RECINF.as_slice())?.arg(input_arg(alloc))
+}
+
+fn recdel<'a>(alloc: Global) -> Result<Command<'a>, AllocError>
     ensures usage { IfOk result (λ command. app_of command ≡ recdel_usage) }
     ensures alone { IfOk result (λ command. (fields_of command).has_globals ≡ false) }
 {
     Command::new(alloc, "recdel")
         .about("Deletes records")
         .after_help(WORKING_NAMES)
-        .arg(number(alloc))?
-        .arg(journal(alloc))?
-        .arg(file(alloc))
+        .arg(number_arg(alloc))?
+        .arg(journal_arg(alloc))?
+        .arg(file_arg(alloc))
 }
 
-fn taking_back<'a>(alloc: Global) -> Result<Command<'a>, AllocError>
+fn undo<'a>(alloc: Global) -> Result<Command<'a>, AllocError>
     ensures usage { IfOk result (λ command. app_of command ≡ undo_usage) }
     ensures alone { IfOk result (λ command. (fields_of command).has_globals ≡ false) }
 {
     Command::new(alloc, "undo")
         .about("Takes the newest edit back")
         .after_help(WORKING_NAMES)
-        .arg(journal(alloc))?
-        .arg(file(alloc))
+        .arg(journal_arg(alloc))?
+        .arg(file_arg(alloc))
 }
 
-fn number<'a>(alloc: Global) -> Arg<'a>
-    ensures rule { rule_of result ≡ number_option }
+/// A tool with these options behind those that it has.
+fn with_options<'a>(
+    alloc: Global,
+    mut tool: Command<'a>,
+    options: &[ToolOption],
+) -> Result<Command<'a>, AllocError>
+    ensures usage { IfOk result (λ command. app_of command ≡ fold with_option (app_of tool.entry) options.now) }
+    ensures alone { IfOk result (λ command. (fields_of command).has_globals ≡ (fields_of tool.entry).has_globals) }
+{
+    for option in options {
+        tool = tool.arg(option.arg(alloc))?;
+    }
+    Ok(tool)
+}
+
+fn number_arg<'a>(alloc: Global) -> Arg<'a>
+    ensures rule { rule_of result ≡ needed_number }
     ensures alone { result.global ≡ false }
 {
     Arg::new(alloc, "number")
@@ -246,7 +466,7 @@ fn number<'a>(alloc: Global) -> Arg<'a>
         .help("The records' places in the file, from 0, such as 0,4-7")
 }
 
-fn journal<'a>(alloc: Global) -> Arg<'a>
+fn journal_arg<'a>(alloc: Global) -> Arg<'a>
     ensures rule { rule_of result ≡ journal_option }
     ensures alone { result.global ≡ false }
 {
@@ -256,12 +476,21 @@ fn journal<'a>(alloc: Global) -> Arg<'a>
         .help("The journal of the file's edits [default: FILE.journal]")
 }
 
-fn file<'a>(alloc: Global) -> Arg<'a>
-    ensures rule { rule_of result ≡ file_word }
+fn file_arg<'a>(alloc: Global) -> Arg<'a>
+    ensures rule { rule_of result ≡ needed_file }
     ensures alone { result.global ≡ false }
 {
     Arg::new(alloc, "file")
         .value_name("FILE")
         .required(true)
         .help("The rec file")
+}
+
+fn input_arg<'a>(alloc: Global) -> Arg<'a>
+    ensures rule { rule_of result ≡ file_word }
+    ensures alone { result.global ≡ false }
+{
+    Arg::new(alloc, "file")
+        .value_name("FILE")
+        .help("The rec file [default: standard input]")
 }

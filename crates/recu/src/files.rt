@@ -1,8 +1,8 @@
-//! The home of real files. No other file opens one.
+//! The home of real files. No other file opens one, and none reads standard input.
 ghost use Rattle.std.specs.Prelude.{◌≡◌, ◌≤◌, None};
 ghost use Rattle.rec_text.specs.Sink.{HasRisen};
 
-use crate::args::beside;
+use crate::paths::beside;
 use rec_tools::{Bytes, Fault, Home, Which};
 use std::alloc::Global;
 use std::fs::{File, Metadata, OpenOptions, TryLockError};
@@ -19,7 +19,8 @@ const LIMIT: u64 = 1_073_741_824;
 #[derive(Drop)]
 pub struct FileHome<'r, R> {
     rt: &'r R,
-    base: String,
+    /// Standard input, where it is missing.
+    base: Option<String>,
     journal: String,
     failed: u64,
     failure: Option<Failure>,
@@ -41,12 +42,13 @@ struct Target {
     old: Option<Metadata>,
 }
 
-impl<'r, R: Files<File = File> + AllocGlobal> FileHome<'r, R> {
-    /// A path that isn't given is empty, and names nothing.
+impl<'r, R: Files<File = File> + Input + AllocGlobal> FileHome<'r, R> {
+    /// Where no file is given, standard input is read in its place, once. A journal that isn't given has the empty path,
+    /// which names nothing.
     pub fn new(rt: &'r R, file: Option<String>, journal: Option<String>) -> FileHome<'r, R> {
         FileHome {
             rt,
-            base: file.unwrap_or(String::new(rt.alloc())),
+            base: file,
             journal: journal.unwrap_or(String::new(rt.alloc())),
             failed: 0,
             failure: None,
@@ -58,14 +60,18 @@ impl<'r, R: Files<File = File> + AllocGlobal> FileHome<'r, R> {
         let Some(failure) = self.failure else {
             return Ok(());
         };
-        let path = self.path(failure.which);
-        eprintln!(err; "{path}: {}", failure.error)
+        let name = match failure.which {
+            Which::Base if self.base.is_none() => "standard input",
+            which => self.path(which),
+        };
+        eprintln!(err; "{name}: {}", failure.error)
     }
 
     fn path(&self, which: Which) -> &str {
-        match which {
-            Which::Base => self.base.as_str(),
-            Which::Journal => self.journal.as_str(),
+        match (which, &self.base) {
+            (Which::Base, Some(path)) => path.as_str(),
+            (Which::Base, None) => "",
+            (Which::Journal, _) => self.journal.as_str(),
         }
     }
 
@@ -80,6 +86,9 @@ impl<'r, R: Files<File = File> + AllocGlobal> FileHome<'r, R> {
     }
 
     fn bytes_of(&self, alloc: Global, which: Which) -> io::Result<Vec<u8>> {
+        if which == Which::Base && self.base.is_none() {
+            return read_rest(Vec::new(alloc), self.rt.reader());
+        }
         let path = self.path(which);
         match open(self.rt, which, path) {
             Ok(file) => read_whole(alloc, file),
@@ -109,7 +118,7 @@ impl<'r, R: Files<File = File> + AllocGlobal> FileHome<'r, R> {
     }
 }
 
-impl<'r, R: Files<File = File> + AllocGlobal> Home for FileHome<'r, R> {
+impl<'r, R: Files<File = File> + Input + AllocGlobal> Home for FileHome<'r, R> {
     ghost contents = { λ home. None };
 
     ghost failure_count = { λ home. home.failed };
@@ -158,8 +167,12 @@ fn read_whole(alloc: Global, file: File) -> io::Result<Vec<u8>> {
         return Err(too_long());
     }
     // With one byte to spare the end is seen without growing.
-    let mut bytes = Vec::with_capacity(alloc, length as usize + 1)?;
-    file.take(LIMIT + 1).read_to_end(&mut bytes)?;
+    read_rest(Vec::with_capacity(alloc, length as usize + 1)?, file)
+}
+
+/// Adds to these bytes all that a reader still has.
+fn read_rest<T: Read + Drop>(mut bytes: Vec<u8>, reader: T) -> io::Result<Vec<u8>> {
+    reader.take(LIMIT + 1).read_to_end(&mut bytes)?;
     if bytes.len() as u64 > LIMIT {
         return Err(too_long());
     }

@@ -1,22 +1,24 @@
-//! The program. It runs the request of the command line on two files, and says what was refused.
+//! The program. It runs the request of the command line on a file and its journal, and says what was refused.
 #![tactic(auto)]
 
 mod args;
 mod files;
+mod output;
+mod paths;
+#[cfg(test)]
+mod refusal_tests;
 mod status;
+#[cfg(test)]
+mod status_tests;
 #[cfg(test)]
 mod tests;
 
 use args::Asked;
 use files::FileHome;
+use output::StandardOutput;
 use rec_tools::{Fault, Output, Reply};
-use std::io;
-use std::io::{BufWriter, Write};
 use std::process::ExitCode;
 use std::rt::Runtime;
-
-/// Output goes out in pieces of this size.
-const BUFFER: usize = 65_536;
 
 fn main(rt: HostRuntime) -> ExitCode {
     let Some(answer) = answer(&rt) else {
@@ -40,7 +42,10 @@ fn answer(rt: &HostRuntime) -> Option<Result<Reply, Fault>> {
         Err(fault) => match args::explain(rt, words.as_slice()) {
             Ok(true) => None,
             Ok(false) => Some(Err(fault)),
-            Err(error) => Some(Err(output_failed(rt, &error))),
+            Err(error) => {
+                let _ = output::explain(rt, error);
+                Some(Err(Fault::StoreFailed))
+            }
         },
     }
 }
@@ -52,20 +57,14 @@ fn run(rt: &HostRuntime, asked: Asked) -> Result<Reply, Fault> {
         journal,
     } = asked;
     let mut home = FileHome::new(rt, file, journal);
-    let Ok(writer) = BufWriter::with_capacity(rt.alloc(), BUFFER, rt.stdout()) else {
+    let Ok(mut out) = StandardOutput::new(rt.alloc(), rt.stdout()) else {
         return Err(Fault::OutOfMemory);
     };
-    let mut out = Output { writer, failed: 0 };
-    let answer = rec_tools::run(rt.alloc(), &mut home, &mut out, &request);
+    let answer = match rec_tools::run(rt.alloc(), &mut home, &mut out, &request) {
+        Ok(reply) => out.finish().map(|()| reply),
+        Err(fault) => Err(fault),
+    };
     let _ = home.explain(rt);
-    let reply = answer?;
-    match out.writer.flush() {
-        Ok(()) => Ok(reply),
-        Err(error) => Err(output_failed(rt, &error)),
-    }
-}
-
-fn output_failed(rt: &impl Eprint, error: &io::Error) -> Fault {
-    let _ = eprintln!(rt; "standard output: {error}");
-    Fault::StoreFailed
+    let _ = out.explain(rt);
+    answer
 }

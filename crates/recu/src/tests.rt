@@ -1,9 +1,6 @@
-//! What the words ask for, and what is printed at the end.
-ghost use Rattle.std.specs.Prelude.{◌≡◌, None};
-
+//! What the words ask for.
 use crate::args::{Asked, request_of};
-use crate::status::finish;
-use rec_tools::{Ask, Bytes, Fault, Reply, Request, Rule, Sink, Violation, Violations};
+use rec_tools::{Ask, Bytes, Form, InfoForm, Pick, Request};
 use std::alloc::{AllocError, Global};
 use std::str;
 use std::test::Fail;
@@ -18,37 +15,307 @@ fn told(alloc: Global, line: &str) -> Result<String, AllocError> {
 }
 
 fn spelled(alloc: Global, asked: &Asked) -> Result<String, AllocError> {
-    let (Some(file), Some(journal)) = (&asked.file, &asked.journal) else {
-        return format!(in alloc; "no path");
-    };
+    let file = path_or(&asked.file, "standard input");
+    let journal = path_or(&asked.journal, "no journal");
     match &asked.request {
-        Request::Delete { pick, force: false } if pick.kind.is_none() => {
-            let Ask::Index(list) = &pick.by;
-            let list = str::from_utf8(list.as_slice()).unwrap_or("no text");
-            format!(in alloc; "delete {list} of {file} and {journal}")
+        Request::Show {
+            pick,
+            form,
+            collapse,
+        } => {
+            let records = spelled_pick(alloc, pick)?;
+            let form = spelled_form(alloc, form)?;
+            let collapsed = if *collapse { " collapsed" } else { "" };
+            format!(in alloc; "show {records} as {form}{collapsed} of {file} and {journal}")
         }
-        Request::Delete { .. } => format!(in alloc; "another deletion"),
+        Request::Info { kind, form } => {
+            let kind = spelled_kind(alloc, kind)?;
+            let form = match form {
+                InfoForm::Counts => "counts",
+                InfoForm::Names => "names",
+                InfoForm::Descriptors => "descriptors",
+            };
+            format!(in alloc; "info {kind}as {form} of {file} and {journal}")
+        }
+        Request::Delete { pick, force } => {
+            let records = spelled_pick(alloc, pick)?;
+            let forced = if *force { " forced" } else { "" };
+            format!(in alloc; "delete {records}{forced} of {file} and {journal}")
+        }
         Request::Undo => format!(in alloc; "undo {file} and {journal}"),
     }
 }
 
+fn path_or<'p>(path: &'p Option<String>, other: &'p str) -> &'p str {
+    match path {
+        Some(path) => path.as_str(),
+        None => other,
+    }
+}
+
+fn spelled_pick(alloc: Global, pick: &Pick) -> Result<String, AllocError> {
+    let kind = spelled_kind(alloc, &pick.kind)?;
+    match &pick.by {
+        Ask::All => format!(in alloc; "{kind}all"),
+        Ask::Expr(text) => format!(in alloc; "{kind}expression {}", text_of(text)),
+        Ask::Index(list) => format!(in alloc; "{kind}index {}", text_of(list)),
+        Ask::Quick(text) => format!(in alloc; "{kind}quick {}", text_of(text)),
+    }
+}
+
+fn spelled_kind(alloc: Global, kind: &Option<Bytes>) -> Result<String, AllocError> {
+    match kind {
+        Some(kind) => format!(in alloc; "type {} ", text_of(kind)),
+        None => Ok(String::new(alloc)),
+    }
+}
+
+fn spelled_form(alloc: Global, form: &Form) -> Result<String, AllocError> {
+    match form {
+        Form::Blocks => format!(in alloc; "blocks"),
+        Form::Print(list) => format!(in alloc; "print {}", text_of(list)),
+        Form::Values(list) => format!(in alloc; "values {}", text_of(list)),
+        Form::Row(list) => format!(in alloc; "row {}", text_of(list)),
+        Form::Count => format!(in alloc; "count"),
+    }
+}
+
+fn text_of(bytes: &Bytes) -> &str {
+    str::from_utf8(bytes.as_slice()).unwrap_or("no text")
+}
+
 #[test]
-fn every_spelling_is_read(rt: HostRuntime) -> Result<(), Fail> {
+fn every_spelling_of_a_value_is_read(rt: HostRuntime) -> Result<(), Fail> {
+    for (tool, letter, name, meaning) in [
+        (
+            "recsel",
+            't',
+            "type",
+            "show type V all as blocks of f and no journal",
+        ),
+        (
+            "recsel",
+            'e',
+            "expression",
+            "show expression V as blocks of f and no journal",
+        ),
+        (
+            "recsel",
+            'n',
+            "number",
+            "show index V as blocks of f and no journal",
+        ),
+        (
+            "recsel",
+            'q',
+            "quick",
+            "show quick V as blocks of f and no journal",
+        ),
+        (
+            "recsel",
+            'p',
+            "print",
+            "show all as print V of f and no journal",
+        ),
+        (
+            "recsel",
+            'P',
+            "print-values",
+            "show all as values V of f and no journal",
+        ),
+        (
+            "recsel",
+            'R',
+            "print-row",
+            "show all as row V of f and no journal",
+        ),
+        (
+            "recinf",
+            't',
+            "type",
+            "info type V as counts of f and no journal",
+        ),
+        ("recdel", 'n', "number", "delete index V of f and f.journal"),
+    ] {
+        let alloc = rt.alloc();
+        for line in [
+            format!(in alloc; "{tool} -{letter} V f")?,
+            format!(in alloc; "{tool} -{letter}V f")?,
+            format!(in alloc; "{tool} -{letter}=V f")?,
+            format!(in alloc; "{tool} --{name} V f")?,
+            format!(in alloc; "{tool} --{name}=V f")?,
+            format!(in alloc; "{tool} f -{letter} V")?,
+            format!(in alloc; "{tool} -{letter} V -- f")?,
+        ] {
+            let asked = told(alloc, line.as_str())?;
+            assert_eq!(rt; asked.as_str(), meaning, "at {line}");
+        }
+    }
+    Ok(())
+}
+
+#[test]
+fn every_spelling_of_a_flag_is_read(rt: HostRuntime) -> Result<(), Fail> {
+    for (tool, letter, name, meaning) in [
+        (
+            "recsel",
+            'c',
+            "count",
+            "show all as count of f and no journal",
+        ),
+        (
+            "recsel",
+            'C',
+            "collapse",
+            "show all as blocks collapsed of f and no journal",
+        ),
+        (
+            "recinf",
+            'd',
+            "descriptor",
+            "info as descriptors of f and no journal",
+        ),
+        (
+            "recinf",
+            'n',
+            "names-only",
+            "info as names of f and no journal",
+        ),
+    ] {
+        let alloc = rt.alloc();
+        for line in [
+            format!(in alloc; "{tool} -{letter} f")?,
+            format!(in alloc; "{tool} --{name} f")?,
+            format!(in alloc; "{tool} f -{letter}")?,
+            format!(in alloc; "{tool} --{name} -- f")?,
+        ] {
+            let asked = told(alloc, line.as_str())?;
+            assert_eq!(rt; asked.as_str(), meaning, "at {line}");
+        }
+        for line in [
+            format!(in alloc; "{tool} -{letter}{letter} f")?,
+            format!(in alloc; "{tool} -{letter} --{name} f")?,
+            format!(in alloc; "{tool} --{name} f --{name}")?,
+            format!(in alloc; "{tool} -{letter}=1 f")?,
+            format!(in alloc; "{tool} --{name}=x f")?,
+            format!(in alloc; "{tool} --{name}= f")?,
+        ] {
+            let asked = told(alloc, line.as_str())?;
+            assert_eq!(rt; asked.as_str(), "24", "at {line}");
+        }
+    }
+    Ok(())
+}
+
+#[test]
+fn every_request_is_read(rt: HostRuntime) -> Result<(), Fail> {
     for (line, meaning) in [
-        ("recdel -n 1 f", "delete 1 of f and f.journal"),
-        ("recdel -n1 f", "delete 1 of f and f.journal"),
-        ("recdel -n=1 f", "delete 1 of f and f.journal"),
-        ("recdel --number 1 f", "delete 1 of f and f.journal"),
-        ("recdel --number=1 f", "delete 1 of f and f.journal"),
-        ("recdel --number=-1 f", "delete -1 of f and f.journal"),
-        ("recdel f -n 0,2-3", "delete 0,2-3 of f and f.journal"),
-        ("recdel -n 1 -- f", "delete 1 of f and f.journal"),
-        ("recdel -n 1 -- -f", "delete 1 of -f and -f.journal"),
-        ("recdel -n - f", "delete - of f and f.journal"),
-        ("recdel -n  f", "delete  of f and f.journal"),
-        ("recdel -n 1 -", "delete 1 of - and -.journal"),
-        ("recdel -n 1 f --journal j", "delete 1 of f and j"),
-        ("recdel --journal=j -n 1 f", "delete 1 of f and j"),
+        (
+            "recsel",
+            "show all as blocks of standard input and no journal",
+        ),
+        ("recsel f", "show all as blocks of f and no journal"),
+        ("recsel -", "show all as blocks of - and no journal"),
+        ("recsel -- -f", "show all as blocks of -f and no journal"),
+        (
+            "recsel --",
+            "show all as blocks of standard input and no journal",
+        ),
+        ("recsel ", "show all as blocks of  and no journal"),
+        (
+            "recsel recsel",
+            "show all as blocks of recsel and no journal",
+        ),
+        (
+            "recsel -n -",
+            "show index - as blocks of standard input and no journal",
+        ),
+        (
+            "recsel -e - -",
+            "show expression - as blocks of - and no journal",
+        ),
+        (
+            "recsel --expression=-5",
+            "show expression -5 as blocks of standard input and no journal",
+        ),
+        (
+            "recsel -e-5",
+            "show expression -5 as blocks of standard input and no journal",
+        ),
+        (
+            "recsel -e=-5",
+            "show expression -5 as blocks of standard input and no journal",
+        ),
+        (
+            "recsel -e==5",
+            "show expression =5 as blocks of standard input and no journal",
+        ),
+        (
+            "recsel -e =5",
+            "show expression =5 as blocks of standard input and no journal",
+        ),
+        (
+            "recsel --expression=A=5",
+            "show expression A=5 as blocks of standard input and no journal",
+        ),
+        ("recsel -q  f", "show quick  as blocks of f and no journal"),
+        (
+            "recsel --quick= f",
+            "show quick  as blocks of f and no journal",
+        ),
+        (
+            "recsel -t  f",
+            "show type  all as blocks of f and no journal",
+        ),
+        (
+            "recsel -cCn V f",
+            "show index V as count collapsed of f and no journal",
+        ),
+        (
+            "recsel -cn0",
+            "show index 0 as count of standard input and no journal",
+        ),
+        (
+            "recsel -Cn=0 -c",
+            "show index 0 as count collapsed of standard input and no journal",
+        ),
+        (
+            "recsel -n0c f",
+            "show index 0c as blocks of f and no journal",
+        ),
+        (
+            "recsel -t P -e X -R A,B -C f",
+            "show type P expression X as row A,B collapsed of f and no journal",
+        ),
+        (
+            "recsel -C f -P A -q X -t P",
+            "show type P quick X as values A collapsed of f and no journal",
+        ),
+        (
+            "recsel -p A[0-1] -n 0,2-3 f",
+            "show index 0,2-3 as print A[0-1] of f and no journal",
+        ),
+        ("recinf", "info as counts of standard input and no journal"),
+        ("recinf f", "info as counts of f and no journal"),
+        ("recinf -", "info as counts of - and no journal"),
+        ("recinf -- -f", "info as counts of -f and no journal"),
+        ("recinf ", "info as counts of  and no journal"),
+        (
+            "recinf -dt P",
+            "info type P as descriptors of standard input and no journal",
+        ),
+        (
+            "recinf -n -t P f",
+            "info type P as names of f and no journal",
+        ),
+        ("recdel --number=-1 f", "delete index -1 of f and f.journal"),
+        ("recdel f -n 0,2-3", "delete index 0,2-3 of f and f.journal"),
+        ("recdel -n 1 -- -f", "delete index 1 of -f and -f.journal"),
+        ("recdel -n - f", "delete index - of f and f.journal"),
+        ("recdel -n  f", "delete index  of f and f.journal"),
+        ("recdel -n 1 -", "delete index 1 of - and -.journal"),
+        ("recdel -n 1 f --journal j", "delete index 1 of f and j"),
+        ("recdel --journal=j -n 1 f", "delete index 1 of f and j"),
         ("undo f", "undo f and f.journal"),
         ("undo --journal j f", "undo f and j"),
         ("undo --journal=j f", "undo f and j"),
@@ -61,209 +328,6 @@ fn every_spelling_is_read(rt: HostRuntime) -> Result<(), Fail> {
     ] {
         let asked = told(rt.alloc(), line)?;
         assert_eq!(rt; asked.as_str(), meaning, "at {line}");
-    }
-    Ok(())
-}
-
-#[test]
-fn other_words_are_refused(rt: HostRuntime) -> Result<(), Fail> {
-    for line in [
-        "",
-        "f",
-        "recd -n 1 f",
-        "recset -n 1 f",
-        "redo f",
-        "-n 1 recdel f",
-        "--journal j undo f",
-        "recdel",
-        "recdel f",
-        "recdel -n 1",
-        "recdel -n 1 f g",
-        "recdel -n 1 -n 1 f",
-        "recdel -n 1 --number 1 f",
-        "recdel -n f",
-        "recdel f -n",
-        "recdel -n -- f",
-        "recdel -n -1 f",
-        "recdel --number -1 f",
-        "recdel --num 1 f",
-        "recdel -x -n 1 f",
-        "recdel --force -n 1 f",
-        "recdel -n 1 -f",
-        "recdel -n 1 f --journal j --journal j",
-        "recdel -n 1 f --journal -j",
-        "recdel -n 1 f --journal",
-        "recdel -n 1 f --journal f",
-        "recdel -n 1 f --journal f.new",
-        "recdel -n 1 j.new --journal j",
-        "undo",
-        "undo f g",
-        "undo -n 1 f",
-        "undo --journal f f",
-        "undo --journal f.new f",
-        "undo --journal f f.new",
-        "undo --jour j f",
-        "undo f --help=x",
-        "undo f -hx",
-        "--help",
-        "-h",
-        "--version",
-        "-V",
-        "help",
-        "help undo",
-        "recdel --help",
-        "recdel -h",
-        "recdel --version",
-        "undo --help",
-        "undo -V",
-    ] {
-        let asked = told(rt.alloc(), line)?;
-        assert_eq!(rt; asked.as_str(), "24", "at {line}");
-    }
-    Ok(())
-}
-
-/// A sink that takes a byte a call, and then fails.
-#[derive(Drop)]
-struct Narrow {
-    taken: Vec<u8>,
-    room: usize,
-    failed: u64,
-}
-
-impl Sink for Narrow {
-    ghost contents = { λ _. None };
-
-    ghost failure_count = { λ narrow. narrow.failed };
-
-    fn write(&mut self, bytes: &[u8]) -> Result<usize, Fault> {
-        let [first, ..] = bytes else {
-            return Ok(0);
-        };
-        if self.taken.len() < self.room && self.taken.push(*first).is_ok() {
-            return Ok(1);
-        }
-        self.failed = self.failed.saturating_add(1);
-        Err(Fault::StoreFailed)
-    }
-
-    fn failures(&self) -> u64 {
-        self.failed
-    }
-}
-
-/// The status and the first bytes that are printed.
-fn finished(
-    alloc: Global,
-    answer: &Result<Reply, Fault>,
-    room: usize,
-) -> Result<(u8, Vec<u8>), AllocError> {
-    let mut err = Narrow {
-        taken: Vec::new(alloc),
-        room,
-        failed: 0,
-    };
-    let status = finish(answer, &mut err);
-    Ok((status, err.taken))
-}
-
-fn two_violations(alloc: Global) -> Result<Violations, AllocError> {
-    let mut listed = Vec::new(alloc);
-    for line in [3, 7] {
-        listed.push(Violation {
-            line,
-            rule: Rule::Key,
-            name: Bytes::copy_of(alloc, b"Id")?,
-        })?;
-    }
-    Ok(Violations::from_vec(listed))
-}
-
-#[test]
-fn a_fault_is_printed(rt: HostRuntime) -> Result<(), Fail> {
-    let violations = two_violations(rt.alloc())?;
-    for (fault, text) in [
-        (Fault::OutOfMemory, "recu: out of memory\n"),
-        (
-            Fault::BadLine { line: 2 },
-            "recu: line 2: not a field, comment or blank line\n",
-        ),
-        (
-            Fault::OpenLine { line: 13 },
-            "recu: line 13: nothing follows the backslash\n",
-        ),
-        (
-            Fault::BadDescriptor { line: 4 },
-            "recu: line 4: bad descriptor field\n",
-        ),
-        (
-            Fault::Unsupported { line: 5 },
-            "recu: line 5: not supported\n",
-        ),
-        (
-            Fault::BadExpression { at: 0 },
-            "recu: expression: error at byte 0\n",
-        ),
-        (Fault::BadPattern, "recu: pattern not accepted\n"),
-        (
-            Fault::BadFieldList { at: 8 },
-            "recu: field list: error at byte 8\n",
-        ),
-        (
-            Fault::BadIndexList { at: 2 },
-            "recu: index list: error at byte 2\n",
-        ),
-        (
-            Fault::NoSelection,
-            "recu: no selection given, use --force\n",
-        ),
-        (Fault::TypeNeeded, "recu: several record types, use -t\n"),
-        (Fault::NoSuchType, "recu: no such record type\n"),
-        (Fault::BadName, "recu: bad name\n"),
-        (
-            Fault::BadValue,
-            "recu: a line of the value ends in a backslash\n",
-        ),
-        (Fault::BadRecord, "recu: not exactly one record\n"),
-        (Fault::Integrity(violations), "recu: violations: 2\n"),
-        (Fault::AutoImpossible, "recu: no automatic value\n"),
-        (Fault::DigestClash, "recu: two texts share a digest\n"),
-        (
-            Fault::BadJournal { line: 1 },
-            "recu: journal line 1: not a journal of recu\n",
-        ),
-        (Fault::NothingToUndo, "recu: nothing to undo\n"),
-        (Fault::NothingToRedo, "recu: nothing to redo\n"),
-        (Fault::Drifted, "recu: the file was changed outside\n"),
-        (
-            Fault::StoreFailed,
-            "recu: a file could not be read or written\n",
-        ),
-        (Fault::BadUsage, "recu: bad usage\n"),
-    ] {
-        let (status, printed) = finished(rt.alloc(), &Err(fault), 100)?;
-        assert_eq!(rt; status, 1, "at {text}");
-        assert_eq!(rt; str::from_utf8(printed.as_slice()), Ok(text));
-    }
-    Ok(())
-}
-
-#[test]
-fn a_line_is_cut_where_the_sink_fails(rt: HostRuntime) -> Result<(), Fail> {
-    for room in 0..12 {
-        let (status, printed) = finished(rt.alloc(), &Err(Fault::BadUsage), room)?;
-        assert_eq!(rt; status, 1);
-        assert_eq!(rt; printed.as_slice(), &b"recu: bad usage\n"[..room]);
-    }
-    Ok(())
-}
-
-#[test]
-fn a_reply_is_silent(rt: HostRuntime) -> Result<(), Fail> {
-    for reply in [Reply::Edited(2), Reply::Unchanged, Reply::Undone(1)] {
-        let (status, printed) = finished(rt.alloc(), &Ok(reply), 100)?;
-        assert_eq!(rt; status, 0);
-        assert_eq!(rt; printed.len(), 0);
     }
     Ok(())
 }

@@ -1,13 +1,14 @@
-use Rattle.std.proofs.Common.{◌∙◌, ap, ap₂}
 use Rattle.std.proofs.lemmas.Result.{IfOk-weaker}
-use Rattle.clap.specs.Words.{App, with_subcommand}
+use Rattle.recu.proofs.UsageLemmas.{tool_added}
 use Rattle.recu.proofs.args.command.Goals as goal
 
 pub returns : goal.returns
 returns c =
-    let deletion_is = ap (λ (a : App). a.top) c.in_ok-deletion.ensures.usage in
-    let undo_is = ap (λ (a : App). a.top) c.in_ok-taking_back.ensures.usage in
-    let first_is = c.in_ok-subcommand.ensures.shape c.in_ok-deletion.ensures.alone ∙ ap₂ with_subcommand c.in_ok-program.ensures deletion_is in
-    IfOk-weaker c.subcommand-2.result _ _
-    (λ command adds. adds.shape c.in_ok-taking_back.ensures.alone ∙ ap₂ with_subcommand first_is undo_is)
-    c.subcommand-2.ensures
+    let recsel = c.in_ok-recsel in
+    let recinf = c.in_ok-recinf in
+    let recdel = c.in_ok-recdel in
+    let undo = c.in_ok-undo in
+    let one = tool_added _ _ _ _ _ c.in_ok-subcommand.ensures c.in_ok-program.ensures recsel.ensures.usage recsel.ensures.alone in
+    let two = tool_added _ _ _ _ _ c.in_ok-subcommand-2.ensures one recinf.ensures.usage recinf.ensures.alone in
+    let three = tool_added _ _ _ _ _ c.in_ok-subcommand-3.ensures two recdel.ensures.usage recdel.ensures.alone in
+    IfOk-weaker c.subcommand-4.result _ _ (λ command adds. tool_added _ _ command _ _ adds three undo.ensures.usage undo.ensures.alone) c.subcommand-4.ensures

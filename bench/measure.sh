@@ -1,0 +1,42 @@
+# Measures commands for the scripts beside it, which source it. `unit` is the time that the others are multiples of.
+
+# milliseconds WORD..
+milliseconds() {
+    local start=${EPOCHREALTIME/./}
+    "$@" >out || exit 1
+    echo $(((${EPOCHREALTIME/./} - start + 500) / 1000))
+}
+
+# kilobytes WORD..: the most memory that the command had
+kilobytes() {
+    if [ -x /usr/bin/time ]; then
+        /usr/bin/time -f %M -o peak "$@" >out || exit 1
+        cat peak
+    else
+        python3 - "$@" <<'PYTHON'
+import resource, subprocess, sys
+subprocess.run(sys.argv[1:], stdout=subprocess.DEVNULL, check=True)
+print(resource.getrusage(resource.RUSAGE_CHILDREN).ru_maxrss)
+PYTHON
+    fi
+}
+
+# measure RUNS STATE NAME WORD..: one line of the table; the least of so many times, each from the state that STATE makes
+measure() {
+    local runs=$1 state=$2 name=$3 least= took run
+    shift 3
+    for ((run = 0; run < runs; run++)); do
+        "$state"
+        took=$(milliseconds "$@") || exit 1
+        [ -n "$least" ] && [ "$least" -le "$took" ] || least=$took
+    done
+    "$state"
+    [ -n "$unit" ] || unit=$((least ? least : 1))
+    awk -v name="$name" -v ms="$least" -v kb="$(kilobytes "$@")" -v unit="$unit" \
+        'BEGIN { printf "%-26s %9d ms %9.1f MB %8.1f\n", name, ms, kb / 1024, ms / unit }'
+}
+
+# the file stays as it is
+as_is() {
+    :
+}

@@ -1,9 +1,0 @@
-use Rattle.std.proofs.Common.{length}
-use Rattle.rec_tools.proofs.IndexListLemmas.{ReadUpTo}
-use Rattle.rec_tools.proofs.index_list.IndexList.parse.Given as goal
-
-abbrev pub invariant-loop-found : goal.invariant-loop-found
-invariant-loop-found l = ReadUpTo l.text l.rest l.spans.items
-
-abbrev pub decreases-loop-found : goal.decreases-loop-found
-decreases-loop-found l = length l.rest

@@ -1,0 +1,69 @@
+-- What the texts of a request mean, and what a file is for them: its elements and its record sets.
+use Rattle.std.specs.Prelude.{◌≡◌, ℕ, List, Some, None, Result, Ok, Err}
+use Rattle.rec_text.specs.declared.fault.Fault.{Fault}
+use Rattle.rec_text.specs.declared.fault.Fault.TheVariants.{BadExpression, BadPattern}
+use Rattle.rec_text.specs.Elements.{Piece}
+use Rattle.rec_text.specs.Reading.{IsReading}
+use Rattle.rec_sex.specs.declared.field_list.Item.{Item}
+use Rattle.rec_sex.specs.declared.index_list.Span.{Span}
+use Rattle.rec_sex.specs.Expressions.{IsExpression, HasRefusedPattern}
+use Rattle.rec_sex.specs.Grammar.{Term, fault_of}
+use Rattle.rec_sex.specs.IndexList.{IsIndexList}
+use Rattle.rec_sex.specs.Lists.{IsFieldList}
+use Rattle.rec_check.specs.declared.set.Set_.{Set_}
+use Rattle.rec_check.specs.Schemas.{IsSchema}
+use Rattle.rec_select.specs.declared.records.Shape.{Shape}
+use Rattle.rec_select.specs.declared.records.Shape.TheVariants.{Blocks as AllFields, Print as PrintedFields, Values as PickedValues, Row as PickedRow, Count as NumberAlone}
+use Rattle.rec_select.specs.Selection.{Filter, all, by_expression, at_places, with_text}
+use Rattle.rec_tools.specs.declared.request.Ask.{Ask}
+use Rattle.rec_tools.specs.declared.request.Ask.TheVariants.{All, Expr, Index, Quick}
+use Rattle.rec_tools.specs.declared.request.Form.{Form}
+use Rattle.rec_tools.specs.declared.request.Form.TheVariants.{Blocks, Print, Values, Row, Count}
+use Rattle.rec_tools.specs.Steps.{Then}
+
+-- ---- the filter that is asked for
+
+-- The expression of a text, or its leftmost fault. A text behind a `~` that `regex` may refuse as a pattern may be refused.
+abbrev pub IsExpressionFilter : List ℕ → Result Filter Fault → Type 0
+IsExpressionFilter text (Ok wanted) = (term : Term) × IsExpression text term × (wanted ≡ by_expression term)
+IsExpressionFilter text (Err (BadExpression place)) = fault_of text ≡ Some place
+IsExpressionFilter text (Err BadPattern) = (fault_of text ≡ None) × HasRefusedPattern text
+IsExpressionFilter text (Err _) = ⊥
+
+abbrev pub IsIndexFilter : List ℕ → Result Filter Fault → Type 0
+IsIndexFilter text (Ok wanted) = (spans : List Span) × IsIndexList text (Ok spans) × (wanted ≡ at_places spans)
+IsIndexFilter text (Err fault) = IsIndexList text (Err fault)
+
+abbrev pub IsFilter : Ask → Result Filter Fault → Type 0
+IsFilter All answer = answer ≡ Ok all
+IsFilter (Expr text) answer = IsExpressionFilter text answer
+IsFilter (Index list) answer = IsIndexFilter list answer
+IsFilter (Quick text) answer = answer ≡ Ok (with_text text)
+
+-- ---- the shape that is asked for
+
+abbrev pub IsListed : (List Item → Shape) → List ℕ → Result Shape Fault → Type 0
+IsListed shape_of text (Ok shape) = (items : List Item) × IsFieldList text (Ok items) × (shape ≡ shape_of items)
+IsListed shape_of text (Err fault) = IsFieldList text (Err fault)
+
+abbrev pub IsShape : Form → Result Shape Fault → Type 0
+IsShape Blocks answer = answer ≡ Ok AllFields
+IsShape (Print list) answer = IsListed PrintedFields list answer
+IsShape (Values list) answer = IsListed PickedValues list answer
+IsShape (Row list) answer = IsListed PickedRow list answer
+IsShape Count answer = answer ≡ Ok NumberAlone
+
+-- ---- the file
+
+-- the elements of a text and its record sets
+pub record Base : Type 0 where
+  pub pieces : List Piece
+  pub sets : List Set_
+
+-- the base of these elements
+abbrev pub IsBaseOf : List Piece → Result Base Fault → Type 0
+IsBaseOf pieces = Then (IsSchema pieces) (λ schema answer. answer ≡ Ok (record { pieces = pieces; sets = schema.sets }))
+
+-- the base that a file is, or why it is none
+abbrev pub IsBase : List ℕ → Result Base Fault → Type 0
+IsBase file = Then (IsReading file) IsBaseOf

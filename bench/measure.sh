@@ -1,4 +1,14 @@
-# Measures commands for the scripts beside it, which source it. `unit` is the time that the others are multiples of.
+# Measures commands for the scripts beside it, which source it with their words: [PROGRAM [MEGABYTES..]]. It leaves them in a
+# temporary folder, with `program`, `sizes` and `here`, the folder of the scripts. `unit` is the time that the others are
+# multiples of.
+here=$(cd "$(dirname "${BASH_SOURCE[0]}")" && pwd)
+program=$(realpath "${1:-$here/../crates/recu/out/recu}") || exit 1
+shift $(($# ? 1 : 0))
+sizes=("$@")
+[ ${#sizes[@]} -gt 0 ] || sizes=(1 10 100)
+folder=$(mktemp -d) || exit 1
+trap 'rm -rf "$folder"' EXIT
+cd "$folder" || exit 1
 
 # milliseconds WORD..
 milliseconds() {

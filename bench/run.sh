@@ -4,15 +4,7 @@
 # Prints a table: the least of three times, the peak memory, and the time as a multiple of sha256sum's.
 # The files lie in a temporary folder (TMPDIR chooses where); recu waits until the disk has what it wrote.
 set -u
-here=$(cd "$(dirname "$0")" && pwd)
-. "$here/measure.sh"
-program=$(realpath "${1:-$here/../crates/recu/out/recu}") || exit 1
-shift $(($# ? 1 : 0))
-sizes=("$@")
-[ ${#sizes[@]} -gt 0 ] || sizes=(1 10 100)
-folder=$(mktemp -d) || exit 1
-trap 'rm -rf "$folder"' EXIT
-cd "$folder" || exit 1
+. "$(dirname "$0")/measure.sh"
 
 # The states that a command starts from.
 fresh() {

@@ -3,15 +3,7 @@
 #     bench/select.sh [PROGRAM [MEGABYTES..]]
 # Prints a table: the least of three times (one for GNU's), the peak memory, and the time as a multiple of that of `wc -l`.
 set -u
-here=$(cd "$(dirname "$0")" && pwd)
-. "$here/measure.sh"
-program=$(realpath "${1:-$here/../crates/recu/out/recu}") || exit 1
-shift $(($# ? 1 : 0))
-sizes=("$@")
-[ ${#sizes[@]} -gt 0 ] || sizes=(1 10 100)
-folder=$(mktemp -d) || exit 1
-trap 'rm -rf "$folder"' EXIT
-cd "$folder" || exit 1
+. "$(dirname "$0")/measure.sh"
 
 # both NAME OPTION..: recu, and GNU's program with the same options
 both() {

@@ -645,6 +645,10 @@ inputs() {
         [ "$status" = 1 ] || fail "$tool to a full device ends with status $status"
         : >"$folder/out"
         prints '' "standard output: No space left on device (os error 28)\n$store_failed"
+        status=0
+        "$folder/recu" "$tool" db.rec 2>"$folder/err" >&- || status=$?
+        [ "$status" = 1 ] || fail "$tool with standard output closed ends with status $status"
+        prints '' "standard output: Bad file descriptor (os error 9)\n$store_failed"
     done
     run 0 recsel -
     prints 'A: 2\n' ''

@@ -17,5 +17,5 @@ selected_are_records pieces described kind wanted selected is (s, found, chosen)
   chosen.records,
   chosen.are,
   all_below (length chosen.records) selected (λ i contains.
-  omega (arith, (chosen.members i).0 contains, members_within pieces described chosen.records kind s is chosen.are found)),
+      omega (arith, (chosen.members i).0 contains, members_within pieces described chosen.records kind s is chosen.are found)),
 )

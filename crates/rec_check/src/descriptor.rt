@@ -75,6 +75,10 @@ fn named_type<'v>(value: &'v [u8], repeated: bool, sets: &[Set_]) -> Result<&'v 
 fn is_rec(element: &Element) -> bool
     ensures { result ≡ is_named rec_name (piece_of element.now) }
 {
+    // Few fields begin so, and their first byte is there already.
+    if element.raw.first() != Some(&b'%') {
+        return false;
+    }
     element.name() == b"%rec".as_slice()
 }
 

@@ -1,3 +1,4 @@
+pub mod PlaceLemmas
 pub mod LineLemmas
 pub mod LogicalLineLemmas
 pub mod EndLemmas

@@ -1,54 +1,67 @@
--- The place of the colon, byte by byte.
-use Rattle.std.proofs.Common.{◌≡◌, ◌≢◌, ℕ, ◌+◌, ◌<◌, ◌≤◌, Bool, true, false, List, [], ◌∷◌, ◌==◌, Option, Some, None, suc, length, drop, get_or, ap, subst, refl, ◌∙◌, arith}
-use Rattle.std.specs.Option.{option_map}
-use Rattle.std.specs.List.{slice_get}
+-- The table of the bytes of names, and the place of the colon.
+use Rattle.std.proofs.Common.{◌≡◌, ◌≢◌, ℕ, ◌+◌, ◌<◌, Bool, true, false, List, [], ◌∷◌, ◌==◌, Option, Some, None, suc, not, nat_eq, bit_and, cond, ltb, inl, inr, length, get_or, ap, subst, refl, sym, add-one, ◌∙◌, arith}
+use Rattle.std.specs.Option.{option_map, option_and_then}
+use Rattle.std.specs.List.{position, position_or_len}
 use Rattle.std.specs.Prelude.{if◌then◌else◌}
-use Rattle.std.proofs.lemmas.List.{at_drop_more, at_drop_all}
-use Rattle.std.proofs.lemmas.Bool.Decides.{nat_tests}
+use Rattle.std.proofs.Math.Numerals.{one-add}
+use Rattle.std.proofs.lemmas.Bool.{agree_below_at, cases_Bool, cond_both, ltb-false, ne_eqb}
+use Rattle.std.proofs.lemmas.List.{get_or_past}
+use Rattle.rec_text.specs.declared.name.TheConstants.{NAME_BYTES}
 use Rattle.rec_text.specs.Bytes.{begins_name, continues_name}
 use Rattle.rec_text.specs.Elements.{name_end, colon_of}
+use Rattle.rec_text.proofs.ValueLemmas.{passes_apart}
 
--- the place of the colon in what is left at i, counted from the front of the whole
-abbrev pub name_end_from : ℕ → List ℕ → Option ℕ
-name_end_from i s = option_map (λ n. i + n) (name_end (drop i s))
+-- ---- the table, held against each definition at each of the 256 bytes, by computing
 
-name_end-colon : (b : ℕ) (bs : List ℕ) → b ≡ 58 → name_end (b ∷ bs) ≡ Some 0
-name_end-colon b bs e = rw e
+abbrev has_bit : ℕ → ℕ → Bool
+has_bit bit b = not (nat_eq (bit_and (get_or NAME_BYTES b 0) bit) 0)
 
-name_end-stop : (b : ℕ) (bs : List ℕ) → b ≢ 58 → continues_name b ≡ false → name_end (b ∷ bs) ≡ None
-name_end-stop b bs ne e = grind (arith, nat_tests)
+pub begins_name-listed : (b : ℕ) → b < 256 → has_bit 1 b ≡ begins_name b
+begins_name-listed b is_byte = agree_below_at (has_bit 1) begins_name 256 b refl is_byte
 
-name_end-more : (b : ℕ) (bs : List ℕ) → b ≢ 58 → continues_name b ≡ true → name_end (b ∷ bs) ≡ option_map suc (name_end bs)
-name_end-more b bs ne e = grind (arith, nat_tests)
+pub continues_name-listed : (b : ℕ) → b < 256 → has_bit 2 b ≡ continues_name b
+continues_name-listed b is_byte = agree_below_at (has_bit 2) continues_name 256 b refl is_byte
 
-option_map-suc : (i : ℕ) (o : Option ℕ) → option_map (λ n. i + n) (option_map suc o) ≡ option_map (λ n. (i + 1) + n) o
-option_map-suc i None = refl
-option_map-suc i (Some n) = ap Some (omega arith)
+-- ---- a name ends at the first byte that it can't go on with
 
-option_map-one : (o : Option ℕ) → option_map suc o ≡ option_map (λ n. 1 + n) o
-option_map-one None = refl
-option_map-one (Some n) = ap Some (omega arith)
+abbrev pub stops : ℕ → Bool
+stops b = not (continues_name b)
 
-pub colon_of-begins : (s : List ℕ) (b : ℕ) → Some b ≡ slice_get s 0 → true ≡ begins_name b → colon_of s ≡ name_end_from 1 s
-colon_of-begins [] b first begins = absurd (cc)
-colon_of-begins (a ∷ rest) b first begins =
-    let same : begins_name a ≡ true = cc in
-    rw same (option_map-one (name_end rest))
+-- a place, where a colon stands there
+abbrev pub colon_at : List ℕ → ℕ → Option ℕ
+colon_at bs at = cond (nat_eq (get_or bs at 0) 58) (Some at) None
 
-pub name_end_from-colon : (s : List ℕ) (i : ℕ) → i < length s → get_or s i 0 ≡ 58 → name_end_from i s ≡ Some i
-name_end_from-colon s i lt e =
-    ap (option_map (λ n. i + n)) (at_drop_more name_end s i 0 lt ∙ name_end-colon _ (drop (i + 1) s) e) ∙ ap Some (omega arith)
+option_map-cond : (b : Bool) (at : ℕ) → option_map suc (cond b (Some at) None) ≡ cond b (Some (suc at)) None
+option_map-cond true at = refl
+option_map-cond false at = refl
 
-pub name_end_from-stop : (s : List ℕ) (i : ℕ) → i < length s → get_or s i 0 ≢ 58 → continues_name (get_or s i 0) ≡ false → name_end_from i s ≡ None
-name_end_from-stop s i lt ne e =
-    ap (option_map (λ n. i + n)) (at_drop_more name_end s i 0 lt ∙ name_end-stop _ (drop (i + 1) s) ne e)
+name_end-stop : (bs : List ℕ) → name_end bs ≡ colon_at bs (position_or_len stops bs)
+name_end-stop [] = refl
+name_end-stop (b ∷ bs) =
+    elim (cases_Bool (continues_name b)) [
+      | inl passes ↦ rw (passes_apart continues_name b 58 passes refl, passes, one-add) (ap (option_map suc) (name_end-stop bs) ∙ option_map-cond _ _)
+      | inr fails ↦ rw fails refl
+    ]
 
-pub name_end_from-more : (s : List ℕ) (i : ℕ) → i < length s → get_or s i 0 ≢ 58 → continues_name (get_or s i 0) ≡ true → name_end_from i s ≡ name_end_from (i + 1) s
-name_end_from-more s i lt ne e =
-    ap (option_map (λ n. i + n)) (at_drop_more name_end s i 0 lt ∙ name_end-more _ (drop (i + 1) s) ne e) ∙ option_map-suc i _
+name_end-position : (bs : List ℕ) → name_end bs ≡ option_and_then (colon_at bs) (position stops bs)
+name_end-position bs =
+    let at = position_or_len stops bs in
+    name_end-stop bs ∙ cond_both (ltb at (length bs)) (Some at) None (λ place. colon_at bs at ≡ option_and_then (colon_at bs) place)
+    (λ below. refl)
+    (λ past. rw (get_or_past bs at 0 (ltb-false _ _ past)) refl)
 
-pub name_end_from-end : (s : List ℕ) (i : ℕ) → length s ≤ i → name_end_from i s ≡ None
-name_end_from-end s i le = ap (option_map (λ n. i + n)) (at_drop_all name_end s i le)
+module _ (text : List ℕ) (first : ℕ) (rest : List ℕ) (parts : text ≡ first ∷ rest) (begins : true ≡ begins_name first) where
+  colon_of-position : (place : Option ℕ) → place ≡ position stops rest → colon_of text ≡ option_map suc (option_and_then (colon_at rest) place)
+  colon_of-position place found = rw (parts, ← begins, found) (ap (option_map suc) (name_end-position rest))
+
+  pub colon_of-none : None ≡ position stops rest → None ≡ colon_of text
+  colon_of-none found = sym (colon_of-position None found)
+
+  pub colon_of-colon : (at : ℕ) → Some at ≡ position stops rest → get_or rest at 0 ≡ 58 → Some (at + 1) ≡ colon_of text
+  colon_of-colon at found colon = ap Some (add-one at) ∙ sym (colon_of-position (Some at) found ∙ rw colon refl)
+
+  pub colon_of-other : (at : ℕ) → Some at ≡ position stops rest → get_or rest at 0 ≢ 58 → None ≡ colon_of text
+  colon_of-other at found other = sym (colon_of-position (Some at) found ∙ rw (ne_eqb _ 58 other) refl)
 
 -- ---- the colon lies within the text
 

@@ -1,15 +1,23 @@
 //! Lines of a text, cut at its newlines.
 ghost use Rattle.std.specs.Prelude.{◌≡◌, ◌++◌, ◌∷◌, [], IsTrue, MatchOption, false};
 ghost use Rattle.std.specs.Option.{is_some};
+ghost use Rattle.memchr.specs.Find.{IsFirstByte, is_byte};
 ghost use Rattle.rec_text.specs.Lines.{is_unbroken, ends_backslash, BeginsLine};
 
-use memchr::memchr;
+use memchr::memchr_iter;
+
+/// The place of the first newline. It is likely to be near, where an iterator looks first and `memchr` doesn't.
+pub(crate) fn newline_in(text: &[u8]) -> Option<usize>
+    ensures { IsFirstByte (is_byte 10) text.now result }
+{
+    memchr_iter(b'\n', text).next()
+}
 
 /// The first line without its newline, and what stands behind that newline.
 pub(crate) fn split_line(text: &[u8]) -> Option<(&[u8], &[u8])>
     ensures { MatchOption result (IsTrue (is_unbroken text.now)) (λ cut. BeginsLine text.now cut.0.now cut.1.now) }
 {
-    let at = memchr(b'\n', text)?;
+    let at = newline_in(text)?;
     Some((&text[..at], &text[at + 1..]))
 }
 

@@ -1,34 +1,48 @@
 //! The name of a field.
-ghost use Rattle.std.specs.Prelude.{◌≡◌};
+ghost use Rattle.std.specs.Prelude.{◌≡◌, ◌<◌, not, length, IfSome};
+ghost use Rattle.std.specs.List.{position};
 ghost use Rattle.rec_text.specs.Bytes.{begins_name as may_begin, continues_name as may_continue};
 ghost use Rattle.rec_text.specs.Elements.{colon_of as place_of_colon};
+
+// What each byte is to a name: 1 where it may come first, 2 where it may follow, 3 for both.
+static NAME_BYTES: [u8; 256] = *b"\
+    00000000000000000000000000000000\
+    00000100000000002222222222000000\
+    03333333333333333333333333300002\
+    03333333333333333333333333300000\
+    00000000000000000000000000000000\
+    00000000000000000000000000000000\
+    00000000000000000000000000000000\
+    00000000000000000000000000000000";
 
 fn begins_name(byte: u8) -> bool
     ensures { result ≡ may_begin byte }
 {
-    byte.is_ascii_alphabetic() || byte == b'%'
+    NAME_BYTES[usize::from(byte)] & 1 != 0
 }
 
 pub(crate) fn continues_name(byte: u8) -> bool
     ensures { result ≡ may_continue byte }
 {
-    byte.is_ascii_alphanumeric() || byte == b'_'
+    NAME_BYTES[usize::from(byte)] & 2 != 0
+}
+
+/// The place of the first byte that a name can't go on with.
+fn first_other(text: &[u8]) -> Option<usize>
+    ensures value { result ≡ position (λ b. not (may_continue b)) text.now }
+    ensures bound { IfSome result (λ at. at < length text.now) }
+{
+    text.iter().position(|byte| !continues_name(*byte))
 }
 
 /// The place of the colon, where a name and a colon come first.
 pub(crate) fn colon_of(text: &[u8]) -> Option<usize>
     ensures { result ≡ place_of_colon text.now }
 {
-    if !begins_name(*text.first()?) {
+    let (first, rest) = text.split_first()?;
+    if !begins_name(*first) {
         return None;
     }
-    for at in 1..text.len() {
-        if text[at] == b':' {
-            return Some(at);
-        }
-        if !continues_name(text[at]) {
-            return None;
-        }
-    }
-    None
+    let len = first_other(rest)?;
+    if rest[len] == b':' { Some(len + 1) } else { None }
 }

@@ -28,8 +28,7 @@ pub fn read<'t>(alloc: Global, text: &'t [u8]) -> Result<Database<'t>, Fault>
     // and no other reading is.
     ensures only { (other : Result (List Piece) Fault) → IsReading text.now other → UnlessMemory result (λ answer. answer ≡ other) }
 {
-    // A text has no more elements than lines.
-    let mut elements = Vec::with_capacity(alloc, line_after(text))?;
+    let mut elements = Vec::new(alloc);
     let mut at = 0;
     while at < text.len() {
         match first_of(&text[at..]) {

@@ -6,8 +6,8 @@ ghost use Rattle.rec_text.specs.Reading.{begins_blank_line as blank_line_is_firs
 ghost use Rattle.rec_text.specs.Scan.{HasFirst, line_len as first_line_len, body_len};
 
 use crate::element::Kind;
+use crate::lines::newline_in;
 use crate::name::colon_of;
-use memchr::memchr;
 
 /// What stands first in a text.
 #[derive(Clone, Copy)]
@@ -24,7 +24,7 @@ pub(crate) enum First {
 fn line_len(text: &[u8]) -> usize
     ensures { result ≡ first_line_len text.now }
 {
-    match memchr(b'\n', text) {
+    match newline_in(text) {
         Some(newline) => newline + 1,
         None => text.len(),
     }
@@ -60,7 +60,7 @@ fn field_end(text: &[u8], from: usize) -> usize
     ensures { result ≡ from + body_len (slice_index text.now (from - 1)) (drop from text.now) }
 {
     let mut at = from;
-    while let Some(line) = memchr(b'\n', &text[at..]) {
+    while let Some(line) = newline_in(&text[at..]) {
         let newline = at + line;
         at = newline + 1;
         if text[newline - 1] != b'\\' && !begins_plus(&text[at..]) {

@@ -17,11 +17,11 @@ loop-at-preserved c =
 
 pub returns-in-Bad-clause-found : goal.returns-in-Bad-clause-found
 returns-in-Bad-clause-found c =
-    rw c.line_after-in-Bad.ensures (HasBadLine-read c.args.text.now c.loop-at.elements.items c.loop-at.at c.loop-at.invariant c.loop-at-test.true c.in-Bad.ensures)
+    rw c.line_after.ensures (HasBadLine-read c.args.text.now c.loop-at.elements.items c.loop-at.at c.loop-at.invariant c.loop-at-test.true c.in-Bad.ensures)
 
 pub returns-in-Bad-clause-only : goal.returns-in-Bad-clause-only
 returns-in-Bad-clause-only c other is =
-    one_reading c.args.text.now (Err (BadLine c.line_after-in-Bad.result)) other (returns-in-Bad-clause-found c) is
+    one_reading c.args.text.now (Err (BadLine c.line_after.result)) other (returns-in-Bad-clause-found c) is
 
 pub returns-in-Open-clause-found : goal.returns-in-Open-clause-found
 returns-in-Open-clause-found c =

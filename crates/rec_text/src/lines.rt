@@ -6,10 +6,11 @@ ghost use Rattle.rec_text.specs.Lines.{is_unbroken, ends_backslash, BeginsLine};
 
 use memchr::memchr_iter;
 
-/// The place of the first newline. It is likely to be near, where an iterator looks first and `memchr` doesn't.
+/// The place of the first newline.
 pub(crate) fn newline_in(text: &[u8]) -> Option<usize>
     ensures { IsFirstByte (is_byte 10) text.now result }
 {
+    // It is likely to be near, where the iterator looks first; `memchr` begins with more bytes at a time.
     memchr_iter(b'\n', text).next()
 }
 

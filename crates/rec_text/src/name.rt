@@ -4,7 +4,8 @@ ghost use Rattle.std.specs.List.{position};
 ghost use Rattle.rec_text.specs.Bytes.{begins_name as may_begin, continues_name as may_continue};
 ghost use Rattle.rec_text.specs.Elements.{colon_of as place_of_colon};
 
-// What each byte is to a name: 1 where it may come first, 2 where it may follow, 3 for both.
+// What each byte is to a name, in the two lowest bits of a digit: 1 where it may come first, 2 where a
+// name may go on with it, 3 for both.
 static NAME_BYTES: [u8; 256] = *b"\
     00000000000000000000000000000000\
     00000100000000002222222222000000\
@@ -28,7 +29,7 @@ pub(crate) fn continues_name(byte: u8) -> bool
 }
 
 /// The place of the first byte that a name can't go on with.
-fn first_other(text: &[u8]) -> Option<usize>
+fn name_stop(text: &[u8]) -> Option<usize>
     ensures value { result ≡ position (λ b. not (may_continue b)) text.now }
     ensures bound { IfSome result (λ at. at < length text.now) }
 {
@@ -43,6 +44,10 @@ pub(crate) fn colon_of(text: &[u8]) -> Option<usize>
     if !begins_name(*first) {
         return None;
     }
-    let len = first_other(rest)?;
-    if rest[len] == b':' { Some(len + 1) } else { None }
+    let stop = name_stop(rest)?;
+    if rest[stop] == b':' {
+        Some(stop + 1)
+    } else {
+        None
+    }
 }

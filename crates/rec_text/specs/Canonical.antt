@@ -3,12 +3,17 @@ use Rattle.std.specs.Prelude.{◌≡◌, ℕ, Bool, false, List, [], ◌∷◌, 
 use Rattle.std.specs.List.{list_all}
 use Rattle.rec_text.specs.declared.fault.Fault.{Fault}
 use Rattle.rec_text.specs.declared.fault.Fault.TheVariants.{BadName, BadValue}
-use Rattle.rec_text.specs.Bytes.{is_letter, continues_name}
+use Rattle.rec_text.specs.Bytes.{is_letter, begins_name, continues_name}
 
 -- a letter, then letters, digits and _
 abbrev pub is_plain_name : List ℕ → Bool
 is_plain_name [] = false
 is_plain_name (b ∷ bs) = is_letter b && list_all continues_name bs
+
+-- a letter or %, then letters, digits and _
+abbrev pub is_field_name : List ℕ → Bool
+is_field_name [] = false
+is_field_name (b ∷ bs) = if begins_name b then list_all continues_name bs else false
 
 -- no line of the text ends in a backslash; `before` is the byte before the text
 abbrev pub is_foldable : ℕ → List ℕ → Bool

@@ -12,3 +12,4 @@ pub mod Scanned
 pub mod Sought
 pub mod Faults
 pub mod Sink
+pub mod Rules

@@ -3,14 +3,14 @@ ghost use Rattle.std.specs.Prelude.{◌≡◌, ◌++◌, IsTrue, OnOk, OnErr};
 ghost use Rattle.rec_text.specs.declared.element.Kind.TheVariants.{Field};
 ghost use Rattle.std.specs.List.{list_all};
 ghost use Rattle.rec_text.specs.Bytes.{continues_name as may_continue};
-ghost use Rattle.rec_text.specs.Canonical.{field_of, put_outcome, folded, is_plain_name as may_be_written, is_foldable as can_be_folded, Extends};
+ghost use Rattle.rec_text.specs.Canonical.{field_of, put_outcome, folded, is_field_name as may_name_a_field, is_plain_name as may_be_written, is_foldable as can_be_folded, Extends};
 ghost use Rattle.rec_text.specs.Elements.{is_field, name_of};
 ghost use Rattle.rec_text.specs.Faults.{UnlessMemory};
 ghost use Rattle.rec_text.specs.Values.{value_of};
 
 use crate::fault::Fault;
 use crate::lines::{split_line, strip_backslash};
-use crate::name::continues_name;
+use crate::name::{begins_name, continues_name};
 use std::alloc::AllocError;
 
 fn all_continue(bytes: &[u8]) -> bool
@@ -25,6 +25,16 @@ pub fn is_plain_name(name: &[u8]) -> bool
 {
     match name.split_first() {
         Some((first, rest)) => first.is_ascii_alphabetic() && all_continue(rest),
+        None => false,
+    }
+}
+
+/// Whether a text is a letter or `%`, and then letters, digits and `_`: the name of a field.
+pub fn is_field_name(name: &[u8]) -> bool
+    ensures { result ≡ may_name_a_field name.now }
+{
+    match name.split_first() {
+        Some((first, rest)) => begins_name(*first) && all_continue(rest),
         None => false,
     }
 }

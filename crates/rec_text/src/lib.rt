@@ -25,7 +25,7 @@ mod value_tests;
 mod violations;
 
 pub use bytes::Bytes;
-pub use canonical::{is_plain_name, put_field};
+pub use canonical::{is_field_name, is_plain_name, put_field};
 pub use database::Database;
 pub use element::{Element, Kind};
 pub use fault::Fault;

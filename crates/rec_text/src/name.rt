@@ -16,7 +16,7 @@ static NAME_BYTES: [u8; 256] = *b"\
     00000000000000000000000000000000\
     00000000000000000000000000000000";
 
-fn begins_name(byte: u8) -> bool
+pub(crate) fn begins_name(byte: u8) -> bool
     ensures { result ≡ may_begin byte }
 {
     NAME_BYTES[usize::from(byte)] & 1 != 0

@@ -1,5 +1,6 @@
 //! The rules of record sets, and where a text breaks them.
 ghost use Rattle.std.specs.Prelude.{◌≡◌, length};
+ghost use Rattle.rec_text.specs.Rules.{word_of};
 
 use crate::bytes::Bytes;
 use std::marker::Model;
@@ -16,6 +17,24 @@ pub enum Rule {
     /// A value fits the type of its field.
     Fit,
     Constraint,
+}
+
+impl Rule {
+    /// The word by which a report names the rule.
+    pub fn word(self) -> &'static str
+        ensures { result.now ≡ word_of self }
+    {
+        match self {
+            Rule::Size => "size",
+            Rule::Key => "key",
+            Rule::Mandatory => "mandatory",
+            Rule::Prohibit => "prohibit",
+            Rule::Unique => "unique",
+            Rule::Allowed => "allowed",
+            Rule::Fit => "type",
+            Rule::Constraint => "constraint",
+        }
+    }
 }
 
 /// A rule that a text breaks, with the line of the field that breaks it, counted from 1.

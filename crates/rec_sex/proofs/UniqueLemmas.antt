@@ -56,7 +56,7 @@ same_regex config text some other s c r t d q =
     let there : Reads config text other.pattern.program.hir (regex_names other) = rw (t, d) at q in
     both_read _ _ _ (λ (refusals : (kind : _) → Refuses config text kind). tt) here there (λ x p o. both_same (regex_pattern some) (regex_pattern other) _ p o)
 
-same_pattern : (text : List ℕ) (some other : Re) → IsPatternOf text some → IsPatternOf text other → SameCaptures some other
+pub same_pattern : (text : List ℕ) (some other : Re) → IsPatternOf text some → IsPatternOf text other → SameCaptures some other
 same_pattern text some other p q =
     subst (λ x. SameCaptures x other) p.4 (subst (λ x. SameCaptures (regex_pattern p.0) x) q.4 (same_regex default_config text p.0 q.0 p.1 p.2 p.3 q.1 q.2 q.3))
 
@@ -227,11 +227,11 @@ found_if : (utf8 one other : Bool) → (utf8 ≡ true → one ≡ other) → (ut
 found_if true one other same = same refl
 found_if false one other same = refl
 
-same_is_found : (some other : Re) (bytes : List ℕ) → SameCaptures some other → is_found some bytes ≡ is_found other bytes
+pub same_is_found : (some other : Re) (bytes : List ℕ) → SameCaptures some other → is_found some bytes ≡ is_found other bytes
 same_is_found some other bytes same = found_if (is_utf8 bytes) _ _ (λ e. is_match_alike same bytes (AreBytes-utf8 bytes (IsUtf8-from_is_utf8 bytes e)) true 0)
 
 module _ (pieces : List Piece) (c : Choice_) where
-  same_sem : (a b : Term) → AreSame a b → sem a pieces c ≡ sem b pieces c
+  pub same_sem : (a b : Term) → AreSame a b → sem a pieces c ≡ sem b pieces c
   same_sem (inverse a) (inverse b) same = ap (option_and_then (λ x. option_map (λ z. truth (is_zero z)) (reading_of x))) (same_sem a b same)
   same_sem (negated a) (negated b) same = ap (option_and_then (λ x. option_and_then (λ z. in_range (neg_ℤ z)) (reading_of x))) (same_sem a b same)
   same_sem (binary op a b) (binary other d e) same = rw (same.0, same_sem a d same.1, same_sem b e same.2) refl

@@ -5,15 +5,11 @@ use Rattle.std.specs.Str.{bytes_eq}
 use Rattle.rec_text.specs.declared.fault.Fault.{Fault}
 use Rattle.rec_text.specs.declared.fault.Fault.TheVariants.{BadFieldList}
 use Rattle.rec_text.specs.Bytes.{begins_name, continues_name}
+pub use Rattle.rec_text.specs.Canonical.{is_field_name}
 use Rattle.rec_text.specs.Elements.{Piece, name_of}
 use Rattle.rec_sex.specs.declared.index_list.Span.{Span}
 use Rattle.rec_sex.specs.declared.field_list.Item.{Item}
 use Rattle.rec_sex.specs.IndexList.{AreDigits, value_of, greatest, begins_digit}
-
--- a letter or %, then letters, digits and _
-abbrev pub is_field_name : List ℕ → Bool
-is_field_name [] = false
-is_field_name (b ∷ bs) = if begins_name b then list_all continues_name bs else false
 
 -- a byte that a name begins with comes first
 abbrev pub begins_field : List ℕ → Bool

@@ -1,7 +1,7 @@
 //! The integer reading of a text.
 ghost use Rattle.std.specs.Prelude.{◌≡◌, ◌^◌, nat_le, nat_lt, pos, Some, None, reverse, if◌then◌else◌};
 ghost use Rattle.rec_text.specs.Bytes.{is_blank};
-ghost use Rattle.rec_sex.specs.Integers.{without_blanks, negative, signed_of, int_of};
+ghost use Rattle.rec_sex.specs.Integers.{without_blanks, trimmed, negative, signed_of, int_of};
 
 use crate::magnitude::magnitude_of;
 
@@ -65,10 +65,17 @@ fn signed_of(text: &[u8]) -> Option<i64>
     }
 }
 
+/// The text without the blanks at both ends.
+pub fn trimmed(text: &[u8]) -> &[u8]
+    ensures { result.now ≡ trimmed text.now }
+{
+    without_last_blanks(without_blanks(text))
+}
+
 /// The integer that a text reads as: blanks at both ends are dropped; a hyphen makes it negative; `0x` begins
 /// hexadecimal digits, another leading zero octal ones. None where it reads as none of 64 bits.
 pub fn int_of(text: &[u8]) -> Option<i64>
     ensures { result ≡ int_of text.now }
 {
-    signed_of(without_last_blanks(without_blanks(text)))
+    signed_of(trimmed(text))
 }

@@ -41,6 +41,6 @@ pub use evaluator::Search;
 pub use expr::Expr;
 pub use field_list::{FieldList, Item};
 pub use index_list::{IndexList, Span};
-pub use integer::int_of;
+pub use integer::{int_of, trimmed};
 pub use laws::{one_expression, walk_is_grammar};
 pub use rec_text::{Bytes, Element, Fault};

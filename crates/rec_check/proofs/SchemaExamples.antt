@@ -1,25 +1,24 @@
 -- The definitions at small texts: each example computes.
-use Rattle.std.proofs.Common.{◌≡◌, ℕ, ◌<◌, true, false, List, [], ◌∷◌, ◌++◌, map, Some, None, Ok, Err, suc, zero, refl, lit≤, arith}
+use Rattle.std.proofs.Common.{◌≡◌, ℕ, ◌<◌, ◌≤◌, inl, inr, true, false, List, [], ◌∷◌, ◌++◌, map, Some, None, Ok, Err, suc, zero, refl, lit≤, arith}
 use Rattle.std.specs.Prelude.{codes, position}
+use Rattle.std.specs.List.{AllByRecursion}
 use Rattle.std.specs.declared.ops.Range.{Range}
 use Rattle.rec_text.specs.declared.element.Kind.TheVariants.{Blank, Comment, Field}
 use Rattle.rec_text.specs.declared.fault.Fault.TheVariants.{BadDescriptor}
 use Rattle.rec_text.specs.Elements.{Piece}
-use Rattle.rec_text.specs.Records.{AreRecords, is_full_at}
+use Rattle.rec_text.specs.Records.{AreRecords, LiesIn, is_full_at}
 use Rattle.rec_text.specs.Scanned.{range, runs_from, narrowed_from}
+use Rattle.rec_text.proofs.RangeLemmas.{LiesIn-cases, LiesIn-nil}
 use Rattle.rec_text.proofs.RunLemmas.{AreRuns-runs_to}
 use Rattle.rec_text.proofs.RecordLemmas.{AreRecords-all_narrowed}
 use Rattle.rec_check.specs.declared.set.Set_.{Set_}
-use Rattle.rec_check.specs.Descriptors.{bad, unsupported, words, type_of, types_of, rec_flaw, flaw_at}
-use Rattle.rec_check.specs.Sets.{AreSets, is_of_type}
+use Rattle.rec_check.specs.declared.special.Comparison.TheVariants.{Exactly, AtMost, AtLeast}
+use Rattle.rec_check.specs.Descriptors.{bad, unsupported, bound_in, type_of, types_of, rec_flaw, own_flaw, flaw_at}
+use Rattle.rec_check.specs.Rules.{Rules, no_rules, AreRules}
 use Rattle.rec_check.specs.Schemas.{IsSchema}
+use Rattle.rec_check.specs.Sets.{AreSets, is_of_type}
+use Rattle.rec_check.proofs.FlawLemmas.{flaw_at-outside}
 use Rattle.rec_check.proofs.SetLemmas.{set_of}
-
--- ---- words
-
-words_of : map words ([] ∷ codes " \t" ∷ codes "P" ∷ codes "  Pq\tr_1 \n%s\n" ∷ [])
-    ≡ [] ∷ [] ∷ (codes "P" ∷ []) ∷ (codes "Pq" ∷ codes "r_1" ∷ codes "%s" ∷ []) ∷ []
-words_of = refl
 
 -- ---- descriptors
 
@@ -41,29 +40,75 @@ types : map type_of
 types = refl
 
 -- no type, a type that begins with a digit, more words, a type that is named before, a second field; and a sound one
-flaws : rec_flaw false [] [] ∷ rec_flaw false [] (codes "1P" ∷ codes "x" ∷ []) ∷ rec_flaw false [] (codes "P" ∷ codes "x" ∷ [])
+rec_flaws : rec_flaw false [] [] ∷ rec_flaw false [] (codes "1P" ∷ codes "x" ∷ []) ∷ rec_flaw false [] (codes "P" ∷ codes "x" ∷ [])
     ∷ rec_flaw false (codes "Q" ∷ codes "P" ∷ []) (codes "P" ∷ codes "x" ∷ []) ∷ rec_flaw true [] (codes "P" ∷ []) ∷ rec_flaw false (codes "Q" ∷ []) (codes "P" ∷ []) ∷ []
     ≡ Some bad ∷ Some bad ∷ Some unsupported ∷ Some bad ∷ Some bad ∷ None ∷ []
-flaws = refl
+rec_flaws = refl
+
+-- an operator stands first, and a blank before it is none
+bounds : map bound_in (codes ">= 2" ∷ codes "<=0x10" ∷ codes " 3 " ∷ codes "-0" ∷ codes " >= 2" ∷ codes "-1" ∷ [] ∷ (codes ">=" ++ 10 ∷ codes "0") ∷ [])
+    ≡ Some (record { comparison = AtLeast; number = 2 }) ∷ Some (record { comparison = AtMost; number = 16 }) ∷ Some (record { comparison = Exactly; number = 3 })
+    ∷ Some (record { comparison = Exactly; number = 0 }) ∷ None ∷ None ∷ None ∷ None ∷ []
+bounds = refl
+
+-- fields before the type are tested too, a second key is bad even where the first is, and others say nothing
+faulty : List Piece
+faulty = field (codes "%key: A B") ∷ field (codes "%rec: P") ∷ field (codes "%key: A") ∷ field (codes "%unique: A,B") ∷ field (codes "%size: 3 4")
+    ∷ field (codes "%confidential: K") ∷ field (codes "%doc: 1") ∷ field (codes "%allowed:") ∷ field (codes "%type: A int") ∷ field (codes "%type: A") ∷ field (codes "%constraint: A =") ∷ []
+
+faults : map (own_flaw [] faulty) (0 ∷ 1 ∷ 2 ∷ 3 ∷ 4 ∷ 5 ∷ 6 ∷ 7 ∷ 8 ∷ 9 ∷ 10 ∷ 11 ∷ [])
+    ≡ Some bad ∷ None ∷ Some bad ∷ Some bad ∷ Some bad ∷ Some unsupported ∷ None ∷ None ∷ None ∷ Some bad ∷ Some bad ∷ None ∷ []
+unfolding faulty
+faults = refl
+
+-- without a type they are no fields of a descriptor
+no_faults : map (own_flaw [] (field (codes "%key:") ∷ field (codes "%confidential: K") ∷ [])) (0 ∷ 1 ∷ 2 ∷ []) ≡ None ∷ None ∷ None ∷ []
+no_faults = refl
+
+-- lists add up
+abbrev listing : List Piece
+listing = field (codes "%allowed: A") ∷ field (codes "%rec: P") ∷ field (codes "%mandatory: B  C") ∷ field (codes "%key: N") ∷ field (codes "%allowed: D") ∷ field (codes "%mandatory: B") ∷ field (codes "%size: <= 2") ∷ []
+
+abbrev listed : Rules
+listed = record no_rules {
+  key = Some (codes "N");
+  mandatory = codes "B" ∷ codes "C" ∷ codes "B" ∷ [];
+  allowed = Some (codes "A" ∷ codes "D" ∷ []);
+  size = Some (record { comparison = AtMost; number = 2 });
+}
+
+listed_are : AreRules listing listed
+listed_are = record { key = refl; mandatory = refl; prohibited = refl; unique = refl; allowed = refl; automatic = refl; types = tt; size = refl; constraints = tt }
 
 -- ---- sets
 
 -- a record without a type, and a descriptor with two records
 abbrev text : List Piece
-text = field (codes "X: 1") ∷ blank ∷ field (codes "%rec: P") ∷ blank ∷ field (codes "N: 1") ∷ blank ∷ field (codes "N: 2") ∷ []
+text = field (codes "X: 1") ∷ blank ∷ field (codes "%rec: P") ∷ field (codes "%key: N") ∷ blank ∷ field (codes "N: 1") ∷ blank ∷ field (codes "N: 2") ∷ []
 
 abbrev records : List (Range ℕ)
-records = range 0 1 ∷ range 2 3 ∷ range 4 5 ∷ range 6 7 ∷ []
+records = range 0 1 ∷ range 2 4 ∷ range 5 6 ∷ range 7 8 ∷ []
 
 records_are : AreRecords text records
 unfolding runs_from narrowed_from
-records_are = AreRecords-all_narrowed text records (AreRuns-runs_to (is_full_at text) 7)
+records_are = AreRecords-all_narrowed text records (AreRuns-runs_to (is_full_at text) 8)
 
 abbrev sets : List Set_
 sets = set_of None None 0 1 ∷ set_of (Some (codes "P")) (Some 1) 2 4 ∷ []
 
 sets_are : AreSets (types_of text records) sets
 sets_are = record { joined = refl; untyped_first = (refl, (refl, tt)); places = ((lit≤ tt, (refl, refl)), ((lit≤ tt, (refl, refl)), tt)) }
+
+abbrev keyed : Rules
+keyed = record no_rules { key = Some (codes "N") }
+
+keyed_are : AreRules (field (codes "%rec: P") ∷ field (codes "%key: N") ∷ []) keyed
+keyed_are = record { key = refl; mandatory = refl; prohibited = refl; unique = refl; allowed = refl; automatic = refl; types = tt; size = refl; constraints = tt }
+
+-- no range holds what stands behind all
+behind_all : (ranges : List (Range ℕ)) (end i : ℕ) → AllByRecursion (λ r. r.end ≤ end) ranges → end ≤ i → LiesIn ranges i → ⊥
+behind_all [] end i all past lies = LiesIn-nil i lies
+behind_all (r ∷ ranges) end i all past lies = elim (LiesIn-cases r ranges i lies) [ inl here ↦ absurd (omega (arith, here.1, all.0)) | inr there ↦ behind_all ranges end i all.1 past there ]
 
 sound : (i : ℕ) → flaw_at text records i ≡ None
 sound zero = refl
@@ -73,10 +118,13 @@ sound (suc (suc (suc zero))) = refl
 sound (suc (suc (suc (suc zero)))) = refl
 sound (suc (suc (suc (suc (suc zero))))) = refl
 sound (suc (suc (suc (suc (suc (suc zero)))))) = refl
-sound (suc (suc (suc (suc (suc (suc (suc i))))))) = refl
+sound (suc (suc (suc (suc (suc (suc (suc zero))))))) = refl
+sound (suc (suc (suc (suc (suc (suc (suc (suc i)))))))) =
+    let at : ℕ = suc (suc (suc (suc (suc (suc (suc (suc i))))))) in
+    flaw_at-outside text records at (behind_all records 8 at (lit≤ tt, (lit≤ tt, (lit≤ tt, (lit≤ tt, tt)))) (omega arith))
 
-described : IsSchema text (Ok (record { sets = sets }))
-described = record { records = records; are = records_are; sound = sound; sets = sets_are }
+described : IsSchema text (Ok (record { sets = sets; rules = no_rules ∷ keyed ∷ [] }))
+described = record { records = records; are = records_are; sound = sound; sets = sets_are; rules = (refl, (keyed_are, tt)) }
 
 found : map (λ kind. position (is_of_type kind) sets) (codes "P" ∷ codes "Q" ∷ [] ∷ []) ≡ Some 1 ∷ None ∷ None ∷ []
 found = refl

@@ -1,258 +1,76 @@
--- The schema of a text, as it is read record by record; and that there is no other.
-use Rattle.std.proofs.Common.{◌≡◌, ◌∙◌, ℕ, ◌+◌, ◌-◌, ◌<◌, ◌≤◌, inl, inr, Bool, true, false, cond, ◌&&◌, ◌||◌, List, [], ◌∷◌, ◌++◌, length, take, drop, Option, Some, None, Result, Ok, Err, leb, ltb, refl, ap, sym, subst, suc, zero, arith}
-use Rattle.std.proofs.lemmas.Bool.{cases_Bool, cases_lt, false≢true, lt-leb, le-leb, lt-ltb, le-ltb, and_left, and_right}
-use Rattle.std.proofs.lemmas.List.{append_assoc, append-nil, length-append, length-drop, length-take, length-map, length_push, drop-take, take-take, map-append}
-use Rattle.std.proofs.Math.Bool.{or-false}
-use Rattle.std.proofs.lemmas.List.Folds.{list_any-append}
-use Rattle.std.proofs.lemmas.Option.{slice_get_past}
-use Rattle.std.specs.List.{All, AllByRecursion, list_any, filter_map, cons_option, slice_get}
-use Rattle.std.specs.Option.{option_and_then, option_map_or}
+-- The schema of a text, as it is read record by record.
+use Rattle.std.proofs.Common.{◌≡◌, ◌∙◌, ℕ, ◌+◌, ◌-◌, ◌<◌, ◌≤◌, Bool, true, false, cond, List, [], ◌∷◌, ◌++◌, length, take, drop, Option, Some, None, Err, refl, ap, sym, subst, arith}
+use Rattle.std.proofs.lemmas.Bool.{false≢true}
+use Rattle.std.proofs.lemmas.List.{append_assoc, append-nil, length-append, length-map, length_push, map-append}
+use Rattle.std.specs.List.{All, AllByRecursion, AllZip, slice_get}
+use Rattle.std.specs.Option.{is_some}
 use Rattle.std.specs.declared.ops.Range.{Range}
-use Rattle.rec_text.specs.declared.element.Kind.{Kind}
-use Rattle.rec_text.specs.declared.element.Kind.TheVariants.{Blank, Comment, Field}
 use Rattle.rec_text.specs.declared.element.Element.{Element}
 use Rattle.rec_text.specs.declared.fault.Fault.{Fault}
-use Rattle.rec_text.specs.declared.fault.Fault.TheVariants.{OutOfMemory, BadDescriptor, Unsupported}
+use Rattle.rec_text.specs.declared.fault.Fault.TheVariants.{OutOfMemory, BadDescriptor, Unsupported, BadPattern}
 use Rattle.rec_text.specs.Elements.{Piece, text_of}
 use Rattle.rec_text.specs.Faults.{IsMemoryOr}
 use Rattle.rec_text.specs.Places.{piece_of, pieces_of, AreFrom}
 use Rattle.rec_text.specs.Reading.{line_after}
-use Rattle.rec_text.specs.Records.{IsRecord, AreRecords, AreAscending, LiesIn, is_field_piece}
-use Rattle.rec_text.specs.Values.{value_of}
-use Rattle.rec_text.proofs.RangeLemmas.{LiesIn-nil, LiesIn-cases, LiesIn-low}
-use Rattle.rec_text.proofs.RecordLemmas.{OneListOfRecords-holds}
+use Rattle.rec_text.specs.Records.{IsRecord, AreRecords, AreAscending, LiesIn}
+use Rattle.rec_text.proofs.RangeLemmas.{LiesIn-nil}
 use Rattle.rec_check.specs.declared.set.Set_.{Set_}
-use Rattle.rec_check.specs.Descriptors.{Flaw, bad, unsupported, words, elements_in, is_named, rec_name, rec_flaw, type_of, types_of, types_before, is_repeated, flaw_at}
+use Rattle.rec_check.specs.Descriptors.{Flaw, bad, unsupported, elements_in, flaw_at, own_flaw, record_at, type_of, types_of}
+use Rattle.rec_check.specs.Reading.{Said, AddsRecord, AddsRecordAs, AreSaid, HasFieldFlaw, HasRefusedField, IsRefusedRecord, field_flaw, untyped}
+use Rattle.rec_check.specs.Rules.{Rules, AreRules}
+use Rattle.rec_check.specs.Schemas.{Described, IsDescribed, IsRuled, IsSchema, HasFlaw, HasRefused}
 use Rattle.rec_check.specs.Sets.{AreSets}
-use Rattle.rec_check.specs.Steps.{kinds, with_record, own_flaw, IsOwnType, HasOwnFlaw, IsOwn}
-use Rattle.rec_check.specs.Schemas.{Described, IsDescribed, HasFlaw, IsSchema, OneSchema}
-use Rattle.rec_check.proofs.DescriptorLemmas.{own_are, own_within, text_before}
-use Rattle.rec_check.proofs.SetLemmas.{set_of, AreSets-none, AreSets-with_record, kinds-AreSets, types_among, filter_map-append, one_list_of_sets}
+use Rattle.rec_check.specs.Steps.{kinds, with_member, with_record}
+use Rattle.rec_check.proofs.DescriptorLemmas.{AllZip-push}
+use Rattle.rec_check.proofs.FlawLemmas.{flaw_at-outside, sound-behind, HasFlaw-own, HasRefused-own, all_rest}
+use Rattle.rec_check.proofs.PlaceLemmas.{own_are, own_within, text_before}
+use Rattle.rec_check.proofs.SetLemmas.{set_of, AreSets-none, AreSets-with_record, kinds-AreSets, types_among}
 
--- ---- no flaw outside the records
+-- ---- the rules of sets
 
-kind_of_named : (kind : Kind) (bytes : List ℕ) → is_named rec_name (record { kind = kind; bytes = bytes }) ≡ true → is_field_piece (record { kind = kind; bytes = bytes }) ≡ true
-kind_of_named Blank bytes named = absurd (false≢true named)
-kind_of_named Comment bytes named = absurd (false≢true named)
-kind_of_named Field bytes named = refl
+IsRuled-longer : (pieces : List Piece) (records : List (Range ℕ)) (index : ℕ) (sets : List Set_) (rules : List Rules) → AllZip (IsRuled pieces records) sets rules
+    → AllZip (IsRuled pieces records) (with_member sets index) rules
+IsRuled-longer pieces records index [] rules all = all
+IsRuled-longer pieces records index (s ∷ []) [] all = absurd all
+IsRuled-longer pieces records index (s ∷ []) (own ∷ rules) all = all
+IsRuled-longer pieces records index (s ∷ next ∷ sets) [] all = absurd all
+IsRuled-longer pieces records index (s ∷ next ∷ sets) (own ∷ rules) all = (all.0, IsRuled-longer pieces records index (next ∷ sets) rules all.1)
 
--- an element with a flaw is a field
-sound_where_no_field : (found : Option Piece) (flaw : Piece → Option Flaw) → (option_map_or is_field_piece found false ≡ true → ⊥)
-    → option_and_then (λ piece. cond (is_named rec_name piece) (flaw piece) None) found ≡ None
-sound_where_no_field None flaw none = refl
-sound_where_no_field (Some piece) flaw none = elim (cases_Bool (is_named rec_name piece)) [
-  | inl named ↦ absurd (none (kind_of_named piece.kind piece.bytes named))
-  | inr other ↦ ap (λ b. cond b (flaw piece) None) other
-]
+record_at-behind : (pieces : List Piece) (done : List (Range ℕ)) (fields : Range ℕ) (rest : List (Range ℕ)) → record_at pieces (done ++ fields ∷ rest) (length done) ≡ elements_in pieces fields
+record_at-behind pieces [] fields rest = refl
+record_at-behind pieces (r ∷ done) fields rest = record_at-behind pieces done fields rest
 
-flaw_at-outside : (pieces : List Piece) (records : List (Range ℕ)) (i : ℕ) → AreRecords pieces records → (LiesIn records i → ⊥) → flaw_at pieces records i ≡ None
-flaw_at-outside pieces records i are outside =
-    sound_where_no_field (slice_get pieces i) (λ piece. rec_flaw (is_repeated rec_name pieces records i) (types_before pieces records i) (words (value_of piece)))
-    (λ field. outside (are.complete i field))
-
--- ---- records before and behind one
-
--- none is empty
-abbrev AreSome : List (Range ℕ) → Type 0
-AreSome records = AllByRecursion (λ r. r.start < r.end) records
-
-AreSome-records : (pieces : List Piece) (records : List (Range ℕ)) → AllByRecursion (IsRecord pieces) records → AreSome records
-AreSome-records pieces [] each = tt
-AreSome-records pieces (r ∷ records) each = (each.0.some, AreSome-records pieces records each.1)
-
-least-le : (least : ℕ) (done : List (Range ℕ)) (fields : Range ℕ) (rest : List (Range ℕ)) → AreAscending least (done ++ fields ∷ rest) → AreSome (done ++ fields ∷ rest) → least ≤ fields.start
-least-le least [] fields rest ascending some = ascending.0
-least-le least (r ∷ done) fields rest ascending some = omega (arith, ascending.0, some.0, least-le r.end done fields rest ascending.1 some.1)
-
-ascending_rest : (least : ℕ) (done : List (Range ℕ)) (fields : Range ℕ) (rest : List (Range ℕ)) → AreAscending least (done ++ fields ∷ rest) → AreAscending fields.end rest
-ascending_rest least [] fields rest ascending = ascending.1
-ascending_rest least (r ∷ done) fields rest ascending = ascending_rest r.end done fields rest ascending.1
-
-all_rest : (P : Range ℕ → Type 0) (done rest : List (Range ℕ)) → AllByRecursion P (done ++ rest) → AllByRecursion P rest
-all_rest P [] rest all = all
-all_rest P (r ∷ done) rest all = all_rest P done rest all.1
-
--- ---- what stands before an element
-
-module _ (pieces : List Piece) (i : ℕ) where
-  -- a record holds the index, with a field of the name before it
-  abbrev repeats : Range ℕ → Bool
-  repeats r = leb r.start i && (ltb i r.end && list_any (is_named rec_name) (drop r.start (take i pieces)))
-
-  -- the type of a record that ends before the index
-  abbrev ended_type : Range ℕ → Option (List ℕ)
-  ended_type r = cond (leb r.end i) (type_of (elements_in pieces r)) None
-
-  list_any-before : (least : ℕ) (done : List (Range ℕ)) (fields : Range ℕ) (rest : List (Range ℕ)) → AreAscending least (done ++ fields ∷ rest) → AreSome (done ++ fields ∷ rest)
-      → fields.start ≤ i → list_any repeats done ≡ false
-  list_any-before least [] fields rest ascending some le = refl
-  list_any-before least (r ∷ done) fields rest ascending some le =
-      let ended : r.end ≤ i = omega (arith, least-le r.end done fields rest ascending.1 some.1) in
-      ap (λ b. b || list_any repeats done) (and_right (leb r.start i) _ (and_left (ltb i r.end) _ (le-ltb i r.end ended)))
-      ∙ list_any-before r.end done fields rest ascending.1 some.1 le
-
-  list_any-behind : (least : ℕ) (rest : List (Range ℕ)) → AreAscending least rest → AreSome rest → i < least → list_any repeats rest ≡ false
-  list_any-behind least [] ascending some lt = refl
-  list_any-behind least (r ∷ rest) ascending some lt =
-      ap (λ b. b || list_any repeats rest) (and_left (leb r.start i) _ (lt-leb r.start i (omega (arith, ascending.0))))
-      ∙ list_any-behind r.end rest ascending.1 some.1 (omega (arith, ascending.0, some.0))
-
-  filter_map-before : (least : ℕ) (done : List (Range ℕ)) (fields : Range ℕ) (rest : List (Range ℕ)) → AreAscending least (done ++ fields ∷ rest) → AreSome (done ++ fields ∷ rest)
-      → fields.start ≤ i → filter_map ended_type done ≡ types_among (types_of pieces done)
-  filter_map-before least [] fields rest ascending some le = refl
-  filter_map-before least (r ∷ done) fields rest ascending some le =
-      let ended : r.end ≤ i = omega (arith, least-le r.end done fields rest ascending.1 some.1) in
-      ap (λ b. cons_option (cond b (type_of (elements_in pieces r)) None) (filter_map ended_type done)) (le-leb r.end i ended)
-      ∙ ap (cons_option (type_of (elements_in pieces r))) (filter_map-before r.end done fields rest ascending.1 some.1 le)
-
-  filter_map-behind : (least : ℕ) (rest : List (Range ℕ)) → AreAscending least rest → AreSome rest → i < least → filter_map ended_type rest ≡ []
-  filter_map-behind least [] ascending some lt = refl
-  filter_map-behind least (r ∷ rest) ascending some lt =
-      ap (λ b. cons_option (cond b (type_of (elements_in pieces r)) None) (filter_map ended_type rest)) (lt-leb r.end i (omega (arith, ascending.0, some.0)))
-      ∙ filter_map-behind r.end rest ascending.1 some.1 (omega (arith, ascending.0, some.0))
-
-slice_get-drop : {X : Type 0} (n : ℕ) (xs : List X) (k : ℕ) → slice_get (drop n xs) k ≡ slice_get xs (n + k)
-slice_get-drop zero xs k = ap (slice_get xs) (let e : k ≡ 0 + k = omega arith in e)
-slice_get-drop (suc n) [] k = refl
-slice_get-drop (suc n) (x ∷ xs) k = slice_get-drop n xs k ∙ ap (slice_get (x ∷ xs)) (let e : suc (n + k) ≡ suc n + k = omega arith in e)
-
-slice_get-take : {X : Type 0} (n : ℕ) (xs : List X) (k : ℕ) → k < n → slice_get (take n xs) k ≡ slice_get xs k
-slice_get-take zero xs k lt = absurd (omega arith)
-slice_get-take (suc n) [] k lt = refl
-slice_get-take (suc n) (x ∷ xs) zero lt = refl
-slice_get-take (suc n) (x ∷ xs) (suc k) lt = slice_get-take n xs k (omega arith)
-
--- an element of a record, of which some records stand before and others behind
-module _ (pieces : List Piece) (done : List (Range ℕ)) (fields : Range ℕ) (rest : List (Range ℕ)) (are : AreRecords pieces (done ++ fields ∷ rest)) (i : ℕ) (low : fields.start ≤ i) (high : i < fields.end) where
-  abbrev all : List (Range ℕ)
-  all = done ++ fields ∷ rest
-
-  some : AreSome all
-  some = AreSome-records pieces all are.each
-
-  some_behind : AreSome rest
-  some_behind = (all_rest (λ r. r.start < r.end) done (fields ∷ rest) some).1
-
-  is_repeated-own : is_repeated rec_name pieces all i ≡ list_any (is_named rec_name) (drop fields.start (take i pieces))
-  is_repeated-own =
-      list_any-append (repeats pieces i) done (fields ∷ rest)
-      ∙ ap (λ b. b || (repeats pieces i fields || list_any (repeats pieces i) rest)) (list_any-before pieces i 0 done fields rest are.ascending some low)
-      ∙ ap (λ b. repeats pieces i fields || b) (list_any-behind pieces i fields.end rest (ascending_rest 0 done fields rest are.ascending) some_behind high)
-      ∙ or-false (repeats pieces i fields)
-      ∙ ap (λ b. b && (ltb i fields.end && list_any (is_named rec_name) (drop fields.start (take i pieces)))) (le-leb fields.start i low)
-      ∙ ap (λ b. b && list_any (is_named rec_name) (drop fields.start (take i pieces))) (lt-ltb i fields.end high)
-
-  types_before-own : types_before pieces all i ≡ types_among (types_of pieces done)
-  types_before-own =
-      filter_map-append (ended_type pieces i) done (fields ∷ rest)
-      ∙ ap (λ ts. ts ++ filter_map (ended_type pieces i) (fields ∷ rest)) (filter_map-before pieces i 0 done fields rest are.ascending some low)
-      ∙ ap (λ b. types_among (types_of pieces done) ++ cons_option (cond b (type_of (elements_in pieces fields)) None) (filter_map (ended_type pieces i) rest)) (lt-leb fields.end i high)
-      ∙ ap (λ ts. types_among (types_of pieces done) ++ ts) (filter_map-behind pieces i fields.end rest (ascending_rest 0 done fields rest are.ascending) some_behind high)
-      ∙ append-nil (types_among (types_of pieces done))
-
-  place : fields.start + (i - fields.start) ≡ i
-  place = omega arith
-
-  own_element : slice_get (elements_in pieces fields) (i - fields.start) ≡ slice_get pieces i
-  own_element =
-      slice_get-drop fields.start (take fields.end pieces) (i - fields.start) ∙ ap (slice_get (take fields.end pieces)) place ∙ slice_get-take fields.end pieces i high
-
-  own_before : take (i - fields.start) (elements_in pieces fields) ≡ drop fields.start (take i pieces)
-  own_before =
-      sym (drop-take fields.start (i - fields.start) (take fields.end pieces)) ∙ ap (λ n. drop fields.start (take n (take fields.end pieces))) place
-      ∙ ap (drop fields.start) (take-take i fields.end pieces (omega arith))
-
-  abbrev flaw_of_piece : Bool → List (List ℕ) → Piece → Option Flaw
-  flaw_of_piece repeated named piece = cond (is_named rec_name piece) (rec_flaw repeated named (words (value_of piece))) None
-
-  pub flaw_at-own : flaw_at pieces all i ≡ own_flaw (types_among (types_of pieces done)) (elements_in pieces fields) (i - fields.start)
-  flaw_at-own =
-      ap (λ b. option_and_then (flaw_of_piece b (types_before pieces all i)) (slice_get pieces i)) (is_repeated-own ∙ ap (list_any (is_named rec_name)) (sym own_before))
-      ∙ ap (λ ts. option_and_then (flaw_of_piece (list_any (is_named rec_name) (take (i - fields.start) (elements_in pieces fields))) ts) (slice_get pieces i)) types_before-own
-      ∙ ap (option_and_then (flaw_of_piece (list_any (is_named rec_name) (take (i - fields.start) (elements_in pieces fields))) (types_among (types_of pieces done)))) (sym own_element)
-
--- ---- the flaws of one record, and those of the text
-
-own_flaw-gone : (named : List (List ℕ)) (fields : List Piece) (k : ℕ) → slice_get fields k ≡ None → own_flaw named fields k ≡ None
-own_flaw-gone named fields k gone =
-    ap (option_and_then (λ piece. cond (is_named rec_name piece) (rec_flaw (list_any (is_named rec_name) (take k fields)) named (words (value_of piece))) None)) gone
-
-module _ (pieces : List Piece) (done : List (Range ℕ)) (fields : Range ℕ) (rest : List (Range ℕ)) (are : AreRecords pieces (done ++ fields ∷ rest))
-    (before : (i : ℕ) → (LiesIn (fields ∷ rest) i → ⊥) → flaw_at pieces (done ++ fields ∷ rest) i ≡ None) where
-  sound-behind : ((k : ℕ) → own_flaw (types_among (types_of pieces done)) (elements_in pieces fields) k ≡ None)
-      → (i : ℕ) → (LiesIn rest i → ⊥) → flaw_at pieces (done ++ fields ∷ rest) i ≡ None
-  sound-behind own i outside = elim (cases_lt i fields.start) [
-    | inl early ↦ before i (λ lies. elim (LiesIn-cases fields rest i lies) [ inl here ↦ absurd (omega (arith, here.0)) | inr there ↦ outside there ])
-    | inr from ↦
-        elim (cases_lt i fields.end) [
-          | inl within ↦ flaw_at-own pieces done fields rest are i from within ∙ own (i - fields.start)
-          | inr late ↦ before i (λ lies. elim (LiesIn-cases fields rest i lies) [ inl here ↦ absurd (omega (arith, here.1)) | inr there ↦ outside there ])
-        ]
-  ]
-
-  sound-up_to : (k : ℕ) → fields.start + k < fields.end → ((j : ℕ) → j < k → own_flaw (types_among (types_of pieces done)) (elements_in pieces fields) j ≡ None)
-      → (i : ℕ) → i < fields.start + k → flaw_at pieces (done ++ fields ∷ rest) i ≡ None
-  sound-up_to k within own i lt = elim (cases_lt i fields.start) [
-    | inl early ↦ before i (λ lies. absurd (omega (arith, LiesIn-low fields.start (fields ∷ rest) i some_left ascending_left lies)))
-    | inr from ↦ flaw_at-own pieces done fields rest are i from (omega arith) ∙ own (i - fields.start) (omega arith)
-  ] where
-    some_left : AreSome (fields ∷ rest)
-    some_left = all_rest (λ r. r.start < r.end) done (fields ∷ rest) (AreSome-records pieces (done ++ fields ∷ rest) are.each)
-
-    ascending_left : AreAscending fields.start (fields ∷ rest)
-    ascending_left = (omega arith, ascending_rest 0 done fields rest are.ascending)
-
-  flaw_within : (k : ℕ) (flaw : Flaw) → own_flaw (types_among (types_of pieces done)) (elements_in pieces fields) k ≡ Some flaw → fields.start + k < fields.end
-  flaw_within k flaw met = elim (cases_lt (fields.start + k) fields.end) [
-    | inl within ↦ within
-    | inr past ↦
-        let gone : slice_get (elements_in pieces fields) k ≡ None =
-        slice_get_past (elements_in pieces fields) k (omega (arith, length-drop fields.start (take fields.end pieces), length-take fields.end pieces)) in
-        let none : None ≡ Some flaw = sym (own_flaw-gone (types_among (types_of pieces done)) (elements_in pieces fields) k gone) ∙ met in
-        cc
-  ]
-
-  HasFlaw-own : (flaw : Flaw) (line k : ℕ) → ((j : ℕ) → j < k → own_flaw (types_among (types_of pieces done)) (elements_in pieces fields) j ≡ None)
-      → own_flaw (types_among (types_of pieces done)) (elements_in pieces fields) k ≡ Some flaw → line ≡ line_after (text_of (take (fields.start + k) pieces)) → HasFlaw pieces flaw line
-  HasFlaw-own flaw line k own met number =
-      let within : fields.start + k < fields.end = flaw_within k flaw met in
-      let back : fields.start + k - fields.start ≡ k = omega arith in
-      record {
-        records = done ++ fields ∷ rest;
-        are = are;
-        at = fields.start + k;
-        first = sound-up_to k within own;
-        met =
-            flaw_at-own pieces done fields rest are (fields.start + k) (omega arith) within
-            ∙ ap (own_flaw (types_among (types_of pieces done)) (elements_in pieces fields)) back ∙ met;
-        number = number;
-      }
+none_there : {X : Type 0} (o : Option X) → is_some o ≡ false → o ≡ None
+none_there None none = refl
+none_there (Some x) none = absurd (false≢true (sym none))
 
 -- ---- record by record
 
 -- what is known when some records are read, and these are left
-pub record IsSchemaUpTo (pieces : List Piece) (count : ℕ) (rest : List (Range ℕ)) (sets : List Set_) : Type 0 where
+pub record IsSchemaUpTo (pieces : List Piece) (count : ℕ) (rest : List (Range ℕ)) (described : Described) : Type 0 where
   pub done : List (Range ℕ)
   pub are : AreRecords pieces (done ++ rest)
   pub counted : count ≡ length done
   pub sound : (i : ℕ) → (LiesIn rest i → ⊥) → flaw_at pieces (done ++ rest) i ≡ None
-  pub sets_are : AreSets (types_of pieces done) sets
+  pub sets_are : AreSets (types_of pieces done) described.sets
+  pub rules_are : AllZip (IsRuled pieces (done ++ rest)) described.sets described.rules
 
-schema_none : (pieces : List Piece) (records : List (Range ℕ)) → AreRecords pieces records → IsSchemaUpTo pieces 0 records (set_of None None 0 0 ∷ [])
+schema_none : (pieces : List Piece) (records : List (Range ℕ)) → AreRecords pieces records → IsSchemaUpTo pieces 0 records untyped
 schema_none pieces records are = record {
   done = [];
   are = are;
   counted = refl;
-  sound = λ i outside. flaw_at-outside pieces records i are outside;
+  sound = λ i outside. flaw_at-outside pieces records i outside;
   sets_are = AreSets-none;
+  rules_are = (refl, tt);
 }
 
-pub schema_first : (pieces : List Piece) (records rest : List (Range ℕ)) (count : ℕ) (sets : List Set_) → AreRecords pieces records → count ≡ 0 → rest ≡ records → sets ≡ set_of None None 0 0 ∷ []
-    → IsSchemaUpTo pieces count rest sets
-schema_first pieces records rest count sets are zeroth all alone =
-    let P : ℕ → Type 0 = λ n. IsSchemaUpTo pieces n rest sets in
-    let Q : List (Range ℕ) → Type 0 = λ r. IsSchemaUpTo pieces 0 r sets in
-    let R : List Set_ → Type 0 = λ s. IsSchemaUpTo pieces 0 records s in
+pub schema_first : (pieces : List Piece) (records rest : List (Range ℕ)) (count : ℕ) (described : Described) → AreRecords pieces records → count ≡ 0 → rest ≡ records → described ≡ untyped
+    → IsSchemaUpTo pieces count rest described
+schema_first pieces records rest count described are zeroth all alone =
+    let P : ℕ → Type 0 = λ n. IsSchemaUpTo pieces n rest described in
+    let Q : List (Range ℕ) → Type 0 = λ r. IsSchemaUpTo pieces 0 r described in
+    let R : Described → Type 0 = λ d. IsSchemaUpTo pieces 0 records d in
     subst P (sym zeroth) (subst Q (sym all) (subst R (sym alone) (schema_none pieces records are)))
 
 -- there are no more records than elements
@@ -262,147 +80,127 @@ few_records pieces least [] within each ascending = omega arith
 few_records pieces least (r ∷ records) within each ascending =
     omega (arith, each.0.some, ascending.0, few_records pieces r.end records (omega (arith, each.0.high, each.0.is_paragraph.within)) each.1 ascending.1)
 
-pub countable : (pieces : List Piece) (count : ℕ) (rest : List (Range ℕ)) (sets : List Set_) (top : ℕ) → IsSchemaUpTo pieces count rest sets → length pieces < top → count + length rest < top
-countable pieces count rest sets top so_far short =
+pub countable : (pieces : List Piece) (count : ℕ) (rest : List (Range ℕ)) (described : Described) (top : ℕ) → IsSchemaUpTo pieces count rest described → length pieces < top → count + length rest < top
+countable pieces count rest described top so_far short =
     omega (arith, so_far.counted, length-append so_far.done rest, few_records pieces 0 (so_far.done ++ rest) (omega arith) so_far.are.each so_far.are.ascending)
 
-module _ (pieces : List Piece) (count : ℕ) (left : List (Range ℕ)) (sets : List Set_) (fields : Range ℕ) (rest : List (Range ℕ)) (first : left ≡ fields ∷ rest)
-    (so_far : IsSchemaUpTo pieces count left sets) where
-  here : IsSchemaUpTo pieces count (fields ∷ rest) sets
-  here = subst (λ r. IsSchemaUpTo pieces count r sets) first so_far
+module _ (pieces : List Piece) (count : ℕ) (left : List (Range ℕ)) (old : Described) (fields : Range ℕ) (rest : List (Range ℕ)) (first : left ≡ fields ∷ rest)
+    (so_far : IsSchemaUpTo pieces count left old) where
+  here : IsSchemaUpTo pieces count (fields ∷ rest) old
+  here = subst (λ r. IsSchemaUpTo pieces count r old) first so_far
 
   pub record_within : (fields.start ≤ fields.end) × (fields.end ≤ length pieces)
   record_within =
       let own = (all_rest (IsRecord pieces) here.done (fields ∷ rest) here.are.each).0 in
       (omega (arith, own.some), omega (arith, own.high, own.is_paragraph.within))
 
-  kinds-before : kinds sets ≡ types_among (types_of pieces here.done)
-  kinds-before = kinds-AreSets (types_of pieces here.done) sets here.sets_are
+  kinds-before : kinds old.sets ≡ types_among (types_of pieces here.done)
+  kinds-before = kinds-AreSets (types_of pieces here.done) old.sets here.sets_are
 
-  -- what the record's elements say, which are taken from all elements
-  module _ (elements : List Element) (elements_are : pieces_of elements ≡ pieces) (named : List (List ℕ)) (named_is : named ≡ kinds sets) where
+  parts : (here.done ++ fields ∷ []) ++ rest ≡ here.done ++ fields ∷ rest
+  parts = append_assoc here.done (fields ∷ []) rest
+
+  -- the schema with the record, whose elements name this type
+  grown : (index next : ℕ) (new : Described) → index ≡ count → next ≡ count + 1 → ((k : ℕ) → own_flaw (kinds old.sets) (elements_in pieces fields) k ≡ None)
+      → new.sets ≡ with_record old.sets index (type_of (elements_in pieces fields)) → AllZip (IsRuled pieces (here.done ++ fields ∷ rest)) new.sets new.rules → IsSchemaUpTo pieces next rest new
+  grown index next new here_is then sound sets_grow rules_are =
+      let kind : Option (List ℕ) = type_of (elements_in pieces fields) in
+      let types_are : types_of pieces here.done ++ kind ∷ [] ≡ types_of pieces (here.done ++ fields ∷ []) = sym (map-append (λ r. type_of (elements_in pieces r)) here.done (fields ∷ [])) in
+      let sets_are : AreSets (types_of pieces here.done ++ kind ∷ []) (with_record old.sets index kind) =
+      AreSets-with_record (types_of pieces here.done) old.sets index kind (here_is ∙ here.counted ∙ sym (length-map here.done (λ r. type_of (elements_in pieces r)))) here.sets_are in
+      let P : List (Range ℕ) → Type 0 = AreRecords pieces in
+      let Q : List (Option (List ℕ)) → Type 0 = λ ts. AreSets ts new.sets in
+      let R : List Set_ → Type 0 = AreSets (types_of pieces here.done ++ kind ∷ []) in
+      let S : List (Range ℕ) → Type 0 = λ rs. AllZip (IsRuled pieces rs) new.sets new.rules in
+      record {
+        done = here.done ++ fields ∷ [];
+        are = subst P (sym parts) here.are;
+        counted = then ∙ ap (λ n. n + 1) here.counted ∙ sym (length_push here.done fields);
+        sound = λ i outside. ap (λ rs. flaw_at pieces rs i) parts
+            ∙ sound-behind pieces here.done fields rest here.are here.sound (λ k. ap (λ ts. own_flaw ts (elements_in pieces fields) k) (sym kinds-before) ∙ sound k) i outside;
+        sets_are = subst Q types_are (subst R (sym sets_grow) sets_are);
+        rules_are = subst S (sym parts) rules_are;
+      }
+
+  -- the rules of the sets that are there stay, and those of a descriptor stand behind them
+  rules_grow : (index : ℕ) (new : Described) (said : Said) (kind : Option (List ℕ)) → index ≡ count → is_some kind ≡ true → said.kind ≡ kind → AreSaid (kinds old.sets) (elements_in pieces fields) said
+      → new.sets ≡ with_record old.sets index kind → new.rules ≡ old.rules ++ said.rules ∷ [] → AllZip (IsRuled pieces (here.done ++ fields ∷ rest)) new.sets new.rules
+  rules_grow index new said None here_is typed kind_is told sets_grow rules_are = absurd (false≢true typed)
+  rules_grow index new said (Some kind) here_is typed kind_is told sets_grow rules_are =
+      let own : record_at pieces (here.done ++ fields ∷ rest) index ≡ elements_in pieces fields = ap (record_at pieces (here.done ++ fields ∷ rest)) (here_is ∙ here.counted) ∙ record_at-behind pieces here.done fields rest in
+      let ruled : AreRules (record_at pieces (here.done ++ fields ∷ rest) index) said.rules = subst (λ fs. AreRules fs said.rules) (sym own) told.rules in
+      let P : List Set_ → Type 0 = λ sets. AllZip (IsRuled pieces (here.done ++ fields ∷ rest)) sets new.rules in
+      let Q : List Rules → Type 0 = λ rules. AllZip (IsRuled pieces (here.done ++ fields ∷ rest)) (with_record old.sets index (Some kind)) rules in
+      subst P (sym sets_grow) (subst Q (sym rules_are) (AllZip-push (IsRuled pieces (here.done ++ fields ∷ rest)) old.sets old.rules (set_of (Some kind) (Some index) (index + 1) (index + 1)) said.rules here.rules_are ruled))
+
+  more_as : (index next : ℕ) (new : Described) (descriptor : Bool) → index ≡ count → next ≡ count + 1 → is_some (type_of (elements_in pieces fields)) ≡ descriptor
+      → AddsRecordAs descriptor (kinds old.sets) (elements_in pieces fields) index old new → IsSchemaUpTo pieces next rest new
+  more_as index next new false here_is then kind_is told =
+      let P : List Set_ → Type 0 = λ sets. AllZip (IsRuled pieces (here.done ++ fields ∷ rest)) sets new.rules in
+      let Q : List Rules → Type 0 = λ rules. AllZip (IsRuled pieces (here.done ++ fields ∷ rest)) (with_member old.sets index) rules in
+      grown index next new here_is then (λ k. ap (λ b. cond b (field_flaw (kinds old.sets) (elements_in pieces fields) k) None) kind_is)
+      (told.0 ∙ ap (with_record old.sets index) (sym (none_there (type_of (elements_in pieces fields)) kind_is)))
+      (subst P (sym told.0) (subst Q (sym told.1) (IsRuled-longer pieces (here.done ++ fields ∷ rest) index old.sets old.rules here.rules_are)))
+  more_as index next new true here_is then kind_is (said, are_said, sets_grow, rules_are) =
+      let sets_are : new.sets ≡ with_record old.sets index (type_of (elements_in pieces fields)) = sets_grow ∙ ap (with_record old.sets index) are_said.kind in
+      grown index next new here_is then (λ k. ap (λ b. cond b (field_flaw (kinds old.sets) (elements_in pieces fields) k) None) kind_is ∙ are_said.sound k)
+      sets_are (rules_grow index new said (type_of (elements_in pieces fields)) here_is kind_is are_said.kind are_said sets_are rules_are)
+
+  -- the record's elements are taken from all elements
+  module _ (elements : List Element) (elements_are : pieces_of elements ≡ pieces) (named : List (List ℕ)) (named_is : kinds old.sets ≡ named) where
     abbrev own : List Element
     own = take (fields.end - fields.start) (drop fields.start elements)
 
     own_is : pieces_of own ≡ elements_in pieces fields
     own_is = own_are pieces elements elements_are fields record_within.0
 
-    own_flaw-is : (k : ℕ) → own_flaw named (pieces_of own) k ≡ own_flaw (types_among (types_of pieces here.done)) (elements_in pieces fields) k
-    own_flaw-is k = ap (λ ts. own_flaw ts (pieces_of own) k) (named_is ∙ kinds-before) ∙ ap (λ fs. own_flaw (types_among (types_of pieces here.done)) fs k) own_is
-
-    pub schema_more : (index next : ℕ) (kind : Option (List ℕ)) (more : List Set_) → index ≡ count → next ≡ count + 1 → IsOwnType named (pieces_of own) kind
-        → more ≡ with_record sets index kind → IsSchemaUpTo pieces next rest more
-    schema_more index next kind more here_is then told grown =
-        let parts : (here.done ++ fields ∷ []) ++ rest ≡ here.done ++ fields ∷ rest = append_assoc here.done (fields ∷ []) rest in
-        let types_are : types_of pieces here.done ++ kind ∷ [] ≡ types_of pieces (here.done ++ fields ∷ []) =
-        ap (λ t. types_of pieces here.done ++ t ∷ []) (told.kind_is ∙ ap type_of own_is) ∙ sym (map-append (λ r. type_of (elements_in pieces r)) here.done (fields ∷ [])) in
-        let sets_grow : AreSets (types_of pieces here.done ++ kind ∷ []) (with_record sets index kind) =
-        AreSets-with_record (types_of pieces here.done) sets index kind (here_is ∙ here.counted ∙ sym (length-map here.done (λ r. type_of (elements_in pieces r)))) here.sets_are in
-        let P : List (Range ℕ) → Type 0 = AreRecords pieces in
-        let Q : List (Option (List ℕ)) → Type 0 = λ ts. AreSets ts more in
-        let R : List Set_ → Type 0 = AreSets (types_of pieces here.done ++ kind ∷ []) in
-        record {
-          done = here.done ++ fields ∷ [];
-          are = subst P (sym parts) here.are;
-          counted = then ∙ ap (λ n. n + 1) here.counted ∙ sym (length_push here.done fields);
-          sound = λ i outside. ap (λ rs. flaw_at pieces rs i) parts ∙ sound-behind pieces here.done fields rest here.are here.sound (λ k. sym (own_flaw-is k) ∙ told.sound k) i outside;
-          sets_are = subst Q types_are (subst R (sym grown) sets_grow);
-        }
+    pub schema_more : (index next : ℕ) (new : Described) → index ≡ count → next ≡ count + 1 → AddsRecord named (pieces_of own) index old new → IsSchemaUpTo pieces next rest new
+    schema_more index next new here_is then told =
+        more_as index next new (is_some (type_of (elements_in pieces fields))) here_is then refl
+        (subst (λ ts. AddsRecord ts (elements_in pieces fields) index old new) (sym named_is) (subst (λ fs. AddsRecord named fs index old new) own_is told))
 
     module _ (places : AreFrom 0 elements) where
       pub fields_within : All (λ field. field.at ≤ length (text_of pieces)) own
       fields_within = own_within pieces elements elements_are fields record_within.0 places
 
-      schema_flaw : (flaw : Flaw) (line : ℕ) → HasOwnFlaw (text_of pieces) named own flaw line → HasFlaw pieces flaw line
-      schema_flaw flaw line has =
-          HasFlaw-own pieces here.done fields rest here.are here.sound flaw line has.at (λ k less. sym (own_flaw-is k) ∙ has.first k less) (sym (own_flaw-is has.at) ∙ has.met)
+      descriptor_is : is_some (type_of (pieces_of own)) ≡ true → is_some (type_of (elements_in pieces fields)) ≡ true
+      descriptor_is descriptor = ap (λ fs. is_some (type_of fs)) (sym own_is) ∙ descriptor
+
+      field_flaw-is : (k : ℕ) → field_flaw (types_among (types_of pieces here.done)) (elements_in pieces fields) k ≡ field_flaw named (pieces_of own) k
+      field_flaw-is k = ap (λ ts. field_flaw ts (elements_in pieces fields) k) (sym kinds-before ∙ named_is) ∙ ap (λ fs. field_flaw named fs k) (sym own_is)
+
+      schema_flaw : (flaw : Flaw) (line : ℕ) → is_some (type_of (pieces_of own)) ≡ true → HasFieldFlaw (text_of pieces) named own flaw line → HasFlaw pieces flaw line
+      schema_flaw flaw line descriptor has =
+          HasFlaw-own pieces here.done fields rest here.are here.sound (descriptor_is descriptor) flaw line has.at (λ k less. field_flaw-is k ∙ has.first k less) (field_flaw-is has.at ∙ has.met)
           (has.number ∙ ap line_after (text_before pieces elements elements_are fields record_within.0 places has.at has.field has.stands))
 
-      pub schema_fault : (fault : Fault) → IsMemoryOr fault (IsOwn (text_of pieces) named own (Err fault)) → IsMemoryOr fault (IsSchema pieces (Err fault))
-      schema_fault OutOfMemory has = tt
-      schema_fault (BadDescriptor line) has = schema_flaw bad line has
-      schema_fault (Unsupported line) has = schema_flaw unsupported line has
-      schema_fault fault has = absurd has
+      schema_refused : is_some (type_of (pieces_of own)) ≡ true → HasRefusedField named (pieces_of own) → HasRefused pieces
+      schema_refused descriptor has =
+          HasRefused-own pieces here.done fields rest here.are here.sound (descriptor_is descriptor) (record {
+            at = has.at;
+            sound = λ k le. field_flaw-is k ∙ has.sound k le;
+            field = has.field;
+            stands = ap (λ fs. slice_get fs has.at) (sym own_is) ∙ has.stands;
+            refused = has.refused;
+          })
 
-pub schema_all : (pieces : List Piece) (count : ℕ) (rest : List (Range ℕ)) (sets : List Set_) → rest ≡ [] → IsSchemaUpTo pieces count rest sets → IsDescribed pieces (record { sets = sets })
-schema_all pieces count rest sets none so_far =
-    let end : IsSchemaUpTo pieces count [] sets = subst (λ r. IsSchemaUpTo pieces count r sets) none so_far in
+      pub schema_fault : (fault : Fault) → IsMemoryOr fault (IsRefusedRecord (text_of pieces) named own fault) → IsMemoryOr fault (IsSchema pieces (Err fault))
+      schema_fault OutOfMemory has = tt
+      schema_fault (BadDescriptor line) has = schema_flaw bad line has.0 has.1
+      schema_fault (Unsupported line) has = schema_flaw unsupported line has.0 has.1
+      schema_fault BadPattern has = schema_refused has.0 has.1
+      schema_fault fault has = absurd has.1
+
+pub schema_all : (pieces : List Piece) (count : ℕ) (rest : List (Range ℕ)) (described : Described) → rest ≡ [] → IsSchemaUpTo pieces count rest described → IsDescribed pieces described
+schema_all pieces count rest described none so_far =
+    let end : IsSchemaUpTo pieces count [] described = subst (λ r. IsSchemaUpTo pieces count r described) none so_far in
     record {
       records = end.done ++ [];
       are = end.are;
       sound = λ i. end.sound i (LiesIn-nil i);
-      sets = subst (λ rs. AreSets (types_of pieces rs) sets) (sym (append-nil end.done)) end.sets_are;
+      sets = subst (λ rs. AreSets (types_of pieces rs) described.sets) (sym (append-nil end.done)) end.sets_are;
+      rules = end.rules_are;
     }
-
--- ---- one schema
-
-abbrev refusal : Flaw → ℕ → Fault
-refusal bad line = BadDescriptor line
-refusal unsupported line = Unsupported line
-
-same_records : (pieces : List Piece) (records others : List (Range ℕ)) → AreRecords pieces records → AreRecords pieces others → records ≡ others
-same_records pieces records others are too = OneListOfRecords-holds.records pieces records others are too
-
--- where nothing is wrong no field is the first that is faulty
-no_flaw : (pieces : List Piece) (described : Described) (flaw : Flaw) (line : ℕ) → IsDescribed pieces described → HasFlaw pieces flaw line → ⊥
-no_flaw pieces described flaw line is has =
-    let same = same_records pieces is.records has.records is.are has.are in
-    let none : None ≡ Some flaw = sym (is.sound has.at) ∙ ap (λ rs. flaw_at pieces rs has.at) same ∙ has.met in
-    cc
-
-same_sets : (pieces : List Piece) (described other : Described) → IsDescribed pieces described → IsDescribed pieces other → described ≡ other
-same_sets pieces described other is too =
-    let same = same_records pieces is.records too.records is.are too.are in
-    let moved : AreSets (types_of pieces too.records) described.sets = subst (λ rs. AreSets (types_of pieces rs) described.sets) same is.sets in
-    let make : List Set_ → Described = λ sets. record { sets = sets } in
-    ap make (one_list_of_sets (types_of pieces too.records) described.sets other.sets moved too.sets)
-
--- no faulty field stands before the first one
-not_before : (pieces : List Piece) (flaw other : Flaw) (line number : ℕ) (has : HasFlaw pieces flaw line) (too : HasFlaw pieces other number) → has.at < too.at → ⊥
-not_before pieces flaw other line number has too before =
-    let same = same_records pieces has.records too.records has.are too.are in
-    let none : None ≡ Some flaw = sym (too.first has.at before) ∙ ap (λ rs. flaw_at pieces rs has.at) (sym same) ∙ has.met in
-    cc
-
-same_flaw : (pieces : List Piece) (flaw other : Flaw) (line number : ℕ) → HasFlaw pieces flaw line → HasFlaw pieces other number → refusal flaw line ≡ refusal other number
-same_flaw pieces flaw other line number has too =
-    let same = same_records pieces has.records too.records has.are too.are in
-    let place : has.at ≡ too.at = elim (cases_lt has.at too.at) [
-      | inl before ↦ absurd (not_before pieces flaw other line number has too before)
-      | inr from ↦ elim (cases_lt too.at has.at) [
-        | inl behind ↦ absurd (not_before pieces other flaw number line too has behind)
-        | inr to ↦ omega arith
-      ]
-    ] in
-    let both : Some flaw ≡ Some other = sym has.met ∙ ap (flaw_at pieces has.records) place ∙ ap (λ rs. flaw_at pieces rs too.at) same ∙ too.met in
-    let flaws : flaw ≡ other = cc in
-    let lines : line ≡ number = has.number ∙ ap (λ n. line_after (text_of (take n pieces))) place ∙ sym too.number in
-    ap (λ f. refusal f line) flaws ∙ ap (refusal other) lines
-
-one_schema-ok : (pieces : List Piece) (described : Described) (other : Result Described Fault) → IsDescribed pieces described → IsSchema pieces other → Ok described ≡ other
-one_schema-ok pieces described (Ok other) is too = ap Ok (same_sets pieces described other is too)
-one_schema-ok pieces described (Err (BadDescriptor line)) is too = absurd (no_flaw pieces described bad line is too)
-one_schema-ok pieces described (Err (Unsupported line)) is too = absurd (no_flaw pieces described unsupported line is too)
-one_schema-ok pieces described (Err fault) is too = absurd too
-
-one_schema-err : (pieces : List Piece) (flaw : Flaw) (line : ℕ) (other : Result Described Fault) → HasFlaw pieces flaw line → IsSchema pieces other → Err (refusal flaw line) ≡ other
-one_schema-err pieces flaw line (Ok other) has too = absurd (no_flaw pieces other flaw line too has)
-one_schema-err pieces flaw line (Err (BadDescriptor number)) has too = ap Err (same_flaw pieces flaw bad line number has too)
-one_schema-err pieces flaw line (Err (Unsupported number)) has too = ap Err (same_flaw pieces flaw unsupported line number has too)
-one_schema-err pieces flaw line (Err fault) has too = absurd too
-
-pub one_schema : OneSchema
-one_schema pieces (Ok described) other is too = one_schema-ok pieces described other is too
-one_schema pieces (Err (BadDescriptor line)) other is too = one_schema-err pieces bad line other is too
-one_schema pieces (Err (Unsupported line)) other is too = one_schema-err pieces unsupported line other is too
-one_schema pieces (Err fault) other is too = absurd is
-
--- the same of an answer that memory may have cut short
-pub only_fault : (pieces : List Piece) (fault : Fault) → IsMemoryOr fault (IsSchema pieces (Err fault)) → (other : Result Described Fault) → IsSchema pieces other → IsMemoryOr fault (Err fault ≡ other)
-only_fault pieces OutOfMemory has other is = tt
-only_fault pieces (BadDescriptor line) has other is = one_schema pieces (Err (BadDescriptor line)) other has is
-only_fault pieces (Unsupported line) has other is = one_schema pieces (Err (Unsupported line)) other has is
-only_fault pieces fault has other is = absurd has
 
 pub few_pieces : (pieces : List Piece) (elements : List Element) (top : ℕ) → pieces_of elements ≡ pieces → length elements < top → length pieces < top
 few_pieces pieces elements top same short = omega (arith, ap length same, length-map elements piece_of)

@@ -1,51 +1,60 @@
--- Descriptors: the records with a `%rec` field, the types that they name, and what may be wrong with their fields.
-use Rattle.std.specs.Prelude.{ℕ, Bool, false, ◌==◌, ◌||◌, ◌&&◌, not, nat_le, nat_lt, List, [], ◌∷◌, map, drop, take, find, filter_map, codes, slice_get, Option, Some, None, if◌then◌else◌}
-use Rattle.std.specs.Option.{option_map, option_and_then}
-use Rattle.std.specs.List.{list_any}
+-- Descriptors: the records with a `%rec` field, what their fields mean, and what may be wrong with one of these.
+use Rattle.std.specs.Prelude.{ℕ, ◌-◌, Bool, true, false, ◌==◌, ◌||◌, ◌&&◌, not, nat_le, nat_lt, is_some, List, [], ◌∷◌, map, drop, take, find, filter_map, flat_map, codes, slice_get, Option, Some, None, option_map, option_and_then, if◌then◌else◌}
+use Rattle.std.specs.List.{list_any, list_all}
+use Rattle.std.specs.Option.{option_map_or}
 use Rattle.std.specs.Str.{bytes_eq}
 use Rattle.std.specs.declared.ops.Range.{Range}
-use Rattle.rec_text.specs.Bytes.{is_blank}
-use Rattle.rec_text.specs.Canonical.{is_plain_name}
+use Rattle.rec_text.specs.Canonical.{is_plain_name, is_field_name}
 use Rattle.rec_text.specs.Elements.{Piece, name_of}
 use Rattle.rec_text.specs.Values.{value_of}
+use Rattle.rec_sex.specs.Grammar.{fault_of}
+use Rattle.rec_check.specs.declared.special.Special.{Special}
+use Rattle.rec_check.specs.declared.special.Special.TheVariants.{Rec, Key, Mandatory, Prohibit, Unique, Allowed, Auto, Type_, Size, Constraint, Confidential}
+use Rattle.rec_check.specs.declared.special.Bound.{Bound}
+use Rattle.rec_check.specs.declared.special.Comparison.{Comparison}
+use Rattle.rec_check.specs.declared.special.Comparison.TheVariants.{Exactly, Less, AtMost, Greater, AtLeast}
+use Rattle.rec_check.specs.Types.{natural_of, typing_of}
+use Rattle.rec_check.specs.Words.{words, is_among}
 
--- ---- words of a value
-
--- a blank or a newline
-abbrev pub is_separator : ℕ → Bool
-is_separator b = is_blank b || b == 10
-
-abbrev pub begins_word : List ℕ → Bool
-begins_word [] = false
-begins_word (b ∷ bs) = not (is_separator b)
-
--- one byte more at the front of the first word
-abbrev pub on_first : ℕ → List (List ℕ) → List (List ℕ)
-on_first b [] = (b ∷ []) ∷ []
-on_first b (word ∷ words) = (b ∷ word) ∷ words
-
--- the words of a text: separators stand between them
-abbrev pub words : List ℕ → List (List ℕ)
-words [] = []
-words (b ∷ bs) = if is_separator b then words bs else if begins_word bs then on_first b (words bs) else (b ∷ []) ∷ words bs
-
--- the first word; nothing where there is none
-abbrev pub first_word : List (List ℕ) → List ℕ
-first_word [] = []
-first_word (word ∷ words) = word
-
--- ---- descriptors
+-- ---- records
 
 -- the elements of a record, from its first to its last field
 abbrev pub elements_in : List Piece → Range ℕ → List Piece
 elements_in pieces record_ = drop record_.start (take record_.end pieces)
 
+-- the elements of the record of an index
+abbrev pub record_at : List Piece → List (Range ℕ) → ℕ → List Piece
+record_at pieces records i = option_map_or (elements_in pieces) (slice_get records i) []
+
 abbrev pub is_named : List ℕ → Piece → Bool
 is_named name piece = bytes_eq (name_of piece) name
+
+-- ---- descriptors
+
+-- what fields of these names say of a record set; fields of other names say nothing
+abbrev pub special_of : List ℕ → Option Special
+special_of name =
+    if bytes_eq name (codes "%rec") then Some Rec
+    else if bytes_eq name (codes "%key") then Some Key
+    else if bytes_eq name (codes "%mandatory") then Some Mandatory
+    else if bytes_eq name (codes "%prohibit") then Some Prohibit
+    else if bytes_eq name (codes "%unique") then Some Unique
+    else if bytes_eq name (codes "%allowed") then Some Allowed
+    else if bytes_eq name (codes "%auto") then Some Auto
+    else if bytes_eq name (codes "%type") then Some Type_
+    else if bytes_eq name (codes "%size") then Some Size
+    else if bytes_eq name (codes "%constraint") then Some Constraint
+    else if bytes_eq name (codes "%confidential") then Some Confidential
+    else None
 
 -- the name of the field that makes a record a descriptor
 abbrev pub rec_name : List ℕ
 rec_name = codes "%rec"
+
+-- the first word; nothing where there is none
+abbrev pub first_word : List (List ℕ) → List ℕ
+first_word [] = []
+first_word (word ∷ words) = word
 
 -- the type that a record's elements name, where it is a descriptor: the first word of its first `%rec` field
 abbrev pub type_of : List Piece → Option (List ℕ)
@@ -55,6 +64,39 @@ type_of pieces = option_map (λ piece. first_word (words (value_of piece))) (fin
 abbrev pub types_of : List Piece → List (Range ℕ) → List (Option (List ℕ))
 types_of pieces records = map (λ record_. type_of (elements_in pieces record_)) records
 
+-- ---- sizes
+
+-- the operator that comes first, the longest one, and what stands behind it
+abbrev pub comparison_in : List ℕ → Comparison
+comparison_in [] = Exactly
+comparison_in (b ∷ []) = if b == 60 then Less else if b == 62 then Greater else Exactly
+comparison_in (b ∷ c ∷ bs) =
+    if b == 60 then (if c == 61 then AtMost else Less)
+    else if b == 62 then (if c == 61 then AtLeast else Greater)
+    else Exactly
+
+-- how many bytes the operator has
+abbrev pub width_of : Comparison → ℕ
+width_of Exactly = 0
+width_of Less = 1
+width_of AtMost = 2
+width_of Greater = 1
+width_of AtLeast = 2
+
+-- what a `%size` field says: an operator, blanks and a number that isn't negative; without operator the number is exact
+abbrev pub bound_in : List ℕ → Option Bound
+bound_in value = let comparison : Comparison = comparison_in value in
+    option_map (λ number. record { comparison = comparison; number = number }) (natural_of (drop (width_of comparison) value))
+
+abbrev pub meets : Bound → ℕ → Bool
+meets bound n = elim bound.comparison [
+  | Exactly ↦ n == bound.number
+  | Less ↦ nat_lt n bound.number
+  | AtMost ↦ nat_le n bound.number
+  | Greater ↦ nat_lt bound.number n
+  | AtLeast ↦ nat_le bound.number n
+]
+
 -- ---- what is wrong with a field of a descriptor
 
 -- it means nothing; or it means something that recu doesn't support
@@ -62,26 +104,57 @@ pub data Flaw : Type 0 where
   bad : Flaw
   unsupported : Flaw
 
--- the types that the records before an element name
-abbrev pub types_before : List Piece → List (Range ℕ) → ℕ → List (List ℕ)
-types_before pieces records i = filter_map (λ record_. if nat_le record_.end i then type_of (elements_in pieces record_) else None) records
-
--- a field of this name stands before an element in its record
-abbrev pub is_repeated : List ℕ → List Piece → List (Range ℕ) → ℕ → Bool
-is_repeated name pieces records i =
-    list_any (λ record_. nat_le record_.start i && (nat_lt i record_.end && list_any (is_named name) (drop record_.start (take i pieces)))) records
+abbrev pub bad_unless : Bool → Option Flaw
+bad_unless sound = if sound then None else Some bad
 
 -- `%rec` names one type. No type, a second field of its kind in the record and a type that is named before are bad; so
 -- far as the field isn't bad, more words name a source of descriptors outside the file, which isn't supported.
 abbrev pub rec_flaw : Bool → List (List ℕ) → List (List ℕ) → Option Flaw
 rec_flaw repeated named [] = Some bad
 rec_flaw repeated named (kind ∷ source) =
-    if repeated || (not (is_plain_name kind) || list_any (bytes_eq kind) named) then Some bad
+    if repeated || (not (is_plain_name kind) || is_among named kind) then Some bad
     else elim source [ [] ↦ None | word ∷ more ↦ Some unsupported ]
+
+-- one name of a field
+abbrev pub is_one_name : List (List ℕ) → Bool
+is_one_name (name ∷ []) = is_field_name name
+is_one_name _ = false
+
+-- What is wrong with a field that says this. A field of the same name may stand before it in the record, and these types
+-- are named before it.
+abbrev pub special_flaw : Special → Bool → List (List ℕ) → List ℕ → Option Flaw
+special_flaw Rec repeated named value = rec_flaw repeated named (words value)
+special_flaw Key repeated named value = bad_unless (not repeated && is_one_name (words value))
+special_flaw Mandatory repeated named value = bad_unless (list_all is_field_name (words value))
+special_flaw Prohibit repeated named value = bad_unless (list_all is_field_name (words value))
+special_flaw Unique repeated named value = bad_unless (list_all is_field_name (words value))
+special_flaw Allowed repeated named value = bad_unless (list_all is_field_name (words value))
+special_flaw Auto repeated named value = bad_unless (list_all is_field_name (words value))
+special_flaw Type_ repeated named value = bad_unless (is_some (typing_of value))
+special_flaw Size repeated named value = bad_unless (not repeated && is_some (bound_in value))
+special_flaw Constraint repeated named value = bad_unless (not (is_some (fault_of value)))
+special_flaw Confidential repeated named value = Some unsupported
+
+-- what is wrong with an element of a descriptor, behind these elements of it
+abbrev pub element_flaw : List (List ℕ) → List Piece → Piece → Option Flaw
+element_flaw named before piece = option_and_then
+    (λ special. special_flaw special (list_any (is_named (name_of piece)) before) named (value_of piece))
+    (special_of (name_of piece))
+
+-- what is wrong with the element of this index among a record's own, if the record is a descriptor and anything is
+abbrev pub own_flaw : List (List ℕ) → List Piece → ℕ → Option Flaw
+own_flaw named fields k = if is_some (type_of fields) then option_and_then (element_flaw named (take k fields)) (slice_get fields k) else None
+
+-- the types that the records before an index name
+abbrev pub types_before : List Piece → List (Range ℕ) → ℕ → List (List ℕ)
+types_before pieces records i = filter_map (λ record_. if nat_le record_.end i then type_of (elements_in pieces record_) else None) records
+
+-- the index lies in the range
+abbrev pub holds_index : ℕ → Range ℕ → Bool
+holds_index i record_ = nat_le record_.start i && nat_lt i record_.end
 
 -- what is wrong with the element of this index, if anything is
 abbrev pub flaw_at : List Piece → List (Range ℕ) → ℕ → Option Flaw
 flaw_at pieces records i = option_and_then
-    (λ piece. if is_named rec_name piece
-    then rec_flaw (is_repeated rec_name pieces records i) (types_before pieces records i) (words (value_of piece)) else None)
-    (slice_get pieces i)
+    (λ record_. own_flaw (types_before pieces records record_.start) (elements_in pieces record_) (i - record_.start))
+    (find (holds_index i) records)

@@ -1,25 +1,38 @@
 -- What the descriptors of a text say, or the first of their fields that is faulty.
-use Rattle.std.specs.Prelude.{◌≡◌, ℕ, ◌<◌, List, take, Some, None, Result, Ok, Err}
+use Rattle.std.specs.Prelude.{◌≡◌, ◌≢◌, ℕ, ◌<◌, ◌≤◌, true, false, List, take, find, is_some, slice_get, Option, Some, None, Result, Ok, Err}
+use Rattle.std.specs.List.{AllZip}
+use Rattle.std.specs.Option.{option_map_or}
 use Rattle.std.specs.declared.ops.Range.{Range}
 use Rattle.rec_text.specs.declared.fault.Fault.{Fault}
-use Rattle.rec_text.specs.declared.fault.Fault.TheVariants.{BadDescriptor, Unsupported}
-use Rattle.rec_text.specs.Elements.{Piece, text_of}
+use Rattle.rec_text.specs.declared.fault.Fault.TheVariants.{BadDescriptor, Unsupported, BadPattern}
+use Rattle.rec_text.specs.Elements.{Piece, text_of, name_of}
 use Rattle.rec_text.specs.Reading.{line_after}
 use Rattle.rec_text.specs.Records.{AreRecords}
+use Rattle.rec_text.specs.Values.{value_of}
+use Rattle.rec_sex.specs.Expressions.{HasRefusedPattern}
 use Rattle.rec_check.specs.declared.set.Set_.{Set_}
-use Rattle.rec_check.specs.Descriptors.{Flaw, bad, unsupported, flaw_at, types_of}
+use Rattle.rec_check.specs.declared.special.Special.TheVariants.{Type_, Constraint}
+use Rattle.rec_check.specs.Descriptors.{Flaw, bad, unsupported, elements_in, flaw_at, holds_index, record_at, special_of, type_of, types_of}
+use Rattle.rec_check.specs.Rules.{Rules, no_rules, AreRules, AreSameRules}
 use Rattle.rec_check.specs.Sets.{AreSets}
+use Rattle.rec_check.specs.Types.{HasRefusedType}
 
--- what a schema holds: the record sets
+-- what a schema holds: the record sets, and for each of them its rules
 pub record Described : Type 0 where
   pub sets : List Set_
+  pub rules : List Rules
 
--- no field is faulty, and the records are cut into these sets
+-- the rules of a set are those of its descriptor; the untyped set has none
+abbrev pub IsRuled : List Piece → List (Range ℕ) → Set_ → Rules → Type 0
+IsRuled pieces records s rules = elim s.head [ None ↦ rules ≡ no_rules | Some head ↦ AreRules (record_at pieces records head) rules ]
+
+-- no field is faulty, the records are cut into these sets, and these are the rules of the sets
 pub record IsDescribed (pieces : List Piece) (described : Described) : Type 0 where
   pub records : List (Range ℕ)
   pub are : AreRecords pieces records
   pub sound : (i : ℕ) → flaw_at pieces records i ≡ None
   pub sets : AreSets (types_of pieces records) described.sets
+  pub rules : AllZip (IsRuled pieces records) described.sets described.rules
 
 -- the first element with which anything is wrong; it begins at this line
 pub record HasFlaw (pieces : List Piece) (flaw : Flaw) (line : ℕ) : Type 0 where
@@ -30,13 +43,41 @@ pub record HasFlaw (pieces : List Piece) (flaw : Flaw) (line : ℕ) : Type 0 whe
   pub met : flaw_at pieces records at ≡ Some flaw
   pub number : line ≡ line_after (text_of (take at pieces))
 
--- the one answer for a text of these elements, memory aside
+-- the type or the expression that a field gives has a pattern that `regex` may refuse, for another cause than memory
+abbrev pub MayBeRefused : Piece → Type 0
+MayBeRefused field = elim (special_of (name_of field)) [
+  | Some Type_ ↦ HasRefusedType (value_of field)
+  | Some Constraint ↦ HasRefusedPattern (value_of field)
+  | _ ↦ ⊥
+]
+
+-- a field of a descriptor has such a pattern, and nothing is wrong with any element up to it
+pub record HasRefused (pieces : List Piece) : Type 0 where
+  pub records : List (Range ℕ)
+  pub are : AreRecords pieces records
+  pub at : ℕ
+  pub sound : (i : ℕ) → i ≤ at → flaw_at pieces records i ≡ None
+  pub in_descriptor : option_map_or (λ record_. is_some (type_of (elements_in pieces record_))) (find (holds_index at) records) false ≡ true
+  pub field : Piece
+  pub stands : slice_get pieces at ≡ Some field
+  pub refused : MayBeRefused field
+
+-- what may be answered for a text of these elements, memory aside
 abbrev pub IsSchema : List Piece → Result Described Fault → Type 0
 IsSchema pieces (Ok described) = IsDescribed pieces described
 IsSchema pieces (Err (BadDescriptor line)) = HasFlaw pieces bad line
 IsSchema pieces (Err (Unsupported line)) = HasFlaw pieces unsupported line
+IsSchema pieces (Err BadPattern) = HasRefused pieces
 IsSchema pieces (Err _) = ⊥
 
--- a text has one schema
+-- the same answer, up to patterns that give the same matches
+abbrev pub AreSameSchemas : Result Described Fault → Result Described Fault → Type 0
+AreSameSchemas (Ok one) (Ok other) = (one.sets ≡ other.sets) × AllZip AreSameRules one.rules other.rules
+AreSameSchemas (Ok one) (Err fault) = ⊥
+AreSameSchemas (Err fault) (Ok other) = ⊥
+AreSameSchemas (Err fault) (Err other) = fault ≡ other
+
+-- a text has one schema; only where `regex` may refuse a pattern, that refusal may stand in the place of the other answer
 abbrev pub OneSchema : Type 0
-OneSchema = (pieces : List Piece) (one other : Result Described Fault) → IsSchema pieces one → IsSchema pieces other → one ≡ other
+OneSchema = (pieces : List Piece) (one other : Result Described Fault) → IsSchema pieces one → IsSchema pieces other
+    → (one ≢ Err BadPattern) → (other ≢ Err BadPattern) → AreSameSchemas one other

@@ -1,63 +1,86 @@
 //! What the descriptors of a text say.
-ghost use Rattle.std.specs.Prelude.{◌≡◌, Result, position};
-ghost use Rattle.rec_text.specs.declared.fault.Fault.{Fault};
-ghost use Rattle.rec_text.specs.Faults.{UnlessMemory};
-ghost use Rattle.rec_check.specs.Sets.{is_of_type};
+ghost use Rattle.rec_check.specs.Steps.{HaveTypes};
 
-use crate::descriptor::type_in;
-use crate::set::{Set_, add_record, has_type};
-use rec_text::{Database, Fault};
+use crate::automatic::next_value;
+use crate::draft::Draft;
+use crate::report::violations_of;
+use crate::rules::Rules;
+use crate::set::Set_;
+use crate::type_names::TypeNames;
+use rec_text::{Database, Fault, Violation};
 use std::alloc::Global;
-use std::marker::Model;
 
-/// The record sets of a text, in file order: first the untyped one, and then one for each descriptor.
-#[derive(Debug, Drop)]
+/// The record sets of a text, in file order: first the untyped one, and then one for each descriptor, with its rules.
+#[derive(Drop)]
 pub struct Schema {
     sets: Vec<Set_>,
-}
-
-impl Model for Schema {
-    ghost use Rattle.rec_check.specs.Schemas.{Described};
-
-    ghost Value = { Described };
-
-    ghost view = { λ schema. record { sets = schema.sets.items } };
+    rules: Vec<Rules>,
+    /// The types of the sets behind the untyped one.
+    types: TypeNames,
+    ghost typed: { HaveTypes sets.items types },
 }
 
 impl Schema {
-    ghost use Rattle.rec_check.specs.Schemas.{Described, IsSchema};
+    ghost use Rattle.std.specs.Prelude.{◌≡◌, ◌<◌, length, position, Ok, IfOk, Err, IfErr};
+    ghost use Rattle.rec_text.specs.Faults.{IsMemoryOr, UnlessMemory};
+    ghost use Rattle.rec_check.specs.Automatic.{IsAutomatic};
+    ghost use Rattle.rec_check.specs.Schemas.{IsSchema};
+    ghost use Rattle.rec_check.specs.Sets.{is_of_type};
+    ghost use Rattle.rec_check.specs.Stored.{described};
+    ghost use Rattle.rec_check.specs.Violations.{AreViolations};
 
     /// Reads the descriptors of a text. The first faulty field is refused with its line.
     pub fn read(alloc: Global, database: &Database) -> Result<Schema, Fault>
-        ensures found { UnlessMemory result (IsSchema database.now) }
-        ensures only { (other : Result Described Fault) → IsSchema database.now other → UnlessMemory result (λ answer. answer ≡ other) }
+        ensures found { IfOk result (λ schema. IsSchema database.now (Ok (described schema))) }
+        ensures refused { IfErr result (λ fault. IsMemoryOr fault (IsSchema database.now (Err fault))) }
     {
         let elements = database.elements();
-        let mut sets = Vec::new(alloc);
-        sets.push(Set_ {
-            kind: None,
-            head: None,
-            members: 0..0,
-        })?;
+        let mut draft = Draft::new(alloc)?;
         for (index, record) in database.records().enumerate() {
             let fields = &elements[record.start..record.end];
-            let kind = type_in(alloc, database, fields, &sets)?;
-            add_record(&mut sets, index, kind)?;
+            draft.add(alloc, database, index, fields)?;
         }
-        Ok(Schema { sets })
+        let Draft { sets, rules, types } = draft;
+        Ok(Schema { sets, rules, types })
     }
 
     /// The sets, in file order.
     pub fn sets(&self) -> &[Set_]
-        ensures { result.now ≡ self.now.sets }
+        ensures { result.now ≡ (described self.now).sets }
     {
         &self.sets
     }
 
     /// The place of the set of a type among the sets.
     pub fn set_of_type(&self, kind: &[u8]) -> Option<usize>
-        ensures { result ≡ position (is_of_type kind.now) self.now.sets }
+        ensures { result ≡ position (is_of_type kind.now) (described self.now).sets }
     {
-        self.sets.iter().position(|set| has_type(set, kind))
+        // The untyped set comes first.
+        Some(self.types.place_of(kind)? + 1)
+    }
+
+    /// Where a text breaks the rules of its sets: set by set, first its size, and then record by record.
+    pub fn violations(&self, alloc: Global, database: &Database) -> Result<Vec<Violation>, Fault>
+        requires { IsSchema database.now (Ok (described self.now)) }
+        ensures violations { IfOk result (λ found. AreViolations database.now (described self.now) found.items) }
+        ensures refusals { IfErr result (λ fault. fault ≡ Fault.OutOfMemory) }
+    {
+        violations_of(alloc, database, &self.sets, &self.rules)
+    }
+
+    /// The next value of a counter in the set at this place: one more than the greatest integer among the values of the
+    /// field in the set, and 0 where there is none.
+    pub fn next_auto(
+        &self,
+        alloc: Global,
+        database: &Database,
+        set: usize,
+        name: &[u8],
+    ) -> Result<i64, Fault>
+        requires schema { IsSchema database.now (Ok (described self.now)) }
+        requires place { set < length (described self.now).sets }
+        ensures { UnlessMemory result (IsAutomatic database.now (described self.now) set name.now) }
+    {
+        next_value(alloc, database, &self.sets[set], &self.rules[set], name)
     }
 }

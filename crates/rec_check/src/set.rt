@@ -1,6 +1,5 @@
 //! One set of records, and the sets of a text as they grow.
 ghost use Rattle.std.specs.Prelude.{◌≡◌, ◌-◌, ◌<◌, ◌^◌, OnOk};
-ghost use Rattle.rec_check.specs.Sets.{is_of_type};
 ghost use Rattle.rec_check.specs.Steps.{with_record};
 
 use rec_text::Bytes;
@@ -16,15 +15,6 @@ pub struct Set_ {
     pub head: Option<usize>,
     /// The records that the set holds, its descriptor aside.
     pub members: Range<usize>,
-}
-
-pub(crate) fn has_type(set: &Set_, kind: &[u8]) -> bool
-    ensures { result ≡ is_of_type kind.now set.now }
-{
-    match &set.kind {
-        Some(own) => own.as_slice() == kind,
-        None => false,
-    }
 }
 
 /// Adds the record of an index behind the others: a descriptor of a type, or one more of the last set.

@@ -6,7 +6,7 @@ use Rattle.std.specs.Borrow.{Bor}
 use Rattle.std.specs.Option.{option_copied, option_map_or, option_eq}
 use Rattle.std.proofs.lemmas.Bool.{ne_eqb}
 use Rattle.std.proofs.lemmas.List.{take_more, take-append-drop, map-append}
-use Rattle.std.proofs.lemmas.List.Elements.{filter-append, filter_map-append}
+use Rattle.std.proofs.lemmas.List.Elements.{filter_map-append}
 use Rattle.std.proofs.lemmas.List.Folds.{flat_map-map, list_any-append}
 use Rattle.std.proofs.lemmas.Option.{slice_get-map, slice_get-get_or, slice_get_past}
 use Rattle.std.proofs.lemmas.Grind.{flat_map-append}
@@ -18,7 +18,7 @@ use Rattle.rec_text.specs.Elements.{Piece}
 use Rattle.rec_text.specs.Places.{piece_of, pieces_of}
 use Rattle.rec_text.specs.Records.{is_field_piece}
 use Rattle.rec_text.specs.Values.{value_of}
-use Rattle.rec_select.specs.Blocks.{spaced_value}
+use Rattle.rec_select.specs.Blocks.{closed_text, spaced_value}
 use Rattle.rec_select.specs.Printing.{closed, row_of, value_line}
 
 -- ---- the last byte
@@ -36,8 +36,8 @@ newline_last text None newline test is same e = e ∙ ap (λ b. option_map_or (�
 newline_last text (Some b) newline test is same e =
     e ∙ ap (λ n. b.now == n) is ∙ ap (λ b. option_map_or (λ b. b == 10) b false) same ∙ sym (ends_newline-last text)
 
-pub closed-open : (piece : Piece) → false ≡ ends_newline piece.bytes → closed piece ≡ piece.bytes ++ 10 ∷ []
-closed-open piece e = rw (sym e) refl
+pub closed-open : (text : List ℕ) → false ≡ ends_newline text → closed_text text ≡ text ++ 10 ∷ []
+closed-open text e = rw (sym e) refl
 
 -- ---- a text that is made element by element
 
@@ -58,24 +58,7 @@ flat_map_at part elements i d within =
     cut_at text joins elements i d within
     ∙ ap (λ t. (text (take i elements) ++ t) ++ text (drop (i + 1) elements)) (append-nil (part (piece_of (get_or elements i d))))
 
--- ---- the fields of a record
-
-abbrev block : List Element → List ℕ
-block fields = flat_map closed (filter is_field_piece (pieces_of fields))
-
-block-append : (xs ys : List Element) → block (xs ++ ys) ≡ block xs ++ block ys
-block-append xs ys =
-    ap (λ t. flat_map closed (filter is_field_piece t)) (map-append piece_of xs ys)
-    ∙ ap (flat_map closed) (filter-append is_field_piece (pieces_of xs) (pieces_of ys))
-    ∙ flat_map-append closed (filter is_field_piece (pieces_of xs)) (filter is_field_piece (pieces_of ys))
-
-block-one : (element : Element) → element.kind ≡ Field → block (element ∷ []) ≡ closed (piece_of element)
-block-one element e = rw e (append-nil (closed (piece_of element)))
-
-pub block_at : (fields : List Element) (i : ℕ) (d : Element) → i < length fields → (get_or fields i d).kind ≡ Field
-    → block fields ≡ (block (take i fields) ++ closed (piece_of (get_or fields i d))) ++ block (drop (i + 1) fields)
-block_at fields i d within e =
-    cut_at block block-append fields i d within ∙ ap (λ t. (block (take i fields) ++ t) ++ block (drop (i + 1) fields)) (block-one (get_or fields i d) e)
+-- ---- whether a field is among elements
 
 or-true : (b : Bool) → (b || true) ≡ true
 or-true true = refl
@@ -95,7 +78,7 @@ is_field-kind Blank bytes other = refl
 is_field-kind Comment bytes other = refl
 is_field-kind Field bytes other = absurd (other refl)
 
-is_field-other : (element : Element) → (element.kind ≡ Field → ⊥) → is_field_piece (piece_of element) ≡ false
+pub is_field-other : (element : Element) → (element.kind ≡ Field → ⊥) → is_field_piece (piece_of element) ≡ false
 is_field-other element other = is_field-kind element.kind element.raw.now other
 
 pub is_field-more : (elements : List Element) (i : ℕ) (d : Element) → i < length elements → ((get_or elements i d).kind ≡ Field → ⊥)

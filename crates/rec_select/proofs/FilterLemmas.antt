@@ -28,7 +28,7 @@ module _ (value text : List ℕ) where
       (omega (arith, ap length parts, length-append front (text ++ behind), length-append text behind))
       (ap (λ v. take (length text) (drop (length front) v)) parts ∙ ap (take (length text)) (drop_at front (text ++ behind) (length front) refl) ∙ take_at text behind (length text) refl)
 
-  found_holds : (found : Option ℕ) → FindsNeedle value text 0 found → IsTrue (is_some found) ↔ Holds value text
+  pub found_holds : (found : Option ℕ) → FindsNeedle value text 0 found → IsTrue (is_some found) ↔ Holds value text
   found_holds None nowhere = (
     λ no. absurd (false≢true no),
     λ (front, behind, parts).

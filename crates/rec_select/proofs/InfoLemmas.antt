@@ -6,14 +6,12 @@ use Rattle.std.specs.Option.{option_map_or}
 use Rattle.std.specs.declared.ops.Range.{Range}
 use Rattle.std.proofs.lemmas.Bool.{cases_Bool, false≢true}
 use Rattle.std.proofs.lemmas.Bool.Decides.{nat_tests}
-use Rattle.std.proofs.lemmas.List.{drop_all, drop-map, drop-take, length-map, length-replicate, take-map}
+use Rattle.std.proofs.lemmas.List.{drop_all, length-map, length-replicate}
 use Rattle.std.proofs.lemmas.List.Folds.{find_at}
 use Rattle.std.proofs.lemmas.List.Quantifiers.{position-Some}
 use Rattle.std.proofs.lemmas.Option.{slice_get_read, slice_get_past}
 use Rattle.rec_text.specs.Bytes.{is_nil, ends_newline}
-use Rattle.rec_text.specs.declared.element.Element.{Element}
 use Rattle.rec_text.specs.Elements.{Piece}
-use Rattle.rec_text.specs.Places.{piece_of, pieces_of}
 use Rattle.rec_text.specs.Records.{AreAscending, IsRecord, AreRecords, is_field_at, is_field_piece}
 use Rattle.rec_text.specs.declared.fault.Fault.{Fault}
 use Rattle.rec_text.specs.declared.fault.Fault.TheVariants.{NoSuchType}
@@ -191,13 +189,6 @@ record-full pieces fields h =
     slice_get-drop fields.start 0 (take fields.end pieces) ∙ ap (slice_get (take fields.end pieces)) place ∙ slice_get-take fields.end fields.start pieces h.some in
     block-full (elements_in pieces fields) (ap (λ found. option_map_or is_field_piece found false) first ∙ h.first)
 
-pub elements_in-slice : (elements : List Element) (fields : Range ℕ) → fields.start ≤ fields.end
-    → pieces_of (take (fields.end - fields.start) (drop fields.start elements)) ≡ elements_in (pieces_of elements) fields
-elements_in-slice elements fields ordered =
-    let size : fields.start + (fields.end - fields.start) ≡ fields.end = omega (arith, ordered) in
-    sym (take-map piece_of (fields.end - fields.start) (drop fields.start elements)) ∙ ap (take (fields.end - fields.start)) (sym (drop-map piece_of fields.start elements))
-    ∙ sym (drop-take fields.start (fields.end - fields.start) (pieces_of elements)) ∙ ap (λ n. drop fields.start (take n (pieces_of elements))) size
-
 -- ---- one walk over the records
 
 -- what `next` gave before the record that it gave last, and what is left behind that
@@ -368,13 +359,6 @@ module _ {pieces : List Piece} {all : List (Range ℕ)} where
       → length sets ≤ i → (records : List (Range ℕ)) → AreRecords pieces all → AreRecords pieces records → HasTaken (info Descriptors pieces records sets) old new before after
   heads_taken {sets} {i} {passed = passed} so_far none records are are_records =
       HasTaken-as (text_from-info sets records are are_records) (IsTakenTo-all so_far.taken (ap (λ (rest : List Set_). text_from (passed == 0) (head_blocks pieces all rest)) (drop_all i sets none)))
-
--- the index behind a descriptor's fits
-pub head_fits : (pieces : List Piece) (elements : List Element) (head top : ℕ) → pieces_of elements ≡ pieces → head < length pieces → length elements < top → head + 1 < top
-head_fits pieces elements head top are there few = omega (arith, there, few, ap length are, length-map elements piece_of)
-
-pub fields_within : (pieces : List Piece) (elements : List Element) (fields : Range ℕ) → pieces_of elements ≡ pieces → IsRecord pieces fields → fields.end ≤ length elements
-fields_within pieces elements fields are h = omega (arith, h.high, h.is_paragraph.within, ap length are, length-map elements piece_of)
 
 -- ---- the descriptors of the sets that are printed
 

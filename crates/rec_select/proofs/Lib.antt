@@ -1,9 +1,11 @@
 pub mod FilterLemmas
+pub mod OneLineLemmas
 pub mod SelectionLemmas
 pub mod SelectionExamples
 pub mod IndexLemmas
 pub mod PutsLemmas
 pub mod BlockLemmas
+pub mod ExcerptLemmas
 pub mod InfoLemmas
 pub mod InfoExamples
 pub mod PrintingLemmas

@@ -1,21 +1,20 @@
 -- What is printed of many records, block by block.
-use Rattle.std.proofs.Common.{◌≡◌, ℕ, ◌+◌, ◌-◌, ◌<◌, ◌≤◌, Bool, true, false, not, List, [], ◌∷◌, ◌++◌, Ok, ◌⊎◌, inl, inr, length, get_or, take, drop, map, zero, suc, refl, sym, ap, subst, ◌∙◌, append-nil, append_assoc, arith}
+use Rattle.std.proofs.Common.{◌≡◌, ℕ, ◌+◌, ◌<◌, Bool, true, false, not, List, [], ◌∷◌, ◌++◌, Ok, ◌⊎◌, inl, inr, length, get_or, take, drop, map, zero, suc, refl, sym, ap, subst, ◌∙◌, append-nil, append_assoc, arith}
 use Rattle.std.specs.Prelude.{flat_map}
 use Rattle.std.specs.List.{concat, join_with_byte, AllByRecursion}
 use Rattle.std.specs.declared.ops.Range.{Range}
-use Rattle.std.proofs.lemmas.List.{drop-take, length-map, take-map, map-append, take-append-drop, take_more}
+use Rattle.std.proofs.lemmas.List.{map-append, take-append-drop, take_more}
 use Rattle.std.proofs.lemmas.List.Concat.{concat_is}
 use Rattle.std.proofs.lemmas.List.Elements.{filter-append}
 use Rattle.std.proofs.lemmas.Grind.{flat_map-append}
 use Rattle.std.proofs.lemmas.Option.{slice_get-get_or}
 use Rattle.rec_text.specs.Bytes.{is_nil}
 use Rattle.rec_text.specs.Elements.{Piece}
-use Rattle.rec_text.specs.Places.{piece_of, pieces_of}
 use Rattle.rec_text.specs.Records.{AreRecords, IsRecord}
 use Rattle.rec_text.specs.Scanned.{IsWithin}
-use Rattle.rec_text.specs.declared.element.Element.{Element}
 use Rattle.rec_text.proofs.RangeLemmas.{AllByRecursion-weaker}
 use Rattle.rec_text.proofs.RecordLemmas.{one_list_of_records}
+use Rattle.rec_check.specs.Descriptors.{elements_in}
 use Rattle.rec_select.specs.Selection.{record_at}
 use Rattle.rec_select.specs.Blocks.{behind, full, separated}
 use Rattle.rec_select.specs.Printing.{AreIndexes, IsPrinted, block_of, joined_blocks, printed}
@@ -30,24 +29,8 @@ AllByRecursion-at P [] i d within all = absurd (omega arith)
 AllByRecursion-at P (x ∷ xs) zero d within all = all.0
 AllByRecursion-at P (x ∷ xs) (suc i) d within all = AllByRecursion-at P xs i d (omega arith) all.1
 
-drop-map : {X Y : Type 0} (f : X → Y) (n : ℕ) (xs : List X) → drop n (map f xs) ≡ map f (drop n xs)
-drop-map f zero xs = refl
-drop-map f (suc n) [] = refl
-drop-map f (suc n) (x ∷ xs) = drop-map f n xs
-
--- a part of the elements, as a slice and as the record's
-sliced : (elements : List Element) (start end : ℕ) → start ≤ end → pieces_of (take (end - start) (drop start elements)) ≡ drop start (take end (pieces_of elements))
-sliced elements start end in_order =
-    let whole : start + (end - start) ≡ end = omega arith in
-    ap pieces_of (sym (drop-take start (end - start) elements) ∙ ap (λ n. drop start (take n elements)) whole)
-    ∙ sym (drop-map piece_of start (take end elements)) ∙ ap (drop start) (sym (take-map piece_of end elements))
-
-pub record_at-sliced : (elements : List Element) (records : List (Range ℕ)) (i : ℕ) (d : Range ℕ) → i < length records → AllByRecursion (IsWithin (length elements)) records
-    → pieces_of (take ((get_or records i d).end - (get_or records i d).start) (drop (get_or records i d).start elements)) ≡ record_at (pieces_of elements) records i
-record_at-sliced elements records i d some within =
-    let record_ : Range ℕ = get_or records i d in
-    let fits = AllByRecursion-at (IsWithin (length elements)) records i d some within in
-    rw (slice_get-get_or records i d some) (sliced elements record_.start record_.end fits.0)
+pub record_at-within : (pieces : List Piece) (records : List (Range ℕ)) (i : ℕ) (d : Range ℕ) → i < length records → elements_in pieces (get_or records i d) ≡ record_at pieces records i
+record_at-within pieces records i d some = rw (slice_get-get_or records i d some) refl
 
 -- ---- blocks one after another
 
@@ -159,11 +142,9 @@ IsPrinted-blocks pieces whole records selected shape collapse separator same oth
 
 -- ---- the records
 
-pub records_within : (pieces : List Piece) (elements : List Element) (records : List (Range ℕ)) → pieces_of elements ≡ pieces → AreRecords pieces records
-    → AllByRecursion (IsWithin (length elements)) records
-records_within pieces elements records same are =
-    let fits : length pieces ≡ length elements = ap length (sym same) ∙ length-map elements piece_of in
-    AllByRecursion-weaker (IsRecord pieces) (IsWithin (length elements)) (λ fields is. (omega (arith, is.some), omega (arith, fits, is.high, is.is_paragraph.within))) records are.each
+pub records_within : (pieces whole : List Piece) (records : List (Range ℕ)) → whole ≡ pieces → AreRecords pieces records → AllByRecursion (IsWithin (length whole)) records
+records_within pieces whole records same are =
+    AllByRecursion-weaker (IsRecord pieces) (IsWithin (length whole)) (λ fields is. (omega (arith, is.some), omega (arith, ap length same, is.high, is.is_paragraph.within))) records are.each
 
 pub indexes_within : (pieces : List Piece) (selected : List ℕ) (records : List (Range ℕ)) → AreIndexes pieces selected → AreRecords pieces records → AllByRecursion (λ i. i < length records) selected
 indexes_within pieces selected records (other, others, within) are =

@@ -88,6 +88,10 @@ Prints-stopped {text = text} {old} {new} {before} {after} (Err y) e stopped =
 
 -- ---- where the answer is that of the last call
 
+pub Prints-as : {X : Type 0} (old new : Option (List ℕ)) (before after : ℕ) {a b : List ℕ} → a ≡ b → (r : Result X Fault) → Prints a old new before after r → Prints b old new before after r
+Prints-as old new before after same (Ok done) taken = HasTaken-as same taken
+Prints-as old new before after same (Err fault) stopped = HasStopped-as same stopped
+
 pub Prints-put : {X : Type 0} (old new : Option (List ℕ)) (before after : ℕ) (text : List ℕ) (r : Result X Fault) → OnOk r (Appends old new text) → OnErr r (AppendsFront old new text)
     → OnOk r (after ≡ before) → before ≤ after → OnErr r (HasRisen before after) → UnlessStoreFailed r → Prints text old new before after r
 Prints-put old new before after text (Ok done) all front kept counted failed refusals = record { whole = all; sound = kept }

@@ -1,22 +1,20 @@
 -- The set of a selection, its members one after another, and the one list of those that are selected.
-use Rattle.std.proofs.Common.{◌≡◌, ◌∙◌, ◌⊎◌, inl, inr, ℕ, zero, suc, ◌+◌, ◌-◌, ◌<◌, ◌≤◌, Bool, true, false, cond, List, [], ◌∷◌, ◌++◌, Option, Some, None, Result, Ok, Err, length, take, drop, flat_map, get_or, refl, ap, sym, subst, arith, length-append}
+use Rattle.std.proofs.Common.{◌≡◌, ◌∙◌, ◌⊎◌, inl, inr, ℕ, zero, suc, ◌+◌, ◌-◌, ◌<◌, ◌≤◌, Bool, true, false, cond, List, [], ◌∷◌, ◌++◌, Option, Some, None, Result, Ok, Err, length, drop, flat_map, get_or, refl, ap, sym, subst, arith, length-append}
 use Rattle.std.specs.Prelude.{◌↔◌, IsTrue, AllPairs, Contains, find, position, slice_get}
 use Rattle.std.specs.List.{AllByRecursion, position_or_len}
 use Rattle.std.specs.Option.{option_map_or}
 use Rattle.std.specs.declared.ops.Range.{Range}
 use Rattle.std.proofs.lemmas.Bool.{cases_Bool, cases_lt, lt-ltb}
-use Rattle.std.proofs.lemmas.List.{drop_more, drop-take, drop-map, take-map, length-drop, length-map, length-replicate}
+use Rattle.std.proofs.lemmas.List.{drop_more, length-drop, length-map, length-replicate}
 use Rattle.std.proofs.lemmas.List.Elements.{All-from_recursion, All-get_or, Contains-append_left, Contains-get_or, Contains-push, Contains-push_cases}
 use Rattle.std.proofs.lemmas.List.Folds.{find_at}
 use Rattle.std.proofs.lemmas.List.Quantifiers.{all_pairs_push, position-Some}
 use Rattle.std.proofs.lemmas.List.Sums.{position_or_len_is}
 use Rattle.std.proofs.lemmas.Option.{slice_get-get_or, slice_get_past}
-use Rattle.rec_text.specs.declared.element.Element.{Element}
 use Rattle.rec_text.specs.declared.fault.Fault.{Fault}
 use Rattle.rec_text.specs.declared.fault.Fault.TheVariants.{OutOfMemory, TypeNeeded, NoSuchType}
 use Rattle.rec_text.specs.Elements.{Piece}
 use Rattle.rec_text.specs.Faults.{IsMemoryOr}
-use Rattle.rec_text.specs.Places.{piece_of, pieces_of}
 use Rattle.rec_text.specs.Records.{AreRecords, AreAscending, IsRecord}
 use Rattle.rec_text.proofs.RecordLemmas.{OneListOfRecords-holds}
 use Rattle.rec_check.specs.declared.set.Set_.{Set_}
@@ -183,21 +181,13 @@ module _ (pieces : List Piece) (members : Range ℕ) (wanted : Filter) where
     record_is : record_at pieces so_far.records count ≡ elements_in pieces fields
     record_is = ap (λ o. option_map_or (elements_in pieces) o []) (slice_get-get_or so_far.records count fields is_left ∙ ap Some (sym field_at))
 
-    -- the elements of the record, as a slice and as a part of all
-    pub part_of : (elements : List Element) → pieces_of elements ≡ pieces → pieces_of (take (fields.end - fields.start) (drop fields.start elements)) ≡ elements_in pieces fields
-    part_of elements same =
-        let some = is_record.some in
-        let end : fields.start + (fields.end - fields.start) ≡ fields.end = omega arith in
-        sym (take-map piece_of (fields.end - fields.start) (drop fields.start elements)) ∙ ap (take (fields.end - fields.start)) (sym (drop-map piece_of fields.start elements))
-        ∙ ap (λ ps. take (fields.end - fields.start) (drop fields.start ps)) same ∙ sym (drop-take fields.start (fields.end - fields.start) pieces) ∙ ap (λ n. drop fields.start (take n pieces)) end
-
-    -- whether the slice passes is whether the record does
-    pub passes_as : (elements : List Element) (ready : Filter) (place : ℕ) (answer : Bool) → pieces_of elements ≡ pieces → ready ≡ wanted
-        → IsTrue answer ↔ Passes ready (pieces_of (take (fields.end - fields.start) (drop fields.start elements))) place → IsTrue answer ↔ Passes wanted (elements_in pieces fields) place
-    passes_as elements ready place answer same is passes =
+    -- whether the part of all that is the record passes is whether the record does
+    pub passes_as : (whole part : List Piece) (ready : Filter) (place : ℕ) (answer : Bool) → whole ≡ pieces → part ≡ elements_in whole fields → ready ≡ wanted → IsTrue answer ↔ Passes ready part place
+        → IsTrue answer ↔ Passes wanted (elements_in pieces fields) place
+    passes_as whole part ready place answer same part_is is passes =
         let P : Filter → Type 0 = λ filter. IsTrue answer ↔ Passes filter (elements_in pieces fields) place in
-        let Q : List Piece → Type 0 = λ part. IsTrue answer ↔ Passes ready part place in
-        subst P is (subst Q (part_of elements same) passes)
+        let Q : List Piece → Type 0 = λ ps. IsTrue answer ↔ Passes ready ps place in
+        subst P is (subst Q (part_is ∙ ap (λ ps. elements_in ps fields) same) passes)
 
     module _ (index next : ℕ) (here : index ≡ count) (then : next ≡ count + 1) where
       abbrev IsTakenHere : Type 0
@@ -345,8 +335,3 @@ one_selection pieces sets kind wanted (Ok selected) (Ok other) (s, is, h) (t, is
 one_selection pieces sets kind wanted (Ok selected) (Err fault) (s, is, h) is_too = absurd (no_set s fault (sym is_too ∙ is))
 one_selection pieces sets kind wanted (Err fault) (Ok other) is (t, is_too, k) = absurd (no_set t fault (sym is ∙ is_too))
 one_selection pieces sets kind wanted (Err fault) (Err other) is is_too = ap Err (same_fault fault other (sym is ∙ is_too))
-
--- ---- as a loop takes the records
-
-pub few_pieces : (pieces : List Piece) (elements : List Element) (top : ℕ) → pieces_of elements ≡ pieces → length elements < top → length pieces < top
-few_pieces pieces elements top same short = omega (arith, ap length same, length-map elements piece_of)

@@ -1,6 +1,6 @@
 -- The text of one record's block, and of blocks one after another.
 use Rattle.std.specs.Prelude.{ℕ, not, List, [], ◌∷◌, ◌++◌, map, filter, flat_map, if◌then◌else◌}
-use Rattle.rec_text.specs.Bytes.{is_nil}
+use Rattle.rec_text.specs.Bytes.{ends_newline, is_nil}
 use Rattle.rec_text.specs.Elements.{Piece}
 use Rattle.rec_text.specs.Places.{pieces_of}
 use Rattle.rec_text.specs.Values.{value_of}
@@ -9,13 +9,17 @@ use Rattle.rec_select.specs.declared.block.Block.TheVariants.{Fields, Elements, 
 use Rattle.rec_select.specs.declared.records.Shape.TheVariants.{Blocks}
 use Rattle.rec_select.specs.Printing.{block_of, closed, row_of, value_line}
 
+-- a text, with a newline at its end
+abbrev pub closed_text : List ℕ → List ℕ
+closed_text text = if ends_newline text then text else text ++ 10 ∷ []
+
 -- a space, and a value
 abbrev pub spaced_value : Piece → List ℕ
 spaced_value piece = 32 ∷ value_of piece
 
 -- what a block prints
 abbrev pub text_of : Block → List ℕ
-text_of (Fields fields) = block_of Blocks (pieces_of fields.now)
+text_of (Fields fields) = block_of Blocks fields
 text_of (Elements elements) = flat_map closed (pieces_of elements.items)
 text_of (Values elements) = flat_map value_line (pieces_of elements.items)
 text_of (Row elements) = row_of (map value_of (pieces_of elements.items))

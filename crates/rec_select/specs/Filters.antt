@@ -1,6 +1,6 @@
 -- Filters in memory, and what they stand for.
-use Rattle.std.specs.Prelude.{◌≡◌, ℕ, true, List}
-use Rattle.rec_text.specs.Elements.{Piece}
+use Rattle.std.specs.Prelude.{◌≡◌, ℕ, Bool, true, List}
+use Rattle.rec_text.specs.Elements.{Piece, is_line}
 use Rattle.rec_text.specs.Records.{is_field_piece}
 use Rattle.rec_text.specs.Values.{value_of}
 use Rattle.rec_sex.specs.Searching.{searched}
@@ -14,6 +14,10 @@ stands_for All = all
 stands_for (Expr search) = by_expression (searched search)
 stands_for (Index list) = at_places list.now
 stands_for (Quick text) = with_text text
+
+-- no newline stands in the text but at its end
+abbrev pub is_one_line : List ℕ → Bool
+is_one_line = is_line (λ _. true)
 
 -- the element is a field whose value contains the text
 abbrev pub HasText : List ℕ → Piece → Type 0

@@ -2,6 +2,8 @@ pub mod Selection
 pub mod Filters
 pub mod Printing
 pub mod Taken
+pub mod Excerpts
 pub mod Blocks
 pub mod Info
 pub mod Heads
+pub mod Report

@@ -13,7 +13,7 @@ use Rattle.rec_sex.specs.Grammar.{Term}
 use Rattle.rec_sex.specs.IndexList.{has}
 use Rattle.rec_sex.specs.Meaning.{Selects}
 use Rattle.rec_check.specs.declared.set.Set_.{Set_}
-use Rattle.rec_check.specs.Descriptors.{elements_in}
+pub use Rattle.rec_check.specs.Descriptors.{record_at}
 use Rattle.rec_check.specs.Sets.{is_of_type}
 use Rattle.rec_select.specs.declared.selection.By.{By}
 use Rattle.rec_select.specs.declared.selection.By.TheVariants.{All, Expr, Index, Quick}
@@ -70,10 +70,6 @@ Passes (at_places spans) pieces place = has spans place ≡ true
 Passes (with_text text) pieces place = Any (λ piece. (is_field_piece piece ≡ true) × Holds (value_of piece) text) pieces
 
 -- ---- the selection
-
--- the elements of the record of an index
-abbrev pub record_at : List Piece → List (Range ℕ) → ℕ → List Piece
-record_at pieces records i = option_map_or (elements_in pieces) (slice_get records i) []
 
 -- the members of a set that pass a filter, by their indexes among all records, in order
 pub record AreSelected (pieces : List Piece) (s : Set_) (wanted : Filter) (selected : List ℕ) : Type 0 where

@@ -6,11 +6,11 @@ ghost use Rattle.rec_text.specs.Places.{piece_of, pieces_of};
 ghost use Rattle.rec_text.specs.Records.{is_field_piece};
 ghost use Rattle.rec_text.specs.Sink.{UnlessStoreFailed};
 ghost use Rattle.rec_text.specs.Values.{value_of};
-ghost use Rattle.rec_select.specs.declared.records.Shape.TheVariants.{Blocks};
-ghost use Rattle.rec_select.specs.Blocks.{spaced_value};
-ghost use Rattle.rec_select.specs.Printing.{block_of, closed, picked as picked_of, row_of, value_line};
+ghost use Rattle.rec_select.specs.Blocks.{closed_text, spaced_value};
+ghost use Rattle.rec_select.specs.Printing.{closed, picked as picked_of, row_of, value_line};
 ghost use Rattle.rec_select.specs.Taken.{Prints};
 
+use crate::excerpt::Excerpt;
 use crate::records::Shape;
 use rec_sex::FieldList;
 use rec_text::{Element, Fault, Kind, Sink, put_all};
@@ -23,29 +23,16 @@ fn ends_newline(text: &[u8]) -> bool
     text.last() == Some(&b'\n')
 }
 
-/// Prints an element, with a newline at its end.
-fn write_closed<S: Sink>(element: &Element, out: &mut S) -> Result<(), Fault>
-    ensures printed { Prints (closed (piece_of element.now)) (S.contents out.old) (S.contents out.new) (S.failure_count out.old) (S.failure_count out.new) result }
+/// Prints a text, with a newline at its end.
+pub(crate) fn write_closed<S: Sink>(text: &[u8], out: &mut S) -> Result<(), Fault>
+    ensures printed { Prints (closed_text text.now) (S.contents out.old) (S.contents out.new) (S.failure_count out.old) (S.failure_count out.new) result }
     ensures refusals { UnlessStoreFailed result }
 {
-    put_all(out, element.raw)?;
-    if ends_newline(element.raw) {
+    put_all(out, text)?;
+    if ends_newline(text) {
         return Ok(());
     }
     put_all(out, b"\n")
-}
-
-/// Prints the fields among elements, each with a newline at its end.
-pub(crate) fn write_fields<S: Sink>(fields: &[Element], out: &mut S) -> Result<(), Fault>
-    ensures printed { Prints (block_of Blocks (pieces_of fields.now)) (S.contents out.old) (S.contents out.new) (S.failure_count out.old) (S.failure_count out.new) result }
-    ensures refusals { UnlessStoreFailed result }
-{
-    for field in fields {
-        if let Kind::Field = field.kind {
-            write_closed(field, out)?;
-        }
-    }
-    Ok(())
 }
 
 /// Prints elements, each with a newline at its end.
@@ -53,7 +40,7 @@ fn write_elements<S: Sink>(elements: &[Element], out: &mut S) -> Result<(), Faul
     ensures { Prints (flat_map closed (pieces_of elements.now)) (S.contents out.old) (S.contents out.new) (S.failure_count out.old) (S.failure_count out.new) result }
 {
     for element in elements {
-        write_closed(element, out)?;
+        write_closed(element.raw, out)?;
     }
     Ok(())
 }
@@ -153,7 +140,7 @@ fn picked<'t>(
 #[derive(Drop)]
 pub(crate) enum Block<'f, 't> {
     /// The fields among these, as they stand in the file.
-    Fields(&'f [Element<'t>]),
+    Fields(Excerpt<'f, 't>),
     /// These, as they stand in the file.
     Elements(Vec<Element<'t>>),
     /// The values of these, one in a line.
@@ -173,18 +160,18 @@ impl<'f, 't> Block<'f, 't> {
     /// What is printed of the record with these elements.
     pub(crate) fn of(
         alloc: Global,
-        fields: &'f [Element<'t>],
+        fields: Excerpt<'f, 't>,
         shape: &Shape,
     ) -> Result<Block<'f, 't>, Fault>
-        ensures text { IfOk result (λ block. text_of block ≡ block_of shape.now (pieces_of fields.now)) }
+        ensures text { IfOk result (λ block. text_of block ≡ block_of shape.now fields.entry) }
         ensures refusals { IfErr result (λ fault. fault ≡ Fault.OutOfMemory) }
     {
         match shape {
             Shape::Blocks => Ok(Block::Fields(fields)),
-            Shape::Print(list) => Ok(Block::Elements(picked(alloc, list, fields)?)),
-            Shape::Values(list) => Ok(Block::Values(picked(alloc, list, fields)?)),
-            Shape::Row(list) => Ok(Block::Row(picked(alloc, list, fields)?)),
-            Shape::Count => Ok(Block::Fields(&[])),
+            Shape::Print(list) => Ok(Block::Elements(picked(alloc, list, fields.elements())?)),
+            Shape::Values(list) => Ok(Block::Values(picked(alloc, list, fields.elements())?)),
+            Shape::Row(list) => Ok(Block::Row(picked(alloc, list, fields.elements())?)),
+            Shape::Count => Ok(Block::Elements(Vec::new(alloc))),
         }
     }
 
@@ -193,7 +180,7 @@ impl<'f, 't> Block<'f, 't> {
         ensures { result ≡ is_nil (text_of self.now) }
     {
         match self {
-            Block::Fields(fields) => !has_field(fields),
+            Block::Fields(fields) => !has_field(fields.elements()),
             Block::Elements(elements) => elements.is_empty(),
             Block::Values(elements) => elements.is_empty(),
             Block::Row(elements) => elements.is_empty(),
@@ -204,7 +191,7 @@ impl<'f, 't> Block<'f, 't> {
         ensures { Prints (text_of self.now) (S.contents out.old) (S.contents out.new) (S.failure_count out.old) (S.failure_count out.new) result }
     {
         match self {
-            Block::Fields(fields) => write_fields(fields, out),
+            Block::Fields(fields) => fields.write_fields(out),
             Block::Elements(elements) => write_elements(elements, out),
             Block::Values(elements) => write_values(alloc, elements, out),
             Block::Row(elements) => write_row(alloc, elements, out),

@@ -3,9 +3,11 @@ ghost use Rattle.std.specs.Prelude.{◌≡◌, ℕ, List, Bool, Result, Ok, Err,
 ghost use Rattle.rec_text.specs.declared.fault.Fault.{Fault};
 ghost use Rattle.rec_text.specs.Faults.{IsMemoryOr};
 ghost use Rattle.rec_check.specs.Schemas.{IsSchema};
+ghost use Rattle.rec_check.specs.Stored.{described};
 ghost use Rattle.rec_select.specs.Printing.{AreIndexes};
 ghost use Rattle.rec_select.specs.Selection.{IsSelection, filter_of, has_members, set_without_type, set_of_type, set_for};
 
+use crate::excerpt::Excerpt;
 use crate::filter::Filter;
 use crate::selection::Selection;
 use rec_check::{Schema, Set_};
@@ -30,7 +32,7 @@ fn meant_set(sets: &[Set_]) -> Result<&Set_, Fault>
 }
 
 fn typed_set<'s>(schema: &'s Schema, kind: &[u8]) -> Result<&'s Set_, Fault>
-    ensures { MatchResult result (λ set. set_of_type kind.now schema.now.sets ≡ Ok set.now) (λ fault. set_of_type kind.now schema.now.sets ≡ Err fault) }
+    ensures { MatchResult result (λ set. set_of_type kind.now (described schema.now).sets ≡ Ok set.now) (λ fault. set_of_type kind.now (described schema.now).sets ≡ Err fault) }
 {
     match schema.set_of_type(kind) {
         Some(place) => Ok(&schema.sets()[place]),
@@ -40,7 +42,7 @@ fn typed_set<'s>(schema: &'s Schema, kind: &[u8]) -> Result<&'s Set_, Fault>
 
 /// The set that is selected from.
 fn set_of<'s>(schema: &'s Schema, kind: &Option<Bytes>) -> Result<&'s Set_, Fault>
-    ensures { MatchResult result (λ set. set_for kind.now schema.now.sets ≡ Ok set.now) (λ fault. set_for kind.now schema.now.sets ≡ Err fault) }
+    ensures { MatchResult result (λ set. set_for kind.now (described schema.now).sets ≡ Ok set.now) (λ fault. set_for kind.now (described schema.now).sets ≡ Err fault) }
 {
     match kind {
         Some(kind) => typed_set(schema, kind.as_slice()),
@@ -55,20 +57,20 @@ pub fn choose(
     schema: &Schema,
     selection: &Selection,
 ) -> Result<Vec<usize>, Fault>
-    requires { IsSchema database.now (Ok schema.now) }
-    ensures selected { IfOk result (λ selected. IsSelection database.now schema.now.sets selection.now.kind (filter_of selection.now.by) (Ok selected.items)) }
+    requires { IsSchema database.now (Ok (described schema.now)) }
+    ensures selected { IfOk result (λ selected. IsSelection database.now (described schema.now).sets selection.now.kind (filter_of selection.now.by) (Ok selected.items)) }
     ensures indexes { IfOk result (λ selected. AreIndexes database.now selected.items) }
-    ensures refused { IfErr result (λ fault. IsMemoryOr fault (IsSelection database.now schema.now.sets selection.now.kind (filter_of selection.now.by) (Err fault))) }
-    ensures only { (other : Result (List ℕ) Fault) → IsSelection database.now schema.now.sets selection.now.kind (filter_of selection.now.by) other → MatchResult result (λ selected. other ≡ Ok selected.items) (λ fault. IsMemoryOr fault (other ≡ Err fault)) }
+    ensures refused { IfErr result (λ fault. IsMemoryOr fault (IsSelection database.now (described schema.now).sets selection.now.kind (filter_of selection.now.by) (Err fault))) }
+    ensures only { (other : Result (List ℕ) Fault) → IsSelection database.now (described schema.now).sets selection.now.kind (filter_of selection.now.by) other → MatchResult result (λ selected. other ≡ Ok selected.items) (λ fault. IsMemoryOr fault (other ≡ Err fault)) }
 {
     let members = &set_of(schema, &selection.kind)?.members;
     let mut filter = Filter::of(alloc, &selection.by)?;
-    let elements = database.elements();
+    let text = Excerpt::of(database);
     let mut selected = Vec::new(alloc);
     for (index, record) in database.records().enumerate().take(members.end) {
         if index >= members.start {
-            let fields = &elements[record];
-            if filter.passes(alloc, fields, index - members.start)? {
+            let fields = text.part(record);
+            if filter.passes(alloc, &fields, index - members.start)? {
                 selected.push(index)?;
             }
         }

@@ -39,6 +39,8 @@ const JOINED: &[u8] = b"N: a\\\nb\n";
 
 const COMMENT: &[u8] = b"A: 1\n# ab\nB: 2\n";
 
+const PLUS_LINE: &[u8] = b"N: a\n+ b\nM: c\n";
+
 /// The set of a selection.
 const SETS: [Case; 12] = [
     (UNTYPED, None, Ask::All, Ok(&[0, 1])),
@@ -56,7 +58,7 @@ const SETS: [Case; 12] = [
 ];
 
 /// The members that are taken.
-const MEMBERS: [Case; 22] = [
+const MEMBERS: [Case; 10] = [
     (UNTYPED, None, Ask::Expr(b"A = 1"), Ok(&[0])),
     (MIXED, Some(b"P"), Ask::Expr(b"N = 2"), Ok(&[3])),
     (OCCURRENCES, None, Ask::Expr(b"N = 'b'"), Ok(&[0])),
@@ -68,7 +70,10 @@ const MEMBERS: [Case; 22] = [
     (MIXED, Some(b"P"), Ask::Index(b"0"), Ok(&[2])),
     (MIXED, Some(b"P"), Ask::Index(b"1-7"), Ok(&[3])),
     (ONE_TYPE, None, Ask::Index(b"0"), Ok(&[1])),
-    // A text is sought in values alone, byte by byte.
+];
+
+/// The members with a text. It is sought in values alone, byte by byte.
+const WITH_TEXT: [Case; 15] = [
     (UNTYPED, None, Ask::Quick(b"2"), Ok(&[1])),
     (UNTYPED, None, Ask::Quick(b"A"), Ok(&[])),
     (UNTYPED, None, Ask::Quick(b""), Ok(&[0, 1])),
@@ -81,6 +86,10 @@ const MEMBERS: [Case; 22] = [
     (JOINED, None, Ask::Quick(b"ab"), Ok(&[0])),
     (JOINED, None, Ask::Quick(b"\\"), Ok(&[])),
     (COMMENT, None, Ask::Quick(b"ab"), Ok(&[])),
+    (PLUS_LINE, None, Ask::Quick(b"a\nb"), Ok(&[0])),
+    (PLUS_LINE, None, Ask::Quick(b"+"), Ok(&[])),
+    // A text that stands in the file across two fields is in no value.
+    (PLUS_LINE, None, Ask::Quick(b"b\nM"), Ok(&[])),
 ];
 
 fn by(alloc: Global, ask: Ask) -> Result<By, Fault> {
@@ -116,6 +125,16 @@ fn a_selection_is_of_one_set(rt: HostRuntime) {
 #[test]
 fn a_filter_takes_members(rt: HostRuntime) {
     for (text, kind, ask, expected) in &MEMBERS {
+        match chosen(rt.alloc(), text, *kind, *ask) {
+            Ok(taken) => assert_eq!(rt; Ok(taken.as_slice()), *expected, "{ask:?} of {text:?}"),
+            Err(fault) => assert_eq!(rt; Err(fault.number()), *expected, "{ask:?} of {text:?}"),
+        }
+    }
+}
+
+#[test]
+fn a_text_is_sought_in_values(rt: HostRuntime) {
+    for (text, kind, ask, expected) in &WITH_TEXT {
         match chosen(rt.alloc(), text, *kind, *ask) {
             Ok(taken) => assert_eq!(rt; Ok(taken.as_slice()), *expected, "{ask:?} of {text:?}"),
             Err(fault) => assert_eq!(rt; Err(fault.number()), *expected, "{ask:?} of {text:?}"),

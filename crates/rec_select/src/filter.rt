@@ -1,9 +1,11 @@
 //! Filters, ready to be tried on many records.
 ghost use Rattle.std.specs.Prelude.{◌≡◌, ◌↔◌, Any, IsTrue, IfOk, IfErr};
-ghost use Rattle.rec_text.specs.Places.{piece_of, pieces_of};
-ghost use Rattle.rec_select.specs.Filters.{HasText};
+ghost use Rattle.rec_text.specs.Places.{piece_of};
+ghost use Rattle.rec_select.specs.Filters.{HasText, is_one_line};
 
+use crate::excerpt::Excerpt;
 use crate::selection::By;
+use memchr::memchr;
 use memchr::memmem::Finder;
 use rec_sex::{IndexList, Search};
 use rec_text::{Element, Fault, Kind};
@@ -30,12 +32,27 @@ fn has_text(alloc: Global, element: &Element, text: &Finder) -> Result<bool, Fau
     Ok(text.find(value.bytes()).is_some())
 }
 
+/// Whether no newline stands in a text but at its end.
+fn is_line(text: &[u8]) -> bool
+    ensures { result ≡ is_one_line text.now }
+{
+    match memchr(b'\n', text) {
+        Some(at) => at + 1 == text.len(),
+        None => true,
+    }
+}
+
 /// Whether some element is a field whose value contains a text.
-fn any_has_text(alloc: Global, fields: &[Element], text: &Finder) -> Result<bool, Fault>
-    ensures has { IfOk result (λ answer. IsTrue answer ↔ Any (HasText text.now) (pieces_of fields.now)) }
+fn any_has_text(alloc: Global, fields: &Excerpt, text: &Finder) -> Result<bool, Fault>
+    ensures has { IfOk result (λ answer. IsTrue answer ↔ Any (HasText text.now) fields.now) }
     ensures refusals { IfErr result (λ fault. fault ≡ Fault.OutOfMemory) }
 {
-    for element in fields {
+    let occurs = text.find(fields.raw()).is_some();
+    for element in fields.elements() {
+        // A value in one line is a part of that line.
+        if !occurs && is_line(element.raw) {
+            continue;
+        }
         if has_text(alloc, element, text)? {
             return Ok(true);
         }
@@ -45,7 +62,6 @@ fn any_has_text(alloc: Global, fields: &[Element], text: &Finder) -> Result<bool
 
 impl<'s> Filter<'s> {
     ghost use Rattle.std.specs.Prelude.{◌≡◌, ◌↔◌, IsTrue, IfOk, IfErr};
-    ghost use Rattle.rec_text.specs.Places.{pieces_of};
     ghost use Rattle.rec_select.specs.Selection.{filter_of, Passes};
     ghost use Rattle.rec_select.specs.Filters.{stands_for};
 
@@ -65,16 +81,16 @@ impl<'s> Filter<'s> {
     pub(crate) fn passes(
         &mut self,
         alloc: Global,
-        fields: &[Element],
+        fields: &Excerpt,
         place: usize,
     ) -> Result<bool, Fault>
-        ensures passes { IfOk result (λ answer. IsTrue answer ↔ Passes (stands_for self.old) (pieces_of fields.now) place) }
+        ensures passes { IfOk result (λ answer. IsTrue answer ↔ Passes (stands_for self.old) fields.now place) }
         ensures same { stands_for self.new ≡ stands_for self.old }
         ensures refusals { IfErr result (λ fault. fault ≡ Fault.OutOfMemory) }
     {
         match self {
             Filter::All => Ok(true),
-            Filter::Expr(search) => search.selects(alloc, fields),
+            Filter::Expr(search) => search.selects(alloc, fields.elements()),
             Filter::Index(list) => Ok(list.has(place)),
             Filter::Quick(text) => any_has_text(alloc, fields, text),
         }

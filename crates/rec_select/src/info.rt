@@ -1,11 +1,10 @@
 //! Prints what record sets a text has.
-ghost use Rattle.std.specs.Prelude.{◌≡◌, ◌⊎◌, ◌≤◌, ◌++◌, ◌∷◌, [], ℕ, if◌then◌else◌, flat_map, length, List, Ok, Err, IfErr, IsErrOf, MatchResult, option_map};
+ghost use Rattle.std.specs.Prelude.{◌≡◌, ◌⊎◌, ◌≤◌, ◌++◌, ◌∷◌, [], ℕ, if◌then◌else◌, flat_map, List, Ok, Err, IfErr, IsErrOf, MatchResult, option_map};
 ghost use Rattle.std.specs.declared.ops.Range.{Range};
-ghost use Rattle.rec_text.specs.Places.{pieces_of};
 ghost use Rattle.rec_text.specs.Records.{AreRecords};
 ghost use Rattle.rec_text.specs.Sink.{HasRisen, UnlessStoreFailed};
-ghost use Rattle.rec_check.specs.Descriptors.{elements_in};
 ghost use Rattle.rec_check.specs.Schemas.{IsSchema};
+ghost use Rattle.rec_check.specs.Stored.{described};
 ghost use Rattle.rec_select.specs.declared.info.InfoForm.TheVariants.{Descriptors};
 ghost use Rattle.rec_select.specs.declared.records.Shape.TheVariants.{Blocks};
 ghost use Rattle.rec_select.specs.Heads.{AreHeads};
@@ -13,11 +12,11 @@ ghost use Rattle.rec_select.specs.Info.{IsInfo, count_line, name_line, info, set
 ghost use Rattle.rec_select.specs.Printing.{Puts, block_of};
 ghost use Rattle.rec_select.specs.Taken.{Prints};
 
-use crate::block::write_fields;
+use crate::excerpt::Excerpt;
+use crate::parts::put_parts;
 use itoa::Buffer;
 use rec_check::{Schema, Set_};
-use rec_text::{Database, Element, Fault, Sink, put_all};
-use std::ops::Range;
+use rec_text::{Database, Fault, Sink, put_all};
 use std::slice;
 
 /// What is printed of each set.
@@ -33,7 +32,7 @@ pub enum InfoForm {
 
 /// All sets, or that of a type.
 fn sets_for<'s>(schema: &'s Schema, kind: Option<&[u8]>) -> Result<&'s [Set_], Fault>
-    ensures { MatchResult result (λ kept. sets_for (option_map (λ kind. kind.now) kind.entry) schema.now.sets ≡ Ok kept.now) (λ fault. sets_for (option_map (λ kind. kind.now) kind.entry) schema.now.sets ≡ Err fault) }
+    ensures { MatchResult result (λ kept. sets_for (option_map (λ kind. kind.now) kind.entry) (described schema.now).sets ≡ Ok kept.now) (λ fault. sets_for (option_map (λ kind. kind.now) kind.entry) (described schema.now).sets ≡ Err fault) }
 {
     let Some(kind) = kind else {
         return Ok(schema.sets());
@@ -42,17 +41,6 @@ fn sets_for<'s>(schema: &'s Schema, kind: Option<&[u8]>) -> Result<&'s [Set_], F
         Some(place) => Ok(slice::from_ref(&schema.sets()[place])),
         None => Err(Fault::NoSuchType),
     }
-}
-
-/// Puts some parts of a text to a sink, one after another.
-fn put_parts<S: Sink>(out: &mut S, parts: &[&[u8]]) -> Result<(), Fault>
-    ensures printed { Prints (flat_map (λ part. part.now) parts.now) (S.contents out.old) (S.contents out.new) (S.failure_count out.old) (S.failure_count out.new) result }
-    ensures refusals { UnlessStoreFailed result }
-{
-    for part in parts {
-        put_all(out, part)?;
-    }
-    Ok(())
 }
 
 fn write_count<S: Sink>(set: &Set_, out: &mut S) -> Result<(), Fault>
@@ -99,24 +87,15 @@ fn write_names<S: Sink>(sets: &[Set_], out: &mut S) -> Result<(), Fault>
     Ok(())
 }
 
-/// The elements of a record.
-fn elements_of<'d, 't>(elements: &'d [Element<'t>], fields: Range<usize>) -> &'d [Element<'t>]
-    requires ordered { fields.start ≤ fields.end }
-    requires within { fields.end ≤ length elements.now }
-    ensures { pieces_of result.now ≡ elements_in (pieces_of elements.now) fields }
-{
-    &elements[fields]
-}
-
 /// Prints a record, after an empty line unless it is the first.
-fn write_next_block<S: Sink>(elements: &[Element], is_first: bool, out: &mut S) -> Result<(), Fault>
-    ensures printed { Prints ((if is_first then [] else 10 ∷ []) ++ block_of Blocks (pieces_of elements.now)) (S.contents out.old) (S.contents out.new) (S.failure_count out.old) (S.failure_count out.new) result }
+fn write_next_block<S: Sink>(head: &Excerpt, is_first: bool, out: &mut S) -> Result<(), Fault>
+    ensures printed { Prints ((if is_first then [] else 10 ∷ []) ++ block_of Blocks head.now) (S.contents out.old) (S.contents out.new) (S.failure_count out.old) (S.failure_count out.new) result }
     ensures refusals { UnlessStoreFailed result }
 {
     if !is_first {
         put_all(out, b"\n")?;
     }
-    write_fields(elements, out)
+    head.write_fields(out)
 }
 
 /// Prints the descriptors of sets that stand in file order, in one walk over the records.
@@ -125,7 +104,7 @@ fn write_descriptors<S: Sink>(database: &Database, sets: &[Set_], out: &mut S) -
     ensures printed { (records : List (Range ℕ)) → AreRecords database.now records → Prints (info Descriptors database.now records sets.now) (S.contents out.old) (S.contents out.new) (S.failure_count out.old) (S.failure_count out.new) result }
     ensures refusals { UnlessStoreFailed result }
 {
-    let elements = database.elements();
+    let text = Excerpt::of(database);
     let mut records = database.records();
     let mut passed = 0;
     for set in sets {
@@ -135,7 +114,7 @@ fn write_descriptors<S: Sink>(database: &Database, sets: &[Set_], out: &mut S) -
         let Some(fields) = records.nth(head - passed) else {
             continue;
         };
-        write_next_block(elements_of(elements, fields), passed == 0, out)?;
+        write_next_block(&text.part(fields), passed == 0, out)?;
         passed = head + 1;
     }
     Ok(())
@@ -166,8 +145,8 @@ pub fn write_info<S: Sink>(
     form: InfoForm,
     out: &mut S,
 ) -> Result<(), Fault>
-    requires { IsSchema database.now (Ok schema.now) }
-    ensures printed { Puts (IsInfo database.now schema.now.sets (option_map (λ kind. kind.now) kind.entry) form) (S.contents out.old) (S.contents out.new) result }
+    requires { IsSchema database.now (Ok (described schema.now)) }
+    ensures printed { Puts (IsInfo database.now (described schema.now).sets (option_map (λ kind. kind.now) kind.entry) form) (S.contents out.old) (S.contents out.new) result }
     ensures counted { S.failure_count out.old ≤ S.failure_count out.new }
     ensures store_failed { IsErrOf result Fault.StoreFailed → HasRisen (S.failure_count out.old) (S.failure_count out.new) }
     ensures refusals { IfErr result (λ fault. (fault ≡ Fault.NoSuchType) ⊎ (fault ≡ Fault.StoreFailed)) }

@@ -6,14 +6,17 @@ mod block;
 mod chooser;
 #[cfg(test)]
 mod chooser_tests;
+mod excerpt;
 mod filter;
 mod info;
 #[cfg(test)]
 mod info_tests;
 mod laws;
+mod parts;
 mod records;
 #[cfg(test)]
 mod records_tests;
+mod report;
 mod selection;
 
 pub use chooser::choose;
@@ -23,4 +26,5 @@ pub use rec_check::{Schema, Set_};
 pub use rec_sex::{Expr, FieldList, IndexList};
 pub use rec_text::{Bytes, Database, Fault, Sink};
 pub use records::{Shape, write_records};
+pub use report::write_report;
 pub use selection::{By, Selection};

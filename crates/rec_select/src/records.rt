@@ -2,7 +2,6 @@
 ghost use Rattle.std.specs.Prelude.{◌≡◌, ◌⊎◌, ◌<◌, ◌≤◌, not, length, map, IfOk, IfErr, IsErrOf};
 ghost use Rattle.std.specs.List.{AllByRecursion};
 ghost use Rattle.rec_text.specs.Bytes.{is_nil};
-ghost use Rattle.rec_text.specs.Places.{pieces_of};
 ghost use Rattle.rec_text.specs.Records.{AreRecords};
 ghost use Rattle.rec_text.specs.Scanned.{IsWithin};
 ghost use Rattle.rec_text.specs.Sink.{HasRisen};
@@ -12,9 +11,10 @@ ghost use Rattle.rec_select.specs.Printing.{AreIndexes, IsPrinted, Puts, block_o
 ghost use Rattle.rec_select.specs.Taken.{Prints};
 
 use crate::block::Block;
+use crate::excerpt::Excerpt;
 use itoa::Buffer;
 use rec_sex::FieldList;
-use rec_text::{Database, Element, Fault, Sink, put_all};
+use rec_text::{Database, Fault, Sink, put_all};
 use std::alloc::Global;
 use std::ops::Range;
 
@@ -46,12 +46,12 @@ fn write_number<S: Sink>(number: usize, out: &mut S) -> Result<(), Fault>
 fn write_block<S: Sink>(
     alloc: Global,
     before: &[u8],
-    fields: &[Element],
+    fields: Excerpt,
     shape: &Shape,
     out: &mut S,
 ) -> Result<bool, Fault>
-    ensures printed { Prints (behind before.now (block_of shape.now (pieces_of fields.now))) (S.contents out.old) (S.contents out.new) (S.failure_count out.old) (S.failure_count out.new) result }
-    ensures holds { IfOk result (λ holds. holds ≡ not (is_nil (block_of shape.now (pieces_of fields.now)))) }
+    ensures printed { Prints (behind before.now (block_of shape.now fields.entry)) (S.contents out.old) (S.contents out.new) (S.failure_count out.old) (S.failure_count out.new) result }
+    ensures holds { IfOk result (λ holds. holds ≡ not (is_nil (block_of shape.now fields.entry))) }
 {
     let block = Block::of(alloc, fields, shape)?;
     if block.is_empty() {
@@ -62,38 +62,38 @@ fn write_block<S: Sink>(
     Ok(true)
 }
 
-/// The elements of the record of an index.
-fn elements_of<'d, 't>(
-    elements: &'d [Element<'t>],
+/// The record of an index.
+fn record_of<'d, 't>(
+    text: &Excerpt<'d, 't>,
     records: &[Range<usize>],
     index: usize,
-) -> &'d [Element<'t>]
-    requires within { AllByRecursion (IsWithin (length elements.now)) records.now }
+) -> Excerpt<'d, 't>
+    requires within { AllByRecursion (IsWithin (length text.now)) records.now }
     requires some { index < length records.now }
-    ensures { pieces_of result.now ≡ record_at (pieces_of elements.now) records.now index }
+    ensures { result ≡ record_at text.now records.now index }
 {
     let record = &records[index];
-    &elements[record.start..record.end]
+    text.part(record.start..record.end)
 }
 
 /// Prints the blocks that hold anything, with a separator between each two.
 fn write_blocks<S: Sink>(
     alloc: Global,
-    elements: &[Element],
+    text: &Excerpt,
     records: &[Range<usize>],
     selected: &[usize],
     shape: &Shape,
     separator: &[u8],
     out: &mut S,
 ) -> Result<(), Fault>
-    requires within { AllByRecursion (IsWithin (length elements.now)) records.now }
+    requires within { AllByRecursion (IsWithin (length text.now)) records.now }
     requires indexes { AllByRecursion (λ i. i < length records.now) selected.now }
-    ensures { Prints (separated separator.now (full (map (λ i. block_of shape.now (record_at (pieces_of elements.now) records.now i)) selected.now))) (S.contents out.old) (S.contents out.new) (S.failure_count out.old) (S.failure_count out.new) result }
+    ensures { Prints (separated separator.now (full (map (λ i. block_of shape.now (record_at text.now records.now i)) selected.now))) (S.contents out.old) (S.contents out.new) (S.failure_count out.old) (S.failure_count out.new) result }
 {
     let mut before: &[u8] = b"";
     for index in selected {
-        let fields = elements_of(elements, records, *index);
-        if write_block(alloc, before, fields, shape, out)? {
+        let record = record_of(text, records, *index);
+        if write_block(alloc, before, record, shape, out)? {
             before = separator;
         }
     }
@@ -130,7 +130,7 @@ pub fn write_records<S: Sink>(
     let separator: &[u8] = if collapse { b"" } else { b"\n" };
     write_blocks(
         alloc,
-        database.elements(),
+        &Excerpt::of(database),
         &records,
         selected,
         shape,

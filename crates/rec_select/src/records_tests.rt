@@ -29,7 +29,7 @@ const NUMBERS: &str = "N: 1\n\nN: 2\n";
 
 const MIXED: &str = "A: 1\n\nB: 2\n\nA: 3\n\n\n# c\n\nB: 4";
 
-const CASES: [Case; 32] = [
+const CASES: [Case; 33] = [
     (TWO, &[0, 1], Form::Blocks, false, "A: 1\n\nB: 2\n"),
     (TWO, &[0, 1], Form::Print("Z"), false, ""),
     (TWO, &[0], Form::Print("A,A"), false, "A: 1\nA: 1\n"),
@@ -72,6 +72,13 @@ const CASES: [Case; 32] = [
         Form::Blocks,
         false,
         "A: 1\nB: 2\n",
+    ),
+    (
+        "A: 1\nB: 2\n# c\n# d\nC: 3\nD: 4",
+        &[0],
+        Form::Blocks,
+        false,
+        "A: 1\nB: 2\nC: 3\nD: 4\n",
     ),
     // A joined field is printed as it stands, and has a value in one line.
     ("A: x\\\ny\n", &[0], Form::Blocks, false, "A: x\\\ny\n"),

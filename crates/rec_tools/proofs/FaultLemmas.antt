@@ -1,5 +1,5 @@
 -- Refusals aside from memory.
-use Rattle.std.proofs.Common.{◌≡◌, ◌⊎◌, inl, inr, Ok, Err, refl}
+use Rattle.std.proofs.Common.{◌≡◌, ◌⊎◌, inl, inr, Result, Ok, Err, refl}
 use Rattle.rec_text.specs.declared.fault.Fault.{Fault}
 use Rattle.rec_text.specs.declared.fault.Fault.TheVariants.{OutOfMemory}
 use Rattle.rec_text.specs.Faults.{IsMemoryOr}
@@ -20,3 +20,10 @@ memory_or_weaker _ P Q f h = f h
 -- a refusal is no success
 pub ok_is_no_err : {A : Type 0} (a : A) (fault : Fault) (P : Type 0) → Err fault ≡ Ok a → P
 ok_is_no_err a fault P e = cc
+
+-- the same answers are of the same fault, or of the same value
+pub same_fault : {A : Type 0} (f g : Fault) → ◌≡◌ {A = Result A Fault} (Err f) (Err g) → f ≡ g
+same_fault f g e = cc
+
+pub same_value : {A : Type 0} (a b : A) → ◌≡◌ {A = Result A Fault} (Ok a) (Ok b) → a ≡ b
+same_value a b e = cc

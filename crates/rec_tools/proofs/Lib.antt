@@ -2,9 +2,15 @@ pub mod FaultLemmas
 pub mod UntypedLemmas
 pub mod ChangeLemmas
 pub mod MachineLemmas
-pub mod PrintLemmas
+pub mod PutsLemmas
+pub mod ShowLemmas
+pub mod InformLemmas
+pub mod CheckLemmas
+pub mod RunPrintingLemmas
 pub mod RunLemmas
 pub mod RunAllLemmas
+pub mod StepLemmas
+pub mod PrintoutLemmas
 pub mod DecisionLemmas
 pub mod SelectedLemmas
 pub mod TextLemmas
@@ -12,4 +18,3 @@ pub mod RangeLemmas
 pub mod DeletionLemmas
 pub mod RemovalLemmas
 pub mod DeletionExamples
-pub mod PrintingLemmas

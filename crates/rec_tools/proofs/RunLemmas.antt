@@ -1,23 +1,21 @@
 -- What a request does to contents that a home may tell, and what goes out.
-use Rattle.std.proofs.Common.{◌≡◌, ◌⊎◌, inl, inr, ℕ, ◌≤◌, ◌^◌, ◌-◌, List, [], Option, Some, None, Result, Ok, Err, IfOk, IfSome, OnErr, IsErrAnd, IsErrOf, ap, sym, subst, refl, ◌∙◌, arith}
+use Rattle.std.proofs.Common.{◌≡◌, ◌⊎◌, inl, inr, ℕ, ◌≤◌, ◌^◌, ◌-◌, List, [], Option, Some, None, Result, Ok, Err, IfSome, OnErr, IsErrAnd, IsErrOf, ap, sym, subst, refl, ◌∙◌, arith}
 use Rattle.std.proofs.KnownBytes.{Appends-nil}
 use Rattle.rec_text.specs.declared.fault.Fault.{Fault}
 use Rattle.rec_text.specs.declared.fault.Fault.TheVariants.{OutOfMemory, StoreFailed}
 use Rattle.rec_text.specs.Faults.{IsMemoryOr}
 use Rattle.rec_text.specs.Sink.{HasRisen}
-use Rattle.rec_select.specs.Printing.{Puts}
 use Rattle.rec_tools.specs.declared.request.Request.{Request}
 use Rattle.rec_tools.specs.declared.request.Reply.{Reply}
-use Rattle.rec_tools.specs.declared.request.Reply.TheVariants.{Shown}
 use Rattle.rec_tools.specs.declared.decision.Decision.{Decision}
 use Rattle.rec_tools.specs.declared.decision.Decision.TheVariants.{Stay, Put}
 use Rattle.rec_tools.specs.Home.{Contents}
-use Rattle.rec_tools.specs.Printouts.{Printed, WentOut, IsPrintout}
+use Rattle.rec_tools.specs.Printouts.{Printed, PutsPrintout, WentOut, IsPrintout}
 use Rattle.rec_tools.specs.Decision.{IsDecision}
 use Rattle.rec_tools.specs.Machine.{State, Stands}
 use Rattle.rec_tools.specs.Guarantee.{StepsAsMachine, MayCarryOut, Attempts, GoesAsMachine, IsLook}
 use Rattle.rec_tools.proofs.FaultLemmas.{memory_or}
-use Rattle.rec_tools.proofs.PrintLemmas.{Prints, prints-put, does-prints, is_answer-prints}
+use Rattle.rec_tools.proofs.RunPrintingLemmas.{Prints, prints-put, does-prints, is_answer-prints}
 
 abbrev pub Answer : Type 0
 Answer = Result Reply Fault
@@ -203,20 +201,20 @@ prints_on : (c : Contents) (file f : List ℕ) (request given : Request) (answer
 prints_on c file f request given answer p read e asked prints =
     subst (λ text. Prints text request answer p) (e ∙ read) (subst (λ r. Prints f r answer p) (sym asked) prints)
 
-module _ (bytes out : Option (List ℕ)) (n m : ℕ) (request given : Request) (answer : Answer) (asked : request ≡ given) (shown : IfOk answer (λ reply. reply ≡ Shown))
+module _ (bytes out : Option (List ℕ)) (n m : ℕ) (request given : Request) (answer : Answer) (asked : request ≡ given)
     (failed : answer ≡ Err StoreFailed → HasRisen n m) where
   pub attempted-printed : (old new : Option Contents) (file f : List ℕ) → new ≡ old → FileWasRead old file → f ≡ file
-      → Puts (IsPrintout f given) bytes out answer → Attempted old new (WentOut bytes out n m) request answer
+      → PutsPrintout (IsPrintout f given) bytes out answer → Attempted old new (WentOut bytes out n m) request answer
   attempted-printed None new file f same read e put = tt
   attempted-printed (Some c) new file f same read e put =
-      let went = prints-put f given bytes out n m answer put shown failed in
+      let went = prints-put f given bytes out n m answer put failed in
       (c, went.0, same, went.1, inl (does-prints c request answer went.0 (prints_on c file f request given answer went.0 read e asked went.2)))
 
   pub stepped-printed : (old new : Option Contents) (file f : List ℕ) → IsLook given → new ≡ old → FileWasRead old file → f ≡ file
-      → Puts (IsPrintout f given) bytes out answer → Stepped old new (WentOut bytes out n m) request answer
+      → PutsPrintout (IsPrintout f given) bytes out answer → Stepped old new (WentOut bytes out n m) request answer
   stepped-printed None new file f look same read e put = tt
   stepped-printed (Some c) new file f look same read e put =
-      let went = prints-put f given bytes out n m answer put shown failed in
+      let went = prints-put f given bytes out n m answer put failed in
       let prints = prints_on c file f request given answer went.0 read e asked went.2 in
       λ s stands.
       (c, s, went.0, same, went.1, (does-prints c request answer went.0 prints, is_answer-prints s c.file request answer went.0 (rw asked look) stands.present prints, stands))

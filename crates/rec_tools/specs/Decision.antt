@@ -15,7 +15,7 @@ use Rattle.rec_tools.specs.declared.request.Ask.{Ask}
 use Rattle.rec_tools.specs.declared.request.Ask.TheVariants.{All, Expr, Index, Quick}
 use Rattle.rec_tools.specs.declared.request.Pick.{Pick}
 use Rattle.rec_tools.specs.declared.request.Request.{Request}
-use Rattle.rec_tools.specs.declared.request.Request.TheVariants.{Show, Info, Delete, Undo}
+use Rattle.rec_tools.specs.declared.request.Request.TheVariants.{Show, Info, Check, Delete, Undo}
 use Rattle.rec_tools.specs.declared.request.Reply.TheVariants.{Edited as EditedReply, Unchanged, Undone}
 use Rattle.rec_tools.specs.declared.decision.Decision.{Decision}
 use Rattle.rec_tools.specs.declared.decision.Decision.TheVariants.{Stay, Put}
@@ -23,7 +23,7 @@ use Rattle.rec_tools.specs.Home.{Contents}
 use Rattle.rec_select.specs.Selection.{IsSelection}
 use Rattle.rec_tools.specs.Steps.{Then}
 use Rattle.rec_tools.specs.Asking.{Base, IsBaseOf, IsFilter}
-use Rattle.rec_tools.specs.Printouts.{IsPrintout}
+use Rattle.rec_tools.specs.Printouts.{Printout, IsPrintout}
 use Rattle.rec_tools.specs.Deletion.{IsDeletion, is_among}
 
 -- no field of these has the name of a descriptor's first field
@@ -100,13 +100,14 @@ IsUndoDecision c =
 abbrev pub IsDecision : Contents → Request → Result Decision Fault → Type 0
 IsDecision c (Show pick form collapse) answer = ⊥
 IsDecision c (Info kind form) answer = ⊥
+IsDecision c Check answer = ⊥
 IsDecision c (Delete pick force) answer = IsDeleteDecision c pick force answer
 IsDecision c Undo answer = IsUndoDecision c answer
 
--- A request on two contents has one decision at most, or prints one text of them; only where `regex` may refuse a pattern
--- of its expression, that refusal may stand in the place of the other answer.
+-- A request on two contents has one decision at most, or prints one text of them with one reply; only where `regex` may
+-- refuse a pattern of its expression or of a descriptor, that refusal may stand in the place of the other answer.
 pub record OneDecision : Type 0 where
   pub decided : (c : Contents) (request : Request) (one other : Result Decision Fault)
       → IsDecision c request one → IsDecision c request other → (one ≢ Err BadPattern) → (other ≢ Err BadPattern) → one ≡ other
-  pub printed : (file : List ℕ) (request : Request) (one other : Result (List ℕ) Fault)
+  pub printed : (file : List ℕ) (request : Request) (one other : Result Printout Fault)
       → IsPrintout file request one → IsPrintout file request other → (one ≢ Err BadPattern) → (other ≢ Err BadPattern) → one ≡ other

@@ -5,12 +5,12 @@ use Rattle.rec_text.specs.declared.fault.Fault.TheVariants.{OutOfMemory, BadLine
 use Rattle.rec_text.specs.Sink.{HasRisen}
 use Rattle.rec_journal.specs.declared.plan.Plan.{Plan}
 use Rattle.rec_tools.specs.declared.request.Request.{Request}
-use Rattle.rec_tools.specs.declared.request.Request.TheVariants.{Show, Info, Delete, Undo}
+use Rattle.rec_tools.specs.declared.request.Request.TheVariants.{Show, Info, Check, Delete, Undo}
 use Rattle.rec_tools.specs.declared.request.Reply.{Reply}
 use Rattle.rec_tools.specs.declared.decision.Decision.{Decision}
 use Rattle.rec_tools.specs.declared.decision.Decision.TheVariants.{Stay, Put}
 use Rattle.rec_tools.specs.Home.{Contents}
-use Rattle.rec_tools.specs.Printouts.{Printed, IsPrintout, IsShown, IsFront, IsBoth, IsSilence}
+use Rattle.rec_tools.specs.Printouts.{Printout, Printed, IsPrintout, IsShown, IsFront, IsBoth, IsSilence}
 use Rattle.rec_tools.specs.Decision.{IsDecision}
 use Rattle.rec_tools.specs.Machine.{State, IsAnswer, Stands, first_state}
 
@@ -38,7 +38,7 @@ StepsAsMachine s request (Ok (Put plan reply)) = (t : State) × ((p : Printed) �
 abbrev pub Does : Contents → Request → Result Reply Fault → Printed → Contents → Type 0
 Does c request answer p d =
     ((decision : Result Decision Fault) × IsDecision c request decision × IsCarriedOut c decision answer d × (p.text ≡ []))
-    ⊎ ((outcome : Result (List ℕ) Fault) × IsPrintout c.file request outcome × IsShown outcome answer p.text × (d ≡ c))
+    ⊎ ((outcome : Result Printout Fault) × IsPrintout c.file request outcome × IsShown outcome answer p.text × (d ≡ c))
     ⊎ ((answer ≡ Err OutOfMemory) × (d ≡ c) × ((p.text ≡ []) ⊎ IsFront c.file request p.text))
     ⊎ ((answer ≡ Err StoreFailed) × (d ≡ c) × IsFront c.file request p.text × HasRisen p.before p.after)
 
@@ -92,6 +92,7 @@ IsRefusal _ = ⊥
 abbrev pub IsSilent : Request → Type 0
 IsSilent (Show pick form collapse) = ⊥
 IsSilent (Info kind form) = ⊥
+IsSilent Check = ⊥
 IsSilent (Delete pick force) = Unit {0}
 IsSilent Undo = Unit {0}
 
@@ -99,6 +100,7 @@ IsSilent Undo = Unit {0}
 abbrev pub IsLook : Request → Type 0
 IsLook (Show pick form collapse) = Unit {0}
 IsLook (Info kind form) = Unit {0}
+IsLook Check = Unit {0}
 IsLook (Delete pick force) = ⊥
 IsLook Undo = ⊥
 

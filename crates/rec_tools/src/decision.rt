@@ -5,6 +5,7 @@ ghost use Rattle.rec_text.specs.Elements.{name_of, text_of};
 ghost use Rattle.rec_text.specs.Places.{piece_of};
 ghost use Rattle.rec_journal.specs.Patch.{Splices};
 ghost use Rattle.rec_check.specs.Schemas.{IsSchema};
+ghost use Rattle.rec_check.specs.Stored.{described};
 ghost use Rattle.rec_journal.specs.History.{Opened, Opens, IsOpening};
 ghost use Rattle.rec_tools.specs.Decision.{IsUntyped, IsEditBase, IsDeletionBy, IsDeleteDecision, IsUndoDecision, allowed};
 ghost use Rattle.rec_tools.specs.Machine.{State, Stands};
@@ -58,9 +59,9 @@ fn require_untyped(database: &Database) -> Result<(), Fault>
 
 /// Reads a file as a base that may be edited.
 fn edit_base_of(alloc: Global, file: &[u8]) -> Result<Base<'_>, Fault>
-    ensures found { IfOk result (λ base. IsEditBase file.now (Ok (record { pieces = base.database; sets = base.schema.sets }))) }
+    ensures found { IfOk result (λ base. IsEditBase file.now (Ok (record { pieces = base.database; sets = (described base.schema).sets }))) }
     ensures refused { IfErr result (λ fault. IsMemoryOr fault (IsEditBase file.now (Err fault))) }
-    ensures schema { IfOk result (λ base. IsSchema base.database (Ok base.schema)) }
+    ensures schema { IfOk result (λ base. IsSchema base.database (Ok (described base.schema))) }
     ensures text { IfOk result (λ base. text_of base.database ≡ file.now) }
 {
     let database = read(alloc, file)?;
@@ -81,8 +82,8 @@ fn require_selection(pick: &Pick, force: bool) -> Result<(), Fault>
 
 /// Deletes the records that a pick selects.
 pub fn delete_by(alloc: Global, base: &Base, pick: &Pick, force: bool) -> Result<Edited, Fault>
-    requires { IsSchema base.now.database (Ok base.now.schema) }
-    ensures found { UnlessMemory result (IsDeletionBy (record { pieces = base.now.database; sets = base.now.schema.sets }) pick.now force) }
+    requires { IsSchema base.now.database (Ok (described base.now.schema)) }
+    ensures found { UnlessMemory result (IsDeletionBy (record { pieces = base.now.database; sets = (described base.now.schema).sets }) pick.now force) }
     ensures leads { IfOk result (λ edited. Splices edited.patch (text_of base.now.database) edited.text) }
     ensures unchanged { IfOk result (λ edited. (edited.patch ≡ []) ↔ (edited.text ≡ text_of base.now.database)) }
 {

@@ -52,6 +52,8 @@ pub enum Request {
         kind: Option<Bytes>,
         form: InfoForm,
     },
+    /// Reports where the file breaks the rules of its record sets.
+    Check,
     /// Deletes records; all records of a set only with `force`.
     Delete {
         pick: Pick,
@@ -66,6 +68,8 @@ pub enum Request {
 pub enum Reply {
     /// What was asked for was printed.
     Shown,
+    /// So many violations were reported.
+    Violated(usize),
     /// So many records were changed.
     Edited(usize),
     /// The text stays as it is; no event is made.

@@ -9,7 +9,7 @@ ghost use Rattle.rec_tools.specs.Guarantee.{contents_of, MayHold, MayCarryOut, A
 
 use crate::decision::{Decision, decide_delete, decide_undo};
 use crate::home::{Home, Which};
-use crate::printing::{inform, show};
+use crate::printing::{check, inform, show};
 use crate::request::{Reply, Request};
 use rec_journal::Plan;
 use rec_text::{Bytes, Fault, Sink};
@@ -96,6 +96,10 @@ pub fn run<H: Home, S: Sink>(
         Request::Info { kind, form } => {
             let file = home.read(alloc, Which::Base)?;
             inform(alloc, file.as_slice(), kind, *form, out)
+        }
+        Request::Check => {
+            let file = home.read(alloc, Which::Base)?;
+            check(alloc, file.as_slice(), out)
         }
         Request::Delete { pick, force } => {
             let (file, journal) = read_both(alloc, home)?;

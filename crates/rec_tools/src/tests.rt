@@ -1,4 +1,5 @@
 //! Requests run on a home in memory. All bytes of both contents are compared.
+mod checks;
 mod deletions;
 mod layouts;
 mod printing;

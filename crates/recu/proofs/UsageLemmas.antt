@@ -8,7 +8,7 @@ use Rattle.clap.specs.declared.builder.arg.Arg.{Arg}
 use Rattle.clap.specs.declared.builder.command.Command.{Command}
 use Rattle.clap.specs.declared.builder.command.Command.TheViews.{out-Command as fields_of}
 use Rattle.recu.specs.Options.{rule_of_option, with_option}
-use Rattle.recu.specs.declared.args.ToolOption.{ToolOption}
+use Rattle.recu.specs.declared.options.ToolOption.{ToolOption}
 
 module _ {X A B : Type 0} (name : X → A) (rows : X → B) where
   abbrev pub both : X → A × B

@@ -2,8 +2,10 @@
 use Rattle.std.specs.Prelude.{ℕ, Result, Ok, Err}
 use Rattle.rec_text.specs.declared.fault.Fault.{Fault}
 use Rattle.rec_tools.specs.declared.request.Reply.{Reply}
+use Rattle.rec_tools.specs.declared.request.Reply.TheVariants.{Violated}
 
--- 1 for a fault, 0 for every reply
+-- 1 for a fault and for violations, 0 for every other reply
 abbrev pub status_of : Result Reply Fault → ℕ
+status_of (Ok (Violated count)) = 1
 status_of (Ok reply) = 0
 status_of (Err fault) = 1

@@ -3,7 +3,7 @@ use Rattle.std.specs.Prelude.{true, List, [], ◌∷◌, codes, Some, slice_get,
 use Rattle.clap.specs.Words.{App, Rule, Text, new_app, new_rule, with_rule, with_subcommand}
 use Rattle.clap.specs.declared.builder.action.ArgAction.TheVariants.{SetTrue}
 
--- `-x VALUE` or `--name VALUE`
+-- `-x VALUE` or `--name VALUE`; without a letter the second alone
 abbrev pub valued : Text → Text → Rule
 valued letter name = record (new_rule name) {
   short = slice_get letter 0;
@@ -11,7 +11,7 @@ valued letter name = record (new_rule name) {
   value_names = 1;
 }
 
--- `-x` or `--name`
+-- `-x` or `--name`; without a letter the second alone
 abbrev pub flag : Text → Text → Rule
 flag letter name = record (new_rule name) {
   short = slice_get letter 0;
@@ -64,6 +64,9 @@ recinf_usage = tool_with (codes "recinf") (
     ∷ file_word
     ∷ [])
 
+abbrev pub recfix_usage : App
+recfix_usage = tool_with (codes "recfix") (flag [] (codes "check") ∷ file_word ∷ [])
+
 abbrev pub recdel_usage : App
 recdel_usage = tool_with (codes "recdel") (needed_number ∷ journal_option ∷ needed_file ∷ [])
 
@@ -84,5 +87,5 @@ plain_usage = record {
 
 abbrev pub usage : App
 usage = with_subcommand
-    (with_subcommand (with_subcommand (with_subcommand plain_usage recsel_usage.top) recinf_usage.top) recdel_usage.top)
+    (with_subcommand (with_subcommand (with_subcommand (with_subcommand plain_usage recsel_usage.top) recinf_usage.top) recfix_usage.top) recdel_usage.top)
     undo_usage.top

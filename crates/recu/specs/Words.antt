@@ -10,7 +10,7 @@ use Rattle.rec_tools.specs.declared.request.Ask.TheVariants.{All, Expr, Index, Q
 use Rattle.rec_tools.specs.declared.request.Form.{Form}
 use Rattle.rec_tools.specs.declared.request.Form.TheVariants.{Blocks, Print, Values, Row as OneRow, Count}
 use Rattle.rec_tools.specs.declared.request.Request.{Request}
-use Rattle.rec_tools.specs.declared.request.Request.TheVariants.{Show, Info, Delete, Undo}
+use Rattle.rec_tools.specs.declared.request.Request.TheVariants.{Show, Info, Check, Delete, Undo}
 use Rattle.recu.specs.declared.args.Asked.{Asked}
 use Rattle.recu.specs.Usage.{usage}
 
@@ -65,6 +65,7 @@ Asks tool options (Show pick form collapse) =
     × (form_for form ≡ form_given options) × (collapse ≡ has_flag (codes "collapse") options)
 Asks tool options (Info kind form) =
     (tool ≡ codes "recinf") × (kind ≡ first_of (codes "type") options) × (info_form_for form ≡ info_form_given options)
+Asks tool options Check = tool ≡ codes "recfix"
 Asks tool options (Delete pick force) =
     (tool ≡ codes "recdel") × ((list : Text) × (first_of (codes "number") options ≡ Some list) × (pick ≡ record { kind = None; by = Index list }))
     × (force ≡ false)
@@ -98,6 +99,7 @@ pub record IsEditJournal (file given journal : Option (List ℕ)) : Type 0 where
 abbrev pub IsJournal : Request → Option (List ℕ) → Option (List ℕ) → Option (List ℕ) → Type 0
 IsJournal (Show pick form collapse) file given journal = journal ≡ None
 IsJournal (Info kind form) file given journal = journal ≡ None
+IsJournal Check file given journal = journal ≡ None
 IsJournal (Delete pick force) file given journal = IsEditJournal file given journal
 IsJournal Undo file given journal = IsEditJournal file given journal
 

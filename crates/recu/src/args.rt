@@ -3,9 +3,10 @@ ghost use Rattle.std.specs.Prelude.{◌≡◌, ◌⊎◌, false, map, fold, IfOk
 ghost use Rattle.clap.specs.Words.{app_of, first_of, found_of, rows_of, rule_of};
 ghost use Rattle.clap.specs.declared.builder.command.Command.TheViews.{out-Command as fields_of};
 ghost use Rattle.recu.specs.Options.{rule_of_option, with_option};
-ghost use Rattle.recu.specs.Usage.{needed_number, journal_option, file_word, needed_file, recsel_usage, recinf_usage, recdel_usage, undo_usage, plain_usage, usage};
+ghost use Rattle.recu.specs.Usage.{needed_number, journal_option, file_word, needed_file, recsel_usage, recinf_usage, recfix_usage, recdel_usage, undo_usage, plain_usage, usage};
 ghost use Rattle.recu.specs.Words.{has_flag, selection_given, selection_for, form_given, form_for, info_form_given, info_form_for, Asks, IsJournal, IsAsked};
 
+use crate::options::{RECFIX, RECINF, RECSEL, ToolOption};
 use crate::paths::{are_apart, copied, journal_path};
 use clap::error::ErrorKind;
 use clap::{Arg, ArgAction, ArgMatches, Command};
@@ -17,7 +18,7 @@ use std::{env, io};
 
 const VERSION: &str = "0.1.0";
 
-const ABOUT: &str = "Prints and edits rec files, and takes edits back";
+const ABOUT: &str = "Prints, checks and edits rec files, and takes edits back";
 
 const WORKING_NAMES: &str =
     "FILE.new and the journal's .new are working names of recu: each file is written under its own\nbefore it takes its place. What stands there is removed, unless a running recu is writing it.";
@@ -27,103 +28,22 @@ const RECSEL_RULES: &str =
 
 const RECINF_RULES: &str = "Only one of -d and -n can be given.";
 
+const RECFIX_RULES: &str =
+    "Each violation is a line, LINE: RULE NAME. Where there is one, the exit status is 1.";
+
 const CLASH: &str = "--journal: FILE and PATH are one path, or one is the other with .new appended";
 
-/// An option of a tool that prints. One that has no value is a flag.
-struct ToolOption {
-    letter: char,
-    name: &'static str,
-    value: Option<&'static str>,
-    help: &'static str,
-}
-
-static RECSEL: [ToolOption; 9] = [
-    ToolOption {
-        letter: 't',
-        name: "type",
-        value: Some("TYPE"),
-        help: "The records of this type [default: those of no type, or else of the only type]",
-    },
-    ToolOption {
-        letter: 'e',
-        name: "expression",
-        value: Some("EXPR"),
-        help: "The records for which EXPR is true, such as 'Age > 17 && #Email'",
-    },
-    ToolOption {
-        letter: 'n',
-        name: "number",
-        value: Some("LIST"),
-        help: "The records at these places among those of the type, from 0, such as 0,4-7",
-    },
-    ToolOption {
-        letter: 'q',
-        name: "quick",
-        value: Some("TEXT"),
-        help: "The records with a value that contains TEXT",
-    },
-    ToolOption {
-        letter: 'p',
-        name: "print",
-        value: Some("FIELDS"),
-        help: "Print these fields alone, such as Name,Email[0-1]",
-    },
-    ToolOption {
-        letter: 'P',
-        name: "print-values",
-        value: Some("FIELDS"),
-        help: "Print the values of these fields, one in a line",
-    },
-    ToolOption {
-        letter: 'R',
-        name: "print-row",
-        value: Some("FIELDS"),
-        help: "Print the values of these fields, those of a record in one line",
-    },
-    ToolOption {
-        letter: 'c',
-        name: "count",
-        value: None,
-        help: "Print the number of the records",
-    },
-    ToolOption {
-        letter: 'C',
-        name: "collapse",
-        value: None,
-        help: "Print no empty line between records",
-    },
-];
-
-static RECINF: [ToolOption; 3] = [
-    ToolOption {
-        letter: 't',
-        name: "type",
-        value: Some("TYPE"),
-        help: "The record set of this type alone",
-    },
-    ToolOption {
-        letter: 'd',
-        name: "descriptor",
-        value: None,
-        help: "Print the descriptor of each set",
-    },
-    ToolOption {
-        letter: 'n',
-        name: "names-only",
-        value: None,
-        help: "Print the type of each set",
-    },
-];
-
 impl ToolOption {
+    /// What clap is told of it.
     fn arg<'a>(&self, alloc: Global) -> Arg<'a>
         ensures rule { rule_of result ≡ rule_of_option self.now }
         ensures alone { result.global ≡ false }
     {
-        let named = Arg::new(alloc, self.name)
-            .short(self.letter)
-            .long(self.name)
-            .help(self.help);
+        let named = Arg::new(alloc, self.name).long(self.name).help(self.help);
+        let named = match self.letter {
+            Some(letter) => named.short(letter),
+            None => named,
+        };
         match self.value {
             Some(value) => named.value_name(value),
             None => named.action(ArgAction::SetTrue),
@@ -260,6 +180,8 @@ fn request(alloc: Global, tool: &str, options: &ArgMatches) -> Result<Request, R
             kind: text(alloc, options, "type")?,
             form: info_form(options)?,
         }),
+        // The option --check asks for what is done without it.
+        "recfix" => Ok(Request::Check),
         "recdel" => {
             let Some(list) = text(alloc, options, "number")? else {
                 return Err(Refusal::Rule("recdel: --number is needed"));
@@ -356,7 +278,7 @@ fn journal(
     ensures { IfOk result (λ journal. IsJournal request.now (option_map (λ path. path.now) file.entry) (option_map (λ path. path.now) given.entry) (option_map string_bytes journal)) }
 {
     match request {
-        Request::Show { .. } | Request::Info { .. } => Ok(None),
+        Request::Show { .. } | Request::Info { .. } | Request::Check => Ok(None),
         Request::Delete { .. } | Request::Undo => {
             let Some(file) = file else {
                 return Err(Refusal::Rule("FILE is needed"));
@@ -377,6 +299,7 @@ fn command<'a>(alloc: Global) -> Result<Command<'a>, AllocError>
     program
         .subcommand(recsel(alloc)?)?
         .subcommand(recinf(alloc)?)?
+        .subcommand(recfix(alloc)?)?
         .subcommand(recdel(alloc)?)?
         .subcommand(undo(alloc)?)
 }
@@ -414,6 +337,16 @@ fn recinf<'a>(alloc: Global) -> Result<Command<'a>, AllocError>
         .about("Prints which record sets there are")
         .after_help(RECINF_RULES);
     with_options(alloc, tool, RECINF.as_slice())?.arg(input_arg(alloc))
+}
+
+fn recfix<'a>(alloc: Global) -> Result<Command<'a>, AllocError>
+    ensures usage { IfOk result (λ command. app_of command ≡ recfix_usage) }
+    ensures alone { IfOk result (λ command. (fields_of command).has_globals ≡ false) }
+{
+    let tool = Command::new(alloc, "recfix")
+        .about("Reports where the rules of record sets are broken")
+        .after_help(RECFIX_RULES);
+    with_options(alloc, tool, RECFIX.as_slice())?.arg(input_arg(alloc))
 }
 
 fn recdel<'a>(alloc: Global) -> Result<Command<'a>, AllocError>

@@ -3,6 +3,7 @@
 
 mod args;
 mod files;
+mod options;
 mod output;
 mod paths;
 #[cfg(test)]

@@ -19,6 +19,8 @@ fn words_without_a_tool_are_refused(rt: HostRuntime) -> Result<(), Fail> {
         "f",
         "recd -n 1 f",
         "recset -n 1 f",
+        "recfi f",
+        "--check recfix f",
         "redo f",
         "recse f",
         "-n 1 recdel f",
@@ -32,6 +34,7 @@ fn words_without_a_tool_are_refused(rt: HostRuntime) -> Result<(), Fail> {
         "help",
         "help undo",
         "help recsel",
+        "help recfix",
     ] {
         assert_eq!(rt; refusal(rt.alloc(), line)?, 24, "at {line}");
     }
@@ -159,6 +162,37 @@ fn other_words_of_recinf_are_refused(rt: HostRuntime) -> Result<(), Fail> {
         "recinf -h",
         "recinf --version",
         "recinf -V",
+    ] {
+        assert_eq!(rt; refusal(rt.alloc(), line)?, 24, "at {line}");
+    }
+    Ok(())
+}
+
+#[test]
+fn other_words_of_recfix_are_refused(rt: HostRuntime) -> Result<(), Fail> {
+    for line in [
+        "recfix --check --check",
+        "recfix --check f --check",
+        "recfix --check=1 f",
+        "recfix --check=true f",
+        "recfix --check= f",
+        "recfix --chec f",
+        "recfix -c f",
+        "recfix f g",
+        "recfix -- f g",
+        "recfix --auto",
+        "recfix --auto f",
+        "recfix --check --auto f",
+        "recfix --force f",
+        "recfix --journal j f",
+        "recfix --journal=j f",
+        "recfix f --journal j",
+        "recfix -t P f",
+        "recfix -n 0 f",
+        "recfix --help",
+        "recfix -h",
+        "recfix --version",
+        "recfix -V",
     ] {
         assert_eq!(rt; refusal(rt.alloc(), line)?, 24, "at {line}");
     }

@@ -7,11 +7,12 @@ use rec_tools::{Fault, Reply, Sink};
 use std::fmt;
 use std::fmt::Write;
 
-/// Prints `recu: `, the fault's text and a newline, cut where the sink fails. The result is the exit status.
+/// Prints `recu: `, the text of a fault and a newline, cut where the sink fails. The result is the exit status.
 pub fn finish<W: Sink>(answer: &Result<Reply, Fault>, err: &mut W) -> u8
     ensures status { result ≡ status_of answer.now }
 {
     match answer {
+        Ok(Reply::Violated(_)) => 1,
         Ok(_) => 0,
         Err(fault) => {
             let mut text = Text { sink: err };

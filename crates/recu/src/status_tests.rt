@@ -156,3 +156,13 @@ fn a_reply_is_silent(rt: HostRuntime) -> Result<(), Fail> {
     }
     Ok(())
 }
+
+#[test]
+fn violations_are_silent_and_end_with_status_1(rt: HostRuntime) -> Result<(), Fail> {
+    for count in [1, 24] {
+        let (status, printed) = finished(rt.alloc(), &Ok(Reply::Violated(count)), 100)?;
+        assert_eq!(rt; status, 1);
+        assert_eq!(rt; printed.len(), 0);
+    }
+    Ok(())
+}

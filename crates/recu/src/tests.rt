@@ -37,6 +37,7 @@ fn spelled(alloc: Global, asked: &Asked) -> Result<String, AllocError> {
             };
             format!(in alloc; "info {kind}as {form} of {file} and {journal}")
         }
+        Request::Check => format!(in alloc; "check {file} and {journal}"),
         Request::Delete { pick, force } => {
             let records = spelled_pick(alloc, pick)?;
             let forced = if *force { " forced" } else { "" };
@@ -308,6 +309,15 @@ fn every_request_is_read(rt: HostRuntime) -> Result<(), Fail> {
             "recinf -n -t P f",
             "info type P as names of f and no journal",
         ),
+        ("recfix", "check standard input and no journal"),
+        ("recfix --check", "check standard input and no journal"),
+        ("recfix f", "check f and no journal"),
+        ("recfix --check f", "check f and no journal"),
+        ("recfix f --check", "check f and no journal"),
+        ("recfix --check -- -f", "check -f and no journal"),
+        ("recfix -", "check - and no journal"),
+        ("recfix ", "check  and no journal"),
+        ("recfix check", "check check and no journal"),
         ("recdel --number=-1 f", "delete index -1 of f and f.journal"),
         ("recdel f -n 0,2-3", "delete index 0,2-3 of f and f.journal"),
         ("recdel -n 1 -- -f", "delete index 1 of -f and -f.journal"),

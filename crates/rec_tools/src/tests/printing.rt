@@ -126,7 +126,8 @@ fn vec_sink(alloc: Global) -> Output<Vec<u8>> {
     }
 }
 
-fn check_request(
+/// Runs a request, whose answer and output are known, and sees that the file and the journal stay.
+pub fn check_request(
     rt: &impl Abort,
     alloc: Global,
     name: &str,

@@ -1,5 +1,4 @@
 use Rattle.std.proofs.Common.{[], ◌∷◌}
-use Rattle.rec_text.specs.Places.{piece_of}
 use Rattle.rec_select.proofs.PutsLemmas.{Prints-put, Prints-append}
 use Rattle.rec_select.proofs.BlockLemmas.{closed-open}
 use Rattle.rec_select.proofs.block.write_closed.Goals as goal
@@ -8,6 +7,6 @@ pub returns-clause-printed : goal.returns-clause-printed
 returns-clause-printed g c =
     let first = c.in_ok-put_all.ensures in
     let put = c.put_all-2.ensures in
-    rw (closed-open (piece_of c.args.element.now) c.if-ends_newline.ensures)
+    rw (closed-open c.args.text.now c.if-ends_newline.ensures)
     (Prints-append (record { whole = first.all; sound = first.kept }) _ _ (10 ∷ []) c.put_all-2.result
     (Prints-put _ _ _ _ (10 ∷ []) c.put_all-2.result put.all put.front put.kept put.counted put.failed put.refusals))

@@ -1,15 +1,16 @@
 use Rattle.std.proofs.Common.{◌∙◌, ◌-◌, ◌<◌, ◌^◌, ap, inl, length, arith, refl, sym, Ok}
 use Rattle.std.specs.Prelude.{◌↔◌, IsTrue}
 use Rattle.std.proofs.lemmas.Bool.{false≢true}
+use Rattle.rec_check.specs.Stored.{described}
 use Rattle.rec_check.specs.Descriptors.{elements_in}
 use Rattle.rec_select.specs.Selection.{Passes, filter_of}
 use Rattle.rec_select.proofs.IndexLemmas.{selected_are_records}
-use Rattle.rec_select.proofs.SelectionLemmas.{IsChosenUpTo, few_pieces, none_chosen, countable, passes_as, one_passed, one_taken, members_within, all_chosen, one_selection}
+use Rattle.rec_select.proofs.SelectionLemmas.{IsChosenUpTo, none_chosen, countable, passes_as, one_passed, one_taken, members_within, all_chosen, one_selection}
 use Rattle.rec_select.proofs.chooser.choose.Goals as goal
 use Rattle.rec_select.proofs.chooser.choose.Goals.{After-into_iter-index-iterator, In_ok-passes}
 
 few : (c : After-into_iter-index-iterator) → length c.args.database.now < 2 ^ 64
-few c = few_pieces c.args.database.now c.elements-elements.result.now (2 ^ 64) c.elements-elements.ensures.pieces (omega arith)
+few c = omega (arith, c.of-text.ensures.countable, ap length c.of-text.ensures.elements)
 
 start : (c : After-into_iter-index-iterator)
     → IsChosenUpTo c.args.database.now c.in_ok-members.field-0.now.members (filter_of c.args.selection.now.by)
@@ -21,8 +22,8 @@ start c =
 passes : (c : In_ok-passes)
     → IsTrue c.in_ok-passes.field-0 ↔ Passes (filter_of c.args.selection.now.by) (elements_in c.args.database.now c.in-Some.record) (c.in-Some.index - c.in_ok-members.field-0.now.members.start)
 passes c =
-    passes_as _ _ _ _ _ _ c.in-Some.record _ c.loop-index.invariant.so_far c.in-Some.ensures.steps.0.0 c.elements-elements.result.now _ _ _
-    c.elements-elements.ensures.pieces c.loop-index.invariant.same c.in_ok-passes.ensures.passes
+    passes_as _ _ _ _ _ _ c.in-Some.record _ c.loop-index.invariant.so_far c.in-Some.ensures.steps.0.0 c.of-text.result _ _ _ _
+    c.of-text.ensures.elements c.part-fields.ensures c.loop-index.invariant.same c.in_ok-passes.ensures.passes
 
 pub loop-index-init-derived : goal.loop-index-init-derived
 loop-index-init-derived c = ((tt, tt, inl (countable _ _ _ _ _ _ (2 ^ 64) (start c) (few c))), tt)
@@ -91,8 +92,8 @@ returns-clause-selected c = (
 
 pub returns-clause-only : goal.returns-clause-only
 returns-clause-only c = λ other is.
-    sym (one_selection c.args.database.now c.args.schema.now.sets c.args.selection.now.kind (filter_of c.args.selection.now.by) (Ok c.loop-index.selected.items) other (returns-clause-selected c) is)
+    sym (one_selection c.args.database.now c.args.schema.now.sets.items c.args.selection.now.kind (filter_of c.args.selection.now.by) (Ok c.loop-index.selected.items) other (returns-clause-selected c) is)
 
 pub returns-clause-indexes : goal.returns-clause-indexes
 returns-clause-indexes c =
-    selected_are_records c.args.database.now c.args.schema.now c.args.selection.now.kind (filter_of c.args.selection.now.by) c.loop-index.selected.items c.requires (returns-clause-selected c)
+    selected_are_records c.args.database.now (described c.args.schema.now) c.args.selection.now.kind (filter_of c.args.selection.now.by) c.loop-index.selected.items c.requires (returns-clause-selected c)

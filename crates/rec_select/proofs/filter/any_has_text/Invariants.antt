@@ -6,4 +6,4 @@ use Rattle.rec_select.proofs.filter.any_has_text.Given as goal
 
 -- an element that has the text stands among those that are left
 abbrev pub invariant-loop-element : goal.invariant-loop-element
-invariant-loop-element l = Any (HasText l.text) (pieces_of l.fields) → Any (HasText l.text) (pieces_of (drop l.element-index l.fields))
+invariant-loop-element l = Any (HasText l.text) l.fields → Any (HasText l.text) (pieces_of (drop l.element-index l.element-items))

@@ -1,6 +1,6 @@
-use Rattle.std.proofs.Common.{◌^◌, arith, rules}
+use Rattle.std.proofs.Common.{ap, length, arith}
 use Rattle.rec_select.proofs.PutsLemmas.{Prints-stopped}
-use Rattle.rec_select.proofs.InfoLemmas.{first_head, head_fits, head_low, head_there, head_stopped, head_taken, heads_taken, fields_within, next_head}
+use Rattle.rec_select.proofs.InfoLemmas.{first_head, head_low, head_there, head_stopped, head_taken, heads_taken, next_head}
 use Rattle.rec_select.proofs.info.write_descriptors.Goals as goal
 
 pub loop-set-init : goal.loop-set-init
@@ -9,28 +9,27 @@ loop-set-init g c = first_head c.args.sets.now _ _ c.records-records.ensures c.r
 pub overflow_sub-head : goal.overflow_sub-head
 overflow_sub-head g c = head_low c.loop-set.invariant c.loop-set-test.true c.set-item.is _ c.in-Some.is
 
-pub elements_of-requires-clause-ordered : goal.elements_of-requires-clause-ordered
-elements_of-requires-clause-ordered g c =
+pub part-requires-clause-ordered : goal.part-requires-clause-ordered
+part-requires-clause-ordered g c =
     let next = next_head c.loop-set.invariant c.loop-set-test.true c.set-item.is _ _ _ c.records-records.ensures c.in-Some.is c.in-Some-nth.ensures.ran in
     omega (arith, next.is_record.some)
 
-pub elements_of-requires-clause-within : goal.elements_of-requires-clause-within
-elements_of-requires-clause-within g c =
+pub part-requires-clause-within : goal.part-requires-clause-within
+part-requires-clause-within g c =
     let next = next_head c.loop-set.invariant c.loop-set-test.true c.set-item.is _ _ _ c.records-records.ensures c.in-Some.is c.in-Some-nth.ensures.ran in
-    fields_within _ c.elements-elements.result.now _ c.elements-elements.ensures.pieces next.is_record
+    omega (arith, next.is_record.high, next.is_record.is_paragraph.within, ap length c.of-text.ensures.elements)
 
 pub returns-in_err-write_next_block-clause-printed :
     goal.returns-in_err-write_next_block-clause-printed
 returns-in_err-write_next_block-clause-printed g c = λ records are.
     let next = next_head c.loop-set.invariant c.loop-set-test.true c.set-item.is _ _ _ c.records-records.ensures c.in-Some.is c.in-Some-nth.ensures.ran in
     Prints-stopped c.from_residual.result c.from_residual.ensures.1
-    (head_stopped c.loop-set.invariant next _ _ c.elements_of.ensures c.elements-elements.ensures.pieces c.in_err-write_next_block.ensures.printed records c.records-records.ensures are)
+    (head_stopped c.loop-set.invariant next _ _ c.part.ensures c.of-text.ensures.elements c.in_err-write_next_block.ensures.printed records c.records-records.ensures are)
 
 pub overflow_add-passed : goal.overflow_add-passed
 overflow_add-passed g c =
     let next = next_head c.loop-set.invariant c.loop-set-test.true c.set-item.is _ _ _ c.records-records.ensures c.in-Some.is c.in-Some-nth.ensures.ran in
-    let fits = head_fits _ c.elements-elements.result.now _ (2 ^ 64) c.elements-elements.ensures.pieces next.countable (omega arith) in
-    search rules
+    omega (arith, next.countable, c.of-text.ensures.countable, ap length c.of-text.ensures.elements)
 
 pub returns-clause-printed : goal.returns-clause-printed
 returns-clause-printed g c = λ records are. heads_taken c.loop-set.invariant c.loop-set-test.false records c.records-records.ensures are
@@ -42,4 +41,4 @@ loop-set-preserved-in_default-nth g c =
 pub loop-set-preserved : goal.loop-set-preserved
 loop-set-preserved g c =
     let next = next_head c.loop-set.invariant c.loop-set-test.true c.set-item.is _ _ _ c.records-records.ensures c.in-Some.is c.in-Some-nth.ensures.ran in
-    head_taken c.loop-set.invariant next _ _ c.elements_of.ensures c.elements-elements.ensures.pieces c.in_ok-write_next_block.ensures.printed
+    head_taken c.loop-set.invariant next _ _ c.part.ensures c.of-text.ensures.elements c.in_ok-write_next_block.ensures.printed

@@ -11,7 +11,7 @@ write_blocks-requires g c =
     let pieces = c.args.database.now in
     let are = subst (AreRecords pieces) (sym c.deref.ensures.value) c.in_ok-records.ensures.records in
     record {
-      within = records_within pieces c.elements.result.now c.deref.result.now c.elements.ensures.pieces are;
+      within = records_within pieces c.of.result c.deref.result.now c.of.ensures.elements are;
       indexes = indexes_within pieces c.args.selected.now c.deref.result.now c.requires are;
     }
 
@@ -28,7 +28,7 @@ returns g c =
       | then-collapse w ↦ inl (w.if-collapse.true, ap (λ s. s.now) w.separator-is)
       | else-collapse w ↦ inr (w.if-collapse.false, ap (λ s. s.now) w.separator-is)
     ] in
-    let printed = IsPrinted-blocks pieces _ c.deref.result.now selected shape collapse separator c.elements.ensures.pieces c.in_default.not-Count is are in
+    let printed = IsPrinted-blocks pieces _ c.deref.result.now selected shape collapse separator c.of.ensures.elements c.in_default.not-Count is are in
     let answer = c.write_blocks.result in
     let prints = c.write_blocks.ensures in
     record {

@@ -13,11 +13,11 @@ returns-in_err-file-in-Show-clause-stands g c =
 
 pub returns-in_ok-file-in-Show-clause-attempts : goal.returns-in_ok-file-in-Show-clause-attempts
 returns-in_ok-file-in-Show-clause-attempts g c =
-    attempted-printed _ _ _ _ _ _ _ c.in-Show.is c.show.ensures.reply c.show.ensures.store_failed _ _ _ _ c.in_ok-file-in-Show.ensures.unchanged c.in_ok-file-in-Show.ensures.content c.as_slice.ensures c.show.ensures.printed
+    attempted-printed _ _ _ _ _ _ _ c.in-Show.is c.show.ensures.store_failed _ _ _ _ c.in_ok-file-in-Show.ensures.unchanged c.in_ok-file-in-Show.ensures.content c.as_slice.ensures c.show.ensures.printed
 
 pub returns-in_ok-file-in-Show-clause-stands : goal.returns-in_ok-file-in-Show-clause-stands
 returns-in_ok-file-in-Show-clause-stands g c =
-    λ held. stepped-printed _ _ _ _ _ _ _ c.in-Show.is c.show.ensures.reply c.show.ensures.store_failed _ _ _ _ tt c.in_ok-file-in-Show.ensures.unchanged c.in_ok-file-in-Show.ensures.content c.as_slice.ensures c.show.ensures.printed
+    λ held. stepped-printed _ _ _ _ _ _ _ c.in-Show.is c.show.ensures.store_failed _ _ _ _ tt c.in_ok-file-in-Show.ensures.unchanged c.in_ok-file-in-Show.ensures.content c.as_slice.ensures c.show.ensures.printed
 
 -- ---- record sets are printed
 
@@ -31,11 +31,29 @@ returns-in_err-file-in-Info-clause-stands g c =
 
 pub returns-in_ok-file-in-Info-clause-attempts : goal.returns-in_ok-file-in-Info-clause-attempts
 returns-in_ok-file-in-Info-clause-attempts g c =
-    attempted-printed _ _ _ _ _ _ _ c.in-Info.is c.inform.ensures.reply c.inform.ensures.store_failed _ _ _ _ c.in_ok-file-in-Info.ensures.unchanged c.in_ok-file-in-Info.ensures.content c.as_slice-in-Info.ensures c.inform.ensures.printed
+    attempted-printed _ _ _ _ _ _ _ c.in-Info.is c.inform.ensures.store_failed _ _ _ _ c.in_ok-file-in-Info.ensures.unchanged c.in_ok-file-in-Info.ensures.content c.as_slice-in-Info.ensures c.inform.ensures.printed
 
 pub returns-in_ok-file-in-Info-clause-stands : goal.returns-in_ok-file-in-Info-clause-stands
 returns-in_ok-file-in-Info-clause-stands g c =
-    λ held. stepped-printed _ _ _ _ _ _ _ c.in-Info.is c.inform.ensures.reply c.inform.ensures.store_failed _ _ _ _ tt c.in_ok-file-in-Info.ensures.unchanged c.in_ok-file-in-Info.ensures.content c.as_slice-in-Info.ensures c.inform.ensures.printed
+    λ held. stepped-printed _ _ _ _ _ _ _ c.in-Info.is c.inform.ensures.store_failed _ _ _ _ tt c.in_ok-file-in-Info.ensures.unchanged c.in_ok-file-in-Info.ensures.content c.as_slice-in-Info.ensures c.inform.ensures.printed
+
+-- ---- violations are reported
+
+pub returns-in_err-file-in-Check-clause-attempts : goal.returns-in_err-file-in-Check-clause-attempts
+returns-in_err-file-in-Check-clause-attempts g c =
+    rw (refused_with _ _ c.from_residual-in_err-file-in-Check.ensures.1) (attempted-unread _ _ _ _ _ _ c.in_err-file-in-Check.ensures.unchanged c.in_err-file-in-Check.ensures.refusals)
+
+pub returns-in_err-file-in-Check-clause-stands : goal.returns-in_err-file-in-Check-clause-stands
+returns-in_err-file-in-Check-clause-stands g c =
+    λ held. rw (refused_with _ _ c.from_residual-in_err-file-in-Check.ensures.1) (stepped-unread _ _ _ _ _ _ _ _ c.in_err-file-in-Check.ensures.unchanged c.in_err-file-in-Check.ensures.refusals c.in_err-file-in-Check.ensures.store_failed held)
+
+pub returns-in_ok-file-in-Check-clause-attempts : goal.returns-in_ok-file-in-Check-clause-attempts
+returns-in_ok-file-in-Check-clause-attempts g c =
+    attempted-printed _ _ _ _ _ _ _ c.in-Check.is c.check.ensures.store_failed _ _ _ _ c.in_ok-file-in-Check.ensures.unchanged c.in_ok-file-in-Check.ensures.content c.as_slice-in-Check.ensures c.check.ensures.printed
+
+pub returns-in_ok-file-in-Check-clause-stands : goal.returns-in_ok-file-in-Check-clause-stands
+returns-in_ok-file-in-Check-clause-stands g c =
+    λ held. stepped-printed _ _ _ _ _ _ _ c.in-Check.is c.check.ensures.store_failed _ _ _ _ tt c.in_ok-file-in-Check.ensures.unchanged c.in_ok-file-in-Check.ensures.content c.as_slice-in-Check.ensures c.check.ensures.printed
 
 -- ---- records are deleted
 

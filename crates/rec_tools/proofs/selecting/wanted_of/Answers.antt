@@ -1,5 +1,5 @@
 use Rattle.std.proofs.lemmas.Result.{err_from_is_err_and}
-use Rattle.rec_tools.proofs.PrintingLemmas.{wanted-no_shape}
+use Rattle.rec_tools.proofs.ShowLemmas.{wanted-no_shape}
 use Rattle.rec_tools.proofs.selecting.wanted_of.Goals as goal
 
 pub returns-in_err-shape-clause-refused : goal.returns-in_err-shape-clause-refused

@@ -1,3 +1,5 @@
+use Rattle.rec_check.specs.Reading.{drafted}
+use Rattle.rec_check.specs.Steps.{HaveTypes}
 use Rattle.rec_check.proofs.SchemaLemmas.{IsSchemaUpTo}
 use Rattle.rec_check.proofs.schema.Schema.read.Given as goal
 
@@ -5,5 +7,6 @@ abbrev pub invariant-loop-index : goal.invariant-loop-index
 invariant-loop-index l = record {
   can : (goal.iterator-loop-index).can_next l.index-iterator;
   finite : (goal.iterator-loop-index).is_finite l.index-iterator;
-  so_far : IsSchemaUpTo l.database l.index-iterator.count l.index-iterator.iter l.sets.items;
+  so_far : IsSchemaUpTo l.database l.index-iterator.count l.index-iterator.iter (drafted l.draft);
+  typed : HaveTypes l.draft.sets.items l.draft.types;
 }

@@ -1,11 +1,14 @@
 use Rattle.std.proofs.Common.{ap, ◌∙◌, ◌==◌, not}
-use Rattle.rec_text.specs.Places.{pieces_of}
+use Rattle.std.specs.List.{list_any}
+use Rattle.rec_text.specs.Records.{is_field_piece}
 use Rattle.rec_select.specs.Printing.{closed, value_line}
 use Rattle.rec_select.proofs.BlockLemmas.{is_nil-fields, is_nil-flat_map, is_nil-closed, is_nil-value_line}
 use Rattle.rec_select.proofs.block.Block.is_empty.Goals as goal
 
 pub returns-in-Fields : goal.returns-in-Fields
-returns-in-Fields c = rw c.in-Fields.is (ap not c.has_field.ensures ∙ is_nil-fields (pieces_of c.in-Fields.fields.now))
+returns-in-Fields c =
+    let fields = c.in-Fields.fields in
+    rw c.in-Fields.is (ap not (c.has_field.ensures ∙ ap (list_any is_field_piece) c.elements.ensures) ∙ is_nil-fields fields)
 
 pub returns-in-Elements : goal.returns-in-Elements
 returns-in-Elements c =

@@ -1,0 +1,25 @@
+-- What is answered for a type that a `%type` field writes.
+use Rattle.std.specs.Prelude.{◌≡◌, List, ℕ, Option, Some, None, Result, Ok, Err}
+use Rattle.regex.specs.declared.string.regex.Regex.{Regex}
+use Rattle.rec_sex.specs.Patterns.{IsBuiltFrom, IsRefusedPattern}
+use Rattle.rec_check.specs.declared.field_type.FieldType.{FieldType as StoredType}
+use Rattle.rec_check.specs.declared.refusal.Refusal.{Refusal}
+use Rattle.rec_check.specs.declared.refusal.Refusal.TheVariants.{Bad, Unsupported, Pattern, OutOfMemory}
+use Rattle.rec_check.specs.Stored.{type_stored}
+use Rattle.rec_check.specs.Types.{FieldType, matching, IsBuilt}
+
+-- the type that is written, with its pattern built; a refusal where none is, or where its pattern is refused
+abbrev pub IsTypeOf : Option (FieldType (List ℕ)) → Result StoredType Refusal → Type 0
+IsTypeOf written (Ok type_) = (one : FieldType (List ℕ)) × (written ≡ Some one) × IsBuilt one (type_stored type_)
+IsTypeOf written (Err Bad) = written ≡ None
+IsTypeOf written (Err Unsupported) = ⊥
+IsTypeOf written (Err Pattern) = (pattern : List ℕ) × (written ≡ Some (matching pattern)) × IsRefusedPattern pattern
+IsTypeOf written (Err OutOfMemory) = Unit {0}
+
+-- the pattern that is built of a text, or a refusal of that
+abbrev pub IsPatternFor : List ℕ → Result Regex Refusal → Type 0
+IsPatternFor text (Ok pattern) = IsBuiltFrom text pattern
+IsPatternFor text (Err Bad) = ⊥
+IsPatternFor text (Err Unsupported) = ⊥
+IsPatternFor text (Err Pattern) = IsRefusedPattern text
+IsPatternFor text (Err OutOfMemory) = Unit {0}

@@ -1,0 +1,30 @@
+-- The rules of a set, ready for one record more.
+use Rattle.std.specs.Prelude.{◌≡◌, ℕ, List}
+use Rattle.rec_text.specs.Elements.{Piece}
+use Rattle.rec_check.specs.declared.checker.Checker.{Checker}
+use Rattle.rec_check.specs.declared.limit.Limit.{Limit}
+use Rattle.rec_check.specs.declared.limit.Limit.TheVariants.{Present, Absent, Single}
+use Rattle.rec_check.specs.declared.limit.Limited.{Limited}
+use Rattle.rec_check.specs.Checks.{texts}
+use Rattle.rec_check.specs.Constraints.{terms_in}
+use Rattle.rec_check.specs.Keys.{IsAfter}
+use Rattle.rec_check.specs.Names.{allows}
+use Rattle.rec_check.specs.Rules.{Rules}
+use Rattle.rec_check.specs.Tests.{type_in}
+use Rattle.rec_check.specs.Types.{type_for}
+use Rattle.rec_check.specs.Violations.{is_allowed}
+use Rattle.rec_check.specs.Words.{distinct}
+
+abbrev pub IsLimit : Limit → List (List ℕ) → Limited → Type 0
+IsLimit limit names limited = (limited.limit ≡ limit) × (texts limited.names.items ≡ distinct names)
+
+-- these are the rules, and these records came before
+pub record IsReady (rules : Rules) (earlier : List (List Piece)) (checker : Checker) : Type 0 where
+  pub key : checker.key.name.now ≡ rules.key
+  pub after : IsAfter checker.key earlier
+  pub mandatory : IsLimit Present rules.mandatory checker.mandatory
+  pub prohibited : IsLimit Absent rules.prohibited checker.prohibited
+  pub unique : IsLimit Single rules.unique checker.unique
+  pub allowed : (name : List ℕ) → allows checker.allowed name ≡ is_allowed rules name
+  pub types : (name : List ℕ) → type_in checker.types name ≡ type_for rules.types name
+  pub constraints : terms_in checker.constraints ≡ rules.constraints

@@ -1,0 +1,78 @@
+-- What a descriptor asks of the records of its set.
+use Rattle.std.specs.Prelude.{◌≡◌, ℕ, List, [], codes, flat_map, slice_get, Option, Some, None, option_and_then, if◌then◌else◌}
+use Rattle.std.specs.List.{AllZip, list_any}
+use Rattle.regex.specs.Patterns.{Re, SameCaptures}
+use Rattle.rec_text.specs.Elements.{Piece}
+use Rattle.rec_sex.specs.Expressions.{IsExpression, AreSame}
+use Rattle.rec_sex.specs.Grammar.{Term}
+use Rattle.rec_sex.specs.Meaning.{values_of}
+use Rattle.rec_check.specs.declared.special.Bound.{Bound}
+use Rattle.rec_check.specs.Descriptors.{is_named, bound_in}
+use Rattle.rec_check.specs.Types.{FieldType, matching, Typing, IsTyping}
+use Rattle.rec_check.specs.Words.{words}
+
+-- The key; the names of fields that each record has, has none of, has at most one of; where they are limited, the names
+-- that are allowed beside the key and these; the names of counters; the types; how many records there are; and the
+-- expressions that select each record.
+pub record Rules : Type 0 where
+  pub key : Option (List ℕ)
+  pub mandatory : List (List ℕ)
+  pub prohibited : List (List ℕ)
+  pub unique : List (List ℕ)
+  pub allowed : Option (List (List ℕ))
+  pub automatic : List (List ℕ)
+  pub types : List (Typing Re)
+  pub size : Option Bound
+  pub constraints : List Term
+
+-- nothing is asked
+abbrev pub no_rules : Rules
+no_rules = record {
+  key = None;
+  mandatory = [];
+  prohibited = [];
+  unique = [];
+  allowed = None;
+  automatic = [];
+  types = [];
+  size = None;
+  constraints = [];
+}
+
+-- the words of all fields of a name: lists add up
+abbrev pub names_in : List ℕ → List Piece → List (List ℕ)
+names_in name fields = flat_map words (values_of name fields)
+
+-- the rules of a descriptor with these elements, none of which is faulty
+pub record AreRules (fields : List Piece) (rules : Rules) : Type 0 where
+  pub key : rules.key ≡ slice_get (names_in (codes "%key") fields) 0
+  pub mandatory : rules.mandatory ≡ names_in (codes "%mandatory") fields
+  pub prohibited : rules.prohibited ≡ names_in (codes "%prohibit") fields
+  pub unique : rules.unique ≡ names_in (codes "%unique") fields
+  pub allowed : rules.allowed ≡ (if list_any (is_named (codes "%allowed")) fields then Some (names_in (codes "%allowed") fields) else None)
+  pub automatic : rules.automatic ≡ names_in (codes "%auto") fields
+  pub types : AllZip IsTyping (values_of (codes "%type") fields) rules.types
+  pub size : rules.size ≡ option_and_then bound_in (slice_get (values_of (codes "%size") fields) 0)
+  pub constraints : AllZip IsExpression (values_of (codes "%constraint") fields) rules.constraints
+
+-- ---- rules that are the same
+
+-- the same type; `regex` may build a pattern in more ways than one, and they give the same matches
+abbrev pub AreSameTypes : FieldType Re → FieldType Re → Type 0
+AreSameTypes (matching pattern) (matching other) = SameCaptures pattern other
+AreSameTypes one other = one ≡ other
+
+abbrev pub AreSameTypings : Typing Re → Typing Re → Type 0
+AreSameTypings one other = (one.names ≡ other.names) × AreSameTypes one.type_ other.type_
+
+-- the same rules, up to patterns that give the same matches
+pub record AreSameRules (one other : Rules) : Type 0 where
+  pub key : one.key ≡ other.key
+  pub mandatory : one.mandatory ≡ other.mandatory
+  pub prohibited : one.prohibited ≡ other.prohibited
+  pub unique : one.unique ≡ other.unique
+  pub allowed : one.allowed ≡ other.allowed
+  pub automatic : one.automatic ≡ other.automatic
+  pub types : AllZip AreSameTypings one.types other.types
+  pub size : one.size ≡ other.size
+  pub constraints : AllZip AreSame one.constraints other.constraints

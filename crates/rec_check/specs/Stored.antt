@@ -1,0 +1,59 @@
+-- A schema in memory, and what it stands for.
+use Rattle.std.specs.Prelude.{ℕ, List, map, option_map}
+use Rattle.regex.specs.Patterns.{Re}
+use Rattle.regex.specs.Strings.{regex_pattern}
+use Rattle.rec_text.specs.declared.fault.Fault.{Fault}
+use Rattle.rec_text.specs.declared.fault.Fault.TheVariants.{OutOfMemory, BadDescriptor, Unsupported, BadPattern}
+use Rattle.rec_sex.specs.Expressions.{term_of}
+use Rattle.rec_check.specs.declared.refusal.Refusal.{Refusal}
+use Rattle.rec_check.specs.declared.refusal.Refusal.TheVariants.{Bad, Unsupported as NotSupported, Pattern, OutOfMemory as NoMemory}
+use Rattle.rec_check.specs.declared.field_type.FieldType.{FieldType as StoredType}
+use Rattle.rec_check.specs.declared.field_type.FieldType.TheVariants.{Integer, Range, Line, Size, Truth, OneOf, Matching, Unchecked}
+use Rattle.rec_check.specs.declared.field_type.Typing.{Typing as StoredTyping}
+use Rattle.rec_check.specs.declared.rules.Rules.{Rules as StoredRules}
+use Rattle.rec_check.specs.declared.tested.Tested.{Tested}
+use Rattle.rec_check.specs.declared.schema.Schema.{Schema}
+use Rattle.rec_check.specs.Rules.{Rules}
+use Rattle.rec_check.specs.Schemas.{Described}
+use Rattle.rec_check.specs.Types.{FieldType, integer, range, line, size, truth, one_of, matching, unchecked, Typing}
+
+abbrev pub type_stored : StoredType → FieldType Re
+type_stored Integer = integer
+type_stored (Range least greatest) = range least greatest
+type_stored Line = line
+type_stored (Size most) = size most
+type_stored Truth = truth
+type_stored (OneOf items) = one_of items.items
+type_stored (Matching pattern) = matching (regex_pattern pattern)
+type_stored Unchecked = unchecked
+
+abbrev pub typing_stored : StoredTyping → Typing Re
+typing_stored typing = record { names = typing.names.items; type_ = type_stored typing.type_ }
+
+abbrev pub rules_stored : StoredRules → Rules
+rules_stored rules = record {
+  key = rules.key;
+  mandatory = rules.mandatory.items;
+  prohibited = rules.prohibited.items;
+  unique = rules.unique.items;
+  allowed = option_map (λ names. names.items) rules.allowed;
+  automatic = rules.automatic.items;
+  types = map typing_stored rules.types.items;
+  size = rules.size;
+  constraints = map term_of rules.constraints.items;
+}
+
+-- the sets and the rules of a schema
+abbrev pub described : Schema → Described
+described schema = record { sets = schema.sets.items; rules = map rules_stored schema.rules.items }
+
+-- the type that a value is tested by
+abbrev pub tested : Tested → FieldType Re
+tested test = type_stored test.type_.now
+
+-- the fault of a field that begins at a line
+abbrev pub fault_of : Refusal → ℕ → Fault
+fault_of Bad at = BadDescriptor at
+fault_of NotSupported at = Unsupported at
+fault_of Pattern at = BadPattern
+fault_of NoMemory at = OutOfMemory

@@ -1,0 +1,183 @@
+-- Types of fields: how a descriptor writes them, and which values fit them.
+use Rattle.std.specs.Prelude.{◌≡◌, ℕ, ℤ, pos, negsuc, ◌-◌, ◌^◌, Bool, true, false, ◌==◌, ◌||◌, ◌&&◌, not, nat_le, int_lt, List, [], ◌∷◌, length, drop, take, count_by, codes, slice_get, Option, Some, None, is_some, option_map, option_and_then, if◌then◌else◌}
+use Rattle.std.specs.List.{list_all, list_any, slice_split}
+use Rattle.std.specs.Option.{option_map_or}
+use Rattle.std.specs.Str.{bytes_eq, is_utf8}
+use Rattle.regex.specs.Patterns.{Re}
+use Rattle.rec_text.specs.Bytes.{is_letter, is_nil}
+use Rattle.rec_text.specs.Canonical.{is_field_name}
+use Rattle.rec_sex.specs.Grammar.{IsPatternOf}
+use Rattle.rec_sex.specs.Integers.{int_of, trimmed}
+use Rattle.rec_sex.specs.Meaning.{is_found}
+use Rattle.rec_sex.specs.Patterns.{IsRefusedPattern}
+use Rattle.rec_check.specs.Words.{words, stripped, behind_first_word, is_among}
+
+-- ---- types
+
+-- A type. Its pattern, where it has one, is a P: the text of the pattern, or what `regex` builds of that.
+pub data FieldType (P : Type 0) : Type 0 where
+  integer : FieldType P
+  range : ℤ → ℤ → FieldType P
+  line : FieldType P
+  size : ℕ → FieldType P
+  truth : FieldType P
+  one_of : List (List ℕ) → FieldType P
+  matching : P → FieldType P
+  unchecked : FieldType P
+
+-- the words of `bool`
+abbrev pub truths : List (List ℕ)
+truths = codes "yes" ∷ codes "no" ∷ codes "0" ∷ codes "1" ∷ codes "true" ∷ codes "false" ∷ []
+
+-- a byte that goes on with a character of UTF-8
+abbrev pub is_continuation : ℕ → Bool
+is_continuation b = nat_le 128 b && nat_le b 191
+
+-- so many characters, where the text is UTF-8
+abbrev pub characters : List ℕ → ℕ
+characters text = count_by (λ b. not (is_continuation b)) text
+
+-- the integer lies between these two, ends included
+abbrev pub lies_between : ℤ → ℤ → ℤ → Bool
+lies_between least greatest z = not (int_lt z least) && not (int_lt greatest z)
+
+-- the value fits the type
+abbrev pub fits : FieldType Re → List ℕ → Bool
+fits integer value = is_some (int_of value)
+fits (range least greatest) value = option_map_or (lies_between least greatest) (int_of value) false
+fits line value = not (list_any (λ b. b == 10) value)
+fits (size most) value = nat_le (characters value) most
+fits truth value = is_among truths (trimmed value)
+fits (one_of items) value = is_among items (trimmed value)
+fits (matching pattern) value = is_found pattern value
+fits unchecked value = true
+
+-- ---- how a type is written
+
+-- an integer that isn't negative
+abbrev pub natural_of : List ℕ → Option ℕ
+natural_of text = option_and_then (λ z. elim z [ pos n ↦ Some n | negsuc n ↦ None ]) (int_of text)
+
+-- `int`, `line` and `bool` have no words of their own
+abbrev pub alone : List (List ℕ) → FieldType (List ℕ) → Option (FieldType (List ℕ))
+alone [] type_ = Some type_
+alone (word ∷ more) type_ = None
+
+-- the end of a range: an integer, or MIN or MAX for the ends of 64 bits
+abbrev pub bound_of : List ℕ → Option ℤ
+bound_of word = if bytes_eq word (codes "MIN") then Some (negsuc (2 ^ 63 - 1))
+    else if bytes_eq word (codes "MAX") then Some (pos (2 ^ 63 - 1))
+    else int_of word
+
+-- MAX, or MIN MAX; with one word the least is 0
+abbrev pub range_of : List (List ℕ) → Option (FieldType (List ℕ))
+range_of (high ∷ []) = option_map (λ greatest. range (pos 0) greatest) (bound_of high)
+range_of (low ∷ high ∷ []) = option_and_then (λ least. option_map (λ greatest. range least greatest) (bound_of high)) (bound_of low)
+range_of _ = None
+
+abbrev pub size_type_of : List (List ℕ) → Option (FieldType (List ℕ))
+size_type_of (number ∷ []) = option_map (λ most. size most) (natural_of number)
+size_type_of _ = None
+
+-- a letter or a digit; and with `_` or `-` too
+abbrev pub is_alphanumeric : ℕ → Bool
+is_alphanumeric b = is_letter b || (nat_le 48 b && nat_le b 57)
+
+abbrev pub continues_item : ℕ → Bool
+continues_item b = is_alphanumeric b || b == 95 || b == 45
+
+-- a word of an `enum`
+abbrev pub is_item : List ℕ → Bool
+is_item [] = false
+is_item (b ∷ bs) = is_alphanumeric b && list_all continues_item bs
+
+-- a blank in the place of each comment: `(` up to the next `)`; nothing where one stays open
+abbrev mutual
+  pub without_comments : List ℕ → Option (List ℕ)
+  without_comments [] = Some []
+  without_comments (b ∷ bs) = if b == 40 then behind_comment bs else option_map (λ rest. b ∷ rest) (without_comments bs)
+
+  pub behind_comment : List ℕ → Option (List ℕ)
+  behind_comment [] = None
+  behind_comment (b ∷ bs) = if b == 41 then option_map (λ rest. 32 ∷ rest) (without_comments bs) else behind_comment bs
+
+-- one or more words
+abbrev pub enum_of : List (List ℕ) → Option (FieldType (List ℕ))
+enum_of [] = None
+enum_of (item ∷ items) = if list_all is_item (item ∷ items) then Some (one_of (item ∷ items)) else None
+
+-- the pattern stands between two equal bytes
+abbrev pub between : ℕ → List ℕ → Option (List ℕ)
+between delimiter [] = None
+between delimiter (b ∷ []) = if b == delimiter then Some [] else None
+between delimiter (b ∷ c ∷ bs) = option_map (λ rest. b ∷ rest) (between delimiter (c ∷ bs))
+
+abbrev pub pattern_in : List ℕ → Option (List ℕ)
+pattern_in [] = None
+pattern_in (delimiter ∷ bs) = between delimiter bs
+
+abbrev pub regexp_of : List ℕ → Option (FieldType (List ℕ))
+regexp_of text = option_and_then (λ pattern. if is_utf8 pattern then Some (matching pattern) else None) (pattern_in (stripped text))
+
+-- the type of a kind, with what stands behind the kind; nothing where that isn't right. Values of any other kind aren't checked.
+abbrev pub type_of_kind : List ℕ → List ℕ → Option (FieldType (List ℕ))
+type_of_kind kind behind =
+    if bytes_eq kind (codes "int") then alone (words behind) integer
+    else if bytes_eq kind (codes "range") then range_of (words behind)
+    else if bytes_eq kind (codes "line") then alone (words behind) line
+    else if bytes_eq kind (codes "size") then size_type_of (words behind)
+    else if bytes_eq kind (codes "bool") then alone (words behind) truth
+    else if bytes_eq kind (codes "enum") then option_and_then (λ text. enum_of (words text)) (without_comments behind)
+    else if bytes_eq kind (codes "regexp") then regexp_of behind
+    else Some unchecked
+
+-- ---- fields with a type
+
+-- the names of some fields, and their type
+pub record Typing (P : Type 0) : Type 0 where
+  pub names : List (List ℕ)
+  pub type_ : FieldType P
+
+-- the names, joined by commas
+abbrev pub names_of : List ℕ → Option (List (List ℕ))
+names_of word = let names : List (List ℕ) = slice_split (λ b. b == 44) word in if list_all is_field_name names then Some names else None
+
+-- what a `%type` field says: names, a kind, and the words of the kind; nothing where it doesn't say so
+abbrev pub typing_of : List ℕ → Option (Typing (List ℕ))
+typing_of value = elim (words value) [
+  | [] ↦ None
+  | names ∷ more ↦ elim more [
+    | [] ↦ None
+    | kind ∷ rest ↦ option_and_then
+        (λ names. option_map (λ type_. record { names = names; type_ = type_ }) (type_of_kind kind (behind_first_word (behind_first_word value))))
+        (names_of names)
+  ]
+]
+
+-- the same type, with the pattern that `regex` builds of its text
+abbrev pub IsBuilt : FieldType (List ℕ) → FieldType Re → Type 0
+IsBuilt (matching text) (matching pattern) = IsPatternOf text pattern
+IsBuilt (matching text) _ = ⊥
+IsBuilt integer built = built ≡ integer
+IsBuilt (range least greatest) built = built ≡ range least greatest
+IsBuilt line built = built ≡ line
+IsBuilt (size most) built = built ≡ size most
+IsBuilt truth built = built ≡ truth
+IsBuilt (one_of items) built = built ≡ one_of items
+IsBuilt unchecked built = built ≡ unchecked
+
+-- what a `%type` field says, with the pattern that is built of it
+abbrev pub IsTyping : List ℕ → Typing Re → Type 0
+IsTyping value typing = (written : FieldType (List ℕ)) × (typing_of value ≡ Some (record { names = typing.names; type_ = written })) × IsBuilt written typing.type_
+
+-- of two types of one field the later holds
+abbrev pub type_for : List (Typing Re) → List ℕ → Option (FieldType Re)
+type_for [] name = None
+type_for (typing ∷ later) name = elim (type_for later name) [
+  | Some type_ ↦ Some type_
+  | None ↦ if is_among typing.names name then Some typing.type_ else None
+]
+
+-- the type that a `%type` field gives has a pattern that `regex` may refuse, for another cause than memory
+abbrev pub HasRefusedType : List ℕ → Type 0
+HasRefusedType value = (names : List (List ℕ)) × (pattern : List ℕ) × (typing_of value ≡ Some (record { names = names; type_ = matching pattern })) × IsRefusedPattern pattern

@@ -1,0 +1,146 @@
+-- Where a text breaks the rules of its record sets, in the order of the report.
+use Rattle.std.specs.Prelude.{◌≡◌, ◌⊎◌, ℕ, ◌+◌, ◌-◌, ◌==◌, Bool, true, false, ◌&&◌, not, nat_le, List, [], ◌∷◌, ◌++◌, length, map, filter, filter_map, take, drop, decimal, Option, Some, None, unwrap_or, option_to_list, option_and_then, slice_get, Ok, if◌then◌else◌}
+use Rattle.std.specs.List.{list_any, enumerate_from}
+use Rattle.std.specs.Option.{option_map_or}
+use Rattle.std.specs.Str.{bytes_eq}
+use Rattle.std.specs.declared.ops.Range.{Range}
+use Rattle.rec_text.specs.declared.violations.Rule.{Rule}
+use Rattle.rec_text.specs.declared.violations.Rule.TheVariants.{Size, Key, Mandatory, Prohibit, Unique, Allowed, Fit, Constraint}
+use Rattle.rec_text.specs.declared.violations.Violation.{Violation}
+use Rattle.rec_text.specs.Elements.{Piece, text_of, name_of}
+use Rattle.rec_text.specs.Reading.{line_after}
+use Rattle.rec_text.specs.Records.{AreRecords, is_field_piece}
+use Rattle.rec_text.specs.Values.{value_of}
+use Rattle.rec_sex.specs.Grammar.{Term}
+use Rattle.rec_sex.specs.Meaning.{values_of, Selects}
+use Rattle.rec_check.specs.declared.set.Set_.{Set_}
+use Rattle.rec_check.specs.Descriptors.{elements_in, meets}
+use Rattle.rec_check.specs.Rules.{Rules}
+use Rattle.rec_check.specs.Schemas.{Described, IsSchema}
+use Rattle.rec_check.specs.Types.{fits, type_for}
+use Rattle.rec_check.specs.Words.{is_among, distinct}
+
+-- the line at which the element of an index begins
+abbrev pub line_at : List Piece → ℕ → ℕ
+line_at pieces i = line_after (text_of (take i pieces))
+
+abbrev pub violation : ℕ → Rule → List ℕ → Violation
+violation line rule name = record { line = line; rule = rule; name = name }
+
+abbrev pub violations_of : ℕ → Rule → List (List ℕ) → List Violation
+violations_of line rule names = map (violation line rule) names
+
+-- ---- one record: its elements are `fields`, and it begins at `line`
+
+-- how many fields have the name
+abbrev pub occurrences : List Piece → List ℕ → ℕ
+occurrences fields name = length (values_of name fields)
+
+-- the only one
+abbrev pub only : List (List ℕ) → Option (List ℕ)
+only (value ∷ []) = Some value
+only _ = None
+
+-- the key of a record: the value of the only field of that name
+abbrev pub key_of : List ℕ → List Piece → Option (List ℕ)
+key_of name fields = only (values_of name fields)
+
+-- one of the earlier records of the set has this key
+abbrev pub is_taken : List ℕ → List (List Piece) → List ℕ → Bool
+is_taken name earlier value = list_any (λ fields. option_map_or (bytes_eq value) (key_of name fields) false) earlier
+
+-- the record has not exactly one key field, or its key is taken
+abbrev pub breaks_key : List (List Piece) → List Piece → List ℕ → Bool
+breaks_key earlier fields name = option_map_or (is_taken name earlier) (key_of name fields) true
+
+abbrev pub key_violations : Rules → ℕ → List (List Piece) → List Piece → List Violation
+key_violations rules line earlier fields = violations_of line Key (filter (breaks_key earlier fields) (option_to_list rules.key))
+
+abbrev pub mandatory_violations : Rules → ℕ → List Piece → List Violation
+mandatory_violations rules line fields = violations_of line Mandatory (filter (λ name. occurrences fields name == 0) (distinct rules.mandatory))
+
+abbrev pub prohibit_violations : Rules → ℕ → List Piece → List Violation
+prohibit_violations rules line fields = violations_of line Prohibit (filter (λ name. nat_le 1 (occurrences fields name)) (distinct rules.prohibited))
+
+abbrev pub unique_violations : Rules → ℕ → List Piece → List Violation
+unique_violations rules line fields = violations_of line Unique (filter (λ name. nat_le 2 (occurrences fields name)) (distinct rules.unique))
+
+-- the names of the fields
+abbrev pub names_of : List Piece → List (List ℕ)
+names_of fields = map name_of (filter is_field_piece fields)
+
+-- where names are limited, the name may occur
+abbrev pub is_allowed : Rules → List ℕ → Bool
+is_allowed rules name = option_map_or (λ names. is_among (names ++ (rules.mandatory ++ option_to_list rules.key)) name) rules.allowed true
+
+abbrev pub allowed_violations : Rules → ℕ → List Piece → List Violation
+allowed_violations rules line fields = violations_of line Allowed (filter (λ name. not (is_allowed rules name)) (distinct (names_of fields)))
+
+-- the field has a type, and its value doesn't fit that
+abbrev pub breaks_type : Rules → Piece → Bool
+breaks_type rules piece = is_field_piece piece && option_map_or (λ type_. not (fits type_ (value_of piece))) (type_for rules.types (name_of piece)) false
+
+-- each at the line of its own field
+abbrev pub type_violations : List Piece → Rules → Range ℕ → List Violation
+type_violations pieces rules record_ = filter_map
+    (λ (i, piece). if breaks_type rules piece then Some (violation (line_at pieces i) Fit (name_of piece)) else None)
+    (enumerate_from record_.start (elements_in pieces record_))
+
+-- those of the constraints, which are counted from this number on, that don't select the record
+abbrev pub AreUnselected : ℕ → ℕ → List Term → List Piece → List Violation → Type 0
+AreUnselected line number [] fields found = found ≡ []
+AreUnselected line number (term ∷ terms) fields found =
+    (Selects term fields × AreUnselected line (number + 1) terms fields found)
+    ⊎ (¬ Selects term fields × ((rest : List Violation) × (found ≡ violation line Constraint (decimal number) ∷ rest) × AreUnselected line (number + 1) terms fields rest))
+
+-- all of a record, behind these records of its set
+pub record AreOfRecord (pieces : List Piece) (rules : Rules) (earlier : List (List Piece)) (record_ : Range ℕ) (found : List Violation) : Type 0 where
+  pub unselected : List Violation
+  pub are : AreUnselected (line_at pieces record_.start) 1 rules.constraints (elements_in pieces record_) unselected
+  pub joined : let fields : List Piece = elements_in pieces record_ in let line : ℕ = line_at pieces record_.start in
+      found ≡ key_violations rules line earlier fields ++ (mandatory_violations rules line fields ++ (prohibit_violations rules line fields
+      ++ (unique_violations rules line fields ++ (allowed_violations rules line fields ++ (type_violations pieces rules record_ ++ unselected)))))
+
+-- ---- record sets
+
+-- record by record, behind these
+abbrev pub AreOfRecords : List Piece → Rules → List (List Piece) → List (Range ℕ) → List Violation → Type 0
+AreOfRecords pieces rules earlier [] found = found ≡ []
+AreOfRecords pieces rules earlier (record_ ∷ records) found = (own rest : List Violation) × AreOfRecord pieces rules earlier record_ own
+    × AreOfRecords pieces rules (earlier ++ elements_in pieces record_ ∷ []) records rest × (found ≡ own ++ rest)
+
+-- the members of a set
+abbrev pub members : List (Range ℕ) → Set_ → List (Range ℕ)
+members records s = take (s.members.end - s.members.start) (drop s.members.start records)
+
+-- the line at which the descriptor of a set begins
+abbrev pub head_line : List Piece → List (Range ℕ) → Set_ → ℕ
+head_line pieces records s = option_map_or (λ record_. line_at pieces record_.start) (option_and_then (slice_get records) s.head) 0
+
+-- the number of records isn't as the descriptor asks
+abbrev pub breaks_size : Rules → Set_ → Bool
+breaks_size rules s = option_map_or (λ bound. not (meets bound (s.members.end - s.members.start))) rules.size false
+
+abbrev pub size_violations : List Piece → List (Range ℕ) → Rules → Set_ → List Violation
+size_violations pieces records rules s = if breaks_size rules s then violation (head_line pieces records s) Size (unwrap_or s.kind []) ∷ [] else []
+
+-- all of a set: its size, and then record by record
+abbrev pub AreOfSet : List Piece → List (Range ℕ) → Set_ → Rules → List Violation → Type 0
+AreOfSet pieces records s rules found = (rest : List Violation) × AreOfRecords pieces rules [] (members records s) rest
+    × (found ≡ size_violations pieces records rules s ++ rest)
+
+-- set by set
+abbrev pub AreOfSets : List Piece → List (Range ℕ) → List Set_ → List Rules → List Violation → Type 0
+AreOfSets pieces records [] [] found = found ≡ []
+AreOfSets pieces records (s ∷ sets) (rules ∷ more) found = (own rest : List Violation) × AreOfSet pieces records s rules own
+    × AreOfSets pieces records sets more rest × (found ≡ own ++ rest)
+AreOfSets pieces records _ _ found = ⊥
+
+-- the violations of a text with this schema
+abbrev pub AreViolations : List Piece → Described → List Violation → Type 0
+AreViolations pieces schema found = (records : List (Range ℕ)) × AreRecords pieces records × AreOfSets pieces records schema.sets schema.rules found
+
+-- a text has one report, whichever way its patterns were built
+abbrev pub OneReport : Type 0
+OneReport = (pieces : List Piece) (schema same : Described) (one other : List Violation) → IsSchema pieces (Ok schema) → IsSchema pieces (Ok same)
+    → AreViolations pieces schema one → AreViolations pieces same other → one ≡ other

@@ -1,0 +1,95 @@
+//! The names that a record may have.
+ghost use Rattle.std.specs.Prelude.{◌≡◌, ◌||◌, ℕ, List, OnOk, IfErr};
+ghost use Rattle.rec_check.specs.Names.{has_name};
+ghost use Rattle.rec_check.specs.Words.{is_among};
+
+use crate::found::add_violations;
+use crate::names::is_among;
+use crate::rules::Rules;
+use rec_text::{Bytes, Element, Fault, Kind, Rule, Violation};
+use std::alloc::Global;
+use std::collections::HashSet;
+
+/// Adds names to those of a set.
+fn add_names<'n>(names: &mut HashSet<&'n [u8]>, more: &'n [Bytes]) -> Result<(), Fault>
+    ensures names { OnOk result ((name : List ℕ) → has_name names.new name ≡ (has_name names.old name || is_among more.now name)) }
+    ensures refusals { IfErr result (λ fault. fault ≡ Fault.OutOfMemory) }
+{
+    for name in more {
+        names.insert(name.as_slice())?;
+    }
+    Ok(())
+}
+
+/// The names that a record of a set may have, where they are limited.
+#[derive(Drop)]
+pub(crate) struct Allowed<'r> {
+    pub names: Option<HashSet<&'r [u8]>>,
+}
+
+impl<'r> Allowed<'r> {
+    ghost use Rattle.std.specs.Prelude.{◌≡◌, ◌++◌, ℕ, List, IfErr, IfOk, OnOk, filter, not};
+    ghost use Rattle.rec_text.specs.Places.{pieces_of};
+    ghost use Rattle.rec_check.specs.Checks.{texts};
+    ghost use Rattle.rec_check.specs.Names.{allows};
+    ghost use Rattle.rec_check.specs.Stored.{rules_stored};
+    ghost use Rattle.rec_check.specs.Violations.{is_allowed, names_of, violations_of};
+    ghost use Rattle.rec_check.specs.Words.{distinct};
+
+    pub(crate) fn of(alloc: Global, rules: &'r Rules) -> Result<Allowed<'r>, Fault>
+        ensures names { IfOk result (λ allowed. (name : List ℕ) → allows allowed name ≡ is_allowed (rules_stored rules.now) name) }
+        ensures refusals { IfErr result (λ fault. fault ≡ Fault.OutOfMemory) }
+    {
+        let Some(allowed) = &rules.allowed else {
+            return Ok(Allowed { names: None });
+        };
+        let mut names = HashSet::new(alloc);
+        add_names(&mut names, allowed)?;
+        add_names(&mut names, &rules.mandatory)?;
+        add_names(&mut names, rules.key.as_slice())?;
+        Ok(Allowed { names: Some(names) })
+    }
+
+    fn allows(&self, name: &[u8]) -> bool
+        ensures { result ≡ allows self.now name.now }
+    {
+        match &self.names {
+            Some(names) => names.contains(name),
+            None => true,
+        }
+    }
+
+    /// The names of a record's fields that aren't allowed, each once, in the order in which they first occur.
+    fn others<'t>(&self, alloc: Global, fields: &[Element<'t>]) -> Result<Vec<&'t [u8]>, Fault>
+        ensures names { IfOk result (λ names. texts names.items ≡ filter (λ name. not (allows self.now name)) (distinct (names_of (pieces_of fields.now)))) }
+        ensures refusals { IfErr result (λ fault. fault ≡ Fault.OutOfMemory) }
+    {
+        let mut names = Vec::new(alloc);
+        for field in fields {
+            let Kind::Field = field.kind else {
+                continue;
+            };
+            let name = field.name();
+            if self.allows(name) || is_among(&names, name) {
+                continue;
+            }
+            names.push(name)?;
+        }
+        Ok(names)
+    }
+
+    /// Adds a violation for each name of a record that isn't allowed.
+    pub(crate) fn check(
+        &self,
+        alloc: Global,
+        line: usize,
+        fields: &[Element],
+        found: &mut Vec<Violation>,
+    ) -> Result<(), Fault>
+        ensures added { OnOk result (found.new.items ≡ found.old.items ++ violations_of line Rule.Allowed (filter (λ name. not (allows self.now name)) (distinct (names_of (pieces_of fields.now))))) }
+        ensures refusals { IfErr result (λ fault. fault ≡ Fault.OutOfMemory) }
+    {
+        let names = self.others(alloc, fields)?;
+        add_violations(alloc, line, Rule::Allowed, &names, found)
+    }
+}

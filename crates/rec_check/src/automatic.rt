@@ -1,0 +1,151 @@
+//! Automatic values: the next number of a counter.
+ghost use Rattle.std.specs.Prelude.{◌≡◌, map, option_map, IfOk, IfErr};
+ghost use Rattle.rec_text.specs.Faults.{UnlessMemory};
+ghost use Rattle.rec_text.specs.Places.{piece_of, pieces_of};
+ghost use Rattle.rec_text.specs.Values.{value_of};
+ghost use Rattle.rec_sex.specs.Integers.{int_of};
+ghost use Rattle.rec_check.specs.Automatic.{may_count, begins_special, is_counter as may_be_counted};
+ghost use Rattle.rec_check.specs.Counting.{greater, greatest_from, readings_in, IsGreatestOf, IsBehind, IsNextOf};
+ghost use Rattle.rec_check.specs.Stored.{type_stored, typing_stored, rules_stored};
+ghost use Rattle.rec_check.specs.Types.{type_for};
+ghost use Rattle.rec_check.specs.Words.{is_among as among};
+
+use crate::field_type::{FieldType, Typing};
+use crate::rules::Rules;
+use crate::set::Set_;
+use rec_sex::int_of;
+use rec_text::{Bytes, Database, Element, Fault};
+use std::alloc::Global;
+use std::ops::Range;
+
+fn is_among(names: &[Bytes], name: &[u8]) -> bool
+    ensures { result ≡ among names.now name.now }
+{
+    names.iter().any(|own| name == own.as_slice())
+}
+
+/// The type of a field; of two typings of one field the later holds.
+fn type_for<'r>(typings: &'r [Typing], name: &[u8]) -> Option<&'r FieldType>
+    ensures { option_map (λ type_. type_stored type_.now) result ≡ type_for (map typing_stored typings.now) name.now }
+{
+    let mut found = None;
+    for typing in typings {
+        if is_among(&typing.names, name) {
+            found = Some(&typing.type_);
+        }
+    }
+    found
+}
+
+/// Whether the values of a type may be counted.
+fn may_count(type_: Option<&FieldType>) -> bool
+    ensures { result ≡ may_count (option_map (λ type_. type_stored type_.now) type_.entry) }
+{
+    match type_ {
+        None => true,
+        Some(FieldType::Integer | FieldType::Range(_, _)) => true,
+        Some(_) => false,
+    }
+}
+
+fn begins_special(name: &[u8]) -> bool
+    ensures { result ≡ begins_special name.now }
+{
+    match name {
+        [first, ..] => *first == b'%',
+        [] => false,
+    }
+}
+
+/// Whether a field may be a counter.
+fn is_counter(rules: &Rules, name: &[u8]) -> bool
+    ensures { result ≡ may_be_counted (rules_stored rules.now) name.now }
+{
+    !begins_special(name) && may_count(type_for(&rules.types, name))
+}
+
+/// The greater of a number and the greatest so far, where there is one.
+fn greater(so_far: Option<i64>, number: Option<i64>) -> Option<i64>
+    ensures { result ≡ greater so_far number }
+{
+    match (so_far, number) {
+        (Some(greatest), Some(number)) => Some(greatest.max(number)),
+        _ => so_far.or(number),
+    }
+}
+
+/// The integer that a field's value reads as, if it does.
+fn reading_of(alloc: Global, field: &Element) -> Result<Option<i64>, Fault>
+    ensures reading { IfOk result (λ reading. reading ≡ int_of (value_of (piece_of field.now))) }
+    ensures refusals { IfErr result (λ fault. fault ≡ Fault.OutOfMemory) }
+{
+    let value = field.value(alloc)?;
+    Ok(int_of(value.bytes()))
+}
+
+/// The greatest integer reading of a record's fields of a name, and of those so far.
+fn greatest_in(
+    alloc: Global,
+    fields: &[Element],
+    name: &[u8],
+    so_far: Option<i64>,
+) -> Result<Option<i64>, Fault>
+    ensures greatest { IfOk result (λ greatest. greatest ≡ greatest_from so_far (readings_in name.now (pieces_of fields.now))) }
+    ensures refusals { IfErr result (λ fault. fault ≡ Fault.OutOfMemory) }
+{
+    let mut greatest = so_far;
+    for field in fields {
+        if field.name() == name {
+            greatest = greater(greatest, reading_of(alloc, field)?);
+        }
+    }
+    Ok(greatest)
+}
+
+/// The greatest integer reading of the fields of a name in the records of these indexes.
+fn greatest_of(
+    alloc: Global,
+    database: &Database,
+    members: &Range<usize>,
+    name: &[u8],
+) -> Result<Option<i64>, Fault>
+    ensures greatest { IfOk result (λ greatest. IsGreatestOf database.now members.now name.now greatest) }
+    ensures refusals { IfErr result (λ fault. fault ≡ Fault.OutOfMemory) }
+{
+    let elements = database.elements();
+    let mut greatest = None;
+    for (index, record) in database.records().enumerate().take(members.end) {
+        if index >= members.start {
+            let fields = &elements[record];
+            greatest = greatest_in(alloc, fields, name, greatest)?;
+        }
+    }
+    Ok(greatest)
+}
+
+/// The number behind the greatest.
+fn behind(greatest: Option<i64>) -> Result<i64, Fault>
+    ensures { IsBehind greatest result }
+{
+    match greatest {
+        None => Ok(0),
+        Some(i64::MAX) => Err(Fault::AutoImpossible),
+        Some(greatest) => Ok(greatest + 1),
+    }
+}
+
+/// The next value of a counter in a set with these rules.
+pub(crate) fn next_value(
+    alloc: Global,
+    database: &Database,
+    set: &Set_,
+    rules: &Rules,
+    name: &[u8],
+) -> Result<i64, Fault>
+    ensures { UnlessMemory result (IsNextOf database.now set.now (rules_stored rules.now) name.now) }
+{
+    if !is_counter(rules, name) {
+        return Err(Fault::AutoImpossible);
+    }
+    behind(greatest_of(alloc, database, &set.members, name)?)
+}

@@ -1,0 +1,93 @@
+//! Tries the rules of a set on its records.
+ghost use Rattle.std.specs.Prelude.{◌≡◌, ◌≤◌, length};
+ghost use Rattle.rec_text.specs.Places.{pieces_of};
+ghost use Rattle.rec_check.specs.Descriptors.{elements_in};
+
+use crate::allowed::Allowed;
+use crate::constraints::Constraints;
+use crate::key::Key;
+use crate::limit::{Limit, Limited};
+use crate::lines::Lines;
+use crate::rules::Rules;
+use crate::types::Types;
+use rec_text::{Element, Fault, Violation};
+use std::alloc::Global;
+use std::ops::Range;
+
+/// The elements of a record.
+pub(crate) fn elements_of<'d, 't>(
+    elements: &'d [Element<'t>],
+    range: &Range<usize>,
+) -> &'d [Element<'t>]
+    requires ordered { range.now.start ≤ range.now.end }
+    requires within { range.now.end ≤ length elements.now }
+    ensures { pieces_of result.now ≡ elements_in (pieces_of elements.now) range.now }
+{
+    &elements[range.start..range.end]
+}
+
+/// The rules of a set, ready to be tried on its records one after another.
+#[derive(Drop)]
+pub(crate) struct Checker<'r, 't> {
+    pub key: Key<'r, 't>,
+    pub mandatory: Limited<'r>,
+    pub prohibited: Limited<'r>,
+    pub unique: Limited<'r>,
+    pub allowed: Allowed<'r>,
+    pub types: Types<'r>,
+    pub constraints: Constraints<'r>,
+}
+
+impl<'r, 't> Checker<'r, 't> {
+    ghost use Rattle.std.specs.Prelude.{◌≡◌, ◌++◌, ◌∷◌, [], ◌<◌, ◌≤◌, List, length, IfErr, IfOk, OnOk};
+    ghost use Rattle.rec_text.specs.Elements.{Piece};
+    ghost use Rattle.rec_text.specs.Places.{pieces_of};
+    ghost use Rattle.rec_check.specs.Descriptors.{elements_in};
+    ghost use Rattle.rec_check.specs.Rules.{Rules as Asked};
+    ghost use Rattle.rec_check.specs.Checks.{AddsOfRecord};
+    ghost use Rattle.rec_check.specs.Ready.{IsReady};
+    ghost use Rattle.rec_check.specs.Stored.{rules_stored};
+
+    pub(crate) fn of(alloc: Global, rules: &'r Rules) -> Result<Checker<'r, 't>, Fault>
+        ensures ready { IfOk result (λ checker. IsReady (rules_stored rules.now) [] checker) }
+        ensures refusals { IfErr result (λ fault. fault ≡ Fault.OutOfMemory) }
+    {
+        Ok(Checker {
+            key: Key::of(alloc, &rules.key),
+            mandatory: Limited::of(alloc, Limit::Present, &rules.mandatory)?,
+            prohibited: Limited::of(alloc, Limit::Absent, &rules.prohibited)?,
+            unique: Limited::of(alloc, Limit::Single, &rules.unique)?,
+            allowed: Allowed::of(alloc, rules)?,
+            types: Types::of(alloc, &rules.types)?,
+            constraints: Constraints::of(alloc, &rules.constraints)?,
+        })
+    }
+
+    /// Adds the violations of the next record of the set.
+    pub(crate) fn check(
+        &mut self,
+        alloc: Global,
+        lines: &mut Lines<'_, 't>,
+        range: &Range<usize>,
+        found: &mut Vec<Violation>,
+    ) -> Result<(), Fault>
+        requires forward { lines.old.passed ≤ range.now.start }
+        requires some { range.now.start < range.now.end }
+        requires within { range.now.end ≤ length lines.old.elements.now }
+        ensures added { (rules : Asked) (earlier : List (List Piece)) → IsReady rules earlier self.old → OnOk result (AddsOfRecord (pieces_of lines.old.elements.now) rules earlier range.now found.old.items found.new.items) }
+        ensures ready { (rules : Asked) (earlier : List (List Piece)) → IsReady rules earlier self.old → OnOk result (IsReady rules (earlier ++ elements_in (pieces_of lines.old.elements.now) range.now ∷ []) self.new) }
+        ensures passed { OnOk result (lines.new.passed ≤ range.now.end) }
+        ensures elements { OnOk result (lines.new.elements.now ≡ lines.old.elements.now) }
+        ensures refusals { IfErr result (λ fault. fault ≡ Fault.OutOfMemory) }
+    {
+        let line = lines.line_of(range.start);
+        let fields = elements_of(lines.elements(), range);
+        self.key.check(alloc, line, fields, found)?;
+        self.mandatory.check(alloc, line, fields, found)?;
+        self.prohibited.check(alloc, line, fields, found)?;
+        self.unique.check(alloc, line, fields, found)?;
+        self.allowed.check(alloc, line, fields, found)?;
+        self.types.check(alloc, lines, range.start, fields, found)?;
+        self.constraints.check(alloc, line, fields, found)
+    }
+}

@@ -1,0 +1,32 @@
+//! Types of fields.
+
+use rec_text::Bytes;
+use regex::Regex;
+
+/// A type of fields.
+#[derive(Drop)]
+pub(crate) enum FieldType {
+    /// An integer of 64 bits.
+    Integer,
+    /// An integer from the one to the other, ends included.
+    Range(i64, i64),
+    /// A text without a newline.
+    Line,
+    /// A text of at most so many characters.
+    Size(u64),
+    /// A truth value, such as `yes`.
+    Truth,
+    /// One of some words.
+    OneOf(Vec<Bytes>),
+    /// A text in which a pattern is found.
+    Matching(Regex),
+    /// Any text.
+    Unchecked,
+}
+
+/// The type of some fields.
+#[derive(Drop)]
+pub(crate) struct Typing {
+    pub names: Vec<Bytes>,
+    pub type_: FieldType,
+}

@@ -1,0 +1,43 @@
+//! The pattern of a type.
+ghost use Rattle.std.specs.Prelude.{◌≡◌, Some, None, option_map};
+ghost use Rattle.rec_check.specs.Kinds.{IsPatternFor, IsTypeOf};
+ghost use Rattle.rec_check.specs.Types.{pattern_in, regexp_of};
+
+use crate::field_type::FieldType;
+use crate::refusal::Refusal;
+use crate::words::strip;
+use regex::Regex;
+use std::alloc::Global;
+
+/// What stands between the first byte and the last one, if these are equal.
+fn pattern_in(text: &[u8]) -> Option<&[u8]>
+    ensures { option_map (λ pattern. pattern.now) result ≡ pattern_in text.now }
+{
+    let (first, behind) = text.split_first()?;
+    let (last, pattern) = behind.split_last()?;
+    if first == last { Some(pattern) } else { None }
+}
+
+/// The pattern of a text.
+fn built(alloc: Global, text: &str) -> Result<Regex, Refusal>
+    ensures { IsPatternFor text.now result }
+{
+    match Regex::new(alloc, text) {
+        Ok(pattern) => Ok(pattern),
+        Err(regex::Error::OutOfMemory) => Err(Refusal::OutOfMemory),
+        Err(_) => Err(Refusal::Pattern),
+    }
+}
+
+/// The type of texts in which a pattern is found.
+pub(crate) fn regexp_type(alloc: Global, text: &[u8]) -> Result<FieldType, Refusal>
+    ensures { IsTypeOf (regexp_of text.now) result }
+{
+    let Some(pattern) = pattern_in(strip(text)) else {
+        return Err(Refusal::Bad);
+    };
+    let Ok(pattern) = std::str::from_utf8(pattern) else {
+        return Err(Refusal::Bad);
+    };
+    Ok(FieldType::Matching(built(alloc, pattern)?))
+}

@@ -1,0 +1,51 @@
+//! Reads the type of some fields.
+ghost use Rattle.std.specs.Prelude.{◌≡◌, ◌⊎◌, ◌==◌, None, IfOk, IfErr, IsErrOf};
+ghost use Rattle.std.specs.List.{list_all, slice_split};
+ghost use Rattle.rec_text.specs.Canonical.{is_field_name as may_name_a_field};
+ghost use Rattle.rec_check.specs.Stored.{typing_stored};
+ghost use Rattle.rec_check.specs.Types.{IsTyping, HasRefusedType, typing_of};
+
+use crate::field_type::Typing;
+use crate::kind::type_of_kind;
+use crate::refusal::Refusal;
+use crate::words::split_word;
+use rec_text::{Bytes, is_field_name};
+use std::alloc::{AllocError, Global};
+
+/// Copies of what stands between commas.
+fn split_names(alloc: Global, word: &[u8]) -> Result<Vec<Bytes>, AllocError>
+    ensures { IfOk result (λ names. names.items ≡ slice_split (λ b. b == 44) word.now) }
+{
+    let mut names = Vec::new(alloc);
+    for name in word.split(|byte| *byte == b',') {
+        names.push(Bytes::copy_of(alloc, name)?)?;
+    }
+    Ok(names)
+}
+
+fn are_names(names: &[Bytes]) -> bool
+    ensures { result ≡ list_all may_name_a_field names.now }
+{
+    names.iter().all(|name| is_field_name(name.as_slice()))
+}
+
+/// The names and the type that the value of a `%type` field gives.
+pub(crate) fn typing_in(alloc: Global, value: &[u8]) -> Result<Typing, Refusal>
+    ensures found { IfOk result (λ typing. IsTyping value.now (typing_stored typing)) }
+    ensures bad { IsErrOf result Refusal.Bad → typing_of value.now ≡ None }
+    ensures pattern { IsErrOf result Refusal.Pattern → HasRefusedType value.now }
+    ensures refusals { IfErr result (λ refusal. (refusal ≡ Refusal.Bad) ⊎ ((refusal ≡ Refusal.Pattern) ⊎ (refusal ≡ Refusal.OutOfMemory))) }
+{
+    let Some((joined, behind)) = split_word(value) else {
+        return Err(Refusal::Bad);
+    };
+    let Some((kind, behind)) = split_word(behind) else {
+        return Err(Refusal::Bad);
+    };
+    let names = split_names(alloc, joined)?;
+    if !are_names(&names) {
+        return Err(Refusal::Bad);
+    }
+    let type_ = type_of_kind(alloc, kind, behind)?;
+    Ok(Typing { names, type_ })
+}

@@ -1,0 +1,8 @@
+use Rattle.std.proofs.Common.{drop, flat_map}
+use Rattle.rec_select.proofs.InfoLemmas.{IsTakenTo}
+use Rattle.rec_select.proofs.parts.put_parts.Given as goal
+
+abbrev pub invariant-loop-part : goal.invariant-loop-part
+invariant-loop-part g l =
+    IsTakenTo (flat_map (λ part. part.now) l.parts) (g.S.Sink.contents l.fn.out) (g.S.Sink.contents l.out)
+    (g.S.Sink.failure_count l.fn.out) (g.S.Sink.failure_count l.out) (flat_map (λ part. part.now) (drop l.part-index l.parts))

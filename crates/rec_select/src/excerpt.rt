@@ -1,0 +1,114 @@
+//! Elements of a text that stand one behind another.
+ghost use Rattle.std.specs.Prelude.{◌≡◌};
+ghost use Rattle.rec_text.specs.Places.{piece_of};
+ghost use Rattle.rec_text.specs.Records.{is_field_piece};
+
+use crate::block::write_closed;
+use rec_text::{Database, Element, Fault, Kind, Sink};
+use std::marker::Model;
+use std::ops::Range;
+
+fn is_field(element: &Element) -> bool
+    ensures { result ≡ is_field_piece (piece_of element.now) }
+{
+    matches!(element.kind, Kind::Field)
+}
+
+/// Elements that stand one behind another in a text, and the text.
+#[derive(Drop)]
+pub(crate) struct Excerpt<'d, 't> {
+    text: &'t [u8],
+    elements: &'d [Element<'t>],
+}
+
+impl<'d, 't> Model for Excerpt<'d, 't> {
+    ghost use Rattle.std.specs.Prelude.{List};
+    ghost use Rattle.rec_text.specs.Elements.{Piece};
+
+    ghost Value = { List Piece };
+
+    ghost use Rattle.rec_text.specs.Places.{pieces_of};
+    ghost use Rattle.rec_select.specs.Excerpts.{AreWithin};
+
+    ghost view = { λ e. pieces_of e.elements.now };
+
+    ghost invariant = { λ e. AreWithin e.text.now e.elements.now };
+}
+
+impl<'d, 't> Excerpt<'d, 't> {
+    ghost use Rattle.std.specs.Prelude.{◌≡◌, ◌<◌, ◌≤◌, ◌^◌, flat_map, length};
+    ghost use Rattle.rec_text.specs.Elements.{AreElementsOf, text_of};
+    ghost use Rattle.rec_text.specs.Places.{pieces_of};
+    ghost use Rattle.rec_text.specs.Sink.{UnlessStoreFailed};
+    ghost use Rattle.rec_check.specs.Descriptors.{elements_in};
+    ghost use Rattle.rec_select.specs.declared.records.Shape.TheVariants.{Blocks};
+    ghost use Rattle.rec_select.specs.Printing.{block_of, closed};
+    ghost use Rattle.rec_select.specs.Taken.{Prints};
+
+    /// All elements of a text.
+    pub(crate) fn of(database: &'d Database<'t>) -> Excerpt<'d, 't>
+        ensures elements { result ≡ database.now }
+        ensures countable { length result < 2 ^ 64 }
+    {
+        Excerpt {
+            text: database.text(),
+            elements: database.elements(),
+        }
+    }
+
+    /// The elements of these indexes.
+    pub(crate) fn part(&self, indexes: Range<usize>) -> Excerpt<'d, 't>
+        requires ordered { indexes.start ≤ indexes.end }
+        requires within { indexes.end ≤ length self.now }
+        ensures { result ≡ elements_in self.now indexes }
+    {
+        Excerpt {
+            text: self.text,
+            elements: &self.elements[indexes],
+        }
+    }
+
+    pub(crate) fn elements(&self) -> &'d [Element<'t>]
+        ensures { pieces_of result.now ≡ self.now }
+    {
+        self.elements
+    }
+
+    /// The elements joined.
+    pub(crate) fn raw(&self) -> &'t [u8]
+        ensures text { result.now ≡ text_of self.now }
+        ensures whole { AreElementsOf self.now (text_of self.now) }
+    {
+        let (Some(first), Some(last)) = (self.elements.first(), self.elements.last()) else {
+            return &[];
+        };
+        &self.text[first.at..last.at + last.raw.len()]
+    }
+
+    /// Prints the elements, each with a newline at its end.
+    fn write<S: Sink>(&self, out: &mut S) -> Result<(), Fault>
+        ensures printed { Prints (flat_map closed self.now) (S.contents out.old) (S.contents out.new) (S.failure_count out.old) (S.failure_count out.new) result }
+        ensures refusals { UnlessStoreFailed result }
+    {
+        let raw = self.raw();
+        if raw.is_empty() {
+            return Ok(());
+        }
+        write_closed(raw, out)
+    }
+
+    /// Prints the fields, each with a newline at its end.
+    pub(crate) fn write_fields<S: Sink>(&self, out: &mut S) -> Result<(), Fault>
+        ensures printed { Prints (block_of Blocks self.now) (S.contents out.old) (S.contents out.new) (S.failure_count out.old) (S.failure_count out.new) result }
+        ensures refusals { UnlessStoreFailed result }
+    {
+        let mut start = 0;
+        for (at, element) in self.elements.iter().enumerate() {
+            if !is_field(element) {
+                self.part(start..at).write(out)?;
+                start = at + 1;
+            }
+        }
+        self.part(start..self.elements.len()).write(out)
+    }
+}

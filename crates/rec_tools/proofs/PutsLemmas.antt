@@ -1,0 +1,86 @@
+-- What goes out of a request that prints, by the steps of which one may refuse it.
+use Rattle.std.proofs.Common.{◌≡◌, inl, inr, ℕ, List, Option, Some, None, Result, Ok, Err, refl, subst, sym}
+use Rattle.std.specs.Io.KnownBytes.{Keeps}
+use Rattle.rec_text.specs.declared.fault.Fault.{Fault}
+use Rattle.rec_text.specs.declared.fault.Fault.TheVariants.{OutOfMemory, NoSuchType, StoreFailed}
+use Rattle.rec_text.specs.Elements.{Piece}
+use Rattle.rec_text.specs.Reading.{IsReading}
+use Rattle.rec_text.specs.Faults.{IsMemoryOr}
+use Rattle.rec_check.specs.declared.set.Set_.{Set_}
+use Rattle.rec_check.specs.Schemas.{IsSchema}
+use Rattle.rec_select.specs.Printing.{Puts}
+use Rattle.rec_tools.specs.declared.request.Reply.{Reply}
+use Rattle.rec_tools.specs.declared.request.Reply.TheVariants.{Shown}
+use Rattle.rec_tools.specs.Asking.{Base, IsBaseOf, IsBase}
+use Rattle.rec_tools.specs.Printouts.{Printout, PutsPrintout, IsShownText}
+use Rattle.rec_tools.specs.Steps.{Then}
+use Rattle.rec_tools.proofs.FaultLemmas.{ok_is_no_err, same_fault}
+
+-- ---- what went out
+
+abbrev pub IsText : Type 1
+IsText = Result (List ℕ) Fault → Type 0
+
+abbrev pub IsOutcome : Type 1
+IsOutcome = Result Printout Fault → Type 0
+
+keeps_all : (old : Option (List ℕ)) → Keeps old old
+keeps_all None = tt
+keeps_all (Some xs) = refl
+
+-- a refusal before anything was put
+pub PutsPrintout-refused : (Q : IsOutcome) (old : Option (List ℕ)) (fault : Fault) → (Q (Err StoreFailed) → ⊥)
+    → IsMemoryOr fault (Q (Err fault)) → PutsPrintout Q old old (Err fault)
+PutsPrintout-refused Q old OutOfMemory never h = inl (keeps_all old)
+PutsPrintout-refused Q old StoreFailed never h = absurd (never h)
+PutsPrintout-refused Q old _ never h = (h, keeps_all old)
+
+-- each text that may be put is one of these, with a reply
+abbrev pub HaveReplies : IsText → IsOutcome → Type 0
+HaveReplies P Q = (text : List ℕ) → P (Ok text) → (reply : Reply) × Q (Ok (record { text = text; reply = reply }))
+
+-- a text that was cut short, or refused, is so with the reply that it would have had
+pub PutsPrintout-err : (X : Type 0) (P : IsText) (Q : IsOutcome) (old new : Option (List ℕ)) (fault : Fault) → HaveReplies P Q → ((f : Fault) → P (Err f) → Q (Err f))
+    → Puts {X = X} P old new (Err fault) → PutsPrintout Q old new (Err fault)
+PutsPrintout-err X P Q old new OutOfMemory replies f (inl kept) = inl kept
+PutsPrintout-err X P Q old new OutOfMemory replies f (inr h) = let reply = replies h.0 h.1 in inr (record { text = h.0; reply = reply.0 }, reply.1, h.2)
+PutsPrintout-err X P Q old new StoreFailed replies f h = let reply = replies h.0 h.1 in (record { text = h.0; reply = reply.0 }, reply.1, h.2)
+PutsPrintout-err X P Q old new _ replies f h = (f _ h.0, h.1)
+
+pub PutsPrintout-err_shown : (X : Type 0) (P Q : IsText) (old new : Option (List ℕ)) (fault : Fault) → ((r : Result (List ℕ) Fault) → P r → Q r)
+    → Puts {X = X} P old new (Err fault) → PutsPrintout (IsShownText Q) old new (Err fault)
+PutsPrintout-err_shown X P Q old new fault f put =
+    PutsPrintout-err X P (IsShownText Q) old new fault (λ text is. (Shown, (f (Ok text) is, refl))) (λ g. f (Err g)) put
+
+-- what puts a text with its reply, or refuses it, does so also where more is known of it
+pub PutsPrintout-weaker : (P Q : IsOutcome) (old new : Option (List ℕ)) (result : Result Reply Fault) → ((r : Result Printout Fault) → P r → Q r)
+    → PutsPrintout P old new result → PutsPrintout Q old new result
+PutsPrintout-weaker P Q old new (Ok reply) f h = (h.0, f _ h.1, h.2)
+PutsPrintout-weaker P Q old new (Err OutOfMemory) f (inl kept) = inl kept
+PutsPrintout-weaker P Q old new (Err OutOfMemory) f (inr h) = inr (h.0, f _ h.1, h.2)
+PutsPrintout-weaker P Q old new (Err StoreFailed) f h = (h.0, f _ h.1, h.2)
+PutsPrintout-weaker P Q old new (Err _) f h = (f _ h.0, h.1)
+
+-- the same of a text that is shown
+pub IsShownText-weaker : (P Q : IsText) → ((r : Result (List ℕ) Fault) → P r → Q r) → (r : Result Printout Fault) → IsShownText P r → IsShownText Q r
+IsShownText-weaker P Q f (Ok p) h = (f _ h.0, h.1)
+IsShownText-weaker P Q f (Err fault) h = f _ h
+
+-- ---- no step answers that a store failed
+
+pub no_store_then : {A B : Type 0} (first : Result A Fault → Type 0) (next : A → Result B Fault → Type 0)
+    → (first (Err StoreFailed) → ⊥) → ((a : A) → next a (Err StoreFailed) → ⊥) → Then first next (Err StoreFailed) → ⊥
+no_store_then first next never nor (inl (fault, refused, e)) = never (subst (λ f. first (Err f)) (sym (same_fault _ _ e)) refused)
+no_store_then first next never nor (inr (a, done, h)) = nor a h
+
+no_store_base_of : (pieces : List Piece) → IsBaseOf pieces (Err StoreFailed) → ⊥
+no_store_base_of pieces = no_store_then (IsSchema pieces) (λ schema answer. answer ≡ Ok (record { pieces = pieces; sets = schema.sets })) (λ h. h)
+    (λ schema e. ok_is_no_err {A = Base} (record { pieces = pieces; sets = schema.sets }) StoreFailed ⊥ e)
+
+pub no_store_base : (file : List ℕ) → IsBase file (Err StoreFailed) → ⊥
+no_store_base file = no_store_then (IsReading file) IsBaseOf (λ h. h) no_store_base_of
+
+-- the set of a type, or that there is none
+pub no_store_type : (found : Option Set_) → ◌≡◌ {A = Result Set_ Fault} (elim found [ None ↦ Err NoSuchType | Some s ↦ Ok s ]) (Err StoreFailed) → ⊥
+no_store_type None e = cc
+no_store_type (Some s) e = cc

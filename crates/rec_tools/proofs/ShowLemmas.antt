@@ -1,0 +1,93 @@
+-- What `show` and `print_wanted` put out, step by step, and what `wanted_of` refuses.
+use Rattle.std.proofs.Common.{◌≡◌, inl, inr, ℕ, Bool, List, Option, Some, None, Result, Ok, Err, refl, subst, sym, [], ◌∷◌, true, false}
+use Rattle.std.specs.Prelude.{find, if◌then◌else◌}
+use Rattle.rec_text.specs.declared.fault.Fault.{Fault}
+use Rattle.rec_text.specs.declared.fault.Fault.TheVariants.{StoreFailed}
+use Rattle.rec_text.specs.Faults.{IsMemoryOr}
+use Rattle.rec_check.specs.declared.set.Set_.{Set_}
+use Rattle.rec_check.specs.Sets.{is_of_type}
+use Rattle.rec_select.specs.declared.records.Shape.{Shape}
+use Rattle.rec_select.specs.Printing.{IsPrinted}
+use Rattle.rec_select.specs.Selection.{Filter, IsSelection, set_for, only_set, has_members}
+use Rattle.rec_tools.specs.declared.request.Ask.{Ask}
+use Rattle.rec_tools.specs.declared.request.Ask.TheVariants.{All, Expr, Index, Quick}
+use Rattle.rec_tools.specs.declared.request.Form.{Form}
+use Rattle.rec_tools.specs.declared.request.Form.TheVariants.{Blocks, Print, Values, Row, Count}
+use Rattle.rec_tools.specs.declared.request.Pick.{Pick}
+use Rattle.rec_tools.specs.Asking.{Base, IsBase, IsFilter, IsShape}
+use Rattle.rec_tools.specs.Printouts.{IsShowOf, IsShow, IsShownText, PutsPrintout}
+use Rattle.rec_tools.specs.Steps.{Then}
+use Rattle.rec_tools.proofs.FaultLemmas.{memory_or_weaker, same_fault}
+use Rattle.rec_tools.proofs.PutsLemmas.{PutsPrintout-refused, no_store_then, no_store_base, no_store_type}
+
+-- ---- what is asked for
+
+no_store_filter : (ask : Ask) → IsFilter ask (Err StoreFailed) → ⊥
+no_store_filter All e = cc
+no_store_filter (Expr text) h = h
+no_store_filter (Index list) h = h
+no_store_filter (Quick text) e = cc
+
+no_store_shape : (form : Form) → IsShape form (Err StoreFailed) → ⊥
+no_store_shape Blocks e = cc
+no_store_shape (Print list) h = h
+no_store_shape (Values list) h = h
+no_store_shape (Row list) h = h
+no_store_shape Count e = cc
+
+pub wanted-no_shape : (pick : Pick) (form : Form) (wanted : Filter) (fault : Fault) → IsFilter pick.by (Ok wanted) → IsMemoryOr fault (IsShape form (Err fault))
+    → IsMemoryOr fault (Then {B = Shape} (IsFilter pick.by) (λ _. IsShape form) (Err fault))
+wanted-no_shape pick form wanted fault found h = memory_or_weaker fault _ _ (λ none. inr (wanted, found, none)) h
+
+-- ---- the set
+
+no_store_only : (untyped : Set_) (typed : List Set_) → only_set untyped typed ≡ Err StoreFailed → ⊥
+no_store_only untyped [] e = cc
+no_store_only untyped (s ∷ []) e = cc
+no_store_only untyped (s ∷ t ∷ sets) e = cc
+
+no_store_untyped : (taken : Bool) (untyped : Set_) (typed : List Set_) → (if taken then Ok untyped else only_set untyped typed) ≡ Err StoreFailed → ⊥
+no_store_untyped true untyped typed e = cc
+no_store_untyped false untyped typed e = no_store_only untyped typed e
+
+no_store_set : (kind : Option (List ℕ)) (sets : List Set_) → set_for kind sets ≡ Err StoreFailed → ⊥
+no_store_set None [] e = cc
+no_store_set None (untyped ∷ typed) e = no_store_untyped (has_members untyped) untyped typed e
+no_store_set (Some kind) sets e = no_store_type (find (is_of_type kind) sets) e
+
+-- ---- records
+
+no_store_selection : (base : Base) (kind : Option (List ℕ)) (wanted : Filter) → IsSelection base.pieces base.sets kind wanted (Err StoreFailed) → ⊥
+no_store_selection base kind wanted e = no_store_set kind base.sets e
+
+no_store_show_of : (base : Base) (kind : Option (List ℕ)) (wanted : Filter) (shape : Shape) (collapse : Bool) → IsShowOf base kind wanted shape collapse (Err StoreFailed) → ⊥
+no_store_show_of base kind wanted shape collapse =
+    no_store_then (IsSelection base.pieces base.sets kind wanted) (λ selected. IsPrinted base.pieces selected shape collapse) (no_store_selection base kind wanted) (λ selected h. h)
+
+pub show_of-printed : (base : Base) (kind : Option (List ℕ)) (wanted : Filter) (shape : Shape) (collapse : Bool) (selected slice : List ℕ) → slice ≡ selected
+    → IsSelection base.pieces base.sets kind wanted (Ok selected) → (r : Result (List ℕ) Fault) → IsPrinted base.pieces slice shape collapse r → IsShowOf base kind wanted shape collapse r
+show_of-printed base kind wanted shape collapse selected slice e found r printed = inr (selected, found, subst (λ s. IsPrinted base.pieces s shape collapse r) e printed)
+
+module _ (file : List ℕ) (pick : Pick) (form : Form) (collapse : Bool) where
+  no_store_show : IsShow file pick form collapse (Err StoreFailed) → ⊥
+  no_store_show = no_store_then (IsBase file) (λ base. Then (IsFilter pick.by) (λ wanted. Then (IsShape form) (λ shape. IsShowOf base pick.kind wanted shape collapse)))
+      (no_store_base file) (λ base. no_store_then (IsFilter pick.by) (λ wanted. Then (IsShape form) (λ shape. IsShowOf base pick.kind wanted shape collapse))
+      (no_store_filter pick.by) (λ wanted. no_store_then (IsShape form) (λ shape. IsShowOf base pick.kind wanted shape collapse)
+      (no_store_shape form) (λ shape. no_store_show_of base pick.kind wanted shape collapse)))
+
+  pub show-no_base : (old : Option (List ℕ)) (fault : Fault) → IsMemoryOr fault (IsBase file (Err fault)) → PutsPrintout (IsShownText (IsShow file pick form collapse)) old old (Err fault)
+  show-no_base old fault h = PutsPrintout-refused (IsShownText (IsShow file pick form collapse)) old fault no_store_show (memory_or_weaker fault _ _ (λ refused. inl (fault, refused, refl)) h)
+
+  module _ (base : Base) (is : IsBase file (Ok base)) where
+    asked : (fault : Fault) → Then {B = Shape} (IsFilter pick.by) (λ _. IsShape form) (Err fault) → IsShow file pick form collapse (Err fault)
+    asked fault (inl (other, refused, e)) = inr (base, is, inl (fault, subst (λ f. IsFilter pick.by (Err f)) (sym (same_fault _ _ e)) refused, refl))
+    asked fault (inr (wanted, found, refused)) = inr (base, is, inr (wanted, found, inl (fault, refused, refl)))
+
+    pub show-not_asked : (old : Option (List ℕ)) (fault : Fault) → IsMemoryOr fault (Then {B = Shape} (IsFilter pick.by) (λ _. IsShape form) (Err fault))
+        → PutsPrintout (IsShownText (IsShow file pick form collapse)) old old (Err fault)
+    show-not_asked old fault h = PutsPrintout-refused (IsShownText (IsShow file pick form collapse)) old fault no_store_show (memory_or_weaker fault _ _ (asked fault) h)
+
+    pub show-printed : (kind : Option (List ℕ)) (wanted : Filter) (shape : Shape) → kind ≡ pick.kind → IsFilter pick.by (Ok wanted) → IsShape form (Ok shape)
+        → (r : Result (List ℕ) Fault) → IsShowOf base kind wanted shape collapse r → IsShow file pick form collapse r
+    show-printed kind wanted shape e found shaped r printed =
+        inr (base, is, inr (wanted, found, inr (shape, shaped, subst (λ k. IsShowOf base k wanted shape collapse r) e printed)))

@@ -31,9 +31,10 @@ PYTHON
     fi
 }
 
-# measure RUNS STATE NAME WORD..: one line of the table; the least of so many times, each from the state that STATE makes
+# measure RUNS STATE NAME WORD..: one line of the table; the `least` of so many times, each from the state that STATE makes
 measure() {
-    local runs=$1 state=$2 name=$3 least= took run
+    local runs=$1 state=$2 name=$3 took run
+    least=
     shift 3
     for ((run = 0; run < runs; run++)); do
         "$state"

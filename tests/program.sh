@@ -175,7 +175,8 @@ bad_usage() {
         'recsel -e A -n 0 db.rec' 'recsel -e A -q 1 db.rec' 'recsel -n 0 -q 1 db.rec' 'recsel -p A -c db.rec' \
         'recsel -p A -P A db.rec' 'recsel -p A -R A db.rec' 'recsel -P A -R A db.rec' 'recsel -P A -c db.rec' 'recsel -R A -c db.rec' \
         'recinf db.rec x' 'recinf -t' 'recinf -d -n db.rec' 'recinf -nn db.rec' 'recinf -n=1 db.rec' 'recinf --names db.rec' \
-        'recinf -c db.rec' 'recinf --journal j db.rec' 'recse db.rec'; do
+        'recinf -c db.rec' 'recinf --journal j db.rec' 'recse db.rec' 'recfix db.rec x' 'recfix -c db.rec' 'recfix --check --check db.rec' \
+        'recfix --check=1 db.rec' 'recfix --auto db.rec' 'recfix --force db.rec' 'recfix --journal j db.rec'; do
         run 1 $words
         refuses_usage
     done
@@ -609,6 +610,136 @@ record_types() {
     shows "$book" 'GNU Emacs Manual\n' recsel -e "Location = 'home'" -P Title
 }
 
+# reports TEXT REPORT: recfix prints these violations of the text, by file and by standard input; they are a failure
+reports() {
+    local text=$1 report=$2 status=1
+    [ -n "$report" ] || status=0
+    put db.rec "$text"
+    run "$status" recfix db.rec
+    prints "$report" ''
+    run "$status" recfix --check db.rec
+    prints "$report" ''
+    input=db.rec run "$status" recfix
+    prints "$report" ''
+    has db.rec "$text"
+    only db.rec
+}
+
+# accepts FIELD..: a descriptor may have such fields
+accepts() {
+    local field
+    for field in "$@"; do
+        shows "%rec: P\n$field\n" '0 P\n' recinf
+    done
+}
+
+# rejects LINE FIELD..: a descriptor may have no such field, which is refused so
+rejects() {
+    local line=$1 field
+    shift
+    for field in "$@"; do
+        refuses "%doc: d\n%rec: P\n$field\n\nN: 1\n" "$line" recfix
+    done
+}
+
+# typed WORDS FITS UNFITS: of the values in two lists, each with a | behind it, those of the first fit the type, and none of the second
+typed() {
+    local words=$1 value values
+    local IFS='|'
+    read -ra values <<<"$2"
+    for value in "${values[@]}"; do
+        reports "%rec: P\n%type: N,%M $words\n\nN: $value\n%M: $value\nO: $value\n" ''
+    done
+    read -ra values <<<"$3"
+    for value in "${values[@]}"; do
+        reports "%rec: P\n%type: N,%M $words\n\nN: $value\n%M: $value\nO: $value\n" "4: type N\n$((5 + $(printf '%b' "$value" | wc -l))): type %M\n"
+    done
+}
+
+descriptors() {
+    begin 'fields of descriptors'
+    accepts '%key: Id' '%key:\n+ %Id_1' '%mandatory:' '%mandatory: A B\n%mandatory: A\tC\n+ D' '%prohibit: A' '%unique: A A' '%allowed:' \
+        '%auto: %A b_1' '%sort: 1 2' '%doc: 1, 2' '%typedef: 1' '%singular: 1,' '%Key: 1' 'key: 1' '# %key: 1'
+    rejects 'line 3: bad descriptor field' '%key:' '%key: A B' '%key: 1A' '%key: A,B' '%mandatory: A 1B' '%mandatory: A,B' '%prohibit: A-' \
+        '%unique: .' '%unique: \\\n1' '%allowed: A\n+ \0377' '%auto: _A'
+    rejects 'line 4: bad descriptor field' '%key: A\n%key: A' '%size: 1\n%size: 1' '%doc: x\n%rec: Q' '%mandatory: A\n%mandatory: 1'
+    refuses '%key: 1\n%rec: P\n' 'line 1: bad descriptor field' recfix
+    refuses '%rec: P\n\n%rec: Q\n\n%rec: P x\n' 'line 5: bad descriptor field' recfix
+    refuses '%rec: P\n\nA: 1\n\n%key: 1\n%rec: Q\n' 'line 5: bad descriptor field' recfix
+    shows '%key: 1\n%size: x\n%type: 1\n%confidential: A\n' '1\n' recinf
+    rejects 'line 3: not supported' '%confidential: K' '%confidential:'
+    refuses '%rec: P\n%confidential: K\n' 'line 2: not supported' recsel
+    refuses '%rec: P x\n%key: 1\n' 'line 1: not supported' recfix
+    refuses '%key: 1\n%rec: P x\n' 'line 1: bad descriptor field' recfix
+
+    begin 'sizes'
+    accepts '%size: 0' '%size:0x10' '%size:  3' '%size: 3 \t' '%size: >= 2' '%size:<2' '%size: <=\t2' '%size: >017' '%size: >= -0'
+    rejects 'line 3: bad descriptor field' '%size:' '%size: >=' '%size: x' '%size: -1' '%size: 08' '%size: = 2' '%size: > = 2' '%size:  >= 2' '%size: 1 2' \
+        '%size: 9223372036854775808' '%size: >=\n+ 0'
+
+    begin 'types'
+    accepts '%type: N int' '%type: N,%M,O_1 line' '%type: N bool ' '%type: N\n+ int' '%type: N real' '%type: N enum(c) (' '%type: N 9x ! (' '%type: N regexp/(/' \
+        '%type: N range 5' '%type: N range -5' '%type: N range MIN' '%type: N range 10 1' '%type: N range 0x10 MAX' '%type: N size 0' '%type: N size 0x10' \
+        '%type: N enum a' '%type: N enum (c) 1a (a (b)\n+ a_- (c)' '%type: N enum a(c)b' '%type: N regexp |a|b|' '%type: N regexp //' '%type: N regexp\n+ aba' \
+        '%type: N regexp /a/ /'
+    rejects 'line 3: bad descriptor field' '%type:' '%type: N' '%type: N, M int' '%type: N,,M int' '%type: 1 int' '%type: N,1 real' '%type: N int 1' '%type: N line x' \
+        '%type: N bool (c)' '%type: N range' '%type: N range 1 2 3' '%type: N range x' '%type: N range 1 min' '%type: N size' '%type: N size -1' '%type: N size 1 2' \
+        '%type: N enum' '%type: N enum (a)' '%type: N enum a (b' '%type: N enum a ) b' '%type: N enum (a (b)) c' '%type: N enum a,b' '%type: N enum _a' '%type: N regexp' \
+        '%type: N regexp /' '%type: N regexp /a' '%type: N regexp /\0377/'
+    rejects 'pattern not accepted' '%type: N regexp /(/' '%type: N regexp /(/\n%key: 1' "%constraint: A ~ '('"
+    rejects 'line 3: bad descriptor field' '%key: 1\n%type: N regexp /(/' '%constraint:' '%constraint: A =' "%constraint: A ~ '(' (" '%constraint: A == 1' '%constraint: A << B'
+    accepts '%constraint: 1' "%constraint: A ~ '^x' ||\n+ B"
+}
+
+rules() {
+    begin 'values of each type'
+    typed int '0|-0| 12 \t|017|0x1F|-9223372036854775808|9223372036854775807|0|-0x8000000000000000|' 'x|08|1 2||1\n+|9223372036854775808|-9223372036854775809|0x|+1|1.0|'
+    typed 'range 2' '0|1|2|02|' '3|-1|x|'
+    typed 'range -5 MAX' '-5|0|9223372036854775807|' '-6||'
+    typed 'range MIN -1' '-1|-9223372036854775808|' '0|x|'
+    typed 'range 10 1' '' '1|5|10|'
+    typed line 'a b|\t|a\\\nb|' 'a\n+ b|\n+|'
+    typed 'size 3' 'abc||\0303\0244\0303\0266\0303\0274|\0342\0202\0254| a |\0200\0200\0200\0200abc|' 'abcd|    x|a\n+ bc|'
+    typed bool 'yes|no|0|1|true|false|\tyes |' 'Yes|2||y|true false|'
+    typed 'enum a 1b-_ (of c) d' 'a|1b-_| d\t|' 'b|c|A||a d|(of|'
+    typed 'regexp /^x[0-9]*$/' 'x|x12|' 'y|x1 |xy|\0377x|'
+    typed 'regexp |a|b|' 'a|xby|' 'c||'
+    typed 'real x y' 'a||' ''
+    reports '%rec: P\n%type: N int\n%type: M,N line\n\nN: x\n' ''
+    reports '%rec: P\n%type: M,N line\n%type: N int\n\nM: x\nN: x\n# c\nN: \\\n1\nN: y\n' '6: type N\n10: type N\n'
+
+    begin 'each rule'
+    reports '%rec: P\n%key: Id\n\nId: 1\n\nId: 2\n\nId: 1\n\nId: 1\n' '8: key Id\n10: key Id\n'
+    reports '%rec: P\n%key: Id\n\nId: 1\nId: 1\n\nId: 1\n' '4: key Id\n'
+    reports '%rec: P\n%key: Id\n\nId: 1\n\nId: 1\n' '6: key Id\n'
+    reports '%rec: P\n%key: Id\n\nId: 1\n\nId: 01\n\nId:1\n\nN: 1\n\nId:\n\nId: \n' '8: key Id\n10: key Id\n14: key Id\n'
+    reports '%rec: P\n%key: Id\n\nId: 1\n\n%rec: Q\n%key: Id\n\nId: 1\n' ''
+    reports '%rec: P\n\nA: 1\n\n%rec: Q\n%key: Id\n\nA: 1\n' '8: key Id\n'
+    reports '%rec: P\n%mandatory: A B\n%mandatory: A\n\nB: 1\n# c\nB: 2\n\n# c\nC: 1\n' '5: mandatory A\n10: mandatory A\n10: mandatory B\n'
+    reports '%rec: P\n%prohibit: B A B\n\nA: 1\nB: 2\nB: 3\n\nC: 1\n' '4: prohibit B\n4: prohibit A\n'
+    reports '%rec: P\n%unique: A B\n\nB: 1\nA: 1\nB: 2\nA: 2\nC: 1\nC: 2\nB: 3\n' '4: unique A\n4: unique B\n'
+    reports '%rec: P\n%allowed: A\n\nZ: 1\nB: 2\nZ: 3\n' '4: allowed Z\n4: allowed B\n'
+    reports '%rec: P\n%allowed:\n%key: K\n%mandatory: M\n%unique: U\n%type: T int\n\nK: 1\nM: 1\nU: 1\nT: 1\n' '8: allowed U\n8: allowed T\n'
+    reports '%rec: P\n%size: >= 2\n\nN: 2\n' '1: size P\n'
+    reports '%doc: x\n%rec: P\n%size: 0\n' ''
+    local compared
+    for compared in '2' '<3' '<= 2' '> 1' '>=2'; do
+        reports "X: 1\n\n%rec: P\n%size: $compared\n\nN: 1\n\nN: 2\n\n%rec: Q\n\nN: 1\n" ''
+    done
+    for compared in '1' '3' '<2' '<= 1' '> 2' '>=3'; do
+        reports "X: 1\n\n%rec: P\n%size: $compared\n\nN: 1\n\nN: 2\n\n%rec: Q\n\nN: 1\n" '3: size P\n'
+    done
+    reports '%rec: P\n%type: N regexp /^x/\n\nN: xy\n\nN: y\n' '6: type N\n'
+    reports "%rec: P\n%constraint: A = 1\n%doc: x\n%constraint: B ~ 'x'\n\nA: 1\nB: xy\n\nB: y\n\nA: 2\nA: 1\nB: x\n" '9: constraint 1\n9: constraint 2\n'
+
+    begin 'many rules'
+    reports '# -*- mode: rec -*-\n\n%rec: Book\n%mandatory: Title\n%type: Location enum loaned home unknown\n%sort: Title\n%doc:\n+ My books.\n\nTitle: GNU Emacs Manual\nAuthor: Richard M. Stallman\nLocation: home\n' ''
+    reports "%constraint: 0\n%rec: P\n%key: K\n%allowed: A\n%type: A,K int\n%unique: A\n%prohibit: B\n%mandatory: M\n%size: 2\n%constraint: 1\n%constraint: M = 2\n\nK: x\nA: y\nA: 1\nB: 1\n\n%rec: Q\n%size: 1\n" \
+        '1: size P\n13: mandatory M\n13: prohibit B\n13: unique A\n13: allowed B\n13: type K\n14: type A\n13: constraint 1\n13: constraint 3\n18: size Q\n'
+    reports '' ''
+    reports 'A: 1\n\nA: 1\n' ''
+}
+
 refused_texts() {
     begin 'texts of options that are refused'
     local one='A: 1\n'
@@ -708,6 +839,6 @@ inputs() {
 }
 
 for part in first_example refusals_of_requests help_and_version bad_usage paths modes links special_files permissions \
-    leftovers names_in_use two_at_once changed_outside layouts records record_types refused_texts inputs; do
+    leftovers names_in_use two_at_once changed_outside layouts records record_types descriptors rules refused_texts inputs; do
     "$part"
 done

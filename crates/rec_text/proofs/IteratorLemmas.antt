@@ -36,24 +36,3 @@ module _ (pieces : List Piece) (size : ℕ) (same : size ≡ length pieces) wher
   YieldsFirst-paragraph at start end h k old r was (inr (le, is)) =
       let none = no_run (is_full_at pieces) (is_blank_at pieces) size (λ i less. blank_is_not_full pieces i (omega arith)) at start end h k le in
       rw is (sym was ∙ none.0, none.1)
-
--- ---- the first paragraph is taken
-
-module _ (old rest : List (Range ℕ)) (paragraph : Range ℕ) (taken : old ≡ paragraph ∷ rest) where
-  pub all_narrowed-some : (test : ℕ → Bool) (fields : Range ℕ) → Some fields ≡ narrowed test paragraph → all_narrowed test old ≡ fields ∷ all_narrowed test rest
-  all_narrowed-some test fields is =
-      ap (λ (ps : List (Range ℕ)). all_narrowed test ps) taken
-      ∙ ap (λ (o : Option (Range ℕ)). cons_option o (all_narrowed test rest)) (sym is)
-
-  pub all_narrowed-none : (test : ℕ → Bool) → None ≡ narrowed test paragraph → all_narrowed test old ≡ all_narrowed test rest
-  all_narrowed-none test is =
-      ap (λ (ps : List (Range ℕ)). all_narrowed test ps) taken
-      ∙ ap (λ (o : Option (Range ℕ)). cons_option o (all_narrowed test rest)) (sym is)
-
-  pub within-taken : (size : ℕ) → AllByRecursion (IsWithin size) old → AllByRecursion (IsWithin size) (paragraph ∷ rest)
-  within-taken size all =
-      let P : List (Range ℕ) → Type 0 = λ ps. AllByRecursion (IsWithin size) ps in
-      subst P taken all
-
-  pub fewer-taken : length rest < length old
-  fewer-taken = omega (arith, ap length taken)

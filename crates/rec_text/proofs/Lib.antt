@@ -7,6 +7,7 @@ pub mod SinkLemmas
 pub mod RangeLemmas
 pub mod RunLemmas
 pub mod RecordLemmas
+pub mod ListingLemmas
 pub mod SoughtLemmas
 pub mod IteratorLemmas
 pub mod FieldLemmas

@@ -6,22 +6,18 @@ use Rattle.rec_text.specs.declared.element.Element.{Element}
 use Rattle.rec_text.specs.declared.element.Kind.{Kind}
 use Rattle.rec_text.specs.declared.element.Kind.TheVariants.{Blank, Comment, Field}
 use Rattle.rec_text.specs.declared.search.Sought.{Sought}
-use Rattle.rec_text.specs.declared.search.Sought.TheVariants.{Blank as SoughtBlank, Full as SoughtFull, Field as SoughtField}
+use Rattle.rec_text.specs.declared.search.Sought.TheVariants.{Blank as SoughtBlank, Full as SoughtFull}
 use Rattle.rec_text.specs.Elements.{Piece}
 use Rattle.rec_text.specs.Places.{pieces_of}
 use Rattle.rec_text.specs.Records.{is_blank_at, is_full_at, is_blank_piece}
-use Rattle.rec_text.specs.Scanned.{IsFirstIn, IsLastIn, range, narrowed}
-use Rattle.rec_text.proofs.RecordLemmas.{is_narrowed_from}
 use Rattle.rec_text.specs.Sought.{is_met, is_met_at}
 
 pub is_met_at-pieces_of : (sought : Sought) (elements : List Element) (i : ℕ) (d : Element) → i < length elements → is_met_at sought (pieces_of elements) i ≡ is_met sought (get_or elements i d).kind
 is_met_at-pieces_of sought [] i d lt = absurd (omega arith)
 is_met_at-pieces_of SoughtBlank (element ∷ elements) zero d lt = refl
 is_met_at-pieces_of SoughtFull (element ∷ elements) zero d lt = refl
-is_met_at-pieces_of SoughtField (element ∷ elements) zero d lt = refl
 is_met_at-pieces_of SoughtBlank (element ∷ elements) (suc i) d lt = is_met_at-pieces_of SoughtBlank elements i d (omega arith)
 is_met_at-pieces_of SoughtFull (element ∷ elements) (suc i) d lt = is_met_at-pieces_of SoughtFull elements i d (omega arith)
-is_met_at-pieces_of SoughtField (element ∷ elements) (suc i) d lt = is_met_at-pieces_of SoughtField elements i d (omega arith)
 
 blank_kind_is_not_full : (kind : Kind) → is_blank_piece (record { kind = kind; bytes = [] }) ≡ not (not (is_blank_piece (record { kind = kind; bytes = [] })))
 blank_kind_is_not_full Blank = refl
@@ -33,25 +29,3 @@ pub blank_is_not_full : (pieces : List Piece) (i : ℕ) → i < length pieces �
 blank_is_not_full [] i lt = absurd (omega arith)
 blank_is_not_full (piece ∷ pieces) zero lt = blank_kind_is_not_full piece.kind
 blank_is_not_full (piece ∷ pieces) (suc i) lt = blank_is_not_full pieces i (omega arith)
-
--- ---- a range narrowed by two searches
-
-pub narrowed-some : (test : ℕ → Bool) (whole : Range ℕ) (start end : ℕ) → IsFirstIn test whole.start whole.end start → IsLastIn test start whole.end end → start < end → Some (range start end) ≡ narrowed test whole
-narrowed-some test whole start end h k lt =
-    is_narrowed_from test whole.end whole.start (Some (range start end)) (omega (arith, h.low, h.high)) (record {
-      low = h.low;
-      some = lt;
-      high = k.high;
-      first = h.met (omega (arith, k.high));
-      last = k.met lt;
-      before = h.before;
-      behind = k.behind;
-    })
-
-pub narrowed-none : (test : ℕ → Bool) (whole : Range ℕ) (start end : ℕ) → IsFirstIn test whole.start whole.end start → IsLastIn test start whole.end end → end ≤ start → None ≡ narrowed test whole
-narrowed-none test whole start end h k le =
-    is_narrowed_from test whole.end whole.start None (omega (arith, h.low, h.high)) (λ i low high.
-    elim (cases_lt i start) [
-      | inl before ↦ h.before i low before
-      | inr behind ↦ k.behind i (omega arith) high
-    ])

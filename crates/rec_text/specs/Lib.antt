@@ -8,6 +8,7 @@ pub mod Values
 pub mod Spellings
 pub mod Canonical
 pub mod Records
+pub mod Listed
 pub mod Scanned
 pub mod Sought
 pub mod Faults

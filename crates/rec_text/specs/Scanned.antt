@@ -10,13 +10,6 @@ pub record IsFirstIn (test : ℕ → Bool) (from to found : ℕ) : Type 0 where
   pub before : (i : ℕ) → from ≤ i → i < found → test i ≡ false
   pub met : found < to → test found ≡ true
 
--- the place behind the last index of a range at which the test holds, or the start of the range
-pub record IsLastIn (test : ℕ → Bool) (from to found : ℕ) : Type 0 where
-  pub low : from ≤ found
-  pub high : found ≤ to
-  pub behind : (i : ℕ) → found ≤ i → i < to → test i ≡ false
-  pub met : from < found → test (found - 1) ≡ true
-
 abbrev pub range : ℕ → ℕ → Range ℕ
 range start end = record { start = start; end = end }
 

@@ -3,18 +3,16 @@ use Rattle.std.specs.Prelude.{ℕ, Bool, true, false, not, List}
 use Rattle.rec_text.specs.declared.element.Kind.{Kind}
 use Rattle.rec_text.specs.declared.element.Kind.TheVariants.{Blank, Comment, Field}
 use Rattle.rec_text.specs.declared.search.Sought.{Sought}
-use Rattle.rec_text.specs.declared.search.Sought.TheVariants.{Blank as SoughtBlank, Full as SoughtFull, Field as SoughtField}
+use Rattle.rec_text.specs.declared.search.Sought.TheVariants.{Blank as SoughtBlank, Full as SoughtFull}
 use Rattle.rec_text.specs.Elements.{Piece}
-use Rattle.rec_text.specs.Records.{is_blank_at, is_full_at, is_field_at}
+use Rattle.rec_text.specs.Records.{is_blank_at, is_full_at}
 
 -- an element of this kind is what is sought
 abbrev pub is_met : Sought → Kind → Bool
 is_met SoughtBlank kind = elim kind [ Blank ↦ true | Comment ↦ false | Field ↦ false ]
 is_met SoughtFull kind = not (elim kind [ Blank ↦ true | Comment ↦ false | Field ↦ false ])
-is_met SoughtField kind = elim kind [ Blank ↦ false | Comment ↦ false | Field ↦ true ]
 
 -- the element of this index is there and is what is sought
 abbrev pub is_met_at : Sought → List Piece → ℕ → Bool
 is_met_at SoughtBlank pieces = is_blank_at pieces
 is_met_at SoughtFull pieces = is_full_at pieces
-is_met_at SoughtField pieces = is_field_at pieces

@@ -5,12 +5,14 @@ use crate::element::Element;
 use crate::records::{Paragraphs, Records};
 use memchr::memchr_iter;
 use std::marker::Model;
+use std::ops::Range;
 
-/// A text, and its elements.
+/// A text, its elements and its records.
 #[derive(Debug, Drop)]
 pub struct Database<'t> {
     text: &'t [u8],
     elements: Vec<Element<'t>>,
+    records: Vec<Range<usize>>,
 }
 
 impl<'t> Model for Database<'t> {
@@ -20,10 +22,11 @@ impl<'t> Model for Database<'t> {
     ghost Value = { List Piece };
 
     ghost use Rattle.rec_text.specs.Places.{pieces_of, AreWhole};
+    ghost use Rattle.rec_text.specs.Records.{AreRecords};
 
     ghost view = { λ d. pieces_of d.elements.items };
 
-    ghost invariant = { λ d. AreWhole d.text.now d.elements.items };
+    ghost invariant = { λ d. AreWhole d.text.now d.elements.items × AreRecords (pieces_of d.elements.items) d.records.items };
 }
 
 impl<'t> Database<'t> {
@@ -32,11 +35,20 @@ impl<'t> Database<'t> {
     ghost use Rattle.rec_text.specs.Places.{pieces_of, AreFrom, AreWhole};
     ghost use Rattle.rec_text.specs.Records.{AreParagraphs, AreRecords};
 
-    pub(crate) fn of_elements(text: &'t [u8], elements: Vec<Element<'t>>) -> Database<'t>
-        requires { AreWhole text.now elements.items }
+    pub(crate) fn of(
+        text: &'t [u8],
+        elements: Vec<Element<'t>>,
+        records: Vec<Range<usize>>,
+    ) -> Database<'t>
+        requires whole { AreWhole text.now elements.items }
+        requires records { AreRecords (pieces_of elements.items) records.items }
         ensures { result ≡ pieces_of elements.entry.items }
     {
-        Database { text, elements }
+        Database {
+            text,
+            elements,
+            records,
+        }
     }
 
     /// The text, which is the elements joined.
@@ -63,10 +75,10 @@ impl<'t> Database<'t> {
     }
 
     /// The records, as ranges of element indexes, in order. A descriptor is a record too.
-    pub fn records(&self) -> Records<'_, 't>
+    pub fn records(&self) -> Records<'_>
         ensures { AreRecords self.now result }
     {
-        Records::of(&self.elements)
+        Records::of(&self.records)
     }
 
     /// The number of the line in which a place of the text lies, counted from 1.

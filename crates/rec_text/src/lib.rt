@@ -7,8 +7,11 @@ mod canonical;
 mod database;
 mod element;
 mod fault;
+#[cfg(test)]
+mod growth_tests;
 mod laws;
 mod lines;
+mod listing;
 mod name;
 mod reader;
 #[cfg(test)]

@@ -8,6 +8,7 @@ ghost use Rattle.rec_text.specs.Reading.{IsReading, line_after as number_of_line
 use crate::database::Database;
 use crate::element::Element;
 use crate::fault::Fault;
+use crate::listing::Listing;
 use crate::scan::{First, first_of};
 use memchr::memchr_iter;
 use std::alloc::Global;
@@ -29,12 +30,14 @@ pub fn read<'t>(alloc: Global, text: &'t [u8]) -> Result<Database<'t>, Fault>
     ensures only { (other : Result (List Piece) Fault) → IsReading text.now other → UnlessMemory result (λ answer. answer ≡ other) }
 {
     let mut elements = Vec::new(alloc);
+    let mut listing = Listing::new(alloc);
     let mut at = 0;
     while at < text.len() {
         match first_of(&text[at..]) {
             First::Whole(kind, len) => {
                 let end = at + len;
                 let raw = &text[at..end];
+                listing.add(kind, elements.len())?;
                 elements.push(Element { kind, at, raw })?;
                 at = end;
             }
@@ -50,5 +53,5 @@ pub fn read<'t>(alloc: Global, text: &'t [u8]) -> Result<Database<'t>, Fault>
             }
         }
     }
-    Ok(Database::of_elements(text, elements))
+    Ok(Database::of(text, elements, listing.finish()?))
 }

@@ -1,11 +1,13 @@
 use crate::bytes::Bytes;
 use crate::element::{Element, Kind};
 use crate::fault::Fault;
+use crate::listing::Listing;
 use crate::reader::read;
-use crate::records::{Paragraphs, Records};
+use crate::records::Paragraphs;
 use crate::sink::{Output, Sink, put_all};
 use crate::violations::{Rule, Violation, Violations};
-use std::alloc::Global;
+use std::alloc::{AllocError, Global};
+use std::ops::Range;
 use std::test::Fail;
 
 /// Two violations.
@@ -141,6 +143,14 @@ fn elements_of(alloc: Global, letters: &str) -> Result<Vec<Element<'static>>, Fa
     Ok(elements)
 }
 
+fn records_of(alloc: Global, elements: &[Element<'_>]) -> Result<Vec<Range<usize>>, AllocError> {
+    let mut listing = Listing::new(alloc);
+    for (index, element) in elements.iter().enumerate() {
+        listing.add(element.kind, index)?;
+    }
+    listing.finish()
+}
+
 #[test]
 fn paragraphs_end_at_blanks_and_records_at_fields(rt: HostRuntime) -> Result<(), Fail> {
     let alloc = rt.alloc();
@@ -169,7 +179,7 @@ fn paragraphs_end_at_blanks_and_records_at_fields(rt: HostRuntime) -> Result<(),
         }
         assert!(rt; wanted.next().is_none(), "{letters}");
         let mut wanted = records.iter();
-        for found in Records::of(&elements) {
+        for found in records_of(alloc, &elements)? {
             assert_eq!(rt; Some(&(found.start, found.end)), wanted.next(), "{letters}");
         }
         assert!(rt; wanted.next().is_none(), "{letters}");
@@ -194,6 +204,7 @@ fn a_text_has_names_records_and_lines(rt: HostRuntime) -> Result<(), Fail> {
     assert_eq!(rt; paragraphs.next(), None);
     let mut records = database.records();
     assert_eq!(rt; records.next(), Some(2..5));
+    assert_eq!(rt; records.as_slice(), [6..7].as_slice());
     assert_eq!(rt; records.next(), Some(6..7));
     assert_eq!(rt; records.next(), None);
     let names = ["", "", "%rec", "", "%key", "", "Name", "", ""];
@@ -206,4 +217,21 @@ fn a_text_has_names_records_and_lines(rt: HostRuntime) -> Result<(), Fail> {
         assert_eq!(rt; database.line_of(at), line, "at {at}");
     }
     Ok(())
+}
+
+#[test]
+fn words_of_rules(rt: HostRuntime) {
+    let words = [
+        (Rule::Size, "size"),
+        (Rule::Key, "key"),
+        (Rule::Mandatory, "mandatory"),
+        (Rule::Prohibit, "prohibit"),
+        (Rule::Unique, "unique"),
+        (Rule::Allowed, "allowed"),
+        (Rule::Fit, "type"),
+        (Rule::Constraint, "constraint"),
+    ];
+    for (rule, word) in words {
+        assert_eq!(rt; rule.word(), word);
+    }
 }

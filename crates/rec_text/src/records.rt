@@ -1,11 +1,11 @@
 //! The paragraphs and the records of a text, one after another.
-ghost use Rattle.std.specs.Prelude.{◌≡◌, ◌≤◌, length};
+ghost use Rattle.std.specs.Prelude.{◌≡◌, ◌≤◌, length, IfOk};
 ghost use Rattle.std.specs.Iterator.{YieldsFirst, item_count};
 ghost use Rattle.rec_text.specs.Places.{pieces_of};
 ghost use Rattle.rec_text.specs.Records.{is_full_at, AreParagraphs, AreRecords};
 
 use crate::element::Element;
-use crate::search::{Sought, first_in, narrowed};
+use crate::search::{Sought, first_in};
 use std::marker::Model;
 use std::ops::Range;
 
@@ -56,38 +56,35 @@ impl<'d, 't> Iterator for Paragraphs<'d, 't> {
 
 /// The records that are left. Contracts see them as a list of ranges.
 #[derive(Drop)]
-pub struct Records<'d, 't> {
-    elements: &'d [Element<'t>],
-    paragraphs: Paragraphs<'d, 't>,
+pub struct Records<'d> {
+    left: &'d [Range<usize>],
 }
 
-impl<'d, 't> Model for Records<'d, 't> {
-    ghost use Rattle.std.specs.Prelude.{List, ℕ, ◌<◌, ◌≤◌, length};
-    ghost use Rattle.std.specs.List.{AllByRecursion};
+impl<'d> Model for Records<'d> {
+    ghost use Rattle.std.specs.Prelude.{List, ℕ};
     ghost use Rattle.std.specs.declared.ops.Range.{Range};
-    ghost use Rattle.rec_text.specs.Places.{pieces_of};
-    ghost use Rattle.rec_text.specs.Records.{is_field_at};
-    ghost use Rattle.rec_text.specs.Scanned.{all_narrowed, IsWithin};
 
     ghost Value = { List (Range ℕ) };
 
-    ghost view = { λ r. all_narrowed (is_field_at (pieces_of r.elements.now)) r.paragraphs };
-
-    ghost invariant = { λ r. AllByRecursion (IsWithin (length r.elements.now)) r.paragraphs };
+    ghost view = { λ r. r.left.now };
 }
 
-impl<'d, 't> Records<'d, 't> {
-    pub(crate) fn of(elements: &'d [Element<'t>]) -> Records<'d, 't>
-        ensures { AreRecords (pieces_of elements.now) result }
+impl<'d> Records<'d> {
+    pub(crate) fn of(left: &'d [Range<usize>]) -> Records<'d>
+        ensures { result ≡ left.now }
     {
-        Records {
-            elements,
-            paragraphs: Paragraphs::of(elements),
-        }
+        Records { left }
+    }
+
+    /// Those that are left.
+    pub fn as_slice(&self) -> &'d [Range<usize>]
+        ensures { result.now ≡ self.now }
+    {
+        self.left
     }
 }
 
-impl<'d, 't> Iterator for Records<'d, 't> {
+impl<'d> Iterator for Records<'d> {
     type Item = Range<usize>;
 
     ghost next_gives = { YieldsFirst (λ rest. rest) };
@@ -95,11 +92,8 @@ impl<'d, 't> Iterator for Records<'d, 't> {
     ghost remaining = { item_count (λ rest. rest) };
 
     fn next(&mut self) -> Option<Range<usize>> {
-        while let Some(paragraph) = self.paragraphs.next() {
-            if let Some(fields) = narrowed(self.elements, paragraph) {
-                return Some(fields);
-            }
-        }
-        None
+        let (first, rest) = self.left.split_first()?;
+        *self = Records::of(rest);
+        Some(first.start..first.end)
     }
 }

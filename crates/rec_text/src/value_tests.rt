@@ -1,6 +1,6 @@
-//! Values of worked examples, and fields as they are written.
+//! Values of worked examples, fields as they are written, and their names.
 
-use crate::canonical::put_field;
+use crate::canonical::{is_field_name, is_plain_name, put_field};
 use crate::element::{Element, Kind};
 use crate::value::Value;
 use std::test::Fail;
@@ -133,4 +133,30 @@ fn refusals_leave_all_as_it_was(rt: HostRuntime) -> Result<(), Fail> {
         assert_eq!(rt; out.as_slice(), b"K: 0\n".as_slice());
     }
     Ok(())
+}
+
+#[test]
+fn names_of_fields(rt: HostRuntime) {
+    for name in [b"A".as_slice(), b"z", b"Name_2", b"a__9Z"] {
+        assert!(rt; is_plain_name(name) && is_field_name(name), "at {name:?}");
+    }
+    for name in [b"%".as_slice(), b"%rec", b"%Key_1", b"%_", b"%1"] {
+        assert!(rt; !is_plain_name(name) && is_field_name(name), "at {name:?}");
+    }
+    for name in [
+        b"".as_slice(),
+        b"1A",
+        b"_A",
+        b"%%a",
+        b"A%",
+        b"A-b",
+        b"A b",
+        b" A",
+        b"A:",
+        b"A\n",
+        b"\xe9",
+        b"A\xe9",
+    ] {
+        assert!(rt; !is_plain_name(name) && !is_field_name(name), "at {name:?}");
+    }
 }

@@ -7,7 +7,7 @@ use Rattle.rec_text.proofs.database.Database.line_of.Goals as goal
 pub returns : goal.returns
 returns c =
     let text : c.self.inside.text.now ≡ text_of c.args.self.now =
-    sym c.self.invariant.whole.joined ∙ ap text_of c.self.view_is in
+    sym c.self.invariant.0.whole.joined ∙ ap text_of c.self.view_is in
     let count : c.count.result ≡ count_by (λ b. b == 10) (take c.args.at c.self.inside.text.now) =
     c.count.ensures ∙ ap length c.memchr_iter.ensures.value ∙ length-places (λ b. b == 10) (take c.args.at c.self.inside.text.now) in
     ap (λ n. n + 1) count ∙ ap (λ (t : List ℕ). line_after (take c.args.at t)) text

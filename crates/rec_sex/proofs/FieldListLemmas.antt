@@ -1,26 +1,23 @@
 -- Names, items and whole field lists.
-use Rattle.std.proofs.Common.{◌≡◌, ◌∙◌, ℕ, ◌+◌, ◌-◌, true, false, cond, List, [], ◌∷◌, ◌++◌, length, take, drop, Option, Some, None, Result, Ok, refl, ap, sym, subst, inl, inr, arith, ltb, not, unwrap_or}
-use Rattle.std.proofs.lemmas.List.{append_assoc, append-nil, nil_from_length, length-append, take-append-drop}
+use Rattle.std.proofs.Common.{◌≡◌, ◌∙◌, ℕ, ◌+◌, ◌-◌, true, false, List, [], ◌∷◌, ◌++◌, length, take, drop, Option, Some, None, Result, Ok, refl, ap, sym, subst, inl, inr, arith}
+use Rattle.std.proofs.lemmas.List.{append_assoc, append-nil, nil_from_length, length-append, length-take-le, take-append-drop}
 use Rattle.std.proofs.Math.Numerals.{one-add}
 use Rattle.std.proofs.lemmas.List.Sums.{prefix_len-le-length}
 use Rattle.std.proofs.lemmas.Bool.{cases_Bool, eqb-true}
-use Rattle.std.specs.List.{prefix_len, position_or_len}
+use Rattle.std.specs.List.{prefix_len, take_while}
 use Rattle.rec_text.specs.Bytes.{begins_name, continues_name}
 use Rattle.rec_sex.specs.declared.index_list.Span.{Span}
 use Rattle.rec_sex.specs.declared.field_list.Item.{Item}
 use Rattle.rec_sex.specs.IndexItems.{BeginsNumber}
 use Rattle.rec_sex.specs.Lists.{begins_continuation, IsItem, AreItems, AreItemsBefore, ends_item, IsSecondFault, IsSubscriptFault, IsItemFault, HasFault}
 use Rattle.rec_sex.specs.FieldItems.{BeginsName, BeginsSubscript, BeginsItem}
-use Rattle.rec_sex.proofs.IndexListLemmas.{prefix_len-not_not, count_from_place, list_all-front, digits_alone}
+use Rattle.rec_sex.proofs.IndexListLemmas.{list_all-front, digits_alone}
 
 -- ---- names
 
--- the place of the first byte that a name can't go on with is how many bytes it goes on with
-pub continuation_len_is : (bytes : List ℕ) (place : Option ℕ) (count : ℕ)
-    → place ≡ cond (ltb (position_or_len (λ b. not (continues_name b)) bytes) (length bytes)) (Some (position_or_len (λ b. not (continues_name b)) bytes)) None
-    → count ≡ unwrap_or place (length bytes) → count ≡ prefix_len continues_name bytes
-continuation_len_is bytes place count found answered =
-    count_from_place place count _ _ (length bytes) found answered (prefix_len-not_not continues_name bytes) (prefix_len-le-length continues_name bytes)
+-- how many bytes that a name goes on with come first
+pub length-word : (bytes : List ℕ) → length (take_while continues_name bytes) ≡ prefix_len continues_name bytes
+length-word bytes = length-take-le (prefix_len continues_name bytes) bytes (prefix_len-le-length continues_name bytes)
 
 begins_continuation-behind : (bytes : List ℕ) → begins_continuation (drop (prefix_len continues_name bytes) bytes) ≡ false
 begins_continuation-behind [] = refl

@@ -67,13 +67,12 @@ left_of-other (Some span) seen place places other =
 
 -- ---- the places of a name, one element after the other
 
--- this element has the name, as its own name and the one that is sought compare
+-- whether this element has the name, as a text that equals the one that is sought
 abbrev pub Compares : Element → List ℕ → Bool → Type 0
-Compares field name answer = (own sought : List ℕ) × (own ≡ name_of (piece_of field)) × (sought ≡ name) × (answer ≡ bytes_eq own sought)
+Compares field name answer = (sought : List ℕ) × (sought ≡ name) × (answer ≡ bytes_eq (name_of (piece_of field)) sought)
 
 compared : (field : Element) (name : List ℕ) (answer : Bool) → Compares field name answer → bytes_eq (name_of (piece_of field)) name ≡ answer
-compared field name answer (own, sought, own_is, sought_is, answered) =
-    sym (answered ∙ ap (λ o. bytes_eq o sought) own_is ∙ ap (bytes_eq (name_of (piece_of field))) sought_is)
+compared field name answer (sought, sought_is, answered) = sym (answered ∙ ap (bytes_eq (name_of (piece_of field))) sought_is)
 
 places_from-named : (place : ℕ) (name : List ℕ) (fields : List Element) (d : Element) → place < length fields → Compares (get_or fields place d) name true
     → places_from place name (pieces_of (drop place fields)) ≡ place ∷ places_from (place + 1) name (pieces_of (drop (place + 1) fields))

@@ -1,12 +1,13 @@
 //! Lists of fields, such as `Name,Email[0-1]`.
 ghost use Rattle.std.specs.Prelude.{◌≡◌, ◌∷◌, ◌++◌, false, IfOk, IfErr, MatchOption, MatchResult};
-ghost use Rattle.std.specs.List.{prefix_len};
-ghost use Rattle.rec_text.specs.Bytes.{begins_name as may_begin, continues_name as may_continue};
+ghost use Rattle.rec_text.specs.Bytes.{begins_name as may_begin};
 ghost use Rattle.rec_text.specs.Places.{pieces_of};
 ghost use Rattle.rec_sex.specs.Lists.{begins_field, begins_with, occurrences, places_from, IsClosingFault, IsSecondFault, IsSubscriptFault, IsItemFault};
 ghost use Rattle.rec_sex.specs.FieldItems.{is_among, BeginsName, Closes, ClosesPair, BeginsSubscript, BeginsItem};
 
 use crate::index_list::{Span, behind_hyphen, ends_item, number};
+use crate::lexeme::word_at;
+use crate::occurrences::has_name;
 use rec_text::{Bytes, Element, Fault};
 use std::alloc::Global;
 use std::marker::Model;
@@ -39,21 +40,6 @@ fn begins_name(byte: u8) -> bool
     byte.is_ascii_alphabetic() || byte == b'%'
 }
 
-fn continues_name(byte: u8) -> bool
-    ensures { result ≡ may_continue byte }
-{
-    byte.is_ascii_alphanumeric() || byte == b'_'
-}
-
-/// How many bytes that a name may go on with come first.
-fn continuation_len(text: &[u8]) -> usize
-    ensures { result ≡ prefix_len may_continue text.now }
-{
-    text.iter()
-        .position(|byte| !continues_name(*byte))
-        .unwrap_or(text.len())
-}
-
 /// The name that a text begins with, and what stands behind it.
 fn leading_name(text: &[u8]) -> Option<(&[u8], &[u8])>
     ensures { MatchOption result (begins_field text.now ≡ false) (λ (name, rest). BeginsName text.now name.now rest.now) }
@@ -62,7 +48,7 @@ fn leading_name(text: &[u8]) -> Option<(&[u8], &[u8])>
     if !begins_name(*first) {
         return None;
     }
-    Some(text.split_at(1 + continuation_len(behind)))
+    Some(text.split_at(1 + word_at(behind).len()))
 }
 
 /// What stands behind the opening bracket, where one comes first.
@@ -160,7 +146,7 @@ fn add_places(item: &Item, fields: &[Element], places: &mut Vec<usize>) -> Resul
 {
     let mut occurrence = 0;
     for (place, field) in fields.iter().enumerate() {
-        if field.name() == item.name.as_slice() {
+        if has_name(field, item.name.as_slice()) {
             if is_among(item.occurrences, occurrence) {
                 places.push(place)?;
             }

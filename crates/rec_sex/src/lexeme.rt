@@ -32,7 +32,7 @@ fn continues_name(byte: u8) -> bool
 }
 
 /// All letters, digits and `_` that come first.
-fn word_at(text: &[u8]) -> &[u8]
+pub(crate) fn word_at(text: &[u8]) -> &[u8]
     ensures { result.now ≡ take_while may_continue text.now }
 {
     for (end, byte) in text.iter().enumerate() {

@@ -5,14 +5,14 @@
 mod choices;
 mod evaluation;
 mod evaluator;
-#[cfg(test)]
-mod evaluator_tests;
 mod expr;
 #[cfg(test)]
 mod expr_tests;
 mod field_list;
 #[cfg(test)]
 mod field_list_tests;
+#[cfg(test)]
+mod growth_tests;
 mod index_list;
 #[cfg(test)]
 mod index_list_tests;
@@ -26,9 +26,9 @@ mod magnitude;
 mod occurrences;
 mod operand;
 mod parser;
-#[cfg(test)]
-mod parser_tests;
 mod pattern;
+#[cfg(test)]
+mod rows;
 #[cfg(test)]
 mod selection_tests;
 mod token;

@@ -1,5 +1,5 @@
 -- What a schema says of the records of its text, and the violations of one set after another.
-use Rattle.std.proofs.Common.{◌≡◌, ◌∙◌, ℕ, zero, suc, ◌+◌, ◌-◌, ◌<◌, ◌≤◌, List, [], ◌∷◌, ◌++◌, Option, Some, None, length, length-append, drop, flat_map, get_or, map, min, take, refl, ap, sym, subst, arith, append_assoc}
+use Rattle.std.proofs.Common.{◌≡◌, ◌∙◌, ℕ, zero, suc, ◌+◌, ◌-◌, ◌<◌, ◌≤◌, List, [], ◌∷◌, ◌++◌, Option, Some, None, length, length-append, drop, flat_map, get_or, map, take, refl, ap, sym, subst, arith, append_assoc}
 use Rattle.std.proofs.lemmas.List.{append-nil, drop_more, get_or-map, length-map, length-replicate, length-take-le, take_all, take_more}
 use Rattle.std.proofs.lemmas.List.Elements.{All-from_recursion, All-get_or}
 use Rattle.std.proofs.lemmas.Option.{none-some}
@@ -16,7 +16,7 @@ use Rattle.rec_text.proofs.RecordLemmas.{OneListOfRecords-holds}
 use Rattle.rec_check.specs.declared.rules.Rules.{Rules as StoredRules}
 use Rattle.rec_check.specs.declared.set.Set_.{Set_}
 use Rattle.rec_check.specs.Checks.{AddsOfSet}
-use Rattle.rec_check.specs.Descriptors.{elements_in, type_of, types_of}
+use Rattle.rec_check.specs.Descriptors.{elements_in, type_of}
 use Rattle.rec_check.specs.Rules.{Rules}
 use Rattle.rec_check.specs.Schemas.{Described, IsDescribed, IsRuled}
 use Rattle.rec_check.specs.Sets.{named_in, AreFrom, BeginsAt}

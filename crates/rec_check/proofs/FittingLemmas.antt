@@ -7,7 +7,7 @@ use Rattle.std.proofs.lemmas.Option.{slice_get-get_or, slice_get-map, same_Some,
 use Rattle.std.specs.List.{slice_get, enumerate_from, filter_map}
 use Rattle.std.proofs.lemmas.List.{append-nil, append_assoc, length-map, length-take-le, map_more}
 use Rattle.std.proofs.lemmas.List.Elements.{filter_map-append}
-use Rattle.std.specs.Option.{option_map, option_map_or, option_and_then}
+use Rattle.std.specs.Option.{option_map, option_and_then}
 use Rattle.std.specs.Str.{bytes_eq}
 use Rattle.regex.specs.Patterns.{Re}
 use Rattle.rec_text.specs.declared.element.Element.{Element}
@@ -22,7 +22,8 @@ use Rattle.rec_check.specs.Fitting.{fails, misfits, misfit_violations}
 use Rattle.rec_check.specs.Types.{FieldType, Typing, fits, type_for}
 use Rattle.rec_check.specs.Violations.{line_at, violation}
 use Rattle.rec_check.specs.Words.{is_among}
-use Rattle.rec_check.proofs.NameLemmas.{bytes_eq_sym, field_test, no_field_test}
+use Rattle.rec_check.proofs.NameLemmas.{field_test, no_field_test}
+use Rattle.rec_check.proofs.TypeLemmas.{bytes_eq-sym}
 
 -- ---- one value
 
@@ -58,7 +59,7 @@ pub place_more : (names : List (List ℕ)) (i : ℕ) (name own value : List ℕ)
     → so_far ≡ cond (is_among (take i names) value) place old → new ≡ cond (bytes_eq name value) place so_far → new ≡ cond (is_among (take (i + 1) names) value) place old
 place_more names i name own value place old so_far new within at is reached put =
     put ∙ ap (λ o. cond (bytes_eq name value) place o) reached ∙ cond_or (is_among (take i names) value) (bytes_eq name value) place old
-    ∙ ap (λ b. cond (is_among (take i names) value || b) place old) (bytes_eq_sym name value ∙ ap (bytes_eq value) (is ∙ at)) ∙ ap (λ b. cond b place old) (sym (list_any_more (bytes_eq value) names i own within))
+    ∙ ap (λ b. cond (is_among (take i names) value || b) place old) (bytes_eq-sym name value ∙ ap (bytes_eq value) (is ∙ at)) ∙ ap (λ b. cond b place old) (sym (list_any_more (bytes_eq value) names i own within))
 
 -- ---- one typing after another
 

@@ -1,14 +1,13 @@
 -- The places and the lines at which elements begin.
-use Rattle.std.proofs.Common.{◌≡◌, ◌∙◌, ℕ, zero, suc, ◌+◌, ◌-◌, ◌<◌, ◌≤◌, ◌==◌, Bool, cond, List, [], ◌∷◌, ◌++◌, Option, Some, None, length, take, drop, count_by, get_or, refl, ap, sym, arith, append_assoc, length-append}
+use Rattle.std.proofs.Common.{◌≡◌, ◌∙◌, ℕ, zero, suc, ◌+◌, ◌-◌, ◌≤◌, ◌==◌, Bool, cond, List, [], ◌∷◌, ◌++◌, Option, Some, None, length, take, drop, count_by, refl, ap, sym, arith, append_assoc, length-append}
 use Rattle.std.proofs.Math.Seq.{take-add, drop-append_seam, take-append_seam}
 use Rattle.std.proofs.lemmas.List.{take-append-drop}
 use Rattle.std.proofs.lemmas.List.Sums.{sum_by-append, count_by-le-length}
-use Rattle.std.proofs.lemmas.Option.{slice_get-get_or, same_Some}
+use Rattle.std.proofs.lemmas.Option.{same_Some}
 use Rattle.std.specs.List.{slice_get}
 use Rattle.rec_text.specs.declared.element.Element.{Element}
 use Rattle.rec_text.specs.Elements.{Piece, text_of}
 use Rattle.rec_text.specs.Places.{AreFrom, pieces_of}
-use Rattle.rec_text.specs.Reading.{line_after}
 use Rattle.rec_check.specs.Violations.{line_at}
 use Rattle.rec_check.specs.Walking.{ArePlaced}
 

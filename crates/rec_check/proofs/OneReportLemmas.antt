@@ -1,16 +1,11 @@
 -- A text has one report: what breaks a rule breaks each rule that is the same.
-use Rattle.std.proofs.Common.{◌≡◌, ◌≢◌, ◌∙◌, ℕ, zero, suc, ◌+◌, ◌-◌, ◌/◌, ◌<◌, Bool, true, false, cond, List, [], ◌∷◌, ◌++◌, get_or, Option, Some, None, Result, Ok, Err, refl, sym, ap, ap₂, subst, inl, inr, arith, lit<, ⊎_elim}
-use Rattle.std.specs.Prelude.{◌&&◌, ⊤, nat_lt, nat_le, neg_ℤ, ◌==◌, not, filter, filter_map, decimal, option_to_list, unwrap_or, if◌then◌else◌}
+use Rattle.std.proofs.Common.{◌≡◌, ◌≢◌, ◌∙◌, ℕ, ◌+◌, ◌-◌, Bool, true, false, List, [], ◌∷◌, ◌++◌, Option, Some, None, Result, Ok, Err, refl, sym, ap, ap₂, subst, inl, inr}
+use Rattle.std.specs.Prelude.{◌&&◌, ⊤, nat_le, ◌==◌, not, filter, filter_map, decimal, option_to_list, unwrap_or, if◌then◌else◌}
 use Rattle.std.specs.List.{AllZip, enumerate_from}
-use Rattle.std.specs.Option.{option_map, option_map_or, option_and_then}
-use Rattle.std.specs.Str.{is_utf8, IsUtf8}
+use Rattle.std.specs.Option.{option_map_or}
 use Rattle.std.specs.declared.ops.Range.{Range}
-use Rattle.std.proofs.lemmas.Bool.Decides.{nat_tests}
-use Rattle.std.proofs.lemmas.Str.{IsUtf8-from_is_utf8}
-use lib.Utf8.{encode, encodes, scalar, scalars, scalar_cases, next}
 use mathlib.Core.Path.{fun_ext}
-use Rattle.regex.specs.Patterns.{Re, SameCaptures}
-use Rattle.regex.proofs.ForCallers.{is_match_alike}
+use Rattle.regex.specs.Patterns.{Re}
 use Rattle.rec_text.specs.declared.fault.Fault.{Fault}
 use Rattle.rec_text.specs.declared.fault.Fault.TheVariants.{BadPattern}
 use Rattle.rec_text.specs.declared.violations.Rule.TheVariants.{Size, Key, Mandatory, Prohibit, Unique, Allowed, Fit, Constraint}
@@ -20,8 +15,8 @@ use Rattle.rec_text.specs.Records.{is_field_piece}
 use Rattle.rec_text.specs.Values.{value_of}
 use Rattle.rec_text.proofs.RecordLemmas.{OneListOfRecords-holds}
 use Rattle.rec_sex.specs.Expressions.{AreSame}
-use Rattle.rec_sex.specs.Grammar.{Term, inverse, negated, binary, found, choice}
-use Rattle.rec_sex.specs.Meaning.{Choice_, Meaning, Selects, sem, is_true, is_zero, is_found, truth, reading_of, text_of, in_range}
+use Rattle.rec_sex.specs.Grammar.{Term}
+use Rattle.rec_sex.specs.Meaning.{Choice_, Selects, sem, is_true}
 use Rattle.rec_sex.proofs.UniqueLemmas.{same_is_found, same_sem}
 use Rattle.rec_check.specs.declared.set.Set_.{Set_}
 use Rattle.rec_check.specs.declared.special.Bound.{Bound}

@@ -1,6 +1,6 @@
 -- Violations, joined record by record and set by set.
 use Rattle.std.proofs.Common.{◌≡◌, ◌∙◌, ℕ, ◌+◌, ◌-◌, ◌<◌, ◌≤◌, Bool, true, false, not, List, [], ◌∷◌, ◌++◌, Option, Some, None, filter, length, map, take, drop, get_or, refl, ap, sym, subst, arith, append_assoc}
-use Rattle.std.proofs.lemmas.List.{append-nil, drop-map, drop-take, length-drop, length-map, length-take, map_more, take-map, take_all, take_more}
+use Rattle.std.proofs.lemmas.List.{append-nil, drop-map, drop-take, length-drop, length-map, length-take, take-map, take_all, take_more}
 use Rattle.std.proofs.lemmas.List.Elements.{filter_agree}
 use Rattle.std.specs.Prelude.{if◌then◌else◌, option_to_list, unwrap_or}
 use Rattle.std.specs.Option.{option_and_then, option_map_or}
@@ -21,9 +21,9 @@ use Rattle.rec_check.specs.declared.limit.Limit.TheVariants.{Present, Absent, Si
 use Rattle.rec_check.specs.Checks.{AddsOfRecord, AddsOfRecords, AddsOfSet, AddsUnselected, limit_violations}
 use Rattle.rec_check.specs.Descriptors.{elements_in, meets}
 use Rattle.rec_check.specs.Rules.{Rules}
-use Rattle.rec_check.specs.Fitting.{misfits, misfit_violations}
+use Rattle.rec_check.specs.Fitting.{misfit_violations}
 use Rattle.rec_check.specs.Types.{FieldType, type_for}
-use Rattle.rec_check.specs.Violations.{AreOfRecord, AreOfRecords, AreOfSet, AreUnselected, allowed_violations, breaks_key, breaks_size, head_line, is_allowed, key_violations, line_at, mandatory_violations, members, names_of, prohibit_violations, size_violations, type_violations, unique_violations, violation, violations_of}
+use Rattle.rec_check.specs.Violations.{AreOfRecord, AreOfRecords, AreUnselected, allowed_violations, breaks_key, breaks_size, head_line, is_allowed, key_violations, line_at, mandatory_violations, members, names_of, prohibit_violations, size_violations, type_violations, unique_violations, violation, violations_of}
 use Rattle.rec_check.specs.Words.{distinct}
 use Rattle.rec_check.proofs.FittingLemmas.{misfits-same}
 

@@ -24,7 +24,7 @@ module _ {X Y : Type 0} (test : Y → Bool) (f : X → Y) where
 
 -- ---- the types of sets
 
-bytes_eq-sym : (some other : List ℕ) → bytes_eq some other ≡ bytes_eq other some
+pub bytes_eq-sym : (some other : List ℕ) → bytes_eq some other ≡ bytes_eq other some
 bytes_eq-sym some other = elim (cases_Bool (bytes_eq some other)) [
   | inl same ↦ let e : some ≡ other = (bytes_eq-Decides some other).0 same in ap (λ x. bytes_eq x other) e ∙ ap (bytes_eq other) (sym e)
   | inr apart ↦ elim (cases_Bool (bytes_eq other some)) [

@@ -1,5 +1,5 @@
 -- Descriptors: the records with a `%rec` field, what their fields mean, and what may be wrong with one of these.
-use Rattle.std.specs.Prelude.{ℕ, ◌-◌, Bool, true, false, ◌==◌, ◌||◌, ◌&&◌, not, nat_le, nat_lt, is_some, List, [], ◌∷◌, map, drop, take, find, filter_map, flat_map, codes, slice_get, Option, Some, None, option_map, option_and_then, if◌then◌else◌}
+use Rattle.std.specs.Prelude.{ℕ, ◌-◌, Bool, false, ◌==◌, ◌||◌, ◌&&◌, not, nat_le, nat_lt, is_some, List, [], ◌∷◌, map, drop, take, find, filter_map, codes, slice_get, Option, Some, None, option_map, option_and_then, if◌then◌else◌}
 use Rattle.std.specs.List.{list_any, list_all}
 use Rattle.std.specs.Option.{option_map_or}
 use Rattle.std.specs.Str.{bytes_eq}

@@ -5,7 +5,6 @@ use Rattle.rec_check.specs.declared.checker.Checker.{Checker}
 use Rattle.rec_check.specs.declared.limit.Limit.{Limit}
 use Rattle.rec_check.specs.declared.limit.Limit.TheVariants.{Present, Absent, Single}
 use Rattle.rec_check.specs.declared.limit.Limited.{Limited}
-use Rattle.rec_check.specs.Checks.{texts}
 use Rattle.rec_check.specs.Constraints.{terms_in}
 use Rattle.rec_check.specs.Keys.{IsAfter}
 use Rattle.rec_check.specs.Names.{allows}
@@ -16,7 +15,7 @@ use Rattle.rec_check.specs.Violations.{is_allowed}
 use Rattle.rec_check.specs.Words.{distinct}
 
 abbrev pub IsLimit : Limit → List (List ℕ) → Limited → Type 0
-IsLimit limit names limited = (limited.limit ≡ limit) × (texts limited.names.items ≡ distinct names)
+IsLimit limit names limited = (limited.limit ≡ limit) × (limited.names ≡ distinct names)
 
 -- these are the rules, and these records came before
 pub record IsReady (rules : Rules) (earlier : List (List Piece)) (checker : Checker) : Type 0 where

@@ -1,5 +1,5 @@
 -- A schema in memory, and what it stands for.
-use Rattle.std.specs.Prelude.{ℕ, List, map, option_map}
+use Rattle.std.specs.Prelude.{ℕ, map, option_map}
 use Rattle.regex.specs.Patterns.{Re}
 use Rattle.regex.specs.Strings.{regex_pattern}
 use Rattle.rec_text.specs.declared.fault.Fault.{Fault}

@@ -1,10 +1,10 @@
 -- Types of fields: how a descriptor writes them, and which values fit them.
-use Rattle.std.specs.Prelude.{◌≡◌, ℕ, ℤ, pos, negsuc, ◌-◌, ◌^◌, Bool, true, false, ◌==◌, ◌||◌, ◌&&◌, not, nat_le, int_lt, List, [], ◌∷◌, length, drop, take, count_by, codes, slice_get, Option, Some, None, is_some, option_map, option_and_then, if◌then◌else◌}
+use Rattle.std.specs.Prelude.{◌≡◌, ℕ, ℤ, pos, negsuc, ◌-◌, ◌^◌, Bool, true, false, ◌==◌, ◌||◌, ◌&&◌, not, nat_le, int_lt, List, [], ◌∷◌, count_by, codes, Option, Some, None, is_some, option_map, option_and_then, if◌then◌else◌}
 use Rattle.std.specs.List.{list_all, list_any, slice_split}
 use Rattle.std.specs.Option.{option_map_or}
 use Rattle.std.specs.Str.{bytes_eq, is_utf8}
 use Rattle.regex.specs.Patterns.{Re}
-use Rattle.rec_text.specs.Bytes.{is_letter, is_nil}
+use Rattle.rec_text.specs.Bytes.{is_letter}
 use Rattle.rec_text.specs.Canonical.{is_field_name}
 use Rattle.rec_sex.specs.Grammar.{IsPatternOf}
 use Rattle.rec_sex.specs.Integers.{int_of, trimmed}

@@ -4,7 +4,7 @@ ghost use Rattle.rec_check.specs.Names.{has_name};
 ghost use Rattle.rec_check.specs.Words.{is_among};
 
 use crate::found::add_violations;
-use crate::names::is_among;
+use crate::names::Names;
 use crate::rules::Rules;
 use rec_text::{Bytes, Element, Fault, Kind, Rule, Violation};
 use std::alloc::Global;
@@ -28,9 +28,10 @@ pub(crate) struct Allowed<'r> {
 }
 
 impl<'r> Allowed<'r> {
-    ghost use Rattle.std.specs.Prelude.{◌≡◌, ◌++◌, ℕ, List, IfErr, IfOk, OnOk, filter, not};
-    ghost use Rattle.rec_text.specs.Places.{pieces_of};
-    ghost use Rattle.rec_check.specs.Checks.{texts};
+    ghost use Rattle.std.specs.Prelude.{◌≡◌, ◌&&◌, ◌++◌, ℕ, List, IfErr, IfOk, OnOk, filter, not};
+    ghost use Rattle.rec_text.specs.Elements.{name_of};
+    ghost use Rattle.rec_text.specs.Places.{piece_of, pieces_of};
+    ghost use Rattle.rec_text.specs.Records.{is_field_piece};
     ghost use Rattle.rec_check.specs.Names.{allows};
     ghost use Rattle.rec_check.specs.Stored.{rules_stored};
     ghost use Rattle.rec_check.specs.Violations.{is_allowed, names_of, violations_of};
@@ -59,21 +60,26 @@ impl<'r> Allowed<'r> {
         }
     }
 
+    /// Whether an element is a field whose name isn't allowed.
+    fn refuses(&self, element: &Element) -> bool
+        ensures { result ≡ (is_field_piece (piece_of element.now) && not (allows self.now (name_of (piece_of element.now)))) }
+    {
+        let Kind::Field = element.kind else {
+            return false;
+        };
+        !self.allows(element.name())
+    }
+
     /// The names of a record's fields that aren't allowed, each once, in the order in which they first occur.
-    fn others<'t>(&self, alloc: Global, fields: &[Element<'t>]) -> Result<Vec<&'t [u8]>, Fault>
-        ensures names { IfOk result (λ names. texts names.items ≡ filter (λ name. not (allows self.now name)) (distinct (names_of (pieces_of fields.now)))) }
+    fn others<'t>(&self, alloc: Global, fields: &[Element<'t>]) -> Result<Names<'t>, Fault>
+        ensures names { IfOk result (λ names. names ≡ filter (λ name. not (allows self.now name)) (distinct (names_of (pieces_of fields.now)))) }
         ensures refusals { IfErr result (λ fault. fault ≡ Fault.OutOfMemory) }
     {
-        let mut names = Vec::new(alloc);
+        let mut names = Names::new(alloc);
         for field in fields {
-            let Kind::Field = field.kind else {
-                continue;
-            };
-            let name = field.name();
-            if self.allows(name) || is_among(&names, name) {
-                continue;
+            if self.refuses(field) {
+                names.add(field.name())?;
             }
-            names.push(name)?;
         }
         Ok(names)
     }
@@ -90,6 +96,6 @@ impl<'r> Allowed<'r> {
         ensures refusals { IfErr result (λ fault. fault ≡ Fault.OutOfMemory) }
     {
         let names = self.others(alloc, fields)?;
-        add_violations(alloc, line, Rule::Allowed, &names, found)
+        add_violations(alloc, line, Rule::Allowed, names.as_slice(), found)
     }
 }

@@ -1,41 +1,21 @@
 //! Automatic values: the next number of a counter.
-ghost use Rattle.std.specs.Prelude.{◌≡◌, map, option_map, IfOk, IfErr};
+ghost use Rattle.std.specs.Prelude.{◌≡◌, option_map, IfOk, IfErr};
 ghost use Rattle.rec_text.specs.Faults.{UnlessMemory};
 ghost use Rattle.rec_text.specs.Places.{piece_of, pieces_of};
 ghost use Rattle.rec_text.specs.Values.{value_of};
 ghost use Rattle.rec_sex.specs.Integers.{int_of};
 ghost use Rattle.rec_check.specs.Automatic.{may_count, begins_special, is_counter as may_be_counted};
 ghost use Rattle.rec_check.specs.Counting.{greater, greatest_from, readings_in, IsGreatestOf, IsBehind, IsNextOf};
-ghost use Rattle.rec_check.specs.Stored.{type_stored, typing_stored, rules_stored};
-ghost use Rattle.rec_check.specs.Types.{type_for};
-ghost use Rattle.rec_check.specs.Words.{is_among as among};
+ghost use Rattle.rec_check.specs.Stored.{type_stored, rules_stored};
 
-use crate::field_type::{FieldType, Typing};
+use crate::field_type::FieldType;
 use crate::rules::Rules;
 use crate::set::Set_;
+use crate::types::type_for;
 use rec_sex::int_of;
-use rec_text::{Bytes, Database, Element, Fault};
+use rec_text::{Database, Element, Fault};
 use std::alloc::Global;
 use std::ops::Range;
-
-fn is_among(names: &[Bytes], name: &[u8]) -> bool
-    ensures { result ≡ among names.now name.now }
-{
-    names.iter().any(|own| name == own.as_slice())
-}
-
-/// The type of a field; of two typings of one field the later holds.
-fn type_for<'r>(typings: &'r [Typing], name: &[u8]) -> Option<&'r FieldType>
-    ensures { option_map (λ type_. type_stored type_.now) result ≡ type_for (map typing_stored typings.now) name.now }
-{
-    let mut found = None;
-    for typing in typings {
-        if is_among(&typing.names, name) {
-            found = Some(&typing.type_);
-        }
-    }
-    found
-}
 
 /// Whether the values of a type may be counted.
 fn may_count(type_: Option<&FieldType>) -> bool

@@ -13,12 +13,18 @@ mod draft;
 mod enumeration;
 mod field_type;
 mod found;
+#[cfg(test)]
+mod growth_tests;
 mod key;
 mod kind;
 mod laws;
 mod limit;
 mod lines;
 mod names;
+#[cfg(test)]
+mod plain;
+#[cfg(test)]
+mod plain_tests;
 mod refusal;
 mod regexp;
 mod report;
@@ -34,6 +40,8 @@ mod types;
 mod typing;
 #[cfg(test)]
 mod typing_tests;
+#[cfg(test)]
+mod violations_tests;
 mod words;
 
 pub use laws::{one_report, one_schema};

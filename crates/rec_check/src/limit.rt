@@ -1,9 +1,25 @@
 //! How often names occur in a record.
+ghost use Rattle.std.specs.Prelude.{◌≡◌};
+ghost use Rattle.rec_text.specs.Places.{pieces_of};
+ghost use Rattle.rec_check.specs.Violations.{occurrences};
 
 use crate::found::add_violation;
-use crate::names::{distinct, occurrences};
+use crate::names::Names;
 use rec_text::{Bytes, Element, Fault, Rule, Violation};
 use std::alloc::Global;
+
+/// How many fields have a name.
+fn occurrences(fields: &[Element], name: &[u8]) -> usize
+    ensures { result ≡ occurrences (pieces_of fields.now) name.now }
+{
+    let mut count = 0;
+    for field in fields {
+        if field.name() == name {
+            count += 1;
+        }
+    }
+    count
+}
 
 /// What a rule asks of how often a name occurs in a record.
 #[derive(Clone, Copy, Debug, PartialEq, Eq)]
@@ -42,25 +58,25 @@ impl Limit {
     }
 }
 
-/// Names that a limit is set for, each once.
+/// Names that a limit is set for.
 #[derive(Drop)]
 pub(crate) struct Limited<'r> {
     pub limit: Limit,
-    pub names: Vec<&'r [u8]>,
+    pub names: Names<'r>,
 }
 
 impl<'r> Limited<'r> {
     ghost use Rattle.std.specs.Prelude.{◌≡◌, ◌++◌, IfErr, IfOk, OnOk};
     ghost use Rattle.rec_text.specs.Places.{pieces_of};
-    ghost use Rattle.rec_check.specs.Checks.{texts, limit_violations};
+    ghost use Rattle.rec_check.specs.Checks.{limit_violations};
     ghost use Rattle.rec_check.specs.Words.{distinct};
 
     pub(crate) fn of(alloc: Global, limit: Limit, names: &'r [Bytes]) -> Result<Limited<'r>, Fault>
         ensures limit { IfOk result (λ limited. limited.limit ≡ limit) }
-        ensures names { IfOk result (λ limited. texts limited.names.items ≡ distinct names.now) }
+        ensures names { IfOk result (λ limited. limited.names ≡ distinct names.now) }
         ensures refusals { IfErr result (λ fault. fault ≡ Fault.OutOfMemory) }
     {
-        let names = distinct(alloc, names)?;
+        let names = Names::of(alloc, names)?;
         Ok(Limited { limit, names })
     }
 
@@ -72,10 +88,10 @@ impl<'r> Limited<'r> {
         fields: &[Element],
         found: &mut Vec<Violation>,
     ) -> Result<(), Fault>
-        ensures added { OnOk result (found.new.items ≡ found.old.items ++ limit_violations self.now.limit (texts self.now.names.items) line (pieces_of fields.now)) }
+        ensures added { OnOk result (found.new.items ≡ found.old.items ++ limit_violations self.now.limit self.now.names line (pieces_of fields.now)) }
         ensures refusals { IfErr result (λ fault. fault ≡ Fault.OutOfMemory) }
     {
-        for name in &self.names {
+        for name in self.names.as_slice() {
             if self.limit.is_broken(occurrences(fields, name)) {
                 add_violation(alloc, line, self.limit.rule(), name, found)?;
             }

@@ -1,49 +1,71 @@
-//! Lists of names, and the fields of a record by their names.
-ghost use Rattle.std.specs.Prelude.{◌≡◌, IfErr, IfOk};
-ghost use Rattle.rec_text.specs.Places.{pieces_of};
-ghost use Rattle.rec_check.specs.Checks.{texts};
-ghost use Rattle.rec_check.specs.Violations.{occurrences};
-ghost use Rattle.rec_check.specs.Words.{distinct, is_among};
+//! Lists of names.
+ghost use Rattle.std.specs.Prelude.{◌≡◌};
+ghost use Rattle.rec_check.specs.Words.{is_among as among};
 
-use rec_text::{Bytes, Element, Fault};
-use std::alloc::Global;
+use indexmap::IndexSet;
+use rec_text::Bytes;
+use std::alloc::{AllocError, Global};
+use std::marker::Model;
 
-/// How many fields have a name.
-pub(crate) fn occurrences(fields: &[Element], name: &[u8]) -> usize
-    ensures { result ≡ occurrences (pieces_of fields.now) name.now }
+pub(crate) fn is_among(names: &[Bytes], name: &[u8]) -> bool
+    ensures { result ≡ among names.now name.now }
 {
-    let mut count = 0;
-    for field in fields {
-        if field.name() == name {
-            count += 1;
-        }
-    }
-    count
+    names.iter().any(|one| name == one.as_slice())
 }
 
-pub(crate) fn is_among(names: &[&[u8]], name: &[u8]) -> bool
-    ensures { result ≡ is_among (texts names.now) name.now }
-{
-    for one in names {
-        if name == *one {
-            return true;
-        }
-    }
-    false
+/// Names, each where it stands first. However many there are, one is found at once.
+#[derive(Drop)]
+pub(crate) struct Names<'n> {
+    names: IndexSet<&'n [u8]>,
 }
 
-/// The names of a list, each where it stands first.
-pub(crate) fn distinct<'n>(alloc: Global, names: &'n [Bytes]) -> Result<Vec<&'n [u8]>, Fault>
-    ensures names { IfOk result (λ kept. texts kept.items ≡ distinct names.now) }
-    ensures refusals { IfErr result (λ fault. fault ≡ Fault.OutOfMemory) }
-{
-    let mut kept = Vec::new(alloc);
-    for name in names {
-        let name = name.as_slice();
-        if is_among(&kept, name) {
-            continue;
+impl<'n> Model for Names<'n> {
+    ghost use Rattle.std.specs.Prelude.{◌≡◌, ℕ, List};
+    ghost use Rattle.rec_check.specs.Checks.{texts};
+    ghost use Rattle.rec_check.specs.Words.{distinct};
+
+    ghost Value = { List (List ℕ) };
+
+    ghost view = { λ names. texts names.names.keys };
+
+    ghost invariant = { λ names. distinct (texts names.names.keys) ≡ texts names.names.keys };
+}
+
+impl<'n> Names<'n> {
+    ghost use Rattle.std.specs.Prelude.{◌≡◌, ◌++◌, ◌∷◌, [], IfOk, OnOk};
+    ghost use Rattle.rec_check.specs.Checks.{texts};
+    ghost use Rattle.rec_check.specs.Words.{distinct};
+
+    pub(crate) fn new(alloc: Global) -> Names<'n>
+        ensures { result ≡ [] }
+    {
+        Names {
+            names: IndexSet::new(alloc),
         }
-        kept.push(name)?;
     }
-    Ok(kept)
+
+    /// The names of a list.
+    pub(crate) fn of(alloc: Global, names: &'n [Bytes]) -> Result<Names<'n>, AllocError>
+        ensures { IfOk result (λ kept. kept ≡ distinct names.now) }
+    {
+        let mut kept = Names::new(alloc);
+        for name in names {
+            kept.add(name.as_slice())?;
+        }
+        Ok(kept)
+    }
+
+    /// Adds a name behind the others, where it isn't among them.
+    pub(crate) fn add(&mut self, name: &'n [u8]) -> Result<(), AllocError>
+        ensures { OnOk result (self.new ≡ distinct (self.old ++ name.now ∷ [])) }
+    {
+        self.names.insert(name)?;
+        Ok(())
+    }
+
+    pub(crate) fn as_slice(&self) -> &[&'n [u8]]
+        ensures { texts result.now ≡ self.now }
+    {
+        self.names.as_slice()
+    }
 }

@@ -2,7 +2,7 @@
 ghost use Rattle.std.specs.Prelude.{◌≡◌, ◌++◌, [], ℕ, List, Ok, None, drop, length, map, unwrap_or, IfErr, IfOk, OnOk};
 ghost use Rattle.std.specs.declared.ops.Range.{Range};
 ghost use Rattle.rec_text.specs.Places.{pieces_of};
-ghost use Rattle.rec_text.specs.Records.{AreAscending, AreRecords};
+ghost use Rattle.rec_text.specs.Records.{AreAscending};
 ghost use Rattle.rec_check.specs.Checks.{AddsOfRecords, AddsOfSet};
 ghost use Rattle.rec_check.specs.Descriptors.{meets};
 ghost use Rattle.rec_check.specs.Schemas.{IsSchema};
@@ -114,14 +114,6 @@ fn check_set<'t>(
     check_records(alloc, lines, members, rules, found)
 }
 
-/// The records of a text, as ranges of element indexes.
-pub(crate) fn records_of(alloc: Global, database: &Database) -> Result<Vec<Range<usize>>, Fault>
-    ensures records { IfOk result (λ records. AreRecords database.now records.items) }
-    ensures refusals { IfErr result (λ fault. fault ≡ Fault.OutOfMemory) }
-{
-    Ok(database.records().collect(alloc)?)
-}
-
 /// The violations of a text with these sets and rules, set by set.
 pub(crate) fn violations_of(
     alloc: Global,
@@ -133,11 +125,11 @@ pub(crate) fn violations_of(
     ensures violations { IfOk result (λ found. AreViolations database.now (record { sets = sets.now; rules = map rules_stored rules.now }) found.items) }
     ensures refusals { IfErr result (λ fault. fault ≡ Fault.OutOfMemory) }
 {
-    let records = records_of(alloc, database)?;
+    let records = database.records().as_slice();
     let mut lines = Lines::of(database);
     let mut found = Vec::new(alloc);
     for (set, rules) in sets.iter().zip(rules) {
-        check_set(alloc, &mut lines, &records, set, rules, &mut found)?;
+        check_set(alloc, &mut lines, records, set, rules, &mut found)?;
     }
     Ok(found)
 }

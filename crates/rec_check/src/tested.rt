@@ -6,8 +6,9 @@ ghost use Rattle.rec_check.specs.Types.{is_continuation as goes_on, characters, 
 ghost use Rattle.rec_check.specs.Words.{is_among as among};
 
 use crate::field_type::FieldType;
+use crate::names::is_among;
 use rec_sex::{int_of, trimmed};
-use rec_text::{Bytes, Fault};
+use rec_text::Fault;
 use regex::Matcher;
 use std::alloc::Global;
 
@@ -49,12 +50,6 @@ fn is_truth(word: &[u8]) -> bool
         || word == b"false".as_slice()
 }
 
-fn is_among(items: &[Bytes], word: &[u8]) -> bool
-    ensures { result ≡ among items.now word.now }
-{
-    items.iter().any(|item| word == item.as_slice())
-}
-
 /// Whether the pattern of a matcher is found in a value. Values that aren't UTF-8 hold none.
 fn is_found(matcher: &mut Option<Matcher<'_>>, value: &[u8]) -> bool
     ensures found { result ≡ found_by (option_map matcher_pattern matcher.old) value.now }
@@ -86,12 +81,11 @@ impl<'r> Tested<'r> {
     }
 
     /// Whether a value fits the type.
-    pub(crate) fn fits(&mut self, alloc: Global, value: &[u8]) -> Result<bool, Fault>
-        ensures fits { IfOk result (λ answer. answer ≡ fits (tested self.old) value.now) }
+    pub(crate) fn fits(&mut self, value: &[u8]) -> bool
+        ensures fits { result ≡ fits (tested self.old) value.now }
         ensures same { tested self.new ≡ tested self.old }
-        ensures refusals { IfErr result (λ fault. fault ≡ Fault.OutOfMemory) }
     {
-        let answer = match self.type_ {
+        match self.type_ {
             FieldType::Integer => int_of(value).is_some(),
             FieldType::Range(least, greatest) => match int_of(value) {
                 Some(integer) => lies_between(*least, *greatest, integer),
@@ -103,7 +97,6 @@ impl<'r> Tested<'r> {
             FieldType::OneOf(items) => is_among(items, trimmed(value)),
             FieldType::Matching(_) => is_found(&mut self.matcher, value),
             FieldType::Unchecked => true,
-        };
-        Ok(answer)
+        }
     }
 }

@@ -1,17 +1,31 @@
 //! The types of the fields of a set.
-ghost use Rattle.std.specs.Prelude.{◌≡◌, ℕ, List, Some, if◌then◌else◌, map, slice_get, OnOk, IfOk, IfErr};
-ghost use Rattle.rec_check.specs.Fitting.{fails};
-ghost use Rattle.rec_check.specs.Stored.{tested};
-ghost use Rattle.rec_check.specs.Fitting.{place_of};
-ghost use Rattle.rec_check.specs.Words.{is_among};
+ghost use Rattle.std.specs.Prelude.{◌≡◌, ℕ, List, Some, if◌then◌else◌, map, option_map, slice_get, OnOk, IfOk, IfErr};
+ghost use Rattle.rec_check.specs.Fitting.{fails, place_of};
+ghost use Rattle.rec_check.specs.Stored.{tested, type_stored, typing_stored};
+ghost use Rattle.rec_check.specs.Types.{type_for};
+ghost use Rattle.rec_check.specs.Words.{is_among as among};
 
-use crate::field_type::Typing;
+use crate::field_type::{FieldType, Typing};
 use crate::found::add_violation;
 use crate::lines::Lines;
+use crate::names::is_among;
 use crate::tested::Tested;
 use rec_text::{Bytes, Element, Fault, Kind, Rule, Violation};
 use std::alloc::Global;
 use std::collections::HashMap;
+
+/// The type of a field; of two typings of one field the later holds.
+pub(crate) fn type_for<'r>(typings: &'r [Typing], name: &[u8]) -> Option<&'r FieldType>
+    ensures { option_map (λ type_. type_stored type_.now) result ≡ type_for (map typing_stored typings.now) name.now }
+{
+    let mut found = None;
+    for typing in typings {
+        if is_among(&typing.names, name) {
+            found = Some(&typing.type_);
+        }
+    }
+    found
+}
 
 /// Sets the place of some names.
 fn place_names<'n>(
@@ -19,7 +33,7 @@ fn place_names<'n>(
     names: &'n [Bytes],
     place: usize,
 ) -> Result<(), Fault>
-    ensures places { OnOk result ((name : List ℕ) → place_of places.new name ≡ (if is_among names.now name then Some place else place_of places.old name)) }
+    ensures places { OnOk result ((name : List ℕ) → place_of places.new name ≡ (if among names.now name then Some place else place_of places.old name)) }
     ensures refusals { IfErr result (λ fault. fault ≡ Fault.OutOfMemory) }
 {
     for name in names {
@@ -29,20 +43,14 @@ fn place_names<'n>(
 }
 
 /// Whether a value doesn't fit the type at a place, if there is one.
-fn fails_at(
-    alloc: Global,
-    tests: &mut [Tested<'_>],
-    place: usize,
-    value: &[u8],
-) -> Result<bool, Fault>
-    ensures fails { IfOk result (λ answer. answer ≡ fails (slice_get (map tested tests.old) place) value.now) }
+fn fails_at(tests: &mut [Tested<'_>], place: usize, value: &[u8]) -> bool
+    ensures fails { result ≡ fails (slice_get (map tested tests.old) place) value.now }
     ensures same { map tested tests.new ≡ map tested tests.old }
-    ensures refusals { IfErr result (λ fault. fault ≡ Fault.OutOfMemory) }
 {
     if place >= tests.len() {
-        return Ok(false);
+        return false;
     }
-    Ok(!tests[place].fits(alloc, value)?)
+    !tests[place].fits(value)
 }
 
 /// The types of the fields of a set, ready to be tried on many values.
@@ -88,7 +96,7 @@ impl<'r> Types<'r> {
             return Ok(false);
         };
         let value = element.value(alloc)?;
-        fails_at(alloc, &mut self.tests, *place, value.bytes())
+        Ok(fails_at(&mut self.tests, *place, value.bytes()))
     }
 
     /// Adds a violation for each of these fields, which begin at an index, whose value doesn't fit its type.

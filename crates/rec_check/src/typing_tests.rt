@@ -106,7 +106,7 @@ const BYTES: [(&[u8], &[u8], Option<bool>); 8] = [
 fn fits(alloc: Global, type_: &[u8], value: &[u8]) -> Option<bool> {
     let typing = typing_in(alloc, type_).ok()?;
     let mut test = Tested::of(alloc, &typing.type_).ok()?;
-    test.fits(alloc, value).ok()
+    Some(test.fits(value))
 }
 
 fn refusal_of(alloc: Global, type_: &str) -> Option<Refusal> {

@@ -1,4 +1,4 @@
-use Rattle.std.proofs.Common.{◌∙◌, inl, sym}
+use Rattle.std.proofs.Common.{inl, sym}
 use Rattle.rec_check.specs.Stored.{rules_stored}
 use Rattle.rec_check.proofs.CounterLemmas.{next_in}
 use Rattle.rec_check.proofs.automatic.next_value.Goals as goal

@@ -1,7 +1,6 @@
-use Rattle.std.proofs.Common.{◌≡◌, ◌∙◌, ◌++◌, ◌∷◌, [], ◌+◌, ℕ, List, get_or, map, take, drop, ap, sym, subst}
+use Rattle.std.proofs.Common.{◌≡◌, ◌∙◌, ◌++◌, ◌∷◌, [], ℕ, get_or, map, take, ap, sym, subst}
 use Rattle.std.proofs.lemmas.List.{drop_all, get_or_default, map_more}
 use Rattle.std.specs.declared.ops.Range.{Range}
-use Rattle.rec_text.specs.Elements.{Piece}
 use Rattle.rec_text.specs.Places.{pieces_of}
 use Rattle.rec_text.specs.Records.{AreAscending}
 use Rattle.rec_check.specs.Checks.{AddsOfRecord}
@@ -9,7 +8,7 @@ use Rattle.rec_check.specs.Descriptors.{elements_in}
 use Rattle.rec_check.specs.Ready.{IsReady}
 use Rattle.rec_check.specs.Stored.{rules_stored}
 use Rattle.rec_check.proofs.AheadLemmas.{ahead_more, here_more}
-use Rattle.rec_check.proofs.ReportLemmas.{AddsOfRecords-more, AddsOfRecords-all}
+use Rattle.rec_check.proofs.ReportLemmas.{AddsOfRecords-more}
 use Rattle.rec_check.proofs.report.check_records.Goals as goal
 
 pub loop-record-preserved : goal.loop-record-preserved

@@ -1,15 +1,13 @@
-use Rattle.std.proofs.Common.{◌≡◌, ◌∙◌, ℕ, ◌+◌, ◌<◌, ◌≤◌, None, drop, map, length, get_or, ap, sym, subst, arith}
+use Rattle.std.proofs.Common.{◌≡◌, ◌∙◌, ◌<◌, ◌≤◌, None, map, length, get_or, ap, sym, subst, arith}
 use Rattle.std.proofs.lemmas.List.{get_or-map, length-map, length_push}
 use Rattle.std.proofs.lemmas.Slice.Zip.{zip_turn, zip_end}
 use Rattle.std.specs.Iterator.Adapters.{zip_first, zip_second}
 use Rattle.std.specs.Slice.Iter.{iter_rest}
 use Rattle.rec_text.specs.Places.{piece_of, pieces_of}
-use Rattle.rec_text.specs.Records.{AreAscending}
+use Rattle.rec_text.specs.Records.{AreRecords}
 use Rattle.rec_check.specs.declared.rules.Rules.{Rules}
 use Rattle.rec_check.specs.declared.set.Set_.{Set_}
-use Rattle.rec_check.specs.Checks.{AddsOfSet}
 use Rattle.rec_check.specs.Stored.{rules_stored}
-use Rattle.rec_check.specs.Walking.{AreWithin, IsNext}
 use Rattle.rec_check.proofs.DescribedLemmas.{IsReported, same_length, no_size, next_set, records_within, set_within, reported_more, all_reported}
 use Rattle.rec_check.proofs.report.violations_of.Goals as goal
 use Rattle.rec_check.proofs.report.violations_of.Goals.{After-into_iter-set-iterator, In-Some}
@@ -34,20 +32,19 @@ check_set-requires c =
     let turn = turn at.In-Some in
     let pieces = c.args.database.now in
     let sets = c.args.sets.now in
-    let records = c.in_ok-records.records.items in
+    let records = c.as_slice-records.result.now in
+    let are : AreRecords pieces records = subst (AreRecords pieces) (sym c.as_slice-records.ensures) c.records.ensures in
     let place = length c.loop-set.yielded in
-    let ends = subst (λ (s : Set_). s.members.end ≤ length records) (sym (turn.2 c.in-Some.set.now)) (set_within pieces sets c.args.rules.now c.requires records c.in_ok-records.ensures.records place c.in-Some.set.now turn.0) in
+    let ends = subst (λ (s : Set_). s.members.end ≤ length records) (sym (turn.2 c.in-Some.set.now)) (set_within pieces sets c.args.rules.now c.requires records are place c.in-Some.set.now turn.0) in
     record {
       ruled = subst (λ (s : Set_). s.head ≡ None → c.in-Some.rules.now.size ≡ None) (sym (turn.2 c.in-Some.set.now))
           (subst (λ (r : Rules). (get_or sets place c.in-Some.set.now).head ≡ None → r.size ≡ None) (sym (turn.3 c.in-Some.rules.now))
           (no_size pieces sets c.args.rules.now c.requires place c.in-Some.set.now c.in-Some.rules.now turn.0));
       next =
-          subst (λ l. IsNext c.loop-set.lines.passed l c.in-Some.set.now) (sym c.deref.ensures.value)
-          (next_set pieces (pieces_of c.loop-set.lines.elements.now) records sets (map rules_stored c.args.rules.now) place c.loop-set.lines.passed c.loop-set.found.items c.loop-set.invariant c.in-Some.set.now (turn.2 c.in-Some.set.now) turn.0 ends);
+          next_set pieces (pieces_of c.loop-set.lines.elements.now) records sets (map rules_stored c.args.rules.now) place c.loop-set.lines.passed c.loop-set.found.items c.loop-set.invariant c.in-Some.set.now (turn.2 c.in-Some.set.now) turn.0 ends;
       within =
-          subst (λ l. AreWithin (length c.loop-set.lines.elements.now) l) (sym c.deref.ensures.value)
-          (records_within pieces sets c.args.rules.now c.requires records c.in_ok-records.ensures.records (length c.loop-set.lines.elements.now)
-          (omega (arith, length-map c.loop-set.lines.elements.now piece_of, ap length c.loop-set.invariant.elements)));
+          records_within pieces sets c.args.rules.now c.requires records are (length c.loop-set.lines.elements.now)
+          (omega (arith, length-map c.loop-set.lines.elements.now piece_of, ap length c.loop-set.invariant.elements));
     }
 
 pub loop-set-preserved : goal.loop-set-preserved
@@ -57,7 +54,7 @@ loop-set-preserved c =
     let pieces = c.args.database.now in
     let sets = c.args.sets.now in
     let asked = map rules_stored c.args.rules.now in
-    let records = c.in_ok-records.records.items in
+    let records = c.as_slice-records.result.now in
     let place = length c.loop-set.yielded in
     let own = rules_stored c.in-Some.rules.now in
     let long = same_length pieces sets c.args.rules.now c.requires in
@@ -66,8 +63,8 @@ loop-set-preserved c =
     reported_more pieces (pieces_of c.loop-set.lines.elements.now) records sets asked place c.loop-set.lines.passed c.loop-set.found.items c.loop-set.invariant c.in-Some.set.now (turn.2 c.in-Some.set.now) turn.0
     own c.check_set.new.lines.passed (pieces_of c.check_set.new.lines.elements.now) c.check_set.new.found.items own_at
     (omega (arith, long, length-map c.args.rules.now rules_stored)) (ap pieces_of c.in_ok-check_set.ensures.elements)
-    (subst (λ l. AreAscending c.check_set.new.lines.passed (drop c.in-Some.set.now.members.end l)) c.deref.ensures.value c.in_ok-check_set.ensures.ahead)
-    (subst (λ l. AddsOfSet (pieces_of c.loop-set.lines.elements.now) l c.in-Some.set.now own c.loop-set.found.items c.check_set.new.found.items) c.deref.ensures.value c.in_ok-check_set.ensures.added) in
+    c.in_ok-check_set.ensures.ahead
+    c.in_ok-check_set.ensures.added in
     subst (λ n. IsReported pieces (pieces_of c.check_set.new.lines.elements.now) records sets asked n c.check_set.new.lines.passed c.check_set.new.found.items) (sym (length_push c.loop-set.yielded (c.in-Some.set, c.in-Some.rules))) step
 
 pub returns-clause-violations : goal.returns-clause-violations
@@ -79,5 +76,6 @@ returns-clause-violations c =
     zip_end sets c.args.rules.now c.loop-set.yielded c.into_iter-set-iterator.result c.loop-set.set-iterator c.next.new.self c.next.result (first_rest at.After-into_iter-set-iterator) (second_rest at.After-into_iter-set-iterator)
     c.loop-set.yielded_by c.in-None.is c.next.ensures.steps in
     let long = same_length pieces sets c.args.rules.now c.requires in
-    all_reported pieces (pieces_of c.loop-set.lines.elements.now) c.in_ok-records.records.items sets (map rules_stored c.args.rules.now) (length c.loop-set.yielded) c.loop-set.lines.passed c.loop-set.found.items c.in_ok-records.ensures.records
+    let are : AreRecords pieces c.as_slice-records.result.now = subst (AreRecords pieces) (sym c.as_slice-records.ensures) c.records.ensures in
+    all_reported pieces (pieces_of c.loop-set.lines.elements.now) c.as_slice-records.result.now sets (map rules_stored c.args.rules.now) (length c.loop-set.yielded) c.loop-set.lines.passed c.loop-set.found.items are
     (omega (arith, end, long)) (omega (arith, end, long, length-map c.args.rules.now rules_stored)) c.loop-set.invariant

@@ -5,4 +5,4 @@ use Rattle.rec_check.proofs.DescribedLemmas.{IsReported}
 use Rattle.rec_check.proofs.report.violations_of.Given as goal
 
 abbrev pub invariant-loop-set : goal.invariant-loop-set
-invariant-loop-set l = IsReported l.database (pieces_of l.lines.elements.now) l.records.items l.sets (map rules_stored l.rules) (length l.yielded) l.lines.passed l.found.items
+invariant-loop-set l = IsReported l.database (pieces_of l.lines.elements.now) l.records l.sets (map rules_stored l.rules) (length l.yielded) l.lines.passed l.found.items

@@ -1,7 +1,6 @@
-use Rattle.std.proofs.Common.{◌≡◌, ◌++◌, ◌∙◌, ap, sym, arith, List}
+use Rattle.std.proofs.Common.{◌≡◌, ◌++◌, ◌∙◌, ap, arith}
 use Rattle.std.proofs.lemmas.Result.{on_ok_weaker}
 use Rattle.rec_text.specs.Places.{pieces_of}
-use Rattle.rec_check.specs.Checks.{texts}
 use Rattle.rec_check.specs.Constraints.{terms_in}
 use Rattle.rec_check.specs.Descriptors.{elements_in}
 use Rattle.rec_check.specs.Fitting.{misfit_violations}
@@ -21,7 +20,7 @@ returns-clause-added c = λ rules earlier ready.
     on_ok_weaker c.check-7.result
     (AddsOfRecord-joined (pieces_of c.args.lines.now.elements.now) rules earlier c.args.range.now c.line_of-line.result (pieces_of c.elements_of-fields.result.now) c.line_of-line.ensures.line (fields_are at.After-elements_of-fields)
     c.args.found.now.items c.check.new.found.items c.check-2.new.found.items c.check-3.new.found.items c.check-4.new.found.items c.check-5.new.found.items c.check-6.new.found.items c.check-7.new.found.items
-    own.key.name.now own.mandatory.limit own.prohibited.limit own.unique.limit (texts own.mandatory.names.items) (texts own.prohibited.names.items) (texts own.unique.names.items)
+    own.key.name.now own.mandatory.limit own.prohibited.limit own.unique.limit own.mandatory.names own.prohibited.names own.unique.names
     (allows own.allowed) (type_in own.types) (terms_in own.constraints)
     ready.key ready.mandatory.0 ready.mandatory.1 ready.prohibited.0 ready.prohibited.1 ready.unique.0 ready.unique.1 ready.allowed ready.types ready.constraints
     (c.in_ok-check.ensures.added earlier ready.after) c.in_ok-check-2.ensures.added c.in_ok-check-3.ensures.added c.in_ok-check-4.ensures.added c.in_ok-check-5.ensures.added

@@ -1,4 +1,4 @@
-use Rattle.std.proofs.Common.{refl, ap, sym, ◌∙◌, ◌+◌, length, map, get_or, arith}
+use Rattle.std.proofs.Common.{refl, ap, ◌∙◌, ◌+◌, length, map, get_or, arith}
 use Rattle.std.proofs.lemmas.List.{length-map, with_items_is}
 use Rattle.rec_text.specs.Places.{pieces_of}
 use Rattle.rec_sex.proofs.PatternLemmas.{map-set_same}

@@ -1,4 +1,4 @@
-use Rattle.std.proofs.Common.{◌≡◌, ◌∙◌, ◌++◌, ◌∷◌, [], ℕ, Some, cond, map, take, ap, sym, length, arith}
+use Rattle.std.proofs.Common.{◌∙◌, ◌++◌, ◌∷◌, [], Some, cond, map, take, ap, sym, arith}
 use Rattle.std.proofs.lemmas.List.{length-map, length-take-le, map_more, map_push, take_all}
 use Rattle.rec_check.specs.Fitting.{place_of}
 use Rattle.rec_check.specs.Stored.{tested, typing_stored}

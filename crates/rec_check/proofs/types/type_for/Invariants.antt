@@ -2,7 +2,7 @@ use Rattle.std.proofs.Common.{◌≡◌, map, drop, option_map}
 use Rattle.rec_check.specs.Stored.{type_stored, typing_stored}
 use Rattle.rec_check.specs.Types.{type_for}
 use Rattle.rec_check.proofs.CounterLemmas.{latest}
-use Rattle.rec_check.proofs.automatic.type_for.Given as goal
+use Rattle.rec_check.proofs.types.type_for.Given as goal
 
 abbrev pub invariant-loop-typing : goal.invariant-loop-typing
 invariant-loop-typing l =

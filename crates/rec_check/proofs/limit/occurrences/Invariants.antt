@@ -1,7 +1,7 @@
 use Rattle.std.proofs.Common.{◌≡◌, ◌+◌, ◌≤◌, drop}
 use Rattle.rec_text.specs.Places.{pieces_of}
 use Rattle.rec_check.specs.Violations.{occurrences}
-use Rattle.rec_check.proofs.names.occurrences.Given as goal
+use Rattle.rec_check.proofs.limit.occurrences.Given as goal
 
 abbrev pub invariant-loop-field : goal.invariant-loop-field
 invariant-loop-field l = record {

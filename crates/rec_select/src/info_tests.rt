@@ -1,6 +1,6 @@
-//! What is printed of the record sets of small texts, with expected values by hand.
-use crate::{InfoForm, Schema, write_info};
-use rec_text::{Fault, Output, Sink, read};
+//! What is printed of the record sets of small texts, and of what breaks their rules, with expected values by hand.
+use crate::{InfoForm, Schema, write_info, write_report};
+use rec_text::{Bytes, Fault, Output, Rule, Sink, Violation, read};
 use std::alloc::Global;
 use std::io;
 use std::io::Write;
@@ -130,4 +130,55 @@ fn what_fits_goes_out_before_a_failure(rt: HostRuntime) {
         assert_eq!(rt; output.failures(), 1);
         assert_eq!(rt; room.as_slice(), wanted.as_slice());
     }
+}
+
+/// A report of three rules.
+const REPORT: &str = "1: size P\n20: type %M\n7: constraint 10\n";
+
+/// Prints what that report tells.
+fn write_found<W: Write>(alloc: Global, output: &mut Output<W>) -> Result<(), Fault> {
+    let mut found = Vec::new(alloc);
+    for (line, rule, name) in [
+        (1, Rule::Size, b"P".as_slice()),
+        (20, Rule::Fit, b"%M"),
+        (7, Rule::Constraint, b"10"),
+    ] {
+        let name = Bytes::copy_of(alloc, name)?;
+        found.push(Violation { line, rule, name })?;
+    }
+    write_report(&found, output)
+}
+
+#[test]
+fn violations_are_printed_in_lines(rt: HostRuntime) -> Result<(), Fail> {
+    let mut whole = Output {
+        writer: Vec::new(rt.alloc()),
+        failed: 0,
+    };
+    write_report(&[], &mut whole)?;
+    assert!(rt; whole.writer.is_empty());
+    write_found(rt.alloc(), &mut whole)?;
+    assert_eq!(rt; whole.writer.as_slice(), REPORT.as_bytes());
+    let mut drip = Output {
+        writer: Drip {
+            taken: Vec::new(rt.alloc()),
+        },
+        failed: 0,
+    };
+    write_found(rt.alloc(), &mut drip)?;
+    assert_eq!(rt; drip.writer.taken.as_slice(), REPORT.as_bytes());
+    Ok(())
+}
+
+#[test]
+fn a_front_of_a_report_goes_out_before_a_failure(rt: HostRuntime) {
+    let mut room = [0; 14];
+    let mut output = Output {
+        writer: room.as_mut_slice(),
+        failed: 0,
+    };
+    let result = write_found(rt.alloc(), &mut output);
+    assert!(rt; matches!(result, Err(Fault::StoreFailed)));
+    assert_eq!(rt; output.failures(), 1);
+    assert_eq!(rt; room.as_slice(), b"1: size P\n20: ".as_slice());
 }

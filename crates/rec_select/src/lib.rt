@@ -8,6 +8,8 @@ mod chooser;
 mod chooser_tests;
 mod excerpt;
 mod filter;
+#[cfg(test)]
+mod growth_tests;
 mod info;
 #[cfg(test)]
 mod info_tests;

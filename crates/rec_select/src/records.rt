@@ -2,7 +2,6 @@
 ghost use Rattle.std.specs.Prelude.{◌≡◌, ◌⊎◌, ◌<◌, ◌≤◌, not, length, map, IfOk, IfErr, IsErrOf};
 ghost use Rattle.std.specs.List.{AllByRecursion};
 ghost use Rattle.rec_text.specs.Bytes.{is_nil};
-ghost use Rattle.rec_text.specs.Records.{AreRecords};
 ghost use Rattle.rec_text.specs.Scanned.{IsWithin};
 ghost use Rattle.rec_text.specs.Sink.{HasRisen};
 ghost use Rattle.rec_select.specs.Selection.{record_at};
@@ -100,14 +99,6 @@ fn write_blocks<S: Sink>(
     Ok(())
 }
 
-/// The records of a text, as ranges of element indexes.
-pub(crate) fn records_of(alloc: Global, database: &Database) -> Result<Vec<Range<usize>>, Fault>
-    ensures records { IfOk result (λ records. AreRecords database.now records.items) }
-    ensures refusals { IfErr result (λ fault. fault ≡ Fault.OutOfMemory) }
-{
-    Ok(database.records().collect(alloc)?)
-}
-
 /// Prints the records of these indexes into the list of records. With `collapse` no empty line stands between them.
 pub fn write_records<S: Sink>(
     alloc: Global,
@@ -126,12 +117,12 @@ pub fn write_records<S: Sink>(
     if let Shape::Count = shape {
         return write_number(selected.len(), out);
     }
-    let records = records_of(alloc, database)?;
+    let records = database.records().as_slice();
     let separator: &[u8] = if collapse { b"" } else { b"\n" };
     write_blocks(
         alloc,
         &Excerpt::of(database),
-        &records,
+        records,
         selected,
         shape,
         separator,

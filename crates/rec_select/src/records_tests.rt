@@ -2,7 +2,7 @@
 ghost use Rattle.std.specs.Prelude.{◌≡◌, true, None, IfOk};
 ghost use Rattle.rec_select.specs.Printing.{AreIndexes};
 
-use crate::records::{Shape, records_of, write_records};
+use crate::records::{Shape, write_records};
 use rec_sex::FieldList;
 use rec_text::{Database, Fault, Output, Sink, read};
 use std::alloc::Global;
@@ -121,16 +121,16 @@ const CASES: [Case; 33] = [
 ];
 
 /// Whether these are indexes of records.
-fn are_indexes(alloc: Global, database: &Database, selected: &[usize]) -> Result<bool, Fault>
-    ensures { IfOk result (λ are. are ≡ true → AreIndexes database.now selected.now) }
+fn are_indexes(database: &Database, selected: &[usize]) -> bool
+    ensures { result ≡ true → AreIndexes database.now selected.now }
 {
-    let records = records_of(alloc, database)?;
+    let records = database.records().as_slice();
     for index in selected {
         if *index >= records.len() {
-            return Ok(false);
+            return false;
         }
     }
-    Ok(true)
+    true
 }
 
 fn shape(alloc: Global, form: Form) -> Result<Shape, Fault> {
@@ -148,7 +148,7 @@ fn shape(alloc: Global, form: Form) -> Result<Shape, Fault> {
 fn print<S: Sink>(alloc: Global, case: &Case, out: &mut S) -> Result<(), Fault> {
     let (text, selected, form, collapse, _) = *case;
     let database = read(alloc, text.as_bytes())?;
-    if !are_indexes(alloc, &database, selected)? {
+    if !are_indexes(&database, selected) {
         return Err(Fault::BadUsage);
     }
     write_records(

@@ -9,10 +9,10 @@ use Rattle.rec_select.proofs.records.write_records.Goals.{then-collapse, else-co
 pub write_blocks-requires : goal.write_blocks-requires
 write_blocks-requires g c =
     let pieces = c.args.database.now in
-    let are = subst (AreRecords pieces) (sym c.deref.ensures.value) c.in_ok-records.ensures.records in
+    let are = subst (AreRecords pieces) (sym c.as_slice-records.ensures) c.records.ensures in
     record {
-      within = records_within pieces c.of.result c.deref.result.now c.of.ensures.elements are;
-      indexes = indexes_within pieces c.args.selected.now c.deref.result.now c.requires are;
+      within = records_within pieces c.of.result c.as_slice-records.result.now c.of.ensures.elements are;
+      indexes = indexes_within pieces c.args.selected.now c.as_slice-records.result.now c.requires are;
     }
 
 pub returns : goal.returns
@@ -22,13 +22,13 @@ returns g c =
     let shape = c.args.shape.now in
     let collapse = c.args.collapse in
     let separator = c.if-collapse.separator.now in
-    let are = subst (AreRecords pieces) (sym c.deref.ensures.value) c.in_ok-records.ensures.records in
+    let are = subst (AreRecords pieces) (sym c.as_slice-records.ensures) c.records.ensures in
     let is : SeparatorIs collapse separator =
     elim c.if-collapse.branch [
       | then-collapse w ↦ inl (w.if-collapse.true, ap (λ s. s.now) w.separator-is)
       | else-collapse w ↦ inr (w.if-collapse.false, ap (λ s. s.now) w.separator-is)
     ] in
-    let printed = IsPrinted-blocks pieces _ c.deref.result.now selected shape collapse separator c.of.ensures.elements c.in_default.not-Count is are in
+    let printed = IsPrinted-blocks pieces _ c.as_slice-records.result.now selected shape collapse separator c.of.ensures.elements c.in_default.not-Count is are in
     let answer = c.write_blocks.result in
     let prints = c.write_blocks.ensures in
     record {

@@ -6,3 +6,4 @@ cd "$(dirname "$0")"
 rt ci
 bash tests/program.sh crates/recu/out/recu
 bash tests/memory.sh crates/recu/out/recu
+bash tests/growth.sh

@@ -5,49 +5,12 @@
 # memory` both files are as before; and the same command again does what was asked. Prints nothing when all is well.
 set -u
 program=$(realpath "$1") || exit 1
-command -v cc > /dev/null || { echo "tests/memory.sh: no C compiler to build the failing allocator with"; exit 1; }
+source "$(dirname "$0")/failing.sh"
 folder=$(mktemp -d) || exit 1
 trap 'rm -rf "$folder"' EXIT
 cd "$folder" || exit 1
 
-# The allocator's calls, of which one fails: the one whose number, from 1, stands in FAILS. It says so in the file `hit`.
-cat > failing.c <<'C'
-#define _GNU_SOURCE
-#include <dlfcn.h>
-#include <errno.h>
-#include <fcntl.h>
-#include <stdlib.h>
-#include <unistd.h>
-static long calls, fails = -1;
-static int refused(void) {
-    if (fails < 0) { const char *text = getenv("FAILS"); fails = text ? atol(text) : 0; }
-    if (++calls != fails) return 0;
-    close(open("hit", O_CREAT | O_WRONLY, 0600));
-    errno = ENOMEM;
-    return 1;
-}
-void *malloc(size_t size) {
-    static void *(*next)(size_t);
-    if (!next) next = (void *(*)(size_t))dlsym(RTLD_NEXT, "malloc");
-    return refused() ? NULL : next(size);
-}
-void *realloc(void *old, size_t size) {
-    static void *(*next)(void *, size_t);
-    if (!next) next = (void *(*)(void *, size_t))dlsym(RTLD_NEXT, "realloc");
-    return refused() ? NULL : next(old, size);
-}
-int posix_memalign(void **at, size_t align, size_t size) {
-    static int (*next)(void **, size_t, size_t);
-    if (!next) next = (int (*)(void **, size_t, size_t))dlsym(RTLD_NEXT, "posix_memalign");
-    return refused() ? ENOMEM : next(at, align, size);
-}
-void *aligned_alloc(size_t align, size_t size) {
-    static void *(*next)(size_t, size_t);
-    if (!next) next = (void *(*)(size_t, size_t))dlsym(RTLD_NEXT, "aligned_alloc");
-    return refused() ? NULL : next(align, size);
-}
-C
-cc -O1 -shared -fPIC -o failing.so failing.c -ldl || exit 1
+build_failing_allocator || exit 1
 
 fail() {
     echo "tests/memory.sh: $1, allocation $n: $2"

@@ -7,6 +7,8 @@ mod event;
 mod event_laws;
 #[cfg(test)]
 mod event_tests;
+#[cfg(test)]
+mod growth_tests;
 mod history;
 mod history_laws;
 #[cfg(test)]

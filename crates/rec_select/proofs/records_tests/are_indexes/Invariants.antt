@@ -3,4 +3,4 @@ use Rattle.std.specs.List.{AllByRecursion}
 use Rattle.rec_select.proofs.records_tests.are_indexes.Given as goal
 
 abbrev pub invariant-loop-index : goal.invariant-loop-index
-invariant-loop-index l = AllByRecursion (λ i. i < length l.records.now) (take l.index-index l.selected)
+invariant-loop-index l = AllByRecursion (λ i. i < length l.records) (take l.index-index l.selected)

@@ -3,6 +3,11 @@
 # The last line is 'N passed, M failed'; what runs after it prints nothing when all is well.
 set -euo pipefail
 cd "$(dirname "$0")"
+# A check takes less than 5 GB. Where there is so much for each processor, each has a check to do: by itself rt counts on more
+# memory for a check, and leaves processors idle.
+if [ "$(awk '/^MemAvailable/ { print int($2 / 5000000) }' /proc/meminfo)" -ge "$(nproc)" ]; then
+    export RT_JOBS="${RT_JOBS:-$(nproc)}"
+fi
 rt ci
 bash tests/program.sh crates/recu/out/recu
 bash tests/memory.sh crates/recu/out/recu

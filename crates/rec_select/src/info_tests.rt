@@ -1,4 +1,5 @@
 //! What is printed of the record sets of small texts, and of what breaks their rules, with expected values by hand.
+use crate::rows::{bytes_in, split_cell};
 use crate::{InfoForm, Schema, write_info, write_report};
 use rec_text::{Bytes, Fault, Output, Rule, Sink, Violation, read};
 use std::alloc::Global;
@@ -12,6 +13,26 @@ const RECORDS: &[u8] = b"X: 1\n\n%rec: P\n\nN: 1\n\nN: 2";
 /// Two sets without records.
 const DESCRIPTORS: &[u8] = b"%rec: P\n# c\n%doc: d\n\n%rec: Q\n";
 
+/// A row has a text, a type, a form, and what is printed.
+const ROWS: &str = "\
+nothing ; none ; counts ; nothing
+nothing ; none ; -n ; nothing
+nothing ; none ; -d ; nothing
+N: 1| ; none ; counts ; 1|
+N: 1| ; none ; -n ; nothing
+N: 1| ; none ; -d ; nothing
+X: 1||%rec: P||N: 1||N: 2 ; none ; counts ; 1|2 P|
+X: 1||%rec: P||N: 1||N: 2 ; none ; -n ; P|
+X: 1||%rec: P||N: 1||N: 2 ; none ; -d ; %rec: P|
+X: 1||%rec: P||N: 1||N: 2 ; P ; counts ; 2 P|
+X: 1||%rec: P||N: 1||N: 2 ; P ; -n ; P|
+X: 1||%rec: P||N: 1||N: 2 ; P ; -d ; %rec: P|
+%rec: P|# c|%doc: d||%rec: Q| ; none ; counts ; 0 P|0 Q|
+%rec: P|# c|%doc: d||%rec: Q| ; none ; -n ; P|Q|
+%rec: P|# c|%doc: d||%rec: Q| ; none ; -d ; %rec: P|%doc: d||%rec: Q|
+%rec: P|# c|%doc: d||%rec: Q| ; Q ; -d ; %rec: Q|
+N: 1||%rec: P|%doc: a\\|b|+ c ; none ; -d ; %rec: P|%doc: a\\|b|+ c|";
+
 /// Prints to a writer of any kind.
 fn write_to<W: Write>(
     alloc: Global,
@@ -23,6 +44,29 @@ fn write_to<W: Write>(
     let database = read(alloc, text)?;
     let schema = Schema::read(alloc, &database)?;
     write_info(&database, &schema, kind, form, output)
+}
+
+fn form_of(cell: &str) -> InfoForm {
+    match cell {
+        "-n" => InfoForm::Names,
+        "-d" => InfoForm::Descriptors,
+        _ => InfoForm::Counts,
+    }
+}
+
+/// Prints what a row asks for, and answers what it wants.
+fn write_row<W: Write>(alloc: Global, row: &str, output: &mut Output<W>) -> Result<Vec<u8>, Fault> {
+    let (text, rest) = split_cell(row);
+    let (kind, rest) = split_cell(rest);
+    let (form, wanted) = split_cell(rest);
+    let text = bytes_in(alloc, text)?;
+    let kind = if kind == "none" {
+        None
+    } else {
+        Some(kind.as_bytes())
+    };
+    write_to(alloc, &text, kind, form_of(form), output)?;
+    Ok(bytes_in(alloc, wanted)?)
 }
 
 /// A writer that takes one byte a call.
@@ -46,54 +90,24 @@ impl Write for Drip {
 
 #[test]
 fn sets_are_printed_in_each_form(rt: HostRuntime) -> Result<(), Fail> {
-    let alloc = rt.alloc();
-    let cases: [(&[u8], Option<&[u8]>, InfoForm, &str); 17] = [
-        (b"", None, InfoForm::Counts, ""),
-        (b"", None, InfoForm::Names, ""),
-        (b"", None, InfoForm::Descriptors, ""),
-        (b"N: 1\n", None, InfoForm::Counts, "1\n"),
-        (b"N: 1\n", None, InfoForm::Names, ""),
-        (b"N: 1\n", None, InfoForm::Descriptors, ""),
-        (RECORDS, None, InfoForm::Counts, "1\n2 P\n"),
-        (RECORDS, None, InfoForm::Names, "P\n"),
-        (RECORDS, None, InfoForm::Descriptors, "%rec: P\n"),
-        (RECORDS, Some(b"P"), InfoForm::Counts, "2 P\n"),
-        (RECORDS, Some(b"P"), InfoForm::Names, "P\n"),
-        (RECORDS, Some(b"P"), InfoForm::Descriptors, "%rec: P\n"),
-        (DESCRIPTORS, None, InfoForm::Counts, "0 P\n0 Q\n"),
-        (DESCRIPTORS, None, InfoForm::Names, "P\nQ\n"),
-        (
-            DESCRIPTORS,
-            None,
-            InfoForm::Descriptors,
-            "%rec: P\n%doc: d\n\n%rec: Q\n",
-        ),
-        (DESCRIPTORS, Some(b"Q"), InfoForm::Descriptors, "%rec: Q\n"),
-        (
-            b"N: 1\n\n%rec: P\n%doc: a\\\nb\n+ c",
-            None,
-            InfoForm::Descriptors,
-            "%rec: P\n%doc: a\\\nb\n+ c\n",
-        ),
-    ];
-    for (text, kind, form, wanted) in cases {
+    for row in ROWS.lines() {
         let mut whole = Output {
-            writer: Vec::new(alloc),
+            writer: Vec::new(rt.alloc()),
             failed: 0,
         };
-        write_to(alloc, text, kind, form, &mut whole)?;
-        assert_eq!(rt; whole.writer.as_slice(), wanted.as_bytes(), "{wanted}");
+        let wanted = write_row(rt.alloc(), row, &mut whole)?;
+        assert_eq!(rt; whole.writer.as_slice(), wanted.as_slice(), "{row}");
         let mut drip = Output {
             writer: Drip {
-                taken: Vec::new(alloc),
+                taken: Vec::new(rt.alloc()),
             },
             failed: 0,
         };
-        write_to(alloc, text, kind, form, &mut drip)?;
+        write_row(rt.alloc(), row, &mut drip)?;
         assert_eq!(rt;
             drip.writer.taken.as_slice(),
-            wanted.as_bytes(),
-            "{wanted}, by bytes"
+            wanted.as_slice(),
+            "{row}, by bytes"
         );
     }
     Ok(())

@@ -19,6 +19,8 @@ mod records;
 #[cfg(test)]
 mod records_tests;
 mod report;
+#[cfg(test)]
+mod rows;
 mod selection;
 
 pub use chooser::choose;

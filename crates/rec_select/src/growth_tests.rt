@@ -31,47 +31,91 @@ N: c
 M: xyz
 ";
 
-fn chosen_again(
+/// The records that are taken are these.
+fn check_choice(
+    rt: &impl Abort,
     alloc: Global,
     database: &Database,
     schema: &Schema,
     by: By,
-) -> Result<Vec<usize>, Fault>
+    wanted: &[usize],
+) -> Result<(), Fault>
     requires { IsSchema database.now (Ok (described schema.now)) }
 {
     let selection = Selection { kind: None, by };
-    match choose(alloc, database, schema, &selection) {
-        Err(Fault::OutOfMemory) => choose(alloc, database, schema, &selection),
-        answer => answer,
+    let taken = match choose(alloc, database, schema, &selection) {
+        Err(Fault::OutOfMemory) => choose(alloc, database, schema, &selection)?,
+        answer => answer?,
+    };
+    assert_eq!(rt; taken.as_slice(), wanted);
+    Ok(())
+}
+
+fn check_expression(
+    rt: &impl Abort,
+    alloc: Global,
+    database: &Database,
+    schema: &Schema,
+) -> Result<(), Fault>
+    requires { IsSchema database.now (Ok (described schema.now)) }
+{
+    match Expr::parse(alloc, b"M ~ '^x' && N != 'b'") {
+        Ok(expr) => check_choice(rt, alloc, database, schema, By::Expr(expr), &[1, 3]),
+        Err(_) => Ok(()),
     }
+}
+
+fn check_places(
+    rt: &impl Abort,
+    alloc: Global,
+    database: &Database,
+    schema: &Schema,
+) -> Result<(), Fault>
+    requires { IsSchema database.now (Ok (described schema.now)) }
+{
+    match IndexList::parse(alloc, b"2,0") {
+        Ok(list) => check_choice(rt, alloc, database, schema, By::Index(list), &[1, 3]),
+        Err(_) => Ok(()),
+    }
+}
+
+fn check_text(
+    rt: &impl Abort,
+    alloc: Global,
+    database: &Database,
+    schema: &Schema,
+) -> Result<(), Fault>
+    requires { IsSchema database.now (Ok (described schema.now)) }
+{
+    match Bytes::copy_of(alloc, b"xy") {
+        Ok(text) => check_choice(rt, alloc, database, schema, By::Quick(text), &[1, 3]),
+        Err(_) => Ok(()),
+    }
+}
+
+fn check_choices(
+    rt: &impl Abort,
+    alloc: Global,
+    database: &Database,
+    schema: &Schema,
+) -> Result<(), Fault>
+    requires { IsSchema database.now (Ok (described schema.now)) }
+{
+    check_choice(rt, alloc, database, schema, By::All, &[1, 2, 3])?;
+    check_expression(rt, alloc, database, schema)?;
+    check_places(rt, alloc, database, schema)?;
+    check_text(rt, alloc, database, schema)
 }
 
 #[test]
 fn growth_of_choose(rt: HostRuntime) -> Result<(), Fail> {
-    let alloc = rt.alloc();
-    let Ok(database) = read(alloc, PEOPLE) else {
+    let Ok(database) = read(rt.alloc(), PEOPLE) else {
         return Ok(());
     };
-    let Ok(schema) = Schema::read(alloc, &database) else {
+    let Ok(schema) = Schema::read(rt.alloc(), &database) else {
         return Ok(());
     };
-    let all = chosen_again(alloc, &database, &schema, By::All)?;
-    assert_eq!(rt; all.as_slice(), [1, 2, 3].as_slice());
-    let Ok(expr) = Expr::parse(alloc, b"M ~ '^x' && N != 'b'") else {
-        return Ok(());
-    };
-    let matching = chosen_again(alloc, &database, &schema, By::Expr(expr))?;
-    assert_eq!(rt; matching.as_slice(), [1, 3].as_slice());
-    let Ok(list) = IndexList::parse(alloc, b"2,0") else {
-        return Ok(());
-    };
-    let listed = chosen_again(alloc, &database, &schema, By::Index(list))?;
-    assert_eq!(rt; listed.as_slice(), [1, 3].as_slice());
-    let Ok(text) = Bytes::copy_of(alloc, b"xy") else {
-        return Ok(());
-    };
-    let containing = chosen_again(alloc, &database, &schema, By::Quick(text))?;
-    assert_eq!(rt; containing.as_slice(), [1, 3].as_slice());
+    check_choices(&rt, rt.alloc(), &database, &schema)?;
     Ok(())
 }
 
@@ -111,55 +155,79 @@ fn check_records(
     Ok(())
 }
 
-#[test]
-fn growth_of_write_records(rt: HostRuntime) -> Result<(), Fail> {
-    let alloc = rt.alloc();
-    let Ok(database) = read(alloc, PEOPLE) else {
+/// What is printed of the fields that a list picks.
+#[derive(Clone, Copy)]
+enum Form {
+    Print,
+    Values,
+    Row,
+}
+
+fn check_fields(
+    rt: &impl Abort,
+    alloc: Global,
+    database: &Database,
+    selected: &[usize],
+    form: Form,
+    list: &[u8],
+    text: &[u8],
+) -> Result<(), Fault>
+    requires { AreIndexes database.now selected.now }
+{
+    let Ok(list) = FieldList::parse(alloc, list) else {
         return Ok(());
     };
-    let Ok(schema) = Schema::read(alloc, &database) else {
+    let shape = match form {
+        Form::Print => Shape::Print(list),
+        Form::Values => Shape::Values(list),
+        Form::Row => Shape::Row(list),
+    };
+    check_records(rt, alloc, database, selected, &shape, text)
+}
+
+fn check_forms(
+    rt: &impl Abort,
+    alloc: Global,
+    database: &Database,
+    selected: &[usize],
+) -> Result<(), Fault>
+    requires { AreIndexes database.now selected.now }
+{
+    let blocks = b"N: a\nM: x\\\ny\nM: 2\n\nN: b\nM: 3\n\nN: c\nM: xyz\n";
+    check_records(rt, alloc, database, selected, &Shape::Blocks, blocks)?;
+    check_records(rt, alloc, database, selected, &Shape::Count, b"3\n")?;
+    let fields = b"M: 2\nN: a\n\nN: b\n\nN: c\n";
+    check_fields(
+        rt,
+        alloc,
+        database,
+        selected,
+        Form::Print,
+        b"M[1],N",
+        fields,
+    )?;
+    let values = b"xy\n2\n\n3\n\nxyz\n";
+    check_fields(rt, alloc, database, selected, Form::Values, b"M", values)?;
+    let rows = b"a xy 2\n\nb 3\n\nc xyz\n";
+    check_fields(rt, alloc, database, selected, Form::Row, b"N,M", rows)
+}
+
+#[test]
+fn growth_of_write_records(rt: HostRuntime) -> Result<(), Fail> {
+    let Ok(database) = read(rt.alloc(), PEOPLE) else {
+        return Ok(());
+    };
+    let Ok(schema) = Schema::read(rt.alloc(), &database) else {
         return Ok(());
     };
     let all = Selection {
         kind: None,
         by: By::All,
     };
-    let Ok(selected) = choose(alloc, &database, &schema, &all) else {
+    let Ok(selected) = choose(rt.alloc(), &database, &schema, &all) else {
         return Ok(());
     };
-    let blocks = b"N: a\nM: x\\\ny\nM: 2\n\nN: b\nM: 3\n\nN: c\nM: xyz\n";
-    check_records(&rt, alloc, &database, &selected, &Shape::Blocks, blocks)?;
-    check_records(&rt, alloc, &database, &selected, &Shape::Count, b"3\n")?;
-    let Ok(list) = FieldList::parse(alloc, b"M[1],N") else {
-        return Ok(());
-    };
-    let print = Shape::Print(list);
-    let printed = b"M: 2\nN: a\n\nN: b\n\nN: c\n";
-    check_records(&rt, alloc, &database, &selected, &print, printed)?;
-    let Ok(list) = FieldList::parse(alloc, b"M") else {
-        return Ok(());
-    };
-    let values = Shape::Values(list);
-    check_records(
-        &rt,
-        alloc,
-        &database,
-        &selected,
-        &values,
-        b"xy\n2\n\n3\n\nxyz\n",
-    )?;
-    let Ok(list) = FieldList::parse(alloc, b"N,M") else {
-        return Ok(());
-    };
-    let row = Shape::Row(list);
-    check_records(
-        &rt,
-        alloc,
-        &database,
-        &selected,
-        &row,
-        b"a xy 2\n\nb 3\n\nc xyz\n",
-    )?;
+    check_forms(&rt, rt.alloc(), &database, &selected)?;
     Ok(())
 }
 
@@ -182,19 +250,29 @@ fn check_info(
     Ok(())
 }
 
+fn check_infos(
+    rt: &impl Abort,
+    alloc: Global,
+    database: &Database,
+    schema: &Schema,
+) -> Result<(), Fault>
+    requires { IsSchema database.now (Ok (described schema.now)) }
+{
+    check_info(rt, alloc, database, schema, InfoForm::Counts, b"3 P\n")?;
+    check_info(rt, alloc, database, schema, InfoForm::Names, b"P\n")?;
+    let head = b"%rec: P\n%doc: people\n";
+    check_info(rt, alloc, database, schema, InfoForm::Descriptors, head)
+}
+
 #[test]
 fn growth_of_write_info(rt: HostRuntime) -> Result<(), Fail> {
-    let alloc = rt.alloc();
-    let Ok(database) = read(alloc, PEOPLE) else {
+    let Ok(database) = read(rt.alloc(), PEOPLE) else {
         return Ok(());
     };
-    let Ok(schema) = Schema::read(alloc, &database) else {
+    let Ok(schema) = Schema::read(rt.alloc(), &database) else {
         return Ok(());
     };
-    check_info(&rt, alloc, &database, &schema, InfoForm::Counts, b"3 P\n")?;
-    check_info(&rt, alloc, &database, &schema, InfoForm::Names, b"P\n")?;
-    let head = b"%rec: P\n%doc: people\n";
-    check_info(&rt, alloc, &database, &schema, InfoForm::Descriptors, head)?;
+    check_infos(&rt, rt.alloc(), &database, &schema)?;
     Ok(())
 }
 

@@ -23,79 +23,73 @@ fn two_violations(alloc: Global) -> Result<Violations, Fault> {
     Ok(Violations::from_vec(listed))
 }
 
+/// What the faults print as, by their numbers from 1.
+const TEXTS: &str = "\
+out of memory
+line 4: not a field, comment or blank line
+line 12: nothing follows the backslash
+line 1: bad descriptor field
+line 2: not supported
+expression: error at byte 0
+pattern not accepted
+field list: error at byte 5
+index list: error at byte 9
+no selection given, use --force
+several record types, use -t
+no such record type
+bad name
+a line of the value ends in a backslash
+not exactly one record
+violations: 2
+no automatic value
+two texts share a digest
+journal line 57: not a journal of recu
+nothing to undo
+nothing to redo
+the file was changed outside
+a file could not be read or written
+bad usage";
+
+fn fault_of_number(alloc: Global, number: usize) -> Result<Option<Fault>, Fault> {
+    Ok(Some(match number {
+        1 => Fault::OutOfMemory,
+        2 => Fault::BadLine { line: 4 },
+        3 => Fault::OpenLine { line: 12 },
+        4 => Fault::BadDescriptor { line: 1 },
+        5 => Fault::Unsupported { line: 2 },
+        6 => Fault::BadExpression { at: 0 },
+        7 => Fault::BadPattern,
+        8 => Fault::BadFieldList { at: 5 },
+        9 => Fault::BadIndexList { at: 9 },
+        10 => Fault::NoSelection,
+        11 => Fault::TypeNeeded,
+        12 => Fault::NoSuchType,
+        13 => Fault::BadName,
+        14 => Fault::BadValue,
+        15 => Fault::BadRecord,
+        16 => Fault::Integrity(two_violations(alloc)?),
+        17 => Fault::AutoImpossible,
+        18 => Fault::DigestClash,
+        19 => Fault::BadJournal { line: 57 },
+        20 => Fault::NothingToUndo,
+        21 => Fault::NothingToRedo,
+        22 => Fault::Drifted,
+        23 => Fault::StoreFailed,
+        24 => Fault::BadUsage,
+        _ => return Ok(None),
+    }))
+}
+
 #[test]
 fn faults_have_numbers_and_texts(rt: HostRuntime) -> Result<(), Fail> {
-    let alloc = rt.alloc();
-    let cases = [
-        (Fault::OutOfMemory, 1, "out of memory"),
-        (
-            Fault::BadLine { line: 4 },
-            2,
-            "line 4: not a field, comment or blank line",
-        ),
-        (
-            Fault::OpenLine { line: 12 },
-            3,
-            "line 12: nothing follows the backslash",
-        ),
-        (
-            Fault::BadDescriptor { line: 1 },
-            4,
-            "line 1: bad descriptor field",
-        ),
-        (Fault::Unsupported { line: 2 }, 5, "line 2: not supported"),
-        (
-            Fault::BadExpression { at: 0 },
-            6,
-            "expression: error at byte 0",
-        ),
-        (Fault::BadPattern, 7, "pattern not accepted"),
-        (
-            Fault::BadFieldList { at: 5 },
-            8,
-            "field list: error at byte 5",
-        ),
-        (
-            Fault::BadIndexList { at: 9 },
-            9,
-            "index list: error at byte 9",
-        ),
-        (Fault::NoSelection, 10, "no selection given, use --force"),
-        (Fault::TypeNeeded, 11, "several record types, use -t"),
-        (Fault::NoSuchType, 12, "no such record type"),
-        (Fault::BadName, 13, "bad name"),
-        (
-            Fault::BadValue,
-            14,
-            "a line of the value ends in a backslash",
-        ),
-        (Fault::BadRecord, 15, "not exactly one record"),
-        (
-            Fault::Integrity(two_violations(alloc)?),
-            16,
-            "violations: 2",
-        ),
-        (Fault::AutoImpossible, 17, "no automatic value"),
-        (Fault::DigestClash, 18, "two texts share a digest"),
-        (
-            Fault::BadJournal { line: 57 },
-            19,
-            "journal line 57: not a journal of recu",
-        ),
-        (Fault::NothingToUndo, 20, "nothing to undo"),
-        (Fault::NothingToRedo, 21, "nothing to redo"),
-        (Fault::Drifted, 22, "the file was changed outside"),
-        (
-            Fault::StoreFailed,
-            23,
-            "a file could not be read or written",
-        ),
-        (Fault::BadUsage, 24, "bad usage"),
-    ];
-    for (fault, number, text) in &cases {
-        assert_eq!(rt; fault.number(), *number, "{text}");
-        let shown = format!(in alloc; "{fault}")?;
-        assert_eq!(rt; shown.as_str(), *text);
+    assert!(rt; fault_of_number(rt.alloc(), TEXTS.lines().count() + 1)?.is_none());
+    for (i, text) in TEXTS.lines().enumerate() {
+        let Some(fault) = fault_of_number(rt.alloc(), i + 1)? else {
+            return Ok(assert!(rt; false, "no fault for {text}"));
+        };
+        assert_eq!(rt; usize::from(fault.number()), i + 1);
+        let shown = format!(in rt.alloc(); "{fault}")?;
+        assert_eq!(rt; shown.as_str(), text);
     }
     Ok(())
 }

@@ -3,8 +3,8 @@
 # The last line is 'N passed, M failed'; what runs after it prints nothing when all is well.
 set -euo pipefail
 cd "$(dirname "$0")"
-# A check takes less than 5 GB. Where there is so much for each processor, each has a check to do: by itself rt counts on more
-# memory for a check, and leaves processors idle.
+# Where there are 5 GB of memory for each processor, each has a check to do; one takes 3 GB for the most part, and 6 at most.
+# By itself rt counts on more, and leaves processors idle.
 if [ "$(awk '/^MemAvailable/ { print int($2 / 5000000) }' /proc/meminfo)" -ge "$(nproc)" ]; then
     export RT_JOBS="${RT_JOBS:-$(nproc)}"
 fi

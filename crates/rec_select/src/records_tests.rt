@@ -10,6 +10,7 @@ use std::alloc::{AllocError, Global};
 use std::test::Fail;
 
 /// A row has a text, the indexes of records, what is printed of them, and the output. With `-C` no empty line stands between.
+/// A line that begins with `//` says what the rows below it show.
 const ROWS: &str = "\
 A: 1||B: 2| ; 0 1 ; all ; A: 1||B: 2|
 A: 1||B: 2| ; 0 1 ; -p Z ; nothing

@@ -39,14 +39,17 @@ pub(crate) struct Checker<'r, 't> {
 }
 
 impl<'r, 't> Checker<'r, 't> {
-    ghost use Rattle.std.specs.Prelude.{◌≡◌, ◌++◌, ◌∷◌, [], ◌<◌, ◌≤◌, List, length, IfErr, IfOk, OnOk};
+    ghost use Rattle.std.specs.Prelude.{◌≡◌, ◌++◌, ◌∷◌, [], ◌<◌, ◌≤◌, ℕ, List, length, IfErr, IfOk, OnOk};
+    ghost use Rattle.std.specs.declared.ops.Range.{Range};
     ghost use Rattle.rec_text.specs.Elements.{Piece};
     ghost use Rattle.rec_text.specs.Places.{pieces_of};
+    ghost use Rattle.rec_text.specs.Records.{AreAscending};
     ghost use Rattle.rec_check.specs.Descriptors.{elements_in};
     ghost use Rattle.rec_check.specs.Rules.{Rules as Asked};
-    ghost use Rattle.rec_check.specs.Checks.{AddsOfRecord};
+    ghost use Rattle.rec_check.specs.Checks.{AddsOfRecord, AddsOfRecords};
     ghost use Rattle.rec_check.specs.Ready.{IsReady};
     ghost use Rattle.rec_check.specs.Stored.{rules_stored};
+    ghost use Rattle.rec_check.specs.Walking.{AreWithin};
 
     pub(crate) fn of(alloc: Global, rules: &'r Rules) -> Result<Checker<'r, 't>, Fault>
         ensures ready { IfOk result (λ checker. IsReady (rules_stored rules.now) [] checker) }
@@ -89,5 +92,26 @@ impl<'r, 't> Checker<'r, 't> {
         self.allowed.check(alloc, line, fields, found)?;
         self.types.check(alloc, lines, range.start, fields, found)?;
         self.constraints.check(alloc, line, fields, found)
+    }
+
+    /// Adds the violations of all records of the set, in their order.
+    pub(crate) fn check_all(
+        &mut self,
+        alloc: Global,
+        lines: &mut Lines<'_, 't>,
+        records: &[Range<usize>],
+        found: &mut Vec<Violation>,
+    ) -> Result<(), Fault>
+        requires ahead { AreAscending lines.old.passed records.now }
+        requires within { AreWithin (length lines.old.elements.now) records.now }
+        ensures added { (rules : Asked) → IsReady rules [] self.old → OnOk result (AddsOfRecords (pieces_of lines.old.elements.now) rules records.now found.old.items found.new.items) }
+        ensures ahead { (rest : List (Range ℕ)) → AreAscending lines.old.passed (records.now ++ rest) → OnOk result (AreAscending lines.new.passed rest) }
+        ensures elements { OnOk result (lines.new.elements.now ≡ lines.old.elements.now) }
+        ensures refusals { IfErr result (λ fault. fault ≡ Fault.OutOfMemory) }
+    {
+        for record in records {
+            self.check(alloc, lines, record, found)?;
+        }
+        Ok(())
     }
 }

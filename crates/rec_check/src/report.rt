@@ -86,10 +86,7 @@ fn check_records<'t>(
     ensures refusals { IfErr result (λ fault. fault ≡ Fault.OutOfMemory) }
 {
     let mut checker = Checker::of(alloc, rules)?;
-    for record in records {
-        checker.check(alloc, lines, record, found)?;
-    }
-    Ok(())
+    checker.check_all(alloc, lines, records, found)
 }
 
 /// Adds the violations of a set: its size, and then its records.

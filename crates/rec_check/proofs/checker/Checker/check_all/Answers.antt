@@ -6,23 +6,21 @@ use Rattle.rec_text.specs.Records.{AreAscending}
 use Rattle.rec_check.specs.Checks.{AddsOfRecord}
 use Rattle.rec_check.specs.Descriptors.{elements_in}
 use Rattle.rec_check.specs.Ready.{IsReady}
-use Rattle.rec_check.specs.Stored.{rules_stored}
 use Rattle.rec_check.proofs.AheadLemmas.{ahead_more, here_more}
 use Rattle.rec_check.proofs.ReportLemmas.{AddsOfRecords-more}
-use Rattle.rec_check.proofs.report.check_records.Goals as goal
+use Rattle.rec_check.proofs.checker.Checker.check_all.Goals as goal
 
 pub loop-record-preserved : goal.loop-record-preserved
 loop-record-preserved c =
     let pieces = pieces_of c.args.lines.now.elements.now in
-    let asked = rules_stored c.args.rules.now in
     let records = c.args.records.now in
     let i = c.loop-record.record-index in
     let one : Range ℕ = get_or records i (record { start = 0; end = 0 }) in
     let at : one ≡ get_or records i one = get_or_default records i (record { start = 0; end = 0 }) one c.loop-record-test.true in
     let earlier = map (elements_in pieces) (take i records) in
     record {
-      ready = subst (λ l. IsReady asked l c.check.new.self) (ap (λ l. earlier ++ elements_in (pieces_of l) one ∷ []) c.loop-record.invariant.elements ∙ sym (map_more (elements_in pieces) records i (record { start = 0; end = 0 }) c.loop-record-test.true)) (c.in_ok-check.ensures.ready asked earlier c.loop-record.invariant.ready);
-      added = AddsOfRecords-more pieces asked records i one c.args.found.now.items c.loop-record.found.items c.check.new.found.items c.loop-record-test.true at c.loop-record.invariant.added (subst (λ l. AddsOfRecord (pieces_of l) asked earlier one c.loop-record.found.items c.check.new.found.items) c.loop-record.invariant.elements (c.in_ok-check.ensures.added asked earlier c.loop-record.invariant.ready));
+      ready = λ rules first. subst (λ l. IsReady rules l c.check.new.self) (ap (λ l. earlier ++ elements_in (pieces_of l) one ∷ []) c.loop-record.invariant.elements ∙ sym (map_more (elements_in pieces) records i (record { start = 0; end = 0 }) c.loop-record-test.true)) (c.in_ok-check.ensures.ready rules earlier (c.loop-record.invariant.ready rules first));
+      added = λ rules first. AddsOfRecords-more pieces rules records i one c.args.found.now.items c.loop-record.found.items c.check.new.found.items c.loop-record-test.true at (c.loop-record.invariant.added rules first) (subst (λ l. AddsOfRecord (pieces_of l) rules earlier one c.loop-record.found.items c.check.new.found.items) c.loop-record.invariant.elements (c.in_ok-check.ensures.added rules earlier (c.loop-record.invariant.ready rules first)));
       here = here_more records i one c.loop-record-test.true at c.loop-record.lines.passed c.check.new.lines.passed c.in_ok-check.ensures.passed c.loop-record.invariant.here;
       ahead = λ rest ahead. ahead_more records i one c.loop-record-test.true at c.loop-record.lines.passed c.check.new.lines.passed rest c.in_ok-check.ensures.passed (c.loop-record.invariant.ahead rest ahead);
       elements = c.in_ok-check.ensures.elements ∙ c.loop-record.invariant.elements;

@@ -23,14 +23,14 @@ use rec_text::{Database, Element, Fault, read};
 use std::alloc::Global;
 
 /// Either a reply alone, or a plan that is to be put in place first.
-#[derive(Debug, Drop)]
+#[derive(Drop)]
 pub enum Decision {
     Stay(Reply),
     Put(Plan, Reply),
 }
 
 /// An edit of a file, and the history that it goes on from.
-#[derive(Debug, Drop)]
+#[derive(Drop)]
 pub struct Change {
     pub history: History,
     pub edited: Edited,

@@ -16,7 +16,7 @@ use std::alloc::{AllocError, Global};
 use std::ops::Range;
 
 /// An edit of a text: its patch, the text after it, and how many records it changed.
-#[derive(Debug, Drop)]
+#[derive(Drop)]
 pub struct Edited {
     pub patch: Patch,
     pub text: Bytes,

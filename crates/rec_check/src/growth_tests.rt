@@ -1,8 +1,13 @@
 //! Calls that are made again where a growth was refused, as `tests/growth.sh` has it of each growth in turn: the first
 //! answer is the row's or that memory ran out, and the second is the row's.
+ghost use Rattle.std.specs.Prelude.{Ok};
+ghost use Rattle.rec_check.specs.Schemas.{IsSchema};
+ghost use Rattle.rec_check.specs.Stored.{described};
+
 use crate::{Database, Fault, Rule, Schema};
-use rec_text::read;
+use rec_text::{Violation, read};
 use std::alloc::Global;
+use std::process::Abort;
 use std::test::Fail;
 
 /// A set with all rules, and two records: the second breaks them.
@@ -77,6 +82,40 @@ fn growth_of_refused_schemas(rt: HostRuntime) -> Result<(), Fail> {
     Ok(())
 }
 
+/// What `PEOPLE` breaks: the line, the rule and the name.
+const BROKEN: [(usize, Rule, &[u8]); 8] = [
+    (1, Rule::Size, b"P"),
+    (20, Rule::Key, b"Id"),
+    (20, Rule::Mandatory, b"Town"),
+    (20, Rule::Prohibit, b"X"),
+    (20, Rule::Unique, b"Name"),
+    (20, Rule::Allowed, b"X"),
+    (23, Rule::Fit, b"Name"),
+    (20, Rule::Constraint, b"1"),
+];
+
+fn violations_again(
+    alloc: Global,
+    schema: &Schema,
+    database: &Database,
+) -> Result<Vec<Violation>, Fault>
+    requires { IsSchema database.now (Ok (described schema.now)) }
+{
+    match schema.violations(alloc, database) {
+        Err(Fault::OutOfMemory) => schema.violations(alloc, database),
+        answer => answer,
+    }
+}
+
+fn check_broken(rt: &impl Abort, found: &[Violation]) {
+    assert_eq!(rt; found.len(), BROKEN.len());
+    for (violation, (line, rule, name)) in found.iter().zip(&BROKEN) {
+        assert_eq!(rt; violation.line, *line, "{rule:?}");
+        assert_eq!(rt; violation.rule, *rule, "{rule:?}");
+        assert_eq!(rt; violation.name.as_slice(), *name, "{rule:?}");
+    }
+}
+
 #[test]
 fn growth_of_violations(rt: HostRuntime) -> Result<(), Fail> {
     let Ok(database) = read(rt.alloc(), PEOPLE) else {
@@ -85,26 +124,8 @@ fn growth_of_violations(rt: HostRuntime) -> Result<(), Fail> {
     let Ok(schema) = Schema::read(rt.alloc(), &database) else {
         return Ok(());
     };
-    let found = match schema.violations(rt.alloc(), &database) {
-        Err(Fault::OutOfMemory) => schema.violations(rt.alloc(), &database)?,
-        answer => answer?,
-    };
-    let wanted = [
-        (1, Rule::Size, b"P".as_slice()),
-        (20, Rule::Key, b"Id"),
-        (20, Rule::Mandatory, b"Town"),
-        (20, Rule::Prohibit, b"X"),
-        (20, Rule::Unique, b"Name"),
-        (20, Rule::Allowed, b"X"),
-        (23, Rule::Fit, b"Name"),
-        (20, Rule::Constraint, b"1"),
-    ];
-    assert_eq!(rt; found.len(), wanted.len());
-    for (violation, (line, rule, name)) in found.iter().zip(wanted) {
-        assert_eq!(rt; violation.line, line, "{rule:?}");
-        assert_eq!(rt; violation.rule, rule, "{rule:?}");
-        assert_eq!(rt; violation.name.as_slice(), name, "{rule:?}");
-    }
+    let found = violations_again(rt.alloc(), &schema, &database)?;
+    check_broken(&rt, found.as_slice());
     Ok(())
 }
 

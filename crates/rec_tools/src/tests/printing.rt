@@ -206,6 +206,23 @@ fn typed(
     }
 }
 
+/// Runs requests that print records, each on its file.
+fn check_shows(rt: &impl Abort, alloc: Global, rows: &[ShowRow]) -> Result<(), AllocError> {
+    for row in rows {
+        let request = show_of(alloc, *row)?;
+        check_request(
+            rt,
+            alloc,
+            row.name,
+            row.file,
+            &request,
+            row.answer,
+            row.printed,
+        )?;
+    }
+    Ok(())
+}
+
 #[test]
 fn records_are_shown(rt: HostRuntime) -> Result<(), Fail> {
     let rows = [
@@ -238,6 +255,27 @@ fn records_are_shown(rt: HostRuntime) -> Result<(), Fail> {
             b"A: 1\nA: 1\n",
         ),
         shown(
+            "a row",
+            PERSON,
+            By::All,
+            As::Row(b"Name,Email[1]"),
+            b"A a@y.net\n",
+        ),
+        shown(
+            "bytes that are no text",
+            b"N: x\xFFy\n",
+            By::Quick(b"y"),
+            As::Count,
+            b"1\n",
+        ),
+    ];
+    Ok(check_shows(&rt, rt.alloc(), &rows)?)
+}
+
+#[test]
+fn records_are_shown_by_expression(rt: HostRuntime) -> Result<(), Fail> {
+    let rows = [
+        shown(
             "one choice for a name",
             PERSON,
             By::Expr(b"Email ~ 'org' && Email ~ 'net'"),
@@ -259,13 +297,6 @@ fn records_are_shown(rt: HostRuntime) -> Result<(), Fail> {
             b"1\n",
         ),
         shown(
-            "a row",
-            PERSON,
-            By::All,
-            As::Row(b"Name,Email[1]"),
-            b"A a@y.net\n",
-        ),
-        shown(
             "a sum",
             b"Age: 5\n",
             By::Expr(b"Age + 1 = 6"),
@@ -273,19 +304,19 @@ fn records_are_shown(rt: HostRuntime) -> Result<(), Fail> {
             b"1\n",
         ),
         shown(
-            "bytes that are no text",
-            b"N: x\xFFy\n",
-            By::Quick(b"y"),
-            As::Count,
-            b"1\n",
-        ),
-        shown(
-            "a pattern finds nothing in them",
+            "a pattern finds nothing in bytes that are no text",
             b"N: x\xFFy\n",
             By::Expr(b"N ~ 'y'"),
             As::Count,
             b"0\n",
         ),
+    ];
+    Ok(check_shows(&rt, rt.alloc(), &rows)?)
+}
+
+#[test]
+fn records_are_shown_by_type(rt: HostRuntime) -> Result<(), Fail> {
+    let rows = [
         shown(
             "the untyped set comes first",
             SETS,
@@ -298,19 +329,7 @@ fn records_are_shown(rt: HostRuntime) -> Result<(), Fail> {
         typed("collapsed", b"P", As::Blocks, true, b"N: 1\nN: 2\n"),
         typed("values", b"P", As::Values(b"N"), false, b"1\n\n2\n"),
     ];
-    for row in rows {
-        let request = show_of(rt.alloc(), row)?;
-        check_request(
-            &rt,
-            rt.alloc(),
-            row.name,
-            row.file,
-            &request,
-            row.answer,
-            row.printed,
-        )?;
-    }
-    Ok(())
+    Ok(check_shows(&rt, rt.alloc(), &rows)?)
 }
 
 #[test]
@@ -391,19 +410,7 @@ fn shows_are_refused_in_order(rt: HostRuntime) -> Result<(), Fail> {
             )
         },
     ];
-    for row in rows {
-        let request = show_of(rt.alloc(), row)?;
-        check_request(
-            &rt,
-            rt.alloc(),
-            row.name,
-            row.file,
-            &request,
-            row.answer,
-            row.printed,
-        )?;
-    }
-    Ok(())
+    Ok(check_shows(&rt, rt.alloc(), &rows)?)
 }
 
 fn sets(

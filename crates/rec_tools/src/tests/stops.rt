@@ -38,12 +38,12 @@ fn check_stop(rt: &impl Abort, alloc: Global, stop: Stop) -> Result<(), AllocErr
     let Stop { call, fault, .. } = stop;
     let mut home = home_of(alloc, ALL, b"")?;
     home.fail(call, fault)?;
-    let answer = answer_of(alloc, &mut home, Words::Delete(b"1"))?;
-    assert_eq!(rt; number_of(&answer), 23, "call {call}");
+    let refusal = number_of(&answer_of(alloc, &mut home, Words::Delete(b"1"))?);
+    assert_eq!(rt; refusal, 23, "call {call}");
     assert_eq!(rt; home.failures(), 1, "call {call}");
     assert!(rt; holds(&home, stop.file, stop.journal), "call {call}");
-    let undo = answer_of(alloc, &mut home, Words::Undo)?;
-    assert_eq!(rt; number_of(&undo), stop.undo, "the undo, call {call}");
+    let undo = number_of(&answer_of(alloc, &mut home, Words::Undo)?);
+    assert_eq!(rt; undo, stop.undo, "the undo, call {call}");
     assert!(rt; home.file() == ALL, "the undo, call {call}");
     Ok(())
 }

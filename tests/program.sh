@@ -265,11 +265,16 @@ links() {
     begin 'two paths of one file'
     put db.rec "$three"
     ln -s db.rec link
-    run 1 recdel -n 0 --journal link db.rec
+    ln db.rec hard
+    local journal
+    for journal in link ./db.rec hard; do
+        run 1 recdel -n 0 --journal "$journal" db.rec
+        prints '' "$journal: the file and its journal are one file\n$store_failed"
+        run 1 undo --journal "$journal" db.rec
+        prints '' "$journal: the file and its journal are one file\n$store_failed"
+    done
     has db.rec "$three"
-    run 1 recdel -n 0 --journal ./db.rec db.rec
-    has db.rec "$three"
-    only db.rec link
+    only db.rec hard link
 
     begin 'a link that leads nowhere'
     put db.rec "$three"

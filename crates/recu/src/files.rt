@@ -90,10 +90,22 @@ impl<'r, R: Files<File = File> + Input + AllocGlobal> FileHome<'r, R> {
             return read_rest(Vec::new(alloc), self.rt.reader());
         }
         let path = self.path(which);
-        match open(self.rt, which, path) {
-            Ok(file) => read_whole(alloc, file),
-            Err(error) if may_be_missing(which, path, &error) => Ok(Vec::new(alloc)),
-            Err(error) => Err(error),
+        let file = match open(self.rt, which, path) {
+            Ok(file) => file,
+            Err(error) if may_be_missing(which, path, &error) => return Ok(Vec::new(alloc)),
+            Err(error) => return Err(error),
+        };
+        if which == Which::Journal && self.is_base(&file)? {
+            return Err(one_file());
+        }
+        read_whole(alloc, file)
+    }
+
+    /// Whether the journal is the file itself, under another path.
+    fn is_base(&self, journal: &File) -> io::Result<bool> {
+        match &self.base {
+            Some(path) => Ok(are_one(&fs::metadata(self.rt, path.as_str())?, &journal.metadata()?)),
+            None => Ok(false),
         }
     }
 
@@ -102,7 +114,7 @@ impl<'r, R: Files<File = File> + Input + AllocGlobal> FileHome<'r, R> {
         let base = self.target(Which::Base)?;
         let journal = self.target(Which::Journal)?;
         let done = if base.path == journal.path {
-            Err(Error::other("the file and its journal are one file"))
+            Err(one_file())
         } else {
             match which {
                 Which::Base => write(self.rt, &base, &base, bytes),
@@ -286,10 +298,14 @@ fn hold(rt: &impl Files, name: &str, file: &File) -> io::Result<bool> {
 fn leads_to(rt: &impl Files, name: &str, file: &File) -> io::Result<bool> {
     let own = file.metadata()?;
     match fs::symlink_metadata(rt, name) {
-        Ok(there) => Ok(there.ino() == own.ino() && there.dev() == own.dev()),
+        Ok(there) => Ok(are_one(&there, &own)),
         Err(error) if error.kind() == ErrorKind::NotFound => Ok(false),
         Err(error) => Err(error),
     }
+}
+
+fn are_one(first: &Metadata, second: &Metadata) -> bool {
+    first.ino() == second.ino() && first.dev() == second.dev()
 }
 
 fn fill(mut file: &File, old: Option<&Metadata>, bytes: &[u8]) -> io::Result<()> {
@@ -320,6 +336,10 @@ fn folder_of(path: &str) -> &str {
 
 fn not_regular() -> Error {
     Error::other("not a regular file")
+}
+
+fn one_file() -> Error {
+    Error::other("the file and its journal are one file")
 }
 
 fn too_long() -> Error {

@@ -25,7 +25,7 @@ use Rattle.rec_text.proofs.RecordLemmas.{OneListOfRecords-holds}
 use Rattle.rec_check.specs.declared.rules.Rules.{Rules as StoredRules}
 use Rattle.rec_check.specs.Automatic.{IsGreatest, IsNext, IsAutomatic, is_counter, last_integer, readings}
 use Rattle.rec_check.specs.Counting.{greater, greatest_from, readings_in, IsGreatestOf, IsBehind, IsNextOf}
-use Rattle.rec_check.specs.Descriptors.{elements_in}
+use Rattle.rec_text.specs.Records.{elements_in}
 use Rattle.rec_check.specs.Rules.{Rules}
 use Rattle.rec_check.specs.Schemas.{IsDescribed, IsRuled}
 use Rattle.rec_check.specs.Stored.{rules_stored}

@@ -11,12 +11,13 @@ use Rattle.rec_text.specs.declared.fault.Fault.{Fault}
 use Rattle.rec_text.specs.declared.violations.Violation.{Violation}
 use Rattle.rec_text.specs.Elements.{Piece}
 use Rattle.rec_text.specs.Records.{AreAscending, AreRecords, IsRecord}
-use Rattle.rec_text.proofs.RangeLemmas.{AllByRecursion-weaker}
+use Rattle.rec_text.proofs.ListLemmas.{AllByRecursion-weaker}
 use Rattle.rec_text.proofs.RecordLemmas.{OneListOfRecords-holds}
 use Rattle.rec_check.specs.declared.rules.Rules.{Rules as StoredRules}
 use Rattle.rec_check.specs.declared.set.Set_.{Set_}
 use Rattle.rec_check.specs.Checks.{AddsOfSet}
-use Rattle.rec_check.specs.Descriptors.{elements_in, type_of}
+use Rattle.rec_text.specs.Records.{elements_in}
+use Rattle.rec_check.specs.Descriptors.{type_of}
 use Rattle.rec_check.specs.Rules.{Rules}
 use Rattle.rec_check.specs.Schemas.{Described, IsDescribed, IsRuled}
 use Rattle.rec_check.specs.Sets.{named_in, AreFrom, BeginsAt}
@@ -31,7 +32,7 @@ set_end : (at : ℕ) (kind : Option (List ℕ)) (head : Option ℕ) (members : R
 set_end at None head members begins = omega (arith, begins.0, begins.1.1, (let none : Option (List ℕ) = None in length-replicate (members.end - members.start) none))
 set_end at (Some kind) head members begins = omega (arith, begins.0, begins.1.1, (let none : Option (List ℕ) = None in length-replicate (members.end - members.start) none))
 
-sets_within : (at : ℕ) (sets : List Set_) (total : ℕ) → AreFrom at sets → at + length (flat_map named_in sets) ≤ total → AllByRecursion (λ s. s.members.end ≤ total) sets
+pub sets_within : (at : ℕ) (sets : List Set_) (total : ℕ) → AreFrom at sets → at + length (flat_map named_in sets) ≤ total → AllByRecursion (λ s. s.members.end ≤ total) sets
 sets_within at [] total from within = tt
 sets_within at (s ∷ sets) total from within =
     let ends = set_end at s.kind s.head s.members from.0 in

@@ -66,7 +66,7 @@ place_more names i name own value place old so_far new within at is reached put 
 abbrev FittedType : Type 0
 FittedType = FieldType Re
 
-type_for-push : (typings : List (Typing Re)) (typing : Typing Re) (name : List ℕ) → type_for (typings ++ typing ∷ []) name ≡ cond (is_among typing.names name) (Some typing.type_) (type_for typings name)
+type_for-push : (typings : List Typing) (typing : Typing) (name : List ℕ) → type_for (typings ++ typing ∷ []) name ≡ cond (is_among typing.names name) (Some typing.type_) (type_for typings name)
 type_for-push [] typing name = refl
 type_for-push (first ∷ typings) typing name =
     let later : Option FittedType → Option FittedType = λ found. elim found [ Some type_ ↦ Some type_ | None ↦ if is_among first.names name then Some first.type_ else None ] in
@@ -76,7 +76,7 @@ type_for-push (first ∷ typings) typing name =
     ]
 
 -- the places of names lead to the types of fields
-pub record LeadsTo (typings : List (Typing Re)) (types : List (FieldType Re)) (place : List ℕ → Option ℕ) : Type 0 where
+pub record LeadsTo (typings : List Typing) (types : List (FieldType Re)) (place : List ℕ → Option ℕ) : Type 0 where
   pub size : length types ≡ length typings
   pub finds : (name : List ℕ) → option_and_then (slice_get types) (place name) ≡ type_for typings name
   pub below : (name : List ℕ) (at : ℕ) → place name ≡ Some at → at < length typings
@@ -102,7 +102,7 @@ front_found : (types : List (FieldType Re)) (type_ : FieldType Re) (place : Opti
 front_found types type_ None below = refl
 front_found types type_ (Some at) below = slice_get-front types type_ at (below at refl)
 
-module _ (typings : List (Typing Re)) (typing : Typing Re) (types : List (FieldType Re)) (place next : List ℕ → Option ℕ) (leads : LeadsTo typings types place)
+module _ (typings : List Typing) (typing : Typing) (types : List (FieldType Re)) (place next : List ℕ → Option ℕ) (leads : LeadsTo typings types place)
     (put : (name : List ℕ) → next name ≡ cond (is_among typing.names name) (Some (length typings)) (place name)) where
   found_then : (name : List ℕ) → option_and_then (slice_get (types ++ typing.type_ ∷ [])) (next name) ≡ type_for (typings ++ typing ∷ []) name
   found_then name =
@@ -133,10 +133,10 @@ module _ (typings : List (Typing Re)) (typing : Typing Re) (types : List (FieldT
     below = below_then;
   }
 
-pub LeadsTo-more : (typings more : List (Typing Re)) (typing : Typing Re) (types later : List (FieldType Re)) (place next : List ℕ → Option ℕ) (at : ℕ) → LeadsTo typings types place
+pub LeadsTo-more : (typings more : List Typing) (typing : Typing) (types later : List (FieldType Re)) (place next : List ℕ → Option ℕ) (at : ℕ) → LeadsTo typings types place
     → more ≡ typings ++ typing ∷ [] → later ≡ types ++ typing.type_ ∷ [] → at ≡ length typings → ((name : List ℕ) → next name ≡ cond (is_among typing.names name) (Some at) (place name)) → LeadsTo more later next
 LeadsTo-more typings more typing types later place next at leads more_is later_is at_is put =
-    let P : List (Typing Re) → Type 0 = λ l. LeadsTo l later next in
+    let P : List Typing → Type 0 = λ l. LeadsTo l later next in
     let Q : List (FieldType Re) → Type 0 = λ l. LeadsTo (typings ++ typing ∷ []) l next in
     subst P (sym more_is) (subst Q (sym later_is)
     (LeadsTo-push typings typing types place next leads (λ name. put name ∙ ap (λ n. cond (is_among typing.names name) (Some n) (place name)) at_is)))

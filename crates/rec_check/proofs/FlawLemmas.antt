@@ -1,5 +1,5 @@
 -- The flaws of a text are those of its records.
-use Rattle.std.proofs.Common.{◌≡◌, ◌∙◌, ℕ, ◌+◌, ◌-◌, ◌<◌, ◌≤◌, inl, inr, true, false, cond, List, [], ◌∷◌, ◌++◌, length, take, drop, Option, Some, None, leb, ltb, refl, ap, sym, suc, zero, arith}
+use Rattle.std.proofs.Common.{◌≡◌, ◌∙◌, ℕ, ◌+◌, ◌-◌, ◌<◌, ◌≤◌, inl, inr, true, false, cond, List, [], ◌∷◌, ◌++◌, length, take, Option, Some, None, leb, ltb, refl, ap, sym, arith}
 use Rattle.std.proofs.lemmas.Bool.{cases_Bool, cases_lt, false≢true, lt-leb, le-leb, lt-ltb, le-ltb, and_left, and_right}
 use Rattle.std.proofs.lemmas.List.{append-nil, length-drop, length-take}
 use Rattle.std.proofs.lemmas.Option.{slice_get_past, slice_get_within}
@@ -9,8 +9,10 @@ use Rattle.std.specs.declared.ops.Range.{Range}
 use Rattle.rec_text.specs.Elements.{Piece, text_of}
 use Rattle.rec_text.specs.Reading.{line_after}
 use Rattle.rec_text.specs.Records.{IsRecord, AreRecords, AreAscending, LiesIn}
+use Rattle.rec_text.proofs.ListLemmas.{AllByRecursion-behind, slice_get-drop, slice_get-take}
 use Rattle.rec_text.proofs.RangeLemmas.{LiesIn-cases, LiesIn-here, LiesIn-low, LiesIn-there}
-use Rattle.rec_check.specs.Descriptors.{Flaw, element_flaw, elements_in, flaw_at, holds_index, own_flaw, type_of, types_before, types_of}
+use Rattle.rec_text.specs.Records.{elements_in}
+use Rattle.rec_check.specs.Descriptors.{Flaw, element_flaw, flaw_at, holds_index, own_flaw, type_of, types_before, types_of}
 use Rattle.rec_check.specs.Reading.{field_flaw, HasRefusedField}
 use Rattle.rec_check.specs.Schemas.{HasFlaw, HasRefused}
 use Rattle.rec_check.proofs.SetLemmas.{types_among, filter_map-append}
@@ -42,19 +44,8 @@ flaw_at-outside pieces records i outside =
 
 -- ---- elements of a record and of the text
 
-slice_get-drop : {X : Type 0} (n : ℕ) (xs : List X) (k : ℕ) → slice_get (drop n xs) k ≡ slice_get xs (n + k)
-slice_get-drop zero xs k = ap (slice_get xs) (let e : k ≡ 0 + k = omega arith in e)
-slice_get-drop (suc n) [] k = refl
-slice_get-drop (suc n) (x ∷ xs) k = slice_get-drop n xs k ∙ ap (slice_get (x ∷ xs)) (let e : suc (n + k) ≡ suc n + k = omega arith in e)
-
-slice_get-take : {X : Type 0} (n : ℕ) (xs : List X) (k : ℕ) → k < n → slice_get (take n xs) k ≡ slice_get xs k
-slice_get-take zero xs k lt = absurd (omega arith)
-slice_get-take (suc n) [] k lt = refl
-slice_get-take (suc n) (x ∷ xs) zero lt = refl
-slice_get-take (suc n) (x ∷ xs) (suc k) lt = slice_get-take n xs k (omega arith)
-
 own_element : (pieces : List Piece) (fields : Range ℕ) (k : ℕ) → fields.start + k < fields.end → slice_get (elements_in pieces fields) k ≡ slice_get pieces (fields.start + k)
-own_element pieces fields k within = slice_get-drop fields.start (take fields.end pieces) k ∙ slice_get-take fields.end pieces (fields.start + k) within
+own_element pieces fields k within = slice_get-drop fields.start k (take fields.end pieces) ∙ slice_get-take fields.end (fields.start + k) pieces within
 
 -- ---- records before and behind one
 
@@ -73,10 +64,6 @@ least-le least (r ∷ done) fields rest ascending some = omega (arith, ascending
 ascending_rest : (least : ℕ) (done : List (Range ℕ)) (fields : Range ℕ) (rest : List (Range ℕ)) → AreAscending least (done ++ fields ∷ rest) → AreAscending fields.end rest
 ascending_rest least [] fields rest ascending = ascending.1
 ascending_rest least (r ∷ done) fields rest ascending = ascending_rest r.end done fields rest ascending.1
-
-pub all_rest : (P : Range ℕ → Type 0) (done rest : List (Range ℕ)) → AllByRecursion P (done ++ rest) → AllByRecursion P rest
-all_rest P [] rest all = all
-all_rest P (r ∷ done) rest all = all_rest P done rest all.1
 
 find-own : (i least : ℕ) (done : List (Range ℕ)) (fields : Range ℕ) (rest : List (Range ℕ)) → AreAscending least (done ++ fields ∷ rest) → AreSome (done ++ fields ∷ rest)
     → fields.start ≤ i → i < fields.end → find (holds_index i) (done ++ fields ∷ rest) ≡ Some fields
@@ -121,7 +108,7 @@ module _ (pieces : List Piece) (done : List (Range ℕ)) (fields : Range ℕ) (r
   some = AreSome-records pieces all are.each
 
   some_left : AreSome (fields ∷ rest)
-  some_left = all_rest (λ r. r.start < r.end) done (fields ∷ rest) some
+  some_left = AllByRecursion-behind (λ r. r.start < r.end) done (fields ∷ rest) some
 
   types_before-own : types_before pieces all fields.start ≡ named
   types_before-own =
@@ -131,7 +118,7 @@ module _ (pieces : List Piece) (done : List (Range ℕ)) (fields : Range ℕ) (r
       ∙ ap (λ ts. named ++ ts) (filter_map-behind pieces fields.start fields.end rest (ascending_rest 0 done fields rest are.ascending) some_left.1 some_left.0)
       ∙ append-nil named
 
-  flaw_at-own : (i : ℕ) → fields.start ≤ i → i < fields.end → flaw_at pieces all i ≡ own_flaw named own (i - fields.start)
+  pub flaw_at-own : (i : ℕ) → fields.start ≤ i → i < fields.end → flaw_at pieces all i ≡ own_flaw named own (i - fields.start)
   flaw_at-own i low high =
       ap (option_and_then (λ record_. own_flaw (types_before pieces all record_.start) (elements_in pieces record_) (i - record_.start))) (find-own i 0 done fields rest are.ascending some low high)
       ∙ ap (λ ts. own_flaw ts own (i - fields.start)) types_before-own

@@ -8,7 +8,7 @@ use Rattle.std.specs.HashSet.{HashSet, PutsKey}
 use Rattle.std.specs.List.{list_any}
 use Rattle.std.specs.Str.{bytes_eq}
 use Rattle.rec_check.specs.Words.{is_among}
-use Rattle.rec_check.proofs.NameLemmas.{same_bytes}
+use Rattle.rec_text.proofs.ListLemmas.{same_bytes}
 
 or_comm : (a b : Bool) → (a || b) ≡ (b || a)
 or_comm true true = refl

@@ -1,7 +1,6 @@
 pub mod WordLemmas
 pub mod KindLemmas
 pub mod RegexpLemmas
-pub mod MatcherLemmas
 pub mod TypeLemmas
 pub mod SetLemmas
 pub mod DescriptorLemmas
@@ -9,9 +8,12 @@ pub mod PlaceLemmas
 pub mod LineLemmas
 pub mod FlawLemmas
 pub mod SchemaLemmas
+pub mod SoundLemmas
+pub mod SameDescriptorLemmas
 pub mod SameLemmas
 pub mod TypeExamples
 pub mod OneReportLemmas
+pub mod CheckLemmas
 pub mod CounterLemmas
 pub mod NameLemmas
 pub mod KeyLemmas

@@ -1,32 +1,15 @@
 -- The places and the lines at which elements begin.
-use Rattle.std.proofs.Common.{◌≡◌, ◌∙◌, ℕ, zero, suc, ◌+◌, ◌-◌, ◌≤◌, ◌==◌, Bool, cond, List, [], ◌∷◌, ◌++◌, Option, Some, None, length, take, drop, count_by, refl, ap, sym, arith, append_assoc, length-append}
+use Rattle.std.proofs.Common.{◌≡◌, ◌∙◌, ℕ, ◌+◌, ◌-◌, ◌≤◌, ◌==◌, Bool, cond, List, ◌++◌, length, take, drop, count_by, ap, sym, arith, length-append}
 use Rattle.std.proofs.Math.Seq.{take-add, drop-append_seam, take-append_seam}
 use Rattle.std.proofs.lemmas.List.{take-append-drop}
 use Rattle.std.proofs.lemmas.List.Sums.{sum_by-append, count_by-le-length}
-use Rattle.std.proofs.lemmas.Option.{same_Some}
-use Rattle.std.specs.List.{slice_get}
-use Rattle.rec_text.specs.declared.element.Element.{Element}
 use Rattle.rec_text.specs.Elements.{Piece, text_of}
-use Rattle.rec_text.specs.Places.{AreFrom, pieces_of}
+use Rattle.rec_text.proofs.ElementLemmas.{text_of-append}
 use Rattle.rec_check.specs.Violations.{line_at}
-use Rattle.rec_check.specs.Walking.{ArePlaced}
-
-pub text_of-append : (some more : List Piece) → text_of (some ++ more) ≡ text_of some ++ text_of more
-text_of-append [] more = refl
-text_of-append (piece ∷ some) more = ap (λ t. piece.bytes ++ t) (text_of-append some more) ∙ sym (append_assoc piece.bytes (text_of some) (text_of more))
 
 -- where the element of an index begins
 abbrev pub place : List Piece → ℕ → ℕ
 place pieces i = length (text_of (take i pieces))
-
-placed_from : (at : ℕ) (elements : List Element) → AreFrom at elements → (i : ℕ) (element : Element) → slice_get elements i ≡ Some element → element.at ≡ at + place (pieces_of elements) i
-placed_from at [] from i element is = let no : ◌≡◌ {A = Option Element} None (Some element) = is in cc
-placed_from at (first ∷ elements) from zero element is = let same = same_Some first element is in omega (arith, ap (λ (e : Element). e.at) same, from.0)
-placed_from at (first ∷ elements) from (suc i) element is =
-    omega (arith, placed_from (at + length first.raw.now) elements from.1 i element is, length-append first.raw.now (text_of (take i (pieces_of elements))))
-
-pub placed : (elements : List Element) → AreFrom 0 elements → ArePlaced elements
-placed elements from i element is = omega (arith, placed_from 0 elements from i element is)
 
 -- ---- from one element to another
 

@@ -3,7 +3,6 @@ use Rattle.std.proofs.Common.{◌≡◌, ◌∙◌, inl, inr, ℕ, ◌+◌, ◌<
 use Rattle.std.proofs.lemmas.Bool.{cases_Bool, false≢true}
 use Rattle.std.proofs.lemmas.List.{append-nil, map-append, map_more, map_push, take_more}
 use Rattle.std.proofs.lemmas.List.Elements.{filter-append}
-use Rattle.std.proofs.lemmas.Slice.Eq.{bytes_eq-Decides}
 use Rattle.std.specs.Borrow.{Bor}
 use Rattle.std.specs.List.{list_any}
 use Rattle.std.specs.Str.{bytes_eq}
@@ -13,15 +12,11 @@ use Rattle.rec_text.specs.declared.element.Kind.TheVariants.{Blank, Comment, Fie
 use Rattle.rec_text.specs.Elements.{Piece, name_of}
 use Rattle.rec_text.specs.Places.{piece_of, pieces_of}
 use Rattle.rec_text.specs.Records.{is_field_piece}
+use Rattle.rec_text.proofs.ListLemmas.{same_bytes}
 use Rattle.rec_check.specs.Checks.{texts}
 use Rattle.rec_check.specs.Violations.{names_of}
 use Rattle.rec_check.specs.Words.{distinct, is_among}
 use Rattle.rec_check.proofs.TypeLemmas.{bytes_eq-sym, list_any-map}
-
--- ---- equal bytes
-
-pub same_bytes : (a b : List ℕ) → bytes_eq a b ≡ true → a ≡ b
-same_bytes a b e = (bytes_eq-Decides a b).0 e
 
 -- ---- each once
 

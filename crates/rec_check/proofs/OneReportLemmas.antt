@@ -20,7 +20,8 @@ use Rattle.rec_sex.specs.Meaning.{Choice_, Selects, sem, is_true}
 use Rattle.rec_sex.proofs.UniqueLemmas.{same_is_found, same_sem}
 use Rattle.rec_check.specs.declared.set.Set_.{Set_}
 use Rattle.rec_check.specs.declared.special.Bound.{Bound}
-use Rattle.rec_check.specs.Descriptors.{elements_in, meets}
+use Rattle.rec_text.specs.Records.{elements_in}
+use Rattle.rec_check.specs.Descriptors.{meets}
 use Rattle.rec_check.specs.Rules.{Rules, AreSameRules, AreSameTypes, AreSameTypings}
 use Rattle.rec_check.specs.Schemas.{Described}
 use Rattle.rec_check.specs.Types.{FieldType, matching, Typing, fits, type_for}
@@ -75,14 +76,14 @@ AreSameIfAny-later None (Some other) own second same too = absurd same
 AreSameIfAny-later (Some one) None own second same too = absurd same
 AreSameIfAny-later (Some one) (Some other) own second same too = same
 
-same_type_for : (types others : List (Typing Re)) (name : List ℕ) → AllZip AreSameTypings types others → AreSameIfAny (type_for types name) (type_for others name)
+same_type_for : (types others : List Typing) (name : List ℕ) → AllZip AreSameTypings types others → AreSameIfAny (type_for types name) (type_for others name)
 same_type_for [] [] name same = tt
 same_type_for [] (b ∷ others) name same = absurd same
 same_type_for (a ∷ types) [] name same = absurd same
 same_type_for (a ∷ types) (b ∷ others) name same =
     let P : List (List ℕ) → Type 0 = λ names. AreSameIfAny (if is_among a.names name then Some a.type_ else None) (if is_among names name then Some b.type_ else None) in
     AreSameIfAny-later (type_for types name) (type_for others name) _ _ (same_type_for types others name same.1)
-    (subst P same.0.0 (AreSameIfAny-if (is_among a.names name) a.type_ b.type_ same.0.1))
+    (subst P same.0.names (AreSameIfAny-if (is_among a.names name) a.type_ b.type_ same.0.type_))
 
 same_misfit : (one other : Option (FieldType Re)) (value : List ℕ) → AreSameIfAny one other
     → option_map_or (λ t. not (fits t value)) one false ≡ option_map_or (λ t. not (fits t value)) other false
@@ -167,7 +168,7 @@ one_of_sets pieces records (s ∷ sets) (a ∷ rules) [] here there same are too
 one_of_sets pieces records (s ∷ sets) (a ∷ rules) (b ∷ others) here there same (own, rest, is, are, joined) (second, more, is_too, too, joined_too) =
     joined ∙ ap₂ ◌++◌ (one_of_set a b same.0 pieces records s own second is is_too) (one_of_sets pieces records sets rules others rest more same.1 are too) ∙ sym joined_too
 
-not_refused : (answer : Result Described Fault) (described : Described) → answer ≡ Ok described → answer ≢ Err BadPattern
+pub not_refused : (answer : Result Described Fault) (described : Described) → answer ≡ Ok described → answer ≢ Err BadPattern
 not_refused answer described is refused = cc
 
 pub one_report : OneReport

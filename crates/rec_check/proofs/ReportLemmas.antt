@@ -1,6 +1,6 @@
 -- Violations, joined record by record and set by set.
-use Rattle.std.proofs.Common.{◌≡◌, ◌∙◌, ℕ, ◌+◌, ◌-◌, ◌<◌, ◌≤◌, Bool, true, false, not, List, [], ◌∷◌, ◌++◌, Option, Some, None, filter, length, map, take, drop, get_or, refl, ap, sym, subst, arith, append_assoc}
-use Rattle.std.proofs.lemmas.List.{append-nil, drop-map, drop-take, length-drop, length-map, length-take, take-map, take_all, take_more}
+use Rattle.std.proofs.Common.{◌≡◌, ◌∙◌, ℕ, ◌+◌, ◌-◌, ◌<◌, ◌≤◌, Bool, true, false, not, List, [], ◌∷◌, ◌++◌, Option, Some, None, filter, length, map, take, get_or, refl, ap, sym, subst, arith, append_assoc}
+use Rattle.std.proofs.lemmas.List.{append-nil, length-drop, length-map, length-take, take_all, take_more}
 use Rattle.std.proofs.lemmas.List.Elements.{filter_agree}
 use Rattle.std.specs.Prelude.{if◌then◌else◌, option_to_list, unwrap_or}
 use Rattle.std.specs.Option.{option_and_then, option_map_or}
@@ -19,7 +19,8 @@ use Rattle.rec_check.specs.declared.special.Bound.{Bound}
 use Rattle.rec_check.specs.declared.limit.Limit.{Limit}
 use Rattle.rec_check.specs.declared.limit.Limit.TheVariants.{Present, Absent, Single}
 use Rattle.rec_check.specs.Checks.{AddsOfRecord, AddsOfRecords, AddsOfSet, AddsUnselected, limit_violations}
-use Rattle.rec_check.specs.Descriptors.{elements_in, meets}
+use Rattle.rec_text.specs.Records.{elements_in}
+use Rattle.rec_check.specs.Descriptors.{meets}
 use Rattle.rec_check.specs.Rules.{Rules}
 use Rattle.rec_check.specs.Fitting.{misfit_violations}
 use Rattle.rec_check.specs.Types.{FieldType, type_for}
@@ -28,13 +29,6 @@ use Rattle.rec_check.specs.Words.{distinct}
 use Rattle.rec_check.proofs.FittingLemmas.{misfits-same}
 
 -- ---- one record
-
--- the elements of a record as a slice
-pub elements_in-slice : (elements : List Element) (record_ : Range ℕ) → record_.start ≤ record_.end → pieces_of (take (record_.end - record_.start) (drop record_.start elements)) ≡ elements_in (pieces_of elements) record_
-elements_in-slice elements record_ ordered =
-    let end : record_.start + (record_.end - record_.start) ≡ record_.end = omega arith in
-    sym (take-map piece_of (record_.end - record_.start) (drop record_.start elements)) ∙ ap (take (record_.end - record_.start)) (sym (drop-map piece_of record_.start elements))
-    ∙ sym (drop-take record_.start (record_.end - record_.start) (pieces_of elements)) ∙ ap (λ n. drop record_.start (take n (pieces_of elements))) end
 
 -- seven parts, one behind another
 regroup : (old a b c d e f g : List Violation) → ((((((old ++ a) ++ b) ++ c) ++ d) ++ e) ++ f) ++ g ≡ old ++ (a ++ (b ++ (c ++ (d ++ (e ++ (f ++ g))))))

@@ -1,5 +1,5 @@
 -- A text has one schema.
-use Rattle.std.proofs.Common.{◌≡◌, ◌≢◌, ◌∙◌, ℕ, ◌<◌, List, [], ◌∷◌, take, Option, Some, None, Result, Ok, Err, refl, ap, sym, subst, inl, inr, arith}
+use Rattle.std.proofs.Common.{◌≡◌, ◌≢◌, ◌∙◌, ℕ, ◌<◌, List, [], ◌∷◌, map, take, Option, Some, None, Result, Ok, Err, refl, ap, sym, subst, inl, inr, arith}
 use Rattle.std.proofs.lemmas.Bool.{cases_lt}
 use Rattle.std.specs.List.{AllZip}
 use Rattle.std.specs.declared.ops.Range.{Range}
@@ -13,11 +13,12 @@ use Rattle.rec_text.proofs.RecordLemmas.{OneListOfRecords-holds}
 use Rattle.rec_sex.specs.Expressions.{IsExpression, AreSame}
 use Rattle.rec_sex.proofs.UniqueLemmas.{same_expression, same_pattern}
 use Rattle.rec_check.specs.declared.set.Set_.{Set_}
-use Rattle.rec_check.specs.Descriptors.{Flaw, bad, unsupported, flaw_at, record_at, types_of}
+use Rattle.rec_text.specs.Records.{record_at}
+use Rattle.rec_check.specs.Descriptors.{Flaw, bad, unsupported, flaw_at, types_of}
 use Rattle.rec_check.specs.Rules.{Rules, no_rules, AreRules, AreSameRules, AreSameTypes, AreSameTypings}
 use Rattle.rec_check.specs.Schemas.{Described, IsDescribed, IsRuled, IsSchema, HasFlaw, AreSameSchemas, OneSchema}
 use Rattle.rec_check.specs.Sets.{AreSets}
-use Rattle.rec_check.specs.Types.{FieldType, integer, range, line as one_line, size, truth, one_of, matching, unchecked, Typing, IsTyping, IsBuilt, typing_of}
+use Rattle.rec_check.specs.Types.{FieldType, integer, range, line as one_line, size, truth, one_of, matching, unchecked, Typing, Written, IsTyping, IsBuilt, typing_of}
 use Rattle.rec_check.proofs.SetLemmas.{one_list_of_sets}
 
 -- ---- one list of records and sets
@@ -54,16 +55,29 @@ same_built truth one other built too = same_plain truth one other refl built too
 same_built (one_of items) one other built too = same_plain (one_of items) one other refl built too
 same_built unchecked one other built too = same_plain unchecked one other refl built too
 
-same_parts : (value : List ℕ) (one other : Typing (List ℕ)) → typing_of value ≡ Some one → typing_of value ≡ Some other → (one.names ≡ other.names) × (other.type_ ≡ one.type_)
+same_parts : (value : List ℕ) (one other : Written) → typing_of value ≡ Some one → typing_of value ≡ Some other
+    → (one.names ≡ other.names) × (one.kind ≡ other.kind) × (other.type_ ≡ one.type_)
 same_parts value one other is too =
     let both : Some one ≡ Some other = sym is ∙ too in
     let same : one ≡ other = cc in
-    (ap (λ typing. typing.names) same, ap (λ typing. typing.type_) (sym same))
+    (ap (λ typing. typing.names) same, ap (λ typing. typing.kind) same, ap (λ typing. typing.type_) (sym same))
 
-same_typing : (value : List ℕ) (one other : Typing Re) → IsTyping value one → IsTyping value other → AreSameTypings one other
-same_typing value one other (written, is, built) (more, too, built_too) =
-    let same = same_parts value (record { names = one.names; type_ = written }) (record { names = other.names; type_ = more }) is too in
-    (same.0, same_built written one.type_ other.type_ built (subst (λ w. IsBuilt w other.type_) same.1 built_too))
+same_typing : (value : List ℕ) (one other : Typing) → IsTyping value one → IsTyping value other → one.place ≡ other.place → AreSameTypings one other
+same_typing value one other (written, is, built) (more, too, built_too) place =
+    let same = same_parts value (record { names = one.names; kind = one.kind; type_ = written }) (record { names = other.names; kind = other.kind; type_ = more }) is too in
+    record { place = place; names = same.0; kind = same.1; type_ = same_built written one.type_ other.type_ built (subst (λ w. IsBuilt w other.type_) same.2 built_too) }
+
+same_typings : (values : List (List ℕ)) (one other : List Typing) → AllZip IsTyping values one → AllZip IsTyping values other
+    → map (λ typing. typing.place) one ≡ map (λ typing. typing.place) other → AllZip AreSameTypings one other
+same_typings [] [] [] all too places = tt
+same_typings [] [] (z ∷ other) all too places = absurd too
+same_typings [] (y ∷ one) other all too places = absurd all
+same_typings (x ∷ values) [] other all too places = absurd all
+same_typings (x ∷ values) (y ∷ one) [] all too places = absurd too
+same_typings (x ∷ values) (y ∷ one) (z ∷ other) all too places =
+    let first : y.place ≡ z.place = cc in
+    let rest : map (λ typing. typing.place) one ≡ map (λ typing. typing.place) other = cc in
+    (same_typing x y z all.0 too.0 first, same_typings values one other all.1 too.1 rest)
 
 -- ---- one list of rules
 
@@ -75,7 +89,7 @@ same_rules fields one other are too = record {
   unique = are.unique ∙ sym too.unique;
   allowed = are.allowed ∙ sym too.allowed;
   automatic = are.automatic ∙ sym too.automatic;
-  types = AllZip-same IsTyping AreSameTypings same_typing _ one.types other.types are.types too.types;
+  types = same_typings _ one.types other.types are.types too.types (are.places ∙ sym too.places);
   size = are.size ∙ sym too.size;
   constraints = AllZip-same IsExpression AreSame same_expression _ one.constraints other.constraints are.constraints too.constraints;
 }

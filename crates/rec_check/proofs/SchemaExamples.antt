@@ -5,7 +5,9 @@ use Rattle.std.specs.List.{AllByRecursion}
 use Rattle.std.specs.declared.ops.Range.{Range}
 use Rattle.rec_text.specs.declared.element.Kind.TheVariants.{Blank, Comment, Field}
 use Rattle.rec_text.specs.declared.fault.Fault.TheVariants.{BadDescriptor}
-use Rattle.rec_text.specs.Elements.{Piece}
+use Rattle.rec_text.specs.declared.violations.Rule.TheVariants.{Key}
+use Rattle.rec_text.specs.declared.violations.Violation.{Violation}
+use Rattle.rec_text.specs.Elements.{Piece, text_of}
 use Rattle.rec_text.specs.Records.{AreRecords, LiesIn, is_full_at}
 use Rattle.rec_text.specs.Scanned.{range, runs_from, narrowed_from}
 use Rattle.rec_text.proofs.RangeLemmas.{LiesIn-cases, LiesIn-nil}
@@ -13,10 +15,15 @@ use Rattle.rec_text.proofs.RunLemmas.{AreRuns-runs_to}
 use Rattle.rec_text.proofs.RecordLemmas.{AreRecords-all_narrowed}
 use Rattle.rec_check.specs.declared.set.Set_.{Set_}
 use Rattle.rec_check.specs.declared.special.Comparison.TheVariants.{Exactly, AtMost, AtLeast}
+use Rattle.rec_check.specs.Automatic.{automatic_names, automatic_of}
+use Rattle.rec_text.specs.Records.{elements_in}
 use Rattle.rec_check.specs.Descriptors.{bad, unsupported, bound_in, type_of, types_of, rec_flaw, own_flaw, flaw_at}
-use Rattle.rec_check.specs.Rules.{Rules, no_rules, AreRules}
+use Rattle.rec_check.specs.Rules.{Rules, no_rules, AreRules, field_type}
 use Rattle.rec_check.specs.Schemas.{IsSchema}
 use Rattle.rec_check.specs.Sets.{AreSets, is_of_type}
+use Rattle.rec_check.specs.Soundness.{descriptors, says}
+use Rattle.rec_check.specs.Types.{integer, unchecked}
+use Rattle.rec_check.specs.Violations.{AreViolationsOf, violation}
 use Rattle.rec_check.proofs.FlawLemmas.{flaw_at-outside}
 use Rattle.rec_check.proofs.SetLemmas.{set_of}
 
@@ -78,7 +85,43 @@ listed = record no_rules {
 }
 
 listed_are : AreRules listing listed
-listed_are = record { key = refl; mandatory = refl; prohibited = refl; unique = refl; allowed = refl; automatic = refl; types = tt; size = refl; constraints = tt }
+listed_are = record { key = refl; mandatory = refl; prohibited = refl; unique = refl; allowed = refl; automatic = refl; types = tt; places = refl; size = refl; constraints = tt }
+
+-- each `%type` field keeps its place among all elements and the word of its kind, also one that is unchecked
+abbrev typing : List Piece
+typing = field (codes "%rec: P") ∷ field (codes "%auto: A B") ∷ record { kind = Comment; bytes = codes "# c" ++ 10 ∷ [] } ∷ field (codes "%type: A,B int")
+    ∷ field (codes "%auto: C A") ∷ field (codes "%type: A  real x") ∷ []
+
+abbrev typed : Rules
+typed = record no_rules {
+  automatic = codes "A" ∷ codes "B" ∷ codes "C" ∷ codes "A" ∷ [];
+  types = record { place = 3; names = codes "A" ∷ codes "B" ∷ []; kind = codes "int"; type_ = integer }
+      ∷ record { place = 5; names = codes "A" ∷ []; kind = codes "real"; type_ = unchecked } ∷ [];
+}
+
+typed_are : AreRules typing typed
+typed_are = record {
+  key = refl;
+  mandatory = refl;
+  prohibited = refl;
+  unique = refl;
+  allowed = refl;
+  automatic = refl;
+  types = ((integer, refl, refl), ((unchecked, refl, refl), tt));
+  places = refl;
+  size = refl;
+  constraints = tt;
+}
+
+-- of two types the later holds, and a counter is named once
+types_of_fields : map (field_type typed) (codes "A" ∷ codes "B" ∷ codes "C" ∷ []) ≡ Some unchecked ∷ Some integer ∷ None ∷ []
+types_of_fields = refl
+
+counters : automatic_names typed ≡ codes "A" ∷ codes "B" ∷ codes "C" ∷ []
+counters = refl
+
+counters_of_sets : map (automatic_of (record { sets = []; rules = no_rules ∷ typed ∷ [] })) (0 ∷ 1 ∷ 2 ∷ []) ≡ [] ∷ (codes "A" ∷ codes "B" ∷ codes "C" ∷ []) ∷ [] ∷ []
+counters_of_sets = refl
 
 -- ---- sets
 
@@ -103,7 +146,7 @@ abbrev keyed : Rules
 keyed = record no_rules { key = Some (codes "N") }
 
 keyed_are : AreRules (field (codes "%rec: P") ∷ field (codes "%key: N") ∷ []) keyed
-keyed_are = record { key = refl; mandatory = refl; prohibited = refl; unique = refl; allowed = refl; automatic = refl; types = tt; size = refl; constraints = tt }
+keyed_are = record { key = refl; mandatory = refl; prohibited = refl; unique = refl; allowed = refl; automatic = refl; types = tt; places = refl; size = refl; constraints = tt }
 
 -- no range holds what stands behind all
 behind_all : (ranges : List (Range ℕ)) (end i : ℕ) → AllByRecursion (λ r. r.end ≤ end) ranges → end ≤ i → LiesIn ranges i → ⊥
@@ -125,6 +168,16 @@ sound (suc (suc (suc (suc (suc (suc (suc (suc i)))))))) =
 
 described : IsSchema text (Ok (record { sets = sets; rules = no_rules ∷ keyed ∷ [] }))
 described = record { records = records; are = records_are; sound = sound; sets = sets_are; rules = (refl, (keyed_are, tt)) }
+
+-- a newline at the end and what stands before the descriptor are no matter
+abbrev moved : List Piece
+moved = record { kind = Comment; bytes = 35 ∷ 10 ∷ [] } ∷ field (codes "%rec:  P") ∷ record { kind = Field; bytes = codes "%key: N" } ∷ []
+
+said : descriptors text records ≡ ((codes "%rec", codes "P") ∷ (codes "%key", codes "N") ∷ []) ∷ []
+said = refl
+
+said_elsewhere : map says (elements_in moved (range 1 3)) ≡ (codes "%rec", codes " P") ∷ (codes "%key", codes "N") ∷ []
+said_elsewhere = refl
 
 found : map (λ kind. position (is_of_type kind) sets) (codes "P" ∷ codes "Q" ∷ [] ∷ []) ≡ Some 1 ∷ None ∷ None ∷ []
 found = refl
@@ -156,3 +209,53 @@ sound_before (suc (suc i)) less = absurd (omega arith)
 
 refused : IsSchema twice (Err (BadDescriptor 3))
 refused = record { records = twice_records; are = twice_records_are; at = 2; first = sound_before; met = refl; number = refl }
+
+-- ---- the violations of a text
+
+-- its elements are read, and their descriptors are refused
+none_of_twice : AreViolationsOf (text_of twice) (Err (BadDescriptor 3))
+none_of_twice = inr (twice, record { joined = refl; well_formed = (refl, (refl, (refl, (refl, tt)))); lines_end = (refl, (refl, (refl, tt))) }, refused)
+
+-- a record of the set has no key
+abbrev keyless : List Piece
+keyless = field (codes "%rec: P") ∷ field (codes "%key: N") ∷ blank ∷ field (codes "A: 1") ∷ []
+
+abbrev keyless_records : List (Range ℕ)
+keyless_records = range 0 2 ∷ range 3 4 ∷ []
+
+keyless_records_are : AreRecords keyless keyless_records
+unfolding runs_from narrowed_from
+keyless_records_are = AreRecords-all_narrowed keyless keyless_records (AreRuns-runs_to (is_full_at keyless) 4)
+
+keyless_sound : (i : ℕ) → flaw_at keyless keyless_records i ≡ None
+keyless_sound zero = refl
+keyless_sound (suc zero) = refl
+keyless_sound (suc (suc zero)) = refl
+keyless_sound (suc (suc (suc zero))) = refl
+keyless_sound (suc (suc (suc (suc i)))) =
+    let at : ℕ = suc (suc (suc (suc i))) in
+    flaw_at-outside keyless keyless_records at (behind_all keyless_records 4 at (lit≤ tt, (lit≤ tt, tt)) (omega arith))
+
+abbrev keyless_sets : List Set_
+keyless_sets = set_of None None 0 0 ∷ set_of (Some (codes "P")) (Some 0) 1 2 ∷ []
+
+keyless_described : IsSchema keyless (Ok (record { sets = keyless_sets; rules = no_rules ∷ keyed ∷ [] }))
+keyless_described = record {
+  records = keyless_records;
+  are = keyless_records_are;
+  sound = keyless_sound;
+  sets = record { joined = refl; untyped_first = (refl, (refl, tt)); places = ((lit≤ tt, (refl, refl)), ((lit≤ tt, (refl, refl)), tt)) };
+  rules = (refl, (keyed_are, tt));
+}
+
+abbrev no_key : List Violation
+no_key = violation 4 Key (codes "N") ∷ []
+
+key_is_missing : AreViolationsOf (text_of keyless) (Ok no_key)
+key_is_missing = (
+  keyless,
+  record { sets = keyless_sets; rules = no_rules ∷ keyed ∷ [] },
+  record { joined = refl; well_formed = (refl, (refl, (refl, (refl, tt)))); lines_end = (refl, (refl, (refl, tt))) },
+  keyless_described,
+  (keyless_records, keyless_records_are, ([], no_key, ([], refl, refl), (no_key, [], (no_key, (no_key, [], record { unselected = []; are = refl; joined = refl }, refl, refl), refl), refl, refl), refl)),
+)

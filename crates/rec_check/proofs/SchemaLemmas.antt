@@ -2,7 +2,7 @@
 use Rattle.std.proofs.Common.{◌≡◌, ◌∙◌, ℕ, ◌+◌, ◌-◌, ◌<◌, ◌≤◌, Bool, true, false, cond, List, [], ◌∷◌, ◌++◌, length, take, drop, Option, Some, None, Err, refl, ap, sym, subst, arith}
 use Rattle.std.proofs.lemmas.Bool.{false≢true}
 use Rattle.std.proofs.lemmas.List.{append_assoc, append-nil, length-append, length-map, length_push, map-append}
-use Rattle.std.specs.List.{All, AllByRecursion, AllZip, slice_get}
+use Rattle.std.specs.List.{All, AllZip, slice_get}
 use Rattle.std.specs.Option.{is_some}
 use Rattle.std.specs.declared.ops.Range.{Range}
 use Rattle.rec_text.specs.declared.element.Element.{Element}
@@ -10,25 +10,28 @@ use Rattle.rec_text.specs.declared.fault.Fault.{Fault}
 use Rattle.rec_text.specs.declared.fault.Fault.TheVariants.{OutOfMemory, BadDescriptor, Unsupported, BadPattern}
 use Rattle.rec_text.specs.Elements.{Piece, text_of}
 use Rattle.rec_text.specs.Faults.{IsMemoryOr}
-use Rattle.rec_text.specs.Places.{piece_of, pieces_of, AreFrom}
+use Rattle.rec_text.specs.Places.{pieces_of, AreFrom}
 use Rattle.rec_text.specs.Reading.{line_after}
-use Rattle.rec_text.specs.Records.{IsRecord, AreRecords, AreAscending, LiesIn}
+use Rattle.rec_text.specs.Records.{IsRecord, AreRecords, LiesIn}
+use Rattle.rec_text.proofs.ListLemmas.{AllByRecursion-behind}
 use Rattle.rec_text.proofs.RangeLemmas.{LiesIn-nil}
+use Rattle.rec_text.proofs.RecordLemmas.{length-records}
 use Rattle.rec_check.specs.declared.set.Set_.{Set_}
-use Rattle.rec_check.specs.Descriptors.{Flaw, bad, unsupported, elements_in, flaw_at, own_flaw, record_at, type_of, types_of}
-use Rattle.rec_check.specs.Reading.{Said, AddsRecord, AddsRecordAs, AreSaid, HasFieldFlaw, HasRefusedField, IsRefusedRecord, field_flaw, untyped}
+use Rattle.rec_text.specs.Records.{elements_in, record_at}
+use Rattle.rec_check.specs.Descriptors.{Flaw, bad, unsupported, flaw_at, own_flaw, type_of, types_of}
+use Rattle.rec_check.specs.Reading.{AddsRecord, AddsRecordAs, HasFieldFlaw, HasRefusedField, IsRefusedRecord, field_flaw, untyped}
 use Rattle.rec_check.specs.Rules.{Rules, AreRules}
 use Rattle.rec_check.specs.Schemas.{Described, IsDescribed, IsRuled, IsSchema, HasFlaw, HasRefused}
 use Rattle.rec_check.specs.Sets.{AreSets}
 use Rattle.rec_check.specs.Steps.{kinds, with_member, with_record}
 use Rattle.rec_check.proofs.DescriptorLemmas.{AllZip-push}
-use Rattle.rec_check.proofs.FlawLemmas.{flaw_at-outside, sound-behind, HasFlaw-own, HasRefused-own, all_rest}
+use Rattle.rec_check.proofs.FlawLemmas.{flaw_at-outside, sound-behind, HasFlaw-own, HasRefused-own}
 use Rattle.rec_check.proofs.PlaceLemmas.{own_are, own_within, text_before}
 use Rattle.rec_check.proofs.SetLemmas.{set_of, AreSets-none, AreSets-with_record, kinds-AreSets, types_among}
 
 -- ---- the rules of sets
 
-IsRuled-longer : (pieces : List Piece) (records : List (Range ℕ)) (index : ℕ) (sets : List Set_) (rules : List Rules) → AllZip (IsRuled pieces records) sets rules
+pub IsRuled-longer : (pieces : List Piece) (records : List (Range ℕ)) (index : ℕ) (sets : List Set_) (rules : List Rules) → AllZip (IsRuled pieces records) sets rules
     → AllZip (IsRuled pieces records) (with_member sets index) rules
 IsRuled-longer pieces records index [] rules all = all
 IsRuled-longer pieces records index (s ∷ []) [] all = absurd all
@@ -36,11 +39,11 @@ IsRuled-longer pieces records index (s ∷ []) (own ∷ rules) all = all
 IsRuled-longer pieces records index (s ∷ next ∷ sets) [] all = absurd all
 IsRuled-longer pieces records index (s ∷ next ∷ sets) (own ∷ rules) all = (all.0, IsRuled-longer pieces records index (next ∷ sets) rules all.1)
 
-record_at-behind : (pieces : List Piece) (done : List (Range ℕ)) (fields : Range ℕ) (rest : List (Range ℕ)) → record_at pieces (done ++ fields ∷ rest) (length done) ≡ elements_in pieces fields
+pub record_at-behind : (pieces : List Piece) (done : List (Range ℕ)) (fields : Range ℕ) (rest : List (Range ℕ)) → record_at pieces (done ++ fields ∷ rest) (length done) ≡ elements_in pieces fields
 record_at-behind pieces [] fields rest = refl
 record_at-behind pieces (r ∷ done) fields rest = record_at-behind pieces done fields rest
 
-none_there : {X : Type 0} (o : Option X) → is_some o ≡ false → o ≡ None
+pub none_there : {X : Type 0} (o : Option X) → is_some o ≡ false → o ≡ None
 none_there None none = refl
 none_there (Some x) none = absurd (false≢true (sym none))
 
@@ -55,7 +58,7 @@ pub record IsSchemaUpTo (pieces : List Piece) (count : ℕ) (rest : List (Range 
   pub sets_are : AreSets (types_of pieces done) described.sets
   pub rules_are : AllZip (IsRuled pieces (done ++ rest)) described.sets described.rules
 
-schema_none : (pieces : List Piece) (records : List (Range ℕ)) → AreRecords pieces records → IsSchemaUpTo pieces 0 records untyped
+pub schema_none : (pieces : List Piece) (records : List (Range ℕ)) → AreRecords pieces records → IsSchemaUpTo pieces 0 records untyped
 schema_none pieces records are = record {
   done = [];
   are = are;
@@ -73,25 +76,18 @@ schema_first pieces records rest count described are zeroth all alone =
     let R : Described → Type 0 = λ d. IsSchemaUpTo pieces 0 records d in
     subst P (sym zeroth) (subst Q (sym all) (subst R (sym alone) (schema_none pieces records are)))
 
--- there are no more records than elements
-few_records : (pieces : List Piece) (least : ℕ) (records : List (Range ℕ)) → least ≤ length pieces → AllByRecursion (IsRecord pieces) records → AreAscending least records
-    → least + length records ≤ length pieces
-few_records pieces least [] within each ascending = omega arith
-few_records pieces least (r ∷ records) within each ascending =
-    omega (arith, each.0.some, ascending.0, few_records pieces r.end records (omega (arith, each.0.high, each.0.is_paragraph.within)) each.1 ascending.1)
-
 pub countable : (pieces : List Piece) (count : ℕ) (rest : List (Range ℕ)) (described : Described) (top : ℕ) → IsSchemaUpTo pieces count rest described → length pieces < top → count + length rest < top
 countable pieces count rest described top so_far short =
-    omega (arith, so_far.counted, length-append so_far.done rest, few_records pieces 0 (so_far.done ++ rest) (omega arith) so_far.are.each so_far.are.ascending)
+    omega (arith, so_far.counted, length-append so_far.done rest, length-records pieces 0 (so_far.done ++ rest) (omega arith) so_far.are.each so_far.are.ascending)
 
 module _ (pieces : List Piece) (count : ℕ) (left : List (Range ℕ)) (old : Described) (fields : Range ℕ) (rest : List (Range ℕ)) (first : left ≡ fields ∷ rest)
     (so_far : IsSchemaUpTo pieces count left old) where
-  here : IsSchemaUpTo pieces count (fields ∷ rest) old
+  pub here : IsSchemaUpTo pieces count (fields ∷ rest) old
   here = subst (λ r. IsSchemaUpTo pieces count r old) first so_far
 
   pub record_within : (fields.start ≤ fields.end) × (fields.end ≤ length pieces)
   record_within =
-      let own = (all_rest (IsRecord pieces) here.done (fields ∷ rest) here.are.each).0 in
+      let own = (AllByRecursion-behind (IsRecord pieces) here.done (fields ∷ rest) here.are.each).0 in
       (omega (arith, own.some), omega (arith, own.high, own.is_paragraph.within))
 
   kinds-before : kinds old.sets ≡ types_among (types_of pieces here.done)
@@ -101,7 +97,7 @@ module _ (pieces : List Piece) (count : ℕ) (left : List (Range ℕ)) (old : De
   parts = append_assoc here.done (fields ∷ []) rest
 
   -- the schema with the record, whose elements name this type
-  grown : (index next : ℕ) (new : Described) → index ≡ count → next ≡ count + 1 → ((k : ℕ) → own_flaw (kinds old.sets) (elements_in pieces fields) k ≡ None)
+  pub grown : (index next : ℕ) (new : Described) → index ≡ count → next ≡ count + 1 → ((k : ℕ) → own_flaw (kinds old.sets) (elements_in pieces fields) k ≡ None)
       → new.sets ≡ with_record old.sets index (type_of (elements_in pieces fields)) → AllZip (IsRuled pieces (here.done ++ fields ∷ rest)) new.sets new.rules → IsSchemaUpTo pieces next rest new
   grown index next new here_is then sound sets_grow rules_are =
       let kind : Option (List ℕ) = type_of (elements_in pieces fields) in
@@ -123,15 +119,15 @@ module _ (pieces : List Piece) (count : ℕ) (left : List (Range ℕ)) (old : De
       }
 
   -- the rules of the sets that are there stay, and those of a descriptor stand behind them
-  rules_grow : (index : ℕ) (new : Described) (said : Said) (kind : Option (List ℕ)) → index ≡ count → is_some kind ≡ true → said.kind ≡ kind → AreSaid (kinds old.sets) (elements_in pieces fields) said
-      → new.sets ≡ with_record old.sets index kind → new.rules ≡ old.rules ++ said.rules ∷ [] → AllZip (IsRuled pieces (here.done ++ fields ∷ rest)) new.sets new.rules
-  rules_grow index new said None here_is typed kind_is told sets_grow rules_are = absurd (false≢true typed)
-  rules_grow index new said (Some kind) here_is typed kind_is told sets_grow rules_are =
+  pub rules_grow : (index : ℕ) (new : Described) (asked : Rules) (kind : Option (List ℕ)) → index ≡ count → is_some kind ≡ true → AreRules (elements_in pieces fields) asked
+      → new.sets ≡ with_record old.sets index kind → new.rules ≡ old.rules ++ asked ∷ [] → AllZip (IsRuled pieces (here.done ++ fields ∷ rest)) new.sets new.rules
+  rules_grow index new asked None here_is typed told sets_grow rules_are = absurd (false≢true typed)
+  rules_grow index new asked (Some kind) here_is typed told sets_grow rules_are =
       let own : record_at pieces (here.done ++ fields ∷ rest) index ≡ elements_in pieces fields = ap (record_at pieces (here.done ++ fields ∷ rest)) (here_is ∙ here.counted) ∙ record_at-behind pieces here.done fields rest in
-      let ruled : AreRules (record_at pieces (here.done ++ fields ∷ rest) index) said.rules = subst (λ fs. AreRules fs said.rules) (sym own) told.rules in
+      let ruled : AreRules (record_at pieces (here.done ++ fields ∷ rest) index) asked = subst (λ fs. AreRules fs asked) (sym own) told in
       let P : List Set_ → Type 0 = λ sets. AllZip (IsRuled pieces (here.done ++ fields ∷ rest)) sets new.rules in
       let Q : List Rules → Type 0 = λ rules. AllZip (IsRuled pieces (here.done ++ fields ∷ rest)) (with_record old.sets index (Some kind)) rules in
-      subst P (sym sets_grow) (subst Q (sym rules_are) (AllZip-push (IsRuled pieces (here.done ++ fields ∷ rest)) old.sets old.rules (set_of (Some kind) (Some index) (index + 1) (index + 1)) said.rules here.rules_are ruled))
+      subst P (sym sets_grow) (subst Q (sym rules_are) (AllZip-push (IsRuled pieces (here.done ++ fields ∷ rest)) old.sets old.rules (set_of (Some kind) (Some index) (index + 1) (index + 1)) asked here.rules_are ruled))
 
   more_as : (index next : ℕ) (new : Described) (descriptor : Bool) → index ≡ count → next ≡ count + 1 → is_some (type_of (elements_in pieces fields)) ≡ descriptor
       → AddsRecordAs descriptor (kinds old.sets) (elements_in pieces fields) index old new → IsSchemaUpTo pieces next rest new
@@ -144,7 +140,7 @@ module _ (pieces : List Piece) (count : ℕ) (left : List (Range ℕ)) (old : De
   more_as index next new true here_is then kind_is (said, are_said, sets_grow, rules_are) =
       let sets_are : new.sets ≡ with_record old.sets index (type_of (elements_in pieces fields)) = sets_grow ∙ ap (with_record old.sets index) are_said.kind in
       grown index next new here_is then (λ k. ap (λ b. cond b (field_flaw (kinds old.sets) (elements_in pieces fields) k) None) kind_is ∙ are_said.sound k)
-      sets_are (rules_grow index new said (type_of (elements_in pieces fields)) here_is kind_is are_said.kind are_said sets_are rules_are)
+      sets_are (rules_grow index new said.rules (type_of (elements_in pieces fields)) here_is kind_is are_said.rules sets_are rules_are)
 
   -- the record's elements are taken from all elements
   module _ (elements : List Element) (elements_are : pieces_of elements ≡ pieces) (named : List (List ℕ)) (named_is : kinds old.sets ≡ named) where
@@ -201,6 +197,3 @@ schema_all pieces count rest described none so_far =
       sets = subst (λ rs. AreSets (types_of pieces rs) described.sets) (sym (append-nil end.done)) end.sets_are;
       rules = end.rules_are;
     }
-
-pub few_pieces : (pieces : List Piece) (elements : List Element) (top : ℕ) → pieces_of elements ≡ pieces → length elements < top → length pieces < top
-few_pieces pieces elements top same short = omega (arith, ap length same, length-map elements piece_of)

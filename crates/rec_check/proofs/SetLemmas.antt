@@ -13,7 +13,7 @@ use Rattle.rec_check.specs.Steps.{kinds, with_member, with_record}
 abbrev pub Named : Type 0
 Named = Option (List ℕ)
 
-abbrev nothing : Named
+abbrev pub nothing : Named
 nothing = None
 
 -- a set of these parts
@@ -220,7 +220,7 @@ BeginsTyped-named : (sets : List Set_) → AreTyped sets → BeginsTyped (flat_m
 BeginsTyped-named [] typed = tt
 BeginsTyped-named (s ∷ sets) typed = BeginsTyped-parts s.kind (replicate (s.members.end - s.members.start) nothing) (flat_map named_in sets) typed.0
 
-some_named : (kind : Named) (rest more : List Named) → is_some kind ≡ true → [] ≡ ((elim kind [ None ↦ [] | Some kind ↦ Some kind ∷ [] ]) ++ rest) ++ more → ⊥
+pub some_named : (kind : Named) (rest more : List Named) → is_some kind ≡ true → [] ≡ ((elim kind [ None ↦ [] | Some kind ↦ Some kind ∷ [] ]) ++ rest) ++ more → ⊥
 some_named None rest more typed e = false≢true typed
 some_named (Some kind) rest more typed e = cc
 

@@ -1,14 +1,14 @@
 -- Types at examples, which compute.
 use Rattle.std.specs.Prelude.{codes}
 use Rattle.std.proofs.Common.{◌≡◌, ℕ, pos, negsuc, true, false, List, [], ◌∷◌, Option, Some, None, refl}
-use Rattle.rec_check.specs.Types.{FieldType, integer, range, size, truth, one_of, unchecked, fits, pattern_in, Typing, typing_of}
+use Rattle.rec_check.specs.Types.{FieldType, integer, range, size, truth, one_of, unchecked, fits, pattern_in, Written, typing_of}
 
 -- ---- how a type is written
 
-abbrev only_n : FieldType (List ℕ) → Option (Typing (List ℕ))
-only_n type_ = Some (record { names = codes "N" ∷ []; type_ = type_ })
+abbrev only_n : List ℕ → FieldType (List ℕ) → Option Written
+only_n kind type_ = Some (record { names = codes "N" ∷ []; kind = kind; type_ = type_ })
 
-pub commas_join_names : typing_of (codes "N,M int") ≡ Some (record { names = codes "N" ∷ codes "M" ∷ []; type_ = integer })
+pub commas_join_names : typing_of (codes "N,M int") ≡ Some (record { names = codes "N" ∷ codes "M" ∷ []; kind = codes "int"; type_ = integer })
 commas_join_names = refl
 
 pub blank_behind_a_comma_ends_the_names : typing_of (codes "N, M int") ≡ None
@@ -17,10 +17,10 @@ blank_behind_a_comma_ends_the_names = refl
 pub integers_have_no_words : typing_of (codes "N int 5") ≡ None
 integers_have_no_words = refl
 
-pub least_may_be_left_out : typing_of (codes "N range -5") ≡ only_n (range (pos 0) (negsuc 4))
+pub least_may_be_left_out : typing_of (codes "N range -5") ≡ only_n (codes "range") (range (pos 0) (negsuc 4))
 least_may_be_left_out = refl
 
-pub comments_are_blanks : typing_of (codes "N enum a(b)c") ≡ only_n (one_of (codes "a" ∷ codes "c" ∷ []))
+pub comments_are_blanks : typing_of (codes "N enum a(b)c") ≡ only_n (codes "enum") (one_of (codes "a" ∷ codes "c" ∷ []))
 comments_are_blanks = refl
 
 pub comments_are_no_words : typing_of (codes "N enum (a)") ≡ None
@@ -29,7 +29,7 @@ comments_are_no_words = refl
 pub delimiter_may_stand_inside : pattern_in (codes "|a|b|") ≡ Some (codes "a|b")
 delimiter_may_stand_inside = refl
 
-pub other_kinds_are_unchecked : typing_of (codes "N real") ≡ only_n unchecked
+pub other_kinds_are_unchecked : typing_of (codes "N real") ≡ only_n (codes "real") unchecked
 other_kinds_are_unchecked = refl
 
 -- ---- values that fit

@@ -1,7 +1,8 @@
 -- The types of sets, and what is found among them.
-use Rattle.std.proofs.Common.{◌≡◌, ◌∙◌, ℕ, ◌+◌, Bool, false, not, cond, ◌||◌, List, [], ◌∷◌, ◌++◌, length, map, position, Option, Some, None, ltb, refl, ap, ap₂, sym, inl, inr, suc, arith}
+use Rattle.std.proofs.Common.{◌≡◌, ◌∙◌, ℕ, ◌+◌, Bool, true, false, not, cond, ◌||◌, List, [], ◌∷◌, ◌++◌, length, map, position, Option, Some, None, ltb, refl, ap, ap₂, sym, inl, inr, suc, arith}
 use Rattle.std.proofs.lemmas.Bool.{cases_Bool, cases_lt, false≢true, lt-ltb, le-ltb}
 use Rattle.std.proofs.lemmas.List.{length-map, map-append}
+use Rattle.std.proofs.lemmas.Option.{none-some}
 use Rattle.std.proofs.lemmas.Slice.Eq.{bytes_eq-Decides}
 use Rattle.std.specs.List.{list_any, prefix_len, position_or_len, filter_map, cons_option}
 use Rattle.std.specs.Option.{option_map, option_map_or}
@@ -64,11 +65,31 @@ place_behind n size = elim (cases_lt n size) [
       ap (λ b. cond b (Some (1 + n)) None) (le-ltb (1 + n) (suc size) (omega arith)) ∙ sym (ap (λ b. option_map (λ place. place + 1) (cond b (Some n) None)) (le-ltb n size past))
 ]
 
+pub no_place : (place : Option ℕ) → option_map (λ n. n + 1) place ≡ None → place ≡ None
+no_place None none = refl
+no_place (Some n) none = absurd (none-some (n + 1) (sym none))
+
 -- behind one that doesn't pass
 position-behind : {X : Type 0} (test : X → Bool) (x : X) (xs : List X) → test x ≡ false → position test (x ∷ xs) ≡ option_map (λ place. place + 1) (position test xs)
 position-behind test x xs other =
     let size : prefix_len (λ y. not (test y)) (x ∷ xs) ≡ 1 + prefix_len (λ y. not (test y)) xs = ap (λ b. cond (not b) (1 + prefix_len (λ y. not (test y)) xs) 0) other in
     ap (λ n. cond (ltb n (length (x ∷ xs))) (Some n) None) size ∙ place_behind (prefix_len (λ y. not (test y)) xs) (length xs)
+
+-- the first that passes is met at once
+position-here : {X : Type 0} (test : X → Bool) (x : X) (xs : List X) → test x ≡ true → position test (x ∷ xs) ≡ Some 0
+position-here test x xs passes =
+    let none : prefix_len (λ y. not (test y)) (x ∷ xs) ≡ 0 = ap (λ b. cond (not b) (1 + prefix_len (λ y. not (test y)) xs) 0) passes in
+    ap (λ n. cond (ltb n (length (x ∷ xs))) (Some n) None) none ∙ ap (λ b. cond b (Some 0) None) (lt-ltb 0 (length (x ∷ xs)) (omega arith))
+
+-- where there is no place, none passes
+pub list_any-position : {X : Type 0} (test : X → Bool) (xs : List X) → position test xs ≡ None → list_any test xs ≡ false
+list_any-position test [] none = refl
+list_any-position test (x ∷ xs) none = elim (cases_Bool (test x)) [
+  | inl passes ↦ let no : Some 0 ≡ None = sym (position-here test x xs passes) ∙ none in absurd (none-some 0 (sym no))
+  | inr other ↦
+      let rest : position test xs ≡ None = no_place (position test xs) (sym (position-behind test x xs other) ∙ none) in
+      ap₂ ◌||◌ other (list_any-position test xs rest)
+]
 
 module _ (sets : List Set_) (types : List (List ℕ)) (have : HaveTypes sets types) where
   pub kinds-HaveTypes : kinds sets ≡ types

@@ -1,5 +1,6 @@
 -- Automatic values: the next number of a counter.
 use Rattle.std.specs.Prelude.{◌≡◌, ◌⊎◌, ℕ, ℤ, pos, ◌-◌, ◌^◌, ◌==◌, ◌+ℤ◌, int_lt, Bool, true, false, ◌&&◌, not, List, [], ◌∷◌, All, Contains, flat_map, filter_map, slice_get, Option, Some, None, Result, Ok, Err}
+use Rattle.std.specs.Option.{option_map_or}
 use Rattle.std.specs.declared.ops.Range.{Range}
 use Rattle.regex.specs.Patterns.{Re}
 use Rattle.rec_text.specs.declared.fault.Fault.{Fault}
@@ -9,11 +10,20 @@ use Rattle.rec_text.specs.Records.{AreRecords}
 use Rattle.rec_sex.specs.Integers.{int_of}
 use Rattle.rec_sex.specs.Meaning.{values_of}
 use Rattle.rec_check.specs.declared.set.Set_.{Set_}
-use Rattle.rec_check.specs.Descriptors.{elements_in}
-use Rattle.rec_check.specs.Rules.{Rules}
+use Rattle.rec_text.specs.Records.{elements_in}
+use Rattle.rec_check.specs.Rules.{Rules, field_type}
 use Rattle.rec_check.specs.Schemas.{Described}
-use Rattle.rec_check.specs.Types.{FieldType, integer, range, type_for}
+use Rattle.rec_check.specs.Types.{FieldType, integer, range}
 use Rattle.rec_check.specs.Violations.{members}
+use Rattle.rec_check.specs.Words.{distinct}
+
+-- the names of a set's counters: those of all its `%auto` fields, in their order, each where it stands first
+abbrev pub automatic_names : Rules → List (List ℕ)
+automatic_names rules = distinct rules.automatic
+
+-- the counters of the set at this place; none where there is no set
+abbrev pub automatic_of : Described → ℕ → List (List ℕ)
+automatic_of schema place = option_map_or automatic_names (slice_get schema.rules place) []
 
 -- a field without a type, and one of integers, may count
 abbrev pub may_count : Option (FieldType Re) → Bool
@@ -28,7 +38,7 @@ begins_special [] = false
 begins_special (b ∷ bs) = b == 37
 
 abbrev pub is_counter : Rules → List ℕ → Bool
-is_counter rules name = not (begins_special name) && may_count (type_for rules.types name)
+is_counter rules name = not (begins_special name) && may_count (field_type rules name)
 
 -- the integer readings of the fields of a name in some records
 abbrev pub readings : List Piece → List (Range ℕ) → List ℕ → List ℤ

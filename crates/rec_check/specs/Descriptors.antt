@@ -1,11 +1,11 @@
 -- Descriptors: the records with a `%rec` field, what their fields mean, and what may be wrong with one of these.
 use Rattle.std.specs.Prelude.{ℕ, ◌-◌, Bool, false, ◌==◌, ◌||◌, ◌&&◌, not, nat_le, nat_lt, is_some, List, [], ◌∷◌, map, drop, take, find, filter_map, codes, slice_get, Option, Some, None, option_map, option_and_then, if◌then◌else◌}
 use Rattle.std.specs.List.{list_any, list_all}
-use Rattle.std.specs.Option.{option_map_or}
 use Rattle.std.specs.Str.{bytes_eq}
 use Rattle.std.specs.declared.ops.Range.{Range}
 use Rattle.rec_text.specs.Canonical.{is_plain_name, is_field_name}
-use Rattle.rec_text.specs.Elements.{Piece, name_of}
+use Rattle.rec_text.specs.Elements.{Piece, name_of, has_name}
+pub use Rattle.rec_text.specs.Records.{elements_in}
 use Rattle.rec_text.specs.Values.{value_of}
 use Rattle.rec_sex.specs.Grammar.{fault_of}
 use Rattle.rec_check.specs.declared.special.Special.{Special}
@@ -15,19 +15,6 @@ use Rattle.rec_check.specs.declared.special.Comparison.{Comparison}
 use Rattle.rec_check.specs.declared.special.Comparison.TheVariants.{Exactly, Less, AtMost, Greater, AtLeast}
 use Rattle.rec_check.specs.Types.{natural_of, typing_of}
 use Rattle.rec_check.specs.Words.{words, is_among}
-
--- ---- records
-
--- the elements of a record, from its first to its last field
-abbrev pub elements_in : List Piece → Range ℕ → List Piece
-elements_in pieces record_ = drop record_.start (take record_.end pieces)
-
--- the elements of the record of an index
-abbrev pub record_at : List Piece → List (Range ℕ) → ℕ → List Piece
-record_at pieces records i = option_map_or (elements_in pieces) (slice_get records i) []
-
-abbrev pub is_named : List ℕ → Piece → Bool
-is_named name piece = bytes_eq (name_of piece) name
 
 -- ---- descriptors
 
@@ -58,7 +45,7 @@ first_word (word ∷ words) = word
 
 -- the type that a record's elements name, where it is a descriptor: the first word of its first `%rec` field
 abbrev pub type_of : List Piece → Option (List ℕ)
-type_of pieces = option_map (λ piece. first_word (words (value_of piece))) (find (is_named rec_name) pieces)
+type_of pieces = option_map (λ piece. first_word (words (value_of piece))) (find (has_name rec_name) pieces)
 
 -- for each record in order the type that it names, where it is a descriptor
 abbrev pub types_of : List Piece → List (Range ℕ) → List (Option (List ℕ))
@@ -138,7 +125,7 @@ special_flaw Confidential repeated named value = Some unsupported
 -- what is wrong with an element of a descriptor, behind these elements of it
 abbrev pub element_flaw : List (List ℕ) → List Piece → Piece → Option Flaw
 element_flaw named before piece = option_and_then
-    (λ special. special_flaw special (list_any (is_named (name_of piece)) before) named (value_of piece))
+    (λ special. special_flaw special (list_any (has_name (name_of piece)) before) named (value_of piece))
     (special_of (name_of piece))
 
 -- what is wrong with the element of this index among a record's own, if the record is a descriptor and anything is

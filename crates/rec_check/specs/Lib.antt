@@ -6,6 +6,7 @@ pub mod Sets
 pub mod Schemas
 pub mod Violations
 pub mod Automatic
+pub mod Soundness
 pub mod Steps
 pub mod Walking
 pub mod Checks

@@ -1,14 +1,15 @@
 -- What a descriptor asks of the records of its set.
-use Rattle.std.specs.Prelude.{◌≡◌, ℕ, List, [], codes, flat_map, slice_get, Option, Some, None, option_and_then, if◌then◌else◌}
-use Rattle.std.specs.List.{AllZip, list_any}
+use Rattle.std.specs.Prelude.{◌≡◌, ℕ, List, [], codes, flat_map, filter_map, map, slice_get, Option, Some, None, option_and_then, if◌then◌else◌}
+use Rattle.std.specs.List.{AllZip, enumerate_from, list_any}
 use Rattle.regex.specs.Patterns.{Re, SameCaptures}
 use Rattle.rec_text.specs.Elements.{Piece}
 use Rattle.rec_sex.specs.Expressions.{IsExpression, AreSame}
 use Rattle.rec_sex.specs.Grammar.{Term}
 use Rattle.rec_sex.specs.Meaning.{values_of}
 use Rattle.rec_check.specs.declared.special.Bound.{Bound}
-use Rattle.rec_check.specs.Descriptors.{is_named, bound_in}
-use Rattle.rec_check.specs.Types.{FieldType, matching, Typing, IsTyping}
+use Rattle.rec_text.specs.Elements.{has_name}
+use Rattle.rec_check.specs.Descriptors.{bound_in}
+use Rattle.rec_check.specs.Types.{FieldType, matching, Typing, IsTyping, type_for}
 use Rattle.rec_check.specs.Words.{words}
 
 -- The key; the names of fields that each record has, has none of, has at most one of; where they are limited, the names
@@ -21,7 +22,7 @@ pub record Rules : Type 0 where
   pub unique : List (List ℕ)
   pub allowed : Option (List (List ℕ))
   pub automatic : List (List ℕ)
-  pub types : List (Typing Re)
+  pub types : List Typing
   pub size : Option Bound
   pub constraints : List Term
 
@@ -43,17 +44,26 @@ no_rules = record {
 abbrev pub names_in : List ℕ → List Piece → List (List ℕ)
 names_in name fields = flat_map words (values_of name fields)
 
+-- where the fields of a name stand among these
+abbrev pub places_of : List ℕ → List Piece → List ℕ
+places_of name fields = filter_map (λ (i, piece). if has_name name piece then Some i else None) (enumerate_from 0 fields)
+
 -- the rules of a descriptor with these elements, none of which is faulty
 pub record AreRules (fields : List Piece) (rules : Rules) : Type 0 where
   pub key : rules.key ≡ slice_get (names_in (codes "%key") fields) 0
   pub mandatory : rules.mandatory ≡ names_in (codes "%mandatory") fields
   pub prohibited : rules.prohibited ≡ names_in (codes "%prohibit") fields
   pub unique : rules.unique ≡ names_in (codes "%unique") fields
-  pub allowed : rules.allowed ≡ (if list_any (is_named (codes "%allowed")) fields then Some (names_in (codes "%allowed") fields) else None)
+  pub allowed : rules.allowed ≡ (if list_any (has_name (codes "%allowed")) fields then Some (names_in (codes "%allowed") fields) else None)
   pub automatic : rules.automatic ≡ names_in (codes "%auto") fields
   pub types : AllZip IsTyping (values_of (codes "%type") fields) rules.types
+  pub places : map (λ typing. typing.place) rules.types ≡ places_of (codes "%type") fields
   pub size : rules.size ≡ option_and_then bound_in (slice_get (values_of (codes "%size") fields) 0)
   pub constraints : AllZip IsExpression (values_of (codes "%constraint") fields) rules.constraints
+
+-- the type of the fields of a name under these rules, where they have one
+abbrev pub field_type : Rules → List ℕ → Option (FieldType Re)
+field_type rules name = type_for rules.types name
 
 -- ---- rules that are the same
 
@@ -62,8 +72,11 @@ abbrev pub AreSameTypes : FieldType Re → FieldType Re → Type 0
 AreSameTypes (matching pattern) (matching other) = SameCaptures pattern other
 AreSameTypes one other = one ≡ other
 
-abbrev pub AreSameTypings : Typing Re → Typing Re → Type 0
-AreSameTypings one other = (one.names ≡ other.names) × AreSameTypes one.type_ other.type_
+pub record AreSameTypings (one other : Typing) : Type 0 where
+  pub place : one.place ≡ other.place
+  pub names : one.names ≡ other.names
+  pub kind : one.kind ≡ other.kind
+  pub type_ : AreSameTypes one.type_ other.type_
 
 -- the same rules, up to patterns that give the same matches
 pub record AreSameRules (one other : Rules) : Type 0 where

@@ -12,7 +12,8 @@ use Rattle.rec_text.specs.Values.{value_of}
 use Rattle.rec_sex.specs.Expressions.{HasRefusedPattern}
 use Rattle.rec_check.specs.declared.set.Set_.{Set_}
 use Rattle.rec_check.specs.declared.special.Special.TheVariants.{Type_, Constraint}
-use Rattle.rec_check.specs.Descriptors.{Flaw, bad, unsupported, elements_in, flaw_at, holds_index, record_at, special_of, type_of, types_of}
+use Rattle.rec_text.specs.Records.{elements_in, record_at}
+use Rattle.rec_check.specs.Descriptors.{Flaw, bad, unsupported, flaw_at, holds_index, special_of, type_of, types_of}
 use Rattle.rec_check.specs.Rules.{Rules, no_rules, AreRules, AreSameRules}
 use Rattle.rec_check.specs.Sets.{AreSets}
 use Rattle.rec_check.specs.Types.{HasRefusedType}

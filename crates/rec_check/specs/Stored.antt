@@ -27,8 +27,8 @@ type_stored (OneOf items) = one_of items.items
 type_stored (Matching pattern) = matching (regex_pattern pattern)
 type_stored Unchecked = unchecked
 
-abbrev pub typing_stored : StoredTyping → Typing Re
-typing_stored typing = record { names = typing.names.items; type_ = type_stored typing.type_ }
+abbrev pub typing_stored : StoredTyping → Typing
+typing_stored typing = record { place = typing.place; names = typing.names.items; kind = typing.kind; type_ = type_stored typing.type_ }
 
 abbrev pub rules_stored : StoredRules → Rules
 rules_stored rules = record {

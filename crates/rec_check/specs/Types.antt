@@ -133,23 +133,31 @@ type_of_kind kind behind =
 
 -- ---- fields with a type
 
--- the names of some fields, and their type
-pub record Typing (P : Type 0) : Type 0 where
+-- what a `%type` field says: the names of some fields, the word of a kind, and the type that this means
+pub record Written : Type 0 where
   pub names : List (List ℕ)
-  pub type_ : FieldType P
+  pub kind : List ℕ
+  pub type_ : FieldType (List ℕ)
+
+-- a `%type` field of a descriptor: its place among the elements of that, and what it says, with its pattern built
+pub record Typing : Type 0 where
+  pub place : ℕ
+  pub names : List (List ℕ)
+  pub kind : List ℕ
+  pub type_ : FieldType Re
 
 -- the names, joined by commas
 abbrev pub names_of : List ℕ → Option (List (List ℕ))
 names_of word = let names : List (List ℕ) = slice_split (λ b. b == 44) word in if list_all is_field_name names then Some names else None
 
 -- what a `%type` field says: names, a kind, and the words of the kind; nothing where it doesn't say so
-abbrev pub typing_of : List ℕ → Option (Typing (List ℕ))
+abbrev pub typing_of : List ℕ → Option Written
 typing_of value = elim (words value) [
   | [] ↦ None
   | names ∷ more ↦ elim more [
     | [] ↦ None
     | kind ∷ rest ↦ option_and_then
-        (λ names. option_map (λ type_. record { names = names; type_ = type_ }) (type_of_kind kind (behind_first_word (behind_first_word value))))
+        (λ names. option_map (λ type_. record { names = names; kind = kind; type_ = type_ }) (type_of_kind kind (behind_first_word (behind_first_word value))))
         (names_of names)
   ]
 ]
@@ -166,12 +174,12 @@ IsBuilt truth built = built ≡ truth
 IsBuilt (one_of items) built = built ≡ one_of items
 IsBuilt unchecked built = built ≡ unchecked
 
--- what a `%type` field says, with the pattern that is built of it
-abbrev pub IsTyping : List ℕ → Typing Re → Type 0
-IsTyping value typing = (written : FieldType (List ℕ)) × (typing_of value ≡ Some (record { names = typing.names; type_ = written })) × IsBuilt written typing.type_
+-- what a `%type` field of this value says, wherever it stands, with the pattern that is built of it
+abbrev pub IsTyping : List ℕ → Typing → Type 0
+IsTyping value typing = (written : FieldType (List ℕ)) × (typing_of value ≡ Some (record { names = typing.names; kind = typing.kind; type_ = written })) × IsBuilt written typing.type_
 
 -- of two types of one field the later holds
-abbrev pub type_for : List (Typing Re) → List ℕ → Option (FieldType Re)
+abbrev pub type_for : List Typing → List ℕ → Option (FieldType Re)
 type_for [] name = None
 type_for (typing ∷ later) name = elim (type_for later name) [
   | Some type_ ↦ Some type_
@@ -180,4 +188,5 @@ type_for (typing ∷ later) name = elim (type_for later name) [
 
 -- the type that a `%type` field gives has a pattern that `regex` may refuse, for another cause than memory
 abbrev pub HasRefusedType : List ℕ → Type 0
-HasRefusedType value = (names : List (List ℕ)) × (pattern : List ℕ) × (typing_of value ≡ Some (record { names = names; type_ = matching pattern })) × IsRefusedPattern pattern
+HasRefusedType value = (names : List (List ℕ)) × (kind : List ℕ) × (pattern : List ℕ) × (typing_of value ≡ Some (record { names = names; kind = kind; type_ = matching pattern }))
+    × IsRefusedPattern pattern

@@ -1,23 +1,26 @@
 -- Where a text breaks the rules of its record sets, in the order of the report.
-use Rattle.std.specs.Prelude.{◌≡◌, ◌⊎◌, ℕ, ◌+◌, ◌-◌, ◌==◌, Bool, true, false, ◌&&◌, not, nat_le, List, [], ◌∷◌, ◌++◌, length, map, filter, filter_map, take, drop, decimal, Option, Some, None, unwrap_or, option_to_list, option_and_then, slice_get, Ok, if◌then◌else◌}
+use Rattle.std.specs.Prelude.{◌≡◌, ◌≢◌, ◌⊎◌, ℕ, ◌+◌, ◌-◌, ◌==◌, Bool, true, false, ◌&&◌, not, nat_le, List, [], ◌∷◌, ◌++◌, length, map, filter, filter_map, take, drop, decimal, Option, Some, None, unwrap_or, option_to_list, option_and_then, slice_get, Result, Ok, Err, if◌then◌else◌}
 use Rattle.std.specs.List.{list_any, enumerate_from}
 use Rattle.std.specs.Option.{option_map_or}
 use Rattle.std.specs.Str.{bytes_eq}
 use Rattle.std.specs.declared.ops.Range.{Range}
+use Rattle.rec_text.specs.declared.fault.Fault.{Fault}
+use Rattle.rec_text.specs.declared.fault.Fault.TheVariants.{BadPattern}
 use Rattle.rec_text.specs.declared.violations.Rule.{Rule}
 use Rattle.rec_text.specs.declared.violations.Rule.TheVariants.{Size, Key, Mandatory, Prohibit, Unique, Allowed, Fit, Constraint}
 use Rattle.rec_text.specs.declared.violations.Violation.{Violation}
 use Rattle.rec_text.specs.Elements.{Piece, text_of, name_of}
-use Rattle.rec_text.specs.Reading.{line_after}
+use Rattle.rec_text.specs.Reading.{IsReading, line_after}
 use Rattle.rec_text.specs.Records.{AreRecords, is_field_piece}
 use Rattle.rec_text.specs.Values.{value_of}
 use Rattle.rec_sex.specs.Grammar.{Term}
 use Rattle.rec_sex.specs.Meaning.{values_of, Selects}
 use Rattle.rec_check.specs.declared.set.Set_.{Set_}
-use Rattle.rec_check.specs.Descriptors.{elements_in, meets}
-use Rattle.rec_check.specs.Rules.{Rules}
+use Rattle.rec_text.specs.Records.{elements_in}
+use Rattle.rec_check.specs.Descriptors.{meets}
+use Rattle.rec_check.specs.Rules.{Rules, field_type}
 use Rattle.rec_check.specs.Schemas.{Described, IsSchema}
-use Rattle.rec_check.specs.Types.{fits, type_for}
+use Rattle.rec_check.specs.Types.{fits}
 use Rattle.rec_check.specs.Words.{is_among, distinct}
 
 -- the line at which the element of an index begins
@@ -78,7 +81,7 @@ allowed_violations rules line fields = violations_of line Allowed (filter (λ na
 
 -- the field has a type, and its value doesn't fit that
 abbrev pub breaks_type : Rules → Piece → Bool
-breaks_type rules piece = is_field_piece piece && option_map_or (λ type_. not (fits type_ (value_of piece))) (type_for rules.types (name_of piece)) false
+breaks_type rules piece = is_field_piece piece && option_map_or (λ type_. not (fits type_ (value_of piece))) (field_type rules (name_of piece)) false
 
 -- each at the line of its own field
 abbrev pub type_violations : List Piece → Rules → Range ℕ → List Violation
@@ -136,7 +139,7 @@ AreOfSets pieces records (s ∷ sets) (rules ∷ more) found = (own rest : List 
     × AreOfSets pieces records sets more rest × (found ≡ own ++ rest)
 AreOfSets pieces records _ _ found = ⊥
 
--- the violations of a text with this schema
+-- the violations of these elements with this schema
 abbrev pub AreViolations : List Piece → Described → List Violation → Type 0
 AreViolations pieces schema found = (records : List (Range ℕ)) × AreRecords pieces records × AreOfSets pieces records schema.sets schema.rules found
 
@@ -144,3 +147,14 @@ AreViolations pieces schema found = (records : List (Range ℕ)) × AreRecords p
 abbrev pub OneReport : Type 0
 OneReport = (pieces : List Piece) (schema same : Described) (one other : List Violation) → IsSchema pieces (Ok schema) → IsSchema pieces (Ok same)
     → AreViolations pieces schema one → AreViolations pieces same other → one ≡ other
+
+-- the violations of a text, or why it has none to tell: it is no rec text, or its descriptors are refused
+abbrev pub AreViolationsOf : List ℕ → Result (List Violation) Fault → Type 0
+AreViolationsOf text (Ok found) = (pieces : List Piece) × (schema : Described) × IsReading text (Ok pieces) × IsSchema pieces (Ok schema) × AreViolations pieces schema found
+AreViolationsOf text (Err fault) = IsReading text (Err fault) ⊎ ((pieces : List Piece) × IsReading text (Ok pieces) × IsSchema pieces (Err fault))
+
+-- a text has one such answer; only where `regex` may refuse a pattern of its descriptors, that refusal may stand in the
+-- place of the other answer
+abbrev pub OneCheck : Type 0
+OneCheck = (text : List ℕ) (one other : Result (List Violation) Fault) → AreViolationsOf text one → AreViolationsOf text other
+    → (one ≢ Err BadPattern) → (other ≢ Err BadPattern) → one ≡ other

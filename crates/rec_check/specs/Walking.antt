@@ -1,17 +1,10 @@
 -- Walks over the elements and the records of a text.
-use Rattle.std.specs.Prelude.{◌≡◌, ℕ, ◌<◌, ◌≤◌, List, length, take, drop, Some, slice_get}
+use Rattle.std.specs.Prelude.{ℕ, ◌<◌, ◌≤◌, List, length, drop}
 use Rattle.std.specs.List.{AllByRecursion}
 use Rattle.std.specs.declared.ops.Range.{Range}
-use Rattle.rec_text.specs.declared.element.Element.{Element}
-use Rattle.rec_text.specs.Elements.{text_of}
-use Rattle.rec_text.specs.Places.{pieces_of}
 use Rattle.rec_text.specs.Records.{AreAscending}
 use Rattle.rec_check.specs.declared.set.Set_.{Set_}
 use Rattle.rec_check.specs.Sets.{BeginsAt}
-
--- each element begins where the text of those before it ends
-abbrev pub ArePlaced : List Element → Type 0
-ArePlaced elements = (i : ℕ) (element : Element) → slice_get elements i ≡ Some element → element.at ≡ length (text_of (take i (pieces_of elements)))
 
 -- each record has elements, of which there are this many
 abbrev pub AreWithin : ℕ → List (Range ℕ) → Type 0

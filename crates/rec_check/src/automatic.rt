@@ -4,18 +4,28 @@ ghost use Rattle.rec_text.specs.Faults.{UnlessMemory};
 ghost use Rattle.rec_text.specs.Places.{piece_of, pieces_of};
 ghost use Rattle.rec_text.specs.Values.{value_of};
 ghost use Rattle.rec_sex.specs.Integers.{int_of};
-ghost use Rattle.rec_check.specs.Automatic.{may_count, begins_special, is_counter as may_be_counted};
+ghost use Rattle.rec_check.specs.Automatic.{automatic_names, may_count, begins_special, is_counter as may_be_counted};
+ghost use Rattle.rec_check.specs.Checks.{texts};
 ghost use Rattle.rec_check.specs.Counting.{greater, greatest_from, readings_in, IsGreatestOf, IsBehind, IsNextOf};
 ghost use Rattle.rec_check.specs.Stored.{type_stored, rules_stored};
 
 use crate::field_type::FieldType;
+use crate::names::Names;
 use crate::rules::Rules;
 use crate::set::Set_;
 use crate::types::type_for;
 use rec_sex::int_of;
 use rec_text::{Database, Element, Fault};
-use std::alloc::Global;
+use std::alloc::{AllocError, Global};
 use std::ops::Range;
+
+/// The names of the counters, each where it stands first.
+pub(crate) fn automatic_names(alloc: Global, rules: &Rules) -> Result<Vec<&[u8]>, AllocError>
+    ensures { IfOk result (λ names. texts names.items ≡ automatic_names (rules_stored rules.now)) }
+{
+    let names = Names::of(alloc, &rules.automatic)?;
+    Vec::from_slice(alloc, names.as_slice())
+}
 
 /// Whether the values of a type may be counted.
 fn may_count(type_: Option<&FieldType>) -> bool
@@ -75,7 +85,7 @@ fn greatest_in(
 {
     let mut greatest = so_far;
     for field in fields {
-        if field.name() == name {
+        if field.has_name(name) {
             greatest = greater(greatest, reading_of(alloc, field)?);
         }
     }

@@ -1,7 +1,4 @@
 //! Tries the rules of a set on its records.
-ghost use Rattle.std.specs.Prelude.{◌≡◌, ◌≤◌, length};
-ghost use Rattle.rec_text.specs.Places.{pieces_of};
-ghost use Rattle.rec_check.specs.Descriptors.{elements_in};
 
 use crate::allowed::Allowed;
 use crate::constraints::Constraints;
@@ -10,21 +7,9 @@ use crate::limit::{Limit, Limited};
 use crate::lines::Lines;
 use crate::rules::Rules;
 use crate::types::Types;
-use rec_text::{Element, Fault, Violation};
+use rec_text::{Fault, Violation, elements_in};
 use std::alloc::Global;
 use std::ops::Range;
-
-/// The elements of a record.
-pub(crate) fn elements_of<'d, 't>(
-    elements: &'d [Element<'t>],
-    range: &Range<usize>,
-) -> &'d [Element<'t>]
-    requires ordered { range.now.start ≤ range.now.end }
-    requires within { range.now.end ≤ length elements.now }
-    ensures { pieces_of result.now ≡ elements_in (pieces_of elements.now) range.now }
-{
-    &elements[range.start..range.end]
-}
 
 /// The rules of a set, ready to be tried on its records one after another.
 #[derive(Drop)]
@@ -43,8 +28,7 @@ impl<'r, 't> Checker<'r, 't> {
     ghost use Rattle.std.specs.declared.ops.Range.{Range};
     ghost use Rattle.rec_text.specs.Elements.{Piece};
     ghost use Rattle.rec_text.specs.Places.{pieces_of};
-    ghost use Rattle.rec_text.specs.Records.{AreAscending};
-    ghost use Rattle.rec_check.specs.Descriptors.{elements_in};
+    ghost use Rattle.rec_text.specs.Records.{AreAscending, elements_in};
     ghost use Rattle.rec_check.specs.Rules.{Rules as Asked};
     ghost use Rattle.rec_check.specs.Checks.{AddsOfRecord, AddsOfRecords};
     ghost use Rattle.rec_check.specs.Ready.{IsReady};
@@ -84,7 +68,7 @@ impl<'r, 't> Checker<'r, 't> {
         ensures refusals { IfErr result (λ fault. fault ≡ Fault.OutOfMemory) }
     {
         let line = lines.line_of(range.start);
-        let fields = elements_of(lines.elements(), range);
+        let fields = elements_in(lines.elements(), range);
         self.key.check(alloc, line, fields, found)?;
         self.mandatory.check(alloc, line, fields, found)?;
         self.prohibited.check(alloc, line, fields, found)?;

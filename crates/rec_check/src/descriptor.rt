@@ -5,7 +5,8 @@ ghost use Rattle.std.specs.Option.{is_some};
 ghost use Rattle.rec_text.specs.Canonical.{is_field_name as may_name_a_field};
 ghost use Rattle.rec_text.specs.Places.{piece_of, pieces_of};
 ghost use Rattle.rec_sex.specs.Expressions.{HasRefusedPattern};
-ghost use Rattle.rec_check.specs.Descriptors.{bad_unless, rec_flaw, first_word, is_named, rec_name, type_of, bound_in, special_flaw};
+ghost use Rattle.rec_text.specs.Elements.{has_name};
+ghost use Rattle.rec_check.specs.Descriptors.{bad_unless, rec_flaw, first_word, rec_name, type_of, bound_in, special_flaw};
 ghost use Rattle.rec_check.specs.Reading.{Answers, AddsTyping, AddsConstraint, refusal_for};
 ghost use Rattle.rec_check.specs.Types.{HasRefusedType};
 ghost use Rattle.rec_check.specs.Words.{words};
@@ -30,13 +31,9 @@ pub(crate) struct Descriptor {
 }
 
 fn is_rec(element: &Element) -> bool
-    ensures { result ≡ is_named rec_name (piece_of element.now) }
+    ensures { result ≡ has_name rec_name (piece_of element.now) }
 {
-    // Few fields begin so, and their first byte is there already.
-    if element.raw.first() != Some(&b'%') {
-        return false;
-    }
-    element.name() == b"%rec".as_slice()
+    element.has_name(b"%rec")
 }
 
 /// Whether one of a record's elements makes it a descriptor.
@@ -110,11 +107,16 @@ fn add_allowed(alloc: Global, allowed: &mut Option<Vec<Bytes>>, value: &[u8]) ->
     answer
 }
 
-/// Takes the type that a `%type` field gives.
-fn add_typing(alloc: Global, types: &mut Vec<Typing>, value: &[u8]) -> Result<(), Refusal>
-    ensures { Answers (special_flaw Special.Type_ false [] value.now) (AddsTyping value.now types.old.items types.new.items) (HasRefusedType value.now) result }
+/// Takes the type that a `%type` field at a place gives.
+fn add_typing(
+    alloc: Global,
+    types: &mut Vec<Typing>,
+    place: usize,
+    value: &[u8],
+) -> Result<(), Refusal>
+    ensures { Answers (special_flaw Special.Type_ false [] value.now) (AddsTyping place value.now types.old.items types.new.items) (HasRefusedType value.now) result }
 {
-    types.push(typing_in(alloc, value)?)?;
+    types.push(typing_in(alloc, place, value)?)?;
     Ok(())
 }
 
@@ -173,15 +175,16 @@ impl Descriptor {
         }
     }
 
-    /// Takes what a field of this kind says.
+    /// Takes what a field of this kind at a place says.
     fn add(
         &mut self,
         alloc: Global,
         types: &TypeNames,
         special: Special,
+        place: usize,
         value: &[u8],
     ) -> Result<(), Refusal>
-        ensures { Answers (special_flaw special (is_repeated special (said self.old)) types.now value.now) (Adds special value.now (said self.old) (said self.new)) (IsRefusedAs special value.now) result }
+        ensures { Answers (special_flaw special (is_repeated special (said self.old)) types.now value.now) (Adds special place value.now (said self.old) (said self.new)) (IsRefusedAs special value.now) result }
     {
         match special {
             Special::Rec => add_type(alloc, &mut self.kind, types, value),
@@ -191,21 +194,22 @@ impl Descriptor {
             Special::Unique => add_names(alloc, &mut self.rules.unique, value),
             Special::Allowed => add_allowed(alloc, &mut self.rules.allowed, value),
             Special::Auto => add_names(alloc, &mut self.rules.automatic, value),
-            Special::Type_ => add_typing(alloc, &mut self.rules.types, value),
+            Special::Type_ => add_typing(alloc, &mut self.rules.types, place, value),
             Special::Size => add_bound(&mut self.rules.size, value),
             Special::Constraint => add_constraint(alloc, &mut self.rules.constraints, value),
             Special::Confidential => Err(Refusal::Unsupported),
         }
     }
 
-    /// Takes what an element says.
+    /// Takes what the element at a place says.
     fn add_field(
         &mut self,
         alloc: Global,
         types: &TypeNames,
+        place: usize,
         field: &Element,
     ) -> Result<(), Refusal>
-        ensures { AnswersField types.now (piece_of field.now) (said self.old) (said self.new) result }
+        ensures { AnswersField types.now place (piece_of field.now) (said self.old) (said self.new) result }
     {
         let Some(special) = special_of(field.name()) else {
             return Ok(());
@@ -213,7 +217,7 @@ impl Descriptor {
         let Ok(value) = field.value(alloc) else {
             return Err(Refusal::OutOfMemory);
         };
-        self.add(alloc, types, special, value.bytes())
+        self.add(alloc, types, special, place, value.bytes())
     }
 
     /// Reads the fields of a descriptor, where these types are named before. The first faulty one is refused with its line.
@@ -228,8 +232,8 @@ impl Descriptor {
         ensures refused { IfErr result (λ fault. IsMemoryOr fault (IsRead (text_of database.now) types.now fields.now (Err fault))) }
     {
         let mut descriptor = Descriptor::new(alloc);
-        for field in fields {
-            match descriptor.add_field(alloc, types, field) {
+        for (place, field) in fields.iter().enumerate() {
+            match descriptor.add_field(alloc, types, place, field) {
                 Ok(()) => {}
                 Err(refusal) => return Err(refusal.at_line(database.line_of(field.at))),
             }

@@ -24,9 +24,13 @@ pub(crate) enum FieldType {
     Unchecked,
 }
 
-/// The type of some fields.
+/// A `%type` field of a descriptor: the type of some fields.
 #[derive(Drop)]
 pub(crate) struct Typing {
+    /// Which of the descriptor's elements it is.
+    pub place: usize,
     pub names: Vec<Bytes>,
+    /// The kind, as it is written.
+    pub kind: Bytes,
     pub type_: FieldType,
 }

@@ -17,7 +17,7 @@ fn only_field<'f, 't>(fields: &'f [Element<'t>], name: &[u8]) -> Option<&'f Elem
 {
     let mut only = None;
     for field in fields {
-        if field.name() != name {
+        if !field.has_name(name) {
             continue;
         }
         if only.is_some() {

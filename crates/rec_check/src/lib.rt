@@ -4,8 +4,6 @@
 
 mod allowed;
 mod automatic;
-#[cfg(test)]
-mod automatic_tests;
 mod checker;
 mod constraints;
 mod descriptor;
@@ -13,38 +11,26 @@ mod draft;
 mod enumeration;
 mod field_type;
 mod found;
-#[cfg(test)]
-mod growth_tests;
 mod key;
 mod kind;
 mod laws;
 mod limit;
 mod lines;
 mod names;
-#[cfg(test)]
-mod plain;
-#[cfg(test)]
-mod plain_tests;
 mod refusal;
 mod regexp;
 mod report;
 mod rules;
 mod schema;
-#[cfg(test)]
-mod schema_tests;
 mod set;
 mod special;
 mod tested;
 mod type_names;
 mod types;
 mod typing;
-#[cfg(test)]
-mod typing_tests;
-#[cfg(test)]
-mod violations_tests;
 mod words;
 
-pub use laws::{one_report, one_schema};
+pub use laws::{new_descriptor, one_check, one_report, one_schema, same_descriptors};
 pub use rec_text::{Bytes, Database, Element, Fault, Rule, Violation};
 pub use schema::Schema;
 pub use set::Set_;

@@ -1,25 +1,9 @@
 //! How often names occur in a record.
-ghost use Rattle.std.specs.Prelude.{◌≡◌};
-ghost use Rattle.rec_text.specs.Places.{pieces_of};
-ghost use Rattle.rec_check.specs.Violations.{occurrences};
 
 use crate::found::add_violation;
 use crate::names::Names;
-use rec_text::{Bytes, Element, Fault, Rule, Violation};
+use rec_text::{Bytes, Element, Fault, Rule, Violation, count_of};
 use std::alloc::Global;
-
-/// How many fields have a name.
-fn occurrences(fields: &[Element], name: &[u8]) -> usize
-    ensures { result ≡ occurrences (pieces_of fields.now) name.now }
-{
-    let mut count = 0;
-    for field in fields {
-        if field.name() == name {
-            count += 1;
-        }
-    }
-    count
-}
 
 /// What a rule asks of how often a name occurs in a record.
 #[derive(Clone, Copy, Debug, PartialEq, Eq)]
@@ -34,7 +18,9 @@ pub(crate) enum Limit {
 
 impl Limit {
     ghost use Rattle.std.specs.Prelude.{◌≡◌};
+    ghost use Rattle.rec_text.specs.Places.{pieces_of};
     ghost use Rattle.rec_check.specs.Checks.{rule_of, breaks_limit};
+    ghost use Rattle.rec_check.specs.Violations.{occurrences};
 
     fn rule(self) -> Rule
         ensures { result ≡ rule_of self }
@@ -46,10 +32,12 @@ impl Limit {
         }
     }
 
-    /// Whether so many fields of a name are too few, or too many.
-    fn is_broken(self, count: usize) -> bool
-        ensures { result ≡ breaks_limit self count }
+    /// Whether the fields of a name are too few, or too many.
+    #[tactic(auto, using(rec_sex::proofs::OccurrenceLemmas::occurrence_count))]
+    fn is_broken(self, fields: &[Element], name: &[u8]) -> bool
+        ensures { result ≡ breaks_limit self (occurrences (pieces_of fields.now) name.now) }
     {
+        let count = count_of(fields, name);
         match self {
             Limit::Present => count == 0,
             Limit::Absent => count >= 1,
@@ -92,7 +80,7 @@ impl<'r> Limited<'r> {
         ensures refusals { IfErr result (λ fault. fault ≡ Fault.OutOfMemory) }
     {
         for name in self.names.as_slice() {
-            if self.limit.is_broken(occurrences(fields, name)) {
+            if self.limit.is_broken(fields, name) {
                 add_violation(alloc, line, self.limit.rule(), name, found)?;
             }
         }

@@ -3,18 +3,9 @@ ghost use Rattle.std.specs.Prelude.{◌≡◌, ◌<◌, ◌≤◌, ◌-◌, ◌=
 ghost use Rattle.rec_text.specs.Elements.{text_of};
 ghost use Rattle.rec_text.specs.Places.{pieces_of};
 ghost use Rattle.rec_check.specs.Violations.{line_at};
-ghost use Rattle.rec_check.specs.Walking.{ArePlaced};
 
 use memchr::memchr_iter;
 use rec_text::{Database, Element};
-
-/// The place at which an element begins.
-fn place_of(elements: &[Element], index: usize) -> usize
-    requires { index < length elements.now }
-    ensures { ArePlaced elements.now → result ≡ length (text_of (take index (pieces_of elements.now))) }
-{
-    elements[index].at
-}
 
 /// How many newlines stand between two places.
 fn newlines(text: &[u8], from: usize, to: usize) -> usize
@@ -28,12 +19,13 @@ fn newlines(text: &[u8], from: usize, to: usize) -> usize
 /// A walk over the elements of a text that knows at which line it stands. It counts each newline once.
 #[derive(Drop)]
 pub(crate) struct Lines<'d, 't> {
+    database: &'d Database<'t>,
     elements: &'d [Element<'t>],
     text: &'t [u8],
     passed: usize,
     line: usize,
+    ghost same: { pieces_of elements.now ≡ database.now },
     ghost whole: { text.now ≡ text_of (pieces_of elements.now) },
-    ghost placed: { ArePlaced elements.now },
     ghost counted: { line ≡ line_at (pieces_of elements.now) passed },
 }
 
@@ -48,6 +40,7 @@ impl<'d, 't> Lines<'d, 't> {
         ensures passed { result.passed ≡ 0 }
     {
         Lines {
+            database,
             elements: database.elements(),
             text: database.text(),
             passed: 0,
@@ -70,8 +63,8 @@ impl<'d, 't> Lines<'d, 't> {
         ensures passed { self.new.passed ≡ index }
         ensures same { self.new.elements.now ≡ self.old.elements.now }
     {
-        let from = place_of(self.elements, self.passed);
-        let to = place_of(self.elements, index);
+        let from = self.database.place_of(self.passed);
+        let to = self.database.place_of(index);
         self.line += newlines(self.text, from, to);
         self.passed = index;
         self.line

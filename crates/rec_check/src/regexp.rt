@@ -6,6 +6,8 @@ ghost use Rattle.rec_check.specs.Types.{pattern_in, regexp_of};
 use crate::field_type::FieldType;
 use crate::refusal::Refusal;
 use crate::words::strip;
+use rec_sex::pattern_of;
+use rec_text::Fault;
 use regex::Regex;
 use std::alloc::Global;
 
@@ -22,10 +24,10 @@ fn pattern_in(text: &[u8]) -> Option<&[u8]>
 fn built(alloc: Global, text: &str) -> Result<Regex, Refusal>
     ensures { IsPatternFor text.now result }
 {
-    match Regex::new(alloc, text) {
+    match pattern_of(alloc, text) {
         Ok(pattern) => Ok(pattern),
-        Err(regex::Error::OutOfMemory) => Err(Refusal::OutOfMemory),
-        Err(_) => Err(Refusal::Pattern),
+        Err(Fault::BadPattern) => Err(Refusal::Pattern),
+        Err(_) => Err(Refusal::OutOfMemory),
     }
 }
 

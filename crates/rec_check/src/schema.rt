@@ -1,13 +1,13 @@
 //! What the descriptors of a text say.
 ghost use Rattle.rec_check.specs.Steps.{HaveTypes};
 
-use crate::automatic::next_value;
+use crate::automatic::{automatic_names, next_value};
 use crate::draft::Draft;
 use crate::report::violations_of;
 use crate::rules::Rules;
 use crate::set::Set_;
 use crate::type_names::TypeNames;
-use rec_text::{Database, Fault, Violation};
+use rec_text::{Database, Fault, Violation, elements_in};
 use std::alloc::Global;
 
 /// The record sets of a text, in file order: first the untyped one, and then one for each descriptor, with its rules.
@@ -23,7 +23,8 @@ pub struct Schema {
 impl Schema {
     ghost use Rattle.std.specs.Prelude.{◌≡◌, ◌<◌, length, position, Ok, IfOk, Err, IfErr};
     ghost use Rattle.rec_text.specs.Faults.{IsMemoryOr, UnlessMemory};
-    ghost use Rattle.rec_check.specs.Automatic.{IsAutomatic};
+    ghost use Rattle.rec_check.specs.Automatic.{IsAutomatic, automatic_of};
+    ghost use Rattle.rec_check.specs.Checks.{texts};
     ghost use Rattle.rec_check.specs.Schemas.{IsSchema};
     ghost use Rattle.rec_check.specs.Sets.{is_of_type};
     ghost use Rattle.rec_check.specs.Stored.{described};
@@ -37,7 +38,7 @@ impl Schema {
         let elements = database.elements();
         let mut draft = Draft::new(alloc)?;
         for (index, record) in database.records().enumerate() {
-            let fields = &elements[record.start..record.end];
+            let fields = elements_in(elements, &record);
             draft.add(alloc, database, index, fields)?;
         }
         let Draft { sets, rules, types } = draft;
@@ -66,6 +67,17 @@ impl Schema {
         ensures refusals { IfErr result (λ fault. fault ≡ Fault.OutOfMemory) }
     {
         violations_of(alloc, database, &self.sets, &self.rules)
+    }
+
+    /// The counters of the set at this place: the names of its `%auto` fields, each where it stands first.
+    pub fn automatic_names(&self, alloc: Global, set: usize) -> Result<Vec<&[u8]>, Fault>
+        ensures names { IfOk result (λ names. texts names.items ≡ automatic_of (described self.now) set) }
+        ensures refusals { IfErr result (λ fault. fault ≡ Fault.OutOfMemory) }
+    {
+        match self.rules.get(set) {
+            Some(rules) => Ok(automatic_names(alloc, rules)?),
+            None => Ok(Vec::new(alloc)),
+        }
     }
 
     /// The next value of a counter in the set at this place: one more than the greatest integer among the values of the

@@ -7,7 +7,7 @@ ghost use Rattle.rec_check.specs.Words.{is_among as among};
 
 use crate::field_type::FieldType;
 use crate::names::is_among;
-use rec_sex::{int_of, trimmed};
+use rec_sex::{int_of, is_found, trimmed};
 use rec_text::Fault;
 use regex::Matcher;
 use std::alloc::Global;
@@ -50,16 +50,13 @@ fn is_truth(word: &[u8]) -> bool
         || word == b"false".as_slice()
 }
 
-/// Whether the pattern of a matcher is found in a value. Values that aren't UTF-8 hold none.
-fn is_found(matcher: &mut Option<Matcher<'_>>, value: &[u8]) -> bool
+/// Whether there is a matcher, and its pattern is found in a value.
+fn is_found_by(matcher: &mut Option<Matcher<'_>>, value: &[u8]) -> bool
     ensures found { result ≡ found_by (option_map matcher_pattern matcher.old) value.now }
     ensures same { option_map matcher_pattern matcher.new ≡ option_map matcher_pattern matcher.old }
 {
-    let Ok(text) = std::str::from_utf8(value) else {
-        return false;
-    };
     match matcher {
-        Some(matcher) => matcher.is_match(text),
+        Some(matcher) => is_found(matcher, value),
         None => false,
     }
 }
@@ -95,7 +92,7 @@ impl<'r> Tested<'r> {
             FieldType::Size(most) => characters(value) as u64 <= *most,
             FieldType::Truth => is_truth(trimmed(value)),
             FieldType::OneOf(items) => is_among(items, trimmed(value)),
-            FieldType::Matching(_) => is_found(&mut self.matcher, value),
+            FieldType::Matching(_) => is_found_by(&mut self.matcher, value),
             FieldType::Unchecked => true,
         }
     }

@@ -29,9 +29,10 @@ fn are_names(names: &[Bytes]) -> bool
     names.iter().all(|name| is_field_name(name.as_slice()))
 }
 
-/// The names and the type that the value of a `%type` field gives.
-pub(crate) fn typing_in(alloc: Global, value: &[u8]) -> Result<Typing, Refusal>
+/// The names, the kind and the type that the value of a `%type` field gives, which stands at a place of its descriptor.
+pub(crate) fn typing_in(alloc: Global, place: usize, value: &[u8]) -> Result<Typing, Refusal>
     ensures found { IfOk result (λ typing. IsTyping value.now (typing_stored typing)) }
+    ensures place { IfOk result (λ typing. typing.place ≡ place) }
     ensures bad { IsErrOf result Refusal.Bad → typing_of value.now ≡ None }
     ensures pattern { IsErrOf result Refusal.Pattern → HasRefusedType value.now }
     ensures refusals { IfErr result (λ refusal. (refusal ≡ Refusal.Bad) ⊎ ((refusal ≡ Refusal.Pattern) ⊎ (refusal ≡ Refusal.OutOfMemory))) }
@@ -47,5 +48,11 @@ pub(crate) fn typing_in(alloc: Global, value: &[u8]) -> Result<Typing, Refusal>
         return Err(Refusal::Bad);
     }
     let type_ = type_of_kind(alloc, kind, behind)?;
-    Ok(Typing { names, type_ })
+    let kind = Bytes::copy_of(alloc, kind)?;
+    Ok(Typing {
+        place,
+        names,
+        kind,
+        type_,
+    })
 }

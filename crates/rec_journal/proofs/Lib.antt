@@ -1,8 +1,8 @@
-pub mod LineLemmas
 pub mod AppendLemmas
 pub mod TextLemmas
 pub mod PatchLemmas
 pub mod WeaveLemmas
+pub mod StepLemmas
 pub mod PatchExamples
 pub mod UniqueLemmas
 pub mod OutcomeLemmas
@@ -10,8 +10,10 @@ pub mod PartLemmas
 pub mod StretchLemmas
 pub mod EventLemmas
 pub mod Gaps
+pub mod Headers
 pub mod Folds
 pub mod Scans
 pub mod Pieces
 pub mod Openings
+pub mod BoundLemmas
 pub mod PlanLemmas

@@ -1,9 +1,11 @@
+pub mod Direction
 pub mod Patch
 pub mod Weave
+pub mod Revisions
 pub mod Event
 pub mod Head
-pub mod Lines
 pub mod Reading
 pub mod History
 pub mod Scan
 pub mod Plans
+pub mod Bound

@@ -1,7 +1,7 @@
 -- What is printed of one record, element by element.
 use Rattle.std.proofs.Common.{◌≡◌, ℕ, ◌+◌, ◌-◌, ◌<◌, ◌≤◌, Bool, true, false, not, ◌==◌, ◌||◌, List, [], ◌∷◌, ◌++◌, Option, Some, None, length, get_or, take, drop, map, zero, suc, refl, sym, ap, ◌∙◌, append-nil, arith}
 use Rattle.std.specs.Prelude.{filter, filter_map, flat_map, slice_get, if◌then◌else◌}
-use Rattle.std.specs.List.{join_with_byte, list_any}
+use Rattle.std.specs.List.{list_any}
 use Rattle.std.specs.Borrow.{Bor}
 use Rattle.std.specs.Option.{option_copied, option_map_or, option_eq}
 use Rattle.std.proofs.lemmas.Bool.{ne_eqb}
@@ -18,6 +18,7 @@ use Rattle.rec_text.specs.Elements.{Piece}
 use Rattle.rec_text.specs.Places.{piece_of, pieces_of}
 use Rattle.rec_text.specs.Records.{is_field_piece}
 use Rattle.rec_text.specs.Values.{value_of}
+use Rattle.rec_text.proofs.ListLemmas.{is_nil-push, join_with_byte-cons}
 use Rattle.rec_select.specs.Blocks.{closed_text, spaced_value}
 use Rattle.rec_select.specs.Printing.{closed, row_of, value_line}
 
@@ -95,10 +96,6 @@ pub is_nil-append : (a b : List ℕ) → is_nil a ≡ false → is_nil (a ++ b) 
 is_nil-append [] b e = cc
 is_nil-append (c ∷ cs) b e = refl
 
-pub is_nil-push : (a : List ℕ) (b : ℕ) → is_nil (a ++ b ∷ []) ≡ false
-is_nil-push [] b = refl
-is_nil-push (c ∷ cs) b = refl
-
 is_nil-ended : (ended : Bool) (bytes : List ℕ) → ended ≡ ends_newline bytes → is_nil (if ended then bytes else bytes ++ 10 ∷ []) ≡ false
 is_nil-ended true [] e = e
 is_nil-ended true (b ∷ bs) e = refl
@@ -157,11 +154,6 @@ picked_without fields places i elements within past so_far =
     ∙ sym (picks_in-more fields places i within)
 
 -- ---- rows
-
--- values joined by a byte: the first, and each other one behind the byte
-pub join_with_byte-cons : (c : ℕ) (x : List ℕ) (xs : List (List ℕ)) → join_with_byte c (x ∷ xs) ≡ x ++ flat_map (λ y. c ∷ y) xs
-join_with_byte-cons c x [] = sym (append-nil x)
-join_with_byte-cons c x (y ∷ ys) = ap (λ t. x ++ c ∷ t) (join_with_byte-cons c y ys)
 
 pub row_parts : (elements others : List Element) (first : Element) → elements ≡ first ∷ others
     → row_of (map value_of (pieces_of elements)) ≡ (value_of (piece_of first) ++ flat_map spaced_value (pieces_of others)) ++ 10 ∷ []

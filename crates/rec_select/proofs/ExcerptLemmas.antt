@@ -2,10 +2,9 @@
 use Rattle.std.proofs.Common.{◌≡◌, ℕ, ◌+◌, ◌-◌, ◌<◌, ◌≤◌, Bool, true, false, List, [], ◌∷◌, ◌++◌, Option, Some, None, length, length-append, take, drop, get_or, suc, refl, sym, ap, subst, ◌∙◌, ◌⊎◌, inl, inr, ◌==◌, append-nil, append_assoc, arith}
 use Rattle.std.specs.Prelude.{filter, flat_map, slice_get}
 use Rattle.std.specs.List.{AllByRecursion}
-use Rattle.std.specs.declared.ops.Range.{Range}
-use Rattle.std.proofs.lemmas.Bool.{false≢true, ne_eqb}
+use Rattle.std.proofs.lemmas.Bool.{false≢true}
 use Rattle.std.proofs.lemmas.Option.{slice_get-get_or}
-use Rattle.std.proofs.lemmas.List.{take_at, drop_at, drop_all, take_all, take_more, take-append-drop, drop-append-le, length-take, length-take-le, length-map, get_or-map, map-append, take-map, drop-map, drop-take}
+use Rattle.std.proofs.lemmas.List.{take_at, drop_at, drop_all, take_all, take_more, take-append-drop, drop-append-le, length-take, length-take-le, length-map, get_or-map, map-append}
 use Rattle.std.proofs.lemmas.List.Elements.{filter-append}
 use Rattle.std.proofs.lemmas.Grind.{flat_map-append}
 use Rattle.rec_text.specs.Bytes.{ends_newline, is_nil}
@@ -15,17 +14,14 @@ use Rattle.rec_text.specs.declared.element.Kind.TheVariants.{Blank, Comment, Fie
 use Rattle.rec_text.specs.Elements.{Piece, IsElement, EndInNewlines, AreElementsOf, text_of}
 use Rattle.rec_text.specs.Places.{piece_of, pieces_of, AreFrom}
 use Rattle.rec_text.specs.Records.{is_field_piece}
-use Rattle.rec_check.specs.Descriptors.{elements_in}
+use Rattle.rec_text.proofs.ElementLemmas.{text_of-append}
+use Rattle.rec_text.proofs.ListLemmas.{AllByRecursion-behind, AllByRecursion-front, is_nil-length}
 use Rattle.rec_select.specs.Blocks.{closed_text}
 use Rattle.rec_select.specs.Excerpts.{AreWithin}
 use Rattle.rec_select.specs.Printing.{closed}
 use Rattle.rec_select.proofs.BlockLemmas.{is_nil-append}
 
 -- ---- lists of elements, one behind another
-
-text_of-append : (xs ys : List Piece) → text_of (xs ++ ys) ≡ text_of xs ++ text_of ys
-text_of-append [] ys = refl
-text_of-append (x ∷ xs) ys = ap (λ t. x.bytes ++ t) (text_of-append xs ys) ∙ sym (append_assoc x.bytes (text_of xs) (text_of ys))
 
 EndInNewlines-front : (xs ys : List Piece) → EndInNewlines (xs ++ ys) → EndInNewlines xs
 EndInNewlines-front [] ys ends = tt
@@ -37,15 +33,6 @@ EndInNewlines-behind [] ys ends = ends
 EndInNewlines-behind (x ∷ []) [] ends = tt
 EndInNewlines-behind (x ∷ []) (y ∷ ys) ends = ends.1
 EndInNewlines-behind (x ∷ y ∷ xs) ys ends = EndInNewlines-behind (y ∷ xs) ys ends.1
-
-module _ {X : Type 0} (P : X → Type 0) where
-  all_in_front : (xs ys : List X) → AllByRecursion P (xs ++ ys) → AllByRecursion P xs
-  all_in_front [] ys each = tt
-  all_in_front (x ∷ xs) ys each = (each.0, all_in_front xs ys each.1)
-
-  all_behind : (xs ys : List X) → AllByRecursion P (xs ++ ys) → AllByRecursion P ys
-  all_behind [] ys each = each
-  all_behind (x ∷ xs) ys each = all_behind xs ys each.1
 
 AreFrom-front : (at : ℕ) (xs ys : List Element) → AreFrom at (xs ++ ys) → AreFrom at xs
 AreFrom-front at [] ys from = tt
@@ -64,13 +51,6 @@ AreFrom-behind at (x ∷ xs) ys from =
 
 -- ---- a part of elements that stand in a text
 
-pub elements_in-slice : (elements : List Element) (fields : Range ℕ) → fields.start ≤ fields.end
-    → pieces_of (take (fields.end - fields.start) (drop fields.start elements)) ≡ elements_in (pieces_of elements) fields
-elements_in-slice elements fields ordered =
-    let size : fields.start + (fields.end - fields.start) ≡ fields.end = omega (arith, ordered) in
-    sym (take-map piece_of (fields.end - fields.start) (drop fields.start elements)) ∙ ap (take (fields.end - fields.start)) (sym (drop-map piece_of fields.start elements))
-    ∙ sym (drop-take fields.start (fields.end - fields.start) (pieces_of elements)) ∙ ap (λ n. drop fields.start (take n (pieces_of elements))) size
-
 joined_parts : (front first second third behind : List ℕ) → front ++ ((first ++ (second ++ third)) ++ behind) ≡ (front ++ first) ++ (second ++ (third ++ behind))
 joined_parts front first second third behind = simp append_assoc
 
@@ -88,7 +68,7 @@ module _ (text : List ℕ) (xs ys zs : List Element) (are : AreWithin text (xs +
       let P : List Piece → Type 0 = λ ps. AllByRecursion IsElement ps in
       let E : List Piece → Type 0 = λ ps. EndInNewlines ps in
       let F : ℕ → Type 0 = λ n. AreFrom n ys in
-      let formed = all_behind IsElement (pieces_of xs) (pieces_of ys ++ pieces_of zs) (subst P three are.whole.well_formed) in
+      let formed = AllByRecursion-behind IsElement (pieces_of xs) (pieces_of ys ++ pieces_of zs) (subst P three are.whole.well_formed) in
       let ends = EndInNewlines-behind (pieces_of xs) (pieces_of ys ++ pieces_of zs) (subst E three are.whole.lines_end) in
       record {
         front = are.front ++ text_of (pieces_of xs);
@@ -97,7 +77,7 @@ module _ (text : List ℕ) (xs ys zs : List Element) (are : AreWithin text (xs +
         parts = are.parts ∙ ap (λ t. are.front ++ (t ++ are.behind)) part_is ∙ joined_parts are.front (text_of (pieces_of xs)) (text_of (pieces_of ys)) (text_of (pieces_of zs)) are.behind;
         whole = record {
           joined = refl;
-          well_formed = all_in_front IsElement (pieces_of ys) (pieces_of zs) formed;
+          well_formed = AllByRecursion-front IsElement (pieces_of ys) (pieces_of zs) formed;
           lines_end = EndInNewlines-front (pieces_of ys) (pieces_of zs) ends;
         };
         places = subst F (sym (length-append are.front (text_of (pieces_of xs)))) (AreFrom-front _ ys zs (AreFrom-behind (length are.front) xs (ys ++ zs) are.places));
@@ -191,14 +171,10 @@ has_bytes kind (b ∷ bs) is = refl
 has_text : (piece : Piece) (pieces : List Piece) → IsElement piece → is_nil (text_of (piece ∷ pieces)) ≡ false
 has_text piece pieces is = is_nil-append piece.bytes (text_of pieces) (has_bytes piece.kind piece.bytes is)
 
-is_nil-length : (text : List ℕ) → (length text == 0) ≡ is_nil text
-is_nil-length [] = refl
-is_nil-length (b ∷ bs) = ne_eqb (length (b ∷ bs)) 0 (λ e. omega arith)
-
 pub closed_none : (pieces : List Piece) (text : List ℕ) → text ≡ text_of pieces → AreElementsOf pieces (text_of pieces) → true ≡ (length text == 0) → [] ≡ flat_map closed pieces
 closed_none [] text is are empty = refl
 closed_none (piece ∷ pieces) text is are empty =
-    absurd (false≢true (sym (has_text piece pieces are.well_formed.0) ∙ ap is_nil (sym is) ∙ sym (is_nil-length text) ∙ sym empty))
+    absurd (false≢true (sym (has_text piece pieces are.well_formed.0) ∙ ap is_nil (sym is) ∙ is_nil-length text ∙ sym empty))
 
 closed-ended : (piece : Piece) → ends_newline piece.bytes ≡ true → piece.bytes ≡ closed piece
 closed-ended piece ends = rw ends refl
@@ -211,7 +187,7 @@ closed_each piece (next ∷ pieces) formed ends =
     ∙ ap (λ t. piece.bytes ++ t) rest ∙ ap (λ t. t ++ flat_map closed (next ∷ pieces)) (closed-ended piece ends.0)
 
 pub closed_some : (pieces : List Piece) (text : List ℕ) → text ≡ text_of pieces → AreElementsOf pieces (text_of pieces) → false ≡ (length text == 0) → closed_text text ≡ flat_map closed pieces
-closed_some [] text is are some = absurd (false≢true (some ∙ is_nil-length text ∙ ap is_nil is))
+closed_some [] text is are some = absurd (false≢true (some ∙ sym (is_nil-length text) ∙ ap is_nil is))
 closed_some (piece ∷ pieces) text is are some = ap closed_text is ∙ closed_each piece pieces are.well_formed are.lines_end
 
 -- ---- the fields among elements, run by run

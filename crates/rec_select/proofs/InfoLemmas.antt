@@ -1,7 +1,7 @@
 -- What is printed of record sets, put to a sink part by part.
-use Rattle.std.proofs.Common.{◌≡◌, ℕ, suc, zero, Bool, true, false, cond, not, ◌==◌, if◌then◌else◌, nat_lt, ◌+◌, ◌-◌, ◌<◌, ◌≤◌, List, [], ◌∷◌, ◌++◌, Option, Some, None, Result, Ok, Err, length, take, drop, get_or, flat_map, map, refl, sym, ap, subst, ◌∙◌, inl, inr, append_assoc, append-nil, length-append, length-drop, drop-drop, add-one, drop-cons, arith}
+use Rattle.std.proofs.Common.{◌≡◌, ℕ, suc, Bool, true, false, cond, not, ◌==◌, if◌then◌else◌, nat_lt, ◌+◌, ◌-◌, ◌<◌, ◌≤◌, List, [], ◌∷◌, ◌++◌, Option, Some, None, Result, Ok, Err, length, take, drop, get_or, flat_map, map, refl, sym, ap, subst, ◌∙◌, inl, inr, append_assoc, append-nil, length-append, length-drop, drop-drop, add-one, drop-cons, arith}
 use Rattle.std.specs.Iterator.{SkipsThenYields, Yields, YieldsFirst}
-use Rattle.std.specs.List.{AllByRecursion, filter, filter_map, find, join_with_byte, position, position_or_len, slice_get}
+use Rattle.std.specs.List.{filter, filter_map, find, join_with_byte, position, position_or_len, slice_get}
 use Rattle.std.specs.Option.{option_map_or}
 use Rattle.std.specs.declared.ops.Range.{Range}
 use Rattle.std.proofs.lemmas.Bool.{cases_Bool, false≢true}
@@ -12,14 +12,16 @@ use Rattle.std.proofs.lemmas.List.Quantifiers.{position-Some}
 use Rattle.std.proofs.lemmas.Option.{slice_get_read, slice_get_past}
 use Rattle.rec_text.specs.Bytes.{is_nil, ends_newline}
 use Rattle.rec_text.specs.Elements.{Piece}
-use Rattle.rec_text.specs.Records.{AreAscending, IsRecord, AreRecords, is_field_at, is_field_piece}
+use Rattle.rec_text.specs.Records.{IsRecord, AreRecords, is_field_at, is_field_piece}
 use Rattle.rec_text.specs.declared.fault.Fault.{Fault}
 use Rattle.rec_text.specs.declared.fault.Fault.TheVariants.{NoSuchType}
-use Rattle.rec_text.proofs.RecordLemmas.{OneListOfRecords-holds}
+use Rattle.rec_text.proofs.RecordLemmas.{OneListOfRecords-holds, length-records}
 use Rattle.rec_check.specs.declared.set.Set_.{Set_}
-use Rattle.rec_check.specs.Descriptors.{elements_in, type_of}
+use Rattle.rec_text.specs.Records.{elements_in}
+use Rattle.rec_check.specs.Descriptors.{type_of}
 use Rattle.rec_check.specs.Schemas.{Described, IsDescribed}
 use Rattle.rec_check.specs.Sets.{AreFrom, BeginsAt, is_of_type, named_in}
+use Rattle.rec_text.proofs.ListLemmas.{AllByRecursion-slice_get, slice_get-drop, slice_get-take}
 use Rattle.rec_select.specs.declared.records.Shape.TheVariants.{Blocks}
 use Rattle.rec_select.specs.Printing.{block_of, closed, joined_blocks}
 use Rattle.rec_select.specs.Heads.{AreHeads, HeadsFrom}
@@ -171,17 +173,6 @@ block-full : (fields : List Piece) → is_field_at fields 0 ≡ true → is_nil 
 block-full [] e = absurd (false≢true e)
 block-full (piece ∷ pieces) e = rw e (closed-full piece _)
 
-slice_get-drop : {X : Type 0} (from i : ℕ) (xs : List X) → slice_get (drop from xs) i ≡ slice_get xs (from + i)
-slice_get-drop zero i xs = ap (slice_get xs) (let e : i ≡ 0 + i = omega arith in e)
-slice_get-drop (suc from) i [] = refl
-slice_get-drop (suc from) i (x ∷ xs) = slice_get-drop from i xs ∙ ap (slice_get (x ∷ xs)) (let e : suc (from + i) ≡ suc from + i = omega arith in e)
-
-slice_get-take : {X : Type 0} (n i : ℕ) (xs : List X) → i < n → slice_get (take n xs) i ≡ slice_get xs i
-slice_get-take zero i xs within = absurd (omega (arith, within))
-slice_get-take (suc n) i [] within = refl
-slice_get-take (suc n) zero (x ∷ xs) within = refl
-slice_get-take (suc n) (suc i) (x ∷ xs) within = slice_get-take n i xs (omega (arith, within))
-
 record-full : (pieces : List Piece) (fields : Range ℕ) → IsRecord pieces fields → is_nil (block_of Blocks (elements_in pieces fields)) ≡ false
 record-full pieces fields h =
     let place : fields.start + 0 ≡ fields.start = omega arith in
@@ -219,20 +210,6 @@ skipped_all left later n (xs, (rest, all, none), count) =
     omega (arith, ap length parts, count)
 
 -- ---- the descriptors that are printed
-
-AllByRecursion-at : {X : Type 0} (P : X → Type 0) (xs : List X) (i : ℕ) (x : X) → AllByRecursion P xs → slice_get xs i ≡ Some x → P x
-AllByRecursion-at P [] i x each at = cc
-AllByRecursion-at P (y ∷ xs) zero x each at = let same : y ≡ x = cc in subst P same each.0
-AllByRecursion-at P (y ∷ xs) (suc i) x each at = AllByRecursion-at P xs i x each.1 at
-
--- there are no more records than elements
-length-records : (pieces : List Piece) (least : ℕ) (records : List (Range ℕ)) → least ≤ length pieces → AllByRecursion (IsRecord pieces) records → AreAscending least records
-    → least + length records ≤ length pieces
-length-records pieces least [] within each ascending = omega arith
-length-records pieces least (fields ∷ records) within each ascending =
-    let some = each.0.some in
-    let ended : fields.end ≤ length pieces = omega (arith, each.0.high, each.0.is_paragraph.within) in
-    omega (arith, ascending.0, some, length-records pieces fields.end records ended each.1 ascending.1)
 
 -- what `HeadsFrom` says of a set with this head and of those behind it
 abbrev HeadsBehind : ℕ → ℕ → List Set_ → Option ℕ → Type 0
@@ -320,7 +297,7 @@ module _ {pieces : List Piece} {all : List (Range ℕ)} where
         let place : passed + (head - passed) ≡ head = omega (arith, next.0) in
         let at : slice_get all head ≡ Some fields =
         ap (slice_get all) (sym place) ∙ sym (slice_get-drop passed (head - passed) all) ∙ ap (λ l. slice_get l (head - passed)) (sym so_far.left_are) ∙ met.0 in
-        let full : IsRecord pieces fields = AllByRecursion-at (IsRecord pieces) all head fields are.each at in
+        let full : IsRecord pieces fields = AllByRecursion-slice_get (IsRecord pieces) all head fields are.each at in
         record {
           is_record = full;
           countable = omega (arith, HeadsFrom-low (length all) (head + 1) (drop (i + 1) sets) next.1, length-records pieces 0 all (omega arith) are.each are.ascending);

@@ -1,5 +1,5 @@
 -- What is printed of many records, block by block.
-use Rattle.std.proofs.Common.{◌≡◌, ℕ, ◌+◌, ◌<◌, Bool, true, false, not, List, [], ◌∷◌, ◌++◌, Ok, ◌⊎◌, inl, inr, length, get_or, take, drop, map, zero, suc, refl, sym, ap, subst, ◌∙◌, append-nil, append_assoc, arith}
+use Rattle.std.proofs.Common.{◌≡◌, ℕ, ◌+◌, ◌<◌, Bool, true, false, not, List, [], ◌∷◌, ◌++◌, Ok, ◌⊎◌, inl, inr, length, get_or, take, drop, map, refl, sym, ap, subst, ◌∙◌, append-nil, append_assoc, arith}
 use Rattle.std.specs.Prelude.{flat_map}
 use Rattle.std.specs.List.{concat, join_with_byte, AllByRecursion}
 use Rattle.std.specs.declared.ops.Range.{Range}
@@ -12,22 +12,16 @@ use Rattle.rec_text.specs.Bytes.{is_nil}
 use Rattle.rec_text.specs.Elements.{Piece}
 use Rattle.rec_text.specs.Records.{AreRecords, IsRecord}
 use Rattle.rec_text.specs.Scanned.{IsWithin}
-use Rattle.rec_text.proofs.RangeLemmas.{AllByRecursion-weaker}
+use Rattle.rec_text.proofs.ListLemmas.{AllByRecursion-weaker, join_with_byte-cons}
 use Rattle.rec_text.proofs.RecordLemmas.{one_list_of_records}
-use Rattle.rec_check.specs.Descriptors.{elements_in}
+use Rattle.rec_text.specs.Records.{elements_in}
 use Rattle.rec_select.specs.Selection.{record_at}
 use Rattle.rec_select.specs.Blocks.{behind, full, separated}
 use Rattle.rec_select.specs.Printing.{AreIndexes, IsPrinted, block_of, joined_blocks, printed}
 use Rattle.rec_select.specs.declared.records.Shape.{Shape}
 use Rattle.rec_select.specs.declared.records.Shape.TheVariants.{Blocks, Print, Values, Row, Count}
-use Rattle.rec_select.proofs.BlockLemmas.{join_with_byte-cons}
 
 -- ---- the elements of a record
-
-pub AllByRecursion-at : {X : Type 0} (P : X → Type 0) (xs : List X) (i : ℕ) (d : X) → i < length xs → AllByRecursion P xs → P (get_or xs i d)
-AllByRecursion-at P [] i d within all = absurd (omega arith)
-AllByRecursion-at P (x ∷ xs) zero d within all = all.0
-AllByRecursion-at P (x ∷ xs) (suc i) d within all = AllByRecursion-at P xs i d (omega arith) all.1
 
 pub record_at-within : (pieces : List Piece) (records : List (Range ℕ)) (i : ℕ) (d : Range ℕ) → i < length records → elements_in pieces (get_or records i d) ≡ record_at pieces records i
 record_at-within pieces records i d some = rw (slice_get-get_or records i d some) refl

@@ -4,10 +4,10 @@ use Rattle.std.proofs.lemmas.List.{take-append-le, take_all}
 use Rattle.std.proofs.Math.Seq.{take-append-add}
 use Rattle.std.proofs.KnownBytes.{Appends-nil, Appends-trans}
 use Rattle.std.specs.Io.KnownBytes.{Appends}
-use Rattle.std.specs.Result.{IsErrAnd, IsErrOf, IfErr, OnOk, OnErr}
+use Rattle.std.specs.Result.{IsErrAnd, IfErr, OnOk, OnErr}
 use Rattle.rec_text.specs.declared.fault.Fault.{Fault}
 use Rattle.rec_text.specs.declared.fault.Fault.TheVariants.{OutOfMemory, StoreFailed}
-use Rattle.rec_text.specs.Sink.{AppendsFront, HasRisen, UnlessStoreFailed}
+use Rattle.rec_text.specs.Sink.{AppendsFront, HasRisen, KeptAtSuccess, RisenAtStoreFailed, UnlessStoreFailed}
 use Rattle.rec_select.specs.Printing.{Puts}
 use Rattle.rec_select.specs.Taken.{HasTaken, HasStopped, Prints}
 
@@ -118,7 +118,11 @@ module _ {X : Type 0} (text : List ℕ) (old new : Option (List ℕ)) (before af
   counted-prints (Ok done) taken = omega (arith, taken.sound)
   counted-prints (Err fault) stopped = stopped.counted
 
-  pub store_failed-prints : (r : Result X Fault) → Prints text old new before after r → IsErrOf r StoreFailed → HasRisen before after
+  pub kept-prints : (r : Result X Fault) → Prints text old new before after r → KeptAtSuccess before after r
+  kept-prints (Ok done) taken = taken.sound
+  kept-prints (Err fault) stopped = tt
+
+  pub store_failed-prints : (r : Result X Fault) → Prints text old new before after r → RisenAtStoreFailed before after r
   store_failed-prints (Ok done) taken is = cc
   store_failed-prints (Err fault) stopped is = elim stopped.cause [ inl e ↦ absurd (not_memory {X = X} fault (Err fault) refl e is) | inr e ↦ e.1 ]
 

@@ -1,11 +1,11 @@
 -- The set of a selection, its members one after another, and the one list of those that are selected.
-use Rattle.std.proofs.Common.{◌≡◌, ◌∙◌, ◌⊎◌, inl, inr, ℕ, zero, suc, ◌+◌, ◌-◌, ◌<◌, ◌≤◌, Bool, true, false, cond, List, [], ◌∷◌, ◌++◌, Option, Some, None, Result, Ok, Err, length, drop, flat_map, get_or, refl, ap, sym, subst, arith, length-append}
+use Rattle.std.proofs.Common.{◌≡◌, ◌∙◌, ◌⊎◌, inl, inr, ℕ, zero, suc, ◌+◌, ◌-◌, ◌<◌, ◌≤◌, Bool, true, false, cond, List, [], ◌∷◌, ◌++◌, Option, Some, None, Result, Ok, Err, length, drop, get_or, refl, ap, sym, subst, arith}
 use Rattle.std.specs.Prelude.{◌↔◌, IsTrue, AllPairs, Contains, find, position, slice_get}
 use Rattle.std.specs.List.{AllByRecursion, position_or_len}
 use Rattle.std.specs.Option.{option_map_or}
 use Rattle.std.specs.declared.ops.Range.{Range}
 use Rattle.std.proofs.lemmas.Bool.{cases_Bool, cases_lt, lt-ltb}
-use Rattle.std.proofs.lemmas.List.{drop_more, length-drop, length-map, length-replicate}
+use Rattle.std.proofs.lemmas.List.{drop_more, length-drop, length-map}
 use Rattle.std.proofs.lemmas.List.Elements.{All-from_recursion, All-get_or, Contains-append_left, Contains-get_or, Contains-push, Contains-push_cases}
 use Rattle.std.proofs.lemmas.List.Folds.{find_at}
 use Rattle.std.proofs.lemmas.List.Quantifiers.{all_pairs_push, position-Some}
@@ -15,12 +15,15 @@ use Rattle.rec_text.specs.declared.fault.Fault.{Fault}
 use Rattle.rec_text.specs.declared.fault.Fault.TheVariants.{OutOfMemory, TypeNeeded, NoSuchType}
 use Rattle.rec_text.specs.Elements.{Piece}
 use Rattle.rec_text.specs.Faults.{IsMemoryOr}
-use Rattle.rec_text.specs.Records.{AreRecords, AreAscending, IsRecord}
-use Rattle.rec_text.proofs.RecordLemmas.{OneListOfRecords-holds}
+use Rattle.rec_text.specs.Records.{AreRecords, IsRecord}
+use Rattle.rec_text.proofs.ListLemmas.{Contains-head, Contains-later}
+use Rattle.rec_text.proofs.RecordLemmas.{OneListOfRecords-holds, length-records}
 use Rattle.rec_check.specs.declared.set.Set_.{Set_}
-use Rattle.rec_check.specs.Descriptors.{elements_in, type_of}
+use Rattle.rec_text.specs.Records.{elements_in}
+use Rattle.rec_check.specs.Descriptors.{type_of}
 use Rattle.rec_check.specs.Schemas.{Described, IsDescribed}
-use Rattle.rec_check.specs.Sets.{named_in, BeginsAt, AreFrom, is_of_type}
+use Rattle.rec_check.specs.Sets.{is_of_type}
+use Rattle.rec_check.proofs.DescribedLemmas.{sets_within}
 use Rattle.rec_select.specs.Selection.{Filter, Passes, record_at, only_set, has_members, set_without_type, set_of_type, set_for, AreSelected, OneSelection}
 
 pub from_fact : (fault : Fault) (P : Type 0) → P → IsMemoryOr fault P
@@ -89,18 +92,6 @@ module _ (P : Set_ → Type 0) where
 
 -- ---- the members are records
 
-set_end : (at : ℕ) (kind : Option (List ℕ)) (head : Option ℕ) (members : Range ℕ) → BeginsAt at (record { kind = kind; head = head; members = members })
-    → at + length (named_in (record { kind = kind; head = head; members = members })) ≡ members.end
-set_end at None head members begins = omega (arith, begins.0, begins.1.1, (let none : Option (List ℕ) = None in length-replicate (members.end - members.start) none))
-set_end at (Some kind) head members begins = omega (arith, begins.0, begins.1.1, (let none : Option (List ℕ) = None in length-replicate (members.end - members.start) none))
-
-sets_within : (at : ℕ) (sets : List Set_) (total : ℕ) → AreFrom at sets → at + length (flat_map named_in sets) ≤ total → AllByRecursion (λ s. s.members.end ≤ total) sets
-sets_within at [] total from within = tt
-sets_within at (s ∷ sets) total from within =
-    let ends = set_end at s.kind s.head s.members from.0 in
-    let both = length-append (named_in s) (flat_map named_in sets) in
-    (omega arith, sets_within s.members.end sets total from.1 (omega arith))
-
 pub members_within : (pieces : List Piece) (described : Described) (records : List (Range ℕ)) (kind : Option (List ℕ)) (s : Set_) → IsDescribed pieces described → AreRecords pieces records
     → set_for kind described.sets ≡ Ok s → s.members.end ≤ length records
 members_within pieces described records kind s is are found =
@@ -109,17 +100,6 @@ members_within pieces described records kind s is are found =
     (sets_within 0 described.sets (length records) is.sets.places
     (omega (arith, ap length is.sets.joined, length-map is.records (λ record_. type_of (elements_in pieces record_)), ap length same)))
     found
-
--- ---- there are no more records than elements
-
-length-records_from : (pieces : List Piece) (least : ℕ) (records : List (Range ℕ)) → least ≤ length pieces → AllByRecursion (IsRecord pieces) records → AreAscending least records
-    → least + length records ≤ length pieces
-length-records_from pieces least [] within each ascending = omega arith
-length-records_from pieces least (fields ∷ records) within each ascending =
-    let some = each.0.some in
-    let inner = each.0.high in
-    let whole = each.0.is_paragraph.within in
-    omega (arith, ascending.0, length-records_from pieces fields.end records (omega arith) each.1 ascending.1)
 
 -- ---- one record after another
 
@@ -160,7 +140,7 @@ module _ (pieces : List Piece) (members : Range ℕ) (wanted : Filter) where
   -- no more than the elements are left
   pub countable : (count : ℕ) (rest : List (Range ℕ)) (selected : List ℕ) (top : ℕ) → IsChosenUpTo pieces members wanted count rest selected → length pieces < top → count + length rest < top
   countable count rest selected top so_far few =
-      omega (arith, so_far.counted, ap length so_far.left, length-drop count so_far.records, length-records_from pieces 0 so_far.records (omega arith) so_far.are.each so_far.are.ascending)
+      omega (arith, so_far.counted, ap length so_far.left, length-drop count so_far.records, length-records pieces 0 so_far.records (omega arith) so_far.are.each so_far.are.ascending)
 
   module _ (count : ℕ) (before rest : List (Range ℕ)) (fields : Range ℕ) (selected : List ℕ) (so_far : IsChosenUpTo pieces members wanted count before selected) (first : before ≡ fields ∷ rest) where
     is_left : count < length so_far.records
@@ -281,12 +261,6 @@ ascending_head x xs i ascending (k, within, at) =
     let less : x < get_or xs k i = ascending 0 (suc k) i (omega arith) (omega arith) in
     omega (arith, at)
 
-Contains-head : (x : ℕ) (xs : List ℕ) → Contains (x ∷ xs) x
-Contains-head x xs = (0, omega arith, refl)
-
-Contains-later : (x : ℕ) (xs : List ℕ) (i : ℕ) → Contains xs i → Contains (x ∷ xs) i
-Contains-later x xs i (k, within, at) = (suc k, omega arith, at)
-
 Contains-cons : (x : ℕ) (xs : List ℕ) (i : ℕ) → Contains (x ∷ xs) i → (x ≡ i) ⊎ Contains xs i
 Contains-cons x xs i (zero, within, at) = inl at
 Contains-cons x xs i (suc k, within, at) = inr (k, omega arith, at)
@@ -300,7 +274,7 @@ head_le x y xs ys ascending within = elim (Contains-cons y ys x (within x (Conta
 
 -- what stands behind the head of one list stands behind that of the other
 tail_within : (x y : ℕ) (xs ys : List ℕ) → x ≡ y → IsAscending (x ∷ xs) → ((i : ℕ) → Contains (x ∷ xs) i → Contains (y ∷ ys) i) → (i : ℕ) → Contains xs i → Contains ys i
-tail_within x y xs ys same ascending within i among = elim (Contains-cons y ys i (within i (Contains-later x xs i among))) [
+tail_within x y xs ys same ascending within i among = elim (Contains-cons y ys i (within i (Contains-later x i xs among))) [
   | inl head ↦ absurd (omega (arith, ascending_head x xs i ascending among))
   | inr later ↦ later
 ]

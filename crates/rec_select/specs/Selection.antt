@@ -1,6 +1,5 @@
 -- The records that a selection takes: a set, and a filter of its members.
-use Rattle.std.specs.Prelude.{◌≡◌, ◌↔◌, ℕ, ◌-◌, ◌<◌, ◌≤◌, Bool, true, List, [], ◌∷◌, ◌++◌, Any, AllPairs, Contains, find, slice_get, nat_lt, Option, Some, None, Result, Ok, Err, if◌then◌else◌}
-use Rattle.std.specs.Option.{option_map_or}
+use Rattle.std.specs.Prelude.{◌≡◌, ◌↔◌, ℕ, ◌-◌, ◌<◌, ◌≤◌, Bool, true, List, [], ◌∷◌, ◌++◌, Any, AllPairs, Contains, find, nat_lt, Option, Some, None, Result, Ok, Err, if◌then◌else◌}
 use Rattle.std.specs.declared.ops.Range.{Range}
 use Rattle.rec_text.specs.declared.fault.Fault.{Fault}
 use Rattle.rec_text.specs.declared.fault.Fault.TheVariants.{TypeNeeded, NoSuchType}
@@ -13,7 +12,7 @@ use Rattle.rec_sex.specs.Grammar.{Term}
 use Rattle.rec_sex.specs.IndexList.{has}
 use Rattle.rec_sex.specs.Meaning.{Selects}
 use Rattle.rec_check.specs.declared.set.Set_.{Set_}
-pub use Rattle.rec_check.specs.Descriptors.{record_at}
+pub use Rattle.rec_text.specs.Records.{record_at}
 use Rattle.rec_check.specs.Sets.{is_of_type}
 use Rattle.rec_select.specs.declared.selection.By.{By}
 use Rattle.rec_select.specs.declared.selection.By.TheVariants.{All, Expr, Index, Quick}

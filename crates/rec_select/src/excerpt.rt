@@ -1,18 +1,9 @@
 //! Elements of a text that stand one behind another.
-ghost use Rattle.std.specs.Prelude.{◌≡◌};
-ghost use Rattle.rec_text.specs.Places.{piece_of};
-ghost use Rattle.rec_text.specs.Records.{is_field_piece};
 
 use crate::block::write_closed;
-use rec_text::{Database, Element, Fault, Kind, Sink};
+use rec_text::{Database, Element, Fault, Sink, elements_in};
 use std::marker::Model;
 use std::ops::Range;
-
-fn is_field(element: &Element) -> bool
-    ensures { result ≡ is_field_piece (piece_of element.now) }
-{
-    matches!(element.kind, Kind::Field)
-}
 
 /// Elements that stand one behind another in a text, and the text.
 #[derive(Drop)]
@@ -40,7 +31,7 @@ impl<'d, 't> Excerpt<'d, 't> {
     ghost use Rattle.rec_text.specs.Elements.{AreElementsOf, text_of};
     ghost use Rattle.rec_text.specs.Places.{pieces_of};
     ghost use Rattle.rec_text.specs.Sink.{UnlessStoreFailed};
-    ghost use Rattle.rec_check.specs.Descriptors.{elements_in};
+    ghost use Rattle.rec_text.specs.Records.{elements_in};
     ghost use Rattle.rec_select.specs.declared.records.Shape.TheVariants.{Blocks};
     ghost use Rattle.rec_select.specs.Printing.{block_of, closed};
     ghost use Rattle.rec_select.specs.Taken.{Prints};
@@ -64,7 +55,7 @@ impl<'d, 't> Excerpt<'d, 't> {
     {
         Excerpt {
             text: self.text,
-            elements: &self.elements[indexes],
+            elements: elements_in(self.elements, &indexes),
         }
     }
 
@@ -104,7 +95,7 @@ impl<'d, 't> Excerpt<'d, 't> {
     {
         let mut start = 0;
         for (at, element) in self.elements.iter().enumerate() {
-            if !is_field(element) {
+            if !element.is_field() {
                 self.part(start..at).write(out)?;
                 start = at + 1;
             }

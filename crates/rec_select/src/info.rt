@@ -1,8 +1,8 @@
 //! Prints what record sets a text has.
-ghost use Rattle.std.specs.Prelude.{◌≡◌, ◌⊎◌, ◌≤◌, ◌++◌, ◌∷◌, [], ℕ, if◌then◌else◌, flat_map, List, Ok, Err, IfErr, IsErrOf, MatchResult, option_map};
+ghost use Rattle.std.specs.Prelude.{◌≡◌, ◌⊎◌, ◌≤◌, ◌++◌, ◌∷◌, [], ℕ, if◌then◌else◌, flat_map, List, Ok, Err, IfErr, MatchResult, option_map};
 ghost use Rattle.std.specs.declared.ops.Range.{Range};
 ghost use Rattle.rec_text.specs.Records.{AreRecords};
-ghost use Rattle.rec_text.specs.Sink.{HasRisen, UnlessStoreFailed};
+ghost use Rattle.rec_text.specs.Sink.{KeptAtSuccess, RisenAtStoreFailed, UnlessStoreFailed};
 ghost use Rattle.rec_check.specs.Schemas.{IsSchema};
 ghost use Rattle.rec_check.specs.Stored.{described};
 ghost use Rattle.rec_select.specs.declared.info.InfoForm.TheVariants.{Descriptors};
@@ -148,7 +148,8 @@ pub fn write_info<S: Sink>(
     requires { IsSchema database.now (Ok (described schema.now)) }
     ensures printed { Puts (IsInfo database.now (described schema.now).sets (option_map (λ kind. kind.now) kind.entry) form) (S.contents out.old) (S.contents out.new) result }
     ensures counted { S.failure_count out.old ≤ S.failure_count out.new }
-    ensures store_failed { IsErrOf result Fault.StoreFailed → HasRisen (S.failure_count out.old) (S.failure_count out.new) }
+    ensures kept { KeptAtSuccess (S.failure_count out.old) (S.failure_count out.new) result }
+    ensures store_failed { RisenAtStoreFailed (S.failure_count out.old) (S.failure_count out.new) result }
     ensures refusals { IfErr result (λ fault. (fault ≡ Fault.NoSuchType) ⊎ (fault ≡ Fault.StoreFailed)) }
 {
     let sets = sets_for(schema, kind)?;

@@ -4,23 +4,13 @@
 
 mod block;
 mod chooser;
-#[cfg(test)]
-mod chooser_tests;
 mod excerpt;
 mod filter;
-#[cfg(test)]
-mod growth_tests;
 mod info;
-#[cfg(test)]
-mod info_tests;
 mod laws;
 mod parts;
 mod records;
-#[cfg(test)]
-mod records_tests;
 mod report;
-#[cfg(test)]
-mod rows;
 mod selection;
 
 pub use chooser::choose;

@@ -1,9 +1,9 @@
 //! Prints records.
-ghost use Rattle.std.specs.Prelude.{◌≡◌, ◌⊎◌, ◌<◌, ◌≤◌, not, length, map, IfOk, IfErr, IsErrOf};
+ghost use Rattle.std.specs.Prelude.{◌≡◌, ◌⊎◌, ◌<◌, ◌≤◌, not, length, map, IfOk, IfErr};
 ghost use Rattle.std.specs.List.{AllByRecursion};
 ghost use Rattle.rec_text.specs.Bytes.{is_nil};
 ghost use Rattle.rec_text.specs.Scanned.{IsWithin};
-ghost use Rattle.rec_text.specs.Sink.{HasRisen};
+ghost use Rattle.rec_text.specs.Sink.{KeptAtSuccess, RisenAtStoreFailed};
 ghost use Rattle.rec_select.specs.Selection.{record_at};
 ghost use Rattle.rec_select.specs.Blocks.{behind, full, separated};
 ghost use Rattle.rec_select.specs.Printing.{AreIndexes, IsPrinted, Puts, block_of, number_line};
@@ -111,7 +111,8 @@ pub fn write_records<S: Sink>(
     requires { AreIndexes database.now selected.now }
     ensures printed { Puts (IsPrinted database.now selected.now shape.now collapse) (S.contents out.old) (S.contents out.new) result }
     ensures counted { S.failure_count out.old ≤ S.failure_count out.new }
-    ensures store_failed { IsErrOf result Fault.StoreFailed → HasRisen (S.failure_count out.old) (S.failure_count out.new) }
+    ensures kept { KeptAtSuccess (S.failure_count out.old) (S.failure_count out.new) result }
+    ensures store_failed { RisenAtStoreFailed (S.failure_count out.old) (S.failure_count out.new) result }
     ensures refusals { IfErr result (λ fault. (fault ≡ Fault.OutOfMemory) ⊎ (fault ≡ Fault.StoreFailed)) }
 {
     if let Shape::Count = shape {

@@ -1,6 +1,6 @@
 //! Prints where a text breaks the rules of its record sets.
-ghost use Rattle.std.specs.Prelude.{◌∷◌, ◌++◌, ◌≤◌, [], codes, IsErrOf};
-ghost use Rattle.rec_text.specs.Sink.{HasRisen, UnlessStoreFailed};
+ghost use Rattle.std.specs.Prelude.{◌∷◌, ◌++◌, ◌≤◌, [], codes};
+ghost use Rattle.rec_text.specs.Sink.{KeptAtSuccess, RisenAtStoreFailed, UnlessStoreFailed};
 ghost use Rattle.rec_select.specs.Printing.{Puts};
 ghost use Rattle.rec_select.specs.Report.{IsReport, report, report_line};
 ghost use Rattle.rec_select.specs.Taken.{Prints};
@@ -46,7 +46,8 @@ fn write_violations<S: Sink>(violations: &[Violation], out: &mut S) -> Result<()
 pub fn write_report<S: Sink>(violations: &[Violation], out: &mut S) -> Result<(), Fault>
     ensures printed { Puts (IsReport violations.now) (S.contents out.old) (S.contents out.new) result }
     ensures counted { S.failure_count out.old ≤ S.failure_count out.new }
-    ensures store_failed { IsErrOf result Fault.StoreFailed → HasRisen (S.failure_count out.old) (S.failure_count out.new) }
+    ensures kept { KeptAtSuccess (S.failure_count out.old) (S.failure_count out.new) result }
+    ensures store_failed { RisenAtStoreFailed (S.failure_count out.old) (S.failure_count out.new) result }
     ensures refusals { UnlessStoreFailed result }
 {
     write_violations(violations, out)

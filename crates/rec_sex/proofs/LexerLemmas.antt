@@ -3,7 +3,8 @@ use Rattle.std.proofs.Common.{◌≡◌, ℕ, suc, zero, ◌+◌, ◌-◌, ◌<�
 use Rattle.std.specs.Prelude.{if◌then◌else◌}
 use Rattle.std.proofs.lemmas.List.{append-nil, append_assoc, length_push, length-drop, at_drop_all, drop_more, drop-drop, take_rest}
 use Rattle.rec_sex.specs.declared.token.Token.{Token}
-use Rattle.rec_sex.specs.Tokens.{Lexeme, Whole, Broken, Placed, is_space, lexeme_at, len_of, lexemes_from, lexemes}
+use Rattle.rec_text.specs.Bytes.{is_space}
+use Rattle.rec_sex.specs.Tokens.{Lexeme, Whole, Broken, Placed, lexeme_at, len_of, lexemes_from, lexemes}
 use Rattle.rec_sex.specs.declared.lexeme.Lexeme.{Lexeme as ReadLexeme}
 use Rattle.rec_sex.specs.Lexing.{lexeme_of, IsStep}
 use Rattle.rec_sex.specs.Grammar.{Operand, Operator_, Comparison, Pattern, Walk, walk_start, behind, walked, may_end, fault_inside, fault_from, fault_of, AreTokens, AreTaken}

@@ -16,6 +16,7 @@ pub mod TermLemmas
 pub mod IntegerLemmas
 pub mod OperandLemmas
 pub mod PatternLemmas
+pub mod OccurrenceLemmas
 pub mod ChoiceLemmas
 pub mod BuildLemmas
 pub mod SelectLemmas

@@ -1,15 +1,17 @@
 -- Patterns of matchers, by their numbers.
-use Rattle.std.proofs.Common.{◌≡◌, ℕ, ◌<◌, ◌≤◌, true, List, [], ◌∷◌, length, map, set, get_or, zero, suc, refl, ap, sym, ◌∙◌, arith}
-use Rattle.std.specs.Prelude.{is_some, unwrap_or}
+use Rattle.std.proofs.Common.{◌≡◌, ℕ, ◌<◌, ◌≤◌, true, Result, Ok, Err, List, [], ◌∷◌, length, map, set, get_or, zero, suc, refl, ap, sym, ◌∙◌, arith}
+use denote.Bor.{Bor}
+use Rattle.std.specs.Prelude.{unwrap_or, MatchResult}
+use Rattle.std.specs.Result.{is_ok}
 use Rattle.std.specs.Option.{option_map}
 use Rattle.std.specs.Str.{IsUtf8}
 use Rattle.std.proofs.lemmas.Str.{IsCharBoundary-start}
 use Rattle.std.proofs.lemmas.Option.{slice_get-map, slice_get-get_or, slice_get_past}
-use Rattle.regex.specs.Patterns.{Re, empty, find_str}
+use Rattle.regex.specs.Patterns.{Re, empty}
 use Rattle.regex.proofs.ForCallers.{find_str_complete}
 use Rattle.rec_sex.specs.Meaning.{is_found}
 use Rattle.rec_sex.specs.Choices.{pattern_in}
-use Rattle.rec_sex.proofs.OperandLemmas.{is_found-text}
+use Rattle.rec_sex.proofs.OperandLemmas.{is_found-text, is_found-none}
 
 -- an element with the same image in the place of another leaves the images as they were
 pub map-set_same : {X Y : Type 0} (f : X → Y) (xs : List X) (i : ℕ) (d y : X) → i < length xs → f y ≡ f (get_or xs i d) → map f (set xs i y) ≡ map f xs
@@ -30,10 +32,11 @@ is_found-empty : (bytes : List ℕ) → IsUtf8 bytes → true ≡ is_found empty
 is_found-empty bytes utf8 =
     sym (find_str_complete empty bytes 0 0 0 (omega arith) (IsCharBoundary-start bytes utf8) refl) ∙ is_found-text empty bytes bytes refl utf8
 
-pub is_found-past : {X : Type 0} (f : X → Re) (xs : List X) (i : ℕ) (bytes : List ℕ) → length xs ≤ i → IsUtf8 bytes → true ≡ is_found (pattern_in (map f xs) i) bytes
-is_found-past f xs i bytes past utf8 = is_found-empty bytes utf8 ∙ sym (ap (λ p. is_found p bytes) (pattern_in-past f xs i past))
+-- so the pattern of a number that is past the last is found where the text reads as UTF-8
+pub is_found-past : {X E : Type 0} (f : X → Re) (xs : List X) (i : ℕ) (bytes : List ℕ) (Other : E → Type 0) (read : Result (Bor (List ℕ)) E) → length xs ≤ i
+    → MatchResult read (λ text. (text.now ≡ bytes) × IsUtf8 bytes) (λ e. ¬ IsUtf8 bytes × Other e) → is_ok read ≡ is_found (pattern_in (map f xs) i) bytes
+is_found-past f xs i bytes Other (Ok text) past cases = is_found-empty bytes cases.1 ∙ sym (ap (λ p. is_found p bytes) (pattern_in-past f xs i past))
+is_found-past f xs i bytes Other (Err e) past cases = is_found-none (pattern_in (map f xs) i) bytes cases.0
 
-pub is_found-at : {X : Type 0} (f : X → Re) (xs : List X) (i : ℕ) (d : X) (bytes found : List ℕ) → i < length xs → found ≡ bytes → IsUtf8 bytes
-    → is_some (find_str (f (get_or xs i d)) found 0) ≡ is_found (pattern_in (map f xs) i) bytes
-is_found-at f xs i d bytes found within same utf8 =
-    is_found-text (f (get_or xs i d)) bytes found same utf8 ∙ sym (ap (λ p. is_found p bytes) (pattern_in-at f xs i d within))
+pub is_found-at : {X : Type 0} (f : X → Re) (xs : List X) (i : ℕ) (d : X) (bytes : List ℕ) → i < length xs → is_found (f (get_or xs i d)) bytes ≡ is_found (pattern_in (map f xs) i) bytes
+is_found-at f xs i d bytes within = sym (ap (λ p. is_found p bytes) (pattern_in-at f xs i d within))

@@ -4,10 +4,9 @@ use Rattle.std.specs.List.{AllByRecursion}
 use Rattle.std.specs.Option.{option_map, option_and_then}
 use Rattle.std.specs.Prelude.{if◌then◌else◌, nat_lt, neg_ℤ, unwrap_or, IsTrue, ◌↔◌}
 use Rattle.std.specs.Str.{bytes_eq}
-use Rattle.std.proofs.lemmas.Bool.{cases_lt, ltb-true, lt-ltb}
+use Rattle.std.proofs.lemmas.Bool.{cases_Bool, cases_lt, ltb-true, lt-ltb}
 use Rattle.std.proofs.lemmas.List.{append-nil, append_assoc}
 use Rattle.std.proofs.lemmas.Option.{slice_get-map}
-use Rattle.std.proofs.lemmas.Slice.Eq.{bytes_eq-Decides}
 use Rattle.regex.specs.Patterns.{Re, empty}
 use Rattle.regex.specs.Strings.{regex_pattern}
 use Rattle.regex.specs.declared.string.regex.Regex.{Regex}
@@ -17,17 +16,8 @@ use Rattle.rec_sex.specs.declared.tree.Tree.{Tree, Integer, Literal, Name, Occur
 use Rattle.rec_sex.specs.Grammar.{Term}
 use Rattle.rec_sex.specs.Meaning.{Meaning, Choice_, values_of, value_at, text, sem, is_true, is_zero, is_found, text_of, truth, in_range, reading_of, apply_operator, IsChoice, Selects}
 use Rattle.rec_sex.specs.Choices.{Entry, chosen_in, pattern_in, term_under, is_among, with_repeated, repeated_names, any_below, any_choice, FindAlike}
+use Rattle.rec_text.proofs.ListLemmas.{AllByRecursion-push, bytes_eq-self, same_bytes}
 use Rattle.rec_sex.proofs.ChoiceLemmas.{any_below-at, true_or}
-
-bool_cases : (b : Bool) → (b ≡ true) ⊎ (b ≡ false)
-bool_cases true = inl refl
-bool_cases false = inr refl
-
-bytes_eq-self : (a : List ℕ) → bytes_eq a a ≡ true
-bytes_eq-self a = (bytes_eq-Decides a a).1 refl
-
-same_bytes : (a b : List ℕ) → bytes_eq a b ≡ true → a ≡ b
-same_bytes a b e = (bytes_eq-Decides a b).0 e
 
 -- ---- what is found is a choice
 
@@ -51,18 +41,18 @@ chosen_in-none pieces name = first_is_occurrence pieces name
 
 chosen_in-more : (pieces : List Piece) (entries : List Entry) (name : List ℕ) (i : ℕ) → i < length (values_of name pieces)
     → (other : List ℕ) → IsOccurrence pieces other (chosen_in entries other) → IsOccurrence pieces other (chosen_in (entries ++ (name, i) ∷ []) other)
-chosen_in-more pieces [] name i below other h = elim (bool_cases (bytes_eq name other)) [
+chosen_in-more pieces [] name i below other h = elim (cases_Bool (bytes_eq name other)) [
   | inl same ↦ rw same (inl (let P : List ℕ → Type 0 = λ n. i < length (values_of n pieces) in subst P (same_bytes name other same) below))
   | inr differs ↦ rw differs h
 ]
-chosen_in-more pieces (entry ∷ entries) name i below other h = elim (bool_cases (bytes_eq entry.0 other)) [
+chosen_in-more pieces (entry ∷ entries) name i below other h = elim (cases_Bool (bytes_eq entry.0 other)) [
   | inl same ↦ rw same (rw same at h)
   | inr differs ↦ rw differs (chosen_in-more pieces entries name i below other (rw differs at h))
 ]
 
 any_below-true : (n : ℕ) (test : ℕ → Bool) → any_below n test ≡ true → (i : ℕ) × (i < n) × (test i ≡ true)
 any_below-true zero test e = absurd (cc)
-any_below-true (suc n) test e = elim (bool_cases (any_below n test)) [
+any_below-true (suc n) test e = elim (cases_Bool (any_below n test)) [
   | inl earlier ↦ (let found = any_below-true n test earlier in (found.0, omega (arith, found.1), found.2))
   | inr none ↦ (n, omega arith, (rw none at e))
 ]
@@ -93,7 +83,7 @@ module _ (pieces : List Piece) (c : Choice_) where
 
   chosen_in-entries : (names : List (List ℕ)) (name : List ℕ) → chosen_in (entries_of names) name ≡ (if is_among name names then c name else 0)
   chosen_in-entries [] name = refl
-  chosen_in-entries (one ∷ names) name = elim (bool_cases (bytes_eq one name)) [
+  chosen_in-entries (one ∷ names) name = elim (cases_Bool (bytes_eq one name)) [
     | inl same ↦ rw (same, same_bytes one name same)
     | inr differs ↦ rw (differs, chosen_in-entries names name)
   ]
@@ -106,7 +96,7 @@ is_among-push (one ∷ names) name = rw (is_among-push names name) (sym (true_or
 
 is_among-append : (names : List (List ℕ)) (name other : List ℕ) → is_among name names ≡ true → is_among name (names ++ other ∷ []) ≡ true
 is_among-append [] name other e = absurd (cc)
-is_among-append (one ∷ names) name other e = elim (bool_cases (bytes_eq one name)) [
+is_among-append (one ∷ names) name other e = elim (cases_Bool (bytes_eq one name)) [
   | inl same ↦ rw same
   | inr differs ↦ rw differs (is_among-append names name other (rw differs at e))
 ]
@@ -118,7 +108,7 @@ first_true false b e = absurd (cc)
 -- what holds of names and goes on to hold with one that occurs more than once holds of all of an expression
 module _ (pieces : List Piece) (Q : List (List ℕ) → Type 0) (more : (names : List (List ℕ)) (name : List ℕ) → 1 < length (values_of name pieces) → Q names → Q (names ++ name ∷ [])) where
   keeps-name : (names : List (List ℕ)) (name : List ℕ) → Q names → Q (with_repeated pieces names name)
-  keeps-name names name h = elim (bool_cases (nat_lt 1 (length (values_of name pieces)) && not (is_among name names))) [
+  keeps-name names name h = elim (cases_Bool (nat_lt 1 (length (values_of name pieces)) && not (is_among name names))) [
     | inl new ↦ rw new (more names name (ltb-true 1 (length (values_of name pieces)) (first_true _ _ new)) h)
     | inr old ↦ rw old h
   ]
@@ -136,14 +126,10 @@ module _ (pieces : List Piece) (Q : List (List ℕ) → Type 0) (more : (names :
   keeps (Choice' p k q a r b) names h = keeps b _ (keeps a _ (keeps k names h))
 
 is_among-repeated : (pieces : List Piece) (names : List (List ℕ)) (name : List ℕ) → 1 < length (values_of name pieces) → is_among name (with_repeated pieces names name) ≡ true
-is_among-repeated pieces names name several = elim (bool_cases (is_among name names)) [
+is_among-repeated pieces names name several = elim (cases_Bool (is_among name names)) [
   | inl there ↦ rw (lt-ltb 1 (length (values_of name pieces)) several, there) there
   | inr missing ↦ rw (lt-ltb 1 (length (values_of name pieces)) several, missing) (is_among-push names name)
 ]
-
-AllByRecursion-push : {X : Type 0} (P : X → Type 0) (xs : List X) (y : X) → AllByRecursion P xs → P y → AllByRecursion P (xs ++ y ∷ [])
-AllByRecursion-push P [] y all here = (here, tt)
-AllByRecursion-push P (x ∷ xs) y all here = (all.0, AllByRecursion-push P xs y all.1 here)
 
 -- ---- with its occurrences of these names, a choice gives an expression its meaning
 
@@ -168,7 +154,7 @@ module _ (pieces : List Piece) (c : Choice_) (is_choice : IsChoice pieces c) whe
   module _ (all : List (List ℕ)) where
     chosen_all : (name : List ℕ) (names : List (List ℕ)) → ((other : List ℕ) → is_among other (with_repeated pieces names name) ≡ true → is_among other all ≡ true)
         → chosen_in (entries_of pieces c all) name ≡ c name
-    chosen_all name names covered = elim (bool_cases (is_among name all)) [
+    chosen_all name names covered = elim (cases_Bool (is_among name all)) [
       | inl there ↦ chosen_in-entries pieces c all name ∙ rw there
       | inr missing ↦ elim (cases_lt 1 (length (values_of name pieces))) [
         | inl several ↦ (let there : is_among name all ≡ true = covered name (is_among-repeated pieces names name several) in absurd (cc))

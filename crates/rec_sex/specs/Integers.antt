@@ -1,16 +1,12 @@
 -- The integers of values and expressions: 64 bits, decimal, octal behind a leading zero, hexadecimal behind 0x.
-use Rattle.std.specs.Prelude.{ℕ, zero, suc, ℤ, pos, negsuc, ◌+◌, ◌-◌, ◌*◌, ◌^◌, ◌==◌, ◌||◌, ◌&&◌, nat_le, nat_lt, List, [], ◌∷◌, reverse, Option, Some, None, if◌then◌else◌}
+use Rattle.std.specs.Prelude.{ℕ, zero, suc, ℤ, pos, negsuc, ◌+◌, ◌-◌, ◌*◌, ◌^◌, ◌==◌, ◌||◌, ◌&&◌, nat_le, nat_lt, List, [], ◌∷◌, Option, Some, None, if◌then◌else◌}
 use Rattle.std.specs.Option.{option_and_then}
 use Rattle.rec_text.specs.Bytes.{is_blank, is_nil}
-
--- without the blanks that come first
-abbrev pub without_blanks : List ℕ → List ℕ
-without_blanks [] = []
-without_blanks (b ∷ bs) = if is_blank b then without_blanks bs else b ∷ bs
+use Rattle.rec_text.specs.Spaces.{without_ends}
 
 -- without the blanks at both ends
 abbrev pub trimmed : List ℕ → List ℕ
-trimmed text = reverse (without_blanks (reverse (without_blanks text)))
+trimmed text = without_ends is_blank text
 
 -- the value of a digit, of up to 16 digits
 abbrev pub digit_of : ℕ → Option ℕ

@@ -1,9 +1,9 @@
 -- The tokens of an expression, and the place of its leftmost fault.
-use Rattle.std.specs.Prelude.{ℕ, pos, zero, suc, ◌+◌, ◌-◌, ◌^◌, Bool, ◌==◌, ◌||◌, ◌&&◌, nat_lt, List, [], ◌∷◌, length, drop, codes, Option, Some, None, if◌then◌else◌, take_while}
+use Rattle.std.specs.Prelude.{ℕ, pos, zero, suc, ◌+◌, ◌-◌, ◌^◌, ◌==◌, ◌||◌, ◌&&◌, nat_lt, List, [], ◌∷◌, length, drop, codes, Option, Some, None, if◌then◌else◌, take_while}
 use Rattle.std.specs.Char.{is_ascii_digit}
 use Rattle.std.specs.Option.{option_map}
 use Rattle.std.specs.Str.{bytes_eq}
-use Rattle.rec_text.specs.Bytes.{is_blank, is_letter, continues_name}
+use Rattle.rec_text.specs.Bytes.{is_space, is_letter, continues_name}
 use Rattle.rec_sex.specs.declared.token.Operator.TheVariants.{Equal, NotEqual, Less, Greater, LessOrEqual, GreaterOrEqual, Join, Add, Subtract, Multiply, Divide, Remainder, And, Or, Implies}
 use Rattle.rec_sex.specs.declared.token.Token.{Token}
 use Rattle.rec_sex.specs.declared.token.Token.TheVariants.{Integer, Literal, Name, Occurrence, Count, Not, Binary, Found, Open, Close, Then, Else, Unused}
@@ -16,10 +16,6 @@ use Rattle.rec_sex.specs.Integers.{magnitude_of}
 pub data Lexeme : Type 0 where
   Whole : Token → ℕ → Lexeme
   Broken : ℕ → Lexeme
-
--- blanks and newlines stand between tokens
-abbrev pub is_space : ℕ → Bool
-is_space b = is_blank b || b == 10
 
 -- one byte more
 abbrev pub with_byte : ℕ → Option (List ℕ × ℕ) → Option (List ℕ × ℕ)

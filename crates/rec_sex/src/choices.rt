@@ -6,10 +6,10 @@ ghost use Rattle.rec_sex.specs.Meaning.{values_of};
 ghost use Rattle.rec_sex.specs.Choices.{entry_of, term_under, is_among, with_repeated, repeated_names, any_choice};
 
 use crate::evaluation::evaluate;
-use crate::occurrences::{Chosen, count_of};
+use crate::occurrences::Chosen;
 use crate::operand::is_true;
 use crate::tree::Tree;
-use rec_text::{Element, Fault};
+use rec_text::{Element, Fault, count_of};
 use regex::Matcher;
 use std::alloc::Global;
 
@@ -24,6 +24,14 @@ fn is_among(name: &[u8], names: &[&[u8]]) -> bool
     false
 }
 
+/// Whether a name occurs more than once.
+#[tactic(auto, using(crate::proofs::OccurrenceLemmas::occurrence_count))]
+fn is_repeated(fields: &[Element<'_>], name: &[u8]) -> bool
+    ensures { result ≡ nat_lt 1 (length (values_of name.now (pieces_of fields.now))) }
+{
+    count_of(fields, name) > 1
+}
+
 /// A name that occurs more than once comes behind the others, unless it is among them.
 fn add_repeated<'e>(
     fields: &[Element<'_>],
@@ -33,7 +41,7 @@ fn add_repeated<'e>(
     ensures names { IfOk result (λ _. map (λ one. one.now) names.new.items ≡ with_repeated (pieces_of fields.now) (map (λ one. one.now) names.old.items) name.now) }
     ensures refusals { IfErr result (λ fault. fault ≡ Fault.OutOfMemory) }
 {
-    if count_of(fields, name) > 1 && !is_among(name, names) {
+    if is_repeated(fields, name) && !is_among(name, names) {
         names.push(name)?;
     }
     Ok(())

@@ -7,11 +7,12 @@ ghost use Rattle.rec_sex.specs.Meaning.{is_found as is_found_in_text, text_of, s
 ghost use Rattle.rec_sex.specs.Operands.{meaning_of};
 ghost use Rattle.rec_sex.specs.Choices.{entry_of, chosen_in, pattern_in, term_under};
 
-use crate::occurrences::{Chosen, count_of, value_at};
+use crate::occurrences::{Chosen, value_at};
 use crate::operand::{Operand, apply_operator, inverse, negated, reading, truth};
+use crate::pattern::is_found;
 use crate::tree::Tree;
 use itoa::Buffer;
-use rec_text::{Element, Fault, Value};
+use rec_text::{Element, Fault, Value, count_of};
 use regex::Matcher;
 use std::alloc::Global;
 
@@ -27,26 +28,25 @@ fn occurrence_of(chosen: &[Chosen<'_>], name: &[u8]) -> usize
     0
 }
 
+#[tactic(auto, using(crate::proofs::OccurrenceLemmas::occurrence_count))]
 fn count(fields: &[Element<'_>], name: &[u8]) -> i64
     ensures { result ≡ pos (length (values_of name.now (pieces_of fields.now))) }
 {
     count_of(fields, name) as i64
 }
 
-/// Whether a pattern is found in an operand's text. Texts that aren't UTF-8 hold none.
-fn is_found(matchers: &mut [Matcher<'_>], pattern: usize, operand: &Operand<'_>) -> bool
+/// Whether the pattern of a number is found in an operand's text.
+fn is_found_at(matchers: &mut [Matcher<'_>], pattern: usize, operand: &Operand<'_>) -> bool
     ensures found { result ≡ is_found_in_text (pattern_in (map matcher_pattern matchers.old) pattern) (text_of (meaning_of operand.now)) }
     ensures same { map matcher_pattern matchers.new ≡ map matcher_pattern matchers.old }
 {
     let mut buffer = Buffer::new();
-    let Ok(text) = std::str::from_utf8(operand.text(&mut buffer)) else {
-        return false;
-    };
-    // The empty pattern, which stands for one that is not there, is found in any text.
+    let text = operand.text(&mut buffer);
+    // The empty pattern, which stands for one that is not there, is found in any text that is UTF-8.
     if pattern >= matchers.len() {
-        return true;
+        return std::str::from_utf8(text).is_ok();
     }
-    matchers[pattern].is_match(text)
+    is_found(&mut matchers[pattern], text)
 }
 
 /// The meaning of an expression, where it is defined.
@@ -89,7 +89,7 @@ pub(crate) fn evaluate<'v>(
         }
         Tree::Found(operand, pattern) => {
             match evaluate(alloc, operand, fields, chosen, matchers)? {
-                Some(operand) => Ok(Some(truth(is_found(matchers, *pattern, &operand)))),
+                Some(operand) => Ok(Some(truth(is_found_at(matchers, *pattern, &operand)))),
                 None => Ok(None),
             }
         }

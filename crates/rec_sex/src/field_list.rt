@@ -7,7 +7,6 @@ ghost use Rattle.rec_sex.specs.FieldItems.{is_among, BeginsName, Closes, ClosesP
 
 use crate::index_list::{Span, behind_hyphen, ends_item, number};
 use crate::lexeme::word_at;
-use crate::occurrences::has_name;
 use rec_text::{Bytes, Element, Fault};
 use std::alloc::Global;
 use std::marker::Model;
@@ -146,7 +145,7 @@ fn add_places(item: &Item, fields: &[Element], places: &mut Vec<usize>) -> Resul
 {
     let mut occurrence = 0;
     for (place, field) in fields.iter().enumerate() {
-        if has_name(field, item.name.as_slice()) {
+        if field.has_name(item.name.as_slice()) {
             if is_among(item.occurrences, occurrence) {
                 places.push(place)?;
             }
@@ -186,6 +185,13 @@ impl FieldList {
                 Some((_, next)) => rest = next,
             }
         }
+    }
+
+    /// The items, in the order in which they were written.
+    pub fn items(&self) -> &[Item]
+        ensures { result.now ≡ self.now }
+    {
+        &self.items
     }
 
     /// For each item in order the places of its occurrences among a record's elements, in record order.

@@ -1,43 +1,9 @@
 //! The integer reading of a text.
-ghost use Rattle.std.specs.Prelude.{◌≡◌, ◌^◌, nat_le, nat_lt, pos, Some, None, reverse, if◌then◌else◌};
-ghost use Rattle.rec_text.specs.Bytes.{is_blank};
-ghost use Rattle.rec_sex.specs.Integers.{without_blanks, trimmed, negative, signed_of, int_of};
+ghost use Rattle.std.specs.Prelude.{◌≡◌, ◌^◌, nat_le, nat_lt, pos, Some, None, if◌then◌else◌};
+ghost use Rattle.rec_sex.specs.Integers.{trimmed, negative, signed_of, int_of};
 
 use crate::magnitude::magnitude_of;
-
-fn is_blank(byte: u8) -> bool
-    ensures { result ≡ is_blank byte }
-{
-    byte == b' ' || byte == b'\t'
-}
-
-/// The text without the blanks that come first.
-fn without_blanks(text: &[u8]) -> &[u8]
-    ensures { result.now ≡ without_blanks text.now }
-{
-    let mut rest = text;
-    while let [first, more @ ..] = rest {
-        if !is_blank(*first) {
-            break;
-        }
-        rest = more;
-    }
-    rest
-}
-
-/// The text without the blanks that come last.
-fn without_last_blanks(text: &[u8]) -> &[u8]
-    ensures { result.now ≡ reverse (without_blanks (reverse text.now)) }
-{
-    let mut rest = text;
-    while let [more @ .., last] = rest {
-        if !is_blank(*last) {
-            break;
-        }
-        rest = more;
-    }
-    rest
-}
+use rec_text::Space;
 
 fn negative_of(magnitude: u64) -> Option<i64>
     ensures { result ≡ (if nat_le magnitude (2 ^ 63) then Some (negative magnitude) else None) }
@@ -69,7 +35,7 @@ fn signed_of(text: &[u8]) -> Option<i64>
 pub fn trimmed(text: &[u8]) -> &[u8]
     ensures { result.now ≡ trimmed text.now }
 {
-    without_last_blanks(without_blanks(text))
+    Space::Blank.trim(text)
 }
 
 /// The integer that a text reads as: blanks at both ends are dropped; a hyphen makes it negative; `0x` begins

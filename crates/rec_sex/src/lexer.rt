@@ -1,23 +1,16 @@
 //! The tokens of an expression.
-ghost use Rattle.std.specs.Prelude.{◌≡◌, ◌⊎◌, ℕ, Some, None, IfOk, IfErr, IsErrOf, ◌||◌, ◌==◌};
-ghost use Rattle.rec_sex.specs.Tokens.{lexemes, is_space as stands_between};
+ghost use Rattle.std.specs.Prelude.{◌≡◌, ◌⊎◌, ℕ, Some, None, IfOk, IfErr, IsErrOf, ◌==◌};
+ghost use Rattle.rec_sex.specs.Tokens.{lexemes};
 ghost use Rattle.rec_sex.specs.Grammar.{AreTokens, AreTaken, fault_of};
 
 use crate::lexeme::{Lexeme, lexeme_at};
 use crate::token::Token;
 use crate::walk::Walk;
-use rec_text::Fault;
+use rec_text::{Fault, Space};
 use std::alloc::Global;
 
 /// An expression has at most so many tokens.
 const MOST_TOKENS: usize = 1000;
-
-/// Whether a byte is a blank or a newline.
-fn is_space(byte: u8) -> bool
-    ensures { result ≡ stands_between byte }
-{
-    byte == b' ' || byte == b'\t' || byte == b'\n'
-}
 
 /// The tokens of an expression. The leftmost fault is refused with its place.
 pub(crate) fn tokens_of(alloc: Global, text: &[u8]) -> Result<Vec<Token>, Fault>
@@ -29,7 +22,7 @@ pub(crate) fn tokens_of(alloc: Global, text: &[u8]) -> Result<Vec<Token>, Fault>
     let mut walk = Walk::start(alloc);
     let mut at = 0;
     while at < text.len() {
-        if is_space(text[at]) {
+        if Space::BlankOrNewline.has(text[at]) {
             at += 1;
             continue;
         }

@@ -6,19 +6,9 @@ mod choices;
 mod evaluation;
 mod evaluator;
 mod expr;
-#[cfg(test)]
-mod expr_tests;
 mod field_list;
-#[cfg(test)]
-mod field_list_tests;
-#[cfg(test)]
-mod growth_tests;
 mod index_list;
-#[cfg(test)]
-mod index_list_tests;
 mod integer;
-#[cfg(test)]
-mod integer_tests;
 mod laws;
 mod lexeme;
 mod lexer;
@@ -27,13 +17,7 @@ mod occurrences;
 mod operand;
 mod parser;
 mod pattern;
-#[cfg(test)]
-mod rows;
-#[cfg(test)]
-mod selection_tests;
 mod token;
-#[cfg(test)]
-mod token_tests;
 mod tree;
 mod walk;
 
@@ -43,4 +27,5 @@ pub use field_list::{FieldList, Item};
 pub use index_list::{IndexList, Span};
 pub use integer::{int_of, trimmed};
 pub use laws::{one_expression, walk_is_grammar};
+pub use pattern::{is_found, pattern_of};
 pub use rec_text::{Bytes, Element, Fault};

@@ -1,23 +1,21 @@
-//! Builds patterns from their texts.
+//! Builds patterns from their texts, and finds them in others.
 ghost use Rattle.std.specs.Prelude.{◌≡◌, ◌⊎◌, All, Any, true, IfOk, IfErr, IsErrOf};
 ghost use Rattle.std.specs.Str.{is_utf8};
 ghost use Rattle.rec_sex.specs.Patterns.{IsBuiltFrom, IsRefusedPattern};
+ghost use Rattle.regex.specs.Strings.{matcher_pattern};
 ghost use Rattle.rec_sex.specs.Expressions.{AreBuiltFrom};
+ghost use Rattle.rec_sex.specs.Meaning.{is_found as is_found_in_text};
 
 use rec_text::{Bytes, Fault};
-use regex::Regex;
+use regex::{Matcher, Regex};
 use std::alloc::Global;
 
 /// The pattern of a text.
-fn pattern_of(alloc: Global, text: &[u8]) -> Result<Regex, Fault>
-    requires { is_utf8 text.now ≡ true }
+pub fn pattern_of(alloc: Global, text: &str) -> Result<Regex, Fault>
     ensures built { IfOk result (IsBuiltFrom text.now) }
     ensures refused { IsErrOf result Fault.BadPattern → IsRefusedPattern text.now }
     ensures refusals { IfErr result (λ fault. (fault ≡ Fault.OutOfMemory) ⊎ (fault ≡ Fault.BadPattern)) }
 {
-    let Ok(text) = std::str::from_utf8(text) else {
-        unreachable!()
-    };
     match Regex::new(alloc, text) {
         Ok(pattern) => Ok(pattern),
         Err(regex::Error::OutOfMemory) => Err(Fault::OutOfMemory),
@@ -34,7 +32,21 @@ pub(crate) fn patterns_of(alloc: Global, texts: &[Bytes]) -> Result<Vec<Regex>, 
 {
     let mut patterns = Vec::new(alloc);
     for text in texts {
-        patterns.push(pattern_of(alloc, text.as_slice())?)?;
+        let Ok(text) = std::str::from_utf8(text.as_slice()) else {
+            unreachable!()
+        };
+        patterns.push(pattern_of(alloc, text)?)?;
     }
     Ok(patterns)
+}
+
+/// Whether the pattern of a matcher is found in a text. Texts that aren't UTF-8 hold none.
+pub fn is_found(matcher: &mut Matcher<'_>, text: &[u8]) -> bool
+    ensures found { result ≡ is_found_in_text (matcher_pattern matcher.old) text.now }
+    ensures same { matcher_pattern matcher.new ≡ matcher_pattern matcher.old }
+{
+    match std::str::from_utf8(text) {
+        Ok(text) => matcher.is_match(text),
+        Err(_) => false,
+    }
 }

@@ -1,23 +1,21 @@
 -- Values as they are written, line by line.
-use Rattle.std.proofs.Common.{◌≡◌, ℕ, Bool, true, false, IsTrue, List, [], ◌∷◌, ◌++◌, ◌==◌, ◌&&◌, not, Result, Ok, Err, OnOk, sym, ap, refl, ◌∙◌, append_assoc, append-nil}
-use Rattle.std.specs.Prelude.{if◌then◌else◌}
-use Rattle.std.specs.Result.{is_ok}
-use Rattle.std.proofs.lemmas.Bool.{and_parts, not-true}
-use Rattle.rec_text.specs.Lines.{is_unbroken, ends_backslash, BeginsLine}
+use Rattle.std.proofs.Common.{◌≡◌, ℕ, Bool, true, false, List, [], ◌∷◌, ◌++◌, ◌==◌, ◌&&◌, not, Result, sym, ap, refl, ◌∙◌, append_assoc, append-nil}
+use Rattle.std.proofs.lemmas.Bool.{ne_eqb}
+use Rattle.rec_text.specs.Lines.{HasNoNewline, ends_backslash, BeginsWithLine}
 use Rattle.rec_text.specs.Canonical.{folded, is_foldable, Extends}
 use Rattle.rec_text.proofs.LogicalLineLemmas.{ends_backslash-newline}
 
 -- ---- which values can be written
 
-is_foldable-line : (before : ℕ) (line behind : List ℕ) → IsTrue (is_unbroken line) → is_foldable before (line ++ 10 ∷ behind) ≡ (not (ends_backslash (before ∷ line)) && is_foldable 10 behind)
+is_foldable-line : (before : ℕ) (line behind : List ℕ) → HasNoNewline line → is_foldable before (line ++ 10 ∷ behind) ≡ (not (ends_backslash (before ∷ line)) && is_foldable 10 behind)
 is_foldable-line before [] behind unbroken = refl
 is_foldable-line before (x ∷ xs) behind unbroken =
-    let parts = and_parts _ _ unbroken in rw (not-true (x == 10) parts.0) (is_foldable-line x xs behind parts.1)
+    rw (ne_eqb x 10 unbroken.0) (is_foldable-line x xs behind unbroken.1)
 
-is_foldable-end : (before : ℕ) (line : List ℕ) → IsTrue (is_unbroken line) → is_foldable before line ≡ not (ends_backslash (before ∷ line))
+is_foldable-end : (before : ℕ) (line : List ℕ) → HasNoNewline line → is_foldable before line ≡ not (ends_backslash (before ∷ line))
 is_foldable-end before [] unbroken = refl
 is_foldable-end before (x ∷ xs) unbroken =
-    let parts = and_parts _ _ unbroken in rw (not-true (x == 10) parts.0) (is_foldable-end x xs parts.1)
+    rw (ne_eqb x 10 unbroken.0) (is_foldable-end x xs unbroken.1)
 
 -- the rest decides
 pub record DecidesFoldable (value rest : List ℕ) : Type 0 where
@@ -30,12 +28,12 @@ is_foldable-same before after (b ∷ bs) e = rw e
 pub DecidesFoldable-none : (value : List ℕ) → DecidesFoldable value value
 DecidesFoldable-none value = record { same = is_foldable-same 32 10 value refl }
 
-module _ {value rest line behind : List ℕ} (so_far : DecidesFoldable value rest) (first : BeginsLine rest line behind) where
+module _ {value rest line behind : List ℕ} (so_far : DecidesFoldable value rest) (first : BeginsWithLine rest line behind) where
   by_line : is_foldable 32 value ≡ (not (ends_backslash line) && is_foldable 10 behind)
   by_line =
       so_far.same
-      ∙ ap (is_foldable 10) first.parts
-      ∙ is_foldable-line 10 line behind first.unbroken
+      ∙ ap (is_foldable 10) first.whole
+      ∙ is_foldable-line 10 line behind first.first
       ∙ ap (λ ends. not ends && is_foldable 10 behind) (ends_backslash-newline line)
 
   pub DecidesFoldable-next : false ≡ ends_backslash line → DecidesFoldable value behind
@@ -48,21 +46,21 @@ pub not-moved : (none some ends : Bool) → some ≡ not none → some ≡ ends 
 not-moved true some ends e f = ap not (sym e ∙ f)
 not-moved false some ends e f = ap not (sym e ∙ f)
 
-pub end_decides : {value rest : List ℕ} → DecidesFoldable value rest → IsTrue (is_unbroken rest) → not (ends_backslash rest) ≡ is_foldable 32 value
+pub end_decides : {value rest : List ℕ} → DecidesFoldable value rest → HasNoNewline rest → not (ends_backslash rest) ≡ is_foldable 32 value
 end_decides {value} {rest} so_far unbroken =
     sym (so_far.same ∙ is_foldable-end 10 rest unbroken ∙ ap not (ends_backslash-newline rest))
 
 -- ---- how they are written
 
-folded-line : (line behind : List ℕ) → IsTrue (is_unbroken line) → folded (line ++ 10 ∷ behind) ≡ line ++ 10 ∷ 43 ∷ 32 ∷ folded behind
+folded-line : (line behind : List ℕ) → HasNoNewline line → folded (line ++ 10 ∷ behind) ≡ line ++ 10 ∷ 43 ∷ 32 ∷ folded behind
 folded-line [] behind unbroken = refl
 folded-line (x ∷ xs) behind unbroken =
-    let parts = and_parts _ _ unbroken in rw (not-true (x == 10) parts.0) (ap (λ bs. x ∷ bs) (folded-line xs behind parts.1))
+    rw (ne_eqb x 10 unbroken.0) (ap (λ bs. x ∷ bs) (folded-line xs behind unbroken.1))
 
-folded-end : (line : List ℕ) → IsTrue (is_unbroken line) → folded line ≡ line
+folded-end : (line : List ℕ) → HasNoNewline line → folded line ≡ line
 folded-end [] unbroken = refl
 folded-end (x ∷ xs) unbroken =
-    let parts = and_parts _ _ unbroken in rw (not-true (x == 10) parts.0) (ap (λ bs. x ∷ bs) (folded-end xs parts.1))
+    rw (ne_eqb x 10 unbroken.0) (ap (λ bs. x ∷ bs) (folded-end xs unbroken.1))
 
 -- what is done, with the rest of the value behind it, is what was there before and the value
 pub record HasFolded (old value done rest : List ℕ) : Type 0 where
@@ -75,22 +73,16 @@ HasFolded-none old value = record { whole = refl; front = ([], sym (append-nil o
 pub Extends-more : (old done more new : List ℕ) → Extends old done → new ≡ done ++ more → Extends old new
 Extends-more old done more new before e = (before.0 ++ more, e ∙ ap (λ bs. bs ++ more) before.1 ∙ append_assoc old before.0 more)
 
-pub HasFolded-next : {old value done rest line behind : List ℕ} → HasFolded old value done rest → BeginsLine rest line behind → (mid new : List ℕ) → mid ≡ done ++ line → new ≡ mid ++ 10 ∷ 43 ∷ 32 ∷ [] → HasFolded old value new behind
+pub HasFolded-next : {old value done rest line behind : List ℕ} → HasFolded old value done rest → BeginsWithLine rest line behind → (mid new : List ℕ) → mid ≡ done ++ line → new ≡ mid ++ 10 ∷ 43 ∷ 32 ∷ [] → HasFolded old value new behind
 HasFolded-next {old = old} {done = done} {line = line} {behind = behind} so_far first mid new extended marked =
     record {
       whole = ap (λ bs. bs ++ folded behind) (marked ∙ ap (λ bs. bs ++ 10 ∷ 43 ∷ 32 ∷ []) extended)
           ∙ append_assoc (done ++ line) (10 ∷ 43 ∷ 32 ∷ []) (folded behind)
           ∙ append_assoc done line (10 ∷ 43 ∷ 32 ∷ folded behind)
-          ∙ ap (λ bs. done ++ bs) (sym (ap folded first.parts ∙ folded-line line behind first.unbroken))
+          ∙ ap (λ bs. done ++ bs) (sym (ap folded first.whole ∙ folded-line line behind first.first))
           ∙ so_far.whole;
       front = Extends-more old mid _ new (Extends-more old done line mid so_far.front extended) marked;
     }
 
-pub HasFolded-all : {old value done rest : List ℕ} → HasFolded old value done rest → IsTrue (is_unbroken rest) → done ++ rest ≡ old ++ folded value
+pub HasFolded-all : {old value done rest : List ℕ} → HasFolded old value done rest → HasNoNewline rest → done ++ rest ≡ old ++ folded value
 HasFolded-all {done = done} {rest = rest} so_far unbroken = ap (λ bs. done ++ bs) (sym (folded-end rest unbroken)) ∙ so_far.whole
-
--- ---- a call that appends, and whose answer is handed on
-
-pub OnOk-appended : {T E : Type 0} (now done more whole : List ℕ) (r : Result T E) → now ≡ (if is_ok r then done ++ more else done) → done ++ more ≡ whole → OnOk r (now ≡ whole)
-OnOk-appended now done more whole (Ok x) e parts = e ∙ parts
-OnOk-appended now done more whole (Err fault) e parts = tt

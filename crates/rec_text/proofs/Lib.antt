@@ -1,9 +1,11 @@
+pub mod ListLemmas
 pub mod PlaceLemmas
 pub mod LineLemmas
 pub mod LogicalLineLemmas
 pub mod EndLemmas
 pub mod NameLemmas
 pub mod SinkLemmas
+pub mod ElementLemmas
 pub mod RangeLemmas
 pub mod RunLemmas
 pub mod RecordLemmas

@@ -1,6 +1,6 @@
 -- The records of the elements so far, with one element more.
 use Rattle.std.proofs.Common.{◌≡◌, ℕ, ◌+◌, ◌-◌, ◌<◌, ◌≤◌, ◌⊎◌, inl, inr, Bool, true, false, not, List, [], ◌∷◌, ◌++◌, Option, Some, None, length, suc, zero, refl, sym, ap, subst, ◌∙◌, arith}
-use Rattle.std.proofs.lemmas.Bool.{cases_lt, false≢true}
+use Rattle.std.proofs.lemmas.Bool.{cases_Bool, cases_lt, false≢true}
 use Rattle.std.proofs.lemmas.List.{append-nil, length-append}
 use Rattle.std.specs.List.{AllByRecursion, slice_get}
 use Rattle.std.specs.Option.{option_map_or, option_to_list}
@@ -11,11 +11,8 @@ use Rattle.rec_text.specs.Elements.{Piece}
 use Rattle.rec_text.specs.Listed.{AreFull, AreListed}
 use Rattle.rec_text.specs.Records.{IsRun, AreAscending, LiesIn, AreRecords, IsRecord, is_field_at, is_full_at, is_field_piece, is_blank_piece}
 use Rattle.rec_text.specs.Scanned.{range}
-use Rattle.rec_text.proofs.RangeLemmas.{LiesIn-nil, LiesIn-here, LiesIn-there, LiesIn-cases, AllByRecursion-weaker}
-
-bool_cases : (b : Bool) → (b ≡ true) ⊎ (b ≡ false)
-bool_cases true = inl refl
-bool_cases false = inr refl
+use Rattle.rec_text.proofs.ListLemmas.{AllByRecursion-weaker, AllByRecursion-both, AllByRecursion-push, AllByRecursion-split}
+use Rattle.rec_text.proofs.RangeLemmas.{LiesIn-nil, LiesIn-here, LiesIn-there, LiesIn-cases}
 
 -- ---- the element of an index
 
@@ -94,20 +91,6 @@ LiesIn-longer (r ∷ rs) last end i le lies =
       | inr there ↦ LiesIn-there r (rs ++ range last.start end ∷ []) i (LiesIn-longer rs last end i le there)
     ]
 
-AllByRecursion-both : {X : Type 0} (P Q R : X → Type 0) → ((x : X) → P x → Q x → R x) → (xs : List X) → AllByRecursion P xs → AllByRecursion Q xs → AllByRecursion R xs
-AllByRecursion-both P Q R f [] ps qs = tt
-AllByRecursion-both P Q R f (x ∷ xs) ps qs = (f x ps.0 qs.0, AllByRecursion-both P Q R f xs ps.1 qs.1)
-
-AllByRecursion-push : {X : Type 0} (P : X → Type 0) (xs : List X) (last : X) → AllByRecursion P xs → P last → AllByRecursion P (xs ++ last ∷ [])
-AllByRecursion-push P [] last all h = (h, tt)
-AllByRecursion-push P (x ∷ xs) last all h = (all.0, AllByRecursion-push P xs last all.1 h)
-
-AllByRecursion-split : {X : Type 0} (P : X → Type 0) (xs : List X) (last : X) → AllByRecursion P (xs ++ last ∷ []) → AllByRecursion P xs × P last
-AllByRecursion-split P [] last all = (tt, all.0)
-AllByRecursion-split P (x ∷ xs) last all =
-    let rest = AllByRecursion-split P xs last all.1 in
-    ((all.0, rest.0), rest.1)
-
 -- ---- the elements that are full up to an index
 
 record IsTail (test : ℕ → Bool) (size from : ℕ) : Type 0 where
@@ -118,7 +101,7 @@ record IsTail (test : ℕ → Bool) (size from : ℕ) : Type 0 where
 tail_from : (test : ℕ → Bool) (size : ℕ) → (from : ℕ) × IsTail test size from
 tail_from test zero = (0, record { low = omega arith; passes = λ i low high. absurd (omega arith); begins = λ i e. absurd (omega arith) })
 tail_from test (suc size) =
-    elim (bool_cases (test size)) [
+    elim (cases_Bool (test size)) [
       | inl holds ↦
           let rest = tail_from test size in (
             rest.0,
@@ -239,7 +222,7 @@ module _ (pieces : List Piece) (p : Piece) where
   -- the last element is no field
   record-beside : is_field_piece p ≡ false → (r : Range ℕ) → IsRecord pieces r → IsRecord more r
   record-beside none r h =
-      elim (bool_cases (is_full p)) [
+      elim (cases_Bool (is_full p)) [
         | inr fails ↦ record-apart r h (λ _. fails)
         | inl full ↦
             elim (cases_lt h.paragraph.end (length pieces)) [
@@ -376,7 +359,7 @@ module _ (pieces : List Piece) (p : Piece) where
                     let here : length pieces + 1 - 1 ≡ length pieces = omega arith in
                     rw here (holds_at-new is_field_piece pieces p ∙ holds);
                 before = λ i low high. field-old i high ∙
-                    elim (bool_cases (is_field_at pieces i)) [
+                    elim (cases_Bool (is_field_at pieces i)) [
                       | inl field ↦ absurd (h.goes_on i field (λ j above below. tail.1.passes j (omega arith) below))
                       | inr none ↦ none
                     ];

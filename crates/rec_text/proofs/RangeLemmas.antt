@@ -4,6 +4,7 @@ use Rattle.std.specs.List.{AllByRecursion}
 use Rattle.std.specs.declared.ops.Range.{Range}
 use Rattle.rec_text.specs.Records.{AreAscending, LiesIn}
 use Rattle.rec_text.specs.Scanned.{range}
+use Rattle.rec_text.proofs.ListLemmas.{AllByRecursion-weaker}
 
 pub LiesIn-nil : (i : ℕ) → LiesIn [] i → ⊥
 LiesIn-nil i (k, x, fits, at, within) = omega (arith, fits)
@@ -32,10 +33,6 @@ LiesIn-low least (run ∷ runs) i some h lies =
       | inl here ↦ omega (arith, h.0, here.0)
       | inr there ↦ omega (arith, h.0, some.0, LiesIn-low run.end runs i some.1 h.1 there)
     ]
-
-pub AllByRecursion-weaker : {X : Type 0} (P Q : X → Type 0) → ((x : X) → P x → Q x) → (xs : List X) → AllByRecursion P xs → AllByRecursion Q xs
-AllByRecursion-weaker P Q f [] all = tt
-AllByRecursion-weaker P Q f (x ∷ xs) all = (f x all.0, AllByRecursion-weaker P Q f xs all.1)
 
 -- ---- at most one list of parts
 

@@ -7,6 +7,7 @@ use Rattle.rec_text.specs.declared.fault.Fault.TheVariants.{BadLine, OpenLine}
 use Rattle.rec_text.specs.Bytes.{is_nil, begins_plus}
 use Rattle.rec_text.specs.Elements.{Piece, IsElement, EndInNewlines, AreElementsOf, text_of}
 use Rattle.rec_text.specs.Reading.{begins_element, line_after, AreBefore, HasBadLine, HasOpenLine, IsReading}
+use Rattle.rec_text.proofs.ListLemmas.{is_nil-push}
 use Rattle.rec_text.proofs.CutLemmas.{element_is_apart}
 use Rattle.rec_text.proofs.WalkLemmas.{AreCuts, IsWalk, IsStuck-nil, IsStuck-bad, IsStuck-open, begins_open_field, one_walk}
 
@@ -40,10 +41,6 @@ pub record Reads (text : List ℕ) (answer : Result (List Piece) Fault) : Type 0
 is_nil-false : (bs : List ℕ) → bs ≢ [] → is_nil bs ≡ false
 is_nil-false [] some = absurd (some refl)
 is_nil-false (b ∷ bs) some = refl
-
-is_nil-push : (bs : List ℕ) (b : ℕ) → is_nil (bs ++ b ∷ []) ≡ false
-is_nil-push [] b = refl
-is_nil-push (c ∷ cs) b = refl
 
 Reads-elements : (text : List ℕ) (pieces : List Piece) → AreElementsOf pieces text → Reads text (Ok pieces)
 Reads-elements text pieces are = record {

@@ -1,6 +1,6 @@
 -- Paragraphs and records: the lists of their ranges, and that there are no others.
-use Rattle.std.proofs.Common.{◌≡◌, ℕ, ◌+◌, ◌-◌, ◌<◌, ◌≤◌, ◌⊎◌, inl, inr, Bool, true, false, not, List, [], ◌∷◌, Option, Some, None, length, suc, zero, refl, sym, ap, ◌∙◌, arith}
-use Rattle.std.proofs.lemmas.Bool.{cases_lt, false≢true}
+use Rattle.std.proofs.Common.{◌≡◌, ℕ, ◌+◌, ◌-◌, ◌<◌, ◌≤◌, inl, inr, Bool, true, false, not, List, [], ◌∷◌, Option, Some, None, length, suc, zero, refl, sym, ap, ◌∙◌, arith}
+use Rattle.std.proofs.lemmas.Bool.{cases_Bool, cases_lt, false≢true}
 use Rattle.std.specs.List.{AllByRecursion, slice_get, cons_option}
 use Rattle.std.specs.Option.{option_map_or}
 use Rattle.std.specs.declared.ops.Range.{Range}
@@ -80,16 +80,12 @@ module _ (test : ℕ → Bool) (to : ℕ) where
         behind = h.behind;
       }
 
-  bool_cases : (b : Bool) → (b ≡ true) ⊎ (b ≡ false)
-  bool_cases true = inl refl
-  bool_cases false = inr refl
-
   IsNarrowed-narrowed_from : (from count : ℕ) → from + count ≡ to → IsNarrowed test from to (narrowed_from test from count)
   unfolding narrowed_from
   IsNarrowed-narrowed_from from zero e = λ i low high. absurd (omega arith)
   IsNarrowed-narrowed_from from (suc count) e =
       let rest : IsNarrowed test (from + 1) to (narrowed_from test (from + 1) count) = IsNarrowed-narrowed_from (from + 1) count (omega arith) in
-      elim (bool_cases (test from)) [
+      elim (cases_Bool (test from)) [
         | inl holds ↦ rw holds (IsSpan-reaching from _ (omega arith) holds rest)
         | inr fails ↦ rw fails (IsNarrowed-skip from _ fails rest)
       ]
@@ -255,3 +251,10 @@ OneListOfRecords-holds =
       paragraphs = λ pieces some other h k. one_list_of_runs (is_full_at pieces) (length pieces) some other h k;
       records = one_list_of_records;
     }
+
+-- there are no more records than elements
+pub length-records : (pieces : List Piece) (least : ℕ) (records : List (Range ℕ)) → least ≤ length pieces → AllByRecursion (IsRecord pieces) records → AreAscending least records
+    → least + length records ≤ length pieces
+length-records pieces least [] within each ascending = omega arith
+length-records pieces least (fields ∷ records) within each ascending =
+    omega (arith, each.0.some, ascending.0, length-records pieces fields.end records (omega (arith, each.0.high, each.0.is_paragraph.within)) each.1 ascending.1)

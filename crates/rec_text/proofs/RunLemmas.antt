@@ -1,12 +1,13 @@
 -- The maximal runs of a test.
-use Rattle.std.proofs.Common.{◌≡◌, ◌≢◌, ℕ, ◌+◌, ◌-◌, ◌<◌, ◌≤◌, ◌⊎◌, inl, inr, Bool, true, false, not, List, [], ◌∷◌, ◌==◌, suc, zero, refl, sym, ap, subst, ◌∙◌, arith}
-use Rattle.std.proofs.lemmas.Bool.{cases_lt, false≢true}
+use Rattle.std.proofs.Common.{◌≡◌, ◌≢◌, ℕ, ◌+◌, ◌-◌, ◌<◌, ◌≤◌, inl, inr, Bool, true, false, not, List, [], ◌∷◌, ◌==◌, suc, zero, refl, sym, ap, subst, ◌∙◌, arith}
+use Rattle.std.proofs.lemmas.Bool.{cases_Bool, cases_lt, false≢true}
 use Rattle.std.proofs.lemmas.Bool.Decides.{nat_tests}
 use Rattle.std.specs.List.{AllByRecursion}
 use Rattle.std.specs.declared.ops.Range.{Range}
 use Rattle.rec_text.specs.Records.{IsRun, AreAscending, LiesIn, AreRuns}
 use Rattle.rec_text.specs.Scanned.{range, extended, runs_from, runs_to, IsFirstIn}
-use Rattle.rec_text.proofs.RangeLemmas.{LiesIn-nil, LiesIn-here, LiesIn-there, LiesIn-cases, LiesIn-low, AreAscending-from, AllByRecursion-weaker, one_list_of_parts, ArePartsFrom}
+use Rattle.rec_text.proofs.ListLemmas.{AllByRecursion-weaker}
+use Rattle.rec_text.proofs.RangeLemmas.{LiesIn-nil, LiesIn-here, LiesIn-there, LiesIn-cases, LiesIn-low, AreAscending-from, one_list_of_parts, ArePartsFrom}
 
 -- ---- the list, step by step
 
@@ -85,10 +86,6 @@ module _ (test : ℕ → Bool) (size : ℕ) where
             ];
       }
 
-  bool_cases : (b : Bool) → (b ≡ true) ⊎ (b ≡ false)
-  bool_cases true = inl refl
-  bool_cases false = inr refl
-
   run_of_one : (low : ℕ) → low < size → test low ≡ true → (low + 1 < size → test (low + 1) ≡ false) → IsRunFrom low (range low (low + 1))
   run_of_one low lt holds stops =
       record {
@@ -109,7 +106,7 @@ module _ (test : ℕ → Bool) (size : ℕ) where
       record {
         each = (
           run_of_one low lt holds (λ more.
-              elim (bool_cases (test (low + 1))) [
+              elim (cases_Bool (test (low + 1))) [
                 | inl passes ↦ absurd (LiesIn-nil (low + 1) (h.complete (low + 1) (omega arith) more passes))
                 | inr fails ↦ fails
               ]),
@@ -130,7 +127,7 @@ module _ (test : ℕ → Bool) (size : ℕ) where
       record {
         each = (
           run_of_one low lt holds (λ more.
-              elim (bool_cases (test (low + 1))) [
+              elim (cases_Bool (test (low + 1))) [
                 | inl passes ↦ absurd (omega (arith, LiesIn-low run.start (run ∷ runs) (low + 1) some (omega arith, h.ascending.1) (h.complete (low + 1) (omega arith) more passes)))
                 | inr fails ↦ fails
               ]),
@@ -179,7 +176,7 @@ module _ (test : ℕ → Bool) (size : ℕ) where
   AreRunsFrom-take : (low : ℕ) (runs : List (Range ℕ)) → low < size → test low ≡ true → AreRunsFrom (low + 1) runs → AreRunsFrom low (extended low runs)
   AreRunsFrom-take low [] lt holds h = AreRunsFrom-alone low lt holds h
   AreRunsFrom-take low (run ∷ runs) lt holds h =
-      elim (bool_cases (run.start == low + 1)) [
+      elim (cases_Bool (run.start == low + 1)) [
         | inl same ↦
             let next : run.start ≡ low + 1 = grind (arith, nat_tests) in
             rw same (AreRunsFrom-joined low run runs holds next h)
@@ -193,7 +190,7 @@ module _ (test : ℕ → Bool) (size : ℕ) where
   AreRunsFrom-runs_from low zero e = record { each = tt; ascending = tt; complete = λ i le lt holds. absurd (omega arith) }
   AreRunsFrom-runs_from low (suc count) e =
       let rest : AreRunsFrom (low + 1) (runs_from test (low + 1) count) = AreRunsFrom-runs_from (low + 1) count (omega arith) in
-      elim (bool_cases (test low)) [
+      elim (cases_Bool (test low)) [
         | inl holds ↦ rw holds (AreRunsFrom-take low _ (omega arith) holds rest)
         | inr fails ↦ rw fails (AreRunsFrom-skip low _ fails rest)
       ]

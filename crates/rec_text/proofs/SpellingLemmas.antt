@@ -1,12 +1,12 @@
 -- The value of a field that is spelled line by line.
-use Rattle.std.proofs.Common.{◌≡◌, ℕ, ◌+◌, Bool, true, false, IsTrue, List, [], ◌∷◌, ◌++◌, ◌==◌, ◌⊎◌, inl, inr, Some, suc, map, length, drop, sym, ap, refl, ◌∙◌, append_assoc, append-nil}
+use Rattle.std.proofs.Common.{◌≡◌, ℕ, ◌+◌, Bool, false, IsTrue, List, [], ◌∷◌, ◌++◌, ◌==◌, ◌⊎◌, inl, inr, Some, suc, map, length, drop, sym, ap, refl, ◌∙◌, append_assoc, append-nil}
 use Rattle.std.specs.Option.{option_map, option_map_or}
-use Rattle.std.specs.List.{AllByRecursion, concat, flat_map, join_with_byte, list_all}
+use Rattle.std.specs.List.{AllByRecursion, concat, flat_map, join_with_byte}
 use Rattle.std.proofs.lemmas.Bool.{and_parts}
 use Rattle.rec_text.specs.declared.element.Kind.{Kind}
 use Rattle.rec_text.specs.declared.element.Kind.TheVariants.{Field}
 use Rattle.rec_text.specs.Bytes.{is_blank, begins_name}
-use Rattle.rec_text.specs.Lines.{is_unbroken, ends_backslash}
+use Rattle.rec_text.specs.Lines.{HasNoNewline, ends_backslash}
 use Rattle.rec_text.specs.Elements.{Piece, colon_of}
 use Rattle.rec_text.specs.Values.{without_first, body_value, value_of}
 use Rattle.rec_text.specs.Spellings.{LogicalLine, joined, line_bytes, plus_bytes, begins_with, IsLogicalLine, is_name, IsSpelledValue}
@@ -45,27 +45,25 @@ ends_backslash-joint [] rest = refl
 ends_backslash-joint (x ∷ []) rest = refl
 ends_backslash-joint (x ∷ y ∷ ys) rest = ends_backslash-joint (y ∷ ys) rest
 
-rest_value-parts : (parts : List (List ℕ)) (behind : List ℕ) → IsTrue (list_all is_unbroken parts) → ends_backslash (joined parts) ≡ false → rest_value 10 (joined parts ++ 10 ∷ behind) ≡ concat parts ++ next_value behind
-rest_value-parts [] behind unbroken ends = rest_value-line 10 [] behind refl refl
+rest_value-parts : (parts : List (List ℕ)) (behind : List ℕ) → AllByRecursion HasNoNewline parts → ends_backslash (joined parts) ≡ false → rest_value 10 (joined parts ++ 10 ∷ behind) ≡ concat parts ++ next_value behind
+rest_value-parts [] behind unbroken ends = rest_value-line 10 [] behind tt refl
 rest_value-parts (part ∷ []) behind unbroken ends =
-    rest_value-line 10 part behind (and_parts _ true unbroken).0 (ends_backslash-newline part ∙ ends) ∙ ap (λ text. text ++ next_value behind) (sym (append-nil part))
+    rest_value-line 10 part behind unbroken.0 (ends_backslash-newline part ∙ ends) ∙ ap (λ text. text ++ next_value behind) (sym (append-nil part))
 rest_value-parts (part ∷ next ∷ parts) behind unbroken ends =
-    let both = and_parts (is_unbroken part) (list_all is_unbroken (next ∷ parts)) unbroken in
     let ends_rest : ends_backslash (joined (next ∷ parts)) ≡ false =
     sym (ends_backslash-joint part (joined (next ∷ parts)) ∙ ends_backslash-newline (joined (next ∷ parts))) ∙ ends in
     ap (rest_value 10) (append_assoc part (92 ∷ 10 ∷ joined (next ∷ parts)) (10 ∷ behind))
-    ∙ rest_value-joined 10 part (joined (next ∷ parts) ++ 10 ∷ behind) both.0
-    ∙ ap (λ value. part ++ value) (rest_value-parts (next ∷ parts) behind both.1 ends_rest)
+    ∙ rest_value-joined 10 part (joined (next ∷ parts) ++ 10 ∷ behind) unbroken.0
+    ∙ ap (λ value. part ++ value) (rest_value-parts (next ∷ parts) behind unbroken.1 ends_rest)
     ∙ sym (append_assoc part (concat (next ∷ parts)) (next_value behind))
 
-rest_value-last_parts : (parts : List (List ℕ)) → IsTrue (list_all is_unbroken parts) → rest_value 10 (joined parts) ≡ concat parts
+rest_value-last_parts : (parts : List (List ℕ)) → AllByRecursion HasNoNewline parts → rest_value 10 (joined parts) ≡ concat parts
 rest_value-last_parts [] unbroken = refl
 rest_value-last_parts (part ∷ []) unbroken =
-    rest_value-end 10 part (and_parts _ true unbroken).0 ∙ sym (append-nil part)
+    rest_value-end 10 part unbroken.0 ∙ sym (append-nil part)
 rest_value-last_parts (part ∷ next ∷ parts) unbroken =
-    let both = and_parts (is_unbroken part) (list_all is_unbroken (next ∷ parts)) unbroken in
-    rest_value-joined 10 part (joined (next ∷ parts)) both.0
-    ∙ ap (λ value. part ++ value) (rest_value-last_parts (next ∷ parts) both.1)
+    rest_value-joined 10 part (joined (next ∷ parts)) unbroken.0
+    ∙ ap (λ value. part ++ value) (rest_value-last_parts (next ∷ parts) unbroken.1)
 
 -- ---- the lines
 
@@ -82,7 +80,7 @@ follows test [] close newline (inl e) = ap (begins_with test) e
 follows test [] close newline (inr e) = ap (begins_with test) e ∙ newline
 follows test (line ∷ lines) close newline closed = newline
 
-rest_value-lines : (parts : List (List ℕ)) (plus : List LogicalLine) (close : List ℕ) → IsTrue (list_all is_unbroken parts) → ends_backslash (joined parts) ≡ false → AllByRecursion (IsLogicalLine (λ b. b == 32)) plus → (close ≡ []) ⊎ (close ≡ 10 ∷ []) → rest_value 10 (joined parts ++ (plus_bytes plus ++ close)) ≡ concat parts ++ plus_values plus
+rest_value-lines : (parts : List (List ℕ)) (plus : List LogicalLine) (close : List ℕ) → AllByRecursion HasNoNewline parts → ends_backslash (joined parts) ≡ false → AllByRecursion (IsLogicalLine (λ b. b == 32)) plus → (close ≡ []) ⊎ (close ≡ 10 ∷ []) → rest_value 10 (joined parts ++ (plus_bytes plus ++ close)) ≡ concat parts ++ plus_values plus
 rest_value-lines parts [] close unbroken ends all (inl e) =
     ap (λ bs. rest_value 10 (joined parts ++ bs)) e
     ∙ ap (rest_value 10) (append-nil (joined parts))

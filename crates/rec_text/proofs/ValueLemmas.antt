@@ -1,12 +1,13 @@
 -- The value of what stands behind a colon, line by line.
-use Rattle.std.proofs.Common.{◌≡◌, ℕ, Bool, true, false, IsTrue, List, [], ◌∷◌, ◌++◌, ◌==◌, ◌&&◌, not, map, length, sym, ap, refl, ◌∙◌, append_assoc, append-nil, arith}
+use Rattle.std.proofs.Common.{◌≡◌, ℕ, Bool, true, false, List, [], ◌∷◌, ◌++◌, ◌==◌, ◌&&◌, not, map, length, sym, ap, refl, ◌∙◌, append_assoc, append-nil, arith}
 use Rattle.std.specs.Prelude.{if◌then◌else◌}
 use Rattle.std.specs.List.{join_with_byte}
-use Rattle.std.proofs.lemmas.Bool.{and_parts, and_from, and_left, and_right, not-true, ne_eqb, eqb-true, not_from_true, not_from_false, false≢true}
+use Rattle.std.proofs.lemmas.Bool.{and_from, and_left, and_right, ne_eqb, eqb-true, not_from_true, not_from_false, false≢true}
 use Rattle.std.proofs.lemmas.List.{nil_from_length}
 use Rattle.rec_text.specs.Bytes.{is_blank, is_nil}
-use Rattle.rec_text.specs.Lines.{is_unbroken, ends_backslash, BeginsLine}
+use Rattle.rec_text.specs.Lines.{HasNoNewline, ends_backslash, BeginsWithLine}
 use Rattle.rec_text.specs.Values.{on_first, logical_lines, unfolded, without_first, without_mark, plus_value, lines_value, body_value, is_single}
+use Rattle.rec_text.proofs.ListLemmas.{is_nil-length}
 use Rattle.rec_text.proofs.LogicalLineLemmas.{ends_backslash-newline}
 
 -- ---- logical lines
@@ -138,44 +139,40 @@ rest_value-byte before b (c ∷ cs) e plain =
 
 -- ---- the value, line by line
 
-unbroken_begins : (line rest : List ℕ) (b : ℕ) → IsTrue (is_unbroken line) → (b == 10) ≡ false → begins_newline (line ++ b ∷ rest) ≡ false
+unbroken_begins : (line rest : List ℕ) (b : ℕ) → HasNoNewline line → (b == 10) ≡ false → begins_newline (line ++ b ∷ rest) ≡ false
 unbroken_begins [] rest b unbroken apart = apart
-unbroken_begins (x ∷ xs) rest b unbroken apart = not-true _ (and_parts _ _ unbroken).0
+unbroken_begins (x ∷ xs) rest b unbroken apart = ne_eqb x 10 unbroken.0
 
-unbroken_head : (xs : List ℕ) → IsTrue (is_unbroken xs) → begins_newline xs ≡ false
+unbroken_head : (xs : List ℕ) → HasNoNewline xs → begins_newline xs ≡ false
 unbroken_head [] unbroken = refl
-unbroken_head (x ∷ xs) unbroken = not-true _ (and_parts _ _ unbroken).0
+unbroken_head (x ∷ xs) unbroken = ne_eqb x 10 unbroken.0
 
-pub rest_value-joined : (before : ℕ) (front behind : List ℕ) → IsTrue (is_unbroken front) → rest_value before (front ++ 92 ∷ 10 ∷ behind) ≡ front ++ rest_value 10 behind
+pub rest_value-joined : (before : ℕ) (front behind : List ℕ) → HasNoNewline front → rest_value before (front ++ 92 ∷ 10 ∷ behind) ≡ front ++ rest_value 10 behind
 rest_value-joined before [] behind unbroken = rest_value-joint before behind
 rest_value-joined before (x ∷ xs) behind unbroken =
-    let parts = and_parts _ _ unbroken in
-    rest_value-byte before x (xs ++ 92 ∷ 10 ∷ behind) (not-true _ parts.0) (and_right _ _ (unbroken_begins xs (10 ∷ behind) 92 parts.1 refl))
-    ∙ ap (λ value. x ∷ value) (rest_value-joined x xs behind parts.1)
+    rest_value-byte before x (xs ++ 92 ∷ 10 ∷ behind) (ne_eqb x 10 unbroken.0) (and_right _ _ (unbroken_begins xs (10 ∷ behind) 92 unbroken.1 refl))
+    ∙ ap (λ value. x ∷ value) (rest_value-joined x xs behind unbroken.1)
 
 -- a line of at least one byte either goes on with a byte, or a newline follows one that is no backslash
-plain_before : (x : ℕ) (xs behind : List ℕ) → IsTrue (is_unbroken xs) → ends_backslash (x ∷ xs) ≡ false → (x == 92 && begins_newline (xs ++ 10 ∷ behind)) ≡ false
+plain_before : (x : ℕ) (xs behind : List ℕ) → HasNoNewline xs → ends_backslash (x ∷ xs) ≡ false → (x == 92 && begins_newline (xs ++ 10 ∷ behind)) ≡ false
 plain_before x [] behind unbroken ends = and_left _ _ ends
 plain_before x (y ∷ ys) behind unbroken ends = and_right (x == 92) (y == 10) (unbroken_head (y ∷ ys) unbroken)
 
-pub rest_value-line : (before : ℕ) (line behind : List ℕ) → IsTrue (is_unbroken line) → ends_backslash (before ∷ line) ≡ false → rest_value before (line ++ 10 ∷ behind) ≡ line ++ next_value behind
+pub rest_value-line : (before : ℕ) (line behind : List ℕ) → HasNoNewline line → ends_backslash (before ∷ line) ≡ false → rest_value before (line ++ 10 ∷ behind) ≡ line ++ next_value behind
 rest_value-line before [] behind unbroken ends = rest_value-newline before behind ends
 rest_value-line before (x ∷ xs) behind unbroken ends =
-    let parts = and_parts _ _ unbroken in
-    rest_value-byte before x (xs ++ 10 ∷ behind) (not-true _ parts.0) (plain_before x xs behind parts.1 ends)
-    ∙ ap (λ value. x ∷ value) (rest_value-line x xs behind parts.1 ends)
+    rest_value-byte before x (xs ++ 10 ∷ behind) (ne_eqb x 10 unbroken.0) (plain_before x xs behind unbroken.1 ends)
+    ∙ ap (λ value. x ∷ value) (rest_value-line x xs behind unbroken.1 ends)
 
-pub rest_value-end : (before : ℕ) (line : List ℕ) → IsTrue (is_unbroken line) → rest_value before line ≡ line
+pub rest_value-end : (before : ℕ) (line : List ℕ) → HasNoNewline line → rest_value before line ≡ line
 rest_value-end before [] unbroken = refl
 rest_value-end before (x ∷ xs) unbroken =
-    let parts = and_parts _ _ unbroken in
-    rest_value-byte before x xs (not-true _ parts.0) (and_right _ _ (unbroken_head xs parts.1))
-    ∙ ap (λ value. x ∷ value) (rest_value-end x xs parts.1)
+    rest_value-byte before x xs (ne_eqb x 10 unbroken.0) (and_right _ _ (unbroken_head xs unbroken.1))
+    ∙ ap (λ value. x ∷ value) (rest_value-end x xs unbroken.1)
 
-is_unbroken-front : (front back : List ℕ) → IsTrue (is_unbroken (front ++ back)) → IsTrue (is_unbroken front)
-is_unbroken-front [] back unbroken = refl
-is_unbroken-front (x ∷ xs) back unbroken =
-    let parts = and_parts _ _ unbroken in and_from _ _ parts.0 (is_unbroken-front xs back parts.1)
+HasNoNewline-front : (front back : List ℕ) → HasNoNewline (front ++ back) → HasNoNewline front
+HasNoNewline-front [] back unbroken = tt
+HasNoNewline-front (x ∷ xs) back unbroken = (unbroken.0, HasNoNewline-front xs back unbroken.1)
 
 next_value-more : (behind : List ℕ) → false ≡ (length behind == 0) → next_value behind ≡ 10 ∷ rest_value 10 (without_mark behind)
 next_value-more [] more = absurd (false≢true more)
@@ -196,12 +193,12 @@ HasJoined-none body done rest none text = record {
   whole = ap (λ value. value ++ rest_value 10 rest) none ∙ ap (rest_value 10) text ∙ sym (body_value-rest body);
 }
 
-module _ {body done rest line behind : List ℕ} (so_far : HasJoined body done rest) (first : BeginsLine rest line behind) where
+module _ {body done rest line behind : List ℕ} (so_far : HasJoined body done rest) (first : BeginsWithLine rest line behind) where
   pub HasJoined-joined : (front new : List ℕ) → line ≡ front ++ 92 ∷ [] → new ≡ done ++ front → HasJoined body new behind
   HasJoined-joined front new joined now =
-      let clean = is_unbroken-front front (92 ∷ []) (rw joined at first.unbroken) in
+      let clean = HasNoNewline-front front (92 ∷ []) (rw joined at first.first) in
       let cut : rest ≡ front ++ 92 ∷ 10 ∷ behind =
-      first.parts ∙ ap (λ l. l ++ 10 ∷ behind) joined ∙ append_assoc front (92 ∷ []) (10 ∷ behind) in
+      first.whole ∙ ap (λ l. l ++ 10 ∷ behind) joined ∙ append_assoc front (92 ∷ []) (10 ∷ behind) in
       record {
         whole = ap (λ value. value ++ rest_value 10 behind) now
             ∙ append_assoc done front (rest_value 10 behind)
@@ -211,7 +208,7 @@ module _ {body done rest line behind : List ℕ} (so_far : HasJoined body done r
 
   ended : ends_backslash line ≡ false → done ++ (line ++ next_value behind) ≡ body_value body
   ended ends =
-      ap (λ value. done ++ value) (sym (ap (rest_value 10) first.parts ∙ rest_value-line 10 line behind first.unbroken (ends_backslash-newline line ∙ ends)))
+      ap (λ value. done ++ value) (sym (ap (rest_value 10) first.whole ∙ rest_value-line 10 line behind first.first (ends_backslash-newline line ∙ ends)))
       ∙ so_far.whole
 
   pub HasJoined-next : (new after : List ℕ) → ends_backslash line ≡ false → false ≡ (length behind == 0) → new ≡ (done ++ line) ++ 10 ∷ [] → after ≡ without_mark behind → HasJoined body new after
@@ -233,7 +230,7 @@ module _ {body done rest line behind : List ℕ} (so_far : HasJoined body done r
             ∙ ended ends;
       }
 
-pub HasJoined-all : {body done rest : List ℕ} → HasJoined body done rest → IsTrue (is_unbroken rest) → done ++ rest ≡ body_value body
+pub HasJoined-all : {body done rest : List ℕ} → HasJoined body done rest → HasNoNewline rest → done ++ rest ≡ body_value body
 HasJoined-all {body} {done} {rest} so_far unbroken =
     ap (λ value. done ++ value) (sym (rest_value-end 10 rest unbroken)) ∙ so_far.whole
 
@@ -252,32 +249,28 @@ is_single-rest : (body : List ℕ) → is_single 58 body ≡ is_single 10 (witho
 is_single-rest [] = refl
 is_single-rest (b ∷ bs) = is_single_cases b bs (is_blank b) refl
 
-is_single-end : (before : ℕ) (text : List ℕ) → IsTrue (is_unbroken text) → is_single before text ≡ true
+is_single-end : (before : ℕ) (text : List ℕ) → HasNoNewline text → is_single before text ≡ true
 is_single-end before [] unbroken = refl
 is_single-end before (x ∷ xs) unbroken =
-    let parts = and_parts _ _ unbroken in rw (not-true (x == 10) parts.0) (is_single-end x xs parts.1)
+    rw (ne_eqb x 10 unbroken.0) (is_single-end x xs unbroken.1)
 
-is_single-line : (before : ℕ) (line behind : List ℕ) → IsTrue (is_unbroken line) → is_single before (line ++ 10 ∷ behind) ≡ (is_nil behind && not (ends_backslash (before ∷ line)))
+is_single-line : (before : ℕ) (line behind : List ℕ) → HasNoNewline line → is_single before (line ++ 10 ∷ behind) ≡ (is_nil behind && not (ends_backslash (before ∷ line)))
 is_single-line before [] behind unbroken = refl
 is_single-line before (x ∷ xs) behind unbroken =
-    let parts = and_parts _ _ unbroken in rw (not-true (x == 10) parts.0) (is_single-line x xs behind parts.1)
+    rw (ne_eqb x 10 unbroken.0) (is_single-line x xs behind unbroken.1)
 
-pub unbroken_is_single : (body text : List ℕ) → text ≡ without_first is_blank body → IsTrue (is_unbroken text) → true ≡ is_single 58 body
+pub unbroken_is_single : (body text : List ℕ) → text ≡ without_first is_blank body → HasNoNewline text → true ≡ is_single 58 body
 unbroken_is_single body text e unbroken = sym (is_single-rest body ∙ ap (is_single 10) (sym e) ∙ is_single-end 10 text unbroken)
 
-pub unbroken_value : (body text : List ℕ) → text ≡ without_first is_blank body → IsTrue (is_unbroken text) → text ≡ body_value body
+pub unbroken_value : (body text : List ℕ) → text ≡ without_first is_blank body → HasNoNewline text → text ≡ body_value body
 unbroken_value body text e unbroken = sym (body_value-rest body ∙ ap (rest_value 10) (sym e) ∙ rest_value-end 10 text unbroken)
 
-is_nil-length : (bs : List ℕ) → is_nil bs ≡ (length bs == 0)
-is_nil-length [] = refl
-is_nil-length (b ∷ bs) = sym (ne_eqb _ _ (λ e. omega arith))
-
-module _ (body : List ℕ) {text line behind : List ℕ} (e : text ≡ without_first is_blank body) (first : BeginsLine text line behind) where
+module _ (body : List ℕ) {text line behind : List ℕ} (e : text ≡ without_first is_blank body) (first : BeginsWithLine text line behind) where
   is_single_by_line : is_single 58 body ≡ ((length behind == 0) && not (ends_backslash line))
   is_single_by_line =
       is_single-rest body
-      ∙ ap (is_single 10) (sym e ∙ first.parts)
-      ∙ is_single-line 10 line behind first.unbroken
+      ∙ ap (is_single 10) (sym e ∙ first.whole)
+      ∙ is_single-line 10 line behind first.first
       ∙ ap (λ ends. is_nil behind && not ends) (ends_backslash-newline line)
       ∙ ap (λ none. none && not (ends_backslash line)) (is_nil-length behind)
 
@@ -294,7 +287,7 @@ module _ (body : List ℕ) {text line behind : List ℕ} (e : text ≡ without_f
   line_is_value none ends =
       let nothing : behind ≡ [] = nil_from_length behind (eqb-true _ _ (sym none)) in
       sym (body_value-rest body
-      ∙ ap (rest_value 10) (sym e ∙ first.parts)
-      ∙ rest_value-line 10 line behind first.unbroken (ends_backslash-newline line ∙ sym ends)
+      ∙ ap (rest_value 10) (sym e ∙ first.whole)
+      ∙ rest_value-line 10 line behind first.first (ends_backslash-newline line ∙ sym ends)
       ∙ ap (λ bs. line ++ next_value bs) nothing
       ∙ append-nil line)

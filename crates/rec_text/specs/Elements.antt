@@ -2,6 +2,7 @@
 use Rattle.std.specs.Prelude.{◌≡◌, ℕ, ◌+◌, Bool, true, false, IsTrue, List, [], ◌∷◌, ◌++◌, ◌==◌, ◌||◌, ◌&&◌, not, if◌then◌else◌, Option, Some, None, suc, drop, take}
 use Rattle.std.specs.Option.{option_map, option_map_or}
 use Rattle.std.specs.List.{AllByRecursion}
+use Rattle.std.specs.Str.{bytes_eq}
 use Rattle.rec_text.specs.declared.element.Kind.{Kind}
 use Rattle.rec_text.specs.declared.element.Kind.TheVariants.{Blank, Comment, Field}
 use Rattle.rec_text.specs.Bytes.{is_blank, begins_name, continues_name, is_nil, begins_plus, ends_newline}
@@ -97,3 +98,7 @@ name_of piece = elim piece.kind [
   | Comment ↦ []
   | Field ↦ option_map_or (λ c. take c piece.bytes) (colon_of piece.bytes) []
 ]
+
+-- the element has this name; one that is no field has the empty name
+abbrev pub has_name : List ℕ → Piece → Bool
+has_name name piece = bytes_eq (name_of piece) name

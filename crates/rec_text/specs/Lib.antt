@@ -1,4 +1,5 @@
 pub mod Bytes
+pub mod Spaces
 pub mod Lines
 pub mod Elements
 pub mod Reading
@@ -12,5 +13,6 @@ pub mod Listed
 pub mod Scanned
 pub mod Sought
 pub mod Faults
+pub mod Steps
 pub mod Sink
 pub mod Rules

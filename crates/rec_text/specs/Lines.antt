@@ -1,18 +1,18 @@
--- Lines of a text, cut at its newlines, for the functions that go over a text line by line.
-use Rattle.std.specs.Prelude.{◌≡◌, ℕ, Bool, true, false, IsTrue, List, [], ◌∷◌, ◌++◌, ◌==◌, ◌&&◌, not}
+-- Lines of a text, cut at its newlines.
+use Rattle.std.specs.Prelude.{◌≡◌, ◌≢◌, ℕ, Bool, false, List, [], ◌∷◌, ◌++◌, ◌==◌}
+use Rattle.std.specs.List.{AllByRecursion}
 
--- no byte is a newline
-abbrev pub is_unbroken : List ℕ → Bool
-is_unbroken [] = true
-is_unbroken (b ∷ bs) = not (b == 10) && is_unbroken bs
+-- there is no newline
+abbrev pub HasNoNewline : List ℕ → Type 0
+HasNoNewline text = AllByRecursion (λ b. b ≢ 10) text
+
+-- the text is this line, a newline and the rest
+pub record BeginsWithLine (text line rest : List ℕ) : Type 0 where
+  pub whole : text ≡ line ++ 10 ∷ rest
+  pub first : HasNoNewline line
 
 -- the last byte is a backslash
 abbrev pub ends_backslash : List ℕ → Bool
 ends_backslash [] = false
 ends_backslash (b ∷ []) = b == 92
 ends_backslash (b ∷ c ∷ cs) = ends_backslash (c ∷ cs)
-
--- a line comes first in the text, then a newline, then what is behind
-pub record BeginsLine (text line behind : List ℕ) : Type 0 where
-  pub unbroken : IsTrue (is_unbroken line)
-  pub parts : text ≡ line ++ 10 ∷ behind

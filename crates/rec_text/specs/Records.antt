@@ -1,5 +1,5 @@
 -- Paragraphs and records: ranges of elements, by their indexes from 0.
-use Rattle.std.specs.Prelude.{◌≡◌, ℕ, ◌+◌, ◌-◌, ◌<◌, ◌≤◌, Bool, true, false, not, List, [], ◌∷◌, length, slice_get, Any}
+use Rattle.std.specs.Prelude.{◌≡◌, ℕ, ◌+◌, ◌-◌, ◌<◌, ◌≤◌, Bool, true, false, not, List, [], ◌∷◌, length, drop, take, slice_get, Any}
 use Rattle.std.specs.List.{AllByRecursion}
 use Rattle.std.specs.Option.{option_map_or}
 use Rattle.std.specs.declared.ops.Range.{Range}
@@ -72,6 +72,14 @@ pub record AreRecords (pieces : List Piece) (records : List (Range ℕ)) : Type 
   pub each : AllByRecursion (IsRecord pieces) records
   pub ascending : AreAscending 0 records
   pub complete : (i : ℕ) → is_field_at pieces i ≡ true → LiesIn records i
+
+-- the elements of a range
+abbrev pub elements_in : List Piece → Range ℕ → List Piece
+elements_in pieces range = drop range.start (take range.end pieces)
+
+-- the elements of the record of an index; nothing where there is none
+abbrev pub record_at : List Piece → List (Range ℕ) → ℕ → List Piece
+record_at pieces records i = option_map_or (elements_in pieces) (slice_get records i) []
 
 -- at most one list is that of the paragraphs, and at most one that of the records
 pub record OneListOfRecords : Type 0 where

@@ -3,7 +3,7 @@ use Rattle.std.specs.Prelude.{◌≡◌, ℕ, Bool, false, IsTrue, List, [], ◌
 use Rattle.std.specs.List.{AllByRecursion, concat, flat_map, join_with_byte, list_all}
 use Rattle.rec_text.specs.declared.element.Kind.TheVariants.{Field}
 use Rattle.rec_text.specs.Bytes.{is_blank, begins_name, continues_name}
-use Rattle.rec_text.specs.Lines.{is_unbroken, ends_backslash}
+use Rattle.rec_text.specs.Lines.{HasNoNewline, ends_backslash}
 use Rattle.rec_text.specs.Elements.{Piece}
 
 -- a logical line: a blank that is dropped, or none, and the parts of its text, each on a physical line
@@ -31,7 +31,7 @@ begins_with test (b ∷ bs) = test b
 
 -- the parts hold no newline, no backslash stands at the end, and a blank of this kind is dropped, if one comes first
 pub record IsLogicalLine (dropped : ℕ → Bool) (line : LogicalLine) : Type 0 where
-  pub unbroken : IsTrue (list_all is_unbroken line.parts)
+  pub unbroken : AllByRecursion HasNoNewline line.parts
   pub ends : ends_backslash (joined line.parts) ≡ false
   pub mark : ((b : ℕ) × (line.mark ≡ b ∷ []) × IsTrue (dropped b)) ⊎ ((line.mark ≡ []) × (begins_with dropped (joined line.parts) ≡ false))
 

@@ -39,8 +39,8 @@ pub fn is_field_name(name: &[u8]) -> bool
     }
 }
 
-/// Whether no line of a value ends in a backslash.
-fn is_foldable(value: &[u8]) -> bool
+/// Whether no line of a value ends in a backslash: a value that recu writes.
+pub fn is_foldable(value: &[u8]) -> bool
     ensures { result ≡ can_be_folded 32 value.now }
 {
     let mut rest = value;
@@ -67,8 +67,9 @@ fn append_folded(out: &mut Vec<u8>, value: &[u8]) -> Result<(), AllocError>
     out.extend_from_slice(rest)
 }
 
-/// Appends a field. What was there before stays its front, also without memory for the rest.
-fn append_field(out: &mut Vec<u8>, name: &[u8], value: &[u8]) -> Result<(), AllocError>
+/// Appends the canonical field of this name and value, whether they can be read again or not. What was there before stays
+/// its front, also where memory ends.
+pub fn append_field(out: &mut Vec<u8>, name: &[u8], value: &[u8]) -> Result<(), AllocError>
     ensures field { OnOk result (out.new.items ≡ out.old.items ++ field_of name.now value.now) }
     ensures front { Extends out.old.items out.new.items }
 {

@@ -33,7 +33,7 @@ impl<'t> Database<'t> {
     ghost use Rattle.rec_text.specs.Elements.{text_of, AreElementsOf};
     ghost use Rattle.rec_text.specs.Reading.{line_after};
     ghost use Rattle.rec_text.specs.Places.{pieces_of, AreFrom, AreWhole};
-    ghost use Rattle.rec_text.specs.Records.{AreParagraphs, AreRecords};
+    ghost use Rattle.rec_text.specs.Records.{AreParagraphs, AreRecords, elements_in};
 
     pub(crate) fn of(
         text: &'t [u8],
@@ -53,7 +53,8 @@ impl<'t> Database<'t> {
 
     /// The text, which is the elements joined.
     pub fn text(&self) -> &'t [u8]
-        ensures { result.now ≡ text_of self.now }
+        ensures text { result.now ≡ text_of self.now }
+        ensures whole { AreElementsOf self.now (text_of self.now) }
     {
         self.text
     }
@@ -81,11 +82,29 @@ impl<'t> Database<'t> {
         Records::of(&self.records)
     }
 
-    /// The number of the line in which a place of the text lies, counted from 1.
+    /// The place in the text at which the element of an index begins; the end of the text where there is none.
+    pub fn place_of(&self, index: usize) -> usize
+        ensures { result ≡ length (text_of (take index self.now)) }
+    {
+        match self.elements.get(index) {
+            Some(element) => element.at,
+            None => self.text.len(),
+        }
+    }
+
+    /// The part of the text that the elements of a range are.
+    pub fn text_in(&self, range: &Range<usize>) -> &'t [u8]
+        requires { range.now.start ≤ range.now.end }
+        ensures { result.now ≡ text_of (elements_in self.now range.now) }
+    {
+        &self.text[self.place_of(range.start)..self.place_of(range.end)]
+    }
+
+    /// The number of the line in which a place of the text lies, counted from 1; a place past the end counts as the end.
     pub fn line_of(&self, at: usize) -> usize
-        requires { at ≤ length (text_of self.now) }
         ensures { result ≡ line_after (take at (text_of self.now)) }
     {
-        memchr_iter(b'\n', &self.text[..at]).count() + 1
+        let end = at.min(self.text.len());
+        memchr_iter(b'\n', &self.text[..end]).count() + 1
     }
 }

@@ -7,34 +7,29 @@ mod canonical;
 mod database;
 mod element;
 mod fault;
-#[cfg(test)]
-mod growth_tests;
 mod laws;
 mod lines;
 mod listing;
 mod name;
 mod reader;
-#[cfg(test)]
-mod record_tests;
 mod records;
 mod scan;
 mod search;
 mod sink;
-#[cfg(test)]
-mod tests;
+mod space;
 mod value;
-#[cfg(test)]
-mod value_tests;
 mod violations;
 
 pub use bytes::Bytes;
-pub use canonical::{is_field_name, is_plain_name, put_field};
+pub use canonical::{append_field, is_field_name, is_foldable, is_plain_name, put_field};
 pub use database::Database;
-pub use element::{Element, Kind};
+pub use element::{Element, Kind, count_of, elements_in};
 pub use fault::Fault;
 pub use laws::{one_list_of_records, one_reading};
+pub use lines::split_line;
 pub use reader::read;
 pub use records::{Paragraphs, Records};
-pub use sink::{Output, Sink, put_all};
+pub use sink::{Output, Sink, Writer, put_all};
+pub use space::Space;
 pub use value::Value;
 pub use violations::{Rule, Violation, Violations};

@@ -1,8 +1,8 @@
 //! Lines of a text, cut at its newlines.
-ghost use Rattle.std.specs.Prelude.{◌≡◌, ◌++◌, ◌∷◌, [], IsTrue, MatchOption, false};
+ghost use Rattle.std.specs.Prelude.{◌≡◌, ◌++◌, ◌∷◌, [], MatchOption, false};
 ghost use Rattle.std.specs.Option.{is_some};
 ghost use Rattle.memchr.specs.Find.{IsFirstByte, is_byte};
-ghost use Rattle.rec_text.specs.Lines.{is_unbroken, ends_backslash, BeginsLine};
+ghost use Rattle.rec_text.specs.Lines.{HasNoNewline, BeginsWithLine, ends_backslash};
 
 use memchr::memchr_iter;
 
@@ -14,9 +14,9 @@ pub(crate) fn newline_in(text: &[u8]) -> Option<usize>
     memchr_iter(b'\n', text).next()
 }
 
-/// The first line without its newline, and what stands behind that newline.
-pub(crate) fn split_line(text: &[u8]) -> Option<(&[u8], &[u8])>
-    ensures { MatchOption result (IsTrue (is_unbroken text.now)) (λ cut. BeginsLine text.now cut.0.now cut.1.now) }
+/// The first line without its newline, and what stands behind that newline; none where no newline stands in the text.
+pub fn split_line(text: &[u8]) -> Option<(&[u8], &[u8])>
+    ensures { MatchOption result (HasNoNewline text.now) (λ cut. BeginsWithLine text.now cut.0.now cut.1.now) }
 {
     let at = newline_in(text)?;
     Some((&text[..at], &text[at + 1..]))

@@ -8,6 +8,7 @@ ghost use Rattle.rec_text.specs.Scan.{HasFirst, line_len as first_line_len, body
 use crate::element::Kind;
 use crate::lines::newline_in;
 use crate::name::colon_of;
+use crate::space::is_blank;
 
 /// What stands first in a text.
 #[derive(Clone, Copy)]
@@ -38,7 +39,7 @@ fn begins_blank_line(text: &[u8]) -> bool
         if *byte == b'\n' {
             return true;
         }
-        if *byte != b' ' && *byte != b'\t' {
+        if !is_blank(*byte) {
             return false;
         }
     }

@@ -1,7 +1,7 @@
 //! The value of a field.
 ghost use Rattle.std.specs.Prelude.{◌≡◌, ◌==◌, IfOk, IfSome};
 ghost use Rattle.std.specs.Option.{is_some};
-ghost use Rattle.rec_text.specs.Bytes.{is_blank};
+ghost use Rattle.rec_text.specs.Bytes.{is_blank as blank};
 ghost use Rattle.rec_text.specs.Values.{without_first, without_mark as without_its_mark, body_value, is_single};
 
 use crate::bytes::Bytes;
@@ -9,6 +9,7 @@ use crate::element::{Element, Kind};
 use crate::fault::Fault;
 use crate::lines::{split_line, strip_backslash};
 use crate::name::colon_of;
+use crate::space::is_blank;
 use std::alloc::{AllocError, Global};
 
 /// A value: a part of the text where it stands in one piece, else bytes of its own.
@@ -33,10 +34,10 @@ impl<'t> Value<'t> {
 }
 
 fn without_blank(text: &[u8]) -> &[u8]
-    ensures { result.now ≡ without_first is_blank text.now }
+    ensures { result.now ≡ without_first blank text.now }
 {
     match text.split_first() {
-        Some((b' ' | b'\t', rest)) => rest,
+        Some((first, rest)) if is_blank(*first) => rest,
         _ => text,
     }
 }

@@ -68,6 +68,12 @@ impl Violations {
         Violations { listed }
     }
 
+    pub fn as_slice(&self) -> &[Violation]
+        ensures { result.now ≡ self.now }
+    {
+        self.listed.as_slice()
+    }
+
     /// How many there are.
     pub fn len(&self) -> usize
         ensures { result ≡ length self.now }

@@ -1,8 +1,8 @@
 use Rattle.std.proofs.Common.{◌∙◌, ◌<◌, ◌^◌, ap, inl, length, arith, None}
-use Rattle.rec_check.proofs.SchemaLemmas.{few_pieces}
+use Rattle.rec_text.proofs.ElementLemmas.{few_pieces}
 use Rattle.rec_check.proofs.CounterLemmas.{IsCountedUpTo, none_counted, countable, one_passed, one_counted, all_counted}
 use Rattle.rec_check.proofs.automatic.greatest_of.Goals as goal
-use Rattle.rec_check.proofs.automatic.greatest_of.Goals.{After-into_iter-index-iterator, In-Some}
+use Rattle.rec_check.proofs.automatic.greatest_of.Goals.{After-into_iter-index-iterator}
 
 few : (c : After-into_iter-index-iterator) → length c.args.database.now < 2 ^ 64
 few c = few_pieces c.args.database.now c.elements-elements.result.now (2 ^ 64) c.elements-elements.ensures.pieces (omega arith)

@@ -2,7 +2,7 @@ use Rattle.std.proofs.Common.{◌∙◌, ◌-◌, ◌<◌, ◌^◌, ap, inl, len
 use Rattle.std.specs.Prelude.{◌↔◌, IsTrue}
 use Rattle.std.proofs.lemmas.Bool.{false≢true}
 use Rattle.rec_check.specs.Stored.{described}
-use Rattle.rec_check.specs.Descriptors.{elements_in}
+use Rattle.rec_text.specs.Records.{elements_in}
 use Rattle.rec_select.specs.Selection.{Passes, filter_of}
 use Rattle.rec_select.proofs.IndexLemmas.{selected_are_records}
 use Rattle.rec_select.proofs.SelectionLemmas.{IsChosenUpTo, none_chosen, countable, passes_as, one_passed, one_taken, members_within, all_chosen, one_selection}

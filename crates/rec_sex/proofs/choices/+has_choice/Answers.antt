@@ -3,6 +3,7 @@ use Rattle.regex.specs.Strings.{matcher_pattern}
 use Rattle.rec_text.specs.Places.{pieces_of}
 use Rattle.rec_sex.specs.Choices.{entry_of}
 use Rattle.rec_sex.proofs.ChoiceLemmas.{walk-missed, walk-found, walk-popped, walk-end}
+use Rattle.rec_sex.proofs.OccurrenceLemmas.{occurrence_count}
 use Rattle.rec_sex.proofs.choices.+has_choice.Goals as goal
 
 pub returns-then-found-clause-answer : goal.returns-then-found-clause-answer
@@ -10,7 +11,7 @@ returns-then-found-clause-answer t c =
     walk-found c.args.tree.now (map matcher_pattern c.args.matchers.now) (pieces_of c.args.fields.now) c.args.names.now (map entry_of c.args.chosen.now.items)
     c.loop-occurrence.occurrence (map matcher_pattern c.loop-occurrence.matchers) c.loop-occurrence.chosen.items c.push.new.self.items
     c.loop-occurrence.invariant.same c.in_ok-push.ensures.items c.loop-occurrence.invariant.kept
-    c.count_of-occurrence-end.result (omega arith) c.count_of-occurrence-end.ensures.count c.loop-occurrence-test.true
+    c.count_of-occurrence-end.result (omega arith) (c.count_of-occurrence-end.ensures.count ∙ occurrence_count _ (pieces_of c.args.fields.now)) c.loop-occurrence-test.true
     (sym c.if-found.true ∙ c.in_ok-found.ensures.answer)
 
 pub returns-then-found-clause-chosen : goal.returns-then-found-clause-chosen
@@ -36,4 +37,4 @@ loop-occurrence-preserved t c = record {
 pub returns-clause-answer : goal.returns-clause-answer
 returns-clause-answer t c =
     walk-end c.args.tree.now (map matcher_pattern c.args.matchers.now) (pieces_of c.args.fields.now) c.args.names.now (map entry_of c.args.chosen.now.items)
-    c.count_of-occurrence-end.result c.loop-occurrence.occurrence (omega arith) c.count_of-occurrence-end.ensures.count (omega arith) (omega arith) c.loop-occurrence.invariant.none
+    c.count_of-occurrence-end.result c.loop-occurrence.occurrence (omega arith) (c.count_of-occurrence-end.ensures.count ∙ occurrence_count _ (pieces_of c.args.fields.now)) (omega arith) (omega arith) c.loop-occurrence.invariant.none

@@ -12,7 +12,7 @@ returns-then-not-branch-clause-bad_expression c place is =
     let room : length tokens.items < 1000 = omega (arith, tokens.ok.0) in
     let refused = step_is_refused (walk_of c.loop-at.walk) (walk_of c.step.new.self) c.in-Whole.token _ c.in_ok-step-in-Whole.ensures c.if-not-branch.true in
     let same : at ≡ place = cc in
-    fault-refused text tokens.items (walk_of c.loop-at.walk) at _ _ c.loop-at.invariant c.loop-at-test.true (sym c.if-is_space.ensures) room read refused ∙ ap Some same
+    fault-refused text tokens.items (walk_of c.loop-at.walk) at _ _ c.loop-at.invariant c.loop-at-test.true (sym c.if-has.ensures) room read refused ∙ ap Some same
 
 pub overflow_add-at-in-Whole : goal.overflow_add-at-in-Whole
 overflow_add-at-in-Whole c =
@@ -29,7 +29,7 @@ loop-at-preserved c =
     let room : length tokens.items < 1000 = omega (arith, tokens.ok.0) in
     let taken = step_is_taken (walk_of c.loop-at.walk) (walk_of c.step.new.self) c.in-Whole.token _ c.in_ok-step-in-Whole.ensures c.if-not-branch.false in
     rw c.in_ok-push-in-Whole.ensures.items (
-    IsRead-more text tokens.items (walk_of c.loop-at.walk) (walk_of c.step.new.self) at _ _ c.loop-at.invariant c.loop-at-test.true (sym c.if-is_space.ensures) room read taken
+    IsRead-more text tokens.items (walk_of c.loop-at.walk) (walk_of c.step.new.self) at _ _ c.loop-at.invariant c.loop-at-test.true (sym c.if-has.ensures) room read taken
     )
 
 pub loop-at-smaller : goal.loop-at-smaller
@@ -53,7 +53,7 @@ returns-in-Broken-clause-bad_expression c place is =
     let read = lexeme_read text at _ _ c.in-Broken.is c.in_ok-token.ensures in
     let room : length tokens.items < 1000 = omega (arith, tokens.ok.0) in
     let same : at + c.fault_inside.result ≡ place = cc in
-    fault-broken text tokens.items (walk_of c.loop-at.walk) at _ c.loop-at.invariant c.loop-at-test.true (sym c.if-is_space.ensures) room read
+    fault-broken text tokens.items (walk_of c.loop-at.walk) at _ c.loop-at.invariant c.loop-at-test.true (sym c.if-has.ensures) room read
     ∙ ap (λ n. Some (at + n)) (sym c.fault_inside.ensures) ∙ ap Some same
 
 pub returns-clause-tokens : goal.returns-clause-tokens

@@ -1,4 +1,5 @@
-use Rattle.rec_text.proofs.FoldLemmas.{HasFolded-next, HasFolded-all, OnOk-appended}
+use Rattle.rec_text.proofs.FoldLemmas.{HasFolded-next, HasFolded-all}
+use Rattle.rec_text.proofs.ListLemmas.{OnOk-appended}
 use Rattle.rec_text.proofs.canonical.append_folded.Goals as goal
 
 pub loop-line-preserved : goal.loop-line-preserved

@@ -4,7 +4,7 @@ use Rattle.std.specs.declared.ops.Range.{Range}
 use Rattle.rec_text.specs.Places.{pieces_of}
 use Rattle.rec_text.specs.Records.{AreAscending}
 use Rattle.rec_check.specs.Checks.{AddsOfRecord}
-use Rattle.rec_check.specs.Descriptors.{elements_in}
+use Rattle.rec_text.specs.Records.{elements_in}
 use Rattle.rec_check.specs.Ready.{IsReady}
 use Rattle.rec_check.proofs.AheadLemmas.{ahead_more, here_more}
 use Rattle.rec_check.proofs.ReportLemmas.{AddsOfRecords-more}

@@ -3,7 +3,7 @@ use Rattle.std.specs.declared.ops.Range.{Range}
 use Rattle.rec_text.specs.Places.{pieces_of}
 use Rattle.rec_text.specs.Records.{AreAscending}
 use Rattle.rec_check.specs.Checks.{AddsOfRecords}
-use Rattle.rec_check.specs.Descriptors.{elements_in}
+use Rattle.rec_text.specs.Records.{elements_in}
 use Rattle.rec_check.specs.Ready.{IsReady}
 use Rattle.rec_check.specs.Rules.{Rules}
 use Rattle.rec_check.proofs.checker.Checker.check_all.Given as goal

@@ -1,9 +1,13 @@
-use Rattle.std.proofs.Common.{◌∙◌, ◌<◌, ◌≤◌, ◌^◌, ap, inl, length, arith}
+use Rattle.std.proofs.Common.{◌∙◌, ◌<◌, ◌≤◌, ◌^◌, List, ap, inl, length, subst, arith}
 use Rattle.std.proofs.lemmas.List.{length-map}
 use Rattle.std.proofs.lemmas.Result.{err_from_is_err_and}
+use Rattle.rec_text.specs.declared.element.Element.{Element}
+use Rattle.rec_text.specs.Elements.{text_of}
+use Rattle.rec_text.specs.Faults.{IsMemoryOr}
 use Rattle.rec_text.specs.Places.{piece_of}
-use Rattle.rec_check.specs.Reading.{drafted}
-use Rattle.rec_check.proofs.SchemaLemmas.{IsSchemaUpTo, schema_first, countable, few_pieces, record_within, schema_more, fields_within, schema_fault, schema_all}
+use Rattle.rec_check.specs.Reading.{IsRefusedRecord, drafted}
+use Rattle.rec_text.proofs.ElementLemmas.{few_pieces}
+use Rattle.rec_check.proofs.SchemaLemmas.{IsSchemaUpTo, schema_first, countable, record_within, schema_more, fields_within, schema_fault, schema_all}
 use Rattle.rec_check.proofs.TypeLemmas.{kinds-HaveTypes}
 use Rattle.rec_check.proofs.schema.Schema.read.Goals as goal
 use Rattle.rec_check.proofs.schema.Schema.read.Goals.{After-into_iter-index-iterator, In-Some}
@@ -28,22 +32,16 @@ bounds c =
     let within = record_within c.args.database.now _ _ (drafted c.loop-index.draft) c.in-Some.record _ c.in-Some.ensures.steps.0 c.loop-index.invariant.so_far in
     (within.0, omega (arith, within.1, ap length c.elements-elements.ensures.pieces, length-map c.elements-elements.result.now piece_of))
 
-pub offset_bounds-elements-record : goal.offset_bounds-elements-record
-offset_bounds-elements-record c = omega (arith, bounds (goal.at.offset_bounds-elements-record c).In-Some)
-
-pub slice_bounds-fields-count : goal.slice_bounds-fields-count
-slice_bounds-fields-count c = (bounds (goal.at.slice_bounds-fields-count c).In-Some).0
-
-pub slice_bounds-fields-start : goal.slice_bounds-fields-start
-slice_bounds-fields-start c = (bounds (goal.at.slice_bounds-fields-start c).In-Some).0
-
-pub slice_bounds-fields-end : goal.slice_bounds-fields-end
-slice_bounds-fields-end c = (bounds (goal.at.slice_bounds-fields-end c).In-Some).1
+pub elements_in-fields-requires : goal.elements_in-fields-requires
+elements_in-fields-requires c =
+    let within = bounds (goal.at.elements_in-fields-requires c).In-Some in
+    record { ordered = within.0; within = within.1 }
 
 pub add-requires-clause-places : goal.add-requires-clause-places
 add-requires-clause-places c =
-    fields_within c.args.database.now _ _ (drafted c.loop-index.draft) c.in-Some.record _ c.in-Some.ensures.steps.0 c.loop-index.invariant.so_far
-    c.elements-elements.result.now c.elements-elements.ensures.pieces c.loop-index.draft.types (kinds-HaveTypes c.loop-index.draft.sets.items c.loop-index.draft.types c.loop-index.invariant.typed) c.elements-elements.ensures.places
+    rw c.elements_in-fields.ensures.elements
+    (fields_within c.args.database.now _ _ (drafted c.loop-index.draft) c.in-Some.record _ c.in-Some.ensures.steps.0 c.loop-index.invariant.so_far
+    c.elements-elements.result.now c.elements-elements.ensures.pieces c.loop-index.draft.types (kinds-HaveTypes c.loop-index.draft.sets.items c.loop-index.draft.types c.loop-index.invariant.typed) c.elements-elements.ensures.places)
 
 pub loop-index-preserved : goal.loop-index-preserved
 loop-index-preserved c =
@@ -51,15 +49,17 @@ loop-index-preserved c =
     let short = few_pieces c.args.database.now c.elements-elements.result.now (2 ^ 64) c.elements-elements.ensures.pieces (omega arith) in
     let so_far = schema_more c.args.database.now _ _ (drafted c.loop-index.draft) c.in-Some.record _ steps.0 c.loop-index.invariant.so_far
     c.elements-elements.result.now c.elements-elements.ensures.pieces c.loop-index.draft.types (kinds-HaveTypes c.loop-index.draft.sets.items c.loop-index.draft.types c.loop-index.invariant.typed)
-    c.in-Some.index c.next.new.self.count (drafted c.add.new.self) steps.1 steps.2 c.in_ok-add.ensures.added in
+    c.in-Some.index c.next.new.self.count (drafted c.add.new.self) steps.1 steps.2 (rw c.elements_in-fields.ensures.elements at c.in_ok-add.ensures.added) in
     record { can = (tt, tt, inl (countable _ _ _ _ (2 ^ 64) so_far short)); finite = tt; so_far = so_far; typed = c.in_ok-add.ensures.typed }
 
 pub returns-in_err-add-clause-refused : goal.returns-in_err-add-clause-refused
 returns-in_err-add-clause-refused c =
     let kept = err_from_is_err_and c.from_residual-in_err-add.result c.from_residual-in_err-add.ensures.1 in
+    let fault = c.in_err-add.field-0.0 in
+    let P : List Element → Type 0 = λ fields. IsMemoryOr fault (IsRefusedRecord (text_of c.args.database.now) c.loop-index.draft.types fields fault) in
     rw (kept.1, kept.2)
     (schema_fault c.args.database.now _ _ (drafted c.loop-index.draft) c.in-Some.record _ c.in-Some.ensures.steps.0 c.loop-index.invariant.so_far
-    c.elements-elements.result.now c.elements-elements.ensures.pieces c.loop-index.draft.types (kinds-HaveTypes c.loop-index.draft.sets.items c.loop-index.draft.types c.loop-index.invariant.typed) c.elements-elements.ensures.places c.in_err-add.field-0.0 c.in_err-add.ensures.refused)
+    c.elements-elements.result.now c.elements-elements.ensures.pieces c.loop-index.draft.types (kinds-HaveTypes c.loop-index.draft.sets.items c.loop-index.draft.types c.loop-index.invariant.typed) c.elements-elements.ensures.places c.in_err-add.field-0.0 (subst P c.elements_in-fields.ensures.elements c.in_err-add.ensures.refused))
 
 pub returns-clause-found : goal.returns-clause-found
 returns-clause-found c =

@@ -1,0 +1,5 @@
+use Rattle.rec_check.proofs.CheckLemmas as lemma
+use Rattle.rec_check.proofs.laws.one_check.Goals as goal
+
+pub returns : goal.returns
+returns c = lemma.one_check

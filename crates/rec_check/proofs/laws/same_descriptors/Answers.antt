@@ -1,0 +1,5 @@
+use Rattle.rec_check.proofs.SameDescriptorLemmas as lemma
+use Rattle.rec_check.proofs.laws.same_descriptors.Goals as goal
+
+pub returns : goal.returns
+returns c = lemma.same_descriptors

@@ -1,0 +1,10 @@
+use Rattle.std.proofs.Common.{◌≡◌, ◌+◌, ◌++◌, drop}
+use Rattle.rec_text.specs.Elements.{text_of}
+use Rattle.rec_text.specs.Places.{pieces_of}
+use Rattle.rec_edit.specs.Drafts.{laying}
+use Rattle.rec_edit.proofs.script.lay_record.Given as goal
+
+abbrev pub invariant-loop-index : goal.invariant-loop-index
+invariant-loop-index g l =
+    l.out.items ++ text_of (laying (g.P.Plan.layout l.plan) (l.first + l.index) (drop l.index (pieces_of l.elements)))
+    ≡ l.fn.out.items ++ text_of (laying (g.P.Plan.layout l.plan) l.first (pieces_of l.elements))

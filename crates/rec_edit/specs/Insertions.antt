@@ -1,0 +1,89 @@
+-- Where an edit puts new elements: the layouts of a new record and of automatic fields.
+use Rattle.std.specs.Prelude.{ℕ, ℤ, ◌+◌, ◌-◌, ◌==◌, Bool, not, List, [], ◌∷◌, ◌++◌, length, map, drop, take, reverse, flat_map, find, slice_get, Option, Some, None, option_and_then, if◌then◌else◌}
+use Rattle.std.specs.List.{prefix_len}
+use Rattle.std.specs.Option.{option_map_or}
+use Rattle.std.specs.Fmt.{signed_decimal}
+use Rattle.std.specs.declared.ops.Range.{Range}
+use Rattle.rec_text.specs.Elements.{Piece}
+use Rattle.rec_text.specs.Records.{is_blank_piece, is_full_at}
+use Rattle.rec_check.specs.declared.set.Set_.{Set_}
+use Rattle.rec_check.specs.Descriptors.{rec_name}
+use Rattle.rec_check.specs.Sets.{is_of_type}
+use Rattle.rec_select.specs.Selection.{has_members}
+use Rattle.rec_edit.specs.Script.{Layout, untouched}
+use Rattle.rec_edit.specs.Rules.{canonical, empty_line}
+
+-- ---- insert
+
+-- the paragraph of an element: where it begins, and where it ends, with this element or a later one
+abbrev pub is_full : Piece → Bool
+is_full piece = not (is_blank_piece piece)
+
+abbrev pub paragraph_start : List Piece → ℕ → ℕ
+paragraph_start pieces i = i - prefix_len is_full (reverse (take i pieces))
+
+abbrev pub paragraph_end : List Piece → ℕ → ℕ
+paragraph_end pieces i = i + prefix_len is_full (drop i pieces)
+
+-- elements that are put in, and before which element
+pub record Insertion : Type 0 where
+  pub place : ℕ
+  pub new : List Piece
+
+-- at the end of the record's paragraph, behind an empty line
+abbrev pub behind_paragraph : List Piece → List Piece → Range ℕ → Insertion
+behind_paragraph pieces fields record_ = record { place = paragraph_end pieces record_.end; new = empty_line ∷ fields }
+
+-- before the record's paragraph, with an empty line behind
+abbrev pub before_paragraph : List Piece → List Piece → Range ℕ → Insertion
+before_paragraph pieces fields record_ = record { place = paragraph_start pieces record_.start; new = fields ++ empty_line ∷ [] }
+
+-- at the end, behind an empty line where the last element is there and isn't blank
+abbrev pub at_end : List Piece → List Piece → Insertion
+at_end pieces new = record { place = length pieces; new = if is_full_at pieces (length pieces - 1) then empty_line ∷ new else new }
+
+-- the record behind which one more of a set is put: its last one, or else its descriptor
+abbrev pub last_of : Set_ → Option ℕ
+last_of s = if has_members s then Some (s.members.end - 1) else s.head
+
+-- the ranges of the records
+abbrev pub range_of : List (Range ℕ) → Option ℕ → Option (Range ℕ)
+range_of records i = option_and_then (slice_get records) i
+
+-- without a type: behind the last untyped record, else before the first descriptor, else at the end
+abbrev pub untyped_insertion : List Piece → List (Range ℕ) → List Set_ → List Piece → Insertion
+untyped_insertion pieces records sets fields = elim (range_of records (option_and_then last_of (slice_get sets 0))) [
+  | Some last ↦ behind_paragraph pieces fields last
+  | None ↦ option_map_or (before_paragraph pieces fields) (range_of records (option_and_then (λ s. s.head) (slice_get sets 1))) (at_end pieces fields)
+]
+
+-- of a type: behind the last record of its set, or behind a new descriptor at the end where it has none
+abbrev pub typed_insertion : List Piece → List (Range ℕ) → List Set_ → List Piece → List ℕ → Insertion
+typed_insertion pieces records sets fields kind = option_map_or (behind_paragraph pieces fields)
+    (range_of records (option_and_then last_of (find (is_of_type kind) sets)))
+    (at_end pieces (canonical rec_name kind ∷ empty_line ∷ fields))
+
+abbrev pub insertion_for : List Piece → List (Range ℕ) → List Set_ → Option (List ℕ) → List Piece → Insertion
+insertion_for pieces records sets None fields = untyped_insertion pieces records sets fields
+insertion_for pieces records sets (Some kind) fields = typed_insertion pieces records sets fields kind
+
+abbrev pub inserting : Insertion → Layout
+inserting insertion = record untouched { put = λ i. if insertion.place == i then insertion.new else [] }
+
+-- ---- automatic fields
+
+-- an automatic field, with its number
+pub record Numbered : Type 0 where
+  pub name : List ℕ
+  pub number : ℤ
+
+abbrev pub numbered_fields : List Numbered → List Piece
+numbered_fields given = map (λ one. canonical one.name (signed_decimal one.number)) given
+
+-- a record, and the automatic fields that are put first in it
+pub record Filled : Type 0 where
+  pub range : Range ℕ
+  pub given : List Numbered
+
+abbrev pub filling : List Filled → Layout
+filling filled = record untouched { put = λ i. flat_map (λ one. if one.range.start == i then numbered_fields one.given else []) filled }

@@ -1,0 +1,15 @@
+-- what an edit is, and what it means
+pub mod Task
+pub mod Script
+pub mod Rules
+pub mod Insertions
+pub mod Wording
+pub mod Automatic
+pub mod Outcome
+pub mod Effect
+-- words of the proofs
+pub mod Drafts
+pub mod Edits
+pub mod Marks
+pub mod Comments
+pub mod Endings

@@ -1,0 +1,153 @@
+-- The outcome of an edit: its first refusal in their order, or its script and how many records it changes.
+use Rattle.std.specs.Prelude.{◌≡◌, ◌≢◌, ℕ, Bool, true, false, not, List, [], ◌∷◌, ◌++◌, length, map, flat_map, filter_map, count_by, slice_get, Option, None, Result, Ok, Err, if◌then◌else◌}
+use Rattle.std.specs.List.{enumerate_from}
+use Rattle.std.specs.Str.{bytes_eq}
+use Rattle.std.specs.declared.ops.Range.{Range}
+use Rattle.rec_text.specs.declared.fault.Fault.{Fault}
+use Rattle.rec_text.specs.declared.fault.Fault.TheVariants.{OutOfMemory, BadPattern, BadFieldList, NoSelection, TypeNeeded, NoSuchType, BadName, BadValue, Integrity}
+use Rattle.rec_text.specs.declared.violations.Violation.{Violation}
+use Rattle.rec_text.specs.Elements.{Piece, AreElementsOf, text_of}
+use Rattle.rec_text.specs.Records.{AreRecords, elements_in}
+use Rattle.rec_text.specs.Steps.{Then}
+use Rattle.rec_check.specs.declared.set.Set_.{Set_}
+use Rattle.rec_check.specs.Schemas.{Described, IsSchema}
+use Rattle.rec_check.specs.Violations.{AreViolationsOf}
+use Rattle.rec_select.specs.Selection.{Filter, all, by_expression, at_places, with_text, IsSelection}
+use Rattle.rec_edit.specs.declared.outcome.Edited.{Edited}
+use Rattle.rec_edit.specs.Task.{Wanted, Task, insert, replace, delete, comment_out, set, auto_fill}
+use Rattle.rec_edit.specs.Script.{Part, Layout, closed, script_of, edited_text, hunks_of}
+use Rattle.rec_edit.specs.Rules.{fields_of, deletion, commenting, replacement, setting}
+use Rattle.rec_edit.specs.Insertions.{inserting, insertion_for, numbered_fields, filling}
+use Rattle.rec_edit.specs.Wording.{AreItemsFor, IsNewRecord}
+use Rattle.rec_edit.specs.Automatic.{AreAutomatic, AreFilledSets}
+
+-- ---- the records that are meant
+
+-- the ranges of the records that are wanted
+abbrev pub AreChosen : List Piece → List Set_ → Wanted → Result (List (Range ℕ)) Fault → Type 0
+AreChosen pieces sets wanted =
+    Then (IsSelection pieces sets wanted.kind wanted.filter) (λ selected answer.
+    (records : List (Range ℕ)) × AreRecords pieces records × (answer ≡ Ok (filter_map (slice_get records) selected)))
+
+-- all records of a set are taken out only where that is forced
+abbrev pub allowed : Filter → Bool → Result (Unit {0}) Fault
+allowed all force = if force then Ok tt else Err NoSelection
+allowed (by_expression term) force = Ok tt
+allowed (at_places spans) force = Ok tt
+allowed (with_text text) force = Ok tt
+
+-- those that may be taken out
+abbrev pub AreRemovable : List Piece → List Set_ → Wanted → Bool → Result (List (Range ℕ)) Fault → Type 0
+AreRemovable pieces sets wanted force =
+    Then (AreChosen pieces sets wanted) (λ chosen.
+    Then (λ answer. answer ≡ allowed wanted.filter force) (λ _ answer. answer ≡ Ok chosen))
+
+-- ---- one edit
+
+-- what an edit makes of a text, and how many records it changes
+pub record Step : Type 0 where
+  pub script : List Part
+  pub changed : ℕ
+
+-- what stands in the place of a record
+abbrev pub laid : Layout → List Piece → Range ℕ → List Piece
+laid layout pieces record_ = layout.put record_.start
+    ++ (flat_map (λ (i, piece). layout.becomes i (closed piece)) (enumerate_from record_.start (elements_in pieces record_)) ++ layout.put record_.end)
+
+-- something else stands in its place, the newline at the end of the text aside
+abbrev pub is_changed : Layout → List Piece → Range ℕ → Bool
+is_changed layout pieces record_ = not (bytes_eq (text_of (laid layout pieces record_)) (text_of (map closed (elements_in pieces record_))))
+
+-- each of these records gives way to what the layout puts in its place
+abbrev pub step_of : List Piece → List (Range ℕ) → Layout → Step
+step_of pieces chosen layout = record { script = script_of layout pieces; changed = count_by (is_changed layout pieces) chosen }
+
+-- a new record is put in
+abbrev pub step_of_insert : List Piece → List (Range ℕ) → List Set_ → Option (List ℕ) → List Piece → Step
+step_of_insert pieces records sets kind fields = record { script = script_of (inserting (insertion_for pieces records sets kind fields)) pieces; changed = 1 }
+
+-- what one edit makes of the text of these elements, violations aside
+abbrev pub IsStep : List Piece → Described → Bool → Task → Result Step Fault → Type 0
+IsStep pieces schema force (insert kind fresh auto) answer =
+    Then (IsNewRecord kind fresh) (λ pairs.
+    Then (AreAutomatic pieces schema kind auto (map (λ pair. pair.name) pairs)) (λ automatic answer.
+    (records : List (Range ℕ)) × AreRecords pieces records
+    × (answer ≡ Ok (step_of_insert pieces records schema.sets kind (numbered_fields automatic ++ fields_of pairs))))) answer
+IsStep pieces schema force (replace wanted fresh) answer =
+    Then (IsNewRecord None fresh) (λ pairs.
+    Then (AreChosen pieces schema.sets wanted) (λ chosen answer.
+    answer ≡ Ok (step_of pieces chosen (replacement (fields_of pairs) chosen)))) answer
+IsStep pieces schema force (delete wanted) answer =
+    Then (AreRemovable pieces schema.sets wanted force) (λ chosen answer.
+    answer ≡ Ok (step_of pieces chosen (deletion pieces chosen))) answer
+IsStep pieces schema force (comment_out wanted) answer =
+    Then (AreRemovable pieces schema.sets wanted force) (λ chosen answer.
+    answer ≡ Ok (step_of pieces chosen (commenting chosen))) answer
+IsStep pieces schema force (set wanted list action) answer =
+    Then (AreItemsFor action list) (λ items.
+    Then (AreChosen pieces schema.sets wanted) (λ chosen answer.
+    answer ≡ Ok (step_of pieces chosen (setting action items pieces chosen)))) answer
+IsStep pieces schema force auto_fill answer = (records : List (Range ℕ)) × AreRecords pieces records
+    × Then (AreFilledSets pieces records schema.sets schema.rules) (λ filled answer.
+    answer ≡ Ok (step_of pieces (map (λ one. one.range) filled) (filling filled))) answer
+
+-- ---- the violations of the edited text
+
+abbrev pub none_of : List Violation → Result (Unit {0}) Fault
+none_of [] = Ok tt
+none_of (violation ∷ violations) = Err (Integrity (violation ∷ violations))
+
+-- a text without violations; a pattern of its descriptors may be refused
+abbrev pub IsSound : List ℕ → Result (Unit {0}) Fault → Type 0
+IsSound text = Then (AreViolationsOf text) (λ found answer. answer ≡ none_of found)
+
+abbrev pub IsSoundUnlessForced : Bool → List ℕ → Result (Unit {0}) Fault → Type 0
+IsSoundUnlessForced true text answer = answer ≡ Ok tt
+IsSoundUnlessForced false text answer = IsSound text answer
+
+-- ---- the outcome
+
+abbrev pub edited_by : Step → Edited
+edited_by step = record { patch = hunks_of step.script; text = edited_text step.script; changed = step.changed }
+
+-- the one answer to an edit, memory aside
+abbrev pub IsOutcome : List Piece → Described → Bool → Task → Result Edited Fault → Type 0
+IsOutcome pieces schema force task =
+    Then (IsStep pieces schema force task) (λ step.
+    Then (IsSoundUnlessForced force (edited_text step.script)) (λ _ answer.
+    answer ≡ Ok (edited_by step)))
+
+-- the refusals that an edit of records that are there has at all
+abbrev pub IsEditRefusal : Fault → Type 0
+IsEditRefusal OutOfMemory = Unit {0}
+IsEditRefusal BadPattern = Unit {0}
+IsEditRefusal (BadFieldList place) = Unit {0}
+IsEditRefusal NoSelection = Unit {0}
+IsEditRefusal TypeNeeded = Unit {0}
+IsEditRefusal NoSuchType = Unit {0}
+IsEditRefusal BadName = Unit {0}
+IsEditRefusal BadValue = Unit {0}
+IsEditRefusal (Integrity violations) = Unit {0}
+IsEditRefusal _ = ⊥
+
+-- no new record is put in, and no automatic field
+abbrev pub PutsNoneIn : Task → Type 0
+PutsNoneIn (insert kind fresh auto) = ⊥
+PutsNoneIn (replace wanted fresh) = ⊥
+PutsNoneIn (delete wanted) = Unit {0}
+PutsNoneIn (comment_out wanted) = Unit {0}
+PutsNoneIn (set wanted list action) = Unit {0}
+PutsNoneIn auto_fill = ⊥
+
+-- Such an edit has one outcome, whichever way the patterns of the text were built; only where `regex` may refuse a pattern of
+-- the edited text, that refusal may stand in the place of the other answer.
+abbrev pub OneOutcome : Type 0
+OneOutcome = (pieces : List Piece) (schema same : Described) (force : Bool) (task : Task) (one other : Result Edited Fault)
+    → PutsNoneIn task → IsSchema pieces (Ok schema) → IsSchema pieces (Ok same)
+    → IsOutcome pieces schema force task one → IsOutcome pieces same force task other
+    → (one ≢ Err BadPattern) → (other ≢ Err BadPattern) → one ≡ other
+
+-- What such an edit makes of a text without a descriptor breaks no rule.
+abbrev pub UnruledEditsAreSound : Type 0
+UnruledEditsAreSound = (pieces : List Piece) (schema : Described) (force : Bool) (task : Task) (step : Step) → AreElementsOf pieces (text_of pieces) → PutsNoneIn task
+    → IsSchema pieces (Ok schema) → length schema.sets ≡ 1 → IsStep pieces schema force task (Ok step) → IsSound (edited_text step.script) (Ok tt)

@@ -1,0 +1,144 @@
+-- The script of an edit: parts in order, in each of which some elements give way to others. Joined, the old ones are the
+-- elements of the text, and the new ones those of the edited text.
+use Rattle.std.specs.Prelude.{◌≡◌, ℕ, ◌+◌, ◌==◌, Bool, false, ◌&&◌, not, List, [], ◌∷◌, ◌++◌, length, flat_map, filter, if◌then◌else◌}
+use Rattle.std.specs.List.{sum_by}
+use Rattle.std.specs.Str.{bytes_eq}
+use Rattle.rec_text.specs.Bytes.{is_nil, ends_newline}
+use Rattle.rec_text.specs.Elements.{Piece, text_of}
+use Rattle.rec_journal.specs.declared.patch.Hunk.{Hunk}
+
+-- some elements, and those that stand in their place
+pub record Part : Type 0 where
+  pub old : List Piece
+  pub new : List Piece
+
+-- ---- what an edit makes of the elements
+
+-- what stands in the place of the element of an index; what is put before it (at the number of elements: behind them all);
+-- and whether it is changed as one with the next
+pub record Layout : Type 0 where
+  pub becomes : ℕ → Piece → List Piece
+  pub put : ℕ → List Piece
+  pub tied : ℕ → Bool
+
+-- each element stays
+abbrev pub untouched : Layout
+untouched = record {
+  becomes = λ _ piece. piece ∷ [];
+  put = λ _. [];
+  tied = λ _. false;
+}
+
+-- ---- the newline at the end of the text
+
+-- with a newline at its end
+abbrev pub closed : Piece → Piece
+closed piece = if ends_newline piece.bytes then piece else record { kind = piece.kind; bytes = piece.bytes ++ 10 ∷ [] }
+
+-- without the newline at its end
+abbrev pub without_newline : List ℕ → List ℕ
+without_newline [] = []
+without_newline (b ∷ []) = if b == 10 then [] else b ∷ []
+without_newline (b ∷ c ∷ bs) = b ∷ without_newline (c ∷ bs)
+
+-- the last one without its newline
+abbrev pub opened : List Piece → List Piece
+opened [] = []
+opened (piece ∷ []) = (record { kind = piece.kind; bytes = without_newline piece.bytes }) ∷ []
+opened (piece ∷ next ∷ pieces) = piece ∷ opened (next ∷ pieces)
+
+-- the last byte is there and is no newline
+abbrev pub lacks_newline : List ℕ → Bool
+lacks_newline text = not (is_nil text) && not (ends_newline text)
+
+-- A layout works on elements with newlines. What stands in the place of the last element lacks the newline that it lacked,
+-- unless something is put behind it.
+abbrev pub settled : List Part → List Part
+settled [] = []
+settled (part ∷ []) = (if lacks_newline (text_of part.old) then record { old = part.old; new = opened part.new } else part) ∷ []
+settled (part ∷ next ∷ parts) = part ∷ settled (next ∷ parts)
+
+-- ---- the parts
+
+-- before these parts, elements are put in, if any
+abbrev pub putting : List Piece → List Part → List Part
+putting [] parts = parts
+putting (piece ∷ pieces) parts = (record { old = []; new = piece ∷ pieces }) ∷ parts
+
+-- before these parts, an element with what it becomes: a part of its own, or where it is tied one with the next part
+abbrev pub changing : Bool → Piece → List Piece → List Part → List Part
+changing tied piece new [] = (record { old = piece ∷ []; new = new }) ∷ []
+changing tied piece new (next ∷ parts) =
+    if tied
+    then (record { old = piece ∷ next.old; new = new ++ next.new }) ∷ parts
+    else (record { old = piece ∷ []; new = new }) ∷ next ∷ parts
+
+-- the parts of elements, the first of which has this index
+abbrev pub parts_from : ℕ → Layout → List Piece → List Part
+parts_from i layout [] = putting (layout.put i) []
+parts_from i layout (piece ∷ pieces) =
+    putting (layout.put i) (changing (layout.tied i) piece (layout.becomes i (closed piece)) (parts_from (i + 1) layout pieces))
+
+abbrev pub script_of : Layout → List Piece → List Part
+script_of layout pieces = settled (parts_from 0 layout pieces)
+
+-- ---- the two texts
+
+abbrev pub old_pieces : List Part → List Piece
+old_pieces script = flat_map (λ part. part.old) script
+
+-- the elements of the edited text
+abbrev pub new_pieces : List Part → List Piece
+new_pieces script = flat_map (λ part. part.new) script
+
+abbrev pub edited_text : List Part → List ℕ
+edited_text script = text_of (new_pieces script)
+
+-- ---- the patch
+
+-- the two texts of a part are the same
+abbrev pub is_kept : Part → Bool
+is_kept part = bytes_eq (text_of part.old) (text_of part.new)
+
+-- a hunk for each part that isn't kept, the first part beginning at this place of the old text
+abbrev pub changes_from : ℕ → List Part → List Hunk
+changes_from at [] = []
+changes_from at (part ∷ parts) =
+    if is_kept part
+    then changes_from (at + length (text_of part.old)) parts
+    else record { at = at; old = text_of part.old; new = text_of part.new } ∷ changes_from (at + length (text_of part.old)) parts
+
+-- a hunk before others: one with the first of these where that begins at its end
+abbrev pub joining : Hunk → List Hunk → List Hunk
+joining hunk [] = hunk ∷ []
+joining hunk (next ∷ hunks) =
+    if hunk.at + length hunk.old == next.at
+    then record { at = hunk.at; old = hunk.old ++ next.old; new = hunk.new ++ next.new } ∷ hunks
+    else hunk ∷ next ∷ hunks
+
+-- changes next to each other are one
+abbrev pub joined : List Hunk → List Hunk
+joined [] = []
+joined (hunk ∷ hunks) = joining hunk (joined hunks)
+
+-- a change of a text to the same text is none
+abbrev pub real_changes : List Hunk → List Hunk
+real_changes hunks = filter (λ hunk. not (bytes_eq hunk.old hunk.new)) hunks
+
+-- a hunk for each run of changes
+abbrev pub hunks_of : List Part → List Hunk
+hunks_of script = real_changes (joined (changes_from 0 script))
+
+-- a hunk takes out whole elements, at the place where they stand
+abbrev pub TakesWhole : List Piece → Hunk → Type 0
+TakesWhole pieces hunk = (front old behind : List Piece) × (pieces ≡ front ++ (old ++ behind)) × (hunk.at ≡ length (text_of front)) × (hunk.old ≡ text_of old)
+
+-- how many runs there are, and how many bytes they take out and put in
+abbrev pub runs : List Part → ℕ
+runs script = length (hunks_of script)
+
+abbrev pub bytes_out : List Part → ℕ
+bytes_out script = sum_by (λ hunk. length hunk.old) (hunks_of script)
+
+abbrev pub bytes_in : List Part → ℕ
+bytes_in script = sum_by (λ hunk. length hunk.new) (hunks_of script)

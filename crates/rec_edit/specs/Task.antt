@@ -1,0 +1,51 @@
+-- An edit as definitions see it: the selection stands for the filter of records that it means.
+use Rattle.std.specs.Prelude.{ℕ, Bool, List, Option}
+use Rattle.rec_journal.specs.declared.event.Tool.{Tool}
+use Rattle.rec_journal.specs.declared.event.Tool.TheVariants.{RecIns, RecDel, RecSet, RecFix}
+use Rattle.rec_select.specs.declared.selection.Selection.{Selection}
+use Rattle.rec_select.specs.Selection.{Filter, filter_of}
+use Rattle.rec_edit.specs.declared.request.Action.{Action}
+use Rattle.rec_edit.specs.declared.request.Edit.{Edit}
+use Rattle.rec_edit.specs.declared.request.Edit.TheVariants.{Delete, CommentOut, Set}
+
+-- which records: those of a type, or of the set that is meant where none is given, that pass a filter
+pub record Wanted : Type 0 where
+  pub kind : Option (List ℕ)
+  pub filter : Filter
+
+-- a field of a new record
+pub record Pair : Type 0 where
+  pub name : List ℕ
+  pub value : List ℕ
+
+-- a new record: its fields, or a text that holds it
+pub data NewRecord : Type 0 where
+  of_pairs : List Pair → NewRecord
+  of_text : List ℕ → NewRecord
+
+-- A record of a type is put in, with automatic fields or without. A new record is put in the place of each of some; these
+-- are deleted, commented out, or their listed fields are edited. All records get their automatic fields.
+pub data Task : Type 0 where
+  insert : Option (List ℕ) → NewRecord → Bool → Task
+  replace : Wanted → NewRecord → Task
+  delete : Wanted → Task
+  comment_out : Wanted → Task
+  set : Wanted → List ℕ → Action → Task
+  auto_fill : Task
+
+abbrev pub wanted_by : Selection → Wanted
+wanted_by selection = record { kind = selection.kind; filter = filter_of selection.by }
+
+abbrev pub task_of : Edit → Task
+task_of (Delete selection) = delete (wanted_by selection)
+task_of (CommentOut selection) = comment_out (wanted_by selection)
+task_of (Set selection list action) = set (wanted_by selection) list action
+
+-- the tool that does it
+abbrev pub tool_of : Task → Tool
+tool_of (insert kind fresh auto) = RecIns
+tool_of (replace wanted fresh) = RecIns
+tool_of (delete wanted) = RecDel
+tool_of (comment_out wanted) = RecDel
+tool_of (set wanted list action) = RecSet
+tool_of auto_fill = RecFix

@@ -1,0 +1,77 @@
+//! The records that an edit is of.
+ghost use Rattle.std.specs.Prelude.{◌≡◌, ◌<◌, filter_map, length, slice_get, Ok, Err, IfOk, IfErr, MatchResult};
+ghost use Rattle.std.specs.List.{AllByRecursion};
+ghost use Rattle.rec_text.specs.Faults.{IsMemoryOr};
+ghost use Rattle.rec_check.specs.Schemas.{IsSchema};
+ghost use Rattle.rec_check.specs.Stored.{described};
+ghost use Rattle.rec_edit.specs.Drafts.{AreRanges};
+ghost use Rattle.rec_edit.specs.Task.{wanted_by};
+ghost use Rattle.rec_select.specs.Selection.{filter_of};
+ghost use Rattle.rec_edit.specs.Outcome.{allowed, AreChosen, AreRemovable};
+
+use rec_check::Schema;
+use rec_select::{By, Selection, choose};
+use rec_text::{Database, Fault};
+use std::alloc::{AllocError, Global};
+use std::ops::Range;
+
+/// The ranges at these indexes.
+fn ranges_at(
+    alloc: Global,
+    ranges: &[Range<usize>],
+    indexes: &[usize],
+) -> Result<Vec<Range<usize>>, AllocError>
+    requires { AllByRecursion (λ i. i < length ranges.now) indexes.now }
+    ensures { IfOk result (λ found. found.items ≡ filter_map (slice_get ranges.now) indexes.now) }
+{
+    let mut found = Vec::with_capacity(alloc, indexes.len())?;
+    for index in indexes {
+        let range = &ranges[*index];
+        found.push(range.start..range.end)?;
+    }
+    Ok(found)
+}
+
+/// The ranges of the elements of the records that a selection takes.
+pub(crate) fn chosen_records(
+    alloc: Global,
+    database: &Database,
+    schema: &Schema,
+    selection: &Selection,
+) -> Result<Vec<Range<usize>>, Fault>
+    requires { IsSchema database.now (Ok (described schema.now)) }
+    ensures found { IfOk result (λ chosen. AreChosen database.now (described schema.now).sets (wanted_by selection.now) (Ok chosen.items)) }
+    ensures refused { IfErr result (λ fault. IsMemoryOr fault (AreChosen database.now (described schema.now).sets (wanted_by selection.now) (Err fault))) }
+    ensures ranges { IfOk result (λ chosen. AreRanges (length database.now) chosen.items) }
+{
+    let selected = choose(alloc, database, schema, selection)?;
+    Ok(ranges_at(alloc, database.records().as_slice(), &selected)?)
+}
+
+/// Refuses all records of a set, unless that is forced.
+fn require_allowed(by: &By, force: bool) -> Result<(), Fault>
+    ensures { MatchResult result (λ _. allowed (filter_of by.now) force ≡ Ok tt) (λ fault. allowed (filter_of by.now) force ≡ Err fault) }
+{
+    match by {
+        By::All if !force => Err(Fault::NoSelection),
+        _ => Ok(()),
+    }
+}
+
+/// Those that a selection takes, where they may be taken out.
+pub(crate) fn removable_records(
+    alloc: Global,
+    database: &Database,
+    schema: &Schema,
+    selection: &Selection,
+    force: bool,
+) -> Result<Vec<Range<usize>>, Fault>
+    requires { IsSchema database.now (Ok (described schema.now)) }
+    ensures found { IfOk result (λ chosen. AreRemovable database.now (described schema.now).sets (wanted_by selection.now) force (Ok chosen.items)) }
+    ensures refused { IfErr result (λ fault. IsMemoryOr fault (AreRemovable database.now (described schema.now).sets (wanted_by selection.now) force (Err fault))) }
+    ensures ranges { IfOk result (λ chosen. AreRanges (length database.now) chosen.items) }
+{
+    let chosen = chosen_records(alloc, database, schema, selection)?;
+    require_allowed(&selection.by, force)?;
+    Ok(chosen)
+}

@@ -1,0 +1,12 @@
+//! Laws of the definitions, which no function computes.
+ghost use Rattle.rec_edit.specs.Outcome.{OneOutcome, UnruledEditsAreSound};
+
+/// An edit has one outcome, whichever way the patterns of its text were built.
+pub fn one_outcome()
+    ensures { OneOutcome }
+{}
+
+/// An edit of a text without a descriptor breaks no rule, so what it makes needn't be read and checked.
+pub fn unruled_edits_are_sound()
+    ensures { UnruledEditsAreSound }
+{}

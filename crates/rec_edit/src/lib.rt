@@ -1,0 +1,25 @@
+//! Edits of the records of a text: what each makes of it, and the patch that leads there.
+//! `docs/editing.md` describes the rules of layout, and `specs/` defines them, from `Task` on.
+#![tactic(auto)]
+
+mod chosen;
+mod commenting;
+mod covered;
+mod deletion;
+mod draft;
+mod laws;
+mod outcome;
+mod plan;
+mod request;
+mod script;
+mod setting;
+mod sound;
+mod wording;
+
+pub use laws::{one_outcome, unruled_edits_are_sound};
+pub use outcome::{Edited, edit};
+pub use rec_check::Schema;
+pub use rec_journal::Patch;
+pub use rec_select::{By, Selection};
+pub use rec_text::{Bytes, Database, Fault};
+pub use request::{Action, Edit};

@@ -1,0 +1,177 @@
+//! The outcome of an edit.
+ghost use Rattle.std.specs.Prelude.{◌≡◌, ◌≢◌, ◌↔◌, [], false, Bool, Result, Ok, Err, IfOk, IfErr};
+ghost use Rattle.std.specs.List.{AllByRecursion};
+ghost use Rattle.rec_text.specs.declared.fault.Fault.{Fault};
+ghost use Rattle.rec_text.specs.declared.fault.Fault.TheVariants.{BadPattern};
+ghost use Rattle.rec_text.specs.Elements.{text_of};
+ghost use Rattle.rec_text.specs.Faults.{UnlessMemory};
+ghost use Rattle.rec_check.specs.Schemas.{IsSchema};
+ghost use Rattle.rec_check.specs.Stored.{described};
+ghost use Rattle.rec_journal.specs.Patch.{Splices};
+ghost use Rattle.rec_edit.specs.declared.outcome.Edited.{Edited as EditedOf};
+ghost use Rattle.rec_edit.specs.Edits.{IsEditOf};
+ghost use Rattle.rec_edit.specs.Task.{task_of, wanted_by, delete as deleting, comment_out as commenting_out, set as setting_fields};
+ghost use Rattle.rec_edit.specs.Script.{TakesWhole};
+ghost use Rattle.rec_edit.specs.Outcome.{IsSound, IsOutcome, IsEditRefusal};
+ghost use Rattle.rec_edit.specs.Effect.{HasEffect};
+
+use crate::chosen::{chosen_records, removable_records};
+use crate::commenting::Commenting;
+use crate::deletion::Deletion;
+use crate::request::{Action, Edit};
+use crate::script::carried_out;
+use crate::setting::Setting;
+use crate::sound::require_sound;
+use crate::wording::items_for;
+use rec_check::Schema;
+use rec_journal::Patch;
+use rec_select::Selection;
+use rec_text::{Bytes, Database, Fault};
+use std::alloc::Global;
+
+/// What an edit makes of a text: the text after it, the patch that leads there, and how many records it changed.
+#[derive(Drop)]
+pub struct Edited {
+    pub patch: Patch,
+    pub text: Bytes,
+    pub changed: usize,
+}
+
+/// The records of a selection are deleted.
+fn delete(
+    alloc: Global,
+    database: &Database,
+    schema: &Schema,
+    selection: &Selection,
+    force: bool,
+) -> Result<Edited, Fault>
+    requires { IsSchema database.now (Ok (described schema.now)) }
+    ensures { UnlessMemory result (IsEditOf database.now (described schema.now) force (deleting (wanted_by selection.now))) }
+{
+    let chosen = removable_records(alloc, database, schema, selection, force)?;
+    let plan = Deletion::of(alloc, database, &chosen)?;
+    Ok(carried_out(alloc, database, &chosen, &plan)?)
+}
+
+/// The records of a selection are commented out.
+fn comment_out(
+    alloc: Global,
+    database: &Database,
+    schema: &Schema,
+    selection: &Selection,
+    force: bool,
+) -> Result<Edited, Fault>
+    requires { IsSchema database.now (Ok (described schema.now)) }
+    ensures { UnlessMemory result (IsEditOf database.now (described schema.now) force (commenting_out (wanted_by selection.now))) }
+{
+    let chosen = removable_records(alloc, database, schema, selection, force)?;
+    let plan = Commenting::of(alloc, &chosen)?;
+    Ok(carried_out(alloc, database, &chosen, &plan)?)
+}
+
+/// The fields that a list picks of the records of a selection are edited.
+fn set(
+    alloc: Global,
+    database: &Database,
+    schema: &Schema,
+    selection: &Selection,
+    list: &[u8],
+    action: &Action,
+) -> Result<Edited, Fault>
+    requires { IsSchema database.now (Ok (described schema.now)) }
+    ensures { (force : Bool) → UnlessMemory result (IsEditOf database.now (described schema.now) force (setting_fields (wanted_by selection.now) list.now action.now)) }
+{
+    let items = items_for(alloc, action, list)?;
+    let chosen = chosen_records(alloc, database, schema, selection)?;
+    let plan = Setting::of(alloc, database, &chosen, &items, action)?;
+    Ok(carried_out(alloc, database, &chosen, &plan)?)
+}
+
+/// The edited text may break rules.
+fn made(
+    alloc: Global,
+    database: &Database,
+    schema: &Schema,
+    edit: &Edit,
+    force: bool,
+) -> Result<Edited, Fault>
+    requires { IsSchema database.now (Ok (described schema.now)) }
+    ensures { UnlessMemory result (IsEditOf database.now (described schema.now) force (task_of edit.now)) }
+{
+    match edit {
+        Edit::Delete(selection) => delete(alloc, database, schema, selection, force),
+        Edit::CommentOut(selection) => comment_out(alloc, database, schema, selection, force),
+        Edit::Set {
+            selection,
+            list,
+            action,
+        } => set(alloc, database, schema, selection, list.as_slice(), action),
+    }
+}
+
+/// Refuses an edit after which the text breaks rules. A text without a descriptor has none, and no edit puts one in.
+fn require_kept_rules(
+    alloc: Global,
+    database: &Database,
+    schema: &Schema,
+    edit: &Edit,
+    edited: &Edited,
+) -> Result<(), Fault>
+    requires schema { IsSchema database.now (Ok (described schema.now)) }
+    requires made { IsEditOf database.now (described schema.now) false (task_of edit.now) (Ok edited.now) }
+    ensures { UnlessMemory result (IsSound edited.now.text) }
+{
+    // These are the elements of a text.
+    let _text = database.text();
+    if schema.sets().len() == 1 {
+        return Ok(());
+    }
+    require_sound(alloc, edited.text.as_slice())
+}
+
+/// The edited text must keep its rules, unless that is forced.
+fn outcome(
+    alloc: Global,
+    database: &Database,
+    schema: &Schema,
+    edit: &Edit,
+    force: bool,
+) -> Result<Edited, Fault>
+    requires { IsSchema database.now (Ok (described schema.now)) }
+    ensures { UnlessMemory result (IsOutcome database.now (described schema.now) force (task_of edit.now)) }
+{
+    let edited = made(alloc, database, schema, edit, force)?;
+    if !force {
+        require_kept_rules(alloc, database, schema, edit, &edited)?;
+    }
+    Ok(edited)
+}
+
+/// What an edit makes of a text. Without `force` the edited text must keep the rules of its record sets, and all records of
+/// a set aren't deleted or commented out.
+pub fn edit(
+    alloc: Global,
+    database: &Database,
+    schema: &Schema,
+    edit: &Edit,
+    force: bool,
+) -> Result<Edited, Fault>
+    requires schema { IsSchema database.now (Ok (described schema.now)) }
+    ensures found { UnlessMemory result (IsOutcome database.now (described schema.now) force (task_of edit.now)) }
+    ensures only { (other : Result EditedOf Fault) → IsOutcome database.now (described schema.now) force (task_of edit.now) other
+        → (other ≢ Err BadPattern) → UnlessMemory result (λ answer. (answer ≢ Err BadPattern) → answer ≡ other) }
+
+    ensures refusals { IfErr result IsEditRefusal }
+
+    // The patch leads from the text to the edited one, has no hunk exactly where the two are equal, and takes out whole elements.
+    ensures leads { IfOk result (λ edited. Splices edited.patch (text_of database.now) edited.text) }
+    ensures unchanged { IfOk result (λ edited. (edited.patch ≡ []) ↔ (edited.text ≡ text_of database.now)) }
+    ensures whole { IfOk result (λ edited. AllByRecursion (TakesWhole database.now) edited.patch) }
+
+    // What it means for the records.
+    ensures effect { IfOk result (λ edited. HasEffect database.now (described schema.now) (task_of edit.now) edited.text) }
+{
+    // These are the elements of a text.
+    let _text = database.text();
+    outcome(alloc, database, schema, edit, force)
+}

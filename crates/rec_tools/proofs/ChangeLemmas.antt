@@ -1,85 +1,92 @@
--- The edit that a delete asks for, step by step.
-use Rattle.std.proofs.Common.{◌≡◌, inl, inr, ℕ, Bool, List, Option, Result, Ok, Err, subst, refl, rules}
+-- The edit that a request asks for, step by step.
+use Rattle.std.proofs.Common.{◌≡◌, inl, inr, ℕ, Bool, List, Result, Ok, Err, subst, refl, sym}
 use Rattle.rec_text.specs.declared.fault.Fault.{Fault}
 use Rattle.rec_text.specs.Faults.{IsMemoryOr, UnlessMemory}
 use Rattle.rec_text.specs.Elements.{Piece}
-use Rattle.rec_text.specs.Reading.{IsReading}
 use Rattle.rec_check.specs.Schemas.{Described, IsSchema}
-use Rattle.rec_select.specs.Selection.{Filter, IsSelection}
+use Rattle.rec_select.specs.Selection.{Filter}
 use Rattle.rec_journal.specs.History.{Opened, IsOpening}
-use Rattle.rec_tools.specs.declared.deletion.Edited.{Edited}
+use Rattle.rec_edit.specs.declared.outcome.Edited.{Edited}
+use Rattle.rec_edit.specs.Task.{Wanted, Task}
+use Rattle.rec_edit.specs.Outcome.{IsOutcome}
+use Rattle.rec_tools.specs.declared.decision.Change.{Change}
 use Rattle.rec_tools.specs.declared.request.Pick.{Pick}
 use Rattle.rec_tools.specs.Home.{Contents}
-use Rattle.rec_tools.specs.Asking.{Base, IsFilter}
-use Rattle.rec_tools.specs.Decision.{IsUntyped, IsEditBase, IsDeletionOf, IsDeletionBy, allowed}
-use Rattle.rec_tools.specs.Guarantee.{IsRefusal}
-use Rattle.rec_tools.specs.Changes.{IsChangeByDelete, IsChangeFrom}
-use Rattle.rec_tools.proofs.FaultLemmas.{from_fact, memory_or_weaker, ok_is_no_err}
+use Rattle.rec_tools.specs.Steps.{Then}
+use Rattle.rec_tools.specs.Asking.{Base, IsBaseOf, IsBase, IsRecFile, IsFilter}
+use Rattle.rec_tools.specs.Edits.{IsEditBy}
+use Rattle.rec_tools.specs.Changes.{IsChange}
+use Rattle.rec_tools.proofs.FaultLemmas.{memory_or_weaker, ok_is_no_err, same_fault}
+use Rattle.rec_tools.proofs.FileLemmas.{based, file-refused, file-base, file-some_base}
 
--- ---- the base, behind its elements
+-- ---- the edit of elements that were given, with their schema
 
-module _ (file : List ℕ) (pieces : List Piece) (read : IsReading file (Ok pieces)) (untyped : IsUntyped pieces (Ok pieces)) where
-  pub base-no_schema : (fault : Fault) → IsMemoryOr fault (IsSchema pieces (Err fault)) → IsMemoryOr fault (IsEditBase file (Err fault))
-  base-no_schema fault h = memory_or_weaker fault _ _ (λ none. inr (pieces, read, inr (pieces, untyped, inl (fault, none, refl)))) h
+module _ (pieces given : List Piece) (schema : Described) (is : IsSchema pieces (Ok schema)) (same : given ≡ pieces) (task_for : Wanted → Task) (pick : Pick) (force : Bool) where
+  abbrev Edits : Result Edited Fault → Type 0
+  Edits = Then (IsBaseOf pieces) (IsEditBy task_for pick force)
 
-  pub base-found : (described : Described) → IsSchema pieces (Ok described) → IsEditBase file (Ok (record { pieces = pieces; sets = described.sets }))
-  base-found described is = inr (pieces, read, inr (pieces, untyped, inr (described, is, refl)))
+  pub by-no_filter : (fault : Fault) → IsMemoryOr fault (IsFilter pick.by (Err fault)) → IsMemoryOr fault (Edits (Err fault))
+  by-no_filter fault h = memory_or_weaker fault _ _ (λ none. inr (record { pieces = pieces; schema = schema }, based pieces schema is, inl (fault, none, refl))) h
 
--- ---- the deletion, behind its filter
+  module _ (wanted : Filter) (filtered : IsFilter pick.by (Ok wanted)) (task : Task) (e : task ≡ task_for (record { kind = pick.kind; filter = wanted })) where
+    is_edit : (r : Result Edited Fault) → IsOutcome given schema force task r → Edits r
+    is_edit r made = inr (
+      record { pieces = pieces; schema = schema },
+      based pieces schema is,
+      inr (wanted, filtered, subst (λ t. IsOutcome pieces schema force t r) e (subst (λ g. IsOutcome g schema force task r) same made)),
+    )
 
-module _ (base : Base) (pick : Pick) (force : Bool) (wanted : Filter) (filtered : IsFilter pick.by (Ok wanted)) (kind : Option (List ℕ)) (same : kind ≡ pick.kind) where
-  of_pick : (r : Result (List ℕ) Fault) → IsSelection base.pieces base.sets kind wanted r → IsSelection base.pieces base.sets pick.kind wanted r
-  of_pick r h = subst (λ k. IsSelection base.pieces base.sets k wanted r) same h
-
-  pub by-no_set : (fault : Fault) → IsMemoryOr fault (IsSelection base.pieces base.sets kind wanted (Err fault)) → IsMemoryOr fault (IsDeletionBy base pick force (Err fault))
-  by-no_set fault h = memory_or_weaker fault _ _ (λ none. inr (wanted, filtered, inl (fault, of_pick (Err fault) none, refl))) h
-
-  module _ (selected : List ℕ) (selects : IsSelection base.pieces base.sets kind wanted (Ok selected)) where
-    pub by-not_allowed : (fault : Fault) → Err fault ≡ allowed pick.by force → IsMemoryOr fault (IsDeletionBy base pick force (Err fault))
-    by-not_allowed fault refused = from_fact fault _ (inr (wanted, filtered, inr (selected, of_pick (Ok selected) selects, inl (fault, refused, refl))))
-
-    by-allowed : (r : Result Edited Fault) → Ok tt ≡ allowed pick.by force → IsDeletionOf base.pieces selected r → IsDeletionBy base pick force r
-    by-allowed r may deleted = inr (wanted, filtered, inr (selected, of_pick (Ok selected) selects, inr (tt, may, deleted)))
-
-    pub by-deleted : (given : List ℕ) (r : Result Edited Fault) → Ok tt ≡ allowed pick.by force → given ≡ selected → UnlessMemory r (IsDeletionOf base.pieces given)
-        → UnlessMemory r (IsDeletionBy base pick force)
-    by-deleted given (Ok edited) may are deleted = by-allowed (Ok edited) may (subst (λ s. IsDeletionOf base.pieces s (Ok edited)) are deleted)
-    by-deleted given (Err fault) may are deleted = memory_or_weaker fault _ _ (λ refused. absurd refused) deleted
+    pub by-edit : (r : Result Edited Fault) → UnlessMemory r (IsOutcome given schema force task) → UnlessMemory r Edits
+    by-edit (Ok edited) made = is_edit (Ok edited) made
+    by-edit (Err fault) made = memory_or_weaker fault _ _ (is_edit (Err fault)) made
 
 -- ---- the change
 
-pub found-no_base : (file journal : List ℕ) (pick : Pick) (force : Bool) (fault : Fault) → IsMemoryOr fault (IsEditBase file (Err fault))
-    → IsMemoryOr fault (IsChangeByDelete (record { file = file; journal = journal }) pick force (Err fault))
-found-no_base file journal pick force fault h = memory_or_weaker fault _ _ (λ none. inl (fault, none, refl)) h
+module _ (file journal : List ℕ) (IsEdit : Base → Result Edited Fault → Type 0) where
+  abbrev contents : Contents
+  contents = record { file = file; journal = journal }
 
-pub from-no_base : (file : List ℕ) (pick : Pick) (force : Bool) (fault : Fault) (o : Opened) → IsMemoryOr fault (IsEditBase file (Err fault))
-    → IsMemoryOr fault (IsChangeFrom o file pick force (Err fault))
-from-no_base file pick force fault o h = memory_or_weaker fault _ _ (λ none. inl (fault, none, refl)) h
+  pub change-no_file : (fault : Fault) → IsMemoryOr fault (IsRecFile file (Err fault)) → IsMemoryOr fault (IsChange contents IsEdit (Err fault))
+  change-no_file fault h = memory_or_weaker fault _ _ (λ none. inl (fault, none, refl)) (file-refused file fault h)
 
-module _ (file journal : List ℕ) (pick : Pick) (force : Bool) (base : Base) (is : IsEditBase file (Ok base)) where
-  pub found-no_opening : (fault : Fault) → IsMemoryOr fault (IsOpening file journal (Err fault))
-      → IsMemoryOr fault (IsChangeByDelete (record { file = file; journal = journal }) pick force (Err fault))
-  found-no_opening fault h = memory_or_weaker fault _ _ (λ none. inr (base, is, inl (fault, none, refl))) h
+  pub change-no_opening : (pieces : List Piece) → IsRecFile file (Ok pieces) → (fault : Fault) → IsMemoryOr fault (IsOpening file journal (Err fault))
+      → IsMemoryOr fault (IsChange contents IsEdit (Err fault))
+  change-no_opening pieces is fault h = memory_or_weaker fault _ _ unopened h where
+    unopened : IsOpening file journal (Err fault) → IsChange contents IsEdit (Err fault)
+    unopened none =
+        let base = file-some_base file pieces is in
+        inr (base.0, base.1, inl (fault, none, refl))
 
-  pub from-no_opening : (fault : Fault) (o : Opened) → IsMemoryOr fault (Err fault ≡ Ok o) → IsMemoryOr fault (IsChangeFrom o file pick force (Err fault))
-  from-no_opening fault o h = memory_or_weaker fault _ _ (λ e. ok_is_no_err o fault _ e) h
+  module _ (pieces : List Piece) (is : IsRecFile file (Ok pieces)) (o : Opened) (opens : IsOpening file journal (Ok o)) where
+    pub change-no_edit : (fault : Fault) → IsMemoryOr fault (Then (IsBaseOf pieces) IsEdit (Err fault)) → IsMemoryOr fault (IsChange contents IsEdit (Err fault))
+    change-no_edit fault h = memory_or_weaker fault _ _ refused h where
+      refused : Then (IsBaseOf pieces) IsEdit (Err fault) → IsChange contents IsEdit (Err fault)
+      refused (inl (other, none, e)) = inl (fault, file-base file pieces is (Err fault) (subst (λ f. IsBaseOf pieces (Err f)) (sym (same_fault fault other e)) none), refl)
+      refused (inr (base, told, none)) = inr (base, file-base file pieces is (Ok base) told, inr (o, opens, inl (fault, none, refl)))
 
-  pub from-no_deletion : (fault : Fault) (o : Opened) → IsMemoryOr fault (IsDeletionBy base pick force (Err fault)) → IsMemoryOr fault (IsChangeFrom o file pick force (Err fault))
-  from-no_deletion fault o h = memory_or_weaker fault _ _ (λ none. inr (base, is, inl (fault, none, refl))) h
+    pub change-edited : (edited : Edited) → Then (IsBaseOf pieces) IsEdit (Ok edited) → IsChange contents IsEdit (Ok (record { history = o; edited = edited }))
+    change-edited edited (inl (fault, none, e)) = ok_is_no_err edited fault _ (sym e)
+    change-edited edited (inr (base, told, made)) = inr (base, file-base file pieces is (Ok base) told, inr (o, opens, inr (edited, made, refl)))
 
-  module _ (opened : Opened) (opens : IsOpening file journal (Ok opened)) where
-    pub found-no_deletion : (fault : Fault) → IsMemoryOr fault (IsDeletionBy base pick force (Err fault))
-        → IsMemoryOr fault (IsChangeByDelete (record { file = file; journal = journal }) pick force (Err fault))
-    found-no_deletion fault h = memory_or_weaker fault _ _ (λ none. inr (base, is, inr (opened, opens, inl (fault, none, refl)))) h
+-- the parts of a change that was made
+pub record Changed (c : Contents) (IsEdit : Base → Result Edited Fault → Type 0) (change : Change) : Type 0 where
+  pub base : Base
+  pub is : IsBase c.file (Ok base)
+  pub opens : IsOpening c.file c.journal (Ok change.history)
+  pub made : IsEdit base (Ok change.edited)
 
-    pub found-edited : (edited : Edited) → IsDeletionBy base pick force (Ok edited)
-        → IsChangeByDelete (record { file = file; journal = journal }) pick force (Ok (record { history = opened; edited = edited }))
-    found-edited edited deleted = inr (base, is, inr (opened, opens, inr (edited, deleted, refl)))
+same_change : (one other : Change) → ◌≡◌ {A = Result Change Fault} (Ok one) (Ok other) → one ≡ other
+same_change one other e = cc
 
-    pub from-edited : (edited : Edited) (o : Opened) → ◌≡◌ {A = Result Opened Fault} (Ok opened) (Ok o) → IsDeletionBy base pick force (Ok edited)
-        → IsChangeFrom o file pick force (Ok (record { history = opened; edited = edited }))
-    from-edited edited o same deleted = inr (base, is, inr (edited, deleted, cc))
-
--- a change has these refusals alone
-pub change_refusal : (c : Contents) (pick : Pick) (force : Bool) (fault : Fault) → IsMemoryOr fault (IsChangeByDelete c pick force (Err fault)) → IsRefusal fault
-change_refusal c pick force fault h = search rules
+pub change-parts : (c : Contents) (IsEdit : Base → Result Edited Fault → Type 0) (change : Change) → IsChange c IsEdit (Ok change) → Changed c IsEdit change
+change-parts c IsEdit change (inl (fault, none, e)) = ok_is_no_err change fault _ (sym e)
+change-parts c IsEdit change (inr (base, is, inl (fault, none, e))) = ok_is_no_err change fault _ (sym e)
+change-parts c IsEdit change (inr (base, is, inr (o, opens, inl (fault, none, e)))) = ok_is_no_err change fault _ (sym e)
+change-parts c IsEdit change (inr (base, is, inr (o, opens, inr (edited, made, e)))) =
+    let same : change ≡ record { history = o; edited = edited } = same_change change _ e in
+    record {
+      base = base;
+      is = is;
+      opens = subst (λ (x : Change). IsOpening c.file c.journal (Ok x.history)) (sym same) opens;
+      made = subst (λ (x : Change). IsEdit base (Ok x.edited)) (sym same) made;
+    }

@@ -1,31 +1,60 @@
 -- What `check` puts out: its report, or a front of it where that is cut short.
-use Rattle.std.proofs.Common.{◌≡◌, inr, ℕ, List, Option, Ok, Err, refl, subst}
+use Rattle.std.proofs.Common.{◌≡◌, inl, inr, ℕ, List, Option, Ok, Err, refl, subst, sym}
 use Rattle.rec_text.specs.declared.fault.Fault.{Fault}
+use Rattle.rec_text.specs.declared.fault.Fault.TheVariants.{StoreFailed}
+use Rattle.rec_text.specs.Faults.{IsMemoryOr}
 use Rattle.rec_text.specs.declared.violations.Violation.{Violation}
 use Rattle.rec_text.specs.Elements.{Piece}
 use Rattle.rec_text.specs.Reading.{IsReading}
 use Rattle.rec_check.specs.Schemas.{Described, IsSchema}
-use Rattle.rec_check.specs.Violations.{AreViolations}
+use Rattle.rec_check.specs.Violations.{AreViolations, AreViolationsOf}
 use Rattle.rec_select.specs.Printing.{Puts}
 use Rattle.rec_select.specs.Report.{IsReport, report}
 use Rattle.rec_tools.specs.declared.request.Reply.{Reply}
-use Rattle.rec_tools.specs.Printouts.{IsCheck, IsReportText, PutsPrintout, verdict}
-use Rattle.rec_tools.proofs.FaultLemmas.{ok_is_no_err, same_value}
-use Rattle.rec_tools.proofs.PutsLemmas.{PutsPrintout-err}
+use Rattle.rec_tools.specs.Asking.{Base, IsBaseOf, IsBase, IsRecFile}
+use Rattle.rec_tools.specs.Printouts.{IsReportText, PutsPrintout, verdict}
+use Rattle.rec_tools.proofs.FaultLemmas.{memory_or_weaker, ok_is_no_err, same_fault, same_value}
+use Rattle.rec_tools.proofs.FileLemmas.{file-refused, file-reading}
+use Rattle.rec_tools.proofs.PutsLemmas.{PutsPrintout-refused, PutsPrintout-err}
 
-module _ (file : List ℕ) (pieces : List Piece) (schema : Described) (read : IsReading file (Ok pieces)) (is_schema : IsSchema pieces (Ok schema))
-    (found : List Violation) (are : AreViolations pieces schema found) where
+pub no_store_report : (file : List ℕ) → AreViolationsOf file (Err StoreFailed) → ⊥
+no_store_report file (inl h) = h
+no_store_report file (inr (pieces, read, h)) = h
+
+-- elements without a base have no report
+no_report_of : (file : List ℕ) (pieces : List Piece) (fault : Fault) → IsReading file (Ok pieces) → IsBaseOf pieces (Err fault) → AreViolationsOf file (Err fault)
+no_report_of file pieces fault read (inl (other, refused, e)) =
+    inr (pieces, read, subst (λ f. IsSchema pieces (Err f)) (sym (same_fault fault other e)) refused)
+no_report_of file pieces fault read (inr (schema, is, e)) = ok_is_no_err {A = Base} (record { pieces = pieces; schema = schema }) fault _ e
+
+-- a file without a base has no report
+no_report : (file : List ℕ) (fault : Fault) → IsBase file (Err fault) → AreViolationsOf file (Err fault)
+no_report file fault (inl (other, unread, e)) = inl (subst (λ f. IsReading file (Err f)) (sym (same_fault fault other e)) unread)
+no_report file fault (inr (pieces, read, none)) = no_report_of file pieces fault read none
+
+pub check-no_base : (file : List ℕ) (old : Option (List ℕ)) (fault : Fault) → IsMemoryOr fault (IsRecFile file (Err fault))
+    → PutsPrintout (IsReportText (AreViolationsOf file)) old old (Err fault)
+check-no_base file old fault h =
+    PutsPrintout-refused (IsReportText (AreViolationsOf file)) old fault (no_store_report file)
+    (memory_or_weaker fault _ _ (no_report file fault) (file-refused file fault h))
+
+module _ (file : List ℕ) (pieces given : List Piece) (schema : Described) (is : IsRecFile file (Ok pieces)) (of_pieces : IsSchema pieces (Ok schema)) (same : given ≡ pieces)
+    (found : List Violation) (are_given : AreViolations given schema found) where
+  -- a check of the file finds them
+  checked : AreViolationsOf file (Ok found)
+  checked = (pieces, schema, file-reading file pieces is, of_pieces, subst (λ g. AreViolations g schema found) same are_given)
+
   -- the report of what was found is the printout
-  reported : (slice : List Violation) → slice ≡ found → (text : List ℕ) → IsReport slice (Ok text) → IsReportText (IsCheck file) (Ok (record { text = text; reply = verdict found }))
-  reported slice same text put = (found, inr (pieces, read, inr (schema, is_schema, are)), same_value text _ (subst (λ vs. IsReport vs (Ok text)) same put), refl)
+  reported : (slice : List Violation) → slice ≡ found → (text : List ℕ) → IsReport slice (Ok text) → IsReportText (AreViolationsOf file) (Ok (record { text = text; reply = verdict found }))
+  reported slice e text put = (found, checked, same_value text _ (subst (λ vs. IsReport vs (Ok text)) e put), refl)
 
   pub check-printed : (X : Type 0) (done : X) (slice : List Violation) (reply : Reply) (old new : Option (List ℕ)) → slice ≡ found → reply ≡ verdict found → Puts {X = X} (IsReport slice) old new (Ok done)
-      → PutsPrintout (IsReportText (IsCheck file)) old new (Ok reply)
-  check-printed X done slice reply old new same is put =
-      (put.0, (found, inr (pieces, read, inr (schema, is_schema, are)), same_value put.0 _ (subst (λ vs. IsReport vs (Ok put.0)) same put.1), is), put.2)
+      → PutsPrintout (IsReportText (AreViolationsOf file)) old new (Ok reply)
+  check-printed X done slice reply old new e is_verdict put =
+      (put.0, (found, checked, same_value put.0 _ (subst (λ vs. IsReport vs (Ok put.0)) e put.1), is_verdict), put.2)
 
   pub check-cut_short : (X : Type 0) (slice : List Violation) (old new : Option (List ℕ)) (fault : Fault) → slice ≡ found → Puts {X = X} (IsReport slice) old new (Err fault)
-      → PutsPrintout (IsReportText (IsCheck file)) old new (Err fault)
-  check-cut_short X slice old new fault same put =
-      PutsPrintout-err X (IsReport slice) (IsReportText (IsCheck file)) old new fault (λ text is_text. (verdict found, reported slice same text is_text))
-      (λ f e. ok_is_no_err (report slice) f _ e) put
+      → PutsPrintout (IsReportText (AreViolationsOf file)) old new (Err fault)
+  check-cut_short X slice old new fault e put =
+      PutsPrintout-err X (IsReport slice) (IsReportText (AreViolationsOf file)) old new fault (λ text is_text. (verdict found, reported slice e text is_text))
+      (λ f h. ok_is_no_err (report slice) f _ h) put

@@ -73,9 +73,9 @@ pub no_store_then : {A B : Type 0} (first : Result A Fault → Type 0) (next : A
 no_store_then first next never nor (inl (fault, refused, e)) = never (subst (λ f. first (Err f)) (sym (same_fault _ _ e)) refused)
 no_store_then first next never nor (inr (a, done, h)) = nor a h
 
-no_store_base_of : (pieces : List Piece) → IsBaseOf pieces (Err StoreFailed) → ⊥
-no_store_base_of pieces = no_store_then (IsSchema pieces) (λ schema answer. answer ≡ Ok (record { pieces = pieces; sets = schema.sets })) (λ h. h)
-    (λ schema e. ok_is_no_err {A = Base} (record { pieces = pieces; sets = schema.sets }) StoreFailed ⊥ e)
+pub no_store_base_of : (pieces : List Piece) → IsBaseOf pieces (Err StoreFailed) → ⊥
+no_store_base_of pieces = no_store_then (IsSchema pieces) (λ schema answer. answer ≡ Ok (record { pieces = pieces; schema = schema })) (λ h. h)
+    (λ schema e. ok_is_no_err {A = Base} (record { pieces = pieces; schema = schema }) StoreFailed ⊥ e)
 
 pub no_store_base : (file : List ℕ) → IsBase file (Err StoreFailed) → ⊥
 no_store_base file = no_store_then (IsReading file) IsBaseOf (λ h. h) no_store_base_of

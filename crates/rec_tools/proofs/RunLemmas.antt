@@ -1,220 +1,200 @@
--- What a request does to contents that a home may tell, and what goes out.
-use Rattle.std.proofs.Common.{◌≡◌, ◌⊎◌, inl, inr, ℕ, ◌≤◌, ◌^◌, ◌-◌, List, [], Option, Some, None, Result, Ok, Err, IfSome, OnErr, IsErrAnd, IsErrOf, ap, sym, subst, refl, ◌∙◌, arith}
-use Rattle.std.proofs.KnownBytes.{Appends-nil}
+-- What `run` ensures besides, from what the request did.
+use Rattle.std.proofs.Common.{◌≡◌, ◌⊎◌, inl, inr, ℕ, List, [], ◌∷◌, ◌++◌, Option, Some, None, Ok, Err, ap, sym, subst, refl, ◌∙◌}
+use Rattle.std.specs.Prelude.{IfSome, IfErr, OnOk}
 use Rattle.rec_text.specs.declared.fault.Fault.{Fault}
 use Rattle.rec_text.specs.declared.fault.Fault.TheVariants.{OutOfMemory, StoreFailed}
-use Rattle.rec_text.specs.Faults.{IsMemoryOr}
 use Rattle.rec_text.specs.Sink.{HasRisen}
-use Rattle.rec_tools.specs.declared.request.Request.{Request}
+use Rattle.rec_tools.specs.declared.home.Which.{Which}
 use Rattle.rec_tools.specs.declared.request.Reply.{Reply}
-use Rattle.rec_tools.specs.declared.decision.Decision.{Decision}
-use Rattle.rec_tools.specs.declared.decision.Decision.TheVariants.{Stay, Put}
-use Rattle.rec_tools.specs.Home.{Contents}
-use Rattle.rec_tools.specs.Printouts.{Printed, PutsPrintout, WentOut, IsPrintout}
-use Rattle.rec_tools.specs.Decision.{IsDecision}
-use Rattle.rec_tools.specs.Machine.{State, Stands}
-use Rattle.rec_tools.specs.Guarantee.{StepsAsMachine, MayCarryOut, Attempts, GoesAsMachine, IsLook}
-use Rattle.rec_tools.proofs.FaultLemmas.{memory_or}
-use Rattle.rec_tools.proofs.RunPrintingLemmas.{Prints, prints-put, does-prints, is_answer-prints}
+use Rattle.rec_tools.specs.declared.request.Request.{Request}
+use Rattle.rec_tools.specs.Home.{Contents, Call, left_by, left_by_all, Tells, TellAll, HasFailed, Counts}
+use Rattle.rec_tools.specs.Printouts.{Printed}
+use Rattle.rec_tools.specs.Requests.{Asked, looking, listing, editing, moving, asked_of, reads_of, WritesNothing}
+use Rattle.rec_tools.specs.Outcomes.{Write, Outcome, IsOutcome}
+use Rattle.rec_tools.specs.Attempts.{Answer, gots, puts, StopsReading, StopsWriting, IsAnswered, IsUnread, IsCarriedOut, Does}
+use Rattle.rec_tools.proofs.CallLemmas.{Follows, HasFailed-rest, HasFailed-parts, left_by_all-append, failures_stay, failures_rise, contents_follow}
+use Rattle.rec_tools.proofs.ExitLemmas.{Attempted}
+use Rattle.rec_tools.proofs.FaultLemmas.{same_fault, same_value}
+use Rattle.rec_tools.proofs.StoreLemmas.{never_store}
 
-abbrev pub Answer : Type 0
-Answer = Result Reply Fault
+-- ---- reads and writes
 
--- ---- failures, counted
+pub no_failure-gots : (c : Contents) (whiches : List Which) → HasFailed (gots c whiches) → ⊥
+no_failure-gots c [] failed = failed
+no_failure-gots c (which ∷ whiches) (inl failed) = failed
+no_failure-gots c (which ∷ whiches) (inr failed) = no_failure-gots c whiches failed
 
-at_greatest : (n m k : ℕ) → n ≤ m → m ≤ k → m ≡ 2 ^ 64 - 1 → HasRisen n k
-at_greatest n m k le more e = grind arith
+no_failure-puts : (writes : List Write) → HasFailed (puts writes) → ⊥
+no_failure-puts [] failed = failed
+no_failure-puts (w ∷ writes) (inl failed) = failed
+no_failure-puts (w ∷ writes) (inr failed) = no_failure-puts writes failed
 
-pub rises_before : (n m k : ℕ) → n ≤ m → m ≤ k → HasRisen n m → HasRisen n k
-rises_before n m k le more (inl lt) = inl (omega arith)
-rises_before n m k le more (inr e) = at_greatest n m k le more e
+left-reads : (c d : Contents) (whiches : List Which) → left_by_all d (gots c whiches) ≡ d
+left-reads c d [] = refl
+left-reads c d (which ∷ whiches) = left-reads c d whiches
 
-pub rises_behind : (n m k : ℕ) → n ≤ m → HasRisen m k → HasRisen n k
-rises_behind n m k le (inl lt) = inl (omega arith)
-rises_behind n m k le (inr e) = inr e
+pub left-gots : (c : Contents) (whiches : List Which) → left_by_all c (gots c whiches) ≡ c
+left-gots c whiches = left-reads c c whiches
 
--- ---- what is told before and after
+-- a read that stops found no memory, or it failed
+pub stopped-failed : (whiches : List Which) (calls : List Call) (fault : Fault) → StopsReading whiches calls fault
+    → (fault ≡ OutOfMemory) ⊎ ((fault ≡ StoreFailed) × HasFailed calls)
+stopped-failed [] [] fault stops = absurd stops
+stopped-failed [] (call ∷ calls) fault stops = absurd stops
+stopped-failed (which ∷ rest) [] fault stops = absurd stops
+stopped-failed (which ∷ rest) (call ∷ calls) fault (inl stops) = inl stops.2
+stopped-failed (which ∷ rest) (call ∷ calls) fault (inr (inl stops)) = inr (stops.2, rw stops.0 (inl tt))
+stopped-failed (which ∷ rest) (call ∷ calls) fault (inr (inr stops)) =
+    elim (stopped-failed rest calls fault stops.2) [ inl short ↦ inl short | inr failed ↦ inr (failed.0, inr failed.1) ]
 
--- what the exit of a `?` returns
-pub refused_with : (answer : Answer) (fault : Fault) → IsErrAnd answer (λ given. given ≡ fault) → answer ≡ Err fault
-refused_with (Ok reply) fault h = absurd h
-refused_with (Err given) fault h = ap Err h
+pub left-stopped : (c : Contents) (whiches : List Which) (calls : List Call) (fault : Fault) → StopsReading whiches calls fault → left_by_all c calls ≡ c
+left-stopped c [] [] fault stops = refl
+left-stopped c [] (call ∷ calls) fault stops = absurd stops
+left-stopped c (which ∷ rest) [] fault stops = refl
+left-stopped c (which ∷ rest) (call ∷ calls) fault (inl stops) = rw (stops.0, stops.1) refl
+left-stopped c (which ∷ rest) (call ∷ calls) fault (inr (inl stops)) = rw (stops.0, stops.1) refl
+left-stopped c (which ∷ rest) (call ∷ calls) fault (inr (inr stops)) = rw stops.1 (left-stopped c rest calls fault stops.2)
 
--- the contents are those that were read
-abbrev pub WasRead : Option Contents → List ℕ → List ℕ → Type 0
-WasRead told file journal = IfSome told (λ c. (file ≡ c.file) × (journal ≡ c.journal))
+pub cut-failed : (writes : List Write) (calls : List Call) → StopsWriting writes calls → HasFailed calls
+cut-failed [] [] stops = stops
+cut-failed [] (call ∷ calls) stops = absurd stops
+cut-failed (w ∷ writes) [] stops = stops
+cut-failed (w ∷ writes) (call ∷ calls) (inl (inl old, none)) = rw old (inl tt)
+cut-failed (w ∷ writes) (call ∷ calls) (inl (inr new, none)) = rw new (inl tt)
+cut-failed (w ∷ writes) (call ∷ calls) (inr (put, stops)) = inr (cut-failed writes calls stops)
 
--- what is told afterwards is what an attempt leaves, and this went out
-abbrev pub Attempted : Option Contents → Option Contents → (Printed → Type 0) → Request → Answer → Type 0
-Attempted old new Went request answer = IfSome old (λ c. (d : Contents) × (p : Printed) × (new ≡ Some d) × Went p × Attempts c request answer p d)
+no_cut : (calls : List Call) → StopsWriting [] calls → ⊥
+no_cut [] stops = stops
+no_cut (call ∷ calls) stops = stops
 
--- what is told afterwards stands for the machine's next state, and this went out
-abbrev pub Stepped : Option Contents → Option Contents → (Printed → Type 0) → Request → Answer → Type 0
-Stepped old new Went request answer = IfSome old (λ c. (s : State) → Stands c s →
-    (d : Contents) × (t : State) × (p : Printed) × (new ≡ Some d) × Went p × GoesAsMachine c s request answer p d t)
+-- what writes nothing has no writes
+writes_nothing : (c : Contents) (asked : Asked) (o : Outcome) → WritesNothing asked → IsOutcome c asked (Ok o) → o.writes ≡ []
+writes_nothing c (looking IsText) o nothing is = ap (λ (x : Outcome). x.writes) is.2
+writes_nothing c listing o nothing (inl refused) = let e = refused.2 in cc
+writes_nothing c listing o nothing (inr listed) = ap (λ (x : Outcome). x.writes) (same_value o _ listed.2)
+writes_nothing c (editing tool IsEdit) o nothing is = absurd nothing
+writes_nothing c (moving direction) o nothing is = absurd nothing
 
--- what is decided of the given request on the bytes that were read is decided of the request on the contents
-decided_on : (c : Contents) (file journal : List ℕ) (request given : Request) (P : Contents → Request → Type 0) → request ≡ given → (file ≡ c.file) × (journal ≡ c.journal)
-    → P (record { file = file; journal = journal }) given → P c request
-decided_on c file journal request given P asked read h =
-    let e : record { file = file; journal = journal } ≡ c = ap (λ f. record { file = f; journal = journal }) read.0 ∙ ap (λ j. record { file = c.file; journal = j }) read.1 in
-    subst (P c) (sym asked) (subst (λ d. P d given) e h)
+none-written : (o : Outcome) (answer : Answer) (calls : List Call) → o.writes ≡ [] → IsAnswered o answer calls → calls ≡ []
+none-written o answer calls none (inl put) = put.1 ∙ ap puts none
+none-written o answer calls none (inr stopped) = absurd (no_cut calls (subst (λ writes. StopsWriting writes calls) none stopped.1))
 
--- the contents are those that were read, in the slices of the bytes
-pub was_read_as : (old : Option Contents) (file journal f j : List ℕ) → WasRead old file journal → f ≡ file → j ≡ journal → WasRead old f j
-was_read_as None file journal f j read e h = tt
-was_read_as (Some c) file journal f j read e h = (e ∙ read.0, h ∙ read.1)
+-- ---- from what was done on contents
 
--- ---- a request on contents, with a sink that is as it was
+module _ (c : Contents) (asked : Asked) (calls : List Call) (p : Printed) where
+  no_failure-answered : (o : Outcome) (reply : Reply) (later : List Call) → IsAnswered o (Ok reply) later → HasFailed later → ⊥
+  no_failure-answered o reply later (inl put) failed = no_failure-puts o.writes (subst HasFailed put.1 failed)
+  no_failure-answered o reply later (inr stopped) failed = let e = stopped.0 in cc
 
--- nothing went out to a sink that failed so often
-abbrev pub silence : ℕ → Printed
-silence k = record { text = []; before = k; after = k }
+  carried-kept : (reply : Reply) → IsCarriedOut c asked (Ok reply) calls p → HasFailed calls → ⊥
+  carried-kept reply done failed =
+      elim (HasFailed-parts (gots c (reads_of asked)) done.behind (subst HasFailed done.calls_are failed)) [
+        | inl first ↦ no_failure-gots c (reads_of asked) first
+        | inr rest ↦ no_failure-answered done.o reply done.behind done.answered rest
+      ]
 
-pub went_silently : (told : Option (List ℕ)) (k : ℕ) → WentOut told told k k (silence k)
-went_silently told k = (Appends-nil told, refl, refl)
+  -- a success met no failure
+  pub does-kept : (reply : Reply) → Does c asked (Ok reply) calls p → (HasFailed calls → ⊥) × (p.after ≡ p.before)
+  does-kept reply (inl done) = let e = done.answered in cc
+  does-kept reply (inr (inl done)) = let e = done.answered in cc
+  does-kept reply (inr (inr (inl done))) = let e = done.answered in cc
+  does-kept reply (inr (inr (inr (inl done)))) = let e = done.answered in cc
+  does-kept reply (inr (inr (inr (inr done)))) = (carried-kept reply done, done.kept)
 
-attempts-unread : (c : Contents) (request : Request) (fault : Fault) (k : ℕ) → (fault ≡ OutOfMemory) ⊎ (fault ≡ StoreFailed) → Attempts c request (Err fault) (silence k) c
-attempts-unread c request fault k (inl e) = inl (inr (inr (inl (ap Err e, refl, inl refl))))
-attempts-unread c request fault k (inr e) = inr (ap Err e, refl, inl refl)
+  failed-answered : (o : Outcome) (fault : Fault) (later : List Call) → IsAnswered o (Err fault) later → (fault ≡ StoreFailed) × HasFailed later
+  failed-answered o fault later (inl put) = let e = put.0 in cc
+  failed-answered o fault later (inr stopped) = (same_fault _ _ stopped.0, cut-failed o.writes later stopped.1)
 
-attempts-refused : (c : Contents) (request : Request) (fault : Fault) (k : ℕ) → (fault ≡ OutOfMemory) ⊎ IsDecision c request (Err fault) → Attempts c request (Err fault) (silence k) c
-attempts-refused c request fault k (inl e) = attempts-unread c request fault k (inl e)
-attempts-refused c request fault k (inr decided) = inl (inl (Err fault, decided, (refl, refl), refl))
+  carried-failed : (fault : Fault) → IsCarriedOut c asked (Err fault) calls p → (fault ≡ StoreFailed) × HasFailed calls
+  carried-failed fault done =
+      let failed = failed-answered done.o fault done.behind done.answered in
+      (failed.0, subst HasFailed (sym done.calls_are) (HasFailed-rest (gots c (reads_of asked)) done.behind failed.1))
 
-attempts-carried : (c : Contents) (request : Request) (decision : Decision) (answer : Answer) (d : Contents) (k : ℕ)
-    → IsDecision c request (Ok decision) → MayCarryOut c decision answer d → Attempts c request answer (silence k) d
-attempts-carried c request (Stay reply) answer d k decided stayed = inl (inl (Ok (Stay reply), decided, stayed, refl))
-attempts-carried c request (Put plan reply) answer d k decided (inl put) = inl (inl (Ok (Put plan reply), decided, put, refl))
-attempts-carried c request (Put plan reply) answer d k decided (inr failed) =
-    inr (failed.0, refl, elim failed.1 [ inl same ↦ inl same | inr other ↦ inr (plan, reply, decided, other) ])
+  unread-failed : IsUnread c asked (Err StoreFailed) calls p → HasFailed calls
+  unread-failed done =
+      elim (stopped-failed (reads_of asked) calls done.fault done.stops) [ inl short ↦ (let e = done.answered in cc) | inr failed ↦ failed.1 ]
 
-goes-short_of_memory : (c : Contents) (s : State) (request : Request) (fault : Fault) (k : ℕ) → Stands c s → fault ≡ OutOfMemory → GoesAsMachine c s request (Err fault) (silence k) c s
-goes-short_of_memory c s request fault k stands e = (inr (inr (inl (ap Err e, refl, inl refl))), inr (inl (ap Err e, refl, inl refl)), stands)
+  -- a store failed in a call, or the sink did
+  pub does-store_failed : (IsOutcome c asked (Err StoreFailed) → ⊥) → Does c asked (Err StoreFailed) calls p → HasFailed calls ⊎ HasRisen p.before p.after
+  does-store_failed never (inl done) = inl (unread-failed done)
+  does-store_failed never (inr (inl done)) = let e = done.answered in cc
+  does-store_failed never (inr (inr (inl done))) = absurd (never (subst (λ f. IsOutcome c asked (Err f)) (sym (same_fault _ _ done.answered)) done.outcome))
+  does-store_failed never (inr (inr (inr (inl done)))) = inr done.risen
+  does-store_failed never (inr (inr (inr (inr done)))) = inl (carried-failed StoreFailed done).1
 
-goes-refused : (c : Contents) (s : State) (request : Request) (fault : Fault) (k : ℕ) → Stands c s
-    → (fault ≡ OutOfMemory) ⊎ IsDecision c request (Err fault) → (fault ≡ OutOfMemory) ⊎ StepsAsMachine s request (Err fault)
-    → GoesAsMachine c s request (Err fault) (silence k) c s
-goes-refused c s request fault k stands (inl e) steps = goes-short_of_memory c s request fault k stands e
-goes-refused c s request fault k stands (inr decided) (inl e) = goes-short_of_memory c s request fault k stands e
-goes-refused c s request fault k stands (inr decided) (inr steps) = (inl (Err fault, decided, (refl, refl), refl), steps (silence k) refl, stands)
+  gots-left : calls ≡ gots c (reads_of asked) → left_by_all c calls ≡ c
+  gots-left read = ap (left_by_all c) read ∙ left-gots c (reads_of asked)
 
-goes-carried : (c : Contents) (s : State) (request : Request) (decision : Decision) (answer : Answer) (d : Contents) (k : ℕ) → Stands c s
-    → IsDecision c request (Ok decision) → StepsAsMachine s request (Ok decision) → MayCarryOut c decision answer d → (answer ≡ Err StoreFailed → ⊥)
-    → (t : State) × GoesAsMachine c s request answer (silence k) d t
-goes-carried c s request (Stay reply) answer d k stands decided steps stayed held =
-    (s, (inl (Ok (Stay reply), decided, stayed, refl), rw stayed.0 (steps (silence k) refl), rw stayed.1 stands))
-goes-carried c s request (Put plan reply) answer d k stands decided steps (inl put) held =
-    (steps.0, (inl (Ok (Put plan reply), decided, put, refl), rw put.0 (steps.1 (silence k) refl), rw put.1 steps.2))
-goes-carried c s request (Put plan reply) answer d k stands decided steps (inr failed) held = absurd (held failed.0)
+  -- after any other refusal the contents are as before
+  pub does-unchanged : (fault : Fault) → Does c asked (Err fault) calls p → (fault ≡ StoreFailed) ⊎ (left_by_all c calls ≡ c)
+  does-unchanged fault (inl done) = inr (left-stopped c (reads_of asked) calls done.fault done.stops)
+  does-unchanged fault (inr (inl done)) = inr (gots-left done.read)
+  does-unchanged fault (inr (inr (inl done))) = inr (gots-left done.read)
+  does-unchanged fault (inr (inr (inr (inl done)))) = inr (gots-left done.read)
+  does-unchanged fault (inr (inr (inr (inr done)))) = inl (carried-failed fault done).0
 
--- ---- the contents weren't read
+  -- what is left after an outcome's calls
+  pub left-carried : (later : List Call) → calls ≡ gots c (reads_of asked) ++ later → left_by_all c calls ≡ left_by_all c later
+  left-carried later e =
+      ap (left_by_all c) e ∙ left_by_all-append c (gots c (reads_of asked)) later ∙ ap (λ d. left_by_all d later) (left-gots c (reads_of asked))
 
-pub attempted-unread : (old new : Option Contents) (told : Option (List ℕ)) (k : ℕ) (request : Request) (fault : Fault)
-    → new ≡ old → (fault ≡ OutOfMemory) ⊎ (fault ≡ StoreFailed) → Attempted old new (WentOut told told k k) request (Err fault)
-attempted-unread None new told k request fault same why = tt
-attempted-unread (Some c) new told k request fault same why = (c, silence k, same, went_silently told k, attempts-unread c request fault k why)
+  -- so they are after what writes nothing
+  pub does-looks : (answer : Answer) → WritesNothing asked → Does c asked answer calls p → left_by_all c calls ≡ c
+  does-looks answer nothing (inl done) = left-stopped c (reads_of asked) calls done.fault done.stops
+  does-looks answer nothing (inr (inl done)) = gots-left done.read
+  does-looks answer nothing (inr (inr (inl done))) = gots-left done.read
+  does-looks answer nothing (inr (inr (inr (inl done)))) = gots-left done.read
+  does-looks answer nothing (inr (inr (inr (inr done)))) =
+      left-carried done.behind done.calls_are
+      ∙ ap (left_by_all c) (none-written done.o answer done.behind (writes_nothing c asked done.o nothing done.outcome) done.answered)
 
-pub stepped-unread : {T : Type 0} (old new : Option Contents) (told : Option (List ℕ)) (k n m : ℕ) (request : Request) (fault : Fault)
-    → new ≡ old → (fault ≡ OutOfMemory) ⊎ (fault ≡ StoreFailed) → (IsErrOf {T = T} (Err fault) StoreFailed → HasRisen n m) → (HasRisen n m → ⊥)
-    → Stepped old new (WentOut told told k k) request (Err fault)
-stepped-unread None new told k n m request fault same why failed held = tt
-stepped-unread (Some c) new told k n m request fault same (inl e) failed held =
-    λ s stands. (c, s, silence k, same, went_silently told k, goes-short_of_memory c s request fault k stands e)
-stepped-unread (Some c) new told k n m request fault same (inr e) failed held = absurd (held (failed (ap Err e)))
+-- ---- on contents that may be told
 
--- ---- a decision on the bytes that were read was refused
+unchanged-told : (old new : Option Contents) (asked : Asked) (answer : Answer) (calls : List Call) (p : Printed) → Follows old calls new
+    → ((c : Contents) → TellAll c calls → Does c asked answer calls p)
+    → IfSome old (λ c. IfErr answer (λ fault. (fault ≡ StoreFailed) ⊎ (new ≡ Some c)))
+unchanged-told None new asked answer calls p follow does = tt
+unchanged-told (Some c) new asked (Ok reply) calls p follow does = tt
+unchanged-told (Some c) new asked (Err fault) calls p follow does =
+    elim (does-unchanged c asked calls p fault (does c follow.0)) [ inl e ↦ inl e | inr same ↦ inr (follow.1 ∙ ap Some same) ]
 
-pub attempted-refused : (old new : Option Contents) (told : Option (List ℕ)) (k : ℕ) (file journal : List ℕ) (request given : Request) (fault : Fault)
-    → request ≡ given → new ≡ old → WasRead old file journal
-    → IsMemoryOr fault (IsDecision (record { file = file; journal = journal }) given (Err fault))
-    → Attempted old new (WentOut told told k k) request (Err fault)
-attempted-refused None new told k file journal request given fault asked same read found = tt
-attempted-refused (Some c) new told k file journal request given fault asked same read found =
-    let on : IsMemoryOr fault (IsDecision c request (Err fault)) =
-    decided_on c file journal request given (λ d r. IsMemoryOr fault (IsDecision d r (Err fault))) asked read found in
-    (c, silence k, same, went_silently told k, attempts-refused c request fault k (memory_or fault _ on))
+looks-told : (old new : Option Contents) (asked : Asked) (answer : Answer) (calls : List Call) (p : Printed) → Follows old calls new
+    → ((c : Contents) → TellAll c calls → Does c asked answer calls p)
+    → IfSome old (λ c. WritesNothing asked → new ≡ Some c)
+looks-told None new asked answer calls p follow does = tt
+looks-told (Some c) new asked answer calls p follow does =
+    λ nothing. follow.1 ∙ ap Some (does-looks c asked calls p answer nothing (does c follow.0))
 
--- a refusal on the bytes that were read is a step of the machine
-abbrev pub RefusesOn : List ℕ → List ℕ → Request → Fault → Type 0
-RefusesOn file journal request fault = (s : State) → Stands (record { file = file; journal = journal }) s → IsMemoryOr fault (StepsAsMachine s request (Err fault))
+-- ---- from what was attempted
 
-pub stepped-refused : (old new : Option Contents) (told : Option (List ℕ)) (k : ℕ) (file journal : List ℕ) (request given : Request) (fault : Fault)
-    → request ≡ given → new ≡ old → WasRead old file journal
-    → IsMemoryOr fault (IsDecision (record { file = file; journal = journal }) given (Err fault)) → RefusesOn file journal given fault
-    → Stepped old new (WentOut told told k k) request (Err fault)
-stepped-refused None new told k file journal request given fault asked same read found steps = tt
-stepped-refused (Some c) new told k file journal request given fault asked same read found steps =
-    let on : IsMemoryOr fault (IsDecision c request (Err fault)) =
-    decided_on c file journal request given (λ d r. IsMemoryOr fault (IsDecision d r (Err fault))) asked read found in
-    let steps_on : (s : State) → Stands c s → IsMemoryOr fault (StepsAsMachine s request (Err fault)) =
-    decided_on c file journal request given (λ d r. (s : State) → Stands d s → IsMemoryOr fault (StepsAsMachine s r (Err fault))) asked read steps in
-    λ s stands. (c, s, silence k, same, went_silently told k, goes-refused c s request fault k stands (memory_or fault _ on) (memory_or fault _ (steps_on s stands)))
+module _ {H S : Type 0} (goes : H → Call → H → Type 0) (told : S → Option (List ℕ)) (sink_failures : S → ℕ) where
+  module _ (failures : H → ℕ) (counts : (old new : H) (call : Call) → goes old call new → Counts (failures old) call (failures new)) where
+    pub attempted-kept : (old new : H) (out out_new : S) (asked : Asked) (answer : Answer) → Attempted goes told sink_failures old new out out_new asked answer
+        → OnOk answer ((failures new ≡ failures old) × (sink_failures out_new ≡ sink_failures out))
+    attempted-kept old new out out_new asked (Err fault) done = tt
+    attempted-kept old new out out_new asked (Ok reply) done =
+        let kept = does-kept done.4.0 asked done.0 done.1 reply (done.5 done.4.0 done.4.1) in
+        (failures_stay goes failures counts old new done.0 done.2 kept.0, sym done.3.2 ∙ kept.1 ∙ done.3.1)
 
--- ---- a decision on the bytes that were read was carried out
+    pub attempted-store_failed : (old new : H) (out out_new : S) (request : Request) (answer : Answer)
+        → Attempted goes told sink_failures old new out out_new (asked_of request) answer → answer ≡ Err StoreFailed
+        → HasRisen (failures old) (failures new) ⊎ HasRisen (sink_failures out) (sink_failures out_new)
+    attempted-store_failed old new out out_new request answer done e =
+        let does : Does done.4.0 (asked_of request) (Err StoreFailed) done.0 done.1 =
+        subst (λ a. Does done.4.0 (asked_of request) a done.0 done.1) e (done.5 done.4.0 done.4.1) in
+        elim (does-store_failed done.4.0 (asked_of request) done.0 done.1 (never_store request done.4.0) does) [
+          | inl failed ↦ inl (failures_rise goes failures counts old new done.0 done.2 failed)
+          | inr risen ↦ inr (subst (λ n. HasRisen n (sink_failures out_new)) done.3.1 (subst (λ m. HasRisen done.1.before m) done.3.2 risen))
+        ]
 
--- the decision is carried out on contents that may be told
-abbrev pub CarriedOut : Option Contents → Option Contents → Decision → Answer → Type 0
-CarriedOut old new decision answer = IfSome old (λ c. (d : Contents) × (new ≡ Some d) × MayCarryOut c decision answer d)
+  module _ (contents : H → Option Contents)
+      (follows : (old new : H) (call : Call) → goes old call new → IfSome (contents old) (λ c. Tells c call × (contents new ≡ Some (left_by c call)))) where
+    pub attempted-unchanged : (old new : H) (out out_new : S) (asked : Asked) (answer : Answer) → Attempted goes told sink_failures old new out out_new asked answer
+        → IfSome (contents old) (λ c. IfErr answer (λ fault. (fault ≡ StoreFailed) ⊎ (contents new ≡ Some c)))
+    attempted-unchanged old new out out_new asked answer done =
+        unchanged-told (contents old) (contents new) asked answer done.0 done.1 (contents_follow goes contents follows old new done.0 done.2) done.5
 
-pub attempted-carried : (old mid new : Option Contents) (told : Option (List ℕ)) (k : ℕ) (file journal : List ℕ) (request given : Request) (decision : Decision) (answer : Answer)
-    → request ≡ given → mid ≡ old → WasRead old file journal → IsDecision (record { file = file; journal = journal }) given (Ok decision)
-    → CarriedOut mid new decision answer → Attempted old new (WentOut told told k k) request answer
-attempted-carried None mid new told k file journal request given decision answer asked same read found out = tt
-attempted-carried (Some c) mid new told k file journal request given decision answer asked same read found out =
-    let carried : CarriedOut (Some c) new decision answer = subst (λ o. CarriedOut o new decision answer) same out in
-    let on : IsDecision c request (Ok decision) =
-    decided_on c file journal request given (λ d r. IsDecision d r (Ok decision)) asked read found in
-    (carried.0, silence k, carried.1, went_silently told k, attempts-carried c request decision answer carried.0 k on carried.2)
-
--- a decision on the bytes that were read steps as the machine does
-abbrev pub StepsOn : List ℕ → List ℕ → Request → Decision → Type 0
-StepsOn file journal request decision = (s : State) → Stands (record { file = file; journal = journal }) s → StepsAsMachine s request (Ok decision)
-
-pub stepped-carried : (old mid new : Option Contents) (told : Option (List ℕ)) (k : ℕ) (file journal : List ℕ) (request given : Request) (decision : Decision) (answer : Answer)
-    → request ≡ given → mid ≡ old → WasRead old file journal → IsDecision (record { file = file; journal = journal }) given (Ok decision) → StepsOn file journal given decision
-    → CarriedOut mid new decision answer → (answer ≡ Err StoreFailed → ⊥) → Stepped old new (WentOut told told k k) request answer
-stepped-carried None mid new told k file journal request given decision answer asked same read found steps out held = tt
-stepped-carried (Some c) mid new told k file journal request given decision answer asked same read found steps out held =
-    let carried : CarriedOut (Some c) new decision answer = subst (λ o. CarriedOut o new decision answer) same out in
-    let on : IsDecision c request (Ok decision) =
-    decided_on c file journal request given (λ d r. IsDecision d r (Ok decision)) asked read found in
-    let steps_on : (s : State) → Stands c s → StepsAsMachine s request (Ok decision) =
-    decided_on c file journal request given (λ d r. (s : State) → Stands d s → StepsAsMachine s r (Ok decision)) asked read steps in
-    λ s stands.
-    let goes = goes-carried c s request decision answer carried.0 k stands on (steps_on s stands) carried.2 held in
-    (carried.0, goes.0, silence k, carried.1, went_silently told k, goes.1)
-
--- the home didn't fail, so no store failed
-pub no_failure : (n m k : ℕ) (answer : Answer) → n ≤ m → OnErr answer (HasRisen m k) → (HasRisen n k → ⊥) → answer ≡ Err StoreFailed → ⊥
-no_failure n m k (Ok reply) le failed held e = cc
-no_failure n m k (Err fault) le failed held e = held (rises_behind n m k le failed)
-
--- ---- a request that prints of the file that was read
-
--- the file is the one that was read, in the slice of its bytes
-abbrev pub FileWasRead : Option Contents → List ℕ → Type 0
-FileWasRead told file = IfSome told (λ c. file ≡ c.file)
-
-prints_on : (c : Contents) (file f : List ℕ) (request given : Request) (answer : Answer) (p : Printed) → file ≡ c.file → f ≡ file → request ≡ given
-    → Prints f given answer p → Prints c.file request answer p
-prints_on c file f request given answer p read e asked prints =
-    subst (λ text. Prints text request answer p) (e ∙ read) (subst (λ r. Prints f r answer p) (sym asked) prints)
-
-module _ (bytes out : Option (List ℕ)) (n m : ℕ) (request given : Request) (answer : Answer) (asked : request ≡ given)
-    (failed : answer ≡ Err StoreFailed → HasRisen n m) where
-  pub attempted-printed : (old new : Option Contents) (file f : List ℕ) → new ≡ old → FileWasRead old file → f ≡ file
-      → PutsPrintout (IsPrintout f given) bytes out answer → Attempted old new (WentOut bytes out n m) request answer
-  attempted-printed None new file f same read e put = tt
-  attempted-printed (Some c) new file f same read e put =
-      let went = prints-put f given bytes out n m answer put failed in
-      (c, went.0, same, went.1, inl (does-prints c request answer went.0 (prints_on c file f request given answer went.0 read e asked went.2)))
-
-  pub stepped-printed : (old new : Option Contents) (file f : List ℕ) → IsLook given → new ≡ old → FileWasRead old file → f ≡ file
-      → PutsPrintout (IsPrintout f given) bytes out answer → Stepped old new (WentOut bytes out n m) request answer
-  stepped-printed None new file f look same read e put = tt
-  stepped-printed (Some c) new file f look same read e put =
-      let went = prints-put f given bytes out n m answer put failed in
-      let prints = prints_on c file f request given answer went.0 read e asked went.2 in
-      λ s stands.
-      (c, s, went.0, same, went.1, (does-prints c request answer went.0 prints, is_answer-prints s c.file request answer went.0 (rw asked look) stands.present prints, stands))
+    pub attempted-looks : (old new : H) (out out_new : S) (asked : Asked) (answer : Answer) → Attempted goes told sink_failures old new out out_new asked answer
+        → IfSome (contents old) (λ c. WritesNothing asked → contents new ≡ Some c)
+    attempted-looks old new out out_new asked answer done =
+        looks-told (contents old) (contents new) asked answer done.0 done.1 (contents_follow goes contents follows old new done.0 done.2) done.5

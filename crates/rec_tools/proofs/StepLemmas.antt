@@ -1,188 +1,270 @@
--- Each step of a request has one answer at most, and so has one step after another; a refused pattern may stand aside.
-use Rattle.std.proofs.Common.{◌≡◌, inl, inr, ℕ, Option, Some, None, List, Result, Ok, Err, sym, ap, subst, refl, ◌∙◌}
-use Rattle.std.specs.Prelude.{◌≢◌}
+-- What a request comes to on contents that stand for a state is what the machine does in that state.
+use Rattle.std.proofs.Common.{◌≡◌, ◌≢◌, ◌⊎◌, inl, inr, ℕ, ◌+◌, List, [], ◌∷◌, map, Result, Ok, Err, sym, ap, ap₂, subst, refl, ◌∙◌}
+use Rattle.std.proofs.lemmas.Bool.{false≢true}
+use Rattle.std.specs.Prelude.{true, false, codes, if◌then◌else◌}
 use Rattle.rec_text.specs.declared.fault.Fault.{Fault}
-use Rattle.rec_text.specs.declared.fault.Fault.TheVariants.{BadExpression, BadPattern}
-use Rattle.rec_text.specs.Elements.{Piece}
-use Rattle.rec_text.proofs.ReadingLemmas.{one_reading}
-use Rattle.rec_sex.specs.Grammar.{fault_of}
-use Rattle.rec_sex.specs.Meaning.{Selects}
-use Rattle.rec_sex.proofs.IndexListReading.{one_index_list}
-use Rattle.rec_sex.proofs.UniqueLemmas.{one_expression}
-use Rattle.rec_check.specs.declared.set.Set_.{Set_}
-use Rattle.rec_check.specs.Schemas.{Described, IsSchema, OneSchema}
-use Rattle.rec_select.specs.Selection.{Filter, all as all_members, at_places, with_text, Passes, IsSelection}
-use Rattle.rec_tools.specs.declared.request.Ask.{Ask}
-use Rattle.rec_tools.specs.declared.request.Ask.TheVariants.{All, Expr, Index, Quick}
+use Rattle.rec_journal.specs.declared.event.Revision.{Revision}
+use Rattle.rec_journal.specs.declared.patch.Direction.{Direction}
+use Rattle.rec_journal.specs.declared.patch.Direction.TheVariants.{Forward, Backward}
+use Rattle.rec_journal.specs.declared.event.Tool.{Tool}
+use Rattle.rec_journal.specs.declared.plan.Plan.{Plan}
+use Rattle.rec_journal.specs.History.{Opened, Opens, IsOpening}
+use Rattle.rec_journal.specs.Revisions.{one_pass, Leads}
+use Rattle.rec_journal.specs.Plans.{ShareDigest, edit_to, after_edit_plan, edits_on, after_move, LeadsNowhere}
+use Rattle.rec_journal.proofs.Openings.{one_opening}
+use Rattle.rec_journal.proofs.StepLemmas.{edits_lead_to_one_text}
+use Rattle.rec_edit.specs.declared.outcome.Edited.{Edited}
+use Rattle.rec_tools.specs.declared.request.Reply.TheVariants.{Shown, Edited as EditedReply}
+use Rattle.rec_tools.specs.Home.{Contents}
 use Rattle.rec_tools.specs.Steps.{Then}
-use Rattle.rec_tools.specs.Asking.{IsBaseOf, IsBase, IsExpressionFilter, IsIndexFilter, IsFilter}
-use Rattle.rec_tools.proofs.FaultLemmas.{same_fault, same_value}
+use Rattle.rec_tools.specs.Asking.{Base, IsBase}
+use Rattle.rec_tools.specs.Printouts.{Printout, history_text, printed_history}
+use Rattle.rec_tools.specs.Requests.{Asked, looking, listing, editing, moving, asked_of}
+use Rattle.rec_tools.specs.Outcomes.{Outcome, IsOutcome, IsPrinting, IsEditOutcome, IsPlanned, IsMove, Moves, printing, writes_of, move_plan, reply_of}
+use Rattle.rec_tools.specs.Attempts.{written}
+use Rattle.rec_tools.specs.Machine.{Entry, State, AreEntries, Stands, IsStep, IsMoveStep, Clashes, entries_on, listed, state_after_edit, state_after_move}
+use Rattle.rec_tools.specs.Guarantee.{StepsAsMachine, OutcomesAreSteps}
+use Rattle.rec_tools.proofs.FaultLemmas.{ok_is_no_err}
+use Rattle.rec_tools.proofs.StandsLemmas.{StandsBy, stands_by}
+use Rattle.rec_tools.proofs.OpeningLemmas.{edit_leads_back, leads_on, leads_back}
 
--- ---- one step after another
+-- ---- the history that is printed
 
--- a step has one answer at most
-abbrev pub HasOne : {A : Type 0} → (Result A Fault → Type 0) → Type 0
-HasOne {A} step = (one other : Result A Fault) → step one → step other → one ≡ other
+abbrev pair : ℕ → Tool → ℕ × Tool
+pair number tool = (number, tool)
 
-pub no_both : {A : Type 0} (a : A) (fault : Fault) → ◌≡◌ {A = Result A Fault} (Ok a) (Err fault) → ⊥
-no_both a fault e = cc
+abbrev of_edit : Revision → ℕ × Tool
+of_edit e = (e.number, e.tool)
 
-pub HasOne-Then : {A B : Type 0} (first : Result A Fault → Type 0) (next : A → Result B Fault → Type 0) → HasOne first → ((a : A) → first (Ok a) → HasOne (next a)) → HasOne (Then first next)
-HasOne-Then first next first_one next_one one other (inl (f, is, e)) (inl (g, is_too, k)) = e ∙ ap Err (same_fault f g (first_one (Err f) (Err g) is is_too)) ∙ sym k
-HasOne-Then first next first_one next_one one other (inl (f, is, e)) (inr (b, is_too, k)) = absurd (no_both b f (first_one (Ok b) (Err f) is_too is))
-HasOne-Then first next first_one next_one one other (inr (a, is, e)) (inl (g, is_too, k)) = absurd (no_both a g (first_one (Ok a) (Err g) is is_too))
-HasOne-Then first next first_one next_one one other (inr (a, is, e)) (inr (b, is_too, k)) =
-    next_one b is_too one other (subst (λ x. next x one) (same_value a b (first_one (Ok a) (Ok b) is is_too)) e) k
+abbrev of_entry : Entry → ℕ × Tool
+of_entry entry = (entry.number, entry.tool)
 
--- ---- steps one of which may refuse a pattern
+-- edits and their entries are printed alike
+printed_alike : (direction : Direction) (es : List Revision) (entries : List Entry) (here : List ℕ) → AreEntries direction es entries here
+    → map of_edit es ≡ map of_entry entries
+printed_alike direction [] [] here are = refl
+printed_alike direction [] (entry ∷ entries) here are = absurd are
+printed_alike direction (e ∷ es) [] here are = absurd are
+printed_alike direction (e ∷ es) (entry ∷ entries) here are =
+    ap₂ (λ x xs. x ∷ xs) (ap₂ pair are.0 are.1) (printed_alike direction es entries entry.text are.3)
 
-pub refused_too : {A B : Type 0} (answer : Result B Fault) (fault : Fault) → answer ≡ Err fault → answer ≢ Err BadPattern → ◌≢◌ {A = Result A Fault} (Err fault) (Err BadPattern)
-refused_too answer fault e built k = built (e ∙ ap Err (same_fault fault BadPattern k))
+-- ---- the nearest entry that way
 
--- a step has one answer at most, a refused pattern aside
-abbrev pub HasOneBut : {A : Type 0} → (Result A Fault → Type 0) → Type 0
-HasOneBut {A} step = (one other : Result A Fault) → step one → step other → one ≢ Err BadPattern → other ≢ Err BadPattern → one ≡ other
+-- the entry of the nearest edit that way, and the entries of the others
+pub record HasNearest (direction : Direction) (s : State) (here : List ℕ) (nearest : Revision) (others : List Revision) : Type 0 where
+  pub entry : Entry
+  pub entries : List Entry
+  pub are : entries_on direction s ≡ entry ∷ entries
+  pub number : nearest.number ≡ entry.number
+  pub tool : nearest.tool ≡ entry.tool
+  pub leads : Leads direction nearest here entry.text
+  pub after : AreEntries direction others entries entry.text
 
-pub HasOneBut-of : {A : Type 0} (step : Result A Fault → Type 0) → HasOne step → HasOneBut step
-HasOneBut-of step has_one one other is is_too _ _ = has_one one other is is_too
+nearest_of : (direction : Direction) (s : State) (here : List ℕ) (nearest : Revision) (others : List Revision) (entries : List Entry)
+    → entries_on direction s ≡ entries → AreEntries direction (nearest ∷ others) entries here → HasNearest direction s here nearest others
+nearest_of direction s here nearest others [] e are = absurd are
+nearest_of direction s here nearest others (entry ∷ entries) e are =
+    record { entry = entry; entries = entries; are = e; number = are.0; tool = are.1; leads = are.2; after = are.3 }
 
-pub HasOneBut-Then : {A B : Type 0} (first : Result A Fault → Type 0) (next : A → Result B Fault → Type 0) → HasOne first → ((a : A) → first (Ok a) → HasOneBut (next a)) → HasOneBut (Then first next)
-HasOneBut-Then first next first_one next_one one other (inl (f, is, e)) (inl (g, is_too, k)) _ _ = e ∙ ap Err (same_fault f g (first_one (Err f) (Err g) is is_too)) ∙ sym k
-HasOneBut-Then first next first_one next_one one other (inl (f, is, e)) (inr (b, is_too, k)) _ _ = absurd (no_both b f (first_one (Ok b) (Err f) is_too is))
-HasOneBut-Then first next first_one next_one one other (inr (a, is, e)) (inl (g, is_too, k)) _ _ = absurd (no_both a g (first_one (Ok a) (Err g) is is_too))
-HasOneBut-Then first next first_one next_one one other (inr (a, is, e)) (inr (b, is_too, k)) built built_too =
-    next_one b is_too one other (subst (λ x. next x one) (same_value a b (first_one (Ok a) (Ok b) is is_too)) e) k built built_too
+no_entries : (direction : Direction) (entries : List Entry) (here : List ℕ) → AreEntries direction [] entries here → entries ≡ []
+no_entries direction [] here are = refl
+no_entries direction (entry ∷ entries) here are = absurd are
 
-pub Then-first : {A B : Type 0} (first weaker : Result A Fault → Type 0) (next : A → Result B Fault → Type 0) → ((r : Result A Fault) → first r → weaker r)
-    → (answer : Result B Fault) → Then first next answer → Then weaker next answer
-Then-first first weaker next f answer (inl (fault, is, e)) = inl (fault, f (Err fault) is, e)
-Then-first first weaker next f answer (inr (a, is, h)) = inr (a, f (Ok a) is, h)
+-- the entries that way are those of the edits that way
+are_on : (direction : Direction) (o : Opened) (c : Contents) (s : State) → StandsBy o c s
+    → AreEntries direction (edits_on direction o) (entries_on direction s) c.file
+are_on Backward o c s by = by.past
+are_on Forward o c s by = by.future
 
-pub Then-next : {A B : Type 0} (first : Result A Fault → Type 0) (next weaker : A → Result B Fault → Type 0) → ((a : A) (r : Result B Fault) → next a r → weaker a r)
-    → (answer : Result B Fault) → Then first next answer → Then first weaker answer
-Then-next first next weaker f answer (inl (fault, is, e)) = inl (fault, is, e)
-Then-next first next weaker f answer (inr (a, is, h)) = inr (a, is, f a answer h)
+has_nearest : (direction : Direction) (o : Opened) (c : Contents) (s : State) (nearest : Revision) (others : List Revision) → StandsBy o c s
+    → edits_on direction o ≡ nearest ∷ others → HasNearest direction s c.file nearest others
+has_nearest direction o c s nearest others by there =
+    nearest_of direction s c.file nearest others (entries_on direction s) refl
+    (subst (λ es. AreEntries direction es (entries_on direction s) c.file) there (are_on direction o c s by))
 
-pub HasOneBut-ThenBut : {A B : Type 0} (first : Result A Fault → Type 0) (next : A → Result B Fault → Type 0) → HasOneBut first → ((a : A) → first (Ok a) → HasOneBut (next a)) → HasOneBut (Then first next)
-HasOneBut-ThenBut first next first_one next_one one other (inl (f, is, e)) (inl (g, is_too, k)) built built_too =
-    e ∙ ap Err (same_fault f g (first_one (Err f) (Err g) is is_too (refused_too one f e built) (refused_too other g k built_too))) ∙ sym k
-HasOneBut-ThenBut first next first_one next_one one other (inl (f, is, e)) (inr (b, is_too, k)) built built_too =
-    absurd (no_both b f (first_one (Ok b) (Err f) is_too is (no_both b BadPattern) (refused_too one f e built)))
-HasOneBut-ThenBut first next first_one next_one one other (inr (a, is, e)) (inl (g, is_too, k)) built built_too =
-    absurd (no_both a g (first_one (Ok a) (Err g) is is_too (no_both a BadPattern) (refused_too other g k built_too)))
-HasOneBut-ThenBut first next first_one next_one one other (inr (a, is, e)) (inr (b, is_too, k)) built built_too =
-    next_one b is_too one other (subst (λ x. next x one) (same_value a b (first_one (Ok a) (Ok b) is is_too (no_both a BadPattern) (no_both b BadPattern))) e) k built built_too
+-- the contents after a move stand for the state after it
+stands_after_move : (direction : Direction) (o : Opened) (c after : Contents) (s : State) (nearest : Revision) (others : List Revision)
+    → (by : StandsBy o c s) (has : HasNearest direction s c.file nearest others) → after.file ≡ has.entry.text
+    → Opens after.file after.journal (after_move direction o c.journal nearest others)
+    → Stands after (state_after_move direction s has.entry has.entries)
+stands_after_move Backward o c after s nearest others by has text opens = record {
+  opened = after_move Backward o c.journal nearest others;
+  opens = opens;
+  settled = refl;
+  present = sym text;
+  past = subst (λ t. AreEntries Backward others has.entries t) (sym text) has.after;
+  future = (
+    has.number,
+    has.tool,
+    subst (λ t. Leads Forward nearest t s.present) (sym text)
+        (subst (λ t. Leads Forward nearest has.entry.text t) (sym by.present) (leads_on nearest c.file has.entry.text has.leads)),
+    subst (λ t. AreEntries Forward o.future s.future t) (sym by.present) by.future,
+  );
+  next = ap (λ n. n + 1) by.next;
+}
+stands_after_move Forward o c after s nearest others by has text opens = record {
+  opened = after_move Forward o c.journal nearest others;
+  opens = opens;
+  settled = refl;
+  present = sym text;
+  past = (
+    has.number,
+    has.tool,
+    subst (λ t. Leads Backward nearest t s.present) (sym text)
+        (subst (λ t. Leads Backward nearest has.entry.text t) (sym by.present) (leads_back nearest c.file has.entry.text has.leads)),
+    subst (λ t. AreEntries Backward o.past s.past t) (sym by.present) by.past,
+  );
+  future = subst (λ t. AreEntries Forward others has.entries t) (sym text) has.after;
+  next = ap (λ n. n + 1) by.next;
+}
 
--- ---- the filter that is asked for
+-- ---- what is asked for, on contents that stand for a state
 
-same_some : (one other : ℕ) → ◌≡◌ {A = Option ℕ} (Some one) (Some other) → one ≡ other
-same_some one other e = cc
+module _ (c : Contents) (s : State) (stands : Stands c s) where
+  -- contents that stand for a state can be opened
+  no_refusal : (fault : Fault) → IsOpening c.file c.journal (Err fault) → ⊥
+  no_refusal fault refused = ok_is_no_err stands.opened fault ⊥ (one_opening c.file c.journal (Err fault) (Ok stands.opened) refused stands.opens)
 
-no_place : (place : ℕ) → ◌≡◌ {A = Option ℕ} None (Some place) → ⊥
-no_place place e = cc
+  by_opening : (o : Opened) → Opens c.file c.journal o → StandsBy o c s
+  by_opening o opens = stands_by c s o stands opens
 
-same_expression : (text : List ℕ) (wanted other : Filter) → IsExpressionFilter text (Ok wanted) → IsExpressionFilter text (Ok other)
-    → (pieces : List Piece) (place : ℕ) → Passes wanted pieces place → Passes other pieces place
-same_expression text wanted other (one, is, e) (two, is_too, k) pieces place passes =
-    let selects : Selects one pieces = subst (λ w. Passes w pieces place) e passes in
-    subst (λ w. Passes w pieces place) (sym k) (one_expression.selects text one two pieces is is_too selects)
+  looks_step : (IsText : List ℕ → Result Printout Fault → Type 0) (r : Result Outcome Fault)
+      → IsPrinting (IsText c.file) r → StepsAsMachine c s (looking IsText) r
+  looks_step IsText (Ok outcome) (p, is, e) =
+      subst (λ x. StepsAsMachine c s (looking IsText) (Ok x)) (sym e)
+      (s, (Ok p, subst (λ text. IsText text (Ok p)) (sym stands.present) is, (refl, refl), refl), stands)
+  looks_step IsText (Err fault) is = inl (Err fault, subst (λ text. IsText text (Err fault)) (sym stands.present) is, (refl, refl), refl)
 
-same_indexes : (text : List ℕ) (wanted other : Filter) → IsIndexFilter text (Ok wanted) → IsIndexFilter text (Ok other) → wanted ≡ other
-same_indexes text wanted other (spans, is, e) (others, is_too, k) =
-    e ∙ ap at_places (same_value spans others (one_index_list text (Ok spans) is (Ok others) is_too)) ∙ sym k
+  -- ---- the history
 
--- the same records pass each filter that is asked for
-same_passes : (ask : Ask) (wanted other : Filter) → IsFilter ask (Ok wanted) → IsFilter ask (Ok other)
-    → (pieces : List Piece) (place : ℕ) → Passes wanted pieces place → Passes other pieces place
-same_passes All wanted other is is_too pieces place passes = subst (λ w. Passes w pieces place) (same_value wanted other (is ∙ sym is_too)) passes
-same_passes (Expr text) wanted other is is_too pieces place passes = same_expression text wanted other is is_too pieces place passes
-same_passes (Index list) wanted other is is_too pieces place passes = subst (λ w. Passes w pieces place) (same_indexes list wanted other is is_too) passes
-same_passes (Quick text) wanted other is is_too pieces place passes = subst (λ w. Passes w pieces place) (same_value wanted other (is ∙ sym is_too)) passes
+  printed_as_listed : (o : Opened) → StandsBy o c s → printed_history o ≡ listed s
+  printed_as_listed o by =
+      ap (λ b. if b then codes "drifted\n" else history_text (map of_edit o.past) (map of_edit o.future)) by.settled
+      ∙ ap₂ history_text (printed_alike Backward o.past s.past c.file by.past) (printed_alike Forward o.future s.future c.file by.future)
 
-same_place : (text : List ℕ) (one other : ℕ) → fault_of text ≡ Some one → fault_of text ≡ Some other → one ≡ other
-same_place text one other e k = same_some one other (sym e ∙ k)
+  lists_step : (r : Result Outcome Fault)
+      → Then (IsOpening c.file c.journal) (λ o given. given ≡ Ok (printing (printed_history o) Shown)) r → StepsAsMachine c s listing r
+  lists_step r (inl (fault, refused, e)) = absurd (no_refusal fault refused)
+  lists_step r (inr (o, opens, e)) =
+      subst (λ x. StepsAsMachine c s listing x) (sym e) (s, (refl, printed_as_listed o (by_opening o opens), refl), stands)
 
-expression_fault : (text : List ℕ) (fault other : Fault) → IsExpressionFilter text (Err fault) → IsExpressionFilter text (Err other)
-    → fault ≢ BadPattern → other ≢ BadPattern → fault ≡ other
-expression_fault text (BadExpression one) (BadExpression two) is is_too built built_too = ap BadExpression (same_place text one two is is_too)
-expression_fault text (BadExpression one) BadPattern is is_too built built_too = absurd (built_too refl)
-expression_fault text (BadExpression one) _ is is_too built built_too = absurd is_too
-expression_fault text BadPattern other is is_too built built_too = absurd (built refl)
-expression_fault text _ other is is_too built built_too = absurd is
+  -- ---- an edit
 
-expression_or_fault : (text : List ℕ) (wanted : Filter) (fault : Fault) → IsExpressionFilter text (Ok wanted) → IsExpressionFilter text (Err fault) → fault ≢ BadPattern → ⊥
-expression_or_fault text wanted (BadExpression place) (term, is, e) is_too built = no_place place (sym (one_expression.faultless text term is) ∙ is_too)
-expression_or_fault text wanted BadPattern is is_too built = built refl
-expression_or_fault text wanted _ is is_too built = is_too
+  module _ (tool : Tool) (IsEdit : Base → Result Edited Fault → Type 0) where
+    -- what the edit makes of the file it makes of the state's text
+    on_present : (r : Result Edited Fault) → Then (IsBase c.file) IsEdit r → Then (IsBase s.present) IsEdit r
+    on_present r is = subst (λ text. Then (IsBase text) IsEdit r) (sym stands.present) is
 
-filter_fault : (ask : Ask) (fault other : Fault) → IsFilter ask (Err fault) → IsFilter ask (Err other) → fault ≢ BadPattern → other ≢ BadPattern → fault ≡ other
-filter_fault All fault other is is_too built built_too = absurd (no_both all_members fault (sym is))
-filter_fault (Expr text) fault other is is_too built built_too = expression_fault text fault other is is_too built built_too
-filter_fault (Index list) fault other is is_too built built_too = same_fault fault other (one_index_list list (Err fault) is (Err other) is_too)
-filter_fault (Quick text) fault other is is_too built built_too = absurd (no_both (with_text text) fault (sym is))
+    edit_refused : (fault : Fault) → Then (IsBase c.file) IsEdit (Err fault) → StepsAsMachine c s (editing tool IsEdit) (Err fault)
+    edit_refused fault is = inl (Err fault, on_present (Err fault) is, (refl, refl), refl)
 
-filter_or_fault : (ask : Ask) (wanted : Filter) (fault : Fault) → IsFilter ask (Ok wanted) → IsFilter ask (Err fault) → fault ≢ BadPattern → ⊥
-filter_or_fault All wanted fault is is_too built = no_both all_members fault (sym is_too)
-filter_or_fault (Expr text) wanted fault is is_too built = expression_or_fault text wanted fault is is_too built
-filter_or_fault (Index list) wanted fault is is_too built = no_both is.0 fault (one_index_list list (Ok is.0) is.1 (Err fault) is_too)
-filter_or_fault (Quick text) wanted fault is is_too built = no_both (with_text text) fault (sym is_too)
+    module _ (edited : Edited) (is : Then (IsBase c.file) IsEdit (Ok edited)) where
+      module _ (differs : edited.text ≢ c.file) where
+        other : edited.text ≢ s.present
+        other same = differs (same ∙ stands.present)
 
-not_refused : {B : Type 0} (answer : Result B Fault) (fault : Fault) → answer ≡ Err fault → answer ≢ Err BadPattern → fault ≢ BadPattern
-not_refused answer fault e built k = built (e ∙ ap Err k)
+        step : IsStep s (editing tool IsEdit) (Ok (EditedReply edited.changed)) [] (state_after_edit s tool edited.text)
+        step = (Ok edited, on_present (Ok edited) is, inr (other, refl, refl), refl)
 
--- a step behind the filter has one answer where it asks of the filter only which records pass it
-pub HasOneBut-filter : {B : Type 0} (ask : Ask) (next : Filter → Result B Fault → Type 0)
-    → ((wanted other : Filter) → ((pieces : List Piece) (place : ℕ) → Passes wanted pieces place → Passes other pieces place)
-    → ((pieces : List Piece) (place : ℕ) → Passes other pieces place → Passes wanted pieces place) → (r : Result B Fault) → next wanted r → next other r)
-    → ((wanted : Filter) → HasOneBut (next wanted)) → HasOneBut (Then (IsFilter ask) next)
-HasOneBut-filter ask next same next_one one other (inl (f, is, e)) (inl (g, is_too, k)) built built_too =
-    e ∙ ap Err (filter_fault ask f g is is_too (not_refused one f e built) (not_refused other g k built_too)) ∙ sym k
-HasOneBut-filter ask next same next_one one other (inl (f, is, e)) (inr (b, is_too, k)) built built_too =
-    absurd (filter_or_fault ask b f is_too is (not_refused one f e built))
-HasOneBut-filter ask next same next_one one other (inr (a, is, e)) (inl (g, is_too, k)) built built_too =
-    absurd (filter_or_fault ask a g is is_too (not_refused other g k built_too))
-HasOneBut-filter ask next same next_one one other (inr (a, is, e)) (inr (b, is_too, k)) built built_too =
-    next_one b one other (same a b (same_passes ask a b is is_too) (same_passes ask b a is_too is) one e) k built built_too
+        clashes : ShareDigest c.file edited.text → Clashes s (editing tool IsEdit)
+        clashes same = record {
+          reply = EditedReply edited.changed;
+          later = state_after_edit s tool edited.text;
+          step = step;
+          differ = other;
+          same_digest = subst (λ t. ShareDigest t edited.text) (sym stands.present) same;
+        }
 
--- ---- the base
+      stands_after_edit : (o : Opened) (plan : Plan) → Opens c.file c.journal o → IsPlanned o c tool edited plan
+          → Stands (written c (writes_of plan)) (state_after_edit s tool edited.text)
+      stands_after_edit o plan opens planned =
+          let by = by_opening o opens in
+          let edit = edit_to o tool edited.text (one_pass tool edited.patch) in
+          record {
+            opened = after_edit_plan o c.journal tool (one_pass tool edited.patch) edited.text;
+            opens = planned.opens;
+            settled = refl;
+            present = sym planned.planned.1;
+            past = (
+              sym by.next,
+              refl,
+              subst (λ t. Leads Backward edit t s.present) (sym planned.planned.1)
+                  (subst (λ t. Leads Backward edit edited.text t) (sym by.present) (edit_leads_back c o tool edited plan opens planned)),
+              subst (λ t. AreEntries Backward o.past s.past t) (sym by.present) by.past,
+            );
+            future = tt;
+            next = ap (λ n. n + 1) by.next;
+          }
 
-module _ (one_schema : OneSchema) where
-  -- a step behind the schema has one answer where schemas with the same sets give the same
-  pub HasOneBut-schema : {B : Type 0} (pieces : List Piece) (next : Described → Result B Fault → Type 0)
-      → ((schema same : Described) → IsSchema pieces (Ok schema) → IsSchema pieces (Ok same) → schema.sets ≡ same.sets → (one other : Result B Fault) → next schema one → next same other → one ≡ other)
-      → HasOneBut (Then (IsSchema pieces) next)
-  HasOneBut-schema pieces next next_one one other (inl (f, is, e)) (inl (g, is_too, k)) built built_too =
-      e ∙ ap Err (one_schema pieces (Err f) (Err g) is is_too (refused_too one f e built) (refused_too other g k built_too)) ∙ sym k
-  HasOneBut-schema pieces next next_one one other (inl (f, is, e)) (inr (b, is_too, k)) built built_too =
-      absurd (one_schema pieces (Err f) (Ok b) is is_too (refused_too one f e built) (no_both b BadPattern))
-  HasOneBut-schema pieces next next_one one other (inr (a, is, e)) (inl (g, is_too, k)) built built_too =
-      absurd (one_schema pieces (Ok a) (Err g) is is_too (no_both a BadPattern) (refused_too other g k built_too))
-  HasOneBut-schema pieces next next_one one other (inr (a, is, e)) (inr (b, is_too, k)) built built_too =
-      next_one a b is is_too (one_schema pieces (Ok a) (Ok b) is is_too (no_both a BadPattern) (no_both b BadPattern)).0 one other e k
+      edit_steps : (o : Opened) (r : Result Outcome Fault) → Opens c.file c.journal o → IsEditOutcome o c tool edited r
+          → StepsAsMachine c s (editing tool IsEdit) r
+      edit_steps o (Ok outcome) opens (inl (same, e)) =
+          subst (λ x. StepsAsMachine c s (editing tool IsEdit) (Ok x)) (sym e)
+          (s, (Ok edited, on_present (Ok edited) is, inl (same ∙ sym stands.present, refl, refl), refl), stands)
+      edit_steps o (Ok outcome) opens (inr (differs, (plan, planned, e))) =
+          subst (λ x. StepsAsMachine c s (editing tool IsEdit) (Ok x)) (sym e)
+          (state_after_edit s tool edited.text, step differs, stands_after_edit o plan opens planned)
+      edit_steps o (Err fault) opens (differs, e, same) = inr (e, clashes differs same)
 
-  pub HasOneBut-base_of : (pieces : List Piece) → HasOneBut (IsBaseOf pieces)
-  HasOneBut-base_of pieces = HasOneBut-schema pieces _ (λ schema same _ _ sets one other e k. e ∙ ap (λ ss. Ok (record { pieces = pieces; sets = ss })) sets ∙ sym k)
+    edits_step : (r : Result Outcome Fault)
+        → Then (IsBase c.file) (λ base. Then (IsOpening c.file c.journal) (λ o. Then (IsEdit base) (λ edited. IsEditOutcome o c tool edited))) r
+        → StepsAsMachine c s (editing tool IsEdit) r
+    edits_step r (inl (fault, refused, e)) =
+        subst (λ x. StepsAsMachine c s (editing tool IsEdit) x) (sym e) (edit_refused fault (inl (fault, refused, refl)))
+    edits_step r (inr (base, is, inl (fault, refused, e))) = absurd (no_refusal fault refused)
+    edits_step r (inr (base, is, inr (o, opens, inl (fault, refused, e)))) =
+        subst (λ x. StepsAsMachine c s (editing tool IsEdit) x) (sym e) (edit_refused fault (inr (base, is, refused)))
+    edits_step r (inr (base, is, inr (o, opens, inr (edited, done, last)))) = edit_steps edited (inr (base, is, done)) o r opens last
 
-  pub HasOneBut-base : (file : List ℕ) → HasOneBut (IsBase file)
-  HasOneBut-base file = HasOneBut-Then _ _ (one_reading file) (λ pieces _. HasOneBut-base_of pieces)
+  -- ---- a move
 
--- ---- a selection
+  module _ (direction : Direction) (o : Opened) (opens : Opens c.file c.journal o) where
+    by : StandsBy o c s
+    by = by_opening o opens
 
-pub same_selection : (pieces : List Piece) (sets : List Set_) (kind : Option (List ℕ)) (wanted other : Filter)
-    → ((some : List Piece) (place : ℕ) → Passes wanted some place → Passes other some place)
-    → ((some : List Piece) (place : ℕ) → Passes other some place → Passes wanted some place)
-    → (r : Result (List ℕ) Fault) → IsSelection pieces sets kind wanted r → IsSelection pieces sets kind other r
-same_selection pieces sets kind wanted other into back (Ok selected) (s, is, are) = (
-  s,
-  is,
-  record {
-    records = are.records;
-    are = are.are;
-    ascending = are.ascending;
-    members = λ i. (
-      λ contains. let m = (are.members i).0 contains in (m.0, m.1, into _ _ m.2),
-      λ m. (are.members i).1 (m.0, m.1, back _ _ m.2),
-    );
-  },
-)
-same_selection pieces sets kind wanted other into back (Err fault) is = is
+    moved : (outcome : Outcome) → Moves direction o c outcome → StepsAsMachine c s (moving direction) (Ok outcome)
+    moved outcome m =
+        let has = has_nearest direction o c s m.nearest m.others by m.there in
+        let plan = move_plan direction o c m.nearest m.text in
+        let t = state_after_move direction s has.entry has.entries in
+        let reply = reply_of direction m.nearest.number in
+        subst (λ x. StepsAsMachine c s (moving direction) (Ok x)) (sym m.is) (
+          t,
+          (
+            subst (λ es. IsMoveStep direction s es (Ok reply) t) (sym has.are) (ap (λ n. Ok (reply_of direction n)) has.number, refl),
+            refl,
+          ),
+          stands_after_move direction o c (written c (writes_of plan)) s m.nearest m.others by has
+              (edits_lead_to_one_text direction m.nearest c.file m.text has.entry.text m.leads has.leads) m.opens,
+        )
+
+    no_drift : (o.drifted ≡ true) ⊎ ((o.drifted ≡ false) × LeadsNowhere direction o c.file) → ⊥
+    no_drift (inl drifted) = false≢true (sym by.settled ∙ drifted)
+    no_drift (inr (settled, nowhere)) =
+        let has = has_nearest direction o c s nowhere.nearest nowhere.others by nowhere.there in
+        nowhere.none has.entry.text has.leads
+
+    move_steps : (r : Result Outcome Fault) → IsMove direction o c r → StepsAsMachine c s (moving direction) r
+    move_steps (Ok outcome) (settled, m) = moved outcome m
+    move_steps (Err fault) (inl (e, drifted)) = absurd (no_drift drifted)
+    move_steps (Err fault) (inr (e, settled, nothing)) =
+        let none : entries_on direction s ≡ [] =
+        no_entries direction (entries_on direction s) c.file
+        (subst (λ es. AreEntries direction es (entries_on direction s) c.file) nothing (are_on direction o c s by)) in
+        inl (subst (λ es. IsMoveStep direction s es (Err fault) s) (sym none) (ap Err e, refl), refl)
+
+  moves_step : (direction : Direction) (r : Result Outcome Fault) → Then (IsOpening c.file c.journal) (λ o. IsMove direction o c) r
+      → StepsAsMachine c s (moving direction) r
+  moves_step direction r (inl (fault, refused, e)) = absurd (no_refusal fault refused)
+  moves_step direction r (inr (o, opens, move)) = move_steps direction o opens r move
+
+-- whatever it comes to on contents that stand for a state, the machine steps so
+pub outcomes_are_steps : (c : Contents) (s : State) (asked : Asked) (r : Result Outcome Fault)
+    → Stands c s → IsOutcome c asked r → StepsAsMachine c s asked r
+outcomes_are_steps c s (looking IsText) r stands is = looks_step c s stands IsText r is
+outcomes_are_steps c s listing r stands is = lists_step c s stands r is
+outcomes_are_steps c s (editing tool IsEdit) r stands is = edits_step c s stands tool IsEdit r is
+outcomes_are_steps c s (moving direction) r stands is = moves_step c s stands direction r is
+
+pub of_requests : OutcomesAreSteps
+of_requests c s request r stands is = outcomes_are_steps c s (asked_of request) r stands is

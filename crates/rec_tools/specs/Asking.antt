@@ -1,4 +1,4 @@
--- What the texts of a request mean, and what a file is for them: its elements and its record sets.
+-- What the texts of a request mean, and what a file is for them: its elements, and its record sets with their rules.
 use Rattle.std.specs.Prelude.{◌≡◌, ℕ, List, Some, None, Result, Ok, Err}
 use Rattle.rec_text.specs.declared.fault.Fault.{Fault}
 use Rattle.rec_text.specs.declared.fault.Fault.TheVariants.{BadExpression, BadPattern}
@@ -10,8 +10,7 @@ use Rattle.rec_sex.specs.Expressions.{IsExpression, HasRefusedPattern}
 use Rattle.rec_sex.specs.Grammar.{Term, fault_of}
 use Rattle.rec_sex.specs.IndexList.{IsIndexList}
 use Rattle.rec_sex.specs.Lists.{IsFieldList}
-use Rattle.rec_check.specs.declared.set.Set_.{Set_}
-use Rattle.rec_check.specs.Schemas.{IsSchema}
+use Rattle.rec_check.specs.Schemas.{Described, IsSchema}
 use Rattle.rec_select.specs.declared.records.Shape.{Shape}
 use Rattle.rec_select.specs.declared.records.Shape.TheVariants.{Blocks as AllFields, Print as PrintedFields, Values as PickedValues, Row as PickedRow, Count as NumberAlone}
 use Rattle.rec_select.specs.Selection.{Filter, all, by_expression, at_places, with_text}
@@ -55,15 +54,23 @@ IsShape Count answer = answer ≡ Ok NumberAlone
 
 -- ---- the file
 
--- the elements of a text and its record sets
+-- the elements of a text, and its record sets with their rules
 pub record Base : Type 0 where
   pub pieces : List Piece
-  pub sets : List Set_
+  pub schema : Described
 
 -- the base of these elements
 abbrev pub IsBaseOf : List Piece → Result Base Fault → Type 0
-IsBaseOf pieces = Then (IsSchema pieces) (λ schema answer. answer ≡ Ok (record { pieces = pieces; sets = schema.sets }))
+IsBaseOf pieces = Then (IsSchema pieces) (λ schema answer. answer ≡ Ok (record { pieces = pieces; schema = schema }))
+
+-- these elements, where their record sets can be told, or why they can't
+abbrev pub AreTold : List Piece → Result (List Piece) Fault → Type 0
+AreTold pieces = Then (IsBaseOf pieces) (λ base answer. answer ≡ Ok base.pieces)
 
 -- the base that a file is, or why it is none
 abbrev pub IsBase : List ℕ → Result Base Fault → Type 0
 IsBase file = Then (IsReading file) IsBaseOf
+
+-- the elements of a file whose record sets can be told, or why there are none
+abbrev pub IsRecFile : List ℕ → Result (List Piece) Fault → Type 0
+IsRecFile file = Then (IsReading file) AreTold

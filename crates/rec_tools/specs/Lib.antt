@@ -1,11 +1,16 @@
+-- what a reader believes, in reading order
 pub mod Home
 pub mod Steps
 pub mod Asking
 pub mod Printouts
-pub mod Deletion
-pub mod RemovedRuns
-pub mod Decision
+pub mod Edits
+pub mod Requests
+pub mod Outcomes
+pub mod Attempts
 pub mod Machine
 pub mod Guarantee
-pub mod Changes
+pub mod Laws
 pub mod Memory
+-- what serves proofs
+pub mod Changes
+pub mod Silently

@@ -1,14 +1,14 @@
 -- What a request prints of a file, with its reply, or why it is refused.
-use Rattle.std.specs.Prelude.{◌≡◌, ◌⊎◌, ℕ, ◌≤◌, Bool, List, [], ◌++◌, length, take, Option, Result, Ok, Err}
+use Rattle.std.specs.Prelude.{◌≡◌, ◌⊎◌, ℕ, ◌≤◌, Bool, List, [], ◌∷◌, ◌++◌, length, map, reverse, codes, decimal, Option, Result, Ok, Err, if◌then◌else◌}
+use Rattle.std.specs.List.{flat_map}
 use Rattle.std.specs.Io.KnownBytes.{Appends, Keeps}
 use Rattle.rec_text.specs.declared.fault.Fault.{Fault}
 use Rattle.rec_text.specs.declared.fault.Fault.TheVariants.{OutOfMemory, StoreFailed}
 use Rattle.rec_text.specs.declared.violations.Violation.{Violation}
-use Rattle.rec_text.specs.Elements.{Piece}
-use Rattle.rec_text.specs.Reading.{IsReading}
 use Rattle.rec_text.specs.Sink.{AppendsFront}
-use Rattle.rec_check.specs.Schemas.{Described, IsSchema}
-use Rattle.rec_check.specs.Violations.{AreViolations}
+use Rattle.rec_journal.specs.declared.event.Tool.{Tool}
+use Rattle.rec_journal.specs.Event.{tool_name}
+use Rattle.rec_journal.specs.History.{Opened}
 use Rattle.rec_select.specs.declared.info.InfoForm.{InfoForm}
 use Rattle.rec_select.specs.Info.{IsInfo}
 use Rattle.rec_select.specs.Printing.{IsPrinted}
@@ -17,8 +17,6 @@ use Rattle.rec_select.specs.declared.records.Shape.{Shape}
 use Rattle.rec_select.specs.Selection.{Filter, IsSelection}
 use Rattle.rec_tools.specs.declared.request.Form.{Form}
 use Rattle.rec_tools.specs.declared.request.Pick.{Pick}
-use Rattle.rec_tools.specs.declared.request.Request.{Request}
-use Rattle.rec_tools.specs.declared.request.Request.TheVariants.{Show, Info, Check, Delete, Undo}
 use Rattle.rec_tools.specs.declared.request.Reply.{Reply}
 use Rattle.rec_tools.specs.declared.request.Reply.TheVariants.{Shown, Violated}
 use Rattle.rec_tools.specs.Steps.{Then}
@@ -29,7 +27,7 @@ use Rattle.rec_tools.specs.Asking.{Base, IsBase, IsFilter, IsShape}
 -- the selected records of a base, in a shape
 abbrev pub IsShowOf : Base → Option (List ℕ) → Filter → Shape → Bool → Result (List ℕ) Fault → Type 0
 IsShowOf base kind wanted shape collapse =
-    Then (IsSelection base.pieces base.sets kind wanted) (λ selected. IsPrinted base.pieces selected shape collapse)
+    Then (IsSelection base.pieces base.schema.sets kind wanted) (λ selected. IsPrinted base.pieces selected shape collapse)
 
 -- the records that a pick selects, in a form
 abbrev pub IsShow : List ℕ → Pick → Form → Bool → Result (List ℕ) Fault → Type 0
@@ -41,16 +39,7 @@ IsShow file pick form collapse =
 
 -- the record sets, or that of a type, in a form
 abbrev pub IsInfoOf : List ℕ → Option (List ℕ) → InfoForm → Result (List ℕ) Fault → Type 0
-IsInfoOf file kind form = Then (IsBase file) (λ base. IsInfo base.pieces base.sets kind form)
-
--- the violations of these elements with a schema; to find them refuses nothing
-abbrev pub AreFound : List Piece → Described → Result (List Violation) Fault → Type 0
-AreFound pieces schema (Ok found) = AreViolations pieces schema found
-AreFound pieces schema (Err fault) = ⊥
-
--- the violations of a file, or why it has no rules
-abbrev pub IsCheck : List ℕ → Result (List Violation) Fault → Type 0
-IsCheck file = Then (IsReading file) (λ pieces. Then (IsSchema pieces) (AreFound pieces))
+IsInfoOf file kind form = Then (IsBase file) (λ base. IsInfo base.pieces base.schema.sets kind form)
 
 -- ---- the texts with their replies
 
@@ -74,22 +63,26 @@ abbrev pub IsReportText : (Result (List Violation) Fault → Type 0) → Result 
 IsReportText IsFound (Ok p) = (found : List Violation) × IsFound (Ok found) × (p.text ≡ report found) × (p.reply ≡ verdict found)
 IsReportText IsFound (Err fault) = IsFound (Err fault)
 
--- what a request prints of a file, or why it prints nothing; an edit and an undo have no such answer
-abbrev pub IsPrintout : List ℕ → Request → Result Printout Fault → Type 0
-IsPrintout file (Show pick form collapse) answer = IsShownText (IsShow file pick form collapse) answer
-IsPrintout file (Info kind form) answer = IsShownText (IsInfoOf file kind form) answer
-IsPrintout file Check answer = IsReportText (IsCheck file) answer
-IsPrintout file (Delete pick force) answer = ⊥
-IsPrintout file Undo answer = ⊥
-
 -- the reply to a request that prints, and what it prints
 abbrev pub IsShown : Result Printout Fault → Result Reply Fault → List ℕ → Type 0
 IsShown (Ok p) answer printed = (answer ≡ Ok p.reply) × (printed ≡ p.text)
 IsShown (Err fault) answer printed = (answer ≡ Err fault) × (printed ≡ [])
 
--- a front of the text that a request prints of a file
-abbrev pub IsFront : List ℕ → Request → List ℕ → Type 0
-IsFront file request printed = (p : Printout) × (n : ℕ) × IsPrintout file request (Ok p) × (printed ≡ take n p.text)
+-- ---- the history
+
+-- a line of a history: its word, and an edit's number and tool
+abbrev pub step_line : List ℕ → ℕ × Tool → List ℕ
+step_line word (number, tool) = word ++ 32 ∷ (decimal number ++ 32 ∷ (tool_name tool ++ 10 ∷ []))
+
+-- the edits that were made, the newest given first and printed last, and those to be made again
+abbrev pub history_text : List (ℕ × Tool) → List (ℕ × Tool) → List ℕ
+history_text past future = flat_map (step_line (codes "done")) (reverse past) ++ flat_map (step_line (codes "undone")) future
+
+-- the history that a file and its journal stand for
+abbrev pub printed_history : Opened → List ℕ
+printed_history o =
+    if o.drifted then codes "drifted\n"
+    else history_text (map (λ e. (e.number, e.tool)) o.past) (map (λ e. (e.number, e.tool)) o.future)
 
 -- ---- what went out
 
@@ -107,9 +100,10 @@ pub record Printed : Type 0 where
   pub before : ℕ
   pub after : ℕ
 
--- what went out while a sink's known bytes and its count of failures went from these to those
-abbrev pub WentOut : Option (List ℕ) → Option (List ℕ) → ℕ → ℕ → Printed → Type 0
-WentOut old new before after p = Appends old new p.text × (p.before ≡ before) × (p.after ≡ after)
+-- this went out of a sink, which tells what it took and counts its failures
+abbrev pub WentOut : {S : Type 0} → (S → Option (List ℕ)) → (S → ℕ) → S → S → Printed → Type 0
+WentOut {S} contents failures old new p =
+    Appends (contents old) (contents new) p.text × (p.before ≡ failures old) × (p.after ≡ failures new)
 
 -- the one went out, and then the other
 abbrev pub IsBoth : Printed → Printed → Printed → Type 0

@@ -1,7 +1,9 @@
--- Steps of a request, each of which may refuse it.
-use Rattle.std.specs.Prelude.{◌≡◌, ◌⊎◌, Result, Ok, Err}
+-- The refusals of a request.
 use Rattle.rec_text.specs.declared.fault.Fault.{Fault}
+use Rattle.rec_text.specs.declared.fault.Fault.TheVariants.{BadUsage}
+pub use Rattle.rec_text.specs.Steps.{Then}
 
--- one step after another: the first refusal is the answer
-abbrev pub Then : {A B : Type 0} → (Result A Fault → Type 0) → (A → Result B Fault → Type 0) → Result B Fault → Type 0
-Then {A} first next answer = ((fault : Fault) × first (Err fault) × (answer ≡ Err fault)) ⊎ ((a : A) × first (Ok a) × next a answer)
+-- the refusals that requests have at all: a request was read from words already
+abbrev pub IsRefusal : Fault → Type 0
+IsRefusal BadUsage = ⊥
+IsRefusal _ = Unit {0}

@@ -1,7 +1,7 @@
 //! Where a file and its journal are kept.
-ghost use Rattle.std.specs.Prelude.{◌≡◌, ◌⊎◌, ◌≤◌, ℕ, Option, IfOk, IfErr, IfSome, OnOk, OnErr, IsErrOf};
-ghost use Rattle.rec_text.specs.Sink.{HasRisen, UnlessStoreFailed};
-ghost use Rattle.rec_tools.specs.Home.{Contents, content_of, replaced};
+ghost use Rattle.std.specs.Prelude.{◌≡◌, ◌⊎◌, ℕ, Option, Some, IfErr, IfSome};
+ghost use Rattle.rec_text.specs.Sink.{UnlessStoreFailed};
+ghost use Rattle.rec_tools.specs.Home.{Contents, Call, Tells, Counts, left_by, read_call, IsReplaceCall};
 
 use rec_text::{Bytes, Fault};
 use std::alloc::Global;
@@ -15,7 +15,7 @@ pub enum Which {
     Journal,
 }
 
-/// Keeps a file and its journal. A journal that doesn't exist reads as empty.
+/// Keeps a file and its journal, and tells its calls. A journal that doesn't exist reads as empty.
 pub trait Home {
     /// The two contents, where the home tells them.
     ghost contents: { Self → Option Contents };
@@ -23,23 +23,27 @@ pub trait Home {
     /// How often the home failed; at the greatest number it stays.
     ghost failure_count: { Self → ℕ };
 
+    /// By this call the one home becomes the other.
+    ghost goes: { Self → Call → Self → Type 0 };
+
     /// The bytes of a content. Nothing is changed.
     fn read(&mut self, alloc: Global, which: Which) -> Result<Bytes, Fault>
-        ensures content { IfOk result (λ bytes. IfSome (contents self.old) (λ c. bytes ≡ content_of c which)) }
-        ensures unchanged { contents self.new ≡ contents self.old }
-        ensures counted { failure_count self.old ≤ failure_count self.new }
-        ensures store_failed { IsErrOf result Fault.StoreFailed → HasRisen (failure_count self.old) (failure_count self.new) }
+        ensures call { goes self.old (read_call which result) self.new }
         ensures refusals { IfErr result (λ fault. (fault ≡ Fault.OutOfMemory) ⊎ (fault ≡ Fault.StoreFailed)) };
 
     /// Puts these bytes in the place of a content. A failure leaves that content old or new, and the other as it was.
     fn replace(&mut self, which: Which, bytes: &[u8]) -> Result<(), Fault>
-        ensures put { OnOk result (contents self.new ≡ replaced (contents self.old) which bytes.now) }
-        ensures old_or_new { OnErr result ((contents self.new ≡ contents self.old) ⊎ (contents self.new ≡ replaced (contents self.old) which bytes.now)) }
-        ensures counted { failure_count self.old ≤ failure_count self.new }
-        ensures store_failed { OnErr result (HasRisen (failure_count self.old) (failure_count self.new)) }
+        ensures call { (call : Call) × IsReplaceCall which bytes.now result call × goes self.old call self.new }
         ensures refusals { UnlessStoreFailed result };
 
     /// How often the home failed.
     fn failures(&self) -> u64
         ensures { result ≡ failure_count self.now };
+
+    /// What a call reads is what stands there, and what stands there afterwards is what the call leaves.
+    ghost follows: { (old new : Self) (call : Call) → goes old call new
+        → IfSome (contents old) (λ c. Tells c call × (contents new ≡ Some (left_by c call))) };
+
+    /// The count rises at a failure, and stays at any other call.
+    ghost counts: { (old new : Self) (call : Call) → goes old call new → Counts (failure_count old) call (failure_count new) };
 }

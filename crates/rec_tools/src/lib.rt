@@ -2,24 +2,21 @@
 //! `docs/guarantees.md` says what is promised, and `specs/` states it, from `Home` to `Guarantee`.
 #![tactic(auto)]
 
-mod base;
 mod decision;
-mod deletion;
-#[cfg(test)]
-mod deletion_tests;
+mod deed;
 mod home;
 mod laws;
 mod memory;
 mod printing;
+mod rec_file;
 mod request;
 mod runner;
 mod selecting;
-#[cfg(test)]
-mod tests;
 
 pub use home::{Home, Which};
-pub use laws::one_decision;
+pub use laws::{first_stands, one_outcome, one_state, one_step, outcomes_are_steps};
 pub use memory::{MemoryHome, StoreFault};
+pub use rec_edit::Action;
 pub use rec_select::InfoForm;
 pub use rec_text::{Bytes, Fault, Output, Rule, Sink, Violation, Violations};
 pub use request::{Ask, Form, Pick, Reply, Request};

@@ -1,8 +1,9 @@
 //! A home in memory, some of whose calls fail.
-ghost use Rattle.std.specs.Prelude.{◌≡◌, ◌≤◌, [], ◌∷◌, ◌++◌, Some, OnOk, OnErr, MatchOption, IsSome};
+ghost use Rattle.std.specs.Prelude.{◌≡◌, ◌≤◌, ◌+◌, ◌-◌, ◌^◌, min, [], ◌∷◌, ◌++◌, Some, IfSome, OnOk, OnErr, MatchOption, is_some};
+ghost use Rattle.std.proofs.Common.{ap};
 ghost use Rattle.rec_text.specs.Sink.{HasRisen, UnlessStoreFailed};
 ghost use Rattle.rec_tools.specs.Home.{Contents, content_of, with_content};
-ghost use Rattle.rec_tools.specs.Memory.{fault_of, held};
+ghost use Rattle.rec_tools.specs.Memory.{fault_of, held, IsCall};
 
 use crate::home::{Home, Which};
 use rec_text::{Bytes, Fault};
@@ -104,8 +105,9 @@ impl MemoryHome {
     fn next_fault(&mut self) -> Option<StoreFault>
         ensures fault { result ≡ fault_of self.old.faults.items self.old.calls }
         ensures contents { held self.new ≡ held self.old }
-        ensures counted { self.old.failed ≤ self.new.failed }
-        ensures failed { IsSome result → HasRisen self.old.failed self.new.failed }
+        ensures numbered { self.new.calls ≡ min (self.old.calls + 1) (2 ^ 64 - 1) }
+        ensures faults { self.new.faults.items ≡ self.old.faults.items }
+        ensures counted { MatchOption result (self.new.failed ≡ self.old.failed) (λ _. (self.old.failed ≤ self.new.failed) × HasRisen self.old.failed self.new.failed) }
     {
         let fault = fault_at(&self.faults, self.calls);
         self.calls = self.calls.saturating_add(1);
@@ -120,8 +122,10 @@ impl MemoryHome {
     fn put(&mut self, which: Which, bytes: &[u8]) -> Result<(), Fault>
         ensures put { OnOk result (held self.new ≡ with_content (held self.old) which bytes.now) }
         ensures old { OnErr result (held self.new ≡ held self.old) }
-        ensures counted { self.old.failed ≤ self.new.failed }
-        ensures failed { OnErr result (HasRisen self.old.failed self.new.failed) }
+        ensures numbered { self.new.calls ≡ self.old.calls }
+        ensures faults { self.new.faults.items ≡ self.old.faults.items }
+        ensures kept { OnOk result (self.new.failed ≡ self.old.failed) }
+        ensures failed { OnErr result ((self.old.failed ≤ self.new.failed) × HasRisen self.old.failed self.new.failed) }
         ensures refusals { UnlessStoreFailed result }
     {
         let Ok(copy) = Bytes::copy_of(self.alloc, bytes) else {
@@ -140,6 +144,12 @@ impl Home for MemoryHome {
     ghost contents = { λ home. Some (held home) };
 
     ghost failure_count = { λ home. home.failed };
+
+    ghost goes = { IsCall };
+
+    ghost follows = { λ old new call h. (h.tells, ap Some h.left) };
+
+    ghost counts = { λ old new call h. h.counts };
 
     fn read(&mut self, alloc: Global, which: Which) -> Result<Bytes, Fault> {
         if self.next_fault().is_some() {

@@ -1,13 +1,13 @@
 //! The requests that print.
-ghost use Rattle.std.specs.Prelude.{◌≡◌, ◌≤◌, Ok, option_map, IfErr, IsErrOf};
-ghost use Rattle.rec_text.specs.Sink.{HasRisen};
-ghost use Rattle.rec_check.specs.Schemas.{IsSchema};
-ghost use Rattle.rec_check.specs.Stored.{described};
+ghost use Rattle.std.specs.Prelude.{◌≡◌, ◌≤◌, option_map, IfErr};
+ghost use Rattle.rec_check.specs.Violations.{AreViolationsOf};
 ghost use Rattle.rec_select.specs.Selection.{filter_of};
-ghost use Rattle.rec_tools.specs.Guarantee.{IsRefusal};
-ghost use Rattle.rec_tools.specs.Printouts.{IsShowOf, IsShow, IsInfoOf, IsCheck, IsShownText, IsReportText, PutsPrintout, verdict};
+ghost use Rattle.rec_text.specs.Sink.{KeptAtSuccess, RisenAtStoreFailed};
+ghost use Rattle.rec_tools.specs.Steps.{Then, IsRefusal};
+ghost use Rattle.rec_tools.specs.Asking.{IsBaseOf};
+ghost use Rattle.rec_tools.specs.Printouts.{IsShowOf, IsShow, IsInfoOf, IsShownText, IsReportText, PutsPrintout, verdict};
 
-use crate::base::{Base, base_of};
+use crate::rec_file::RecFile;
 use crate::request::{Form, Pick, Reply};
 use crate::selecting::{Wanted, wanted_of};
 use rec_select::{InfoForm, choose, write_info, write_records, write_report};
@@ -17,26 +17,20 @@ use std::alloc::Global;
 /// Prints the records of a base that are asked for.
 fn print_wanted<S: Sink>(
     alloc: Global,
-    base: &Base,
+    base: &RecFile,
     wanted: &Wanted,
     collapse: bool,
     out: &mut S,
 ) -> Result<Reply, Fault>
-    requires { IsSchema base.now.database (Ok (described base.now.schema)) }
-    ensures printed { PutsPrintout (IsShownText (IsShowOf (record { pieces = base.now.database; sets = (described base.now.schema).sets }) wanted.now.selection.kind (filter_of wanted.now.selection.by) wanted.now.shape collapse)) (S.contents out.old) (S.contents out.new) result }
+    ensures printed { PutsPrintout (IsShownText (Then (IsBaseOf base.now) (λ base. IsShowOf base wanted.now.selection.kind (filter_of wanted.now.selection.by) wanted.now.shape collapse))) (S.contents out.old) (S.contents out.new) result }
     ensures counted { S.failure_count out.old ≤ S.failure_count out.new }
-    ensures store_failed { IsErrOf result Fault.StoreFailed → HasRisen (S.failure_count out.old) (S.failure_count out.new) }
+    ensures kept { KeptAtSuccess (S.failure_count out.old) (S.failure_count out.new) result }
+    ensures store_failed { RisenAtStoreFailed (S.failure_count out.old) (S.failure_count out.new) result }
     ensures refusals { IfErr result IsRefusal }
 {
-    let selected = choose(alloc, &base.database, &base.schema, &wanted.selection)?;
-    write_records(
-        alloc,
-        &base.database,
-        &selected,
-        &wanted.shape,
-        collapse,
-        out,
-    )?;
+    let database = base.database();
+    let selected = choose(alloc, database, base.schema(), &wanted.selection)?;
+    write_records(alloc, database, &selected, &wanted.shape, collapse, out)?;
     Ok(Reply::Shown)
 }
 
@@ -51,10 +45,11 @@ pub fn show<S: Sink>(
 ) -> Result<Reply, Fault>
     ensures printed { PutsPrintout (IsShownText (IsShow file.now pick.now form.now collapse)) (S.contents out.old) (S.contents out.new) result }
     ensures counted { S.failure_count out.old ≤ S.failure_count out.new }
-    ensures store_failed { IsErrOf result Fault.StoreFailed → HasRisen (S.failure_count out.old) (S.failure_count out.new) }
+    ensures kept { KeptAtSuccess (S.failure_count out.old) (S.failure_count out.new) result }
+    ensures store_failed { RisenAtStoreFailed (S.failure_count out.old) (S.failure_count out.new) result }
     ensures refusals { IfErr result IsRefusal }
 {
-    let base = base_of(alloc, file)?;
+    let base = RecFile::read(alloc, file)?;
     let wanted = wanted_of(alloc, pick, form)?;
     print_wanted(alloc, &base, &wanted, collapse, out)
 }
@@ -79,11 +74,12 @@ pub fn inform<S: Sink>(
 ) -> Result<Reply, Fault>
     ensures printed { PutsPrintout (IsShownText (IsInfoOf file.now kind.now form)) (S.contents out.old) (S.contents out.new) result }
     ensures counted { S.failure_count out.old ≤ S.failure_count out.new }
-    ensures store_failed { IsErrOf result Fault.StoreFailed → HasRisen (S.failure_count out.old) (S.failure_count out.new) }
+    ensures kept { KeptAtSuccess (S.failure_count out.old) (S.failure_count out.new) result }
+    ensures store_failed { RisenAtStoreFailed (S.failure_count out.old) (S.failure_count out.new) result }
     ensures refusals { IfErr result IsRefusal }
 {
-    let base = base_of(alloc, file)?;
-    write_info(&base.database, &base.schema, slice_of(kind), form, out)?;
+    let base = RecFile::read(alloc, file)?;
+    write_info(base.database(), base.schema(), slice_of(kind), form, out)?;
     Ok(Reply::Shown)
 }
 
@@ -99,13 +95,14 @@ fn verdict_on(found: &[Violation]) -> Reply
 
 /// Prints where a file breaks the rules of its record sets.
 pub fn check<S: Sink>(alloc: Global, file: &[u8], out: &mut S) -> Result<Reply, Fault>
-    ensures printed { PutsPrintout (IsReportText (IsCheck file.now)) (S.contents out.old) (S.contents out.new) result }
+    ensures printed { PutsPrintout (IsReportText (AreViolationsOf file.now)) (S.contents out.old) (S.contents out.new) result }
     ensures counted { S.failure_count out.old ≤ S.failure_count out.new }
-    ensures store_failed { IsErrOf result Fault.StoreFailed → HasRisen (S.failure_count out.old) (S.failure_count out.new) }
+    ensures kept { KeptAtSuccess (S.failure_count out.old) (S.failure_count out.new) result }
+    ensures store_failed { RisenAtStoreFailed (S.failure_count out.old) (S.failure_count out.new) result }
     ensures refusals { IfErr result IsRefusal }
 {
-    let base = base_of(alloc, file)?;
-    let found = base.schema.violations(alloc, &base.database)?;
+    let base = RecFile::read(alloc, file)?;
+    let found = base.schema().violations(alloc, base.database())?;
     write_report(&found, out)?;
     Ok(verdict_on(&found))
 }

@@ -1,4 +1,5 @@
 //! What a user asks for, and what is answered.
+use rec_edit::Action;
 use rec_select::InfoForm;
 use rec_text::Bytes;
 
@@ -54,9 +55,23 @@ pub enum Request {
     },
     /// Reports where the file breaks the rules of its record sets.
     Check,
-    /// Deletes records; all records of a set only with `force`.
+    /// Deletes records. Only with `force` may these be all records of a set, and may the file break the rules of its
+    /// record sets afterwards.
     Delete {
         pick: Pick,
+        force: bool,
+    },
+    /// Makes comments of records, with `force` as for a deletion.
+    CommentOut {
+        pick: Pick,
+        force: bool,
+    },
+    /// Edits the fields that a list picks of records: a text such as `Name,Email[0-1]`. Only with `force` may the file break
+    /// the rules of its record sets afterwards.
+    Set {
+        pick: Pick,
+        list: Bytes,
+        action: Action,
         force: bool,
     },
     /// Takes the newest edit back.
@@ -76,4 +91,6 @@ pub enum Reply {
     Unchanged,
     /// The edit of this number was taken back.
     Undone(usize),
+    /// The edit of this number was made again.
+    Redone(usize),
 }

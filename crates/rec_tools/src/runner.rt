@@ -1,26 +1,30 @@
 //! Runs requests on a home.
-ghost use Rattle.std.specs.Prelude.{◌≡◌, ◌⊎◌, ◌≤◌, ℕ, List, [], Option, Some, IfOk, IfErr, IfSome, OnOk, OnErr, IsErrOf};
+ghost use Rattle.std.specs.Prelude.{◌≡◌, ◌⊎◌, ◌≤◌, ℕ, List, Option, Some, IfOk, IfErr, IfSome, OnOk, IsErrOf};
 ghost use Rattle.std.specs.List.{AllByRecursion};
-ghost use Rattle.rec_text.specs.Sink.{HasRisen, UnlessStoreFailed};
-ghost use Rattle.rec_tools.specs.Home.{Contents};
+ghost use Rattle.rec_text.specs.Sink.{UnlessStoreFailed};
+ghost use Rattle.rec_tools.specs.Home.{Contents, Call, Went, TellAll, left_by_all, Rose};
+ghost use Rattle.rec_tools.specs.Steps.{IsRefusal};
 ghost use Rattle.rec_tools.specs.Printouts.{Printed, WentOut};
+ghost use Rattle.rec_tools.specs.Requests.{asked_of, IsSilent, WritesNothing};
+ghost use Rattle.rec_tools.specs.Outcomes.{outcome_of, writes_of};
+ghost use Rattle.rec_tools.specs.Attempts.{AreRead, AreWritten, IsAnswered, Does, DoesAll};
 ghost use Rattle.rec_tools.specs.Machine.{State, Stands};
-ghost use Rattle.rec_tools.specs.Guarantee.{contents_of, MayHold, MayCarryOut, Attempts, AttemptsAll, GoesAsMachine, IsRefusal, IsLook, IsSilent, Guarantee};
+ghost use Rattle.rec_tools.specs.Guarantee.{RunsAsMachine};
+ghost use Rattle.rec_tools.specs.Changes.{asked_by};
+ghost use Rattle.rec_tools.specs.Silently.{DoesSilently};
 
-use crate::decision::{Decision, decide_delete, decide_undo};
+use crate::decision::{Decision, decide_edit, decide_undo};
+use crate::deed::Deed;
 use crate::home::{Home, Which};
 use crate::printing::{check, inform, show};
-use crate::request::{Reply, Request};
+use crate::request::{Pick, Reply, Request};
 use rec_journal::Plan;
 use rec_text::{Bytes, Fault, Sink};
 use std::alloc::Global;
 
 /// Reads the file and the journal.
 fn read_both<H: Home>(alloc: Global, home: &mut H) -> Result<(Bytes, Bytes), Fault>
-    ensures contents { IfOk result (λ pair. IfSome (H.contents home.old) (λ c. (pair.0 ≡ c.file) × (pair.1 ≡ c.journal))) }
-    ensures unchanged { H.contents home.new ≡ H.contents home.old }
-    ensures counted { H.failure_count home.old ≤ H.failure_count home.new }
-    ensures store_failed { IsErrOf result Fault.StoreFailed → HasRisen (H.failure_count home.old) (H.failure_count home.new) }
+    ensures calls { (calls : List Call) × Went H.goes home.old calls home.new × AreRead result calls }
     ensures refusals { IfErr result (λ fault. (fault ≡ Fault.OutOfMemory) ⊎ (fault ≡ Fault.StoreFailed)) }
 {
     let file = home.read(alloc, Which::Base)?;
@@ -31,10 +35,7 @@ fn read_both<H: Home>(alloc: Global, home: &mut H) -> Result<(Bytes, Bytes), Fau
 /// Puts a plan's contents in place, the journal first: where the second replace fails, the journal tells what became
 /// of the edit.
 fn put_in_place<H: Home>(home: &mut H, plan: &Plan) -> Result<(), Fault>
-    ensures put { OnOk result (IfSome (H.contents home.old) (λ c. H.contents home.new ≡ Some (contents_of plan.now))) }
-    ensures left { OnErr result (IfSome (H.contents home.old) (λ c. (d : Contents) × (H.contents home.new ≡ Some d) × MayHold c plan.now d)) }
-    ensures counted { H.failure_count home.old ≤ H.failure_count home.new }
-    ensures store_failed { OnErr result (HasRisen (H.failure_count home.old) (H.failure_count home.new)) }
+    ensures calls { (calls : List Call) × Went H.goes home.old calls home.new × AreWritten (writes_of plan.now) result calls }
     ensures refusals { UnlessStoreFailed result }
 {
     home.replace(Which::Journal, plan.journal.as_slice())?;
@@ -43,9 +44,7 @@ fn put_in_place<H: Home>(home: &mut H, plan: &Plan) -> Result<(), Fault>
 
 /// Carries a decision out.
 fn carry_out<H: Home>(home: &mut H, decision: Decision) -> Result<Reply, Fault>
-    ensures carried { IfSome (H.contents home.old) (λ c. (d : Contents) × (H.contents home.new ≡ Some d) × MayCarryOut c decision result d) }
-    ensures counted { H.failure_count home.old ≤ H.failure_count home.new }
-    ensures store_failed { OnErr result (HasRisen (H.failure_count home.old) (H.failure_count home.new)) }
+    ensures calls { (calls : List Call) × Went H.goes home.old calls home.new × IsAnswered (outcome_of decision) result calls }
     ensures refusals { UnlessStoreFailed result }
 {
     match decision {
@@ -57,32 +56,53 @@ fn carry_out<H: Home>(home: &mut H, decision: Decision) -> Result<Reply, Fault>
     }
 }
 
-/// Runs one request: reads the contents, and prints, or decides and puts a plan in place, the journal first.
-pub fn run<H: Home, S: Sink>(
+/// Reads both contents, edits the records that a pick selects, and puts the plan in place.
+fn make_edit<H: Home>(
+    alloc: Global,
+    home: &mut H,
+    deed: Deed,
+    pick: &Pick,
+    force: bool,
+) -> Result<Reply, Fault>
+    ensures attempts { DoesSilently H.goes home.old home.new (asked_by deed.entry pick.now force) result }
+    ensures refusals { IfErr result IsRefusal }
+{
+    let (file, journal) = read_both(alloc, home)?;
+    let decision = decide_edit(
+        alloc,
+        file.as_slice(),
+        journal.as_slice(),
+        deed,
+        pick,
+        force,
+    )?;
+    carry_out(home, decision)
+}
+
+/// Reads both contents, and takes the newest edit back.
+fn take_back<H: Home>(alloc: Global, home: &mut H) -> Result<Reply, Fault>
+    ensures attempts { DoesSilently H.goes home.old home.new (asked_of Request.Undo) result }
+    ensures refusals { IfErr result IsRefusal }
+{
+    let (file, journal) = read_both(alloc, home)?;
+    let decision = decide_undo(alloc, file.as_slice(), journal.as_slice())?;
+    carry_out(home, decision)
+}
+
+/// Reads the contents that a request needs, and prints, or decides and puts a plan in place.
+fn attempt<H: Home, S: Sink>(
     alloc: Global,
     home: &mut H,
     out: &mut S,
     request: &Request,
 ) -> Result<Reply, Fault>
-    // On any file and journal that the home tells: the refusals in their order, the printed text, the edited text, the
-    // plan put in place.
-    ensures attempts { IfSome (H.contents home.old) (λ c. (d : Contents) × (p : Printed) × (H.contents home.new ≡ Some d)
-        × WentOut (S.contents out.old) (S.contents out.new) (S.failure_count out.old) (S.failure_count out.new) p × Attempts c request.now result p d) }
-
-    // Contents that stand for a state become contents that stand for the machine's next state, with its reply and what it prints.
-    ensures stands { ¬ HasRisen (H.failure_count home.old) (H.failure_count home.new) → IfSome (H.contents home.old) (λ c. (s : State) → Stands c s →
-        (d : Contents) × (t : State) × (p : Printed) × (H.contents home.new ≡ Some d)
-        × WentOut (S.contents out.old) (S.contents out.new) (S.failure_count out.old) (S.failure_count out.new) p × GoesAsMachine c s request.now result p d t) }
-
-    // A store failed only where the failures of the home or of the sink rose.
-    ensures store_failed { IsErrOf result Fault.StoreFailed → HasRisen (H.failure_count home.old) (H.failure_count home.new) ⊎ HasRisen (S.failure_count out.old) (S.failure_count out.new) }
-    ensures counted { (H.failure_count home.old ≤ H.failure_count home.new) × (S.failure_count out.old ≤ S.failure_count out.new) }
+    ensures attempts { (calls : List Call) × (p : Printed) × Went H.goes home.old calls home.new
+        × WentOut S.contents S.failure_count out.old out.new p
+        × ((c : Contents) × TellAll c calls)
+        × ((c : Contents) → TellAll c calls → Does c (asked_of request.now) result calls p) }
+    ensures counted { S.failure_count out.old ≤ S.failure_count out.new }
     ensures refusals { IfErr result IsRefusal }
-
-    // After any other refusal both contents are as before; so they are after every request that replaces nothing.
-    ensures unchanged { IfErr result (λ fault. (fault ≡ Fault.StoreFailed) ⊎ (H.contents home.new ≡ H.contents home.old)) }
-    ensures looks { IsLook request.now → H.contents home.new ≡ H.contents home.old }
-    ensures silent { IsSilent request.now → out.new ≡ out.old }
+    ensures silent { IsSilent (asked_of request.now) → out.new ≡ out.old }
 {
     match request {
         Request::Show {
@@ -101,17 +121,48 @@ pub fn run<H: Home, S: Sink>(
             let file = home.read(alloc, Which::Base)?;
             check(alloc, file.as_slice(), out)
         }
-        Request::Delete { pick, force } => {
-            let (file, journal) = read_both(alloc, home)?;
-            let decision = decide_delete(alloc, file.as_slice(), journal.as_slice(), pick, *force)?;
-            carry_out(home, decision)
+        Request::Delete { pick, force } => make_edit(alloc, home, Deed::Delete, pick, *force),
+        Request::CommentOut { pick, force } => {
+            make_edit(alloc, home, Deed::CommentOut, pick, *force)
         }
-        Request::Undo => {
-            let (file, journal) = read_both(alloc, home)?;
-            let decision = decide_undo(alloc, file.as_slice(), journal.as_slice())?;
-            carry_out(home, decision)
-        }
+        Request::Set {
+            pick,
+            list,
+            action,
+            force,
+        } => make_edit(alloc, home, Deed::Set(list, action), pick, *force),
+        Request::Undo => take_back(alloc, home),
     }
+}
+
+/// Runs one request: reads the contents, and prints, or decides and puts a plan in place, the journal first.
+pub fn run<H: Home, S: Sink>(
+    alloc: Global,
+    home: &mut H,
+    out: &mut S,
+    request: &Request,
+) -> Result<Reply, Fault>
+    // The calls of the home, one by one; what went out; and, for whatever contents the reads tell of, that both and the
+    // answer are what the request comes to there.
+    ensures attempts { (calls : List Call) × (p : Printed) × Went H.goes home.old calls home.new
+        × WentOut S.contents S.failure_count out.old out.new p
+        × ((c : Contents) × TellAll c calls)
+        × ((c : Contents) → TellAll c calls → Does c (asked_of request.now) result calls p) }
+    ensures counted { S.failure_count out.old ≤ S.failure_count out.new }
+    ensures refusals { IfErr result IsRefusal }
+    ensures silent { IsSilent (asked_of request.now) → out.new ≡ out.old }
+
+    // A success keeps the counts of failures.
+    ensures kept { OnOk result ((H.failure_count home.new ≡ H.failure_count home.old) × (S.failure_count out.new ≡ S.failure_count out.old)) }
+
+    // A store failed only where the failures of the home or of the sink rose.
+    ensures store_failed { IsErrOf result Fault.StoreFailed → Rose H.failure_count home.old home.new ⊎ Rose S.failure_count out.old out.new }
+
+    // After any refusal but a failed store both contents are as before; so they are after every request that writes nothing.
+    ensures unchanged { IfSome (H.contents home.old) (λ c. IfErr result (λ fault. (fault ≡ Fault.StoreFailed) ⊎ (H.contents home.new ≡ Some c))) }
+    ensures looks { IfSome (H.contents home.old) (λ c. WritesNothing (asked_of request.now) → H.contents home.new ≡ Some c) }
+{
+    attempt(alloc, home, out, request)
 }
 
 /// Runs requests one after another, each with an answer of its own. The list of answers is reserved before the first
@@ -122,22 +173,23 @@ pub fn run_all<H: Home, S: Sink>(
     out: &mut S,
     requests: &[Request],
 ) -> Result<Vec<Result<Reply, Fault>>, Fault>
-    // One answer for each request, whatever fails.
-    ensures attempts { IfOk result (λ answers. IfSome (H.contents home.old) (λ c. (d : Contents) × (p : Printed) × (H.contents home.new ≡ Some d)
-        × WentOut (S.contents out.old) (S.contents out.new) (S.failure_count out.old) (S.failure_count out.new) p
-        × AttemptsAll c requests.now answers.items p d)) }
+    // One answer for each request, whatever fails, by its calls.
+    ensures attempts { IfOk result (λ answers. (calls : List Call) × (p : Printed) × Went H.goes home.old calls home.new
+        × WentOut S.contents S.failure_count out.old out.new p
+        × ((c : Contents) → TellAll c calls → DoesAll c requests.now answers.items calls p)) }
 
-    // From any file and an empty journal, while the home tells its contents and doesn't fail, every run of requests is
-    // a run of the history machine: its answers, what it prints, and after each request contents that stand for its state.
-    ensures guarantee { IfOk result (λ answers. (file : List ℕ) → H.contents home.old ≡ Some (record { file = file; journal = [] }) →
-        ¬ HasRisen (H.failure_count home.old) (H.failure_count home.new) →
-        (d : Contents) × (p : Printed) × (H.contents home.new ≡ Some d)
-        × WentOut (S.contents out.old) (S.contents out.new) (S.failure_count out.old) (S.failure_count out.new) p
-        × Guarantee file requests.now answers.items p d) }
+    // From contents that stand for a state, while the home tells them and doesn't fail, every run of requests is a run of
+    // the history machine: its answers, what it prints, and after each request contents that stand for its state.
+    ensures guarantee { IfOk result (λ answers. IfSome (H.contents home.old) (λ c. (s : State) → Stands c s →
+        ¬ Rose H.failure_count home.old home.new →
+        (calls : List Call) × (p : Printed) × (t : State) × Went H.goes home.old calls home.new
+        × (H.contents home.new ≡ Some (left_by_all c calls))
+        × WentOut S.contents S.failure_count out.old out.new p
+        × RunsAsMachine c s requests.now answers.items calls p t)) }
 
     ensures unreserved { IfErr result (λ fault. (fault ≡ Fault.OutOfMemory) × (home.new ≡ home.old) × (out.new ≡ out.old)) }
-    ensures counted { (H.failure_count home.old ≤ H.failure_count home.new) × (S.failure_count out.old ≤ S.failure_count out.new) }
-    ensures silent { AllByRecursion IsSilent requests.now → out.new ≡ out.old }
+    ensures counted { S.failure_count out.old ≤ S.failure_count out.new }
+    ensures silent { AllByRecursion (λ request. IsSilent (asked_of request)) requests.now → out.new ≡ out.old }
 {
     let mut answers = Vec::with_capacity(alloc, requests.len())?;
     for request in requests {

@@ -2,3 +2,4 @@ pub mod Usage
 pub mod Options
 pub mod Words
 pub mod Status
+pub mod Files

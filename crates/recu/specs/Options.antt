@@ -1,4 +1,4 @@
--- The options of the tools that print, as the program's tables tell clap of them.
+-- The options of the tools, as the program's tables tell clap of them.
 use Rattle.std.specs.Prelude.{Option, Some, None, option_to_list}
 use Rattle.std.specs.Borrow.{Bor}
 use Rattle.clap.specs.Words.{App, Rule, Text, with_rule}

@@ -1,6 +1,8 @@
--- The exit status.
-use Rattle.std.specs.Prelude.{ℕ, Result, Ok, Err}
+-- The exit status, and what is reported at the end.
+use Rattle.std.specs.Prelude.{ℕ, List, [], Result, Ok, Err}
 use Rattle.rec_text.specs.declared.fault.Fault.{Fault}
+use Rattle.rec_text.specs.declared.fault.Fault.TheVariants.{Integrity}
+use Rattle.rec_text.specs.declared.violations.Violation.{Violation}
 use Rattle.rec_tools.specs.declared.request.Reply.{Reply}
 use Rattle.rec_tools.specs.declared.request.Reply.TheVariants.{Violated}
 
@@ -9,3 +11,8 @@ abbrev pub status_of : Result Reply Fault → ℕ
 status_of (Ok (Violated count)) = 1
 status_of (Ok reply) = 0
 status_of (Err fault) = 1
+
+-- the violations for which an edit was refused
+abbrev pub violations_in : Fault → List Violation
+violations_in (Integrity violations) = violations
+violations_in _ = []

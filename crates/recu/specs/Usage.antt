@@ -19,10 +19,6 @@ flag letter name = record (new_rule name) {
   action = Some SetTrue;
 }
 
--- `-n LIST` or `--number LIST`, which has to be there
-abbrev pub needed_number : Rule
-needed_number = record (valued (codes "n") (codes "number")) { required = true }
-
 -- `--journal PATH`
 abbrev pub journal_option : Rule
 journal_option = record (new_rule (codes "journal")) {
@@ -68,7 +64,34 @@ abbrev pub recfix_usage : App
 recfix_usage = tool_with (codes "recfix") (flag [] (codes "check") ∷ file_word ∷ [])
 
 abbrev pub recdel_usage : App
-recdel_usage = tool_with (codes "recdel") (needed_number ∷ journal_option ∷ needed_file ∷ [])
+recdel_usage = tool_with (codes "recdel") (
+    valued (codes "t") (codes "type")
+    ∷ valued (codes "e") (codes "expression")
+    ∷ valued (codes "n") (codes "number")
+    ∷ valued (codes "q") (codes "quick")
+    ∷ flag (codes "c") (codes "comment")
+    ∷ flag [] (codes "force")
+    ∷ journal_option
+    ∷ needed_file
+    ∷ [])
+
+abbrev pub recset_usage : App
+recset_usage = tool_with (codes "recset") (
+    valued (codes "t") (codes "type")
+    ∷ valued (codes "e") (codes "expression")
+    ∷ valued (codes "n") (codes "number")
+    ∷ valued (codes "q") (codes "quick")
+    ∷ valued (codes "f") (codes "fields")
+    ∷ valued (codes "s") (codes "set")
+    ∷ valued (codes "a") (codes "add")
+    ∷ valued (codes "S") (codes "set-add")
+    ∷ valued (codes "r") (codes "rename")
+    ∷ flag (codes "d") (codes "delete")
+    ∷ flag (codes "c") (codes "comment")
+    ∷ flag [] (codes "force")
+    ∷ journal_option
+    ∷ needed_file
+    ∷ [])
 
 abbrev pub undo_usage : App
 undo_usage = tool_with (codes "undo") (journal_option ∷ needed_file ∷ [])
@@ -87,5 +110,7 @@ plain_usage = record {
 
 abbrev pub usage : App
 usage = with_subcommand
+    (with_subcommand
     (with_subcommand (with_subcommand (with_subcommand (with_subcommand plain_usage recsel_usage.top) recinf_usage.top) recfix_usage.top) recdel_usage.top)
+    recset_usage.top)
     undo_usage.top

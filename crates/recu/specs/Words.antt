@@ -7,10 +7,13 @@ use Rattle.rec_select.specs.declared.info.InfoForm.{InfoForm}
 use Rattle.rec_select.specs.declared.info.InfoForm.TheVariants.{Counts, Names, Descriptors}
 use Rattle.rec_tools.specs.declared.request.Ask.{Ask}
 use Rattle.rec_tools.specs.declared.request.Ask.TheVariants.{All, Expr, Index, Quick}
+use Rattle.rec_edit.specs.declared.request.Action.{Action}
+use Rattle.rec_edit.specs.declared.request.Action.TheVariants.{Set as SetTo, Add, SetAdd, Rename, Delete as DeleteFields, Comment as CommentFields}
 use Rattle.rec_tools.specs.declared.request.Form.{Form}
 use Rattle.rec_tools.specs.declared.request.Form.TheVariants.{Blocks, Print, Values, Row as OneRow, Count}
+use Rattle.rec_tools.specs.declared.request.Pick.{Pick}
 use Rattle.rec_tools.specs.declared.request.Request.{Request}
-use Rattle.rec_tools.specs.declared.request.Request.TheVariants.{Show, Info, Check, Delete, Undo}
+use Rattle.rec_tools.specs.declared.request.Request.TheVariants.{Show, Info, Check, Delete, CommentOut, Set, Undo}
 use Rattle.recu.specs.declared.args.Asked.{Asked}
 use Rattle.recu.specs.Usage.{usage}
 
@@ -30,6 +33,10 @@ selection_for All = (None, None, None)
 selection_for (Expr text) = (Some text, None, None)
 selection_for (Index list) = (None, Some list, None)
 selection_for (Quick text) = (None, None, Some text)
+
+-- the records that the options of a tool select
+abbrev pub IsPick : List Row → Pick → Type 0
+IsPick options pick = (pick.kind ≡ first_of (codes "type") options) × (selection_for pick.by ≡ selection_given options)
 
 -- the texts of `--print`, `--print-values` and `--print-row`, and whether `--count` is given
 abbrev pub form_given : List Row → Option Text × Option Text × Option Text × Bool
@@ -58,17 +65,40 @@ info_form_for Counts = (false, false)
 info_form_for Names = (false, true)
 info_form_for Descriptors = (true, false)
 
+-- the texts of `--set`, `--add`, `--set-add` and `--rename`, and whether `--delete` and `--comment` are given
+abbrev pub action_given : List Row → Option Text × Option Text × Option Text × Option Text × Bool × Bool
+action_given options = (
+  first_of (codes "set") options,
+  first_of (codes "add") options,
+  first_of (codes "set-add") options,
+  first_of (codes "rename") options,
+  has_flag (codes "delete") options,
+  has_flag (codes "comment") options,
+)
+
+-- and what they are where this action is asked for: one of them is given
+abbrev pub action_for : Action → Option Text × Option Text × Option Text × Option Text × Bool × Bool
+action_for (SetTo value) = (Some value, None, None, None, false, false)
+action_for (Add value) = (None, Some value, None, None, false, false)
+action_for (SetAdd value) = (None, None, Some value, None, false, false)
+action_for (Rename name) = (None, None, None, Some name, false, false)
+action_for DeleteFields = (None, None, None, None, true, false)
+action_for CommentFields = (None, None, None, None, false, true)
+
 -- the request of a tool and of the options that are found
 abbrev pub Asks : Text → List Row → Request → Type 0
 Asks tool options (Show pick form collapse) =
-    (tool ≡ codes "recsel") × (pick.kind ≡ first_of (codes "type") options) × (selection_for pick.by ≡ selection_given options)
-    × (form_for form ≡ form_given options) × (collapse ≡ has_flag (codes "collapse") options)
+    (tool ≡ codes "recsel") × IsPick options pick × (form_for form ≡ form_given options) × (collapse ≡ has_flag (codes "collapse") options)
 Asks tool options (Info kind form) =
     (tool ≡ codes "recinf") × (kind ≡ first_of (codes "type") options) × (info_form_for form ≡ info_form_given options)
 Asks tool options Check = tool ≡ codes "recfix"
 Asks tool options (Delete pick force) =
-    (tool ≡ codes "recdel") × ((list : Text) × (first_of (codes "number") options ≡ Some list) × (pick ≡ record { kind = None; by = Index list }))
-    × (force ≡ false)
+    (tool ≡ codes "recdel") × (has_flag (codes "comment") options ≡ false) × IsPick options pick × (force ≡ has_flag (codes "force") options)
+Asks tool options (CommentOut pick force) =
+    (tool ≡ codes "recdel") × (has_flag (codes "comment") options ≡ true) × IsPick options pick × (force ≡ has_flag (codes "force") options)
+Asks tool options (Set pick list action force) =
+    (tool ≡ codes "recset") × IsPick options pick × (first_of (codes "fields") options ≡ Some list) × (action_for action ≡ action_given options)
+    × (force ≡ has_flag (codes "force") options)
 Asks tool options Undo = tool ≡ codes "undo"
 
 -- ---- the paths
@@ -101,6 +131,8 @@ IsJournal (Show pick form collapse) file given journal = journal ≡ None
 IsJournal (Info kind form) file given journal = journal ≡ None
 IsJournal Check file given journal = journal ≡ None
 IsJournal (Delete pick force) file given journal = IsEditJournal file given journal
+IsJournal (CommentOut pick force) file given journal = IsEditJournal file given journal
+IsJournal (Set pick list action force) file given journal = IsEditJournal file given journal
 IsJournal Undo file given journal = IsEditJournal file given journal
 
 -- what the words ask for: the tool that they name, and what is made of its options

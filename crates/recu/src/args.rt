@@ -3,14 +3,14 @@ ghost use Rattle.std.specs.Prelude.{◌≡◌, ◌⊎◌, false, map, fold, IfOk
 ghost use Rattle.clap.specs.Words.{app_of, first_of, found_of, rows_of, rule_of};
 ghost use Rattle.clap.specs.declared.builder.command.Command.TheViews.{out-Command as fields_of};
 ghost use Rattle.recu.specs.Options.{rule_of_option, with_option};
-ghost use Rattle.recu.specs.Usage.{needed_number, journal_option, file_word, needed_file, recsel_usage, recinf_usage, recfix_usage, recdel_usage, undo_usage, plain_usage, usage};
-ghost use Rattle.recu.specs.Words.{has_flag, selection_given, selection_for, form_given, form_for, info_form_given, info_form_for, Asks, IsJournal, IsAsked};
+ghost use Rattle.recu.specs.Usage.{journal_option, file_word, needed_file, recsel_usage, recinf_usage, recfix_usage, recdel_usage, recset_usage, undo_usage, plain_usage, usage};
+ghost use Rattle.recu.specs.Words.{has_flag, selection_given, selection_for, form_given, form_for, info_form_given, info_form_for, action_given, action_for, IsPick, Asks, IsJournal, IsAsked};
 
-use crate::options::{RECFIX, RECINF, RECSEL, ToolOption};
+use crate::options::{RECDEL, RECFIX, RECINF, RECSEL, RECSET, ToolOption};
 use crate::paths::{are_apart, copied, journal_path};
 use clap::error::ErrorKind;
 use clap::{Arg, ArgAction, ArgMatches, Command};
-use rec_tools::{Ask, Bytes, Fault, Form, InfoForm, Pick, Request};
+use rec_tools::{Action, Ask, Bytes, Fault, Form, InfoForm, Pick, Request};
 use std::alloc::{AllocError, Global};
 use std::convert::AsStr;
 use std::rt::Env;
@@ -27,6 +27,12 @@ const RECSEL_RULES: &str =
     "Only one of -e, -n and -q can be given, and only one of -p, -P, -R and -c.";
 
 const RECINF_RULES: &str = "Only one of -d and -n can be given.";
+
+const RECDEL_ABOUT: &str =
+    "Deletes records, or makes comments of them. Only one of -e, -n and -q can be given.";
+
+const RECSET_ABOUT: &str =
+    "Edits fields of records. FIELDS and exactly one of -s, -a, -S, -r, -d and -c are needed. Only one\nof -e, -n and -q can be given; without one all records are edited.";
 
 const RECFIX_RULES: &str =
     "Each violation is a line, LINE: RULE NAME. Where there is one, the exit status is 1.";
@@ -52,7 +58,7 @@ impl ToolOption {
 }
 
 /// What the words ask for, and the two files that it is asked of.
-#[derive(Debug, Drop)]
+#[derive(Drop)]
 pub struct Asked {
     pub request: Request,
     pub file: Option<String>,
@@ -60,7 +66,7 @@ pub struct Asked {
 }
 
 /// Why words give no request.
-#[derive(Debug, Drop)]
+#[derive(Drop)]
 enum Refusal {
     OutOfMemory,
     /// clap refuses the words, or they ask for its help.
@@ -169,10 +175,7 @@ fn request(alloc: Global, tool: &str, options: &ArgMatches) -> Result<Request, R
 {
     match tool {
         "recsel" => Ok(Request::Show {
-            pick: Pick {
-                kind: text(alloc, options, "type")?,
-                by: ask(alloc, options)?,
-            },
+            pick: pick(alloc, options)?,
             form: form(alloc, options)?,
             collapse: is_given(options, "collapse"),
         }),
@@ -182,20 +185,70 @@ fn request(alloc: Global, tool: &str, options: &ArgMatches) -> Result<Request, R
         }),
         // The option --check asks for what is done without it.
         "recfix" => Ok(Request::Check),
-        "recdel" => {
-            let Some(list) = text(alloc, options, "number")? else {
-                return Err(Refusal::Rule("recdel: --number is needed"));
-            };
-            Ok(Request::Delete {
-                pick: Pick {
-                    kind: None,
-                    by: Ask::Index(list),
-                },
-                force: false,
-            })
-        }
+        "recdel" => removal(alloc, options),
+        "recset" => setting(alloc, options),
         "undo" => Ok(Request::Undo),
         _ => Err(Refusal::Rule("no such tool")),
+    }
+}
+
+/// What recdel is asked for: to delete records, or to make comments of them.
+fn removal(alloc: Global, options: &ArgMatches) -> Result<Request, Refusal>
+    ensures { IfOk result (Asks (codes "recdel") (rows_of (found_of options.now))) }
+{
+    let pick = pick(alloc, options)?;
+    let force = is_given(options, "force");
+    if is_given(options, "comment") {
+        Ok(Request::CommentOut { pick, force })
+    } else {
+        Ok(Request::Delete { pick, force })
+    }
+}
+
+/// What recset is asked for.
+fn setting(alloc: Global, options: &ArgMatches) -> Result<Request, Refusal>
+    ensures { IfOk result (Asks (codes "recset") (rows_of (found_of options.now))) }
+{
+    let Some(list) = text(alloc, options, "fields")? else {
+        return Err(Refusal::Rule("recset: --fields is needed"));
+    };
+    Ok(Request::Set {
+        pick: pick(alloc, options)?,
+        list,
+        action: action(alloc, options)?,
+        force: is_given(options, "force"),
+    })
+}
+
+/// The options that say which records are meant.
+fn pick(alloc: Global, options: &ArgMatches) -> Result<Pick, Refusal>
+    ensures { IfOk result (IsPick (rows_of (found_of options.now))) }
+{
+    let kind = text(alloc, options, "type")?;
+    let by = ask(alloc, options)?;
+    Ok(Pick { kind, by })
+}
+
+/// The options that say what is done to fields.
+fn action(alloc: Global, options: &ArgMatches) -> Result<Action, Refusal>
+    ensures { IfOk result (λ action. action_for action ≡ action_given (rows_of (found_of options.now))) }
+{
+    let set = text(alloc, options, "set")?;
+    let add = text(alloc, options, "add")?;
+    let set_add = text(alloc, options, "set-add")?;
+    let rename = text(alloc, options, "rename")?;
+    let is_delete = is_given(options, "delete");
+    let is_comment = is_given(options, "comment");
+    match (set, add, set_add, rename, is_delete, is_comment) {
+        (Some(value), None, None, None, false, false) => Ok(Action::Set(value)),
+        (None, Some(value), None, None, false, false) => Ok(Action::Add(value)),
+        (None, None, Some(value), None, false, false) => Ok(Action::SetAdd(value)),
+        (None, None, None, Some(name), false, false) => Ok(Action::Rename(name)),
+        (None, None, None, None, true, false) => Ok(Action::Delete),
+        (None, None, None, None, false, true) => Ok(Action::Comment),
+        _ => Err(Refusal::Rule(
+            "recset: exactly one of --set, --add, --set-add, --rename, --delete and --comment is needed",
+        )),
     }
 }
 
@@ -279,16 +332,17 @@ fn journal(
 {
     match request {
         Request::Show { .. } | Request::Info { .. } | Request::Check => Ok(None),
-        Request::Delete { .. } | Request::Undo => {
-            let Some(file) = file else {
-                return Err(Refusal::Rule("FILE is needed"));
-            };
-            let journal = journal_path(alloc, file, given)?;
-            if !are_apart(alloc, file, journal.as_str())? {
-                return Err(Refusal::Rule(CLASH));
+        Request::Delete { .. } | Request::CommentOut { .. } | Request::Set { .. } | Request::Undo =>
+            {
+                let Some(file) = file else {
+                    return Err(Refusal::Rule("FILE is needed"));
+                };
+                let journal = journal_path(alloc, file, given)?;
+                if !are_apart(alloc, file, journal.as_str())? {
+                    return Err(Refusal::Rule(CLASH));
+                }
+                Ok(Some(journal))
             }
-            Ok(Some(journal))
-        }
     }
 }
 
@@ -301,6 +355,7 @@ fn command<'a>(alloc: Global) -> Result<Command<'a>, AllocError>
         .subcommand(recinf(alloc)?)?
         .subcommand(recfix(alloc)?)?
         .subcommand(recdel(alloc)?)?
+        .subcommand(recset(alloc)?)?
         .subcommand(undo(alloc)?)
 }
 
@@ -353,10 +408,24 @@ fn recdel<'a>(alloc: Global) -> Result<Command<'a>, AllocError>
     ensures usage { IfOk result (λ command. app_of command ≡ recdel_usage) }
     ensures alone { IfOk result (λ command. (fields_of command).has_globals ≡ false) }
 {
-    Command::new(alloc, "recdel")
-        .about("Deletes records")
-        .after_help(WORKING_NAMES)
-        .arg(number_arg(alloc))?
+    let tool = Command::new(alloc, "recdel")
+        .about("Deletes records, or makes comments of them")
+        .long_about(RECDEL_ABOUT)
+        .after_help(WORKING_NAMES);
+    with_options(alloc, tool, RECDEL.as_slice())?
+        .arg(journal_arg(alloc))?
+        .arg(file_arg(alloc))
+}
+
+fn recset<'a>(alloc: Global) -> Result<Command<'a>, AllocError>
+    ensures usage { IfOk result (λ command. app_of command ≡ recset_usage) }
+    ensures alone { IfOk result (λ command. (fields_of command).has_globals ≡ false) }
+{
+    let tool = Command::new(alloc, "recset")
+        .about("Edits fields of records")
+        .long_about(RECSET_ABOUT)
+        .after_help(WORKING_NAMES);
+    with_options(alloc, tool, RECSET.as_slice())?
         .arg(journal_arg(alloc))?
         .arg(file_arg(alloc))
 }
@@ -385,18 +454,6 @@ fn with_options<'a>(
         tool = tool.arg(option.arg(alloc))?;
     }
     Ok(tool)
-}
-
-fn number_arg<'a>(alloc: Global) -> Arg<'a>
-    ensures rule { rule_of result ≡ needed_number }
-    ensures alone { result.global ≡ false }
-{
-    Arg::new(alloc, "number")
-        .short('n')
-        .long("number")
-        .value_name("LIST")
-        .required(true)
-        .help("The records' places in the file, from 0, such as 0,4-7")
 }
 
 fn journal_arg<'a>(alloc: Global) -> Arg<'a>

@@ -1,6 +1,11 @@
 //! The home of real files. No other file opens one, and none reads standard input.
-ghost use Rattle.std.specs.Prelude.{◌≡◌, ◌≤◌, None};
-ghost use Rattle.rec_text.specs.Sink.{HasRisen};
+ghost use Rattle.std.specs.Prelude.{◌≡◌, ◌≢◌, ◌≤◌, ◌↔◌, ◌++◌, [], length, IsTrue, IsNone, None, Some, IfOk, IfErr, IfSome, OnOk, option_map, string_bytes, unwrap_or};
+ghost use Rattle.std.specs.IoError.{error_kind, raw_os_error};
+ghost use Rattle.std.specs.Path.{path_parent};
+ghost use Rattle.rec_text.specs.Sink.{one_more};
+ghost use Rattle.rec_tools.specs.Home.{Counts};
+ghost use Rattle.rec_tools.specs.declared.home.Which.TheVariants.{Journal};
+ghost use Rattle.recu.specs.Files.{folder_in, path_of};
 
 use crate::paths::beside;
 use rec_tools::{Bytes, Fault, Home, Which};
@@ -45,7 +50,11 @@ struct Target {
 impl<'r, R: Files<File = File> + Input + AllocGlobal> FileHome<'r, R> {
     /// Where no file is given, standard input is read in its place, once. A journal that isn't given has the empty path,
     /// which names nothing.
-    pub fn new(rt: &'r R, file: Option<String>, journal: Option<String>) -> FileHome<'r, R> {
+    pub fn new(rt: &'r R, file: Option<String>, journal: Option<String>) -> FileHome<'r, R>
+        ensures file { result.base ≡ file }
+        ensures journal { string_bytes result.journal ≡ unwrap_or (option_map string_bytes journal) [] }
+        ensures sound { result.failed ≡ 0 }
+    {
         FileHome {
             rt,
             base: file,
@@ -67,7 +76,9 @@ impl<'r, R: Files<File = File> + Input + AllocGlobal> FileHome<'r, R> {
         eprintln!(err; "{name}: {}", failure.error)
     }
 
-    fn path(&self, which: Which) -> &str {
+    fn path(&self, which: Which) -> &str
+        ensures { result.now ≡ path_of (option_map string_bytes self.now.base) (string_bytes self.now.journal) which }
+    {
         match (which, &self.base) {
             (Which::Base, Some(path)) => path.as_str(),
             (Which::Base, None) => "",
@@ -78,7 +89,8 @@ impl<'r, R: Files<File = File> + Input + AllocGlobal> FileHome<'r, R> {
     fn fail(&mut self, failure: Failure) -> Fault
         ensures fault { result ≡ Fault.StoreFailed }
         ensures counted { self.old.failed ≤ self.new.failed }
-        ensures risen { HasRisen self.old.failed self.new.failed }
+        ensures once { self.new.failed ≡ one_more self.old.failed }
+        ensures noted { self.new.failure ≡ Some failure }
     {
         self.failed = self.failed.saturating_add(1);
         self.failure = Some(failure);
@@ -124,7 +136,9 @@ impl<'r, R: Files<File = File> + Input + AllocGlobal> FileHome<'r, R> {
         done.map_err(|error| Failure { which, error })
     }
 
-    fn target(&self, which: Which) -> Result<Target, Failure> {
+    fn target(&self, which: Which) -> Result<Target, Failure>
+        ensures { IfErr result (λ failure. failure.which ≡ which) }
+    {
         let path = self.path(which);
         find(self.rt, which, path).map_err(|error| Failure { which, error })
     }
@@ -134,6 +148,12 @@ impl<'r, R: Files<File = File> + Input + AllocGlobal> Home for FileHome<'r, R> {
     ghost contents = { λ home. None };
 
     ghost failure_count = { λ home. home.failed };
+
+    ghost goes = { λ old call new. Counts old.failed call new.failed };
+
+    ghost follows = { λ old new call h. tt };
+
+    ghost counts = { λ old new call h. h };
 
     fn read(&mut self, alloc: Global, which: Which) -> Result<Bytes, Fault> {
         match self.bytes_of(alloc, which) {
@@ -156,12 +176,16 @@ impl<'r, R: Files<File = File> + Input + AllocGlobal> Home for FileHome<'r, R> {
 }
 
 /// Memory was refused here, and not in the system.
-fn is_want_of_memory(error: &Error) -> bool {
+fn is_want_of_memory(error: &Error) -> bool
+    ensures { IsTrue result ↔ ((error_kind error.now ≡ ErrorKind.OutOfMemory) × IsNone (raw_os_error error.now)) }
+{
     error.kind() == ErrorKind::OutOfMemory && error.raw_os_error().is_none()
 }
 
 /// A journal may be missing. The empty path names no file that could come to be.
-fn may_be_missing(which: Which, path: &str, error: &Error) -> bool {
+fn may_be_missing(which: Which, path: &str, error: &Error) -> bool
+    ensures { IsTrue result ↔ ((which ≡ Journal) × (path.now ≢ []) × (error_kind error.now ≡ ErrorKind.NotFound)) }
+{
     which == Which::Journal && !path.is_empty() && error.kind() == ErrorKind::NotFound
 }
 
@@ -173,7 +197,9 @@ fn open<R: Files<File = File>>(rt: &R, which: Which, path: &str) -> io::Result<F
     File::open(rt, path)
 }
 
-fn read_whole(alloc: Global, file: File) -> io::Result<Vec<u8>> {
+fn read_whole(alloc: Global, file: File) -> io::Result<Vec<u8>>
+    ensures { IfOk result (λ bytes. length bytes.items ≤ LIMIT) }
+{
     let length = file.metadata()?.len();
     if length > LIMIT {
         return Err(too_long());
@@ -183,7 +209,10 @@ fn read_whole(alloc: Global, file: File) -> io::Result<Vec<u8>> {
 }
 
 /// Adds to these bytes all that a reader still has.
-fn read_rest<T: Read + Drop>(mut bytes: Vec<u8>, reader: T) -> io::Result<Vec<u8>> {
+fn read_rest<T: Read + Drop>(mut bytes: Vec<u8>, reader: T) -> io::Result<Vec<u8>>
+    ensures limit { IfOk result (λ all. length all.items ≤ LIMIT) }
+    ensures whole { IfOk result (λ all. IfSome (T.remaining reader) (λ rest. all.items ≡ bytes.items ++ rest)) }
+{
     reader.take(LIMIT + 1).read_to_end(&mut bytes)?;
     if bytes.len() as u64 > LIMIT {
         return Err(too_long());
@@ -227,7 +256,9 @@ fn write<R: Files<File = File> + AllocGlobal>(
     target: &Target,
     model: &Target,
     bytes: &[u8],
-) -> io::Result<()> {
+) -> io::Result<()>
+    ensures { OnOk result (length bytes.now ≤ LIMIT) }
+{
     if bytes.len() as u64 > LIMIT {
         return Err(too_long());
     }
@@ -327,7 +358,9 @@ fn rename(rt: &impl Files, file: &File, name: &str, path: &str) -> io::Result<()
 }
 
 /// The folder in which a path stands.
-fn folder_of(path: &str) -> &str {
+fn folder_of(path: &str) -> &str
+    ensures { result.now ≡ folder_in (path_parent path.now) }
+{
     match Path::new(path).parent() {
         Some(folder) if !folder.as_str().is_empty() => folder.as_str(),
         _ => ".",

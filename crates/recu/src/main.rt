@@ -2,17 +2,13 @@
 #![tactic(auto)]
 
 mod args;
+#[cfg(test)]
+mod edit_tests;
 mod files;
 mod options;
 mod output;
 mod paths;
-#[cfg(test)]
-mod refusal_tests;
 mod status;
-#[cfg(test)]
-mod status_tests;
-#[cfg(test)]
-mod tests;
 
 use args::Asked;
 use files::FileHome;

@@ -1,6 +1,8 @@
 //! Standard output.
-ghost use Rattle.std.specs.Prelude.{◌≡◌, ◌≤◌, None};
-ghost use Rattle.rec_text.specs.Sink.{HasRisen, UnlessStoreFailed};
+ghost use Rattle.std.specs.Prelude.{◌≡◌, ◌≤◌, [], Some, IfOk, OnOk};
+ghost use Rattle.std.specs.Io.Buffered.{writer_buffer, writer_contents, writer_inner};
+ghost use Rattle.std.specs.Io.KnownBytes.{Keeps};
+ghost use Rattle.rec_text.specs.Sink.{KeptAtSuccess, RisenAtStoreFailed, UnlessStoreFailed, one_more};
 
 use rec_tools::{Fault, Sink};
 use std::alloc::Global;
@@ -19,7 +21,11 @@ pub struct StandardOutput<W: Write + Drop> {
 }
 
 impl<W: Write + Drop> StandardOutput<W> {
-    pub fn new(alloc: Global, writer: W) -> io::Result<StandardOutput<W>> {
+    pub fn new(alloc: Global, writer: W) -> io::Result<StandardOutput<W>>
+        ensures writer { IfOk result (λ output. writer_inner output.writer ≡ writer) }
+        ensures empty { IfOk result (λ output. writer_buffer output.writer ≡ []) }
+        ensures sound { IfOk result (λ output. output.failed ≡ 0) }
+    {
         Ok(StandardOutput {
             writer: BufWriter::with_capacity(alloc, PIECE, writer)?,
             failed: 0,
@@ -29,6 +35,10 @@ impl<W: Write + Drop> StandardOutput<W> {
 
     /// Lets out what is still held.
     pub fn finish(&mut self) -> Result<(), Fault>
+        ensures let_out { OnOk result (writer_buffer self.new.writer ≡ []) }
+        ensures bytes { Keeps (writer_contents W.contents self.old.writer) (writer_contents W.contents self.new.writer) }
+        ensures kept { KeptAtSuccess self.old.failed self.new.failed result }
+        ensures store_failed { RisenAtStoreFailed self.old.failed self.new.failed result }
         ensures refusals { UnlessStoreFailed result }
     {
         match self.writer.flush() {
@@ -48,7 +58,9 @@ impl<W: Write + Drop> StandardOutput<W> {
     fn fail(&mut self, error: Error) -> Fault
         ensures fault { result ≡ Fault.StoreFailed }
         ensures counted { self.old.failed ≤ self.new.failed }
-        ensures risen { HasRisen self.old.failed self.new.failed }
+        ensures once { self.new.failed ≡ one_more self.old.failed }
+        ensures noted { self.new.failure ≡ Some error }
+        ensures unchanged { self.new.writer ≡ self.old.writer }
     {
         self.failed = self.failed.saturating_add(1);
         self.failure = Some(error);
@@ -57,13 +69,16 @@ impl<W: Write + Drop> StandardOutput<W> {
 }
 
 impl<W: Write + Drop> Sink for StandardOutput<W> {
-    ghost contents = { λ output. None };
+    ghost contents = { λ output. writer_contents W.contents output.writer };
 
     ghost failure_count = { λ output. output.failed };
 
     fn write(&mut self, bytes: &[u8]) -> Result<usize, Fault> {
-        match self.writer.write_all(bytes) {
-            Ok(()) => Ok(bytes.len()),
+        // At most what the buffer holds, so that nothing goes past it: it tries an interrupted write again.
+        let piece = &bytes[..bytes.len().min(PIECE - 1)];
+        match self.writer.write(piece) {
+            Ok(0) if !bytes.is_empty() => Err(self.fail(none_taken())),
+            Ok(taken) => Ok(taken),
             Err(error) => Err(self.fail(error)),
         }
     }
@@ -71,6 +86,10 @@ impl<W: Write + Drop> Sink for StandardOutput<W> {
     fn failures(&self) -> u64 {
         self.failed
     }
+}
+
+fn none_taken() -> Error {
+    Error::other("failed to write whole buffer")
 }
 
 /// Says on standard error why standard output failed.

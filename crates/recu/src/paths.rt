@@ -1,5 +1,5 @@
 //! The paths of a file and its journal, and the names under which they are written.
-ghost use Rattle.std.specs.Prelude.{◌≡◌, true, IfOk, string_bytes, option_map};
+ghost use Rattle.std.specs.Prelude.{◌≡◌, true, false, IfOk, string_bytes, option_map};
 ghost use Rattle.recu.specs.Words.{AreApart, journal_of, working_name};
 
 use std::alloc::{AllocError, Global};
@@ -33,7 +33,8 @@ pub fn beside(alloc: Global, path: &str) -> Result<String, AllocError>
 
 /// Whether a file and a journal have two paths, and neither stands where the other is written.
 pub fn are_apart(alloc: Global, file: &str, journal: &str) -> Result<bool, AllocError>
-    ensures { IfOk result (λ apart. apart ≡ true → AreApart file.now journal.now) }
+    ensures apart { IfOk result (λ apart. apart ≡ true → AreApart file.now journal.now) }
+    ensures clash { IfOk result (λ apart. apart ≡ false → ¬ AreApart file.now journal.now) }
 {
     let file_beside = beside(alloc, file)?;
     let journal_beside = beside(alloc, journal)?;

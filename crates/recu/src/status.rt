@@ -1,24 +1,39 @@
 //! What the program says at its end: the line of a fault, and the exit status.
-ghost use Rattle.std.specs.Prelude.{◌≡◌};
-ghost use Rattle.recu.specs.Status.{status_of};
+ghost use Rattle.std.specs.Prelude.{◌≡◌, OnOk};
+ghost use Rattle.std.specs.Io.KnownBytes.{Appends};
+ghost use Rattle.recu.specs.Status.{status_of, violations_in};
 
+use rec_select::write_report;
 use rec_text::put_all;
-use rec_tools::{Fault, Reply, Sink};
+use rec_tools::{Fault, Reply, Sink, Violation};
 use std::fmt;
 use std::fmt::Write;
 
-/// Prints `recu: `, the text of a fault and a newline, cut where the sink fails. The result is the exit status.
+/// Prints `recu: `, the text of a fault and a newline, cut where the sink fails; where an edit was refused for violations,
+/// their report stands before that. The result is the exit status.
 pub fn finish<W: Sink>(answer: &Result<Reply, Fault>, err: &mut W) -> u8
     ensures status { result ≡ status_of answer.now }
+    ensures silent { OnOk answer.now (err.new ≡ err.old) }
 {
     match answer {
         Ok(Reply::Violated(_)) => 1,
         Ok(_) => 0,
         Err(fault) => {
+            let _ = write_report(violations_of(fault), err);
             let mut text = Text { sink: err };
             let _ = writeln!(text, "recu: {fault}");
             1
         }
+    }
+}
+
+/// The violations for which an edit was refused; none for another fault.
+fn violations_of(fault: &Fault) -> &[Violation]
+    ensures { result.now ≡ violations_in fault.now }
+{
+    match fault {
+        Fault::Integrity(violations) => violations.as_slice(),
+        _ => &[],
     }
 }
 
@@ -29,6 +44,8 @@ struct Text<'s, W> {
 }
 
 impl<W: Sink> fmt::Write for Text<'_, W> {
+    ghost write_str_gives = { λ old text new. Appends (W.contents old.sink.now) (W.contents new.sink.now) text };
+
     fn write_str(&mut self, text: &str) -> fmt::Result {
         match put_all(self.sink, text.as_bytes()) {
             Ok(()) => Ok(()),

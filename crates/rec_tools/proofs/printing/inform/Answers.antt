@@ -7,14 +7,19 @@ use Rattle.rec_tools.proofs.printing.inform.Goals as goal
 pub returns-in_err-base-clause-printed : goal.returns-in_err-base-clause-printed
 returns-in_err-base-clause-printed g c =
     let p = err_from_is_err_and c.from_residual.result c.from_residual.ensures.1 in
-    rw (p.1, p.2) (info-no_base c.args.file.now c.args.kind.now c.args.form _ _ c.in_err-base.ensures.refused)
+    rw (p.1, p.2) (info-no_base c.args.file.now c.args.kind.now c.args.form _ _ c.in_err-base.ensures.found)
 
 pub returns-in_err-write_info-clause-printed : goal.returns-in_err-write_info-clause-printed
 returns-in_err-write_info-clause-printed g c =
     let p = err_from_is_err_and c.from_residual-in_err-write_info.result c.from_residual-in_err-write_info.ensures.1 in
-    rw (p.1, p.2) (PutsPrintout-err_shown (Unit {0}) _ _ _ _ _ (info-printed c.args.file.now c.args.kind.now c.args.form _ _ c.in_ok-base.ensures.found c.slice_of.ensures) c.in_err-write_info.ensures.printed)
+    rw (p.1, p.2) (PutsPrintout-err_shown (Unit {0}) _ _ _ _ _
+    (info-printed c.args.file.now c.args.kind.now c.args.form _ _ _ c.in_ok-base.ensures.found c.schema.ensures c.database.ensures _ c.slice_of.ensures)
+    c.in_err-write_info.ensures.printed)
 
 pub returns-clause-printed : goal.returns-clause-printed
 returns-clause-printed g c =
-    let printed = c.in_ok-write_info.ensures.printed in
-    (printed.0, (info-printed c.args.file.now c.args.kind.now c.args.form _ _ c.in_ok-base.ensures.found c.slice_of.ensures _ printed.1, refl), printed.2)
+    let printed = c.in_ok-write_info.ensures.printed in (
+      printed.0,
+      (info-printed c.args.file.now c.args.kind.now c.args.form _ _ _ c.in_ok-base.ensures.found c.schema.ensures c.database.ensures _ c.slice_of.ensures _ printed.1, refl),
+      printed.2,
+    )

@@ -6,7 +6,7 @@ use Rattle.rec_tools.proofs.printing.show.Goals as goal
 pub returns-in_err-base-clause-printed : goal.returns-in_err-base-clause-printed
 returns-in_err-base-clause-printed g c =
     let p = err_from_is_err_and c.from_residual.result c.from_residual.ensures.1 in
-    rw (p.1, p.2) (show-no_base c.args.file.now c.args.pick.now c.args.form.now c.args.collapse _ _ c.in_err-base.ensures.refused)
+    rw (p.1, p.2) (show-no_base c.args.file.now c.args.pick.now c.args.form.now c.args.collapse _ _ c.in_err-base.ensures.found)
 
 pub returns-in_err-wanted-clause-printed : goal.returns-in_err-wanted-clause-printed
 returns-in_err-wanted-clause-printed g c =

@@ -8,9 +8,11 @@ returns c =
     let recinf = c.in_ok-recinf in
     let recfix = c.in_ok-recfix in
     let recdel = c.in_ok-recdel in
+    let recset = c.in_ok-recset in
     let undo = c.in_ok-undo in
     let one = tool_added _ _ _ _ _ c.in_ok-subcommand.ensures c.in_ok-program.ensures recsel.ensures.usage recsel.ensures.alone in
     let two = tool_added _ _ _ _ _ c.in_ok-subcommand-2.ensures one recinf.ensures.usage recinf.ensures.alone in
     let three = tool_added _ _ _ _ _ c.in_ok-subcommand-3.ensures two recfix.ensures.usage recfix.ensures.alone in
     let four = tool_added _ _ _ _ _ c.in_ok-subcommand-4.ensures three recdel.ensures.usage recdel.ensures.alone in
-    IfOk-weaker c.subcommand-5.result _ _ (λ command adds. tool_added _ _ command _ _ adds four undo.ensures.usage undo.ensures.alone) c.subcommand-5.ensures
+    let five = tool_added _ _ _ _ _ c.in_ok-subcommand-5.ensures four recset.ensures.usage recset.ensures.alone in
+    IfOk-weaker c.subcommand-6.result _ _ (λ command adds. tool_added _ _ command _ _ adds five undo.ensures.usage undo.ensures.alone) c.subcommand-6.ensures

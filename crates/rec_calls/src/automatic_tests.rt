@@ -1,0 +1,68 @@
+//! Counters whose next value was told by hand.
+ghost use Rattle.std.specs.Prelude.{Ok};
+ghost use Rattle.rec_check.specs.Schemas.{IsSchema};
+ghost use Rattle.rec_check.specs.Stored.{described};
+
+use crate::rows::{cells, split_cell, text_in};
+use rec_check::Schema;
+use rec_text::{Database, Fault, read};
+use std::alloc::Global;
+use std::test::Fail;
+
+/// A text, in which `|` stands for a newline, the name of a field in its last set, and the next value.
+const COUNTERS: &str = "%rec: P|%auto: Id|%type: Id int||Id: 9223372036854775807| ; Id ; none
+%rec: P|%auto: Id|%type: Id int||Id: 4| ; Id ; 5
+%rec: P|%auto: Id|%type: Id int| ; Id ; 0
+%rec: P|%auto: Id|%type: Id int||Id: -5| ; Id ; -4
+// The greatest counts, wherever it stands in the set; what reads as no integer doesn't.
+N: 9||%rec: P||N: 1|N: 0x7|M: 8||N: x|N: 3| ; N ; 8
+// Of two types the later holds.
+%rec: P|%type: N line|%type: N range 9| ; N ; 0
+%rec: P|%type: N int|%type: N line||N: 3| ; N ; none
+%rec: P||%x: 3| ; %x ; none";
+
+/// The next value of a field in the last set.
+fn next_in(alloc: Global, database: &Database, schema: &Schema, name: &[u8]) -> Result<i64, Fault>
+    requires { IsSchema database.now (Ok (described schema.now)) }
+{
+    match schema.sets().len().checked_sub(1) {
+        Some(last) => schema.next_auto(alloc, database, last, name),
+        None => Err(Fault::NoSuchType),
+    }
+}
+
+fn next(alloc: Global, text: &[u8], name: &[u8]) -> Result<i64, Fault> {
+    let database = read(alloc, text)?;
+    let schema = Schema::read(alloc, &database)?;
+    next_in(alloc, &database, &schema, name)
+}
+
+/// Whether a counter goes on with a value; where that is `none`, with none.
+fn is_next(alloc: Global, text: &str, name: &str, wanted: &str) -> Result<bool, Fault> {
+    let text = text_in(alloc, text)?;
+    match next(alloc, &text, name.as_bytes()) {
+        Ok(next) => Ok(wanted.parse::<i64>().ok() == Some(next)),
+        Err(fault) => Ok(fault.number() == 17 && wanted == "none"),
+    }
+}
+
+#[test]
+fn counters_go_on(rt: HostRuntime) -> Result<(), Fail> {
+    for (text, rest) in COUNTERS.lines().filter_map(cells) {
+        let (name, wanted) = split_cell(rest);
+        assert!(rt; is_next(rt.alloc(), text, name, wanted)?, "at {text}");
+    }
+    Ok(())
+}
+
+#[test]
+fn counters_are_named_once(rt: HostRuntime) -> Result<(), Fail> {
+    let text = b"%rec: P\n%auto: A B\n%auto: C A\n".as_slice();
+    let schema = Schema::read(rt.alloc(), &read(rt.alloc(), text)?)?;
+    let names = schema.automatic_names(rt.alloc(), 1)?;
+    assert_eq!(rt;
+        names.as_slice(),
+        [b"A".as_slice(), b"B".as_slice(), b"C".as_slice()].as_slice()
+    );
+    Ok(())
+}

@@ -1,0 +1,292 @@
+//! The edits of the plain program and of `edit`, on the same made texts.
+use crate::plain_edit::{Change, Item, Part, plain_parts, plain_runs, plain_text};
+use rec_check::Schema;
+use rec_edit::{Action, Edit, Edited, edit};
+use rec_select::{By, Selection};
+use rec_sex::IndexList;
+use rec_text::{Bytes, Database, Fault, read};
+use std::alloc::{AllocError, Global};
+use std::process::Abort;
+use std::test::Fail;
+
+/// What the made texts consist of.
+const PIECES: [&str; 16] = [
+    "A: 1\n",
+    "A:2\n+\n",
+    "B: x\\\ny\n+ z\n",
+    "A: 1\n",
+    "\n",
+    "# c\n",
+    "C:\t\n",
+    "A: 3\n# c\\\n",
+    " \t\n",
+    "C: a\\\n\\\n b\n",
+    "\n\n",
+    "B: # no\\\n\nB: x\n",
+    "A: 1\n",
+    "C: \r\n",
+    "\n",
+    "D: \\\\\n\n",
+];
+
+/// A list of fields, and the items that it means.
+const LISTS: [(&str, &[(&str, usize, usize)]); 5] = [
+    ("A", &[("A", 0, usize::MAX)]),
+    ("A[1]", &[("A", 1, 1)]),
+    (
+        "C,A,C",
+        &[
+            ("C", 0, usize::MAX),
+            ("A", 0, usize::MAX),
+            ("C", 0, usize::MAX),
+        ],
+    ),
+    ("B[0-1],A[7]", &[("B", 0, 1), ("A", 7, 7)]),
+    ("E,B", &[("E", 0, usize::MAX), ("B", 0, usize::MAX)]),
+];
+
+/// A set with rules.
+const RULED: &[u8] = b"%rec: P
+%key: Id
+
+Id: 1
+# c
+N: a
+
+Id: 2
+";
+
+/// The text of a number. Every third lacks its last newline.
+fn made(alloc: Global, number: u64) -> Result<Vec<u8>, AllocError> {
+    let mut text = Vec::new(alloc);
+    let mut seed = number;
+    for _ in 0..8 {
+        seed = seed
+            .wrapping_mul(6364136223846793005)
+            .wrapping_add(1442695040888963407);
+        let piece = PIECES.get((seed >> 60) as usize).unwrap_or(&"");
+        text.extend_from_slice(piece.as_bytes())?;
+    }
+    if number % 3 == 0 && text.last() == Some(&b'\n') {
+        text.pop();
+    }
+    Ok(text)
+}
+
+/// Which records are chosen: a list of places, and the same as numbers.
+const CHOSEN: [(&str, &[usize]); 3] = [("0", &[0]), ("1-2", &[1, 2]), ("0,2", &[0, 2])];
+
+fn selection(alloc: Global, list: &str) -> Result<Selection, Fault> {
+    let by = By::Index(IndexList::parse(alloc, list.as_bytes())?);
+    Ok(Selection { kind: None, by })
+}
+
+fn bytes(alloc: Global, text: &str) -> Result<Bytes, AllocError> {
+    Bytes::copy_of(alloc, text.as_bytes())
+}
+
+/// The action of a number, from 0 to 5.
+fn action(alloc: Global, number: usize) -> Result<Action, AllocError> {
+    Ok(match number {
+        0 => Action::Set(bytes(alloc, "1")?),
+        1 => Action::Add(bytes(alloc, "n\n\nm")?),
+        2 => Action::SetAdd(bytes(alloc, "1")?),
+        3 => Action::Rename(bytes(alloc, "Q")?),
+        4 => Action::Delete,
+        _ => Action::Comment,
+    })
+}
+
+/// The hunks of an edit are the runs of the plain program.
+fn are_runs(alloc: Global, edited: &Edited, parts: &[Part]) -> Result<bool, AllocError> {
+    let runs = plain_runs(alloc, parts)?;
+    let hunks = edited.patch.hunks();
+    Ok(
+        hunks.len() == runs.len()
+            && hunks.iter().zip(runs.iter()).all(|(hunk, run)| {
+                hunk.at == run.at
+                    && hunk.old.as_slice() == run.old.as_slice()
+                    && hunk.new.as_slice() == run.new.as_slice()
+            }),
+    )
+}
+
+/// Both programs make the same of a text.
+fn try_both(
+    rt: &impl Abort,
+    alloc: Global,
+    database: &Database,
+    request: &Edit,
+    chosen: &[usize],
+    change: &Change,
+) -> Result<(), Fault> {
+    let schema = Schema::read(alloc, database)?;
+    let edited = edit(alloc, database, &schema, request, false)?;
+    let parts = plain_parts(alloc, database, chosen, change)?;
+    assert_eq!(rt;
+        edited.text.as_slice(),
+        plain_text(alloc, &parts)?.as_slice(),
+        "at {:?}",
+        database.text()
+    );
+    assert!(rt;
+        are_runs(alloc, &edited, &parts)?,
+        "at {:?}",
+        database.text()
+    );
+    Ok(())
+}
+
+/// The text after an edit, which is asked for again where memory ran out.
+fn check_edit(rt: &impl Abort, alloc: Global, request: &Edit, wanted: &str) -> Result<(), Fault> {
+    let Ok(database) = read(alloc, RULED) else {
+        return Ok(());
+    };
+    let Ok(schema) = Schema::read(alloc, &database) else {
+        return Ok(());
+    };
+    let edited = match edit(alloc, &database, &schema, request, false) {
+        Err(Fault::OutOfMemory) => edit(alloc, &database, &schema, request, false)?,
+        answer => answer?,
+    };
+    assert_eq!(rt; edited.text.as_slice(), wanted.as_bytes());
+    assert_eq!(rt; edited.changed, 1);
+    Ok(())
+}
+
+fn try_fields(
+    rt: &impl Abort,
+    alloc: Global,
+    database: &Database,
+    number: usize,
+    listed: &[(&str, usize, usize)],
+    list: &str,
+) -> Result<(), Fault> {
+    let mut items = Vec::new(alloc);
+    for (name, first, last) in listed {
+        items.push(Item {
+            name: name.as_bytes(),
+            first: *first,
+            last: *last,
+        })?;
+    }
+    for (places, chosen) in &CHOSEN {
+        let request = Edit::Set {
+            selection: selection(alloc, places)?,
+            list: bytes(alloc, list)?,
+            action: action(alloc, number)?,
+        };
+        let action = action(alloc, number)?;
+        try_both(
+            rt,
+            alloc,
+            database,
+            &request,
+            chosen,
+            &Change::Set(&items, &action),
+        )?;
+    }
+    Ok(())
+}
+
+fn try_delete(
+    rt: &impl Abort,
+    alloc: Global,
+    database: &Database,
+    places: &str,
+    chosen: &[usize],
+) -> Result<(), Fault> {
+    let request = Edit::Delete(selection(alloc, places)?);
+    try_both(rt, alloc, database, &request, chosen, &Change::Delete)
+}
+
+fn try_comment_out(
+    rt: &impl Abort,
+    alloc: Global,
+    database: &Database,
+    places: &str,
+    chosen: &[usize],
+) -> Result<(), Fault> {
+    let request = Edit::CommentOut(selection(alloc, places)?);
+    try_both(rt, alloc, database, &request, chosen, &Change::CommentOut)
+}
+
+fn try_records(rt: &impl Abort, alloc: Global, text: &[u8]) -> Result<(), Fault> {
+    let Ok(database) = read(alloc, text) else {
+        return Ok(());
+    };
+    for (places, chosen) in &CHOSEN {
+        try_delete(rt, alloc, &database, places, chosen)?;
+        try_comment_out(rt, alloc, &database, places, chosen)?;
+    }
+    Ok(())
+}
+
+fn try_lists(rt: &impl Abort, alloc: Global, text: &[u8]) -> Result<(), Fault> {
+    let Ok(database) = read(alloc, text) else {
+        return Ok(());
+    };
+    for (list, listed) in &LISTS {
+        for one in 0..6 {
+            // A list with subscripts adds nothing.
+            if one != 1 || !list.contains('[') {
+                try_fields(rt, alloc, &database, one, listed, list)?;
+            }
+        }
+    }
+    Ok(())
+}
+
+#[test]
+fn both_make_the_same_of_records(rt: HostRuntime) -> Result<(), Fail> {
+    for number in 0..200 {
+        let text = made(rt.alloc(), number)?;
+        try_records(&rt, rt.alloc(), &text)?;
+    }
+    Ok(())
+}
+
+#[test]
+fn both_make_the_same_of_fields(rt: HostRuntime) -> Result<(), Fail> {
+    for number in 0..60 {
+        let text = made(rt.alloc(), number)?;
+        try_lists(&rt, rt.alloc(), &text)?;
+    }
+    Ok(())
+}
+
+fn set_or_add(alloc: Global) -> Result<Edit, Fault> {
+    Ok(Edit::Set {
+        selection: selection(alloc, "0")?,
+        list: bytes(alloc, "N,M")?,
+        action: Action::SetAdd(bytes(alloc, "b")?),
+    })
+}
+
+#[test]
+fn growth_of_delete(rt: HostRuntime) -> Result<(), Fail> {
+    if let Ok(selection) = selection(rt.alloc(), "0") {
+        let request = Edit::Delete(selection);
+        check_edit(&rt, rt.alloc(), &request, "%rec: P\n%key: Id\n\nId: 2\n")?;
+    }
+    Ok(())
+}
+
+#[test]
+fn growth_of_comment_out(rt: HostRuntime) -> Result<(), Fail> {
+    if let Ok(selection) = selection(rt.alloc(), "1") {
+        let request = Edit::CommentOut(selection);
+        let wanted = "%rec: P\n%key: Id\n\nId: 1\n# c\nN: a\n\n#Id: 2\n";
+        check_edit(&rt, rt.alloc(), &request, wanted)?;
+    }
+    Ok(())
+}
+
+#[test]
+fn growth_of_set(rt: HostRuntime) -> Result<(), Fail> {
+    if let Ok(request) = set_or_add(rt.alloc()) {
+        let wanted = "%rec: P\n%key: Id\n\nId: 1\n# c\nN: b\nM: b\n\nId: 2\n";
+        check_edit(&rt, rt.alloc(), &request, wanted)?;
+    }
+    Ok(())
+}

@@ -1,0 +1,63 @@
+//! Readings of texts, with expected integers written by hand.
+use crate::rows::cells;
+use rec_sex::{int_of, trimmed};
+
+/// Behind a text its integer, or that it has none.
+const INTEGERS: &str = "0 ; 0
+-0 ; 0
+7 ; 7
+-12 ; -12
+017 ; 15
+-017 ; -15
+00 ; 0
+0x1F ; 31
+0Xff ; 255
+ -0x10  ; -16
+\t 5\t ; 5
+0x7fffffffffffffff ; 9223372036854775807
+9223372036854775807 ; 9223372036854775807
+-9223372036854775808 ; -9223372036854775808
+-0x8000000000000000 ; -9223372036854775808
+ ; none
+  ; none
+- ; none
+--1 ; none
+- 1 ; none
++1 ; none
+1 2 ; none
+08 ; none
+0x ; none
+0xg ; none
+1_0 ; none
+1a ; none
+9223372036854775808 ; none
+-9223372036854775809 ; none
+99999999999999999999999 ; none";
+
+#[test]
+fn texts_read_as_integers_of_64_bits(rt: HostRuntime) {
+    for (text, integer) in INTEGERS.lines().filter_map(cells) {
+        let wanted = integer.parse::<i64>().ok();
+        assert_eq!(rt; int_of(text.as_bytes()), wanted, "at {text}");
+    }
+}
+
+/// A text, and what is left without the blanks at its ends.
+const TRIMMED: [(&[u8], &[u8]); 4] = [
+    (b" \t a b\t ", b"a b"),
+    (b"a", b"a"),
+    (b"\t \t", b""),
+    (b" \n ", b"\n"),
+];
+
+#[test]
+fn blanks_at_both_ends_are_dropped(rt: HostRuntime) {
+    for (text, wanted) in &TRIMMED {
+        assert_eq!(rt; trimmed(text), *wanted, "at {text:?}");
+    }
+}
+
+#[test]
+fn a_newline_is_no_blank(rt: HostRuntime) {
+    assert_eq!(rt; int_of(b"1\n"), None);
+}

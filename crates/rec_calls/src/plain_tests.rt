@@ -1,0 +1,178 @@
+//! The reports of the plain program and of a schema, on the same texts: some that are told by hand, and longer ones.
+//! `crates/rec_rows` has more reports that are told by hand.
+use crate::plain::plain_report;
+use crate::rows::text_in;
+use rec_check::Schema;
+use rec_text::{Fault, Rule, Violation, read};
+use std::alloc::{AllocError, Global};
+use std::process::Abort;
+use std::test::Fail;
+
+/// A row has a text, `->`, and its report; `|` stands for a newline.
+const TOGETHER: &str = "\
+%rec: Book|%key: Id|%type: Year range 1900 2100|%mandatory: Title||Id: 1|Title: A|Year: 1899||Id: 1|-> 8: type Year|10: key Id|10: mandatory Title|
+%constraint: A = 1|%type: A int|%allowed: A|%unique: A|%prohibit: X|%mandatory: M|%key: K|%size: 3|%rec: P||A: x|X: 1|A: y||A: 1|M: 1|K: 1|-> 1: size P|11: key K|11: mandatory M|11: prohibit X|11: unique A|11: allowed X|11: type A|13: type A|11: constraint 1|
+%rec: P|%mandatory: M|%type: A int||A: x||A: y|-> 5: mandatory M|5: type A|7: mandatory M|7: type A|
+# -*- mode: rec -*-||%rec: Book|%mandatory: Title|%type: Location enum loaned home unknown|%sort: Title|%doc:|+ My books.||Title: GNU Emacs Manual|Author: Richard M. Stallman|Location: home|->
+# -*- mode: rec -*-||%rec: Book|%mandatory: Title|%type: Location enum loaned home unknown|%sort: Title|%doc:|+ My books.||Author: Richard M. Stallman|Location: Home|-> 10: mandatory Title|11: type Location|";
+
+/// What a made descriptor may ask.
+const ASKED: [&str; 12] = [
+    "%size: < 20\n",
+    "%key: K\n",
+    "%mandatory: M N M\n",
+    "%mandatory: C\n",
+    "%prohibit: Y X\n",
+    "%unique: U M U\n",
+    "%allowed: N U\n+ T O\n",
+    "%allowed: X Y\n",
+    "%type: N,Y,C range 1 6\n",
+    "%type: T enum 0 1 (2) 3\n%type: C line\n",
+    "%constraint: N < 4 || #U = 2\n",
+    "%constraint: C ~ '[0-2]'\n",
+];
+
+/// A field of the made records, the numbers of those that have it, which are multiples of this, and how many values come
+/// round in it.
+const FIELDS: [(&str, u64, u64); 12] = [
+    ("K", 2, 11),
+    ("N", 1, 8),
+    ("M", 2, 5),
+    ("K", 3, 7),
+    ("X", 9, 2),
+    ("U", 3, 2),
+    ("Y", 4, 9),
+    ("M", 5, 2),
+    ("T", 2, 6),
+    ("Z", 8, 1),
+    ("U", 5, 3),
+    ("C", 6, 4),
+];
+
+/// Which of these a descriptor asks.
+#[derive(Clone, Copy, Debug, PartialEq, Eq)]
+enum Asked {
+    All,
+    Only(usize),
+    AllBut(usize),
+}
+
+impl Asked {
+    fn includes(self, place: usize) -> bool {
+        match self {
+            Asked::All => true,
+            Asked::Only(one) => place == one,
+            Asked::AllBut(one) => place != one,
+        }
+    }
+}
+
+fn add_descriptor(text: &mut String, kind: &str, asked: Asked) -> Result<(), AllocError> {
+    write!(text, "# c\n%doc: d\n%rec: {kind}\n")?;
+    for (i, line) in ASKED.iter().enumerate() {
+        if asked.includes(i) {
+            text.push_str(line)?;
+        }
+    }
+    text.push_str("\n")
+}
+
+/// Adds the record of a number.
+fn add_record(text: &mut String, number: u64) -> Result<(), AllocError> {
+    for (name, every, values) in &FIELDS {
+        if number.checked_rem(*every) == Some(0) {
+            let value = number.checked_rem(*values).unwrap_or(0);
+            write!(text, "{name}: {value}\n# c\n")?;
+        }
+    }
+    if number % 4 == 1 {
+        text.push_str("O: a\\\nb\n+ c\nN: 1\n+\n")?;
+    }
+    text.push_str("\n")
+}
+
+/// A text of two sets with many records that break many rules.
+fn made(alloc: Global, first: Asked, second: Asked) -> Result<String, AllocError> {
+    let mut text = String::from_str(alloc, "K: 1\n\nK: 1\n\n")?;
+    add_descriptor(&mut text, "P", first)?;
+    for number in 0..30 {
+        add_record(&mut text, number)?;
+    }
+    add_descriptor(&mut text, "Q", second)?;
+    for number in 5..22 {
+        add_record(&mut text, number)?;
+    }
+    Ok(text)
+}
+
+/// The lines of a report, as a row has them.
+fn printed(alloc: Global, found: &[Violation]) -> Result<String, Fault> {
+    let mut report = String::new(alloc);
+    for violation in found {
+        let rule = violation.rule.word();
+        let name = std::str::from_utf8(violation.name.as_slice()).unwrap_or("?");
+        write!(report, "{}: {rule} {name}|", violation.line)?;
+    }
+    Ok(report)
+}
+
+/// Both programs find the same.
+fn try_both(rt: &impl Abort, alloc: Global, text: &[u8]) -> Result<Vec<Violation>, Fault> {
+    let database = read(alloc, text)?;
+    let found = Schema::read(alloc, &database)?.violations(alloc, &database)?;
+    let plain = printed(alloc, &plain_report(alloc, &database)?)?;
+    assert_eq!(rt;
+        printed(alloc, &found)?.as_str(),
+        plain.as_str(),
+        "at {text:?}"
+    );
+    Ok(found)
+}
+
+#[test]
+fn both_find_what_is_told(rt: HostRuntime) -> Result<(), Fail> {
+    for row in TOGETHER.lines() {
+        let (text, wanted) = row.split_once("->").unwrap_or((row, "?"));
+        let found = try_both(&rt, rt.alloc(), &text_in(rt.alloc(), text)?)?;
+        let report = printed(rt.alloc(), &found)?;
+        assert_eq!(rt; report.as_str(), wanted.trim_start(), "at {row}");
+    }
+    Ok(())
+}
+
+/// Both programs find the same in a set with one rule, and in one with all the others.
+fn try_rule(rt: &impl Abort, alloc: Global, i: usize) -> Result<(), Fault> {
+    let text = made(alloc, Asked::Only(i), Asked::AllBut(i))?;
+    try_both(rt, alloc, text.as_bytes())?;
+    Ok(())
+}
+
+#[test]
+fn both_find_the_same_by_each_rule(rt: HostRuntime) -> Result<(), Fail> {
+    for i in 0..ASKED.len() {
+        try_rule(&rt, rt.alloc(), i)?;
+    }
+    Ok(())
+}
+
+#[test]
+fn both_find_the_same_by_all_rules(rt: HostRuntime) -> Result<(), Fail> {
+    let text = made(rt.alloc(), Asked::All, Asked::All)?;
+    let found = try_both(&rt, rt.alloc(), text.as_bytes())?;
+    for rule in [
+        Rule::Size,
+        Rule::Key,
+        Rule::Mandatory,
+        Rule::Prohibit,
+        Rule::Unique,
+        Rule::Allowed,
+        Rule::Fit,
+        Rule::Constraint,
+    ] {
+        assert!(rt;
+            found.iter().any(|violation| violation.rule == rule),
+            "{rule:?}"
+        );
+    }
+    Ok(())
+}

@@ -1,0 +1,256 @@
+//! Faults, outputs, paragraphs, records, names and lines.
+use rec_text::{
+    Bytes, Database, Element, Fault, Output, Rule, Sink, Violation, Violations, put_all, read,
+};
+use std::alloc::{AllocError, Global};
+use std::io::Write;
+use std::test::Fail;
+
+/// Two violations.
+fn two_violations(alloc: Global) -> Result<Violations, Fault> {
+    let mut listed = Vec::new(alloc);
+    for line in [3, 7] {
+        listed.push(Violation {
+            line,
+            rule: Rule::Key,
+            name: Bytes::copy_of(alloc, b"Name")?,
+        })?;
+    }
+    Ok(Violations::from_vec(listed))
+}
+
+/// What the faults print as, by their numbers from 1.
+const TEXTS: &str = "\
+out of memory
+line 4: not a field, comment or blank line
+line 12: nothing follows the backslash
+line 1: bad descriptor field
+line 2: not supported
+expression: error at byte 0
+pattern not accepted
+field list: error at byte 5
+index list: error at byte 9
+no selection given, use --force
+several record types, use -t
+no such record type
+bad name
+a line of the value ends in a backslash
+not exactly one record
+violations: 2
+no automatic value
+two texts share a digest
+journal line 57: not a journal of recu
+nothing to undo
+nothing to redo
+the file was changed outside
+a file could not be read or written
+bad usage";
+
+fn fault_of_number(alloc: Global, number: usize) -> Result<Option<Fault>, Fault> {
+    Ok(Some(match number {
+        1 => Fault::OutOfMemory,
+        2 => Fault::BadLine { line: 4 },
+        3 => Fault::OpenLine { line: 12 },
+        4 => Fault::BadDescriptor { line: 1 },
+        5 => Fault::Unsupported { line: 2 },
+        6 => Fault::BadExpression { at: 0 },
+        7 => Fault::BadPattern,
+        8 => Fault::BadFieldList { at: 5 },
+        9 => Fault::BadIndexList { at: 9 },
+        10 => Fault::NoSelection,
+        11 => Fault::TypeNeeded,
+        12 => Fault::NoSuchType,
+        13 => Fault::BadName,
+        14 => Fault::BadValue,
+        15 => Fault::BadRecord,
+        16 => Fault::Integrity(two_violations(alloc)?),
+        17 => Fault::AutoImpossible,
+        18 => Fault::DigestClash,
+        19 => Fault::BadJournal { line: 57 },
+        20 => Fault::NothingToUndo,
+        21 => Fault::NothingToRedo,
+        22 => Fault::Drifted,
+        23 => Fault::StoreFailed,
+        24 => Fault::BadUsage,
+        _ => return Ok(None),
+    }))
+}
+
+/// The number and the text of a fault.
+fn told(alloc: Global, number: usize) -> Result<Option<String>, Fault> {
+    match fault_of_number(alloc, number)? {
+        Some(fault) => Ok(Some(format!(in alloc; "{} {fault}", fault.number())?)),
+        None => Ok(None),
+    }
+}
+
+/// Whether the fault of a number is told so; where the text is missing, there is none.
+fn is_told(alloc: Global, number: usize, text: Option<&str>) -> Result<bool, Fault> {
+    let Some(told) = told(alloc, number)? else {
+        return Ok(text.is_none());
+    };
+    let (shown, rest) = told.as_str().split_once(' ').unwrap_or(("", ""));
+    Ok(Some(rest) == text && shown.parse::<usize>().ok() == Some(number))
+}
+
+#[test]
+fn faults_have_numbers_and_texts(rt: HostRuntime) -> Result<(), Fail> {
+    for (i, text) in TEXTS.lines().enumerate() {
+        assert!(rt; is_told(rt.alloc(), i + 1, Some(text))?, "{text}");
+    }
+    assert!(rt; is_told(rt.alloc(), TEXTS.lines().count() + 1, None)?);
+    Ok(())
+}
+
+/// Whether an output takes all of these bytes.
+fn takes<W: Write>(output: &mut Output<W>, bytes: &[u8]) -> bool {
+    put_all(output, bytes).is_ok()
+}
+
+/// How many of these bytes an output takes in one call.
+fn taken<W: Write>(output: &mut Output<W>, bytes: &[u8]) -> Option<usize> {
+    output.write(bytes).ok()
+}
+
+#[test]
+fn output_takes_what_its_writer_takes(rt: HostRuntime) {
+    let mut output = Output {
+        writer: Vec::new(rt.alloc()),
+        failed: 0,
+    };
+    assert!(rt; takes(&mut output, b"A: 1\n"));
+    assert!(rt; takes(&mut output, b""));
+    assert!(rt; takes(&mut output, b"B: 2\n"));
+    assert_eq!(rt; output.writer.as_slice(), b"A: 1\nB: 2\n".as_slice());
+    assert_eq!(rt; output.failures(), 0);
+}
+
+#[test]
+fn full_writer_is_a_failure(rt: HostRuntime) {
+    let mut room = [0; 4];
+    let mut output = Output {
+        writer: room.as_mut_slice(),
+        failed: 0,
+    };
+    assert!(rt; !takes(&mut output, b"A: 1\n"));
+    assert_eq!(rt; output.failures(), 1);
+    assert_eq!(rt;
+        taken(&mut output, b""),
+        Some(0),
+        "nothing to take is no failure"
+    );
+    assert_eq!(rt; taken(&mut output, b"B"), None);
+    assert_eq!(rt; output.failures(), 2);
+    assert_eq!(rt; room.as_slice(), b"A: 1".as_slice(), "a front went out");
+}
+
+/// A text of an element for each letter: b blank, c comment, f field.
+fn text_of(alloc: Global, letters: &str) -> Result<Vec<u8>, AllocError> {
+    let mut text = Vec::new(alloc);
+    for letter in letters.bytes() {
+        text.extend_from_slice(match letter {
+            b'b' => b"\n".as_slice(),
+            b'c' => b"#\n",
+            _ => b"A:1\n",
+        })?;
+    }
+    Ok(text)
+}
+
+/// Whether these are the paragraphs and the records.
+fn has_ranges(
+    database: &Database,
+    paragraphs: &[(usize, usize)],
+    records: &[(usize, usize)],
+) -> bool {
+    let mut found = database.paragraphs();
+    for (start, end) in paragraphs {
+        if found.next() != Some(*start..*end) {
+            return false;
+        }
+    }
+    let mut listed = database.records();
+    for (start, end) in records {
+        if listed.next() != Some(*start..*end) {
+            return false;
+        }
+    }
+    found.next().is_none() && listed.next().is_none()
+}
+
+#[test]
+fn paragraphs_end_at_blanks_and_records_at_fields(rt: HostRuntime) -> Result<(), Fail> {
+    let alloc = rt.alloc();
+    let cases: [(&str, &[(usize, usize)], &[(usize, usize)]); 7] = [
+        ("", &[], &[]),
+        ("bbb", &[], &[]),
+        ("f", &[(0, 1)], &[(0, 1)]),
+        ("cc", &[(0, 2)], &[]),
+        ("bcfcb", &[(1, 4)], &[(2, 3)]),
+        (
+            "cffcfcbbcbf",
+            &[(0, 6), (8, 9), (10, 11)],
+            &[(1, 5), (10, 11)],
+        ),
+        (
+            "fbfbbcf",
+            &[(0, 1), (2, 3), (5, 7)],
+            &[(0, 1), (2, 3), (6, 7)],
+        ),
+    ];
+    for (letters, paragraphs, records) in cases {
+        let text = text_of(alloc, letters)?;
+        let database = read(alloc, &text)?;
+        assert!(rt; has_ranges(&database, paragraphs, records), "{letters}");
+    }
+    Ok(())
+}
+
+fn is_named(element: &Element<'_>, name: &str) -> bool {
+    element.name() == name.as_bytes() && element.has_name(name.as_bytes())
+}
+
+#[test]
+fn a_text_has_names_records_and_lines(rt: HostRuntime) -> Result<(), Fail> {
+    let text = b"# contacts\n\n%rec: Person\n# note\n%key: Name\n\nName: A\\\nB\n+ C\n\n#end";
+    let database = read(rt.alloc(), text)?;
+    assert_eq!(rt; database.text(), text.as_slice());
+    let mut paragraphs = database.paragraphs();
+    assert_eq!(rt; paragraphs.next(), Some(0..1));
+    assert_eq!(rt; paragraphs.next(), Some(2..5));
+    assert_eq!(rt; paragraphs.next(), Some(6..7));
+    assert_eq!(rt; paragraphs.next(), Some(8..9));
+    assert_eq!(rt; paragraphs.next(), None);
+    let mut records = database.records();
+    assert_eq!(rt; records.next(), Some(2..5));
+    assert_eq!(rt; records.as_slice(), [6..7].as_slice());
+    assert_eq!(rt; records.next(), Some(6..7));
+    assert_eq!(rt; records.next(), None);
+    let names = ["", "", "%rec", "", "%key", "", "Name", "", ""];
+    assert_eq!(rt; database.elements().len(), names.len());
+    for (element, name) in database.elements().iter().zip(&names) {
+        assert!(rt; is_named(element, name), "{name}");
+    }
+    assert!(rt; 64 <= database.text().len());
+    for (at, line) in [(0, 1), (10, 1), (11, 2), (44, 7), (53, 8), (64, 11)] {
+        assert_eq!(rt; database.line_of(at), line, "at {at}");
+    }
+    Ok(())
+}
+
+#[test]
+fn words_of_rules(rt: HostRuntime) {
+    let words = [
+        (Rule::Size, "size"),
+        (Rule::Key, "key"),
+        (Rule::Mandatory, "mandatory"),
+        (Rule::Prohibit, "prohibit"),
+        (Rule::Unique, "unique"),
+        (Rule::Allowed, "allowed"),
+        (Rule::Fit, "type"),
+        (Rule::Constraint, "constraint"),
+    ];
+    for (rule, word) in words {
+        assert_eq!(rt; rule.word(), word);
+    }
+}

@@ -1,0 +1,160 @@
+//! The cases of a file: its records.
+use crate::log::Log;
+use crate::trial::{Trial, Way};
+use rec_text::{Element, Fault, read};
+use std::alloc::Global;
+use std::str;
+
+/// The text of a field.
+fn text_of(alloc: Global, element: &Element<'_>) -> Result<String, Fault> {
+    let value = element.value(alloc)?;
+    match str::from_utf8(value.bytes()) {
+        Ok(text) => Ok(String::from_str(alloc, text)?),
+        Err(_) => Err(Fault::BadUsage),
+    }
+}
+
+fn name_of<'t>(element: &Element<'t>) -> &'t str {
+    str::from_utf8(element.name()).unwrap_or("")
+}
+
+/// The text of the first field of a name, or the empty one.
+fn field(alloc: Global, case: &[Element<'_>], name: &str) -> Result<String, Fault> {
+    for element in case {
+        if name_of(element) == name {
+            return text_of(alloc, element);
+        }
+    }
+    Ok(String::new(alloc))
+}
+
+/// Whether a field says how the case is run, and is none of a run.
+fn is_heading(name: &str) -> bool {
+    name == "Case" || name == "Columns" || name == "Row" || name == "Cuts"
+}
+
+fn take_fields(
+    alloc: Global,
+    trial: &mut Trial,
+    case: &[Element<'_>],
+    log: &mut Log,
+) -> Result<(), Fault> {
+    for element in case {
+        let name = name_of(element);
+        if !name.is_empty() && !is_heading(name) {
+            let text = text_of(alloc, element)?;
+            trial.take(name, text.as_str(), log)?;
+        }
+    }
+    Ok(())
+}
+
+/// A row, under the columns that it has.
+#[derive(Clone, Copy)]
+struct Row<'r> {
+    columns: &'r str,
+    cells: &'r str,
+}
+
+fn take_row(trial: &mut Trial, row: Row<'_>, log: &mut Log) -> Result<(), Fault> {
+    if row.columns.is_empty() {
+        return Ok(());
+    }
+    if row.columns.split(" | ").count() != row.cells.split(" | ").count() {
+        return Err(Fault::BadUsage);
+    }
+    for (name, cell) in row.columns.split(" | ").zip(row.cells.split(" | ")) {
+        trial.take(name, cell, log)?;
+    }
+    Ok(())
+}
+
+/// Runs a case once each way, with this row and so much of its journal.
+fn run_trials(
+    alloc: Global,
+    case: &[Element<'_>],
+    row: Row<'_>,
+    cut: usize,
+    log: &mut Log,
+) -> Result<(), Fault> {
+    for way in [Way::OneByOne, Way::Together] {
+        let mut trial = Trial::new(alloc, way, cut);
+        take_fields(alloc, &mut trial, case, log)?;
+        take_row(&mut trial, row, log)?;
+        trial.finish(log)?;
+    }
+    Ok(())
+}
+
+/// Runs a case with each cut of its journal that it asks for.
+fn run_cuts(
+    alloc: Global,
+    case: &[Element<'_>],
+    row: Row<'_>,
+    cuts: &str,
+    log: &mut Log,
+) -> Result<(), Fault> {
+    let Some((first, last)) = cuts.split_once('-') else {
+        return run_trials(alloc, case, row, usize::MAX, log);
+    };
+    for cut in number_in(first)?..=number_in(last)? {
+        log.cut = cut;
+        run_trials(alloc, case, row, cut, log)?;
+    }
+    Ok(())
+}
+
+fn number_in(text: &str) -> Result<usize, Fault> {
+    match text.parse::<usize>() {
+        Ok(number) => Ok(number),
+        Err(_) => Err(Fault::BadUsage),
+    }
+}
+
+/// Runs a case with each of its rows.
+fn run_rows(
+    alloc: Global,
+    case: &[Element<'_>],
+    columns: &str,
+    cuts: &str,
+    log: &mut Log,
+) -> Result<(), Fault> {
+    for element in case {
+        if name_of(element) == "Row" {
+            log.row = text_of(alloc, element)?;
+            let cells = text_of(alloc, element)?;
+            let row = Row {
+                columns,
+                cells: cells.as_str(),
+            };
+            run_cuts(alloc, case, row, cuts, log)?;
+        }
+    }
+    Ok(())
+}
+
+fn run_case(alloc: Global, case: &[Element<'_>], log: &mut Log) -> Result<(), Fault> {
+    log.begin(field(alloc, case, "Case")?);
+    let columns = field(alloc, case, "Columns")?;
+    let cuts = field(alloc, case, "Cuts")?;
+    if columns.as_str().is_empty() {
+        let row = Row {
+            columns: "",
+            cells: "",
+        };
+        return run_cuts(alloc, case, row, cuts.as_str(), log);
+    }
+    run_rows(alloc, case, columns.as_str(), cuts.as_str(), log)
+}
+
+/// Runs the cases of a text. One that is no case is told of, and the others are run.
+pub fn run_cases(alloc: Global, text: &[u8], log: &mut Log) -> Result<(), Fault> {
+    let database = read(alloc, text)?;
+    for record in database.records() {
+        let case = database.elements().get(record).unwrap_or(&[]);
+        if let Err(fault) = run_case(alloc, case, log) {
+            log.refuse(&fault)?;
+        }
+    }
+    Ok(())
+}

@@ -1,0 +1,84 @@
+//! What was found so far.
+use crate::cells::spell;
+use rec_text::Fault;
+use std::alloc::{AllocError, Global};
+
+/// The lines on cases that differ, and how much was run.
+#[derive(Drop)]
+pub struct Log {
+    pub text: String,
+    /// The case that is run, with its row and the length to which its journal is cut.
+    name: String,
+    pub row: String,
+    pub cut: usize,
+    /// How many requests of the case were run.
+    place: usize,
+    pub cases: usize,
+    pub requests: usize,
+}
+
+impl Log {
+    pub fn new(alloc: Global) -> Log {
+        Log {
+            text: String::new(alloc),
+            name: String::new(alloc),
+            row: String::new(alloc),
+            cut: 0,
+            place: 0,
+            cases: 0,
+            requests: 0,
+        }
+    }
+
+    /// Begins a case.
+    pub fn begin(&mut self, name: String) {
+        self.name = name;
+        self.row.clear();
+        self.cut = 0;
+        self.place = 0;
+        self.cases = self.cases.saturating_add(1);
+    }
+
+    /// Counts a request.
+    pub fn count(&mut self) {
+        self.place = self.place.saturating_add(1);
+        self.requests = self.requests.saturating_add(1);
+    }
+
+    fn put_place(&mut self) -> Result<(), AllocError> {
+        write!(self.text, "{}", self.name)?;
+        if !self.row.as_str().is_empty() {
+            write!(self.text, ", {}", self.row)?;
+        }
+        if self.cut > 0 {
+            write!(self.text, ", cut at {}", self.cut)?;
+        }
+        write!(self.text, ", request {}: ", self.place)
+    }
+
+    /// A line on what was found, where it is otherwise than what is wanted.
+    pub fn compare(&mut self, what: &str, found: &[u8], wanted: &[u8]) -> Result<(), AllocError> {
+        if found == wanted {
+            return Ok(());
+        }
+        self.put_place()?;
+        write!(self.text, "{what}: ")?;
+        spell(&mut self.text, found)?;
+        self.text.push('\n')
+    }
+
+    /// A line, where a fact that is wanted doesn't hold.
+    pub fn expect(&mut self, what: &str, holds: bool) -> Result<(), AllocError> {
+        if holds {
+            return Ok(());
+        }
+        self.put_place()?;
+        write!(self.text, "otherwise: {what}\n")
+    }
+
+    /// A line, where a case can't be run.
+    pub fn refuse(&mut self, fault: &Fault) -> Result<(), AllocError> {
+        self.put_place()?;
+        write!(self.text, "{fault}\n")
+    }
+}

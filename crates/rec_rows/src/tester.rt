@@ -1,0 +1,181 @@
+//! A home on which requests are run, and what is found there.
+use crate::log::Log;
+use crate::narrow::Narrow;
+use rec_tools::{
+    Bytes, Fault, Home, MemoryHome, Output, Reply, Request, Sink, StoreFault, run, run_all,
+};
+use std::alloc::{AllocError, Global};
+
+const STORE_FAILED: &str = "23 a file could not be read or written";
+
+/// What is wanted of a request.
+#[derive(Drop)]
+pub struct Wanted {
+    pub answer: String,
+    pub print: Bytes,
+    pub file: Bytes,
+    /// None where any journal is right.
+    pub journal: Option<Bytes>,
+}
+
+/// A home in memory, and what is printed.
+#[derive(Drop)]
+pub struct Tester {
+    alloc: Global,
+    pub home: MemoryHome,
+    out: Output<Narrow>,
+    /// How often the home is to have failed.
+    failures: u64,
+    /// Whether a call of the home is to fail.
+    pub fails: bool,
+}
+
+/// Adds an answer in words.
+fn say(said: &mut String, answer: &Result<Reply, Fault>) -> Result<(), AllocError> {
+    match answer {
+        Ok(Reply::Shown) => said.push_str("shown"),
+        Ok(Reply::Violated(count)) => write!(said, "violated {count}"),
+        Ok(Reply::Edited(count)) => write!(said, "edited {count}"),
+        Ok(Reply::Unchanged) => said.push_str("unchanged"),
+        Ok(Reply::Undone(number)) => write!(said, "undone {number}"),
+        Ok(Reply::Redone(number)) => write!(said, "redone {number}"),
+        Err(fault) => write!(said, "{} {fault}", fault.number()),
+    }
+}
+
+/// Adds answers in words, one in a line.
+fn say_all(said: &mut String, answers: &[Result<Reply, Fault>]) -> Result<(), AllocError> {
+    for answer in answers {
+        say(said, answer)?;
+        said.push('\n')?;
+    }
+    Ok(())
+}
+
+impl Tester {
+    pub fn new(alloc: Global) -> Tester {
+        let file = Bytes::from_vec(Vec::new(alloc));
+        let journal = Bytes::from_vec(Vec::new(alloc));
+        let taken = Vec::new(alloc);
+        Tester {
+            alloc,
+            home: MemoryHome::new(alloc, file, journal),
+            out: Output {
+                writer: Narrow { taken, room: 0 },
+                failed: 0,
+            },
+            failures: 0,
+            fails: false,
+        }
+    }
+
+    /// Empties the output, and leaves it so much room.
+    fn clear(&mut self, room: usize) {
+        self.out.writer.taken.clear();
+        self.out.writer.room = room;
+        self.out.failed = 0;
+    }
+
+    /// What a request answers, in words.
+    fn answer(&mut self, request: &Request, room: usize) -> Result<String, AllocError> {
+        self.clear(room);
+        let mut said = String::new(self.alloc);
+        let answer = run(self.alloc, &mut self.home, &mut self.out, request);
+        say(&mut said, &answer)?;
+        Ok(said)
+    }
+
+    /// Runs a request, whose answer alone is wanted.
+    pub fn ask(
+        &mut self,
+        request: &Request,
+        answer: &str,
+        log: &mut Log,
+    ) -> Result<(), AllocError> {
+        log.count();
+        let said = self.answer(request, usize::MAX)?;
+        log.compare("answers", said.as_bytes(), answer.as_bytes())
+    }
+
+    /// Runs a request.
+    pub fn run(
+        &mut self,
+        request: &Request,
+        wanted: &Wanted,
+        log: &mut Log,
+    ) -> Result<(), AllocError> {
+        self.ask(request, wanted.answer.as_str(), log)?;
+        if wanted.answer.as_str().starts_with("23 ") {
+            self.failures = self.failures.saturating_add(1);
+        }
+        log.expect(
+            "the failures of the home",
+            self.home.failures() == self.failures,
+        )?;
+        log.expect("the failures of the output", self.out.failures() == 0)?;
+        self.compare(wanted, log)?;
+        self.narrow(request, wanted, log)
+    }
+
+    /// Compares what was printed, and both contents.
+    fn compare(&self, wanted: &Wanted, log: &mut Log) -> Result<(), AllocError> {
+        log.compare(
+            "prints",
+            self.out.writer.taken.as_slice(),
+            wanted.print.as_slice(),
+        )?;
+        log.compare("the file", self.home.file(), wanted.file.as_slice())?;
+        match &wanted.journal {
+            Some(journal) => log.compare("the journal", self.home.journal(), journal.as_slice()),
+            None => Ok(()),
+        }
+    }
+
+    /// Runs a request that prints again with each smaller room for its output, where no call of the home is to fail.
+    fn narrow(
+        &mut self,
+        request: &Request,
+        wanted: &Wanted,
+        log: &mut Log,
+    ) -> Result<(), AllocError> {
+        if self.fails {
+            return Ok(());
+        }
+        let print = wanted.print.as_slice();
+        for room in 0..print.len() {
+            let said = self.answer(request, room)?;
+            log.compare(
+                "answers in little room",
+                said.as_bytes(),
+                STORE_FAILED.as_bytes(),
+            )?;
+            log.expect("one failure in little room", self.out.failures() == 1)?;
+            let taken = self.out.writer.taken.as_slice();
+            log.expect(
+                "the front of what is printed",
+                taken.len() == room && print.starts_with(taken),
+            )?;
+        }
+        Ok(())
+    }
+
+    /// Runs requests in one call.
+    pub fn run_all(
+        &mut self,
+        requests: &[Request],
+        wanted: &Wanted,
+        log: &mut Log,
+    ) -> Result<(), Fault> {
+        self.clear(usize::MAX);
+        let answers = run_all(self.alloc, &mut self.home, &mut self.out, requests)?;
+        let mut said = String::new(self.alloc);
+        say_all(&mut said, answers.as_slice())?;
+        log.compare(
+            "answers together",
+            said.as_bytes(),
+            wanted.answer.as_bytes(),
+        )?;
+        self.compare(wanted, log)?;
+        Ok(())
+    }
+}

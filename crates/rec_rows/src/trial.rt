@@ -1,0 +1,248 @@
+//! One run of a case: its fields are taken in order.
+use crate::cells::bytes_in;
+use crate::command::request_of;
+use crate::log::Log;
+use crate::tester::{Tester, Wanted};
+use rec_tools::{Bytes, Fault, MemoryHome, Request, StoreFault};
+use std::alloc::{AllocError, Global};
+
+/// How the requests of a case are run.
+#[derive(Clone, Copy, PartialEq, Eq)]
+pub enum Way {
+    /// Each by itself.
+    OneByOne,
+    /// All in one call.
+    Together,
+}
+
+/// The requests that were taken, to be run in one call, with what is wanted of them.
+#[derive(Drop)]
+struct Taken {
+    requests: Vec<Request>,
+    answers: String,
+    prints: Vec<u8>,
+}
+
+/// A home, and the request that is to be run on it next.
+#[derive(Drop)]
+pub struct Trial {
+    alloc: Global,
+    way: Way,
+    /// How much of the journal that is given counts.
+    cut: usize,
+    tester: Tester,
+    wanted: Wanted,
+    word: Bytes,
+    line: String,
+    taken: Taken,
+    /// How many events the edits of a row have made.
+    events: u64,
+}
+
+fn number_in(cell: &str) -> Result<u64, Fault> {
+    match cell.parse::<u64>() {
+        Ok(number) => Ok(number),
+        Err(_) => Err(Fault::BadUsage),
+    }
+}
+
+fn nothing(alloc: Global) -> Bytes {
+    Bytes::from_vec(Vec::new(alloc))
+}
+
+/// The first bytes, as many as there may be.
+fn front(bytes: &[u8], len: usize) -> &[u8] {
+    &bytes[..bytes.len().min(len)]
+}
+
+fn is_change(answer: &str) -> bool {
+    answer.starts_with("edited ") || answer.starts_with("undone ")
+}
+
+impl Taken {
+    fn new(alloc: Global) -> Taken {
+        Taken {
+            requests: Vec::new(alloc),
+            answers: String::new(alloc),
+            prints: Vec::new(alloc),
+        }
+    }
+
+    fn add(&mut self, request: Request, wanted: &Wanted) -> Result<(), Fault> {
+        self.requests.push(request)?;
+        self.answers.push_str(wanted.answer.as_str())?;
+        self.answers.push('\n')?;
+        self.prints.extend_from_slice(wanted.print.as_slice())?;
+        Ok(())
+    }
+}
+
+impl Trial {
+    pub fn new(alloc: Global, way: Way, cut: usize) -> Trial {
+        Trial {
+            alloc,
+            way,
+            cut,
+            tester: Tester::new(alloc),
+            wanted: Wanted {
+                answer: String::new(alloc),
+                print: nothing(alloc),
+                file: nothing(alloc),
+                journal: Some(nothing(alloc)),
+            },
+            word: nothing(alloc),
+            line: String::new(alloc),
+            taken: Taken::new(alloc),
+            events: 0,
+        }
+    }
+
+    /// Takes a field of the case.
+    pub fn take(&mut self, name: &str, cell: &str, log: &mut Log) -> Result<(), Fault> {
+        match name {
+            "File" => self.put_file(cell)?,
+            "Journal" => self.put_journal(cell)?,
+            "Fails" => self.fail(cell)?,
+            "Request" => self.begin(cell, log)?,
+            "Word" => self.word = bytes_in(self.alloc, cell)?,
+            "Answer" => self.want(cell)?,
+            "Prints" => self.wanted.print = bytes_in(self.alloc, cell)?,
+            "File_after" => self.wanted.file = bytes_in(self.alloc, cell)?,
+            "Journal_after" => self.wanted.journal = Some(bytes_in(self.alloc, cell)?),
+            "Records" => self.delete_each(number_in(cell)?, log)?,
+            _ if name.starts_with("rec") => self.edit(name, cell, log)?,
+            _ => return Err(Fault::BadUsage),
+        }
+        Ok(())
+    }
+
+    fn put_file(&mut self, cell: &str) -> Result<(), AllocError> {
+        self.wanted.file = bytes_in(self.alloc, cell)?;
+        self.tester.home.file = Bytes::copy_of(self.alloc, self.wanted.file.as_slice())?;
+        Ok(())
+    }
+
+    fn put_journal(&mut self, cell: &str) -> Result<(), AllocError> {
+        let whole = bytes_in(self.alloc, cell)?;
+        let journal = front(whole.as_slice(), self.cut);
+        self.wanted.journal = Some(Bytes::copy_of(self.alloc, journal)?);
+        self.tester.home.journal = Bytes::copy_of(self.alloc, journal)?;
+        Ok(())
+    }
+
+    /// Lets a call of the home fail: its number, and which content is left.
+    fn fail(&mut self, cell: &str) -> Result<(), Fault> {
+        let fault = match cell.split_once(' ') {
+            Some((_, "old")) => StoreFault::LeavesOld,
+            Some((_, "new")) => StoreFault::LeavesNew,
+            _ => return Err(Fault::BadUsage),
+        };
+        let (call, _) = cell.split_once(' ').unwrap_or((cell, ""));
+        self.tester.fails = true;
+        Ok(self.tester.home.fail(number_in(call)?, fault)?)
+    }
+
+    /// Begins a request, of which nothing else is wanted until a field says so than that it shows nothing.
+    fn begin(&mut self, line: &str, log: &mut Log) -> Result<(), Fault> {
+        self.end(log)?;
+        self.line = String::from_str(self.alloc, line)?;
+        self.wanted.answer = String::from_str(self.alloc, "shown")?;
+        self.wanted.print = nothing(self.alloc);
+        Ok(())
+    }
+
+    fn want(&mut self, answer: &str) -> Result<(), AllocError> {
+        if is_change(answer) {
+            self.wanted.journal = None;
+        }
+        self.wanted.answer = String::from_str(self.alloc, answer)?;
+        Ok(())
+    }
+
+    /// The request that was begun has all its fields.
+    fn end(&mut self, log: &mut Log) -> Result<(), Fault> {
+        if self.line.as_str().is_empty() {
+            return Ok(());
+        }
+        let request = request_of(self.alloc, self.line.as_str(), self.word.as_slice())?;
+        match self.way {
+            Way::OneByOne => self.run(&request, log),
+            Way::Together => self.taken.add(request, &self.wanted),
+        }
+    }
+
+    fn run(&mut self, request: &Request, log: &mut Log) -> Result<(), Fault> {
+        self.tester.run(request, &self.wanted, log)?;
+        if self.wanted.journal.is_none() {
+            let journal = Bytes::copy_of(self.alloc, self.tester.home.journal())?;
+            self.wanted.journal = Some(journal);
+        }
+        Ok(())
+    }
+
+    /// All fields are taken.
+    pub fn finish(&mut self, log: &mut Log) -> Result<(), Fault> {
+        self.end(log)?;
+        if self.taken.requests.is_empty() {
+            return Ok(());
+        }
+        self.wanted.answer = String::from_str(self.alloc, self.taken.answers.as_str())?;
+        self.wanted.print = Bytes::copy_of(self.alloc, self.taken.prints.as_slice())?;
+        self.tester
+            .run_all(self.taken.requests.as_slice(), &self.wanted, log)
+    }
+
+    fn ask(&mut self, line: &str, answer: &str, log: &mut Log) -> Result<(), Fault> {
+        let request = request_of(self.alloc, line, &[])?;
+        Ok(self.tester.ask(&request, answer, log)?)
+    }
+
+    /// An edit makes this text of the file, of one record, and is taken back. One that changes nothing is no edit.
+    fn edit(&mut self, line: &str, cell: &str, log: &mut Log) -> Result<(), Fault> {
+        let after = bytes_in(self.alloc, cell)?;
+        if after.as_slice() == self.wanted.file.as_slice() {
+            self.ask(line, "unchanged", log)?;
+            return self.is_as_before(true, log);
+        }
+        self.ask(line, "edited 1", log)?;
+        log.compare(line, self.tester.home.file(), after.as_slice())?;
+        self.take_back(log)
+    }
+
+    /// Takes back the edit that is the next event.
+    fn take_back(&mut self, log: &mut Log) -> Result<(), Fault> {
+        let number = self.events.saturating_add(1);
+        self.events = self.events.saturating_add(2);
+        let undone = format!(in self.alloc; "undone {number}")?;
+        self.ask("undo", undone.as_str(), log)?;
+        self.is_as_before(true, log)
+    }
+
+    /// Each of so many records is deleted in turn and brought back, and there is no further one.
+    fn delete_each(&mut self, records: u64, log: &mut Log) -> Result<(), Fault> {
+        for index in 0..records {
+            self.delete_one(index, log)?;
+        }
+        let behind = format!(in self.alloc; "recdel -n {records}")?;
+        self.ask(behind.as_str(), "unchanged", log)?;
+        self.is_as_before(true, log)
+    }
+
+    fn delete_one(&mut self, index: u64, log: &mut Log) -> Result<(), Fault> {
+        let line = format!(in self.alloc; "recdel -n {index}")?;
+        self.ask(line.as_str(), "edited 1", log)?;
+        self.is_as_before(false, log)?;
+        let number = index.saturating_mul(2).saturating_add(1);
+        let undone = format!(in self.alloc; "undone {number}")?;
+        self.ask("undo", undone.as_str(), log)?;
+        self.is_as_before(true, log)
+    }
+
+    fn is_as_before(&self, wanted: bool, log: &mut Log) -> Result<(), Fault> {
+        let is_same = self.tester.home.file() == self.wanted.file.as_slice();
+        Ok(log.expect(
+            "the file, with a record deleted or brought back",
+            is_same == wanted,
+        )?)
+    }
+}

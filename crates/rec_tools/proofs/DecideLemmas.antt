@@ -1,0 +1,150 @@
+-- What an edit and a move come to, once their history was opened and their text was found.
+use Rattle.std.proofs.Common.{◌≡◌, ◌≢◌, inl, inr, ℕ, Bool, true, false, List, [], ◌∷◌, Result, Ok, Err, sym, ap, subst, refl, ◌∙◌}
+use Rattle.std.specs.Prelude.{◌↔◌, IsTrue}
+use Rattle.rec_text.specs.declared.fault.Fault.{Fault}
+use Rattle.rec_text.specs.declared.fault.Fault.TheVariants.{DigestClash}
+use Rattle.rec_text.specs.Faults.{IsMemoryOr}
+use Rattle.rec_journal.specs.declared.patch.Hunk.{Hunk}
+use Rattle.rec_journal.specs.declared.patch.Direction.TheVariants.{Backward}
+use Rattle.rec_journal.specs.declared.event.Pass.{Pass}
+use Rattle.rec_journal.specs.declared.event.Revision.{Revision}
+use Rattle.rec_journal.specs.declared.event.Tool.{Tool}
+use Rattle.rec_journal.specs.declared.plan.Plan.{Plan}
+use Rattle.rec_journal.specs.Patch.{Splices}
+use Rattle.rec_journal.specs.History.{Opened, Opens, IsOpening}
+use Rattle.rec_journal.specs.Revisions.{one_pass}
+use Rattle.rec_journal.specs.Plans.{ShareDigest, IsEditPlan, IsMovePlan, after_edit_plan, after_move}
+use Rattle.rec_edit.specs.declared.outcome.Edited.{Edited}
+use Rattle.rec_tools.specs.declared.decision.Change.{Change}
+use Rattle.rec_tools.specs.declared.request.Reply.TheVariants.{Edited as EditedReply, Unchanged, Undone}
+use Rattle.rec_tools.specs.Home.{Contents}
+use Rattle.rec_tools.specs.Asking.{Base}
+use Rattle.rec_tools.specs.Requests.{editing, moving}
+use Rattle.rec_tools.specs.Outcomes.{staying, putting, move_plan, IsOutcome}
+use Rattle.rec_tools.specs.Changes.{IsChange}
+use Rattle.rec_tools.proofs.FaultLemmas.{memory_or_weaker, ok_is_no_err, same_fault}
+use Rattle.rec_tools.proofs.OpeningLemmas.{told-digest}
+use Rattle.rec_tools.proofs.ChangeLemmas.{Changed}
+
+-- ---- two texts that share a digest
+
+-- a plan that is refused, is so where the texts share a digest
+clash-digest : (file journal text : List ℕ) (o : Opened) (tool : Tool) (steps : List Pass) → Opens file journal o → IsEditPlan o journal tool steps text (Err DigestClash) → ShareDigest file text
+clash-digest file journal text o tool steps (inl whole) same = sym (told-digest _ _ _ _ whole.tells) ∙ same
+clash-digest file journal text o tool steps (inr empty) same = sym (ap (λ (x : Opened). x.digest) empty.is) ∙ same
+
+only-clash : (o : Opened) (journal : List ℕ) (tool : Tool) (steps : List Pass) (text : List ℕ) (fault : Fault) → IsEditPlan o journal tool steps text (Err fault) → fault ≡ DigestClash
+only-clash o journal tool steps text DigestClash h = refl
+only-clash o journal tool steps text _ h = absurd h
+
+true_is_not_false : ◌≡◌ {A = Bool} true false → ⊥
+true_is_not_false e = cc
+
+-- an edit with a hunk changes the text
+pub differs : (b : Bool) (patch : List Hunk) (text file : List ℕ) → IsTrue b ↔ (patch ≡ []) → b ≡ false → (patch ≡ []) ↔ (text ≡ file) → text ≢ file
+differs b patch text file idle is_false same e = true_is_not_false (sym (idle.1 (same.1 e)) ∙ is_false)
+
+-- ---- an edit
+
+module _ (c : Contents) (tool : Tool) (IsEdit : Base → Result Edited Fault → Type 0) where
+  pub edit-refused : (fault : Fault) → IsMemoryOr fault (IsChange c IsEdit (Err fault)) → IsMemoryOr fault (IsOutcome c (editing tool IsEdit) (Err fault))
+  edit-refused fault h = memory_or_weaker fault _ _ refused h where
+    no_change : {P : Type 0} (change : Change) → ◌≡◌ {A = Result Change Fault} (Err fault) (Ok change) → P
+    no_change change e = ok_is_no_err change fault _ e
+
+    refused : IsChange c IsEdit (Err fault) → IsOutcome c (editing tool IsEdit) (Err fault)
+    refused (inl (other, none, e)) = inl (other, none, ap Err (same_fault fault other e))
+    refused (inr (base, is, inl (other, none, e))) = inr (base, is, inl (other, none, ap Err (same_fault fault other e)))
+    refused (inr (base, is, inr (o, opens, inl (other, none, e)))) = inr (base, is, inr (o, opens, inl (other, none, ap Err (same_fault fault other e))))
+    refused (inr (base, is, inr (o, opens, inr (edited, made, e)))) = no_change _ e
+
+  module _ (change : Change) (parts : Changed c IsEdit change) where
+    pub edit-unchanged : change.edited.text ≡ c.file → IsOutcome c (editing tool IsEdit) (Ok (staying Unchanged))
+    edit-unchanged same = inr (parts.base, parts.is, inr (change.history, parts.opens, inr (change.edited, parts.made, inl (same, refl))))
+
+    module _ (other : change.edited.text ≢ c.file) (text : List ℕ) (is : text ≡ change.edited.text) (given : Tool) (by : given ≡ tool) where
+      planned_by : (r : Result Plan Fault) → IsEditPlan change.history c.journal given (one_pass given change.edited.patch) text r
+          → IsEditPlan change.history c.journal tool (one_pass tool change.edited.patch) change.edited.text r
+      planned_by r h = subst (λ x. IsEditPlan change.history c.journal x (one_pass x change.edited.patch) change.edited.text r) by
+          (subst (λ t. IsEditPlan change.history c.journal given (one_pass given change.edited.patch) t r) is h)
+
+      clashing : (fault : Fault) → IsEditPlan change.history c.journal tool (one_pass tool change.edited.patch) change.edited.text (Err fault) → IsOutcome c (editing tool IsEdit) (Err fault)
+      clashing fault refused =
+          let e = only-clash change.history c.journal tool (one_pass tool change.edited.patch) change.edited.text fault refused in
+          let same : ShareDigest c.file change.edited.text = clash-digest c.file c.journal change.edited.text change.history tool (one_pass tool change.edited.patch) parts.opens
+          (subst (λ f. IsEditPlan change.history c.journal tool (one_pass tool change.edited.patch) change.edited.text (Err f)) e refused) in
+          inr (parts.base, parts.is, inr (change.history, parts.opens, inr (change.edited, parts.made, (other, e, same))))
+
+      pub edit-clash : (fault : Fault) → IsMemoryOr fault (IsEditPlan change.history c.journal given (one_pass given change.edited.patch) text (Err fault))
+          → IsMemoryOr fault (IsOutcome c (editing tool IsEdit) (Err fault))
+      edit-clash fault h = memory_or_weaker fault _ _ (λ refused. clashing fault (planned_by (Err fault) refused)) h
+
+      pub edit-planned : (plan : Plan) → Splices change.edited.patch c.file change.edited.text → IsEditPlan change.history c.journal given (one_pass given change.edited.patch) text (Ok plan)
+          → IsOpening plan.file plan.journal (Ok (after_edit_plan change.history c.journal given (one_pass given change.edited.patch) text))
+          → IsOutcome c (editing tool IsEdit) (Ok (putting plan (EditedReply change.edited.changed)))
+      edit-planned plan leads planned opens =
+          inr (
+            parts.base,
+            parts.is,
+            inr (
+              change.history,
+              parts.opens,
+              inr (
+                change.edited,
+                parts.made,
+                inr (
+                  other,
+                  (
+                    plan,
+                    record {
+                      leads = leads;
+                      planned = planned_by (Ok plan) planned;
+                      opens = subst (λ x. IsOpening plan.file plan.journal (Ok (after_edit_plan change.history c.journal x (one_pass x change.edited.patch) change.edited.text))) by
+                          (subst (λ t. IsOpening plan.file plan.journal (Ok (after_edit_plan change.history c.journal given (one_pass given change.edited.patch) t))) is opens);
+                    },
+                    refl,
+                  ),
+                ),
+              ),
+            ),
+          )
+
+-- ---- an undo
+
+module _ (file journal : List ℕ) where
+  abbrev contents : Contents
+  contents = record { file = file; journal = journal }
+
+  pub undo-no_opening : (fault : Fault) → IsMemoryOr fault (IsOpening file journal (Err fault)) → IsMemoryOr fault (IsOutcome contents (moving Backward) (Err fault))
+  undo-no_opening fault h = memory_or_weaker fault _ _ (λ none. inl (fault, none, refl)) h
+
+  module _ (o : Opened) (opens : IsOpening file journal (Ok o)) where
+    pub undo-refused : (fault : Fault) → IsMemoryOr fault (IsMovePlan Backward o file journal (Err fault)) → IsMemoryOr fault (IsOutcome contents (moving Backward) (Err fault))
+    undo-refused fault h = memory_or_weaker fault _ _ (λ refused. inr (o, opens, refused)) h
+
+    pub undo-planned : (plan : Plan) → IsMovePlan Backward o file journal (Ok plan) → (number : ℕ) (newest : Revision) (older : List Revision) → o.past ≡ newest ∷ older → number ≡ newest.number
+        → ((e : Revision) (others : List Revision) → o.past ≡ e ∷ others → IsOpening plan.file plan.journal (Ok (after_move Backward o journal e others)))
+        → IsOutcome contents (moving Backward) (Ok (putting plan (Undone number)))
+    undo-planned plan planned number newest older past named next =
+        let h = planned.1 in
+        let same : h.nearest ≡ newest = heads (sym h.there ∙ past) in
+        let journal_is : plan.journal ≡ (move_plan Backward o contents h.nearest plan.file).journal = h.recorded in
+        inr (
+          o,
+          opens,
+          (
+            planned.0,
+            record {
+              nearest = h.nearest;
+              others = h.others;
+              there = h.there;
+              text = plan.file;
+              leads = h.leads;
+              opens = subst (λ j. IsOpening plan.file j (Ok (after_move Backward o journal h.nearest h.others))) journal_is (next h.nearest h.others h.there);
+              is = ap (λ n. putting plan (Undone n)) (named ∙ ap (λ (e : Revision). e.number) (sym same))
+                  ∙ ap (λ j. putting (record { file = plan.file; journal = j }) (Undone h.nearest.number)) journal_is;
+            },
+          ),
+        ) where
+          heads : {x y : Revision} {xs ys : List Revision} → x ∷ xs ≡ y ∷ ys → x ≡ y
+          heads e = cc

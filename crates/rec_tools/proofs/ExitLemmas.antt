@@ -1,0 +1,256 @@
+-- What a request does at each of its exits, from the calls that were made and what went out.
+use Rattle.std.proofs.Common.{◌≡◌, inl, inr, ℕ, List, [], ◌∷◌, ◌++◌, take, Option, Result, Ok, Err, ap, sym, subst, refl, ◌∙◌}
+use Rattle.std.specs.Io.KnownBytes.{Appends}
+use Rattle.std.proofs.KnownBytes.{Appends-nil, Appends-kept}
+use Rattle.rec_text.specs.declared.fault.Fault.{Fault}
+use Rattle.rec_text.specs.declared.fault.Fault.TheVariants.{OutOfMemory, StoreFailed}
+use Rattle.rec_text.specs.Faults.{IsMemoryOr}
+use Rattle.rec_text.specs.Sink.{KeptAtSuccess, RisenAtStoreFailed}
+use Rattle.rec_tools.specs.declared.decision.Decision.{Decision}
+use Rattle.rec_tools.specs.declared.decision.Decision.TheVariants.{Stay, Put}
+use Rattle.rec_tools.specs.declared.home.Which.TheVariants.{Base as TheFile, Journal as TheJournal}
+use Rattle.rec_tools.specs.Home.{Contents, Call, got, with_content, TellAll, Went}
+use Rattle.rec_tools.specs.Printouts.{Printout, Printed, PutsPrintout, WentOut}
+use Rattle.rec_tools.specs.Requests.{Asked, looking, listing, editing, moving, reads_of}
+use Rattle.rec_tools.specs.Outcomes.{Write, Outcome, printing, outcome_of, IsOutcome}
+use Rattle.rec_tools.specs.Silently.{DoesSilently}
+use Rattle.rec_tools.specs.Attempts.{Answer, gots, puts, IsFront, StopsReading, StopsWriting, IsAnswered, Does}
+use Rattle.rec_tools.proofs.CallLemmas.{one_call, went_on}
+use Rattle.rec_tools.proofs.AttemptLemmas.{ByCalls}
+
+-- Calls of the home, and what went out of the sink: for whatever contents the calls tell of, this was done.
+abbrev pub Attempted : {H S : Type 0} → (H → Call → H → Type 0) → (S → Option (List ℕ)) → (S → ℕ) → H → H → S → S → Asked → Answer → Type 0
+Attempted goes told failures old new out out_new asked answer =
+    (calls : List Call) × (p : Printed) × Went goes old calls new × WentOut told failures out out_new p
+    × ((c : Contents) × TellAll c calls) × ((c : Contents) → TellAll c calls → Does c asked answer calls p)
+
+-- nothing went out to a sink that failed so often
+abbrev pub silence : ℕ → Printed
+silence k = record { text = []; before = k; after = k }
+
+pub went_silently : {S : Type 0} (told : S → Option (List ℕ)) (failures : S → ℕ) (out : S) → WentOut told failures out out (silence (failures out))
+went_silently told failures out = (Appends-nil (told out), refl, refl)
+
+-- ---- the contents weren't read
+
+-- reads of the file, or of the file and the journal, tell of some contents
+stopped-tells_one : (calls : List Call) (fault : Fault) → StopsReading (TheFile ∷ []) calls fault → (c : Contents) × TellAll c calls
+stopped-tells_one [] fault stops = absurd stops
+stopped-tells_one (call ∷ []) fault (inl stops) = (record { file = []; journal = [] }, rw stops.0 (tt, tt))
+stopped-tells_one (call ∷ []) fault (inr (inl stops)) = (record { file = []; journal = [] }, rw stops.0 (tt, tt))
+stopped-tells_one (call ∷ []) fault (inr (inr stops)) = absurd stops.2
+stopped-tells_one (call ∷ more ∷ calls) fault (inl stops) = cc
+stopped-tells_one (call ∷ more ∷ calls) fault (inr (inl stops)) = cc
+stopped-tells_one (call ∷ more ∷ calls) fault (inr (inr stops)) = absurd stops.2
+
+-- the contents of which the first read tells
+abbrev file_alone : List ℕ → Contents
+file_alone bytes = record { file = bytes; journal = [] }
+
+stops_at_journal : (bytes : List ℕ) (calls : List Call) (fault : Fault) → StopsReading (TheJournal ∷ []) calls fault → TellAll (file_alone bytes) calls
+stops_at_journal bytes [] fault stops = absurd stops
+stops_at_journal bytes (call ∷ []) fault (inl stops) = rw stops.0 (tt, tt)
+stops_at_journal bytes (call ∷ []) fault (inr (inl stops)) = rw stops.0 (tt, tt)
+stops_at_journal bytes (call ∷ []) fault (inr (inr stops)) = absurd stops.2
+stops_at_journal bytes (call ∷ more ∷ calls) fault (inl stops) = cc
+stops_at_journal bytes (call ∷ more ∷ calls) fault (inr (inl stops)) = cc
+stops_at_journal bytes (call ∷ more ∷ calls) fault (inr (inr stops)) = absurd stops.2
+
+stopped-tells_both : (calls : List Call) (fault : Fault) → StopsReading (TheFile ∷ TheJournal ∷ []) calls fault → (c : Contents) × TellAll c calls
+stopped-tells_both [] fault stops = absurd stops
+stopped-tells_both (call ∷ calls) fault (inl stops) = (file_alone [], rw (stops.0, stops.1) (tt, tt))
+stopped-tells_both (call ∷ calls) fault (inr (inl stops)) = (file_alone [], rw (stops.0, stops.1) (tt, tt))
+stopped-tells_both (call ∷ calls) fault (inr (inr stops)) = (file_alone stops.0, rw stops.1 (refl, stops_at_journal stops.0 calls fault stops.2))
+
+stopped-tells : (asked : Asked) (calls : List Call) (fault : Fault) → StopsReading (reads_of asked) calls fault → (c : Contents) × TellAll c calls
+stopped-tells (looking IsText) calls fault stops = stopped-tells_one calls fault stops
+stopped-tells listing calls fault stops = stopped-tells_both calls fault stops
+stopped-tells (editing tool IsEdit) calls fault stops = stopped-tells_both calls fault stops
+stopped-tells (moving direction) calls fault stops = stopped-tells_both calls fault stops
+
+module _ {H : Type 0} (goes : H → Call → H → Type 0) where
+  pub silently-unread : (old new : H) (asked : Asked) (fault : Fault) → ByCalls goes old new (λ calls. StopsReading (reads_of asked) calls fault)
+      → DoesSilently goes old new asked (Err fault)
+  silently-unread old new asked fault read =
+      (read.0, read.1, stopped-tells asked read.0 fault read.2, λ c p tells silent. inl (record { fault = fault; stops = read.2; answered = refl; silent = silent.0 }))
+
+module _ {H S : Type 0} (goes : H → Call → H → Type 0) (told : S → Option (List ℕ)) (failures : S → ℕ) where
+  -- the sink was left alone
+  pub attempted-silently : (old new : H) (out : S) (asked : Asked) (answer : Answer) → DoesSilently goes old new asked answer
+      → Attempted goes told failures old new out out asked answer
+  attempted-silently old new out asked answer done = (
+    done.0,
+    silence (failures out),
+    done.1,
+    went_silently told failures out,
+    done.2,
+    λ c tells. done.3 c (silence (failures out)) tells (refl, refl),
+  )
+
+  pub attempted-unread : (old new : H) (out : S) (asked : Asked) (fault : Fault) → ByCalls goes old new (λ calls. StopsReading (reads_of asked) calls fault)
+      → Attempted goes told failures old new out out asked (Err fault)
+  attempted-unread old new out asked fault read = attempted-silently old new out asked (Err fault) (silently-unread goes old new asked fault read)
+
+-- ---- a request that prints
+
+-- on contents with the file that was read
+abbrev WasRead : List ℕ → (Contents → Type 0) → Type 0
+WasRead bytes P = (c : Contents) → bytes ≡ c.file → P c
+
+file_got : (bytes : List ℕ) (c : Contents) → bytes ≡ c.file → ◌≡◌ {A = List Call} (got TheFile bytes ∷ []) (got TheFile c.file ∷ [])
+file_got bytes c e = ap (λ b. got TheFile b ∷ []) e
+
+front_of : (IsText : List ℕ → Result Printout Fault → Type 0) (bytes : List ℕ) (x : Printout) (n : ℕ) (c : Contents) → bytes ≡ c.file → IsText bytes (Ok x)
+    → IsFront c (looking IsText) (take n x.text)
+front_of IsText bytes x n c e is = (printing x.text x.reply, n, (x, subst (λ b. IsText b (Ok x)) e is, refl), refl)
+
+-- what went out of a printing call on the bytes that were read, and what was done
+printed_of : (IsText : List ℕ → Result Printout Fault → Type 0) (bytes : List ℕ) (old new : Option (List ℕ)) (n m : ℕ) (answer : Answer)
+    → PutsPrintout (IsText bytes) old new answer → KeptAtSuccess n m answer → RisenAtStoreFailed n m answer
+    → (text : List ℕ) × Appends old new text
+    × WasRead bytes (λ c. Does c (looking IsText) answer (got TheFile bytes ∷ []) (record { text = text; before = n; after = m }))
+printed_of IsText bytes old new n m (Ok reply) put kept risen = (
+  put.0,
+  put.2,
+  λ c e. inr (inr (inr (inr (record {
+    o = printing put.0 reply;
+    outcome = (record { text = put.0; reply = reply }, subst (λ b. IsText b (Ok (record { text = put.0; reply = reply }))) e put.1, refl);
+    behind = [];
+    calls_are = file_got bytes c e;
+    answered = inl (refl, refl);
+    printed = refl;
+    kept = kept;
+  })))),
+)
+printed_of IsText bytes old new n m (Err OutOfMemory) (inl same) kept risen =
+    ([], Appends-kept old old new [] (Appends-nil old) same, λ c e. inr (inl (record { read = file_got bytes c e; answered = refl; printed = inl refl })))
+printed_of IsText bytes old new n m (Err OutOfMemory) (inr front) kept risen = (
+  take front.2.0 front.0.text,
+  front.2.2,
+  λ c e. inr (inl (record { read = file_got bytes c e; answered = refl; printed = inr (front_of IsText bytes front.0 front.2.0 c e front.1) })),
+)
+printed_of IsText bytes old new n m (Err StoreFailed) front kept risen = (
+  take front.2.0 front.0.text,
+  front.2.2,
+  λ c e. inr (inr (inr (inl (record {
+    read = file_got bytes c e;
+    answered = refl;
+    printed = front_of IsText bytes front.0 front.2.0 c e front.1;
+    risen = risen refl;
+  })))),
+)
+printed_of IsText bytes old new n m (Err fault) put kept risen = (
+  [],
+  Appends-kept old old new [] (Appends-nil old) put.1,
+  λ c e. inr (inr (inl (record { read = file_got bytes c e; fault = fault; outcome = subst (λ b. IsText b (Err fault)) e put.0; answered = refl; silent = refl }))),
+)
+
+-- ---- a decision on both contents
+
+-- the reads of both contents tell of these alone
+both_got : (file journal : List ℕ) (later : List Call) (c : Contents) → TellAll c (got TheFile file ∷ got TheJournal journal ∷ later)
+    → record { file = file; journal = journal } ≡ c
+both_got file journal later c tells =
+    ap (λ f. record { file = f; journal = journal }) tells.0 ∙ ap (λ j. record { file = c.file; journal = j }) tells.1.0
+
+-- both contents are read for it
+abbrev pub ReadsBoth : Asked → Type 0
+ReadsBoth asked = reads_of asked ≡ TheFile ∷ TheJournal ∷ []
+
+does-refused : (asked : Asked) (c : Contents) (fault : Fault) (p : Printed) → ReadsBoth asked → IsMemoryOr fault (IsOutcome c asked (Err fault)) → p.text ≡ []
+    → Does c asked (Err fault) (got TheFile c.file ∷ got TheJournal c.journal ∷ []) p
+does-refused asked c OutOfMemory p both found silent =
+    inr (inl (record { read = sym (ap (gots c) both); answered = refl; printed = inl silent }))
+does-refused asked c fault p both found silent =
+    inr (inr (inl (record { read = sym (ap (gots c) both); fault = fault; outcome = found; answered = refl; silent = silent })))
+
+does-carried : (asked : Asked) (c : Contents) (o : Outcome) (answer : Answer) (later : List Call) (p : Printed) → ReadsBoth asked → IsOutcome c asked (Ok o)
+    → IsAnswered o answer later → p.text ≡ o.text → p.after ≡ p.before → Does c asked answer (got TheFile c.file ∷ got TheJournal c.journal ∷ later) p
+does-carried asked c o answer later p both found answered printed kept = inr (inr (inr (inr (record {
+  o = o;
+  outcome = found;
+  behind = later;
+  calls_are = ap (λ whiches. gots c whiches ++ later) (sym both);
+  answered = answered;
+  printed = printed;
+  kept = kept;
+}))))
+
+outcome_of-silent : (decision : Decision) → (outcome_of decision).text ≡ []
+outcome_of-silent (Stay reply) = refl
+outcome_of-silent (Put plan reply) = refl
+
+-- what holds of the contents that were read holds of those of which the reads tell
+of_told : (file journal : List ℕ) (later : List Call) (P : Contents → List Call → Type 0)
+    → P (record { file = file; journal = journal }) (got TheFile file ∷ got TheJournal journal ∷ later)
+    → (c : Contents) → TellAll c (got TheFile file ∷ got TheJournal journal ∷ later) → P c (got TheFile file ∷ got TheJournal journal ∷ later)
+of_told file journal later P h c tells = subst (λ d. P d (got TheFile file ∷ got TheJournal journal ∷ later)) (both_got file journal later c tells) h
+
+-- writes read nothing
+TellAll-puts : (c : Contents) (writes : List Write) → TellAll c (puts writes)
+TellAll-puts c [] = tt
+TellAll-puts c (w ∷ writes) = (tt, TellAll-puts (with_content c w.which w.bytes) writes)
+
+TellAll-stopped : (c : Contents) (writes : List Write) (calls : List Call) → StopsWriting writes calls → TellAll c calls
+TellAll-stopped c [] [] stops = tt
+TellAll-stopped c [] (call ∷ calls) stops = absurd stops
+TellAll-stopped c (w ∷ writes) [] stops = tt
+TellAll-stopped c (w ∷ writes) (call ∷ calls) (inl (inl old, none)) = rw (old, none) (tt, tt)
+TellAll-stopped c (w ∷ writes) (call ∷ calls) (inl (inr new, none)) = rw (new, none) (tt, tt)
+TellAll-stopped c (w ∷ writes) (call ∷ calls) (inr (put, stops)) = rw put (tt, TellAll-stopped (with_content c w.which w.bytes) writes calls stops)
+
+TellAll-answered : (c : Contents) (o : Outcome) (answer : Answer) (calls : List Call) → IsAnswered o answer calls → TellAll c calls
+TellAll-answered c o answer calls (inl done) = rw done.1 (TellAll-puts c o.writes)
+TellAll-answered c o answer calls (inr stopped) = TellAll-stopped c o.writes calls stopped.1
+
+module _ {H S : Type 0} (goes : H → Call → H → Type 0) (told : S → Option (List ℕ)) (failures : S → ℕ) where
+  pub attempted-printed : (old new : H) (out out_new : S) (IsText : List ℕ → Result Printout Fault → Type 0) (bytes file : List ℕ) (answer : Answer)
+      → goes old (got TheFile bytes) new → file ≡ bytes → PutsPrintout (IsText file) (told out) (told out_new) answer
+      → KeptAtSuccess (failures out) (failures out_new) answer → RisenAtStoreFailed (failures out) (failures out_new) answer
+      → Attempted goes told failures old new out out_new (looking IsText) answer
+  attempted-printed old new out out_new IsText bytes file answer step same put kept risen =
+      let on : PutsPrintout (IsText bytes) (told out) (told out_new) answer = subst (λ f. PutsPrintout (IsText f) (told out) (told out_new) answer) same put in
+      let done = printed_of IsText bytes (told out) (told out_new) (failures out) (failures out_new) answer on kept risen in (
+        got TheFile bytes ∷ [],
+        record { text = done.0; before = failures out; after = failures out_new },
+        one_call goes old new _ step,
+        (done.1, refl, refl),
+        (file_alone bytes, (refl, tt)),
+        λ c tells. done.2 c tells.0,
+      )
+
+module _ {H : Type 0} (goes : H → Call → H → Type 0) where
+  -- a decision on the bytes that were read was refused
+  pub silently-refused : (old new : H) (asked : Asked) (file journal f j : List ℕ) (fault : Fault) → ReadsBoth asked
+      → ByCalls goes old new (λ calls. calls ≡ got TheFile file ∷ got TheJournal journal ∷ []) → f ≡ file → j ≡ journal
+      → IsMemoryOr fault (IsOutcome (record { file = f; journal = j }) asked (Err fault))
+      → DoesSilently goes old new asked (Err fault)
+  silently-refused old new asked file journal f j fault both read e h found =
+      let on : IsMemoryOr fault (IsOutcome (record { file = file; journal = journal }) asked (Err fault)) =
+      subst (λ b. IsMemoryOr fault (IsOutcome (record { file = file; journal = b }) asked (Err fault))) h
+      (subst (λ b. IsMemoryOr fault (IsOutcome (record { file = b; journal = j }) asked (Err fault))) e found) in (
+        got TheFile file ∷ got TheJournal journal ∷ [],
+        subst (λ calls. Went goes old calls new) read.2 read.1,
+        (record { file = file; journal = journal }, (refl, (refl, tt))),
+        λ c p tells silent. of_told file journal [] (λ c calls. Does c asked (Err fault) calls p)
+            (does-refused asked (record { file = file; journal = journal }) fault p both on silent.0) c tells,
+      )
+
+  -- a decision on the bytes that were read was carried out
+  pub silently-carried : (old mid new : H) (asked : Asked) (file journal f j : List ℕ) (decision : Decision) (answer : Answer) → ReadsBoth asked
+      → ByCalls goes old mid (λ calls. calls ≡ got TheFile file ∷ got TheJournal journal ∷ []) → f ≡ file → j ≡ journal
+      → IsOutcome (record { file = f; journal = j }) asked (Ok (outcome_of decision))
+      → ByCalls goes mid new (IsAnswered (outcome_of decision) answer)
+      → DoesSilently goes old new asked answer
+  silently-carried old mid new asked file journal f j decision answer both read e h found carried =
+      let o = outcome_of decision in
+      let on : IsOutcome (record { file = file; journal = journal }) asked (Ok o) =
+      subst (λ b. IsOutcome (record { file = file; journal = b }) asked (Ok o)) h
+      (subst (λ b. IsOutcome (record { file = b; journal = j }) asked (Ok o)) e found) in
+      let went : Went goes old (got TheFile file ∷ got TheJournal journal ∷ []) mid = subst (λ calls. Went goes old calls mid) read.2 read.1 in (
+        got TheFile file ∷ got TheJournal journal ∷ carried.0,
+        went_on goes old mid new (got TheFile file ∷ got TheJournal journal ∷ []) carried.0 went carried.1,
+        (record { file = file; journal = journal }, (refl, (refl, TellAll-answered _ o answer carried.0 carried.2))),
+        λ c p tells silent. of_told file journal carried.0 (λ c calls. Does c asked answer calls p)
+            (does-carried asked (record { file = file; journal = journal }) o answer carried.0 p both on carried.2 (silent.0 ∙ sym (outcome_of-silent decision)) silent.1) c tells,
+      )

@@ -1,0 +1,110 @@
+-- From what requests do to what the machine does.
+use Rattle.std.proofs.Common.{◌≡◌, inl, inr, ℕ, List, [], ◌∷◌, ◌++◌, length, take, Ok, Err, ap, sym, subst, refl, ◌∙◌, arith}
+use Rattle.std.proofs.lemmas.List.{take_all}
+use Rattle.rec_tools.specs.declared.request.Request.{Request}
+use Rattle.rec_tools.specs.Home.{Contents, Call, left_by_all, HasFailed}
+use Rattle.rec_tools.specs.Printouts.{Printed}
+use Rattle.rec_tools.specs.Requests.{Asked, asked_of, reads_of}
+use Rattle.rec_tools.specs.Outcomes.{Outcome, IsOutcome}
+use Rattle.rec_tools.specs.Attempts.{Answer, gots, puts, StopsWriting, IsAnswered, IsFront, IsUnread, RanShort, IsRefused, StopsPrinting, IsCarriedOut, Does, DoesAll}
+use Rattle.rec_tools.specs.Machine.{State, IsStep, IsMachineFront, IsOldOrNext, IsAnswer, Stands}
+use Rattle.rec_tools.specs.Guarantee.{RunsAsMachine, StepsAsMachine}
+use Rattle.rec_tools.proofs.CallLemmas.{HasFailed-front, HasFailed-rest}
+use Rattle.rec_tools.proofs.RunLemmas.{left-gots, stopped-failed, left-stopped, cut-failed, left-carried}
+use Rattle.rec_tools.proofs.StepLemmas.{outcomes_are_steps}
+
+-- ---- one request
+
+-- Where a write of these calls fails, the contents stand for the state as it was or for the machine's next. Nothing is asked
+-- where no call failed; a law of stops gives it elsewhere.
+abbrev pub Stops : Contents → State → Asked → List Call → Type 0
+Stops c s asked calls = (o : Outcome) (cut : List Call) → IsOutcome c asked (Ok o) → calls ≡ gots c (reads_of asked) ++ cut → StopsWriting o.writes cut
+    → (t : State) × IsOldOrNext s asked t × Stands (left_by_all c cut) t
+
+pub no_stops : (c : Contents) (s : State) (asked : Asked) (calls : List Call) → (HasFailed calls → ⊥) → Stops c s asked calls
+no_stops c s asked calls held o cut is e stops =
+    absurd (held (subst HasFailed (sym e) (HasFailed-rest (gots c (reads_of asked)) cut (cut-failed o.writes cut stops))))
+
+-- the machine's next state after what a request did
+abbrev pub Steps : Contents → State → Asked → Answer → List Call → Printed → Type 0
+Steps c s asked answer calls p = (t : State) × IsAnswer s asked answer calls p t × Stands (left_by_all c calls) t
+
+module _ (c : Contents) (s : State) (asked : Asked) (stands : Stands c s) where
+  -- a front of what the outcome prints is one of what the machine prints
+  front-machine : (printed : List ℕ) → IsFront c asked printed → IsMachineFront s asked printed
+  front-machine printed front =
+      let step : StepsAsMachine c s asked (Ok front.0) = outcomes_are_steps c s asked (Ok front.0) stands front.2 in
+      inr (front.0.reply, front.0.text, step.0, front.1, step.1, front.3)
+
+  stands-same : (calls : List Call) → left_by_all c calls ≡ c → Stands (left_by_all c calls) s
+  stands-same calls same = subst (λ d. Stands d s) (sym same) stands
+
+  unread-steps : (answer : Answer) (calls : List Call) (p : Printed) → IsUnread c asked answer calls p → Steps c s asked answer calls p
+  unread-steps answer calls p done =
+      let same = left-stopped c (reads_of asked) calls done.fault done.stops in
+      elim (stopped-failed (reads_of asked) calls done.fault done.stops) [
+        | inl short ↦ (s, inr (inl (inl (done.answered ∙ ap Err short, refl), inl done.silent)), stands-same calls same)
+        | inr failed ↦ (s, inr (inl (inr (inr (done.answered ∙ ap Err failed.0, failed.1, inl refl)), inl done.silent)), stands-same calls same)
+      ]
+
+  read-same : (calls : List Call) → calls ≡ gots c (reads_of asked) → left_by_all c calls ≡ c
+  read-same calls read = ap (left_by_all c) read ∙ left-gots c (reads_of asked)
+
+  short-steps : (answer : Answer) (calls : List Call) (p : Printed) → RanShort c asked answer calls p → Steps c s asked answer calls p
+  short-steps answer calls p done =
+      let front : IsMachineFront s asked p.text = elim done.printed [ inl none ↦ inl none | inr some ↦ front-machine p.text some ] in
+      (s, inr (inl (inl (done.answered, refl), front)), stands-same calls (read-same calls done.read))
+
+  refused-steps : (answer : Answer) (calls : List Call) (p : Printed) → IsRefused c asked answer calls p → Steps c s asked answer calls p
+  refused-steps answer calls p done =
+      let step : StepsAsMachine c s asked (Err done.fault) = outcomes_are_steps c s asked (Err done.fault) stands done.outcome in
+      let same = stands-same calls (read-same calls done.read) in
+      elim step [
+        | inl is ↦ (s, inl (subst (λ a. IsStep s asked a p.text s) (sym done.answered) (subst (λ text. IsStep s asked (Err done.fault) text s) (sym done.silent) is)), same)
+        | inr clash ↦ (s, inr (inr (done.answered ∙ ap Err clash.0, refl, done.silent, clash.1)), same)
+      ]
+
+  stopped-steps : (answer : Answer) (calls : List Call) (p : Printed) → StopsPrinting c asked answer calls p → Steps c s asked answer calls p
+  stopped-steps answer calls p done =
+      (s, inr (inl (inr (inl (done.answered, done.risen, refl)), front-machine p.text done.printed)), stands-same calls (read-same calls done.read))
+
+  carried-steps : (answer : Answer) (calls : List Call) (p : Printed) → Stops c s asked calls → (done : IsCarriedOut c asked answer calls p)
+      → IsAnswered done.o answer done.behind → Steps c s asked answer calls p
+  carried-steps answer calls p stops done (inl put) =
+      let step : StepsAsMachine c s asked (Ok done.o) = outcomes_are_steps c s asked (Ok done.o) stands done.outcome in
+      let left : left_by_all c calls ≡ left_by_all c (puts done.o.writes) = left-carried c asked calls p done.behind done.calls_are ∙ ap (left_by_all c) put.1 in (
+        step.0,
+        inl (subst (λ a. IsStep s asked a p.text step.0) (sym put.0) (subst (λ text. IsStep s asked (Ok done.o.reply) text step.0) (sym done.printed) step.1)),
+        subst (λ d. Stands d step.0) (sym left) step.2,
+      )
+  carried-steps answer calls p stops done (inr stopped) =
+      let step : StepsAsMachine c s asked (Ok done.o) = outcomes_are_steps c s asked (Ok done.o) stands done.outcome in
+      let next = stops done.o done.behind done.outcome done.calls_are stopped.1 in
+      let failed : HasFailed calls =
+      subst HasFailed (sym done.calls_are) (HasFailed-rest (gots c (reads_of asked)) done.behind (cut-failed done.o.writes done.behind stopped.1)) in
+      let whole : p.text ≡ take (length done.o.text) done.o.text = done.printed ∙ sym (take_all (length done.o.text) done.o.text (omega arith)) in (
+        next.0,
+        inr (inl (inr (inr (stopped.0, failed, next.1)), inr (done.o.reply, done.o.text, step.0, length done.o.text, step.1, whole))),
+        subst (λ d. Stands d next.0) (sym (left-carried c asked calls p done.behind done.calls_are)) next.2,
+      )
+
+  pub does-steps : (answer : Answer) (calls : List Call) (p : Printed) → Stops c s asked calls → Does c asked answer calls p → Steps c s asked answer calls p
+  does-steps answer calls p stops (inl done) = unread-steps answer calls p done
+  does-steps answer calls p stops (inr (inl done)) = short-steps answer calls p done
+  does-steps answer calls p stops (inr (inr (inl done))) = refused-steps answer calls p done
+  does-steps answer calls p stops (inr (inr (inr (inl done)))) = stopped-steps answer calls p done
+  does-steps answer calls p stops (inr (inr (inr (inr done)))) = carried-steps answer calls p stops done done.answered
+
+-- ---- many requests
+
+pub does_all-runs : (c : Contents) (s : State) (requests : List Request) (answers : List Answer) (calls : List Call) (p : Printed)
+    → Stands c s → (HasFailed calls → ⊥) → DoesAll c requests answers calls p → (t : State) × RunsAsMachine c s requests answers calls p t
+does_all-runs c s [] [] calls p stands held done = (s, (done.0, done.1, refl))
+does_all-runs c s [] (answer ∷ answers) calls p stands held done = absurd done
+does_all-runs c s (request ∷ requests) [] calls p stands held done = absurd done
+does_all-runs c s (request ∷ requests) (answer ∷ answers) calls p stands held done =
+    let held_now : HasFailed done.0 → ⊥ = λ failed. held (subst HasFailed (sym done.4) (HasFailed-front done.0 done.1 failed)) in
+    let held_later : HasFailed done.1 → ⊥ = λ failed. held (subst HasFailed (sym done.4) (HasFailed-rest done.0 done.1 failed)) in
+    let step = does-steps c s (asked_of request) stands answer done.0 done.2 (no_stops c s (asked_of request) done.0 held_now) done.6 in
+    let rest = does_all-runs (left_by_all c done.0) step.0 requests answers done.1 done.3 step.2 held_later done.7 in
+    (rest.0, (done.0, done.1, done.2, done.3, step.0, done.4, done.5, step.1, step.2, rest.1))

@@ -1,0 +1,92 @@
+-- Contents stand for one state at most, and a file and an empty journal stand for the first.
+use Rattle.std.proofs.Common.{arith, ◌≡◌, ◌≢◌, inr, ℕ, false, List, [], ◌∷◌, Result, Ok, sym, ap, ap₂, subst, refl, ◌∙◌}
+use Rattle.rec_text.specs.declared.fault.Fault.{Fault}
+use Rattle.rec_journal.specs.declared.event.Revision.{Revision}
+use Rattle.rec_journal.specs.declared.patch.Direction.{Direction}
+use Rattle.rec_journal.specs.declared.patch.Direction.TheVariants.{Forward, Backward}
+use Rattle.rec_journal.specs.declared.event.Tool.{Tool}
+use Rattle.rec_journal.specs.History.{Opened, Opens, open_at, start, newest_header}
+use Rattle.rec_journal.proofs.Openings.{one_opening}
+use Rattle.rec_journal.proofs.StepLemmas.{edits_lead_to_one_text}
+use Rattle.rec_tools.specs.Home.{Contents}
+use Rattle.rec_tools.specs.Laws.{OneState, FirstStands}
+use Rattle.rec_tools.specs.Machine.{Entry, State, AreEntries, Stands}
+
+-- ---- contents that stand for a state, by a history that is known
+
+-- the parts of `Stands`, where the opening is known
+pub record StandsBy (o : Opened) (c : Contents) (s : State) : Type 0 where
+  pub settled : o.drifted ≡ false
+  pub present : s.present ≡ c.file
+  pub past : AreEntries Backward o.past s.past c.file
+  pub future : AreEntries Forward o.future s.future c.file
+  pub next : s.next ≡ o.next
+
+same_opened : (one other : Opened) → ◌≡◌ {A = Result Opened Fault} (Ok one) (Ok other) → one ≡ other
+same_opened one other e = cc
+
+-- contents open in one way, so they stand by the history that they open with
+pub stands_by : (c : Contents) (s : State) (o : Opened) → Stands c s → Opens c.file c.journal o → StandsBy o c s
+stands_by c s o stands opens =
+    let same = same_opened stands.opened o (one_opening c.file c.journal (Ok stands.opened) (Ok o) stands.opens opens) in
+    subst (λ x. StandsBy x c s) same (record {
+      settled = stands.settled;
+      present = stands.present;
+      past = stands.past;
+      future = stands.future;
+      next = stands.next;
+    })
+
+-- ---- one state
+
+same_entry : (one other : Entry) → one.number ≡ other.number → one.tool ≡ other.tool → one.text ≡ other.text → one ≡ other
+same_entry one other number tool text =
+    let made : ℕ → Tool → List ℕ → Entry = λ n t x. record { number = n; tool = t; text = x } in
+    ap (λ n. made n one.tool one.text) number ∙ ap (λ t. made other.number t one.text) tool ∙ ap (made other.number other.tool) text
+
+one_list_of_entries : (direction : Direction) (es : List Revision) (one other : List Entry) (here : List ℕ)
+    → AreEntries direction es one here → AreEntries direction es other here → one ≡ other
+one_list_of_entries direction [] [] [] here are are_too = refl
+one_list_of_entries direction [] [] (y ∷ ys) here are are_too = absurd are_too
+one_list_of_entries direction [] (x ∷ xs) other here are are_too = absurd are
+one_list_of_entries direction (e ∷ es) [] other here are are_too = absurd are
+one_list_of_entries direction (e ∷ es) (x ∷ xs) [] here are are_too = absurd are_too
+one_list_of_entries direction (e ∷ es) (x ∷ xs) (y ∷ ys) here are are_too =
+    let text = edits_lead_to_one_text direction e here x.text y.text are.2 are_too.2 in
+    let behind = subst (λ t. AreEntries direction es ys t) (sym text) are_too.3 in
+    ap₂ (λ z zs. z ∷ zs) (same_entry x y (sym are.0 ∙ are_too.0) (sym are.1 ∙ are_too.1) text)
+    (one_list_of_entries direction es xs ys x.text are.3 behind)
+
+same_state : (one other : State) → one.past ≡ other.past → one.present ≡ other.present → one.future ≡ other.future → one.next ≡ other.next
+    → one ≡ other
+same_state one other past present future next =
+    let made : List Entry → List ℕ → List Entry → ℕ → State = λ p t f n. record { past = p; present = t; future = f; next = n } in
+    ap (λ p. made p one.present one.future one.next) past
+    ∙ ap (λ t. made other.past t one.future one.next) present
+    ∙ ap (λ f. made other.past other.present f one.next) future
+    ∙ ap (made other.past other.present other.future) next
+
+pub one_state : OneState
+one_state c s t stands stands_too =
+    let by = stands_by c t stands.opened stands_too stands.opens in
+    same_state s t
+    (one_list_of_entries Backward stands.opened.past s.past t.past c.file stands.past by.past)
+    (stands.present ∙ sym by.present)
+    (one_list_of_entries Forward stands.opened.future s.future t.future c.file stands.future by.future)
+    (stands.next ∙ sym by.next)
+
+-- ---- the first state
+
+header_is_some : newest_header ≢ []
+header_is_some e = cc
+
+pub first_stands : FirstStands
+first_stands file = record {
+  opened = open_at _ start 0;
+  opens = inr (record { header = newest_header; is_header = (0, omega arith, refl); rest = newest_header; more = header_is_some; front = refl; is = refl });
+  settled = refl;
+  present = refl;
+  past = tt;
+  future = tt;
+  next = refl;
+}

@@ -1,0 +1,62 @@
+-- What is asked for is never refused because a store failed: that comes of calls alone.
+use Rattle.std.proofs.Common.{◌≡◌, inl, inr, Result, Err}
+use Rattle.rec_text.specs.declared.fault.Fault.{Fault}
+use Rattle.rec_text.specs.declared.fault.Fault.TheVariants.{StoreFailed}
+use Rattle.rec_journal.specs.declared.event.Tool.{Tool}
+use Rattle.rec_journal.specs.declared.event.Tool.TheVariants.{RecDel, RecSet}
+use Rattle.rec_journal.specs.History.{Opened, IsOpening}
+use Rattle.rec_edit.specs.declared.outcome.Edited.{Edited}
+use Rattle.rec_edit.specs.Task.{Wanted, Task, delete, comment_out, set}
+use Rattle.rec_tools.specs.declared.request.Request.{Request}
+use Rattle.rec_tools.specs.declared.request.Request.TheVariants.{Show, Info, Check, Delete, CommentOut, Set, Undo}
+use Rattle.rec_tools.specs.Home.{Contents}
+use Rattle.rec_tools.specs.Steps.{Then}
+use Rattle.rec_journal.specs.declared.patch.Direction.{Direction}
+use Rattle.rec_journal.specs.declared.patch.Direction.TheVariants.{Forward, Backward}
+use Rattle.rec_journal.specs.Plans.{nothing_there}
+use Rattle.rec_tools.specs.Asking.{Base, IsBase}
+use Rattle.rec_tools.specs.Edits.{IsEditBy}
+use Rattle.rec_select.specs.Info.{IsInfo}
+use Rattle.rec_tools.specs.Requests.{asked_of}
+use Rattle.rec_tools.specs.Outcomes.{IsEditOutcome, IsMove, IsOutcome}
+use Rattle.rec_tools.proofs.PutsLemmas.{no_store_then, no_store_base}
+use Rattle.rec_tools.proofs.ShowLemmas.{no_store_show}
+use Rattle.rec_tools.proofs.InformLemmas.{no_store_info}
+use Rattle.rec_tools.proofs.CheckLemmas.{no_store_report}
+use Rattle.rec_tools.proofs.EditLemmas.{no_store_edit_by}
+
+-- ---- edits
+
+no_store_edit : (o : Opened) (c : Contents) (tool : Tool) (edited : Edited) → IsEditOutcome o c tool edited (Err StoreFailed) → ⊥
+no_store_edit o c tool edited h = let e = h.1 in cc
+
+never_edits : (c : Contents) (tool : Tool) (IsEdit : Base → Result Edited Fault → Type 0) → ((base : Base) → IsEdit base (Err StoreFailed) → ⊥)
+    → Then (IsBase c.file) (λ base. Then (IsOpening c.file c.journal) (λ o. Then (IsEdit base) (λ edited. IsEditOutcome o c tool edited))) (Err StoreFailed) → ⊥
+never_edits c tool IsEdit never =
+    no_store_then (IsBase c.file) (λ base. Then (IsOpening c.file c.journal) (λ o. Then (IsEdit base) (λ edited. IsEditOutcome o c tool edited)))
+    (no_store_base c.file) (λ base. no_store_then (IsOpening c.file c.journal) (λ o. Then (IsEdit base) (λ edited. IsEditOutcome o c tool edited))
+    (λ h. h) (λ o. no_store_then (IsEdit base) (λ edited. IsEditOutcome o c tool edited) (never base) (λ edited. no_store_edit o c tool edited)))
+
+-- ---- moves
+
+no_store_there : (direction : Direction) → StoreFailed ≡ nothing_there direction → ⊥
+no_store_there Backward e = cc
+no_store_there Forward e = cc
+
+no_store_move : (direction : Direction) (o : Opened) (c : Contents) → IsMove direction o c (Err StoreFailed) → ⊥
+no_store_move direction o c (inl drifted) = let e = drifted.0 in cc
+no_store_move direction o c (inr none) = no_store_there direction none.0
+
+-- ---- requests
+
+pub never_store : (request : Request) (c : Contents) → IsOutcome c (asked_of request) (Err StoreFailed) → ⊥
+never_store (Show pick form collapse) c is = no_store_show c.file pick form collapse is
+never_store (Info kind form) c is =
+    no_store_then (IsBase c.file) (λ base. IsInfo base.pieces base.schema.sets kind form) (no_store_base c.file) (λ base. no_store_info base kind form) is
+never_store Check c is = no_store_report c.file is
+never_store (Delete pick force) c is = never_edits c RecDel (IsEditBy delete pick force) (no_store_edit_by delete (λ _. tt) pick force) is
+never_store (CommentOut pick force) c is = never_edits c RecDel (IsEditBy comment_out pick force) (no_store_edit_by comment_out (λ _. tt) pick force) is
+never_store (Set pick list action force) c is =
+    let task_for : Wanted → Task = λ wanted. set wanted list action in
+    never_edits c RecSet (IsEditBy task_for pick force) (no_store_edit_by task_for (λ _. tt) pick force) is
+never_store Undo c is = no_store_then (IsOpening c.file c.journal) (λ o. IsMove Backward o c) (λ h. h) (λ o. no_store_move Backward o c) is

@@ -1,0 +1,54 @@
+use Rattle.std.proofs.Common.{[]}
+use Rattle.rec_tools.proofs.AttemptLemmas.{refused_with, read-stopped}
+use Rattle.rec_tools.proofs.ExitLemmas.{attempted-unread, attempted-printed, attempted-silently}
+use Rattle.rec_tools.proofs.runner.attempt.Goals as goal
+
+-- ---- records are printed
+
+pub returns-in_err-file-in-Show-clause-attempts : goal.returns-in_err-file-in-Show-clause-attempts
+returns-in_err-file-in-Show-clause-attempts g c =
+    rw (refused_with _ _ c.from_residual.ensures.1, c.in-Show.is) (attempted-unread _ g.S.Sink.contents g.S.Sink.failure_count _ _ c.args.out.now _ _ (read-stopped _ _ _ _ [] _ c.in_err-file-in-Show.ensures.call c.in_err-file-in-Show.ensures.refusals))
+
+pub returns-in_ok-file-in-Show-clause-attempts : goal.returns-in_ok-file-in-Show-clause-attempts
+returns-in_ok-file-in-Show-clause-attempts g c =
+    rw c.in-Show.is (attempted-printed _ g.S.Sink.contents g.S.Sink.failure_count _ _ c.args.out.now c.show.new.out _ _ _ _ c.in_ok-file-in-Show.ensures.call c.as_slice.ensures c.show.ensures.printed c.show.ensures.kept c.show.ensures.store_failed)
+
+-- ---- record sets are printed
+
+pub returns-in_err-file-in-Info-clause-attempts : goal.returns-in_err-file-in-Info-clause-attempts
+returns-in_err-file-in-Info-clause-attempts g c =
+    rw (refused_with _ _ c.from_residual-in_err-file-in-Info.ensures.1, c.in-Info.is) (attempted-unread _ g.S.Sink.contents g.S.Sink.failure_count _ _ c.args.out.now _ _ (read-stopped _ _ _ _ [] _ c.in_err-file-in-Info.ensures.call c.in_err-file-in-Info.ensures.refusals))
+
+pub returns-in_ok-file-in-Info-clause-attempts : goal.returns-in_ok-file-in-Info-clause-attempts
+returns-in_ok-file-in-Info-clause-attempts g c =
+    rw c.in-Info.is (attempted-printed _ g.S.Sink.contents g.S.Sink.failure_count _ _ c.args.out.now c.inform.new.out _ _ _ _ c.in_ok-file-in-Info.ensures.call c.as_slice-in-Info.ensures c.inform.ensures.printed c.inform.ensures.kept c.inform.ensures.store_failed)
+
+-- ---- violations are reported
+
+pub returns-in_err-file-in-Check-clause-attempts : goal.returns-in_err-file-in-Check-clause-attempts
+returns-in_err-file-in-Check-clause-attempts g c =
+    rw (refused_with _ _ c.from_residual-in_err-file-in-Check.ensures.1, c.in-Check.is) (attempted-unread _ g.S.Sink.contents g.S.Sink.failure_count _ _ c.args.out.now _ _ (read-stopped _ _ _ _ [] _ c.in_err-file-in-Check.ensures.call c.in_err-file-in-Check.ensures.refusals))
+
+pub returns-in_ok-file-in-Check-clause-attempts : goal.returns-in_ok-file-in-Check-clause-attempts
+returns-in_ok-file-in-Check-clause-attempts g c =
+    rw c.in-Check.is (attempted-printed _ g.S.Sink.contents g.S.Sink.failure_count _ _ c.args.out.now c.check.new.out _ _ _ _ c.in_ok-file-in-Check.ensures.call c.as_slice-in-Check.ensures c.check.ensures.printed c.check.ensures.kept c.check.ensures.store_failed)
+
+-- ---- records are edited
+
+pub returns-in-Delete-clause-attempts : goal.returns-in-Delete-clause-attempts
+returns-in-Delete-clause-attempts g c =
+    rw c.in-Delete.is (attempted-silently _ g.S.Sink.contents g.S.Sink.failure_count _ _ c.args.out.now _ _ c.make_edit.ensures.attempts)
+
+pub returns-in-CommentOut-clause-attempts : goal.returns-in-CommentOut-clause-attempts
+returns-in-CommentOut-clause-attempts g c =
+    rw c.in-CommentOut.is (attempted-silently _ g.S.Sink.contents g.S.Sink.failure_count _ _ c.args.out.now _ _ c.make_edit-in-CommentOut.ensures.attempts)
+
+pub returns-in-Set-clause-attempts : goal.returns-in-Set-clause-attempts
+returns-in-Set-clause-attempts g c =
+    rw c.in-Set.is (attempted-silently _ g.S.Sink.contents g.S.Sink.failure_count _ _ c.args.out.now _ _ c.make_edit-in-Set.ensures.attempts)
+
+-- ---- the newest edit is taken back
+
+pub returns-in-Undo-clause-attempts : goal.returns-in-Undo-clause-attempts
+returns-in-Undo-clause-attempts g c =
+    rw c.in-Undo.is (attempted-silently _ g.S.Sink.contents g.S.Sink.failure_count _ _ c.args.out.now _ _ c.take_back.ensures.attempts)

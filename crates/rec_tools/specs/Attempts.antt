@@ -1,0 +1,124 @@
+-- What requests do, call by call, whether the home fails or not.
+use Rattle.std.specs.Prelude.{◌≡◌, ◌⊎◌, ℕ, List, [], ◌∷◌, ◌++◌, map, take, Result, Ok, Err}
+use Rattle.rec_text.specs.declared.fault.Fault.{Fault}
+use Rattle.rec_text.specs.declared.fault.Fault.TheVariants.{OutOfMemory, StoreFailed}
+use Rattle.rec_text.specs.Sink.{HasRisen}
+use Rattle.rec_tools.specs.declared.home.Which.{Which}
+use Rattle.rec_tools.specs.declared.home.Which.TheVariants.{Base as TheFile, Journal as TheJournal}
+use Rattle.rec_tools.specs.declared.request.Request.{Request}
+use Rattle.rec_tools.specs.declared.request.Reply.{Reply}
+use Rattle.rec_tools.specs.Home.{Contents, content_of, Call, got, lacked, unread, was_put, left_old, left_new, left_by_all}
+use Rattle.rec_tools.specs.Printouts.{Printed, IsBoth, IsSilence}
+use Rattle.rec_tools.specs.Requests.{Asked, asked_of, reads_of}
+use Rattle.rec_tools.specs.Outcomes.{Write, Outcome, IsOutcome}
+
+abbrev pub Answer : Type 0
+Answer = Result Reply Fault
+
+-- ---- calls
+
+-- these contents were read, in this order
+abbrev pub gots : Contents → List Which → List Call
+gots c whiches = map (λ which. got which (content_of c which)) whiches
+
+-- these were written, in this order
+abbrev pub puts : List Write → List Call
+puts writes = map (λ w. was_put w.which w.bytes) writes
+
+-- the contents after writes
+abbrev pub written : Contents → List Write → Contents
+written c writes = left_by_all c (puts writes)
+
+-- one of the reads found no memory or failed, and none came after it
+abbrev pub StopsReading : List Which → List Call → Fault → Type 0
+StopsReading [] [] fault = ⊥
+StopsReading [] (call ∷ calls) fault = ⊥
+StopsReading (which ∷ rest) [] fault = ⊥
+StopsReading (which ∷ rest) (call ∷ calls) fault =
+    ((call ≡ lacked which) × (calls ≡ []) × (fault ≡ OutOfMemory))
+    ⊎ (((call ≡ unread which) × (calls ≡ []) × (fault ≡ StoreFailed))
+    ⊎ ((bytes : List ℕ) × (call ≡ got which bytes) × StopsReading rest calls fault))
+
+-- one of the writes failed, and none came after it
+abbrev pub StopsWriting : List Write → List Call → Type 0
+StopsWriting [] [] = ⊥
+StopsWriting [] (call ∷ calls) = ⊥
+StopsWriting (w ∷ rest) [] = ⊥
+StopsWriting (w ∷ rest) (call ∷ calls) =
+    (((call ≡ left_old w.which w.bytes) ⊎ (call ≡ left_new w.which w.bytes)) × (calls ≡ []))
+    ⊎ ((call ≡ was_put w.which w.bytes) × StopsWriting rest calls)
+
+-- both contents were read, or a read found no memory or failed
+abbrev pub AreRead : Result (List ℕ × List ℕ) Fault → List Call → Type 0
+AreRead (Ok pair) calls = calls ≡ got TheFile pair.0 ∷ got TheJournal pair.1 ∷ []
+AreRead (Err fault) calls = StopsReading (TheFile ∷ TheJournal ∷ []) calls fault
+
+-- all writes were made, or one of them failed
+abbrev pub AreWritten : {X : Type 0} → List Write → Result X Fault → List Call → Type 0
+AreWritten writes (Ok _) calls = calls ≡ puts writes
+AreWritten writes (Err fault) calls = (fault ≡ StoreFailed) × StopsWriting writes calls
+
+-- the writes of an outcome were made, and its reply is the answer; or one of them failed
+abbrev pub IsAnswered : Outcome → Answer → List Call → Type 0
+IsAnswered o answer calls =
+    ((answer ≡ Ok o.reply) × (calls ≡ puts o.writes)) ⊎ ((answer ≡ Err StoreFailed) × StopsWriting o.writes calls)
+
+-- ---- one request
+
+-- a front of the text that is printed
+abbrev pub IsFront : Contents → Asked → List ℕ → Type 0
+IsFront c asked printed = (o : Outcome) × (n : ℕ) × IsOutcome c asked (Ok o) × (printed ≡ take n o.text)
+
+-- What was asked for on the contents is answered so, by these calls, and this went out.
+module _ (c : Contents) (asked : Asked) (answer : Answer) (calls : List Call) (p : Printed) where
+  -- the contents weren't read
+  pub record IsUnread : Type 0 where
+    pub fault : Fault
+    pub stops : StopsReading (reads_of asked) calls fault
+    pub answered : answer ≡ Err fault
+    pub silent : p.text ≡ []
+
+  -- memory ran out after the reads, before anything was written
+  pub record RanShort : Type 0 where
+    pub read : calls ≡ gots c (reads_of asked)
+    pub answered : answer ≡ Err OutOfMemory
+    pub printed : (p.text ≡ []) ⊎ IsFront c asked p.text
+
+  -- it was refused
+  pub record IsRefused : Type 0 where
+    pub read : calls ≡ gots c (reads_of asked)
+    pub fault : Fault
+    pub outcome : IsOutcome c asked (Err fault)
+    pub answered : answer ≡ Err fault
+    pub silent : p.text ≡ []
+
+  -- the sink failed, before anything was written
+  pub record StopsPrinting : Type 0 where
+    pub read : calls ≡ gots c (reads_of asked)
+    pub answered : answer ≡ Err StoreFailed
+    pub printed : IsFront c asked p.text
+    pub risen : HasRisen p.before p.after
+
+  -- it was done, or a write failed; the sink didn't fail
+  pub record IsCarriedOut : Type 0 where
+    pub o : Outcome
+    pub outcome : IsOutcome c asked (Ok o)
+    pub behind : List Call
+    pub calls_are : calls ≡ gots c (reads_of asked) ++ behind
+    pub answered : IsAnswered o answer behind
+    pub printed : p.text ≡ o.text
+    pub kept : p.after ≡ p.before
+
+  abbrev pub Does : Type 0
+  Does = IsUnread ⊎ (RanShort ⊎ (IsRefused ⊎ (StopsPrinting ⊎ IsCarriedOut)))
+
+-- ---- many requests
+
+-- One answer for each request, each request going on from the contents that the calls before it left; what is printed is
+-- what each of them prints, one after another.
+abbrev pub DoesAll : Contents → List Request → List Answer → List Call → Printed → Type 0
+DoesAll c [] [] calls p = (calls ≡ []) × IsSilence p
+DoesAll c [] (answer ∷ answers) calls p = ⊥
+DoesAll c (request ∷ requests) [] calls p = ⊥
+DoesAll c (request ∷ requests) (answer ∷ answers) calls p = (now later : List Call) × (first rest : Printed) × (calls ≡ now ++ later)
+    × IsBoth p first rest × Does c (asked_of request) answer now first × DoesAll (left_by_all c now) requests answers later rest

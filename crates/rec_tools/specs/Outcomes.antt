@@ -1,0 +1,136 @@
+-- What a request comes to on any two contents: its refusals in their order, or what it prints, what it writes, and its reply.
+use Rattle.std.specs.Prelude.{◌≡◌, ◌≢◌, ◌⊎◌, ℕ, false, List, [], ◌∷◌, Result, Ok, Err}
+use Rattle.rec_text.specs.declared.fault.Fault.{Fault}
+use Rattle.rec_text.specs.declared.fault.Fault.TheVariants.{BadPattern, DigestClash}
+use Rattle.rec_journal.specs.declared.patch.Direction.{Direction}
+use Rattle.rec_journal.specs.declared.patch.Direction.TheVariants.{Forward, Backward}
+use Rattle.rec_journal.specs.declared.event.Event.TheVariants.{Moved}
+use Rattle.rec_journal.specs.declared.event.Revision.{Revision}
+use Rattle.rec_journal.specs.declared.event.Tool.{Tool}
+use Rattle.rec_journal.specs.declared.plan.Plan.{Plan}
+use Rattle.rec_journal.specs.Patch.{Splices}
+use Rattle.rec_journal.specs.History.{Opened, IsOpening}
+use Rattle.rec_journal.specs.Revisions.{one_pass, Leads}
+use Rattle.rec_journal.specs.Plans.{ShareDigest, planned, IsEditPlan, after_edit_plan, edits_on, move_of, after_move, IsMovePlan}
+use Rattle.rec_tools.specs.declared.decision.Decision.{Decision}
+use Rattle.rec_tools.specs.declared.decision.Decision.TheVariants.{Stay, Put}
+use Rattle.rec_edit.specs.declared.outcome.Edited.{Edited}
+use Rattle.rec_tools.specs.declared.home.Which.{Which}
+use Rattle.rec_tools.specs.declared.home.Which.TheVariants.{Base as TheFile, Journal as TheJournal}
+use Rattle.rec_tools.specs.declared.request.Request.{Request}
+use Rattle.rec_tools.specs.declared.request.Reply.{Reply}
+use Rattle.rec_tools.specs.declared.request.Reply.TheVariants.{Shown, Edited as EditedReply, Unchanged, Undone, Redone}
+use Rattle.rec_tools.specs.Home.{Contents}
+use Rattle.rec_tools.specs.Steps.{Then}
+use Rattle.rec_tools.specs.Asking.{IsBase}
+use Rattle.rec_tools.specs.Printouts.{Printout, printed_history}
+use Rattle.rec_tools.specs.Requests.{Asked, looking, listing, editing, moving, asked_of}
+
+-- ---- outcomes
+
+-- bytes that are to be put in the place of a content
+pub record Write : Type 0 where
+  pub which : Which
+  pub bytes : List ℕ
+
+-- what a request comes to that isn't refused: it prints this, it writes these in this order, and this is the reply
+pub record Outcome : Type 0 where
+  pub text : List ℕ
+  pub writes : List Write
+  pub reply : Reply
+
+-- a text is printed, and nothing is written
+abbrev pub printing : List ℕ → Reply → Outcome
+printing text reply = record { text = text; writes = []; reply = reply }
+
+-- nothing is printed or written
+abbrev pub staying : Reply → Outcome
+staying reply = printing [] reply
+
+-- the journal is written before the file, so that where the second write fails the journal tells what became of the edit
+abbrev pub writes_of : Plan → List Write
+writes_of plan = record { which = TheJournal; bytes = plan.journal } ∷ record { which = TheFile; bytes = plan.file } ∷ []
+
+-- a plan is put in place
+abbrev pub putting : Plan → Reply → Outcome
+putting plan reply = record { text = []; writes = writes_of plan; reply = reply }
+
+-- a decision as an outcome
+abbrev pub outcome_of : Decision → Outcome
+outcome_of (Stay reply) = staying reply
+outcome_of (Put plan reply) = putting plan reply
+
+-- ---- an edit
+
+-- The plan of an edit: its patch leads from the file to the text, and the plan's contents open with the edit as the newest.
+pub record IsPlanned (o : Opened) (c : Contents) (tool : Tool) (edited : Edited) (plan : Plan) : Type 0 where
+  pub leads : Splices edited.patch c.file edited.text
+  pub planned : IsEditPlan o c.journal tool (one_pass tool edited.patch) edited.text (Ok plan)
+  pub opens : IsOpening plan.file plan.journal (Ok (after_edit_plan o c.journal tool (one_pass tool edited.patch) edited.text))
+
+-- an edit that leaves the text as it is writes nothing; every other one is put in place, unless the two texts share a digest
+abbrev pub IsEditOutcome : Opened → Contents → Tool → Edited → Result Outcome Fault → Type 0
+IsEditOutcome o c tool edited (Ok outcome) =
+    ((edited.text ≡ c.file) × (outcome ≡ staying Unchanged))
+    ⊎ ((edited.text ≢ c.file)
+    × ((plan : Plan) × IsPlanned o c tool edited plan × (outcome ≡ putting plan (EditedReply edited.changed))))
+IsEditOutcome o c tool edited (Err fault) =
+    (edited.text ≢ c.file) × (fault ≡ DigestClash) × ShareDigest c.file edited.text
+
+-- ---- a move
+
+-- the reply to a move by the edit of this number
+abbrev pub reply_of : Direction → ℕ → Reply
+reply_of Backward number = Undone number
+reply_of Forward number = Redone number
+
+-- the plan of a move by this edit that leads to this text
+abbrev pub move_plan : Direction → Opened → Contents → Revision → List ℕ → Plan
+move_plan direction o c e text = record { file = text; journal = planned c.journal o (Moved direction (move_of direction o e)) }
+
+-- the nearest edit that way leads from the file to the plan's file, and the journal has its event
+pub record Moves (direction : Direction) (o : Opened) (c : Contents) (outcome : Outcome) : Type 0 where
+  pub nearest : Revision
+  pub others : List Revision
+  pub there : edits_on direction o ≡ nearest ∷ others
+  pub text : List ℕ
+  pub leads : Leads direction nearest c.file text
+  pub opens : IsOpening text (planned c.journal o (Moved direction (move_of direction o nearest)))
+      (Ok (after_move direction o c.journal nearest others))
+  pub is : outcome ≡ putting (move_plan direction o c nearest text) (reply_of direction nearest.number)
+
+-- refused as its plan is: where the file has drifted, else where there is no edit that way, else where the nearest leads nowhere
+abbrev pub IsMove : Direction → Opened → Contents → Result Outcome Fault → Type 0
+IsMove direction o c (Ok outcome) = (o.drifted ≡ false) × Moves direction o c outcome
+IsMove direction o c (Err fault) = IsMovePlan direction o c.file c.journal (Err fault)
+
+-- ---- requests
+
+-- what is printed, with nothing written
+abbrev pub IsPrinting : (Result Printout Fault → Type 0) → Result Outcome Fault → Type 0
+IsPrinting IsText (Ok outcome) = (p : Printout) × IsText (Ok p) × (outcome ≡ printing p.text p.reply)
+IsPrinting IsText (Err fault) = IsText (Err fault)
+
+-- what is asked for comes to this on the contents
+abbrev pub IsOutcome : Contents → Asked → Result Outcome Fault → Type 0
+IsOutcome c (looking IsText) answer = IsPrinting (IsText c.file) answer
+IsOutcome c listing answer =
+    Then (IsOpening c.file c.journal) (λ o given. given ≡ Ok (printing (printed_history o) Shown)) answer
+IsOutcome c (editing tool IsEdit) answer =
+    Then (IsBase c.file) (λ base.
+    Then (IsOpening c.file c.journal) (λ o.
+    Then (IsEdit base) (λ edited.
+    IsEditOutcome o c tool edited))) answer
+IsOutcome c (moving direction) answer = Then (IsOpening c.file c.journal) (λ o. IsMove direction o c) answer
+
+-- a decision is what is asked for on the contents, or it is refused so
+abbrev pub Decides : Contents → Asked → Result Decision Fault → Type 0
+Decides c asked (Ok decision) = IsOutcome c asked (Ok (outcome_of decision))
+Decides c asked (Err fault) = IsOutcome c asked (Err fault)
+
+-- A request comes to one outcome on two contents at most; only where `regex` may refuse a pattern of its expression or of
+-- a descriptor, that refusal may stand in the place of the other answer.
+abbrev pub OneOutcome : Type 0
+OneOutcome = (c : Contents) (request : Request) (one other : Result Outcome Fault)
+    → IsOutcome c (asked_of request) one → IsOutcome c (asked_of request) other
+    → (one ≢ Err BadPattern) → (other ≢ Err BadPattern) → one ≡ other

@@ -1,14 +1,106 @@
 #!/usr/bin/env bash
-# All tests: every proof from nothing, the must-fail edits, the tests in the crates, and runs of the built program.
-# The last line is 'N passed, M failed'; what runs after it prints nothing when all is well.
-set -euo pipefail
-cd "$(dirname "$0")"
-# Where there are 5 GB of memory for each processor, each has a check to do; one takes 3 GB for the most part, and 6 at most.
-# By itself rt counts on more, and leaves processors idle.
-if [ "$(awk '/^MemAvailable/ { print int($2 / 5000000) }' /proc/meminfo)" -ge "$(nproc)" ]; then
-    export RT_JOBS="${RT_JOBS:-$(nproc)}"
-fi
-rt ci
-bash tests/program.sh crates/recu/out/recu
-bash tests/memory.sh crates/recu/out/recu
-bash tests/growth.sh
+# All tests, one part of them, or one case of a part. The last line is 'N passed, M failed'.
+#     bash test.sh                         all parts
+#     bash test.sh proofs                  every proof from nothing, the must-fail edits, the tests in the crates
+#     bash test.sh edits [CRATE|EDIT]      the must-fail edits alone: all, those of a crate, or one
+#     bash test.sh program [CASE]          runs of the built program, and the sessions of the documents
+#     bash test.sh memory [CASE]           runs of the built program with each of their allocations failing in turn
+#     bash test.sh growth [CASE]           calls of the crates with each of their allocations failing in turn
+# CASE is a part of a case's name. Missing programs are installed from Debian's packages, where root runs this.
+set -uo pipefail
+cd "$(dirname "$0")" || exit 1
+folder=$(mktemp -d) || exit 1
+trap 'rm -rf "$folder"' EXIT
+passed=0
+failed=0
+
+usage() {
+    sed -n '2,9s/^# \{0,1\}//p' test.sh >&2
+    exit 2
+}
+
+# Takes over the numbers of the last line of rt ci, which stands in the log.
+proofs() {
+    local status
+    # Where there are 5 GB of memory for each processor, each has a check to do; one takes 3 GB for the most part, and 6 at
+    # most. By itself rt counts on more, and leaves processors idle.
+    if [ "$(awk '/^MemAvailable/ { print int($2 / 5000000) }' /proc/meminfo)" -ge "$(nproc)" ]; then
+        export RT_JOBS="${RT_JOBS:-$(nproc)}"
+    fi
+    rt ci | tee "$folder/log"
+    status=${PIPESTATUS[0]}
+    if [[ $(tail -n 1 "$folder/log") =~ ^([0-9]+)\ passed,\ ([0-9]+)\ failed$ ]]; then
+        passed=$((passed + BASH_REMATCH[1]))
+        failed=$((failed + BASH_REMATCH[2]))
+        [ "$status" = 0 ] || [ "${BASH_REMATCH[2]}" -gt 0 ] || failed=$((failed + 1))
+    else
+        failed=$((failed + 1))
+    fi
+}
+
+# edits [CRATE|EDIT]: one edit is tried in a copy of the crates that holds no other one
+edits() {
+    local top=$PWD status wrong
+    if [ $# = 1 ] && [ ! -d "crates/$1" ]; then
+        compgen -G "crates/*/must-fail/${1%.edit}.edit" > "$folder/edits" || usage
+        top=$folder/copy
+        mkdir "$top"
+        tar -c --exclude=incremental --exclude='*.edit' crates.txt HANDLES crates | tar -x -C "$top"
+        xargs cp --parents -t "$top" < "$folder/edits"
+        shift
+    fi
+    (cd "$top" && rt must-fail "$@") | tee "$folder/log"
+    status=${PIPESTATUS[0]}
+    wrong=$(grep -cE ': (NOT REFUSED|BAD EDIT): ' "$folder/log")
+    passed=$((passed + $(grep -c ': refused, as it must be' "$folder/log")))
+    failed=$((failed + (status != 0 && wrong == 0 ? 1 : wrong)))
+}
+
+# cases FILTER FILE..: the cases of these files whose names the filter fits
+cases() {
+    local status passed_here
+    bats --formatter tap --filter "$1" "${@:2}" | tee "$folder/log"
+    status=${PIPESTATUS[0]}
+    passed_here=$(grep -c '^ok ' "$folder/log")
+    passed=$((passed + passed_here))
+    failed=$((failed + $(grep -c '^not ok ' "$folder/log")))
+    if ! grep -qx "1\.\.[1-9][0-9]*" "$folder/log"; then
+        echo "test.sh: no case has such a name: $1"
+        failed=$((failed + 1))
+    elif [ "$status" != 0 ] && ! grep -q '^not ok ' "$folder/log"; then
+        failed=$((failed + 1))
+    fi
+}
+
+program() {
+    cases "${1-}" tests/{edits,usage,files,streams,selecting,rules,sessions}.bats
+}
+
+memory() {
+    cases "${1-}" tests/memory.bats
+}
+
+growth() {
+    cases "${1-}" tests/growth.bats
+}
+
+all() {
+    echo 'test.sh: all parts take 60 to 90 minutes on 4 processors, nearly all of it for the proofs (200 to 270 processor minutes)'
+    echo 'test.sh: the parts program, memory and growth take a minute or two each, once the proofs have built what they run'
+    proofs
+    program
+    memory
+    growth
+}
+
+case ${1-all} in
+    all | proofs) [ $# -le 1 ] || usage ;;
+    edits | program | memory | growth) [ $# -le 2 ] || usage ;;
+    *) usage ;;
+esac
+if bash tests/needs.sh; then "${@:-all}"; else failed=1; fi
+times > "$folder/times"
+awk '{ for (i = 1; i <= 2; i++) { split($i, part, /[ms]/); sum += part[1] + part[2] / 60 } }
+    END { printf "test.sh: %.1f processor minutes\n", sum }' "$folder/times"
+echo "$passed passed, $failed failed"
+[ "$failed" = 0 ]

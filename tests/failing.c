@@ -1,10 +1,4 @@
-# The allocator of which one call fails; tests/memory.sh and tests/growth.sh read this file.
-
-# Writes the allocator into the current folder, and builds failing.so of it: the call that fails is the one whose number,
-# from 1, stands in FAILS. It says so by a byte in the file `hit`.
-build_failing_allocator() {
-    command -v cc > /dev/null || { echo "tests/failing.sh: no C compiler to build the failing allocator with"; return 1; }
-    cat > failing.c <<'C'
+/* An allocator of which one call fails: the one whose number, from 1, stands in FAILS. It says so by a byte in the file `hit`. */
 #define _GNU_SOURCE
 #include <dlfcn.h>
 #include <errno.h>
@@ -40,7 +34,4 @@ void *aligned_alloc(size_t align, size_t size) {
     static void *(*next)(size_t, size_t);
     if (!next) next = (void *(*)(size_t, size_t))dlsym(RTLD_NEXT, "aligned_alloc");
     return refused() ? NULL : next(align, size);
-}
-C
-    cc -O1 -shared -fPIC -o failing.so failing.c -ldl
 }

@@ -1,0 +1,50 @@
+#!/usr/bin/env bash
+# Times and peak memory of edits of keyed record sets, beside GNU's tools (where they are installed), cp and two sha256sum of the
+# same file.
+#     bench/edit.sh [PROGRAM [RECORDS..]]
+# Prints a table: the least of three times (one for GNU's, at 10,000 records at most), the peak memory, and the time as a multiple
+# of that of the two sha256sum; and the nanoseconds of recu for each record.
+# The files lie in a temporary folder (TMPDIR chooses where); recu waits until the disk has what it wrote.
+set -u
+. "$(dirname "$0")/measure.sh"
+[ $# -gt 0 ] || sizes=(10000 100000 1000000)
+
+fresh() {
+    cp whole.rec db.rec
+    rm -f db.rec.journal
+}
+
+two_digests() {
+    sha256sum whole.rec
+    sha256sum whole.rec
+}
+
+export -f two_digests
+
+# edit NAME WORD..: one line of the table, and one of the time for each record
+edit() {
+    measure 3 fresh "recu $1" "$program" "${@:2}" db.rec
+    awk -v ms="$least" -v records="$size" 'BEGIN { printf "%-26s %9.0f ns\n", "  for each record", ms * 1000000 / records }'
+}
+
+for size in "${sizes[@]}"; do
+    awk -f "$here/keyed.awk" -v records="$size" >whole.rec
+    last=$((size - 1))
+    every=$((size < 10000 ? 1 : size / 10000))
+    printf '%s records, %s bytes %38s\n' "$size" "$(stat -c %s whole.rec)" 'times two sha256sum'
+    unit=
+    measure 3 as_is 'two sha256sum' bash -c two_digests
+    measure 3 as_is 'cp' cp whole.rec copy
+    edit 'recset -e, one field' recset -t Contact -e "Id = 1000005" -f Street -s 'Short Road'
+    edit 'recset, all records' recset -t Contact -f Street -s 'Short Road'
+    edit 'recset, last record' recset -t Contact -n "$last" -f Street -s 'Short Road'
+    edit 'recdel -n, one' recdel -t Contact -n 5
+    edit 'recdel -n, ten' recdel -t Contact -n 5,7,9,11,13,15,17,19,21,23
+    edit 'recdel -n, 10,000' recdel -t Contact -n "$(seq -s, 0 "$every" "$last")" --force
+    if [ "$size" -le 10000 ] && command -v recset >/dev/null; then
+        fresh
+        measure 1 fresh 'GNU recset -e, one field' recset -t Contact -e "Id = 1000005" -f Street -s 'Short Road' db.rec
+        measure 1 fresh 'GNU recset, all records' recset -t Contact -f Street -s 'Short Road' db.rec
+        measure 1 fresh 'GNU recdel -n, one' recdel -t Contact -n 5 db.rec
+    fi
+done

@@ -1,0 +1,197 @@
+# Edits and undo: the file and the journal, byte for byte.
+
+load helpers
+
+# digest TEXT
+digest() {
+    bytes "$1" | sha256sum | cut -d ' ' -f 1
+}
+
+@test "a deletion, its undo, and nothing more to undo" {
+    put db.rec <<'REC'
+A: 1
+
+B: 2
+
+C: 3
+REC
+    cp db.rec before
+    local old new
+    old=$(sha256sum < before | cut -d ' ' -f 1)
+    new=$(digest 'A: 1¶¶C: 3¶')
+
+    does recdel -n 1 db.rec
+    has db.rec <<'REC'
+A: 1
+
+C: 3
+REC
+    has db.rec.journal <<REC
+%rec: RecEdit
+%doc: recu journal, format 1
+%key: Number
+
+Number: 1
+Kind: edit
+Tool: recdel
+Before: $old
+After: $new
+At: 6
+Old: B: 2\$
++ \$
++ \$
+New: \$
+
+REC
+    cp db.rec.journal journal_of_edit
+
+    does undo db.rec
+    has db.rec < before
+    put wanted <<REC
+Number: 2
+Kind: undo
+Of: 1
+Before: $new
+After: $old
+
+REC
+    cat journal_of_edit wanted > journal_of_both
+    has db.rec.journal < journal_of_both
+
+    refuses 'nothing to undo' undo db.rec
+    has db.rec < before
+    has db.rec.journal < journal_of_both
+    only before db.rec db.rec.journal journal_of_both journal_of_edit wanted
+}
+
+# edited AFTER WORD..: recset gives the text after, and undo brings all bytes back
+edited() {
+    does recset "${@:2}" db.rec
+    has db.rec "$1"
+    does undo db.rec
+    has db.rec "$people"
+}
+
+people='# P¶Name:  Ada¶# c¶Mail: a\¶b¶Mail: c¶¶Name: Bo'
+
+@test "each action of recset" {
+    put db.rec "$people"
+    edited '# P¶Name: x¶# c¶Mail: a\¶b¶Mail: c¶¶Name: x' -f Name -s x
+    edited '# P¶Name:  Ada¶# c¶Mail: a\¶b¶Mail: -5¶+ y¶¶Name: Bo' -f 'Mail[1]' --set=$'-5\ny'
+    edited '# P¶Name:  Ada¶# c¶Mail: a\¶b¶Mail: c¶Age: 1¶¶Name: Bo¶Age: 1¶' -f Age -a 1
+    edited '# P¶Name:  Ada¶# c¶Mail: x¶Mail: x¶¶Name: Bo¶Mail: x¶' -f Mail -S x
+    edited '# P¶Name:  Ada¶# c¶Post: a\¶b¶Post: c¶¶Name: Bo' -f Mail -r Post
+    edited '# P¶# c¶Mail: a\¶b¶Mail: c¶¶' -f Name -d
+    edited '# P¶Name:  Ada¶# c¶#Mail: a\¶#b¶#Mail: c¶¶Name: Bo' -f Mail -c
+    edited '# P¶Name:  Ada¶# c¶Mail: a\¶b¶Mail: c¶¶Name: Cy' -q Bo -f Name -s Cy
+    edited '# P¶Name:  Ada¶# c¶Mail: a\¶b¶Mail: c¶¶Name: Cy' -e '!#Mail' -f Name -s Cy
+    edited '# P¶Name:  Ada¶# c¶Mail: a\¶b¶Mail: c¶¶Name: Cy' -n 1 -f Name -s Cy
+    only db.rec db.rec.journal
+}
+
+@test "records are commented out" {
+    put db.rec "$people"
+    does recdel -c -n 0 db.rec
+    has db.rec '# P¶#Name:  Ada¶## c¶#Mail: a\¶#b¶#Mail: c¶¶Name: Bo'
+    does undo db.rec
+    has db.rec "$people"
+}
+
+@test "all records are deleted or commented out with --force alone" {
+    put db.rec "$three"
+    refuses 'no selection given, use --force' recdel db.rec
+    refuses 'no selection given, use --force' recdel -c db.rec
+    has db.rec "$three"
+    only db.rec
+    does recdel --force db.rec
+    has db.rec ''
+    does undo db.rec
+    does recdel -c --force db.rec
+    has db.rec '#A: 1¶¶#B: 2¶¶#C: 3¶'
+    does undo db.rec
+    has db.rec "$three"
+}
+
+@test "an edit that breaks a rule is refused with its report" {
+    put db.rec '%rec: P¶%size: >= 2¶¶N: 1¶¶N: 2¶'
+    recu 1 recdel -t P -n 0 db.rec
+    prints '' '1: size P¶recu: violations: 1¶'
+    has db.rec '%rec: P¶%size: >= 2¶¶N: 1¶¶N: 2¶'
+    only db.rec
+    does recdel -t P -n 0 --force db.rec
+    has db.rec '%rec: P¶%size: >= 2¶¶N: 2¶'
+    recu 1 recfix db.rec
+    prints '1: size P¶' ''
+    does undo db.rec
+    has db.rec '%rec: P¶%size: >= 2¶¶N: 1¶¶N: 2¶'
+    put keyed.rec '%rec: P¶%key: Id¶¶Id: 1¶¶Id: 2¶¶Id: 3¶'
+    recu 1 recset -n 1-2 -f Id -s 1 keyed.rec
+    prints '' '6: key Id¶8: key Id¶recu: violations: 2¶'
+    only db.rec db.rec.journal keyed.rec
+}
+
+@test "an edit that changes nothing writes nothing" {
+    put db.rec "$three"
+    does recdel -n 7 db.rec
+    does recset -f A -s 1 db.rec
+    does recset -n 7 -f A -a 1 db.rec
+    has db.rec "$three"
+    only db.rec
+}
+
+@test "a journal of another name" {
+    put db.rec "$three"
+    mkdir journals
+    recu 0 recdel --journal journals/j --number=0,2 db.rec
+    has db.rec 'B: 2¶¶'
+    recu 0 undo --journal=journals/j db.rec
+    has db.rec "$three"
+    only db.rec journals
+}
+
+@test "refused requests leave both files" {
+    put db.rec "$three"
+    refuses 'index list: error at byte 2' recdel -n 3-1 db.rec
+    refuses 'nothing to undo' undo db.rec
+    refuses 'field list: error at byte 1' recset -f 'A[0]' -a 1 db.rec
+    refuses 'bad name' recset -f A -r 1A db.rec
+    refuses 'a line of the value ends in a backslash' recset -f A -s 'x\' db.rec
+    refuses 'no such record type' recset -t P -f A -s x db.rec
+    put bad.rec 'A: 1¶no field¶'
+    refuses 'line 2: not a field, comment or blank line' recdel -n 0 bad.rec
+    put journal 'hello¶'
+    refuses 'journal line 1: not a journal of recu' undo --journal journal db.rec
+    has db.rec "$three"
+    has bad.rec 'A: 1¶no field¶'
+    has journal 'hello¶'
+    only bad.rec db.rec journal
+}
+
+@test "a file that was changed by hand" {
+    put db.rec "$three"
+    recu 0 recdel -n 1 db.rec
+    put db.rec 'A: 7¶¶C: 3¶'
+    cp db.rec.journal before
+    refuses 'the file was changed outside' undo db.rec
+    has db.rec 'A: 7¶¶C: 3¶'
+    has db.rec.journal < before
+    recu 0 recdel -n 0 db.rec
+    has db.rec 'C: 3¶'
+    recu 0 undo db.rec
+    has db.rec 'A: 7¶¶C: 3¶'
+    only before db.rec db.rec.journal
+}
+
+# layout LIST TEXT AFTER: the deletion gives the text after, and undo brings all bytes back
+layout() {
+    put db.rec "$2"
+    does recdel -n "$1" db.rec
+    has db.rec "$3"
+    does undo db.rec
+    has db.rec "$2"
+    only db.rec db.rec.journal
+}
+
+@test "layouts of a file" {
+    each layout layouts.rows
+}

@@ -1,0 +1,200 @@
+# Each allocation of the built program fails in turn, in a run of each command.
+# Such a run says that memory ran out, or that a file could not be written, or does what was asked. After `out of memory`
+# both files are as before, and what was printed is a front of the text; the same command again does what was asked.
+
+load helpers
+load allocator
+
+setup_file() {
+    need_program
+    build_failing_allocator
+}
+
+# each_allocation FUNCTION WORD..: runs recu with these words at each failing allocation, up to a run in which none fails,
+# and has the function judge each run, which finds the allocation's number and the run's status in `number` and `status`
+each_allocation() {
+    local judge=$1 number status
+    shift
+    for ((number = 1; number <= 100000; number++)); do
+        rm -rf hit db.rec db.rec.journal
+        cp start/* .
+        status=0
+        failing "$number" "$program" "$@" > out 2> err || status=$?
+        "$judge" "$@"
+        if [ ! -e hit ]; then
+            [ "$number" -gt 1 ] || fail 'no allocation failed'
+            return 0
+        fi
+    done
+    fail 'no end'
+}
+
+wrong() {
+    fail "allocation $number, status $status: $*:" "$(cat err)"
+}
+
+# is_edited WORD..: judges a run that gives the file after.rec
+is_edited() {
+    case "$status/$(tail -n 1 err)" in
+        0/*) cmp -s db.rec after.rec || wrong 'another file' ;;
+        '1/recu: out of memory')
+            cmp -s db.rec start/db.rec || wrong 'the file was changed'
+            if [ -e start/db.rec.journal ]; then
+                cmp -s db.rec.journal start/db.rec.journal || wrong 'the journal was changed'
+            else
+                [ ! -s db.rec.journal ] || wrong 'the journal was changed'
+            fi
+            ;;
+        '1/recu: a file could not be read or written') cmp -s db.rec start/db.rec || cmp -s db.rec after.rec || wrong 'another file' ;;
+        1/) cmp -s db.rec start/db.rec || wrong 'changed without a word' ;;
+        *) wrong 'no such end' ;;
+    esac
+    [ ! -e db.rec.new ] && [ ! -e db.rec.journal.new ] || wrong 'a working file is left'
+    if [ ! -e hit ]; then
+        [ "$status" = 0 ] || wrong 'refused without a failing allocation'
+    elif ! cmp -s db.rec after.rec; then
+        "$program" "$@" > out 2> err || wrong 'the same again is refused'
+        cmp -s db.rec after.rec || wrong 'the same again gives another file'
+    fi
+}
+
+@test "memory for a deletion" {
+    mkdir start
+    put start/db.rec "$three"
+    put after.rec 'A: 1¶¶C: 3¶'
+    fast each_allocation is_edited recdel -n 1 db.rec
+}
+
+@test "memory for a deletion in a set with rules" {
+    mkdir start
+    put start/db.rec '%rec: P¶%key: Id¶%type: N enum a b¶¶Id: 1¶N: a¶¶Id: 2¶# c¶N: b'
+    put after.rec '%rec: P¶%key: Id¶%type: N enum a b¶¶Id: 2¶# c¶N: b'
+    fast each_allocation is_edited recdel -e 'N = "a"' db.rec
+}
+
+@test "memory for an edit of fields" {
+    mkdir start
+    put start/db.rec '%rec: P¶%key: Id¶¶Id: 1¶N: a\¶b¶¶Id: 2'
+    put after.rec '%rec: P¶%key: Id¶¶Id: 1¶N: x¶+ y¶¶Id: 2¶N: x¶+ y¶'
+    fast each_allocation is_edited recset -t P -e 'Id < 5' -f N -S $'x\ny' db.rec
+}
+
+@test "memory for records that are commented out" {
+    mkdir start
+    put start/db.rec "$three"
+    put after.rec '#A: 1¶¶B: 2¶¶#C: 3¶'
+    fast each_allocation is_edited recdel -c -n 0,2 db.rec
+}
+
+@test "memory for renaming fields" {
+    mkdir start
+    put start/db.rec 'A: 1\¶2¶B: 3¶A: 4¶'
+    put after.rec 'C: 1\¶2¶B: 3¶C: 4¶'
+    fast each_allocation is_edited recset -f A -r C db.rec
+}
+
+@test "memory for an undo" {
+    mkdir start
+    put start/db.rec "$three"
+    put after.rec "$three"
+    (cd start && "$program" recdel -n 1 db.rec)
+    fast each_allocation is_edited undo db.rec
+}
+
+# is_printed WORD..: judges a run that prints the file printed, and ends with the status $wanted
+is_printed() {
+    case "$status/$(tail -n 1 err)" in
+        0/*) [ "$wanted" = 0 ] && cmp -s out printed || wrong 'another text' ;;
+        '1/recu: out of memory' | 1/) head -c "$(stat -c %s out)" printed | cmp -s - out || wrong 'no front of the text' ;;
+        *) wrong 'no such end' ;;
+    esac
+    cmp -s db.rec start/db.rec || wrong 'the file was changed'
+    if [ ! -e hit ]; then
+        [ "$status" = "$wanted" ] && cmp -s out printed || wrong 'refused without a failing allocation'
+    fi
+}
+
+# prints_people PRINTED WORD..: with each failing allocation the words print this of a file of people, or a front of it
+prints_people() {
+    local wanted=0
+    mkdir start
+    put printed "$1"
+    put start/db.rec <<'REC'
+X: 1
+
+%rec: P
+%doc: people
+
+N: a
+M: x\
+y
+M: 2
+
+N: b
+M: 3
+
+N: c
+REC
+    fast each_allocation is_printed "${@:2}" db.rec
+}
+
+@test "memory for recsel -e" {
+    prints_people 'a xy 2¶¶b 3¶' recsel -t P -e "M ~ '^[x3]' && #M > 0 && N & M != 'c'" -R N,M
+}
+
+@test "memory for recsel -q" {
+    prints_people 'M: x\¶y¶M: 2¶' recsel -t P -q xy -p M
+}
+
+@test "memory for recsel -n" {
+    prints_people 'b¶c¶' recsel -t P -n 1-2 -P N -C
+}
+
+@test "memory for recinf" {
+    prints_people '1¶3 P¶' recinf
+}
+
+@test "memory for recinf -d" {
+    prints_people '%rec: P¶%doc: people¶' recinf -t P -d
+}
+
+@test "memory for recfix" {
+    local wanted=1
+    mkdir start
+    put start/db.rec <<'REC'
+%rec: P
+%key: Id
+%mandatory: Name
+%prohibit: X
+%unique: Name
+%allowed: Age Town
+%auto: Id
+%type: Age,Id range 0 MAX
+%type: Town enum here (not) there
+%type: Name regexp /^[a-z]+$/
+%size: <= 1
+%constraint: Age ~ '^1' => Name != 'b'
+
+Id: 1
+Name: a
+Age: 12
+Town: \
+here
+
+Id: 1
+Name: b
+Name: B
+Age: 1x
+X: 1
+REC
+    put printed <<'REC'
+1: size P
+20: key Id
+20: prohibit X
+20: unique Name
+20: allowed X
+22: type Name
+23: type Age
+REC
+    fast each_allocation is_printed recfix db.rec
+}

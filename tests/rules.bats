@@ -1,0 +1,105 @@
+# Descriptors, the types of fields, and where a file breaks its rules.
+
+load helpers
+
+# descriptor ANSWER FIELD
+descriptor() {
+    case $1 in
+        accepted)
+            put db.rec "%rec: P¶$2¶"
+            shows '0 P¶' recinf
+            ;;
+        *)
+            put db.rec "%doc: d¶%rec: P¶$2¶¶N: 1¶"
+            rejects "$1" recfix
+            ;;
+    esac
+}
+
+@test "fields of descriptors" {
+    each descriptor descriptors.rows
+}
+
+# values_of WORDS fits|unfits VALUE..: each value stands in two fields of the type and in one of none
+values_of() {
+    local value newlines report
+    for value in "${@:3}"; do
+        [ "$value" != "''" ] || value=
+        newlines=${value//[^¶]/}
+        case $2 in
+            fits) report= ;;
+            unfits) report="4: type N¶$((5 + ${#newlines})): type %M¶" ;;
+            *) fail "$2 is neither fits nor unfits" ;;
+        esac
+        put db.rec "%rec: P¶%type: N,%M $1¶¶N: $value¶%M: $value¶O: $value¶"
+        reports "$report"
+    done
+}
+
+@test "which values fit a type" {
+    each values_of types.rows
+}
+
+# rules TEXT REPORT
+rules() {
+    put db.rec "$1"
+    reports "$2"
+}
+
+@test "where a file breaks its rules" {
+    each rules rules.rows
+}
+
+@test "the manual's book breaks no rule" {
+    put db.rec <<'REC'
+# -*- mode: rec -*-
+
+%rec: Book
+%mandatory: Title
+%type: Location enum loaned home unknown
+%sort: Title
+%doc:
++ My books.
+
+Title: GNU Emacs Manual
+Author: Richard M. Stallman
+Location: home
+REC
+    reports ''
+}
+
+@test "a record that breaks every rule of its set" {
+    put db.rec <<'REC'
+%constraint: 0
+%rec: P
+%key: K
+%allowed: A
+%type: A,K int
+%unique: A
+%prohibit: B
+%mandatory: M
+%size: 2
+%constraint: 1
+%constraint: M = 2
+
+K: x
+A: y
+A: 1
+B: 1
+
+%rec: Q
+%size: 1
+REC
+    reports "\
+1: size P
+13: mandatory M
+13: prohibit B
+13: unique A
+13: allowed B
+13: type K
+14: type A
+13: constraint 1
+13: constraint 3
+18: size Q
+"
+}

@@ -1,0 +1,206 @@
+# Words of the command line: what they ask for, help and the version, bad usage, and what is said at the end.
+
+load helpers
+
+setup_file() {
+    need_program
+    command -v cc > /dev/null || fail 'no C compiler to build the narrow output with'
+    cc -O1 -shared -fPIC -o "$BATS_FILE_TMPDIR/narrow.so" "$top/tests/narrow.c" -ldl
+}
+
+out() {
+    cat "$BATS_TEST_TMPDIR/out"
+}
+
+# silent: the last run printed nothing on standard error
+silent() {
+    has "$BATS_TEST_TMPDIR/err" ''
+}
+
+@test "help" {
+    local words
+    for words in --help -h help 'help recdel' 'help recset' 'help undo' 'recdel --help' 'recdel -h' 'recset --help' \
+        'recset -h' 'undo --help' 'undo -h' 'undo f -hx'; do
+        recu 0 $words
+        out | grep -q 'Usage: recu' || fail "recu $words prints no usage"
+        out | grep -q 'FILE.new' || fail "recu $words does not name FILE.new"
+        silent
+    done
+    for words in 'help recsel' 'help recinf' 'help recfix' 'recsel --help' 'recsel -h' 'recsel -c -h' 'recsel -ch' \
+        'recinf --help' 'recinf -h' 'recfix --help' 'recfix -h'; do
+        recu 0 $words
+        out | grep -q 'Usage: recu rec[a-z]* \[OPTIONS\] \[FILE\]' || fail "recu $words prints no usage"
+        silent
+    done
+    only
+}
+
+@test "the version" {
+    local words
+    for words in --version -V; do
+        recu 0 $words
+        prints 'recu 0.1.0¶' ''
+    done
+    for words in 'recsel --version' 'recsel -V' 'recinf --version' 'recinf -V' 'recfix --version' 'recfix -V' \
+        'recdel --version' 'recdel -V' 'recset --version' 'recset -V' 'undo --version' 'undo -V'; do
+        recu 0 $words
+        [ -n "$(out)" ] || fail "recu $words prints no version"
+        silent
+    done
+    only
+}
+
+@test "help to a full device" {
+    ends 1 bash -c '"$1" --help > /dev/full' '' "$recu"
+    prints '' "standard output: No space left on device (os error 28)¶$store_failed"
+    only
+}
+
+# is_bad_usage: the last run was refused as bad usage, and explained that
+is_bad_usage() {
+    has "$BATS_TEST_TMPDIR/out" ''
+    [ "$(tail -n 1 "$BATS_TEST_TMPDIR/err")" = 'recu: bad usage' ] || fail 'the last line is:' "$(tail -n 1 "$BATS_TEST_TMPDIR/err")"
+    [ "$(wc -l < "$BATS_TEST_TMPDIR/err")" -gt 1 ] || fail 'no line explains it'
+}
+
+# bad_usage WORDS [EXPLANATION]
+bad_usage() {
+    put f "$three"
+    put j.new ''
+    eval "recu 1 $(bytes "$1")"
+    is_bad_usage
+    [ $# = 1 ] || prints '' "$2¶recu: bad usage¶"
+    has f "$three"
+    has j.new ''
+    only f j.new
+}
+
+@test "bad usage" {
+    each bad_usage usage.rows
+}
+
+sets='A: 1¶A: 2¶B: x¶¶A: 5¶¶B: 0¶¶A: 3¶V: x¶¶%rec: P¶%key: A¶¶A: 6¶B: 7¶X: 1¶¶A: 6¶B: X¶¶A: 8¶B: X¶X: 2¶¶%rec: Q¶'
+
+# prints_of_sets OUT LINE..: of f each of the lines prints this
+prints_of_sets() {
+    local line
+    put f "$sets"
+    for line in "${@:2}"; do
+        eval "recu 0 $line"
+        prints "$1" ''
+    done
+    has f "$sets"
+    only f
+}
+
+# value TOOL LETTER NAME VALUE OUT
+value() {
+    prints_of_sets "$5" "$1 -$2 $4 f" "$1 -$2$4 f" "$1 -$2=$4 f" "$1 --$3 $4 f" "$1 --$3=$4 f" "$1 f -$2 $4" "$1 -$2 $4 -- f"
+}
+
+@test "every spelling of a value" {
+    each value values.rows
+}
+
+# flag TOOL LETTER NAME OUT
+flag() {
+    local words
+    prints_of_sets "$4" "$1 -$2 f" "$1 --$3 f" "$1 f -$2" "$1 --$3 -- f"
+    for words in "-$2$2 f" "-$2 -$2 f" "-$2 --$3 f" "--$3 f --$3" "-$2=1 f" "--$3=x f" "--$3= f"; do
+        recu 1 "$1" $words
+        is_bad_usage
+    done
+}
+
+@test "every spelling of a flag" {
+    each flag flags.rows
+}
+
+# is_missing NAME WORDS: where no file is, the words ask for that one
+is_missing() {
+    eval "recu 1 $2"
+    prints '' "$1: No such file or directory (os error 2)¶$store_failed"
+    only
+}
+
+# asks WORDS FILE [STATUS OUT [REFUSAL]]
+asks() {
+    if [ "$2" = 'standard input' ]; then
+        eval "input=. recu 1 $1"
+        prints '' "standard input: Is a directory (os error 21)¶$store_failed"
+        put given "$sets"
+        eval "input=given recu $3 $1"
+        prints "$4" "${5+recu: $5¶}"
+        has given "$sets"
+        only given
+        return
+    fi
+    is_missing "$(bytes "$2")" "$1"
+    [ $# -gt 2 ] || return 0
+    put "$2" "$sets"
+    eval "recu $3 $1"
+    prints "$4" "${5+recu: $5¶}"
+    has "$2" "$sets"
+    only "$2"
+}
+
+@test "what words ask for that print" {
+    each asks words.rows
+}
+
+# edits WORDS FILE [JOURNAL AFTER]
+edits() {
+    is_missing "$(bytes "$2")" "$1"
+    [ $# -gt 2 ] || return 0
+    put "$2" "$three"
+    mkdir -- "$3"
+    eval "fails_to_store '$3: not a regular file' $1"
+    rmdir -- "$3"
+    case $1 in
+        undo*)
+            rm -- "$2"
+            put f "$three"
+            does recdel -n 1 f
+            mv -T -- f "./$2" 2> /dev/null || has "$2" 'A: 1¶¶C: 3¶'
+            mv -T -- f.journal "./$3" 2> /dev/null || [ -s "$3" ]
+            ;;
+    esac
+    case $4 in
+        'recu: '*)
+            eval "refuses '${4#recu: }' $1"
+            has "$2" "$three"
+            only "$2"
+            ;;
+        *)
+            eval "does $1"
+            has "$2" "$4"
+            only "$2" "$3"
+            ;;
+    esac
+}
+
+@test "what words ask for that edit" {
+    each edits edits.rows
+}
+
+@test "the end of a run whose reason can't be printed" {
+    put f "$three"
+    ends 1 bash -c '"$1" recdel -n x f 2> /dev/full' '' "$recu"
+    prints '' ''
+    ends 1 bash -c '"$1" recdel -n x f 2>&-' '' "$recu"
+    prints '' ''
+    has f "$three"
+    only f
+}
+
+@test "the reason of a refusal is cut where standard error fails" {
+    put f "$three"
+    local reason='recu: nothing to undo' room
+    for ((room = 0; room <= ${#reason}; room++)); do
+        ends 1 env ROOM="$room" LD_PRELOAD="$BATS_FILE_TMPDIR/narrow.so" "$recu" undo f
+        prints '' "${reason::room}"
+    done
+    ends 1 env ROOM=100 LD_PRELOAD="$BATS_FILE_TMPDIR/narrow.so" "$recu" undo f
+    prints '' "$reason¶"
+    only f
+}

@@ -2,8 +2,6 @@
 #![tactic(auto)]
 
 mod args;
-#[cfg(test)]
-mod edit_tests;
 mod files;
 mod options;
 mod output;

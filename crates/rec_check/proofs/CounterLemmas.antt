@@ -63,7 +63,7 @@ top_from so_far z top numbers false more (among, all) =
     let under : int_lt top so_far ≡ false = grind (arith, ints) in
     (Contains-later so_far top (z ∷ numbers) among, (under, all))
 
-irreflexive : (z : ℤ) → int_lt z z ≡ false
+pub irreflexive : (z : ℤ) → int_lt z z ≡ false
 irreflexive z = grind (arith, ints)
 
 top_of : (so_far : ℤ) (numbers : List ℤ) → (top : ℤ) × (greatest_from (Some so_far) numbers ≡ Some top) × IsTop (so_far ∷ numbers) top
@@ -92,17 +92,17 @@ pub greatest_from-append : (so_far : Option ℤ) (some more : List ℤ) → grea
 greatest_from-append so_far [] more = refl
 greatest_from-append so_far (z ∷ some) more = greatest_from-append (greater so_far (Some z)) some more
 
-greatest_from-option : (so_far reading : Option ℤ) (numbers : List ℤ) → greatest_from so_far (cons_option reading numbers) ≡ greatest_from (greater so_far reading) numbers
+pub greatest_from-option : (so_far reading : Option ℤ) (numbers : List ℤ) → greatest_from so_far (cons_option reading numbers) ≡ greatest_from (greater so_far reading) numbers
 greatest_from-option so_far None numbers = refl
 greatest_from-option so_far (Some z) numbers = refl
 
 readings_in-more : (name : List ℕ) (fields : List Element) (i : ℕ) (d : Element) → i < length fields → readings_in name (pieces_of (drop i fields)) ≡ readings_in name (piece_of (get_or fields i d) ∷ pieces_of (drop (i + 1) fields))
 readings_in-more name fields i d within = ap (λ fs. readings_in name (pieces_of fs)) (drop_more fields i d within)
 
-readings_in-named : (name : List ℕ) (piece : Piece) (pieces : List Piece) → bytes_eq (name_of piece) name ≡ true → readings_in name (piece ∷ pieces) ≡ cons_option (int_of (value_of piece)) (readings_in name pieces)
+pub readings_in-named : (name : List ℕ) (piece : Piece) (pieces : List Piece) → bytes_eq (name_of piece) name ≡ true → readings_in name (piece ∷ pieces) ≡ cons_option (int_of (value_of piece)) (readings_in name pieces)
 readings_in-named name piece pieces named = rw named refl
 
-readings_in-other : (name : List ℕ) (piece : Piece) (pieces : List Piece) → bytes_eq (name_of piece) name ≡ false → readings_in name (piece ∷ pieces) ≡ readings_in name pieces
+pub readings_in-other : (name : List ℕ) (piece : Piece) (pieces : List Piece) → bytes_eq (name_of piece) name ≡ false → readings_in name (piece ∷ pieces) ≡ readings_in name pieces
 readings_in-other name piece pieces other = rw other refl
 
 -- one field more: of the name, or of another

@@ -39,6 +39,10 @@ sets_within at (s ∷ sets) total from within =
     let both = length-append (named_in s) (flat_map named_in sets) in
     (omega arith, sets_within s.members.end sets total from.1 (omega arith))
 
+sets_ordered : (at : ℕ) (sets : List Set_) → AreFrom at sets → AllByRecursion (λ s. s.members.start ≤ s.members.end) sets
+sets_ordered at [] from = tt
+sets_ordered at (s ∷ sets) from = (from.0.0, sets_ordered s.members.end sets from.1)
+
 AllZip-length : {A B : Type 0} (R : A → B → Type 0) (xs : List A) (ys : List B) → AllZip R xs ys → length xs ≡ length ys
 AllZip-length R [] [] all = refl
 AllZip-length R [] (y ∷ ys) all = absurd all
@@ -66,6 +70,9 @@ module _ (pieces : List Piece) (sets : List Set_) (rules : List StoredRules) (is
       let ruled : IsRuled pieces is.records s (rules_stored (get_or rules i e)) =
       subst (IsRuled pieces is.records s) (get_or-map rules_stored rules i e (rules_stored e) (omega (arith, same_length))) (AllZip-at (IsRuled pieces is.records) sets (map rules_stored rules) i d (rules_stored e) is.rules within) in
       size_of_ruled pieces is.records s.kind s.head s.members (rules_stored (get_or rules i e)) ruled none
+
+  pub set_ordered : (i : ℕ) (d : Set_) → i < length sets → (get_or sets i d).members.start ≤ (get_or sets i d).members.end
+  set_ordered i d within = All-get_or (λ s. s.members.start ≤ s.members.end) sets i d within (All-from_recursion (λ s. s.members.start ≤ s.members.end) sets (sets_ordered 0 sets is.sets.places))
 
   module _ (records : List (Range ℕ)) (are : AreRecords pieces records) where
     pub set_within : (i : ℕ) (d : Set_) → i < length sets → (get_or sets i d).members.end ≤ length records

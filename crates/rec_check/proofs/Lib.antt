@@ -23,3 +23,5 @@ pub mod ReportLemmas
 pub mod SchemaExamples
 pub mod AheadLemmas
 pub mod DescribedLemmas
+pub mod NextLemmas
+pub mod CountLemmas

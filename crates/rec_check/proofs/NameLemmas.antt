@@ -154,7 +154,7 @@ is_refused allows piece = is_field_piece piece && not (allows (name_of piece))
 abbrev pub others : (List ℕ → Bool) → List Piece → List (List ℕ)
 others allows pieces = filter (λ name. not (allows name)) (distinct (names_of pieces))
 
-names_of-push : (pieces : List Piece) (piece : Piece) → names_of (pieces ++ piece ∷ []) ≡ names_of pieces ++ cond (is_field_piece piece) (name_of piece ∷ []) []
+pub names_of-push : (pieces : List Piece) (piece : Piece) → names_of (pieces ++ piece ∷ []) ≡ names_of pieces ++ cond (is_field_piece piece) (name_of piece ∷ []) []
 names_of-push pieces piece =
     ap (map name_of) (filter-append is_field_piece pieces (piece ∷ [])) ∙ map-append name_of (filter is_field_piece pieces) (filter is_field_piece (piece ∷ []))
     ∙ ap (λ l. names_of pieces ++ l) (elim (cases_Bool (is_field_piece piece)) [ inl field ↦ rw field refl | inr none ↦ rw none refl ])

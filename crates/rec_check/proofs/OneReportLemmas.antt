@@ -60,7 +60,7 @@ same_fits (matching pattern) (matching second) value same = same_is_found patter
 same_fits one other value same = ap (λ t. fits t value) same
 
 -- no type, or the same
-abbrev AreSameIfAny : Option (FieldType Re) → Option (FieldType Re) → Type 0
+abbrev pub AreSameIfAny : Option (FieldType Re) → Option (FieldType Re) → Type 0
 AreSameIfAny None None = ⊤
 AreSameIfAny (Some one) (Some other) = AreSameTypes one other
 AreSameIfAny _ _ = ⊥
@@ -76,7 +76,7 @@ AreSameIfAny-later None (Some other) own second same too = absurd same
 AreSameIfAny-later (Some one) None own second same too = absurd same
 AreSameIfAny-later (Some one) (Some other) own second same too = same
 
-same_type_for : (types others : List Typing) (name : List ℕ) → AllZip AreSameTypings types others → AreSameIfAny (type_for types name) (type_for others name)
+pub same_type_for : (types others : List Typing) (name : List ℕ) → AllZip AreSameTypings types others → AreSameIfAny (type_for types name) (type_for others name)
 same_type_for [] [] name same = tt
 same_type_for [] (b ∷ others) name same = absurd same
 same_type_for (a ∷ types) [] name same = absurd same

@@ -157,7 +157,7 @@ pub record AreApart (pieces : List Piece) (records : List (Range ℕ)) (schema :
 types_given : (pieces : List Piece) (records : List (Range ℕ)) (schema : Described) → AreSets (types_of pieces records) schema.sets → HaveTypes schema.sets (types_in (owns_of pieces records))
 types_given pieces records schema are = subst (HaveTypes schema.sets) (types_among-owns pieces records) (have_types (types_of pieces records) schema.sets are)
 
-schema_apart : (pieces : List Piece) (records : List (Range ℕ)) (schema : Described) → AreRecords pieces records → IsDescribed pieces schema → AreApart pieces records schema
+pub schema_apart : (pieces : List Piece) (records : List (Range ℕ)) (schema : Described) → AreRecords pieces records → IsDescribed pieces schema → AreApart pieces records schema
 schema_apart pieces records schema are is =
     let one : is.records ≡ records = OneListOfRecords-holds.records pieces is.records records is.are are in
     let sets = subst (λ rs. AreSets (types_of pieces rs) schema.sets) one is.sets in

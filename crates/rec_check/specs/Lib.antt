@@ -21,3 +21,4 @@ pub mod Kinds
 pub mod Testing
 pub mod Reading
 pub mod Counting
+pub mod Counters

@@ -28,7 +28,7 @@ pub(crate) fn automatic_names(alloc: Global, rules: &Rules) -> Result<Vec<&[u8]>
 }
 
 /// Whether the values of a type may be counted.
-fn may_count(type_: Option<&FieldType>) -> bool
+pub(crate) fn may_count(type_: Option<&FieldType>) -> bool
     ensures { result ≡ may_count (option_map (λ type_. type_stored type_.now) type_.entry) }
 {
     match type_ {
@@ -38,7 +38,7 @@ fn may_count(type_: Option<&FieldType>) -> bool
     }
 }
 
-fn begins_special(name: &[u8]) -> bool
+pub(crate) fn begins_special(name: &[u8]) -> bool
     ensures { result ≡ begins_special name.now }
 {
     match name {
@@ -55,7 +55,7 @@ fn is_counter(rules: &Rules, name: &[u8]) -> bool
 }
 
 /// The greater of a number and the greatest so far, where there is one.
-fn greater(so_far: Option<i64>, number: Option<i64>) -> Option<i64>
+pub(crate) fn greater(so_far: Option<i64>, number: Option<i64>) -> Option<i64>
     ensures { result ≡ greater so_far number }
 {
     match (so_far, number) {
@@ -65,7 +65,7 @@ fn greater(so_far: Option<i64>, number: Option<i64>) -> Option<i64>
 }
 
 /// The integer that a field's value reads as, if it does.
-fn reading_of(alloc: Global, field: &Element) -> Result<Option<i64>, Fault>
+pub(crate) fn reading_of(alloc: Global, field: &Element) -> Result<Option<i64>, Fault>
     ensures reading { IfOk result (λ reading. reading ≡ int_of (value_of (piece_of field.now))) }
     ensures refusals { IfErr result (λ fault. fault ≡ Fault.OutOfMemory) }
 {
@@ -114,7 +114,7 @@ fn greatest_of(
 }
 
 /// The number behind the greatest.
-fn behind(greatest: Option<i64>) -> Result<i64, Fault>
+pub(crate) fn behind(greatest: Option<i64>) -> Result<i64, Fault>
     ensures { IsBehind greatest result }
 {
     match greatest {

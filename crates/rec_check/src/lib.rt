@@ -6,6 +6,7 @@ mod allowed;
 mod automatic;
 mod checker;
 mod constraints;
+mod counter;
 mod descriptor;
 mod draft;
 mod enumeration;
@@ -30,6 +31,7 @@ mod types;
 mod typing;
 mod words;
 
+pub use counter::Counter;
 pub use laws::{new_descriptor, one_check, one_report, one_schema, same_descriptors};
 pub use rec_text::{Bytes, Database, Element, Fault, Rule, Violation};
 pub use schema::Schema;

@@ -2,13 +2,15 @@
 ghost use Rattle.rec_check.specs.Steps.{HaveTypes};
 
 use crate::automatic::{automatic_names, next_value};
+use crate::counter::{Counter, counters_of};
 use crate::draft::Draft;
 use crate::report::violations_of;
 use crate::rules::Rules;
-use crate::set::Set_;
+use crate::set::{Set_, members_of};
 use crate::type_names::TypeNames;
 use rec_text::{Database, Fault, Violation, elements_in};
 use std::alloc::Global;
+use std::ops::Range;
 
 /// The record sets of a text, in file order: first the untyped one, and then one for each descriptor, with its rules.
 #[derive(Drop)]
@@ -25,10 +27,12 @@ impl Schema {
     ghost use Rattle.rec_text.specs.Faults.{IsMemoryOr, UnlessMemory};
     ghost use Rattle.rec_check.specs.Automatic.{IsAutomatic, automatic_of};
     ghost use Rattle.rec_check.specs.Checks.{texts};
+    ghost use Rattle.rec_check.specs.Counters.{AreMembersAt, AreCountersAt};
     ghost use Rattle.rec_check.specs.Schemas.{IsSchema};
     ghost use Rattle.rec_check.specs.Sets.{is_of_type};
     ghost use Rattle.rec_check.specs.Stored.{described};
     ghost use Rattle.rec_check.specs.Violations.{AreViolations};
+    ghost use Rattle.rec_check.specs.Walking.{AreWithin};
 
     /// Reads the descriptors of a text. The first faulty field is refused with its line.
     pub fn read(alloc: Global, database: &Database) -> Result<Schema, Fault>
@@ -94,5 +98,32 @@ impl Schema {
         ensures { UnlessMemory result (IsAutomatic database.now (described self.now) set name.now) }
     {
         next_value(alloc, database, &self.sets[set], &self.rules[set], name)
+    }
+
+    /// The records of the set at this place, its descriptor aside.
+    pub fn members<'d>(&self, database: &'d Database, set: usize) -> &'d [Range<usize>]
+        requires schema { IsSchema database.now (Ok (described self.now)) }
+        requires place { set < length (described self.now).sets }
+        ensures members { AreMembersAt database.now (described self.now) set result.now }
+        ensures within { AreWithin (length database.now) result.now }
+    {
+        members_of(database.records().as_slice(), &self.sets[set])
+    }
+
+    /// The counters of the set at this place, each ready for the number behind the greatest integer among the values of
+    /// its fields in the set.
+    pub fn counters(
+        &self,
+        alloc: Global,
+        database: &Database,
+        set: usize,
+    ) -> Result<Vec<Counter<'_>>, Fault>
+        requires schema { IsSchema database.now (Ok (described self.now)) }
+        requires place { set < length (described self.now).sets }
+        ensures counters { IfOk result (λ counters. AreCountersAt database.now (described self.now) set counters.items) }
+        ensures refusals { IfErr result (λ fault. fault ≡ Fault.OutOfMemory) }
+    {
+        let records = self.members(database, set);
+        counters_of(alloc, database.elements(), records, &self.rules[set])
     }
 }

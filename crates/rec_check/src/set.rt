@@ -1,6 +1,7 @@
 //! One set of records, and the sets of a text as they grow.
-ghost use Rattle.std.specs.Prelude.{◌≡◌, ◌-◌, ◌<◌, ◌^◌, OnOk};
+ghost use Rattle.std.specs.Prelude.{◌≡◌, ◌-◌, ◌<◌, ◌≤◌, ◌^◌, length, OnOk};
 ghost use Rattle.rec_check.specs.Steps.{with_record};
+ghost use Rattle.rec_check.specs.Violations.{members};
 
 use rec_text::Bytes;
 use std::alloc::AllocError;
@@ -15,6 +16,15 @@ pub struct Set_ {
     pub head: Option<usize>,
     /// The records that the set holds, its descriptor aside.
     pub members: Range<usize>,
+}
+
+/// The records of a set, its descriptor aside.
+pub(crate) fn members_of<'d>(records: &'d [Range<usize>], set: &Set_) -> &'d [Range<usize>]
+    requires ordered { set.now.members.start ≤ set.now.members.end }
+    requires within { set.now.members.end ≤ length records.now }
+    ensures { result.now ≡ members records.now set.now }
+{
+    &records[set.members.start..set.members.end]
 }
 
 /// Adds the record of an index behind the others: a descriptor of a type, or one more of the last set.

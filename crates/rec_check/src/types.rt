@@ -62,11 +62,11 @@ pub(crate) struct Types<'r> {
 }
 
 impl<'r> Types<'r> {
-    ghost use Rattle.std.specs.Prelude.{◌≡◌, ◌+◌, ◌++◌, ◌≤◌, ℕ, List, length, map, IfErr, IfOk, OnOk};
+    ghost use Rattle.std.specs.Prelude.{◌≡◌, ◌+◌, ◌++◌, ◌≤◌, ℕ, List, length, map, option_map, IfErr, IfOk, OnOk};
     ghost use Rattle.rec_text.specs.Places.{piece_of, pieces_of};
     ghost use Rattle.rec_check.specs.Fitting.{misfits, misfit_violations};
     ghost use Rattle.rec_check.specs.Tests.{type_in};
-    ghost use Rattle.rec_check.specs.Stored.{typing_stored};
+    ghost use Rattle.rec_check.specs.Stored.{type_stored, typing_stored};
     ghost use Rattle.rec_check.specs.Types.{type_for};
 
     /// Of two types for one field the later holds.
@@ -81,6 +81,14 @@ impl<'r> Types<'r> {
             place_names(&mut places, &typing.names, place)?;
         }
         Ok(Types { places, tests })
+    }
+
+    /// The type of the fields of a name.
+    pub(crate) fn type_of(&self, name: &[u8]) -> Option<&'r FieldType>
+        ensures { option_map (λ type_. type_stored type_.now) result ≡ type_in self.now name.now }
+    {
+        let place = *self.places.get(name)?;
+        Some(self.tests.get(place)?.type_)
     }
 
     /// Whether an element is a field with a type that its value doesn't fit.

@@ -6,6 +6,7 @@ pub mod Event
 pub mod Head
 pub mod Reading
 pub mod History
+pub mod Listing
 pub mod Scan
 pub mod Plans
 pub mod Bound

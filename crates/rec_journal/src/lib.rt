@@ -16,12 +16,14 @@ mod plan;
 mod reading;
 mod spelling;
 mod stacks;
+mod steps;
 
 pub use event::Tool;
 pub use event_laws::{events_are_bounded, one_spelling};
 pub use history::History;
 pub use history_laws::one_opening;
-pub use laws::{edits_lead_to_one_text, leads_to_one_text};
+pub use laws::{edits_lead_to_one_text, leads_to_one_text, moves_are_converse};
 pub use patch::{Direction, Hunk, Patch};
-pub use plan::{Plan, plan_edit, plan_undo};
+pub use plan::{Plan, plan_edit, plan_redo, plan_undo};
 pub use rec_text::{Bytes, Fault};
+pub use steps::{Step, Steps};

@@ -16,6 +16,7 @@ mod selection;
 pub use chooser::choose;
 pub use info::{InfoForm, write_info};
 pub use laws::one_selection;
+pub use parts::put_parts;
 pub use rec_check::{Schema, Set_};
 pub use rec_sex::{Expr, FieldList, IndexList};
 pub use rec_text::{Bytes, Database, Fault, Sink};

@@ -17,9 +17,13 @@ same_fault one other e = cc
 pub same_value : {A : Type 0} (one other : A) → ◌≡◌ {A = Result A Fault} (Ok one) (Ok other) → one ≡ other
 same_value one other e = cc
 
+-- two steps have one answer together, at most
+abbrev pub AreOne : {A : Type 0} → (Result A Fault → Type 0) → (Result A Fault → Type 0) → Type 0
+AreOne {A} step same = (one other : Result A Fault) → step one → same other → one ≡ other
+
 -- a step has one answer at most
 abbrev pub HasOne : {A : Type 0} → (Result A Fault → Type 0) → Type 0
-HasOne {A} step = (one other : Result A Fault) → step one → step other → one ≡ other
+HasOne step = AreOne step step
 
 -- a step has one answer at most, a refused pattern aside
 abbrev pub HasOneBut : {A : Type 0} → (Result A Fault → Type 0) → Type 0
@@ -37,22 +41,26 @@ refused_too answer fault e built k = built (e ∙ ap Err (same_fault fault BadPa
 
 -- ---- one step after another
 
-pub HasOne-Then : {A B : Type 0} (first : Result A Fault → Type 0) (next : A → Result B Fault → Type 0)
-    → HasOne first → ((a : A) → HasOne (next a)) → HasOne (Then first next)
-HasOne-Then first next first_one next_one one other (inl (f, is, e)) (inl (g, is_too, k)) = e ∙ ap Err (same_fault f g (first_one (Err f) (Err g) is is_too)) ∙ sym k
-HasOne-Then first next first_one next_one one other (inl (f, is, e)) (inr (b, is_too, k)) = absurd (no_both b f (first_one (Ok b) (Err f) is_too is))
-HasOne-Then first next first_one next_one one other (inr (a, is, e)) (inl (g, is_too, k)) = absurd (no_both a g (first_one (Ok a) (Err g) is is_too))
-HasOne-Then first next first_one next_one one other (inr (a, is, e)) (inr (b, is_too, k)) =
+pub AreOne-Then : {A B : Type 0} (first alike : Result A Fault → Type 0) (next behind : A → Result B Fault → Type 0)
+    → AreOne first alike → ((a : A) → AreOne (next a) (behind a)) → AreOne (Then first next) (Then alike behind)
+AreOne-Then first alike next behind first_one next_one one other (inl (f, is, e)) (inl (g, is_too, k)) = e ∙ ap Err (same_fault f g (first_one (Err f) (Err g) is is_too)) ∙ sym k
+AreOne-Then first alike next behind first_one next_one one other (inl (f, is, e)) (inr (b, is_too, k)) = absurd (no_both b f (sym (first_one (Err f) (Ok b) is is_too)))
+AreOne-Then first alike next behind first_one next_one one other (inr (a, is, e)) (inl (g, is_too, k)) = absurd (no_both a g (first_one (Ok a) (Err g) is is_too))
+AreOne-Then first alike next behind first_one next_one one other (inr (a, is, e)) (inr (b, is_too, k)) =
     next_one b one other (subst (λ x. next x one) (same_value a b (first_one (Ok a) (Ok b) is is_too)) e) k
 
+pub HasOne-Then : {A B : Type 0} (first : Result A Fault → Type 0) (next : A → Result B Fault → Type 0)
+    → HasOne first → ((a : A) → HasOne (next a)) → HasOne (Then first next)
+HasOne-Then first next first_one next_one = AreOne-Then first first next next first_one next_one
+
 -- of the steps, only the later one may refuse a pattern
-pub HasOneBut-after : {A B : Type 0} (first : Result A Fault → Type 0) (next : A → Result B Fault → Type 0)
-    → HasOne first → ((a : A) → HasOneBut (next a)) → HasOneBut (Then first next)
-HasOneBut-after first next first_one next_one one other (inl (f, is, e)) (inl (g, is_too, k)) _ _ =
+pub HasOneBut-after : {A B : Type 0} (first alike : Result A Fault → Type 0) (next : A → Result B Fault → Type 0) → AreOne first alike → ((a : A) → HasOneBut (next a))
+    → (one other : Result B Fault) → Then first next one → Then alike next other → one ≢ Err BadPattern → other ≢ Err BadPattern → one ≡ other
+HasOneBut-after first alike next first_one next_one one other (inl (f, is, e)) (inl (g, is_too, k)) _ _ =
     e ∙ ap Err (same_fault f g (first_one (Err f) (Err g) is is_too)) ∙ sym k
-HasOneBut-after first next first_one next_one one other (inl (f, is, e)) (inr (b, is_too, k)) _ _ = absurd (no_both b f (first_one (Ok b) (Err f) is_too is))
-HasOneBut-after first next first_one next_one one other (inr (a, is, e)) (inl (g, is_too, k)) _ _ = absurd (no_both a g (first_one (Ok a) (Err g) is is_too))
-HasOneBut-after first next first_one next_one one other (inr (a, is, e)) (inr (b, is_too, k)) built built_too =
+HasOneBut-after first alike next first_one next_one one other (inl (f, is, e)) (inr (b, is_too, k)) _ _ = absurd (no_both b f (sym (first_one (Err f) (Ok b) is is_too)))
+HasOneBut-after first alike next first_one next_one one other (inr (a, is, e)) (inl (g, is_too, k)) _ _ = absurd (no_both a g (first_one (Ok a) (Err g) is is_too))
+HasOneBut-after first alike next first_one next_one one other (inr (a, is, e)) (inr (b, is_too, k)) built built_too =
     next_one b one other (subst (λ x. next x one) (same_value a b (first_one (Ok a) (Ok b) is is_too)) e) k built built_too
 
 -- of the steps, only the first may refuse a pattern
@@ -66,12 +74,6 @@ HasOneBut-before first next first_one next_one one other (inr (a, is, e)) (inl (
     absurd (no_both a g (first_one (Ok a) (Err g) is is_too (no_both a BadPattern) (refused_too other g k built_too)))
 HasOneBut-before first next first_one next_one one other (inr (a, is, e)) (inr (b, is_too, k)) built built_too =
     next_one b one other (subst (λ x. next x one) (same_value a b (first_one (Ok a) (Ok b) is is_too (no_both a BadPattern) (no_both b BadPattern))) e) k
-
--- a first step that is a stronger one
-pub Then-first : {A B : Type 0} (first weaker : Result A Fault → Type 0) (next : A → Result B Fault → Type 0) → ((r : Result A Fault) → first r → weaker r)
-    → (answer : Result B Fault) → Then first next answer → Then weaker next answer
-Then-first first weaker next f answer (inl (fault, is, e)) = inl (fault, f (Err fault) is, e)
-Then-first first weaker next f answer (inr (a, is, h)) = inr (a, f (Ok a) is, h)
 
 -- ---- refusals aside from memory
 

@@ -89,7 +89,7 @@ first_nil : (a b : List ℕ) → a ++ b ≡ [] → a ≡ []
 first_nil [] b none = refl
 first_nil (c ∷ a) b none = cc
 
-some_text : (piece : Piece) (pieces : List Piece) → IsElement piece → text_of (piece ∷ pieces) ≢ []
+pub some_text : (piece : Piece) (pieces : List Piece) → IsElement piece → text_of (piece ∷ pieces) ≢ []
 some_text piece pieces is none = element_some piece.kind piece.bytes is (first_nil piece.bytes (text_of pieces) none)
 
 bytes-closed : (piece : Piece) → (closed piece).bytes ≡ closed_text piece.bytes
@@ -107,7 +107,7 @@ text_of-closed piece (next ∷ pieces) all ends =
     ap (λ t. t ++ text_of (map closed (next ∷ pieces))) here ∙ ap (λ t. piece.bytes ++ t) (text_of-closed next pieces all.1 ends.1)
     ∙ sym (closed_text-append piece.bytes (text_of (next ∷ pieces)) (some_text next pieces all.1.0))
 
-EndInNewlines-drop : (n : ℕ) (pieces : List Piece) → EndInNewlines pieces → EndInNewlines (drop n pieces)
+pub EndInNewlines-drop : (n : ℕ) (pieces : List Piece) → EndInNewlines pieces → EndInNewlines (drop n pieces)
 EndInNewlines-drop zero pieces ends = ends
 EndInNewlines-drop (suc n) [] ends = tt
 EndInNewlines-drop (suc n) (piece ∷ []) ends = EndInNewlines-drop n [] tt
@@ -124,16 +124,20 @@ record_closed : (own : List Piece) → 0 < length own → AllByRecursion IsEleme
 record_closed [] some all ends = absurd (omega (arith, some))
 record_closed (piece ∷ pieces) some all ends = text_of-closed piece pieces all ends
 
+pub IsElement-in : (pieces : List Piece) (record_ : Range ℕ) → AreElementsOf pieces (text_of pieces) → AllByRecursion IsElement (elements_in pieces record_)
+IsElement-in pieces record_ are =
+    let front = take record_.end pieces in
+    let P : List Piece → Type 0 = AllByRecursion IsElement in
+    let early = AllByRecursion-front IsElement front (drop record_.end pieces) (subst P (sym (take-append-drop record_.end pieces)) are.well_formed) in
+    AllByRecursion-behind IsElement (take record_.start front) (drop record_.start front) (subst P (sym (take-append-drop record_.start front)) early)
+
 pub elements_in-closed : (pieces : List Piece) (record_ : Range ℕ) → record_.start < record_.end → record_.end ≤ length pieces → AreElementsOf pieces (text_of pieces)
     → text_of (map closed (elements_in pieces record_)) ≡ closed_text (text_of (elements_in pieces record_))
 elements_in-closed pieces record_ some within are =
     let front = take record_.end pieces in
     let own = drop record_.start front in
-    let P : List Piece → Type 0 = AllByRecursion IsElement in
-    let early = AllByRecursion-front IsElement front (drop record_.end pieces) (subst P (sym (take-append-drop record_.end pieces)) are.well_formed) in
-    let all = AllByRecursion-behind IsElement (take record_.start front) own (subst P (sym (take-append-drop record_.start front)) early) in
     let size : 0 < length own = omega (arith, length-drop record_.start front, length-take-le record_.end pieces within) in
-    record_closed own size all (EndInNewlines-drop record_.start front (EndInNewlines-take record_.end pieces are.lines_end))
+    record_closed own size (IsElement-in pieces record_ are) (EndInNewlines-drop record_.start front (EndInNewlines-take record_.end pieces are.lines_end))
 
 -- ---- the comparison
 

@@ -13,28 +13,25 @@ use Rattle.rec_check.specs.Schemas.{Described, IsSchema}
 use Rattle.rec_journal.specs.Patch.{Splices}
 use Rattle.rec_edit.specs.declared.request.Action.{Action}
 use Rattle.rec_edit.specs.declared.outcome.Edited.{Edited}
-use Rattle.rec_edit.specs.declared.request.Edit.{Edit}
-use Rattle.rec_edit.specs.declared.request.Edit.TheVariants.{Delete, CommentOut, Set}
-use Rattle.rec_edit.specs.Task.{Wanted, Task, delete, comment_out, set, task_of}
-use Rattle.rec_edit.specs.Script.{Layout, TakesWhole, old_pieces, new_pieces, edited_text, hunks_of}
+use Rattle.rec_edit.specs.Task.{Wanted, Task, delete, comment_out, set}
+use Rattle.rec_edit.specs.Script.{Layout, TakesWhole, old_pieces, edited_text, hunks_of}
 use Rattle.rec_edit.specs.Rules.{with_blanks, taking_out, deletion, commenting, setting}
 use Rattle.rec_edit.specs.Wording.{AreItemsFor}
 use Rattle.rec_edit.specs.Outcome.{AreChosen, AreRemovable, Step, step_of, IsStep, IsSound, IsSoundUnlessForced, edited_by, IsOutcome, IsEditRefusal, PutsNoneIn}
 use Rattle.rec_edit.specs.Edits.{IsEditOf}
 use Rattle.rec_edit.specs.Effect.{HasEffect}
 use Rattle.rec_edit.specs.Endings.{FieldEdit}
-use Rattle.rec_edit.proofs.AnswerLemmas.{no_both, same_value, memory_or_weaker, Then-ok}
+use Rattle.rec_edit.proofs.AnswerLemmas.{same_value, memory_or_weaker, Then-ok}
+use Rattle.rec_edit.proofs.FaithfulLemmas.{IsFaithful}
 use Rattle.rec_edit.proofs.OutcomeLemmas.{one_outcome}
 use Rattle.rec_edit.proofs.RefusalLemmas.{RefusesSo-outcome}
 use Rattle.rec_edit.proofs.ScriptLemmas.{old_pieces-script_of, Splices-hunks_of, TakesWhole-hunks_of, same_where_no_hunk}
-use Rattle.rec_edit.proofs.ReadingLemmas.{step_is_laid, step_is_read, step_unchanged}
-use Rattle.rec_edit.proofs.EffectLemmas.{step_has_effect, step_is_sound}
 use Rattle.rec_edit.proofs.UnruledLemmas.{unruled_edit_is_sound}
 
 -- ---- by its kind
 
 -- a step of the same chosen records and the same layout
-same_step : (pieces : List Piece) (given chosen : List (Range ℕ)) (laid layout : Layout) (edited : Edited) → edited ≡ edited_by (step_of pieces given laid)
+pub same_step : (pieces : List Piece) (given chosen : List (Range ℕ)) (laid layout : Layout) (edited : Edited) → edited ≡ edited_by (step_of pieces given laid)
     → given ≡ chosen → laid ≡ layout → ◌≡◌ {A = Result Edited Fault} (Ok edited) (Ok (edited_by (step_of pieces chosen layout)))
 same_step pieces given chosen laid layout edited is same alike =
     ap Ok (is ∙ ap (λ ranges. edited_by (step_of pieces ranges laid)) same ∙ ap (λ l. edited_by (step_of pieces chosen l)) alike)
@@ -98,15 +95,8 @@ module _ (pieces : List Piece) (schema : Described) (force : Bool) (wanted : Wan
 -- ---- the outcome
 
 module _ (pieces : List Piece) (schema : Described) (task : Task) where
-  pub outcome-refused : (force : Bool) (fault : Fault) → IsMemoryOr fault (IsEditOf pieces schema force task (Err fault)) → IsMemoryOr fault (IsOutcome pieces schema force task (Err fault))
-  outcome-refused force fault is = memory_or_weaker fault (IsEditOf pieces schema force task (Err fault)) (IsOutcome pieces schema force task (Err fault)) refused is
-    where
-      refused : IsEditOf pieces schema force task (Err fault) → IsOutcome pieces schema force task (Err fault)
-      refused (inl (other, there, e)) = inl (other, there, e)
-      refused (inr (step, there, e)) = absurd (no_both (edited_by step) fault (sym e))
-
   -- the step that an edit is
-  pub step_of_edit : (force : Bool) (edited : Edited) → IsEditOf pieces schema force task (Ok edited) → (step : Step) × IsStep pieces schema force task (Ok step) × (edited ≡ edited_by step)
+  step_of_edit : (force : Bool) (edited : Edited) → IsEditOf pieces schema force task (Ok edited) → (step : Step) × IsStep pieces schema force task (Ok step) × (edited ≡ edited_by step)
   step_of_edit force edited is =
       let parts = Then-ok (IsStep pieces schema force task) (λ step answer. answer ≡ Ok (edited_by step)) edited is in
       (parts.0, parts.1, same_value edited (edited_by parts.0) parts.2)
@@ -142,43 +132,27 @@ fault_is OutOfMemory is = tt
 fault_is _ is = is
 
 module _ (pieces : List Piece) (schema : Described) (force : Bool) (task : Task) where
-  pub only_outcome : (result : Result Edited Fault) → PutsNoneIn task → IsSchema pieces (Ok schema) → UnlessMemory result (IsOutcome pieces schema force task)
+  pub only_outcome : (result : Result Edited Fault) → IsSchema pieces (Ok schema) → UnlessMemory result (IsOutcome pieces schema force task)
       → (other : Result Edited Fault) → IsOutcome pieces schema force task other → other ≢ Err BadPattern
       → UnlessMemory result (λ answer. (answer ≢ Err BadPattern) → answer ≡ other)
-  only_outcome (Ok edited) none is_schema found other is built = λ built_too. one_outcome pieces schema schema force task (Ok edited) other none is_schema is_schema found is built_too built
-  only_outcome (Err fault) none is_schema found other is built =
+  only_outcome (Ok edited) is_schema found other is built = λ built_too. one_outcome pieces schema schema force task (Ok edited) other is_schema is_schema found is built_too built
+  only_outcome (Err fault) is_schema found other is built =
       memory_or_weaker fault (IsOutcome pieces schema force task (Err fault)) ((Err fault ≢ Err BadPattern) → Err fault ≡ other)
-      (λ there built_too. one_outcome pieces schema schema force task (Err fault) other none is_schema is_schema there is built_too built) found
-
-  -- only these refusals, where the edited text is read, and its descriptors are sound
-  pub outcome-refusals : (result : Result Edited Fault) → PutsNoneIn task
-      → ((step : Step) → IsStep pieces schema force task (Ok step) → AreElementsOf (new_pieces step.script) (edited_text step.script) × ((same : Described) × IsSchema (new_pieces step.script) (Ok same)))
-      → UnlessMemory result (IsOutcome pieces schema force task) → IfErr result IsEditRefusal
-  outcome-refusals (Ok edited) none sound found = tt
-  outcome-refusals (Err fault) none sound found =
-      fault_is fault (memory_or_weaker fault (IsOutcome pieces schema force task (Err fault)) (IsEditRefusal fault) (RefusesSo-outcome pieces schema force task none sound (Err fault)) found)
+      (λ there built_too. one_outcome pieces schema schema force task (Err fault) other is_schema is_schema there is built_too built) found
 
   -- the step of an outcome
-  pub outcome_step : (edited : Edited) → IsOutcome pieces schema force task (Ok edited) → (step : Step) × IsStep pieces schema force task (Ok step) × (edited ≡ edited_by step)
+  outcome_step : (edited : Edited) → IsOutcome pieces schema force task (Ok edited) → (step : Step) × IsStep pieces schema force task (Ok step) × (edited ≡ edited_by step)
   outcome_step edited is =
       let parts = Then-ok (IsStep pieces schema force task) (λ step. Then (IsSoundUnlessForced force (edited_text step.script)) (λ _ answer. answer ≡ Ok (edited_by step))) edited is in
       let rest = Then-ok (IsSoundUnlessForced force (edited_text parts.0.script)) (λ _ answer. answer ≡ Ok (edited_by parts.0)) edited parts.2 in
       (parts.0, parts.1, same_value edited (edited_by parts.0) rest.2)
 
-  -- what a step means for the records, so does the outcome
-  pub outcome-effect : (result : Result Edited Fault) → ((step : Step) → IsStep pieces schema force task (Ok step) → HasEffect pieces schema task (edited_text step.script))
-      → UnlessMemory result (IsOutcome pieces schema force task) → IfOk result (λ edited. HasEffect pieces schema task edited.text)
-  outcome-effect (Ok edited) has found =
-      let (step, is, made) = outcome_step edited found in
-      subst (λ e. HasEffect pieces schema task e.text) (sym made) (has step is)
-  outcome-effect (Err fault) has found = tt
-
-  module _ (none : PutsNoneIn task) (are : AreElementsOf pieces (text_of pieces)) where
+  module _ (faithful : (step : Step) → IsStep pieces schema force task (Ok step) → IsFaithful pieces schema task step) where
     -- the old elements of the step are those of the text
     old_pieces-step : (step : Step) → IsStep pieces schema force task (Ok step) → old_pieces step.script ≡ pieces
     old_pieces-step step is =
-        let laid = step_is_laid pieces schema force task step are none is in
-        ap old_pieces laid.is ∙ old_pieces-script_of laid.layout pieces
+        let of_step = faithful step is in
+        ap old_pieces of_step.is ∙ old_pieces-script_of of_step.layout pieces
 
     pub outcome-leads : (result : Result Edited Fault) → UnlessMemory result (IsOutcome pieces schema force task)
         → IfOk result (λ edited. Splices edited.patch (text_of pieces) edited.text)
@@ -193,7 +167,7 @@ module _ (pieces : List Piece) (schema : Described) (force : Bool) (task : Task)
     outcome-unchanged (Ok edited) found =
         let (step, is, made) = outcome_step edited found in
         let same = λ (no_hunk : hunks_of step.script ≡ []). same_where_no_hunk step.script no_hunk ∙ ap text_of (old_pieces-step step is) in
-        subst (λ e. (e.patch ≡ []) ↔ (e.text ≡ text_of pieces)) (sym made) (same, step_unchanged pieces schema force task step are none is)
+        subst (λ e. (e.patch ≡ []) ↔ (e.text ≡ text_of pieces)) (sym made) (same, (faithful step is).unchanged)
     outcome-unchanged (Err fault) found = tt
 
     pub outcome-whole : (result : Result Edited Fault) → UnlessMemory result (IsOutcome pieces schema force task)
@@ -204,19 +178,13 @@ module _ (pieces : List Piece) (schema : Described) (force : Bool) (task : Task)
         (subst (λ old. AllByRecursion (TakesWhole old) (hunks_of step.script)) (old_pieces-step step is) (TakesWhole-hunks_of step.script))
     outcome-whole (Err fault) found = tt
 
-    module _ (is_schema : IsSchema pieces (Ok schema)) where
-      pub edit-refusals : (result : Result Edited Fault) → UnlessMemory result (IsOutcome pieces schema force task) → IfErr result IsEditRefusal
-      edit-refusals result found = outcome-refusals result none
-          (λ step is.
-          let read = step_is_read pieces schema force task step are none is in
-          (read, step_is_sound pieces schema force task step none read is_schema are is)) found
+    pub outcome-refusals : (result : Result Edited Fault) → UnlessMemory result (IsOutcome pieces schema force task) → IfErr result IsEditRefusal
+    outcome-refusals (Ok edited) found = tt
+    outcome-refusals (Err fault) found =
+        fault_is fault (memory_or_weaker fault (IsOutcome pieces schema force task (Err fault)) (IsEditRefusal fault) (RefusesSo-outcome pieces schema force task faithful (Err fault)) found)
 
-      pub edit-effect : (result : Result Edited Fault) → UnlessMemory result (IsOutcome pieces schema force task) → IfOk result (λ edited. HasEffect pieces schema task edited.text)
-      edit-effect result found =
-          outcome-effect result (λ step is. step_has_effect pieces schema force task step none (step_is_read pieces schema force task step are none is) is_schema are is) found
-
--- these edits put no new record in
-pub none_put : (edit : Edit) → PutsNoneIn (task_of edit)
-none_put (Delete selection) = tt
-none_put (CommentOut selection) = tt
-none_put (Set selection list action) = tt
+    pub outcome-effect : (result : Result Edited Fault) → UnlessMemory result (IsOutcome pieces schema force task) → IfOk result (λ edited. HasEffect pieces schema task edited.text)
+    outcome-effect (Ok edited) found =
+        let (step, is, made) = outcome_step edited found in
+        subst (λ e. HasEffect pieces schema task e.text) (sym made) (faithful step is).effect
+    outcome-effect (Err fault) found = tt

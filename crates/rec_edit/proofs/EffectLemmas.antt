@@ -48,7 +48,7 @@ use Rattle.rec_edit.proofs.FieldsLaidLemmas.{ArePlainItems, IsInner-setting, set
 use Rattle.rec_edit.proofs.CommentingLemmas.{IsInner-commenting}
 use Rattle.rec_edit.proofs.TakingOutLemmas.{Fits-deletion}
 
-map-map : {X Y Z : Type 0} (f : Y → Z) (g : X → Y) (xs : List X) → map (λ x. f (g x)) xs ≡ map f (map g xs)
+pub map-map : {X Y Z : Type 0} (f : Y → Z) (g : X → Y) (xs : List X) → map (λ x. f (g x)) xs ≡ map f (map g xs)
 map-map f g [] = refl
 map-map f g (x ∷ xs) = ap (λ l. f (g x) ∷ l) (map-map f g xs)
 
@@ -80,9 +80,10 @@ module _ (pieces : List Piece) (layout : Layout) (selected : List ℕ) (made : L
     plain_from (i + 1) rest all none.1,
   )
 
-  pub gives_way : AreRecords pieces records → AllByRecursion IsElement pieces → NoneNamed selected 0 (types_of pieces records) → LaysNeatly layout → layout.put 0 ≡ []
+  pub laid_gives_way : AreRecords pieces records → AllByRecursion IsElement pieces → NoneNamed selected 0 (types_of pieces records)
+      → map closed (new_pieces (script_of layout pieces)) ≡ laid_from layout 0 pieces
       → Fits pieces layout selected made false 0 0 records → GivesWay pieces (new_pieces (script_of layout pieces)) selected made records
-  gives_way are all none neatly first fits =
+  laid_gives_way are all none is_laid fits =
       let new : List Piece = new_pieces (script_of layout pieces) in
       let cut : Cut pieces false 0 records = Cut-AreRecords pieces records are in
       let news : List (List Piece) = map (laid_at pieces layout selected made) records in
@@ -92,7 +93,7 @@ module _ (pieces : List Piece) (layout : Layout) (selected : List ℕ) (made : L
       own_of-Spaced false (laid_from layout 0 pieces) news (Spaced-Fits pieces layout selected made false false 0 0 records cut fits) in
       let owns : closed_owns new there.0 ≡ closes news =
       map-map (map closed) (elements_in new) there.0 ∙ ap (map (map closed)) (own_of-records new there.0 there.1) ∙ sym (own_of-map closed closed-blank closed-field new)
-      ∙ ap own_of (closed-new_pieces layout pieces neatly first) ∙ laid in
+      ∙ ap own_of is_laid ∙ laid in
       record {
         ranges = there.0;
         are = there.1;
@@ -100,13 +101,17 @@ module _ (pieces : List Piece) (layout : Layout) (selected : List ℕ) (made : L
         same = ap (described selected made) owns ∙ same_descriptors selected made 0 (closed_owns pieces records) news turned;
       }
 
+  pub gives_way : AreRecords pieces records → AllByRecursion IsElement pieces → NoneNamed selected 0 (types_of pieces records) → LaysNeatly layout → layout.put 0 ≡ []
+      → Fits pieces layout selected made false 0 0 records → GivesWay pieces (new_pieces (script_of layout pieces)) selected made records
+  gives_way are all none neatly first fits = laid_gives_way are all none (closed-new_pieces layout pieces neatly first) fits
+
 -- ---- the steps of an edit that isn't refused
 
 then_ok : {A B : Type 0} (first : Result A Fault → Type 0) (next : A → Result B Fault → Type 0) (b : B) → Then first next (Ok b) → (a : A) × first (Ok a) × next a (Ok b)
 then_ok first next b (inl (fault, refused, e)) = absurd (cc)
 then_ok first next b (inr found) = found
 
-ok_same : {A : Type 0} (a b : A) → ◌≡◌ {A = Result A Fault} (Ok a) (Ok b) → a ≡ b
+pub ok_same : {A : Type 0} (a b : A) → ◌≡◌ {A = Result A Fault} (Ok a) (Ok b) → a ≡ b
 ok_same a b e = cc
 
 -- the records that are meant
@@ -117,7 +122,7 @@ pub record AreMeant (pieces : List Piece) (sets : List Set_) (wanted : Wanted) (
   pub are : AreRecords pieces records
   pub chosen_are : chosen ≡ filter_map (slice_get records) selected
 
-chosen_meant : (pieces : List Piece) (sets : List Set_) (wanted : Wanted) (chosen : List (Range ℕ)) → AreChosen pieces sets wanted (Ok chosen) → AreMeant pieces sets wanted chosen
+pub chosen_meant : (pieces : List Piece) (sets : List Set_) (wanted : Wanted) (chosen : List (Range ℕ)) → AreChosen pieces sets wanted (Ok chosen) → AreMeant pieces sets wanted chosen
 chosen_meant pieces sets wanted chosen (inl (fault, refused, e)) = absurd (cc)
 chosen_meant pieces sets wanted chosen (inr (selected, selects, (records, are, same))) = record {
   selected = selected;
@@ -196,7 +201,7 @@ effect_of_done pieces schema task script done are = record {
   leads = done.leads (entries_from None (closed_owns pieces done.records)) (entries_from None (closed_owns (new_pieces script) done.gives.ranges)) done.gives.remade_are;
 }
 
-script_is : (step other : Step) → ◌≡◌ {A = Result Step Fault} (Ok step) (Ok other) → step.script ≡ other.script
+pub script_is : (step other : Step) → ◌≡◌ {A = Result Step Fault} (Ok step) (Ok other) → step.script ≡ other.script
 script_is step other e = ap (λ s. s.script) (ok_same step other e)
 
 module _ (pieces : List Piece) (schema : Described) (is : IsDescribed pieces schema) (all : AllByRecursion IsElement pieces) where
@@ -300,7 +305,7 @@ map_says : (own : List Piece) → AllByRecursion IsElement own → map says (map
 map_says [] all = refl
 map_says (piece ∷ own) all = ap₂ (λ x xs. x ∷ xs) (says_closed piece all.0) (map_says own all.1)
 
-type_of-closed : (own : List Piece) → AllByRecursion IsElement own → type_of (map closed own) ≡ type_of own
+pub type_of-closed : (own : List Piece) → AllByRecursion IsElement own → type_of (map closed own) ≡ type_of own
 type_of-closed [] all = refl
 type_of-closed (piece ∷ own) all =
     let names : Piece → List ℕ = λ piece. first_word (words (value_of piece)) in
@@ -322,7 +327,7 @@ said_if true x y xs ys first rest = ap₂ (λ a b. a ∷ b) first rest
 said_if false x y xs ys first rest = rest
 
 -- what the descriptors among these say
-abbrev said : List (List Piece) → List (List (List ℕ × List ℕ))
+abbrev pub said : List (List Piece) → List (List (List ℕ × List ℕ))
 said owns = map (map says) (filter (λ own. is_some (type_of own)) owns)
 
 said-closed : (owns : List (List Piece)) → AllByRecursion (AllByRecursion IsElement) owns → said (map (map closed) owns) ≡ said owns
@@ -336,22 +341,26 @@ all_parts : (pieces : List Piece) (records : List (Range ℕ)) → AllByRecursio
 all_parts pieces [] all = tt
 all_parts pieces (r ∷ records) all = (elements_part pieces r all, all_parts pieces records all)
 
-said-records : (pieces : List Piece) (records : List (Range ℕ)) → AllByRecursion IsElement pieces → said (closed_owns pieces records) ≡ descriptors pieces records
+pub said-records : (pieces : List Piece) (records : List (Range ℕ)) → AllByRecursion IsElement pieces → said (closed_owns pieces records) ≡ descriptors pieces records
 said-records pieces records all =
     ap said (map-map (map closed) (elements_in pieces) records) ∙ said-closed (map (elements_in pieces) records) (all_parts pieces records all)
 
--- no descriptor of the edited text is faulty
 -- no descriptor of the edited text is faulty, and its sets have the same types
-pub step_keeps_sets : (pieces : List Piece) (schema : Described) (force : Bool) (task : Task) (step : Step) → PutsNoneIn task → AreElementsOf (new_pieces step.script) (edited_text step.script)
-    → IsSchema pieces (Ok schema) → AreElementsOf pieces (text_of pieces) → IsStep pieces schema force task (Ok step)
-    → (same : Described) × IsSchema (new_pieces step.script) (Ok same) × (map (λ s. s.kind) same.sets ≡ map (λ s. s.kind) schema.sets)
-step_keeps_sets pieces schema force task step puts edited is elements found =
-    let done : IsDone pieces schema task step.script = step_done pieces schema is elements.well_formed force task step puts found in
-    let new : List Piece = new_pieces step.script in
+pub done_keeps_sets : (pieces : List Piece) (schema : Described) (task : Task) (script : List Part) → IsDone pieces schema task script → AreElementsOf (new_pieces script) (edited_text script)
+    → IsSchema pieces (Ok schema) → AreElementsOf pieces (text_of pieces)
+    → (same : Described) × IsSchema (new_pieces script) (Ok same) × (map (λ s. s.kind) same.sets ≡ map (λ s. s.kind) schema.sets)
+done_keeps_sets pieces schema task script done edited is elements =
+    let new : List Piece = new_pieces script in
     let same : descriptors pieces done.records ≡ descriptors new done.gives.ranges =
     sym (said-records pieces done.records elements.well_formed) ∙ ap (map (map says)) (sym done.gives.same) ∙ said-records new done.gives.ranges edited.well_formed in
     let answer = schemas_of_same pieces new done.records done.gives.ranges schema done.are done.gives.are same is in
     (answer.0, answer.1, answer.3)
+
+pub step_keeps_sets : (pieces : List Piece) (schema : Described) (force : Bool) (task : Task) (step : Step) → PutsNoneIn task → AreElementsOf (new_pieces step.script) (edited_text step.script)
+    → IsSchema pieces (Ok schema) → AreElementsOf pieces (text_of pieces) → IsStep pieces schema force task (Ok step)
+    → (same : Described) × IsSchema (new_pieces step.script) (Ok same) × (map (λ s. s.kind) same.sets ≡ map (λ s. s.kind) schema.sets)
+step_keeps_sets pieces schema force task step puts edited is elements found =
+    done_keeps_sets pieces schema task step.script (step_done pieces schema is elements.well_formed force task step puts found) edited is elements
 
 pub step_is_sound : (pieces : List Piece) (schema : Described) (force : Bool) (task : Task) (step : Step) → PutsNoneIn task → AreElementsOf (new_pieces step.script) (edited_text step.script)
     → IsSchema pieces (Ok schema) → AreElementsOf pieces (text_of pieces) → IsStep pieces schema force task (Ok step)

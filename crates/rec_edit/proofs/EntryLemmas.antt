@@ -117,7 +117,7 @@ module _ (test : Piece → Bool) where
 
 -- ---- records that give way, one by one
 
-kind_behind-none : (kind : Option (List ℕ)) (own : List Piece) → type_of own ≡ None → kind_behind kind own ≡ kind
+pub kind_behind-none : (kind : Option (List ℕ)) (own : List Piece) → type_of own ≡ None → kind_behind kind own ≡ kind
 kind_behind-none kind own none = ap (λ o. elim o as (λ x. Option (List ℕ)) [ None ↦ kind | Some named ↦ Some named ]) none
 
 module _ (selected : List ℕ) (made : List Piece → List Piece) where

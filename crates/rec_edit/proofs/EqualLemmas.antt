@@ -11,7 +11,7 @@ use Rattle.rec_edit.proofs.SettledLemmas.{parts_from-cons}
 
 -- ---- the old elements of a script are those of the text
 
-old_pieces-settled : (parts : List Part) → old_pieces (settled parts) ≡ old_pieces parts
+pub old_pieces-settled : (parts : List Part) → old_pieces (settled parts) ≡ old_pieces parts
 old_pieces-settled [] = refl
 old_pieces-settled (part ∷ []) =
     let open_part : Part = record { old = part.old; new = opened part.new } in
@@ -48,7 +48,7 @@ module _ (old new olds news : List Piece) (same : old ++ olds ≡ new ++ news) w
   same_front : length old ≡ length new → old ≡ new
   same_front sizes = sym (take_at old olds (length new) sizes) ∙ ap (take (length new)) same ∙ take_at new news (length new) refl
 
-  same_rest : old ≡ new → olds ≡ news
+  pub same_rest : old ≡ new → olds ≡ news
   same_rest fronts = append_cancel_left new olds news (ap (λ front. front ++ olds) (sym fronts) ∙ same)
 
   same_sizes : length old + length olds ≡ length new + length news

@@ -66,14 +66,14 @@ not_rec (b ∷ bs) plain =
     let other : (b == 37) ≡ false = passes_apart is_letter b 37 letter refl in
     rw other refl
 
-plain_colon : (name rest : List ℕ) → is_plain_name name ≡ true → colon_of (name ++ 58 ∷ rest) ≡ Some (length name)
+pub plain_colon : (name rest : List ℕ) → is_plain_name name ≡ true → colon_of (name ++ 58 ∷ rest) ≡ Some (length name)
 plain_colon [] rest plain = absurd (false≢true plain)
 plain_colon (b ∷ bs) rest plain =
     let parts = and_parts (is_letter b) (list_all continues_name bs) plain in
     let begins : begins_name b ≡ true = or_left (is_letter b) (b == 37) parts.0 in
     rw begins (ap (option_map suc) (name_end-all bs rest parts.1))
 
-named_as : (name rest : List ℕ) → colon_of (name ++ 58 ∷ rest) ≡ Some (length name) → name_of (record { kind = Field; bytes = name ++ 58 ∷ rest }) ≡ name
+pub named_as : (name rest : List ℕ) → colon_of (name ++ 58 ∷ rest) ≡ Some (length name) → name_of (record { kind = Field; bytes = name ++ 58 ∷ rest }) ≡ name
 named_as name rest at = ap (λ o. option_map_or (λ c. take c (name ++ 58 ∷ rest)) o []) at ∙ take_at name (58 ∷ rest) (length name) refl
 
 found_suc : (o : Option ℕ) (c : ℕ) → option_map suc o ≡ Some c → (k : ℕ) × (o ≡ Some k) × (c ≡ suc k)
@@ -147,13 +147,13 @@ name_of-canonical value Comment bytes = refl
 name_of-canonical value Field bytes = canonical_same value bytes (colon_of bytes) refl
 
 -- an element is no `%rec` field
-abbrev IsOther : Piece → Type 0
+abbrev pub IsOther : Piece → Type 0
 IsOther piece = has_name rec_name piece ≡ false
 
 canonical_other : (value : List ℕ) (piece : Piece) → has_name rec_name piece ≡ false → has_name rec_name (canonical (name_of piece) value) ≡ false
 canonical_other value piece other = ap (λ name. bytes_eq name rec_name) (name_of-canonical value piece.kind piece.bytes) ∙ other
 
-plain_canonical : (name value : List ℕ) → is_plain_name name ≡ true → has_name rec_name (canonical name value) ≡ false
+pub plain_canonical : (name value : List ℕ) → is_plain_name name ≡ true → has_name rec_name (canonical name value) ≡ false
 plain_canonical name value plain =
     ap (λ n. bytes_eq n rec_name) (named_as name (32 ∷ (folded value ++ 10 ∷ [])) (plain_colon name (32 ∷ (folded value ++ 10 ∷ [])) plain)) ∙ not_rec name plain
 

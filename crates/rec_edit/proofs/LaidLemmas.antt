@@ -42,7 +42,7 @@ new_pieces-changing piece new (next ∷ parts) = refl
 abbrev pub Unties : Layout → Type 0
 Unties layout = (i : ℕ) → layout.tied i ≡ false
 
-new_pieces-parts_from : (i : ℕ) (layout : Layout) (pieces : List Piece) → Unties layout → new_pieces (parts_from i layout pieces) ≡ layout.put i ++ laid_from layout i pieces
+pub new_pieces-parts_from : (i : ℕ) (layout : Layout) (pieces : List Piece) → Unties layout → new_pieces (parts_from i layout pieces) ≡ layout.put i ++ laid_from layout i pieces
 new_pieces-parts_from i layout [] unties = new_pieces-putting (layout.put i) []
 new_pieces-parts_from i layout (piece ∷ pieces) unties =
     let rest : List Part = parts_from (i + 1) layout pieces in
@@ -103,7 +103,7 @@ closed-reopened piece (front, is, other) =
 pub closed-neat : (piece : Piece) → Neat piece → Ends piece
 closed-neat piece (front, is, other) = ap ends_newline is ∙ ends_newline-push front
 
-map-closed-opened : (pieces : List Piece) → AllByRecursion Neat pieces → map closed (opened pieces) ≡ pieces
+pub map-closed-opened : (pieces : List Piece) → AllByRecursion Neat pieces → map closed (opened pieces) ≡ pieces
 map-closed-opened [] all = refl
 map-closed-opened (piece ∷ []) all = ap (λ p. p ∷ []) (closed-reopened piece all.0)
 map-closed-opened (piece ∷ next ∷ pieces) all = ap₂ (λ p ps. p ∷ ps) (closed-ends piece (closed-neat piece all.0)) (map-closed-opened (next ∷ pieces) all.1)
@@ -123,14 +123,14 @@ pub record LaysNeatly (layout : Layout) : Type 0 where
   pub neat : (i : ℕ) (piece : Piece) → Neat piece → AllByRecursion Neat (layout.becomes i piece)
   pub put : (i : ℕ) → AllByRecursion Ends (layout.put i)
 
-Ends-laid_from : (layout : Layout) (i : ℕ) (pieces : List Piece) → LaysNeatly layout → AllByRecursion Ends (laid_from layout i pieces)
+pub Ends-laid_from : (layout : Layout) (i : ℕ) (pieces : List Piece) → LaysNeatly layout → AllByRecursion Ends (laid_from layout i pieces)
 Ends-laid_from layout i [] neatly = tt
 Ends-laid_from layout i (piece ∷ pieces) neatly =
     all_append Ends (layout.becomes i (closed piece)) (layout.put (i + 1) ++ laid_from layout (i + 1) pieces) (neatly.ends i (closed piece) (Ends-closed piece))
     (all_append Ends (layout.put (i + 1)) (laid_from layout (i + 1) pieces) (neatly.put (i + 1)) (Ends-laid_from layout (i + 1) pieces neatly))
 
 -- a part whose old elements lack a newline has neat new ones
-abbrev Reopens : Part → Type 0
+abbrev pub Reopens : Part → Type 0
 Reopens part = lacks_newline (text_of part.old) ≡ true → map closed (opened part.new) ≡ map closed part.new
 
 if_lacking : (lacks : Bool) (part : Part) → (lacks ≡ true → map closed (opened part.new) ≡ map closed part.new)
@@ -139,7 +139,7 @@ if_lacking true part reopens =
     ap (map closed) (append-nil (opened part.new)) ∙ reopens refl ∙ sym (ap (map closed) (append-nil part.new))
 if_lacking false part reopens = refl
 
-closed-settled : (parts : List Part) → AllByRecursion Reopens parts → map closed (new_pieces (settled parts)) ≡ map closed (new_pieces parts)
+pub closed-settled : (parts : List Part) → AllByRecursion Reopens parts → map closed (new_pieces (settled parts)) ≡ map closed (new_pieces parts)
 closed-settled [] all = refl
 closed-settled (part ∷ []) all = if_lacking (lacks_newline (text_of part.old)) part all.0
 closed-settled (part ∷ next ∷ parts) all =
@@ -168,7 +168,7 @@ Reopens-changing : (piece : Piece) (new : List Piece) (parts : List Part) → Re
 Reopens-changing piece new [] one all = (one, tt)
 Reopens-changing piece new (next ∷ parts) one all = (one, all)
 
-parts_reopen : (i : ℕ) (layout : Layout) (pieces : List Piece) → LaysNeatly layout → AllByRecursion Reopens (parts_from i layout pieces)
+pub parts_reopen : (i : ℕ) (layout : Layout) (pieces : List Piece) → LaysNeatly layout → AllByRecursion Reopens (parts_from i layout pieces)
 parts_reopen i layout [] neatly = Reopens-putting (layout.put i) [] tt
 parts_reopen i layout (piece ∷ pieces) neatly =
     let rest : List Part = parts_from (i + 1) layout pieces in

@@ -36,6 +36,39 @@ pub mod ClosedLemmas
 pub mod ClosedValueLemmas
 pub mod MemberLemmas
 pub mod NeatLemmas
+pub mod FaithfulLemmas
 pub mod FieldsLaidLemmas
 pub mod EffectLemmas
 pub mod UnruledLemmas
+pub mod TiedLemmas
+pub mod ReplacementLemmas
+pub mod ApartLemmas
+pub mod ReplacedPartLemmas
+pub mod OwnElementLemmas
+pub mod ReplaceLemmas
+pub mod BorderLemmas
+pub mod InsertedLemmas
+pub mod InsertingLemmas
+pub mod AutomaticNameLemmas
+pub mod NewRecordLemmas
+pub mod SetPlaceLemmas
+pub mod PlacedLemmas
+pub mod NewEntryLemmas
+pub mod InsertLemmas
+pub mod FilledLemmas
+pub mod FillingLemmas
+pub mod FilledRecordLemmas
+pub mod AutoFillLemmas
+pub mod EveryKindLemmas
+pub mod TieLemmas
+pub mod ReplacePlanLemmas
+pub mod FreshLemmas
+pub mod SiteLemmas
+pub mod PutLemmas
+pub mod BeginLemmas
+pub mod InsertMadeLemmas
+mod NumberLemmas
+mod FillLemmas
+mod AutomaticLemmas
+pub mod FillMadeLemmas
+pub mod FillPlanLemmas

@@ -1,4 +1,4 @@
--- What layouts put in the place of elements that end in newlines ends in newlines, and none of them ties elements.
+-- What layouts put in the place of elements that end in newlines ends in newlines.
 use Rattle.std.proofs.Common.{◌≡◌, ◌∙◌, ℕ, zero, suc, ◌<◌, true, eqb, List, [], ◌∷◌, ◌++◌, length, map, filter, drop, take, flat_map, Option, None, Some, refl, sym, inl, inr, arith, false, if◌then◌else◌, ◌==◌}
 use Rattle.std.proofs.lemmas.Bool.{cond_both, cases_lt}
 use Rattle.std.proofs.lemmas.List.{get_or_past, length-take}
@@ -18,13 +18,13 @@ use Rattle.rec_edit.specs.declared.request.Action.{Action}
 use Rattle.rec_edit.specs.declared.request.Action.TheVariants.{Set, Add, SetAdd, Rename, Delete, Comment as CommentFields}
 use Rattle.rec_edit.specs.Rules.{physical_lines, canonical, is_own, is_picked, picked_becomes, picks_none, added, taking_out, commenting, setting}
 use Rattle.rec_edit.specs.Comments.{comments_of}
-use Rattle.rec_edit.specs.Drafts.{LaysLines, TiesNone}
+use Rattle.rec_edit.specs.Drafts.{LaysLines}
 
 -- the text, or each of these elements, ends in a newline
-abbrev IsEnded : List ℕ → Type 0
+abbrev pub IsEnded : List ℕ → Type 0
 IsEnded text = ends_newline text ≡ true
 
-abbrev AreEnded : List Piece → Type 0
+abbrev pub AreEnded : List Piece → Type 0
 AreEnded pieces = AllByRecursion (λ piece. ends_newline piece.bytes ≡ true) pieces
 
 abbrev LinesEnd : List (List ℕ) → Type 0
@@ -61,7 +61,7 @@ comments_of-end text ends = comments_end (physical_lines text) (LinesEnd-physica
 
 -- ---- fields
 
-canonical-ends : (name value : List ℕ) → IsEnded (field_of name value)
+pub canonical-ends : (name value : List ℕ) → IsEnded (field_of name value)
 canonical-ends name value = ends_newline-append name (58 ∷ 32 ∷ (folded value ++ 10 ∷ [])) (ends_newline-append (58 ∷ 32 ∷ folded value) (10 ∷ []) refl)
 
 canonicals_end : (value : List ℕ) (items : List Item) → AreEnded (map (λ item. canonical item.name value) items)
@@ -114,7 +114,7 @@ added-ends (Rename name) items own = tt
 added-ends Delete items own = tt
 added-ends CommentFields items own = tt
 
-AreEnded-append : (some more : List Piece) → AreEnded some → AreEnded more → AreEnded (some ++ more)
+pub AreEnded-append : (some more : List Piece) → AreEnded some → AreEnded more → AreEnded (some ++ more)
 AreEnded-append [] more front behind = behind
 AreEnded-append (piece ∷ some) more front behind = (front.0, AreEnded-append some more front.1 behind)
 
@@ -142,12 +142,3 @@ LaysLines-setting action items pieces chosen = record {
   put = λ i. AreEnded-flat_map (λ range. if range.end == i then added action items (elements_in pieces range) else []) chosen
       (λ range. cond_both (eqb range.end i) (added action items (elements_in pieces range)) [] AreEnded (λ _. added-ends action items (elements_in pieces range)) (λ _. tt));
 }
-
-pub TiesNone-taking_out : (ranges : List (Range ℕ)) → TiesNone (taking_out ranges)
-TiesNone-taking_out ranges i = refl
-
-pub TiesNone-commenting : (chosen : List (Range ℕ)) → TiesNone (commenting chosen)
-TiesNone-commenting chosen i = refl
-
-pub TiesNone-setting : (action : Action) (items : List Item) (pieces : List Piece) (chosen : List (Range ℕ)) → TiesNone (setting action items pieces chosen)
-TiesNone-setting action items pieces chosen i = refl

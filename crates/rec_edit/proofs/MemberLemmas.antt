@@ -60,10 +60,10 @@ module _ (P : Set_ → Type 0) where
 
 -- ---- members name no type
 
-abbrev Named : Type 0
+abbrev pub Named : Type 0
 Named = Option (List ℕ)
 
-abbrev nothing : Named
+abbrev pub nothing : Named
 nothing = None
 
 slice_get-behind : {X : Type 0} (front xs : List X) (i j : ℕ) → i ≡ length front + j → slice_get (front ++ xs) i ≡ slice_get xs j
@@ -77,7 +77,7 @@ replicate_at (suc n) zero more below = refl
 replicate_at (suc n) (suc j) more below = replicate_at n j more (omega arith)
 
 -- the members of a set name nothing among these types
-abbrev NameNothing : List Named → Range ℕ → Type 0
+abbrev pub NameNothing : List Named → Range ℕ → Type 0
 NameNothing types members = (i : ℕ) → members.start ≤ i → i < members.end → slice_get types i ≡ Some nothing
 
 members_plain : (front more types : List Named) (kind : Named) (head : Option ℕ) (members : Range ℕ) → BeginsAt (length front) (record { kind = kind; head = head; members = members })
@@ -91,12 +91,12 @@ members_plain front more types (Some kind) head members begins joined i low high
     ∙ slice_get-behind front (Some kind ∷ replicate (members.end - members.start) nothing ++ more) i (suc (i - members.start)) (omega (arith, begins.1.1))
     ∙ replicate_at (members.end - members.start) (i - members.start) more (omega arith)
 
-end_of : (at : ℕ) (kind : Named) (head : Option ℕ) (members : Range ℕ) → BeginsAt at (record { kind = kind; head = head; members = members })
+pub end_of : (at : ℕ) (kind : Named) (head : Option ℕ) (members : Range ℕ) → BeginsAt at (record { kind = kind; head = head; members = members })
     → members.end ≡ at + length (named_in (record { kind = kind; head = head; members = members }))
 end_of at None head members begins = omega (arith, begins.0, begins.1.1, length-replicate (members.end - members.start) nothing)
 end_of at (Some kind) head members begins = omega (arith, begins.0, begins.1.1, length-replicate (members.end - members.start) nothing)
 
-all_plain : (front types : List Named) (sets : List Set_) → AreFrom (length front) sets → types ≡ front ++ flat_map named_in sets → AllByRecursion (λ s. NameNothing types s.members) sets
+pub all_plain : (front types : List Named) (sets : List Set_) → AreFrom (length front) sets → types ≡ front ++ flat_map named_in sets → AllByRecursion (λ s. NameNothing types s.members) sets
 all_plain front types [] from joined = tt
 all_plain front types (s ∷ sets) from joined =
     let end : s.members.end ≡ length (front ++ named_in s) = end_of (length front) s.kind s.head s.members from.0 ∙ sym (length-append front (named_in s)) in (

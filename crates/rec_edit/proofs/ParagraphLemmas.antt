@@ -59,7 +59,7 @@ from_field-kept : (piece : Piece) (pieces : List Piece) → is_field_piece piece
 from_field-kept piece [] other = rw other refl
 from_field-kept piece (next ∷ pieces) other = rw other refl
 
-kept-field : (piece : Piece) (pieces : List Piece) → is_field_piece piece ≡ true → kept piece pieces ≡ piece ∷ pieces
+pub kept-field : (piece : Piece) (pieces : List Piece) → is_field_piece piece ≡ true → kept piece pieces ≡ piece ∷ pieces
 kept-field piece [] field = rw field refl
 kept-field piece (next ∷ pieces) field = refl
 
@@ -96,7 +96,7 @@ own_of pieces = with_own (from_field (open_of pieces)) (done_of pieces)
 
 -- ---- elements that are no field, and elements none of which is blank
 
-own_of-gap : (gap rest : List Piece) → list_any is_field_piece gap ≡ false → own_of (gap ++ rest) ≡ own_of rest
+pub own_of-gap : (gap rest : List Piece) → list_any is_field_piece gap ≡ false → own_of (gap ++ rest) ≡ own_of rest
 own_of-gap [] rest none = refl
 own_of-gap (piece ∷ gap) rest none =
     let parts = or_parts (is_field_piece piece) (list_any is_field_piece gap) none in
@@ -117,7 +117,7 @@ open_of-gap (piece ∷ gap) rest none some =
       | inr full ↦ rw full (ap (kept piece) (open_of-gap gap rest parts.1 (rw full at some)) ∙ kept-none piece parts.0)
     ]
 
-open_of-none : (pieces : List Piece) → list_any is_field_piece pieces ≡ false → open_of pieces ≡ []
+pub open_of-none : (pieces : List Piece) → list_any is_field_piece pieces ≡ false → open_of pieces ≡ []
 open_of-none [] none = refl
 open_of-none (piece ∷ pieces) none =
     let parts = or_parts (is_field_piece piece) (list_any is_field_piece pieces) none in
@@ -126,7 +126,7 @@ open_of-none (piece ∷ pieces) none =
       | inr full ↦ rw full (ap (kept piece) (open_of-none pieces parts.1) ∙ kept-none piece parts.0)
     ]
 
-own_of-none : (pieces : List Piece) → list_any is_field_piece pieces ≡ false → own_of pieces ≡ []
+pub own_of-none : (pieces : List Piece) → list_any is_field_piece pieces ≡ false → own_of pieces ≡ []
 own_of-none pieces none = ap own_of (sym (append-nil pieces)) ∙ own_of-gap pieces [] none
 
 open_of-full : (own rest : List Piece) → list_any is_blank_piece own ≡ false → open_of rest ≡ [] → open_of (own ++ rest) ≡ up_to_field own
@@ -143,10 +143,10 @@ done_of-full (piece ∷ own) rest none =
     let full = parts.0 in
     rw full (done_of-full own rest parts.1)
 
-own_of-shut : (rest : List Piece) → open_of rest ≡ [] → own_of rest ≡ done_of rest
+pub own_of-shut : (rest : List Piece) → open_of rest ≡ [] → own_of rest ≡ done_of rest
 own_of-shut rest shut = ap (λ begun. with_own (from_field begun) (done_of rest)) shut
 
-own_of-full : (own rest : List Piece) → list_any is_blank_piece own ≡ false → open_of rest ≡ [] → own_of (own ++ rest) ≡ with_own (between_fields own) (own_of rest)
+pub own_of-full : (own rest : List Piece) → list_any is_blank_piece own ≡ false → open_of rest ≡ [] → own_of (own ++ rest) ≡ with_own (between_fields own) (own_of rest)
 own_of-full own rest none shut =
     ap (λ begun. with_own (from_field begun) (done_of (own ++ rest))) (open_of-full own rest none shut)
     ∙ ap (with_own (from_field (up_to_field own))) (done_of-full own rest none ∙ sym (own_of-shut rest shut))
@@ -167,7 +167,7 @@ Spaced apart pieces (made ∷ mades) = (gap rest : List Piece) × (later : Bool)
     × (list_any is_field_piece gap ≡ false) × (apart ≡ true → list_any is_blank_piece gap ≡ true)
     × (list_any is_blank_piece made ≡ false) × (later ≡ false → made ≡ []) × Spaced later rest mades
 
-Spaced-shut : (pieces : List Piece) (mades : List (List Piece)) → Spaced true pieces mades → open_of pieces ≡ []
+pub Spaced-shut : (pieces : List Piece) (mades : List (List Piece)) → Spaced true pieces mades → open_of pieces ≡ []
 Spaced-shut pieces [] spaced = open_of-none pieces spaced
 Spaced-shut pieces (made ∷ mades) (gap, rest, later, parts, none, apart, full, gone, more) = ap open_of parts ∙ open_of-gap gap (made ++ rest) none (apart refl)
 

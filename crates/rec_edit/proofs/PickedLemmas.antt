@@ -26,11 +26,11 @@ use Rattle.rec_edit.proofs.SettledLemmas.{CanStandFor}
 
 -- ---- lists
 
-AllByRecursion-append : {X : Type 0} (P : X → Type 0) (front rest : List X) → AllByRecursion P front → AllByRecursion P rest → AllByRecursion P (front ++ rest)
+pub AllByRecursion-append : {X : Type 0} (P : X → Type 0) (front rest : List X) → AllByRecursion P front → AllByRecursion P rest → AllByRecursion P (front ++ rest)
 AllByRecursion-append P [] rest fronts rests = rests
 AllByRecursion-append P (x ∷ front) rest fronts rests = (fronts.0, AllByRecursion-append P front rest fronts.1 rests)
 
-AllByRecursion-flat_map : {X Y : Type 0} (P : X → Type 0) (Q : Y → Type 0) (f : X → List Y) → ((x : X) → P x → AllByRecursion Q (f x)) → (xs : List X) → AllByRecursion P xs → AllByRecursion Q (flat_map f xs)
+pub AllByRecursion-flat_map : {X Y : Type 0} (P : X → Type 0) (Q : Y → Type 0) (f : X → List Y) → ((x : X) → P x → AllByRecursion Q (f x)) → (xs : List X) → AllByRecursion P xs → AllByRecursion Q (flat_map f xs)
 AllByRecursion-flat_map P Q f each [] all = tt
 AllByRecursion-flat_map P Q f each (x ∷ xs) all = AllByRecursion-append Q (f x) (flat_map f xs) (each x all.0) (AllByRecursion-flat_map P Q f each xs all.1)
 
@@ -38,7 +38,7 @@ pub AllByRecursion-all : {X Y : Type 0} (Q : Y → Type 0) (f : X → List Y) �
 AllByRecursion-all Q f each [] = tt
 AllByRecursion-all Q f each (x ∷ xs) = AllByRecursion-append Q (f x) (flat_map f xs) (each x) (AllByRecursion-all Q f each xs)
 
-AllByRecursion-filter : {X : Type 0} (P : X → Type 0) (test : X → Bool) (xs : List X) → AllByRecursion P xs → AllByRecursion P (filter test xs)
+pub AllByRecursion-filter : {X : Type 0} (P : X → Type 0) (test : X → Bool) (xs : List X) → AllByRecursion P xs → AllByRecursion P (filter test xs)
 AllByRecursion-filter P test [] all = tt
 AllByRecursion-filter P test (x ∷ xs) all =
     let more = AllByRecursion-filter P test xs all.1 in
@@ -51,7 +51,7 @@ AllByRecursion-drop : {X : Type 0} (P : X → Type 0) (n : ℕ) (xs : List X) �
 AllByRecursion-drop P n xs all = AllByRecursion-behind P (take n xs) (drop n xs) (subst (AllByRecursion P) (sym (take-append-drop n xs)) all)
 
 -- one that passes the test, and of which holds what holds of each
-found : {X : Type 0} (P : X → Type 0) (test : X → Bool) (xs : List X) → AllByRecursion P xs → list_any test xs ≡ true → (x : X) × P x × (test x ≡ true)
+pub found : {X : Type 0} (P : X → Type 0) (test : X → Bool) (xs : List X) → AllByRecursion P xs → list_any test xs ≡ true → (x : X) × P x × (test x ≡ true)
 found P test [] all any = absurd (false≢true any)
 found P test (x ∷ xs) all any = elim (or_cases (test x) (list_any test xs) any) [
   | inl here ↦ (x, all.0, here)

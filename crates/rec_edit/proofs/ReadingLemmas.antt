@@ -42,7 +42,7 @@ flat_map-none f none (x ∷ xs) = rw (none x) (flat_map-none f none xs)
 -- ---- what the layouts lay
 
 module _ (pieces : List Piece) (whole : AllByRecursion IsElement pieces) where
-  element_at : (k : ℕ) (piece : Piece) → slice_get pieces k ≡ Some piece → IsElement piece
+  pub element_at : (k : ℕ) (piece : Piece) → slice_get pieces k ≡ Some piece → IsElement piece
   element_at k piece at = AllByRecursion-slice_get IsElement pieces k piece whole at
 
   taking_out_lays : (ranges : List (Range ℕ)) → LaysWell 0 (taking_out ranges) pieces
@@ -114,7 +114,7 @@ module _ (pieces : List Piece) (whole : AllByRecursion IsElement pieces) where
 
 -- ---- what an edit has made of its texts
 
-then_ok : {A B : Type 0} (first : Result A Fault → Type 0) (next : A → Result B Fault → Type 0) (b : B) → Then first next (Ok b) → (a : A) × first (Ok a) × next a (Ok b)
+pub then_ok : {A B : Type 0} (first : Result A Fault → Type 0) (next : A → Result B Fault → Type 0) (b : B) → Then first next (Ok b) → (a : A) × first (Ok a) × next a (Ok b)
 then_ok first next b (inl (fault, refused, e)) = absurd (cc)
 then_ok first next b (inr (a, is, rest)) = (a, is, rest)
 
@@ -126,12 +126,12 @@ names_split (item ∷ items) more all =
     ((parts.0, rest.0), rest.1)
 
 -- what can be written
-record IsWritten {X : Type 0} (names values : List (List ℕ)) (given got : X) : Type 0 where
-  names_are : list_all is_plain_name names ≡ true
-  values_are : list_all (is_foldable 32) values ≡ true
-  same : got ≡ given
+pub record IsWritten {X : Type 0} (names values : List (List ℕ)) (given got : X) : Type 0 where
+  pub names_are : list_all is_plain_name names ≡ true
+  pub values_are : list_all (is_foldable 32) values ≡ true
+  pub same : got ≡ given
 
-written_by : {X : Type 0} (names values : List (List ℕ)) (given got : X) (n v : Bool) → list_all is_plain_name names ≡ n → list_all (is_foldable 32) values ≡ v
+pub written_by : {X : Type 0} (names values : List (List ℕ)) (given got : X) (n v : Bool) → list_all is_plain_name names ≡ n → list_all (is_foldable 32) values ≡ v
     → Ok got ≡ cond n (cond v (Ok given) (Err BadValue)) (Err BadName) → IsWritten names values given got
 written_by names values given got true true names_are values_are e = record { names_are = names_are; values_are = values_are; same = cc }
 written_by names values given got true false names_are values_are e = absurd (cc)

@@ -50,12 +50,12 @@ not-twice true = refl
 not-twice false = refl
 
 -- an element that is there is blank or not
-blank_or_full : (pieces : List Piece) (i : ℕ) → i < length pieces → is_blank_at pieces i ≡ not (is_full_at pieces i)
+pub blank_or_full : (pieces : List Piece) (i : ℕ) → i < length pieces → is_blank_at pieces i ≡ not (is_full_at pieces i)
 blank_or_full [] i below = absurd (omega arith)
 blank_or_full (piece ∷ pieces) zero below = not-twice (is_blank_piece piece)
 blank_or_full (piece ∷ pieces) (suc i) below = blank_or_full pieces i (omega arith)
 
-full_no_blank : (pieces : List Piece) (i : ℕ) → is_full_at pieces i ≡ true → is_blank_at pieces i ≡ false
+pub full_no_blank : (pieces : List Piece) (i : ℕ) → is_full_at pieces i ≡ true → is_blank_at pieces i ≡ false
 full_no_blank [] i full = refl
 full_no_blank (piece ∷ pieces) zero full = not-twice (is_blank_piece piece) ∙ ap not full
 full_no_blank (piece ∷ pieces) (suc i) full = full_no_blank pieces i full
@@ -191,7 +191,7 @@ module _ (pieces : List Piece) where
     Cut-Spaced true r.end records within more,
   )
 
-  closes-Cut : (apart : Bool) (n : ℕ) (records : List (Range ℕ)) → Cut apart n records → closes (map (elements_in pieces) records) ≡ map (elements_in pieces) records
+  pub closes-Cut : (apart : Bool) (n : ℕ) (records : List (Range ℕ)) → Cut apart n records → closes (map (elements_in pieces) records) ≡ map (elements_in pieces) records
   closes-Cut apart n [] cut = refl
   closes-Cut apart n (r ∷ records) (past, some, within, none, between, own, more) =
       ap (λ made. with_own made (closes (map (elements_in pieces) records))) (between_fields-own (elements_in pieces r) own)

@@ -1,33 +1,38 @@
 -- The refusals that an edit has at all.
-use Rattle.std.proofs.Common.{◌≡◌, ℕ, Bool, true, false, cond, ◌==◌, List, [], ◌∷◌, ◌++◌, map, filter_map, slice_get, find, position, Option, Some, None, inl, inr, Result, Ok, Err, sym, subst}
+use Rattle.std.proofs.Common.{◌≡◌, ℕ, ℤ, Bool, true, false, cond, ◌==◌, List, [], ◌∷◌, ◌++◌, map, filter_map, slice_get, find, position, Option, Some, None, option_to_list, inl, inr, Result, Ok, Err, sym, subst}
 use Rattle.std.proofs.lemmas.Bool.{cond_both}
 use Rattle.std.specs.List.{list_all}
 use Rattle.std.specs.Option.{option_map_or}
 use Rattle.std.specs.declared.ops.Range.{Range}
 use Rattle.rec_text.specs.declared.fault.Fault.{Fault}
-use Rattle.rec_text.specs.declared.fault.Fault.TheVariants.{BadPattern, BadDescriptor, Unsupported, BadFieldList, NoSuchType, BadName, BadValue}
+use Rattle.rec_text.specs.declared.fault.Fault.TheVariants.{BadPattern, BadDescriptor, Unsupported, BadFieldList, NoSuchType, BadName, BadValue, BadRecord, AutoImpossible}
 use Rattle.rec_text.specs.declared.violations.Violation.{Violation}
 use Rattle.rec_text.specs.Canonical.{is_plain_name, is_foldable}
 use Rattle.rec_text.specs.Elements.{Piece, AreElementsOf}
-use Rattle.rec_text.specs.Records.{AreRecords}
+use Rattle.rec_text.specs.Records.{AreRecords, elements_in}
 use Rattle.rec_text.specs.Steps.{Then}
 use Rattle.rec_text.proofs.ReadingLemmas.{one_reading}
 use Rattle.rec_sex.specs.declared.field_list.Item.{Item}
 use Rattle.rec_sex.specs.Lists.{IsFieldList}
 use Rattle.rec_check.specs.declared.set.Set_.{Set_}
+use Rattle.rec_check.specs.Automatic.{automatic_names, automatic_of, readings, IsNext, IsAutomatic}
+use Rattle.rec_check.specs.Rules.{Rules}
 use Rattle.rec_check.specs.Schemas.{Described, IsSchema}
 use Rattle.rec_check.specs.Sets.{is_of_type}
-use Rattle.rec_check.specs.Violations.{AreViolationsOf}
+use Rattle.rec_check.specs.Violations.{AreViolationsOf, members, names_of}
 use Rattle.rec_check.proofs.SameLemmas.{one_schema}
 use Rattle.rec_select.specs.Selection.{Filter, all, by_expression, at_places, with_text, has_members, only_set, set_for, IsSelection}
 use Rattle.rec_edit.specs.declared.request.Action.{Action}
 use Rattle.rec_edit.specs.declared.request.Action.TheVariants.{Add}
 use Rattle.rec_edit.specs.declared.outcome.Edited.{Edited}
-use Rattle.rec_edit.specs.Task.{Wanted, Task, delete, comment_out, set}
+use Rattle.rec_edit.specs.Task.{Pair, Wanted, NewRecord, of_pairs, of_text, Task, insert, replace, delete, comment_out, set, auto_fill}
 use Rattle.rec_edit.specs.Script.{new_pieces, edited_text}
-use Rattle.rec_edit.specs.Wording.{written, unnumbered, names_of_action, values_of_action, AreItemsFor}
-use Rattle.rec_edit.specs.Outcome.{allowed, AreChosen, AreRemovable, Step, IsStep, none_of, IsSoundUnlessForced, edited_by, IsOutcome, IsEditRefusal, PutsNoneIn}
+use Rattle.rec_edit.specs.Insertions.{Numbered}
+use Rattle.rec_edit.specs.Wording.{written, unnumbered, names_of_action, values_of_action, AreItemsFor, some_pairs, IsRecordText, ArePairs, IsNewRecord}
+use Rattle.rec_edit.specs.Automatic.{lacking, AreNumbered, AreAutomatic, numbers_in, AreFilled, AreFilledSets}
+use Rattle.rec_edit.specs.Outcome.{allowed, AreChosen, AreRemovable, Step, IsStep, none_of, IsSoundUnlessForced, edited_by, IsOutcome, IsEditRefusal}
 use Rattle.rec_edit.proofs.AnswerLemmas.{no_both, same_value}
+use Rattle.rec_edit.proofs.FaithfulLemmas.{IsFaithful}
 
 -- an answer, or one of these refusals
 abbrev pub MayBe : {A : Type 0} → Result A Fault → Type 0
@@ -95,13 +100,14 @@ RefusesSo-selection : (pieces : List Piece) (sets : List Set_) (wanted : Wanted)
 RefusesSo-selection pieces sets wanted (Ok selected) is = tt
 RefusesSo-selection pieces sets wanted (Err fault) is = subst MayBe is (MayBe-set_for wanted.kind sets)
 
-RefusesSo-ranges : (pieces : List Piece) (selected : List ℕ)
-    → RefusesSo {A = List (Range ℕ)} (λ answer. (records : List (Range ℕ)) × AreRecords pieces records × (answer ≡ Ok (filter_map (slice_get records) selected)))
-RefusesSo-ranges pieces selected answer (records, are, e) = subst MayBe (sym e) tt
+RefusesSo-of_records : {A : Type 0} (pieces : List Piece) (made : List (Range ℕ) → A)
+    → RefusesSo {A = A} (λ answer. (records : List (Range ℕ)) × AreRecords pieces records × (answer ≡ Ok (made records)))
+RefusesSo-of_records pieces made answer (records, are, e) = subst MayBe (sym e) tt
 
 RefusesSo-chosen : (pieces : List Piece) (sets : List Set_) (wanted : Wanted) → RefusesSo (AreChosen pieces sets wanted)
 RefusesSo-chosen pieces sets wanted =
-    RefusesSo-Then (IsSelection pieces sets wanted.kind wanted.filter) _ (RefusesSo-selection pieces sets wanted) (RefusesSo-ranges pieces)
+    RefusesSo-Then (IsSelection pieces sets wanted.kind wanted.filter) _ (RefusesSo-selection pieces sets wanted)
+    (λ selected. RefusesSo-of_records pieces (λ records. filter_map (slice_get records) selected))
 
 MayBe-allowed : (wanted : Filter) (force : Bool) → MayBe (allowed wanted force)
 MayBe-allowed all true = tt
@@ -115,15 +121,86 @@ RefusesSo-removable pieces sets wanted force =
     RefusesSo-Then (AreChosen pieces sets wanted) _ (RefusesSo-chosen pieces sets wanted) (λ chosen.
     RefusesSo-Then (λ answer. answer ≡ allowed wanted.filter force) _ (RefusesSo-same _ (MayBe-allowed wanted.filter force)) (λ _. RefusesSo-same _ tt))
 
-RefusesSo-step : (pieces : List Piece) (schema : Described) (force : Bool) (task : Task) → PutsNoneIn task → RefusesSo (IsStep pieces schema force task)
-RefusesSo-step pieces schema force (delete wanted) none =
+-- ---- the new record
+
+MayBe-some_pairs : (pairs : List Pair) → MayBe (some_pairs pairs)
+MayBe-some_pairs [] = tt
+MayBe-some_pairs (pair ∷ pairs) = tt
+
+RefusesSo-record_text : (text : List ℕ) → RefusesSo (IsRecordText text)
+RefusesSo-record_text text (Ok pairs) is = tt
+RefusesSo-record_text text (Err BadRecord) is = tt
+RefusesSo-record_text text (Err _) is = absurd is
+
+RefusesSo-pairs : (fresh : NewRecord) → RefusesSo (ArePairs fresh)
+RefusesSo-pairs (of_pairs given) = RefusesSo-same _ (MayBe-some_pairs given)
+RefusesSo-pairs (of_text text) = RefusesSo-record_text text
+
+RefusesSo-new : (kind : Option (List ℕ)) (fresh : NewRecord) → RefusesSo (IsNewRecord kind fresh)
+RefusesSo-new kind fresh =
+    RefusesSo-Then (ArePairs fresh) _ (RefusesSo-pairs fresh) (λ pairs.
+    RefusesSo-same _ (MayBe-written (option_to_list kind ++ map (λ pair. pair.name) pairs) (map (λ pair. pair.value) pairs) pairs))
+
+-- ---- automatic fields
+
+RefusesSo-next : (rules : Rules) (name : List ℕ) (numbers : List ℤ) → RefusesSo (IsNext rules name numbers)
+RefusesSo-next rules name numbers (Ok z) is = tt
+RefusesSo-next rules name numbers (Err AutoImpossible) is = tt
+RefusesSo-next rules name numbers (Err _) is = absurd is
+
+RefusesSo-numbered : (next : List ℕ → Result ℤ Fault → Type 0) → ((name : List ℕ) → RefusesSo (next name)) → (names : List (List ℕ)) → RefusesSo (AreNumbered next names)
+RefusesSo-numbered next next_so [] = RefusesSo-same _ tt
+RefusesSo-numbered next next_so (name ∷ names) =
+    RefusesSo-Then (next name) _ (next_so name) (λ number. RefusesSo-Then (AreNumbered next names) _ (RefusesSo-numbered next next_so names) (λ given. RefusesSo-same _ tt))
+
+module _ (pieces : List Piece) where
+  -- the automatic fields of the set at a place, where there is one
+  RefusesSo-numbered_at : (schema : Described) (names : List (List ℕ)) (found : Option ℕ)
+      → RefusesSo {A = List Numbered} (λ answer. elim found [ None ↦ answer ≡ Ok [] | Some place ↦ AreNumbered (IsAutomatic pieces schema place) (lacking (automatic_of schema place) names) answer ])
+  RefusesSo-numbered_at schema names None = RefusesSo-same _ tt
+  RefusesSo-numbered_at schema names (Some place) =
+      RefusesSo-numbered (IsAutomatic pieces schema place) (λ name answer is. RefusesSo-next is.rules name (readings pieces (members is.records is.s) name) answer is.next) _
+
+  RefusesSo-automatic : (schema : Described) (kind : Option (List ℕ)) (auto : Bool) (names : List (List ℕ)) → RefusesSo (AreAutomatic pieces schema kind auto names)
+  RefusesSo-automatic schema (Some kind) true names = RefusesSo-numbered_at schema names (position (is_of_type kind) schema.sets)
+  RefusesSo-automatic schema (Some kind) false names = RefusesSo-same _ tt
+  RefusesSo-automatic schema None auto names = RefusesSo-same _ tt
+
+  RefusesSo-filled : (rules : Rules) (numbers : List ℕ → List ℤ) (records : List (Range ℕ)) → RefusesSo (AreFilled pieces rules numbers records)
+  RefusesSo-filled rules numbers [] = RefusesSo-same _ tt
+  RefusesSo-filled rules numbers (record_ ∷ records) =
+      RefusesSo-Then (AreNumbered (λ name. IsNext rules name (numbers name)) (lacking (automatic_names rules) (names_of (elements_in pieces record_)))) _
+      (RefusesSo-numbered (λ name. IsNext rules name (numbers name)) (λ name. RefusesSo-next rules name (numbers name)) _) (λ given.
+      RefusesSo-Then (AreFilled pieces rules (λ name. numbers_in given name ++ numbers name) records) _ (RefusesSo-filled rules (λ name. numbers_in given name ++ numbers name) records)
+      (λ filled. RefusesSo-same _ tt))
+
+  RefusesSo-filled_sets : (records : List (Range ℕ)) (sets : List Set_) (rules : List Rules) → RefusesSo (AreFilledSets pieces records sets rules)
+  RefusesSo-filled_sets records [] [] = RefusesSo-same _ tt
+  RefusesSo-filled_sets records (s ∷ sets) (own ∷ rules) =
+      RefusesSo-Then (AreFilled pieces own (readings pieces (members records s)) (members records s)) _ (RefusesSo-filled own (readings pieces (members records s)) (members records s)) (λ filled.
+      RefusesSo-Then (AreFilledSets pieces records sets rules) _ (RefusesSo-filled_sets records sets rules) (λ more. RefusesSo-same _ tt))
+  RefusesSo-filled_sets records [] (own ∷ rules) = λ answer is. absurd is
+  RefusesSo-filled_sets records (s ∷ sets) [] = λ answer is. absurd is
+
+-- ---- one edit
+
+pub RefusesSo-step : (pieces : List Piece) (schema : Described) (force : Bool) (task : Task) → RefusesSo (IsStep pieces schema force task)
+RefusesSo-step pieces schema force (insert kind fresh auto) =
+    RefusesSo-Then (IsNewRecord kind fresh) _ (RefusesSo-new kind fresh) (λ pairs.
+    RefusesSo-Then (AreAutomatic pieces schema kind auto (map (λ pair. pair.name) pairs)) _ (RefusesSo-automatic pieces schema kind auto (map (λ pair. pair.name) pairs)) (λ automatic.
+    RefusesSo-of_records pieces _))
+RefusesSo-step pieces schema force (replace wanted fresh) =
+    RefusesSo-Then (IsNewRecord None fresh) _ (RefusesSo-new None fresh) (λ pairs.
+    RefusesSo-Then (AreChosen pieces schema.sets wanted) _ (RefusesSo-chosen pieces schema.sets wanted) (λ _. RefusesSo-same _ tt))
+RefusesSo-step pieces schema force (delete wanted) =
     RefusesSo-Then (AreRemovable pieces schema.sets wanted force) _ (RefusesSo-removable pieces schema.sets wanted force) (λ _. RefusesSo-same _ tt)
-RefusesSo-step pieces schema force (comment_out wanted) none =
+RefusesSo-step pieces schema force (comment_out wanted) =
     RefusesSo-Then (AreRemovable pieces schema.sets wanted force) _ (RefusesSo-removable pieces schema.sets wanted force) (λ _. RefusesSo-same _ tt)
-RefusesSo-step pieces schema force (set wanted list action) none =
+RefusesSo-step pieces schema force (set wanted list action) =
     RefusesSo-Then (AreItemsFor action list) _ (RefusesSo-items action list) (λ items.
     RefusesSo-Then (AreChosen pieces schema.sets wanted) _ (RefusesSo-chosen pieces schema.sets wanted) (λ _. RefusesSo-same _ tt))
-RefusesSo-step pieces schema force _ none = absurd none
+RefusesSo-step pieces schema force auto_fill = λ answer (records, are, is).
+    RefusesSo-Then (AreFilledSets pieces records schema.sets schema.rules) _ (RefusesSo-filled_sets pieces records schema.sets schema.rules) (λ _. RefusesSo-same _ tt) answer is
 
 -- ---- the edited text
 
@@ -149,12 +226,11 @@ module _ (text : List ℕ) (new : List Piece) (same : Described) (read : AreElem
   RefusesSo-sound true = RefusesSo-same (Ok tt) tt
   RefusesSo-sound false = RefusesSo-Then (AreViolationsOf text) _ RefusesSo-violations (λ found. RefusesSo-same _ (MayBe-none_of found))
 
-pub RefusesSo-outcome : (pieces : List Piece) (schema : Described) (force : Bool) (task : Task) → PutsNoneIn task
-    → ((step : Step) → IsStep pieces schema force task (Ok step) → AreElementsOf (new_pieces step.script) (edited_text step.script) × ((same : Described) × IsSchema (new_pieces step.script) (Ok same)))
-    → RefusesSo (IsOutcome pieces schema force task)
-RefusesSo-outcome pieces schema force task none sound answer (inl (fault, is, e)) =
-    subst (λ (r : Result Edited Fault). MayBe r) (sym e) (RefusesSo-step pieces schema force task none (Err fault) is)
-RefusesSo-outcome pieces schema force task none sound answer (inr (step, is, rest)) =
-    let (read, sound_too) = sound step is in
+pub RefusesSo-outcome : (pieces : List Piece) (schema : Described) (force : Bool) (task : Task)
+    → ((step : Step) → IsStep pieces schema force task (Ok step) → IsFaithful pieces schema task step) → RefusesSo (IsOutcome pieces schema force task)
+RefusesSo-outcome pieces schema force task faithful answer (inl (fault, is, e)) =
+    subst (λ (r : Result Edited Fault). MayBe r) (sym e) (RefusesSo-step pieces schema force task (Err fault) is)
+RefusesSo-outcome pieces schema force task faithful answer (inr (step, is, rest)) =
+    let of_step = faithful step is in
     RefusesSo-Then (IsSoundUnlessForced force (edited_text step.script)) (λ _ answer. answer ≡ Ok (edited_by step))
-    (RefusesSo-sound (edited_text step.script) (new_pieces step.script) sound_too.0 read sound_too.1 force) (λ _. RefusesSo-same (Ok (edited_by step)) tt) answer rest
+    (RefusesSo-sound (edited_text step.script) (new_pieces step.script) of_step.sound.0 of_step.read of_step.sound.1 force) (λ _. RefusesSo-same (Ok (edited_by step)) tt) answer rest

@@ -14,21 +14,21 @@ pub record AreWhole (pieces : List Piece) : Type 0 where
   pub well_formed : AllByRecursion IsElement pieces
   pub lines_end : EndInNewlines pieces
 
-AreWhole-nil : AreWhole []
+pub AreWhole-nil : AreWhole []
 AreWhole-nil = record { well_formed = tt; lines_end = tt }
 
 AreWhole-cons : (piece : Piece) (pieces : List Piece) → IsClosed piece → AreWhole pieces → AreWhole (piece ∷ pieces)
 AreWhole-cons piece [] is are = record { well_formed = (is.element, tt); lines_end = tt }
 AreWhole-cons piece (next ∷ pieces) is are = record { well_formed = (is.element, are.well_formed); lines_end = (is.ends, are.lines_end) }
 
-AreWhole-append : (front rest : List Piece) → AllByRecursion IsClosed front → AreWhole rest → AreWhole (front ++ rest)
+pub AreWhole-append : (front rest : List Piece) → AllByRecursion IsClosed front → AreWhole rest → AreWhole (front ++ rest)
 AreWhole-append [] rest closed are = are
 AreWhole-append (piece ∷ front) rest closed are = AreWhole-cons piece (front ++ rest) closed.0 (AreWhole-append front rest closed.1 are)
 
-AreWhole-closed : (pieces : List Piece) → AllByRecursion IsClosed pieces → AreWhole pieces
+pub AreWhole-closed : (pieces : List Piece) → AllByRecursion IsClosed pieces → AreWhole pieces
 AreWhole-closed pieces closed = subst AreWhole (append-nil pieces) (AreWhole-append pieces [] closed AreWhole-nil)
 
-AreWhole-opened : (pieces : List Piece) → AllByRecursion IsClosed pieces → AllByRecursion IsBare pieces → AreWhole (opened pieces)
+pub AreWhole-opened : (pieces : List Piece) → AllByRecursion IsClosed pieces → AllByRecursion IsBare pieces → AreWhole (opened pieces)
 AreWhole-opened [] closed bares = AreWhole-nil
 AreWhole-opened (piece ∷ []) closed bares = record { well_formed = (bares.0, tt); lines_end = tt }
 AreWhole-opened (piece ∷ next ∷ pieces) closed bares = AreWhole-cons piece (opened (next ∷ pieces)) closed.0 (AreWhole-opened (next ∷ pieces) closed.1 bares.1)

@@ -1,5 +1,5 @@
 -- How a script is carried out, part by part: what is done of it and what is left.
-use Rattle.std.specs.Prelude.{◌≡◌, ℕ, ◌+◌, ◌<◌, ◌≤◌, false, IsTrue, List, [], ◌∷◌, ◌++◌, length, flat_map, Option, Some, None}
+use Rattle.std.specs.Prelude.{◌≡◌, ℕ, ◌+◌, ◌<◌, ◌≤◌, ◌⊎◌, true, false, IsTrue, List, [], ◌∷◌, ◌++◌, length, drop, flat_map, Option, Some, None, if◌then◌else◌}
 use Rattle.std.specs.List.{AllByRecursion, enumerate_from}
 use Rattle.std.specs.declared.ops.Range.{Range}
 use Rattle.rec_text.specs.Bytes.{ends_newline}
@@ -9,7 +9,7 @@ use Rattle.rec_journal.specs.declared.patch.Hunk.{Hunk}
 pub use Rattle.rec_select.specs.Blocks.{closed_text}
 use Rattle.rec_edit.specs.declared.draft.Draft.{Draft}
 use Rattle.rec_edit.specs.declared.draft.Run.{Run}
-use Rattle.rec_edit.specs.Script.{Part, Layout, closed, opened, old_pieces, edited_text, changes_from, joining, joined, real_changes, hunks_of}
+use Rattle.rec_edit.specs.Script.{Part, Layout, closed, opened, settled, parts_from, script_of, old_pieces, edited_text, changes_from, joining, joined, real_changes, hunks_of}
 
 -- ranges of indexes below the size, in order and none of them empty
 pub record AreRanges (size : ℕ) (ranges : List (Range ℕ)) : Type 0 where
@@ -26,9 +26,13 @@ pub record LaysLines (layout : Layout) : Type 0 where
   pub becomes : (i : ℕ) (piece : Piece) → IsTrue (ends_newline piece.bytes) → AllByRecursion (λ new. IsTrue (ends_newline new.bytes)) (layout.becomes i piece)
   pub put : (i : ℕ) → AllByRecursion (λ new. IsTrue (ends_newline new.bytes)) (layout.put i)
 
--- none is changed as one with the next
-abbrev pub TiesNone : Layout → Type 0
-TiesNone layout = (i : ℕ) → layout.tied i ≡ false
+-- Of so many elements, those from an index on are changed as one, up to an end: nothing is put between them, and they aren't
+-- changed as one with those behind.
+pub record IsTie (layout : Layout) (count first end : ℕ) : Type 0 where
+  pub some : first < end
+  pub within : end ≤ count
+  pub each : (i : ℕ) → first ≤ i → i + 1 < end → (layout.tied i ≡ true) × (layout.put (i + 1) ≡ [])
+  pub last : (i : ℕ) → i + 1 ≡ end → (layout.tied i ≡ false) ⊎ ((end ≡ count) × (layout.put end ≡ []))
 
 -- the hunk that a run of changes is so far
 abbrev pub hunk_of : Run → Hunk
@@ -64,6 +68,14 @@ abbrev pub settling : List Piece → List Piece → List Piece
 settling [] new = opened new
 settling (piece ∷ behind) new = new
 
+-- what stands in the place of elements with this text, before those that are put behind
+abbrev pub settled_as : List ℕ → List Piece → List Piece → List Piece
+settled_as text behind new = if ends_newline text then new else settling behind new
+
 -- what stands in the place of elements, the first of which has this index
 abbrev pub laying : Layout → ℕ → List Piece → List Piece
 laying layout first pieces = flat_map (λ (i, piece). layout.becomes i (closed piece)) (enumerate_from first pieces)
+
+-- of the script of a layout, the parts of the elements from an index on are left to do
+abbrev pub IsLaid : Draft → Layout → List Piece → ℕ → Type 0
+IsLaid draft layout pieces i = IsDraft draft (settled (parts_from i layout (drop i pieces))) (script_of layout pieces)

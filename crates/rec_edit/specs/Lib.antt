@@ -13,3 +13,7 @@ pub mod Edits
 pub mod Marks
 pub mod Comments
 pub mod Endings
+pub mod Given
+pub mod Causes
+pub mod Sites
+pub mod Filling

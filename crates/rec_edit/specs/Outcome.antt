@@ -4,7 +4,7 @@ use Rattle.std.specs.List.{enumerate_from}
 use Rattle.std.specs.Str.{bytes_eq}
 use Rattle.std.specs.declared.ops.Range.{Range}
 use Rattle.rec_text.specs.declared.fault.Fault.{Fault}
-use Rattle.rec_text.specs.declared.fault.Fault.TheVariants.{OutOfMemory, BadPattern, BadFieldList, NoSelection, TypeNeeded, NoSuchType, BadName, BadValue, Integrity}
+use Rattle.rec_text.specs.declared.fault.Fault.TheVariants.{OutOfMemory, BadPattern, BadFieldList, NoSelection, TypeNeeded, NoSuchType, BadName, BadValue, BadRecord, Integrity, AutoImpossible}
 use Rattle.rec_text.specs.declared.violations.Violation.{Violation}
 use Rattle.rec_text.specs.Elements.{Piece, AreElementsOf, text_of}
 use Rattle.rec_text.specs.Records.{AreRecords, elements_in}
@@ -117,7 +117,7 @@ IsOutcome pieces schema force task =
     Then (IsSoundUnlessForced force (edited_text step.script)) (λ _ answer.
     answer ≡ Ok (edited_by step)))
 
--- the refusals that an edit of records that are there has at all
+-- the refusals that an edit has at all
 abbrev pub IsEditRefusal : Fault → Type 0
 IsEditRefusal OutOfMemory = Unit {0}
 IsEditRefusal BadPattern = Unit {0}
@@ -127,8 +127,17 @@ IsEditRefusal TypeNeeded = Unit {0}
 IsEditRefusal NoSuchType = Unit {0}
 IsEditRefusal BadName = Unit {0}
 IsEditRefusal BadValue = Unit {0}
+IsEditRefusal BadRecord = Unit {0}
 IsEditRefusal (Integrity violations) = Unit {0}
+IsEditRefusal AutoImpossible = Unit {0}
 IsEditRefusal _ = ⊥
+
+-- An edit has one outcome, whichever way the patterns of the text were built; only where `regex` may refuse a pattern of the
+-- edited text, that refusal may stand in the place of the other answer.
+abbrev pub OneOutcome : Type 0
+OneOutcome = (pieces : List Piece) (schema same : Described) (force : Bool) (task : Task) (one other : Result Edited Fault)
+    → IsSchema pieces (Ok schema) → IsSchema pieces (Ok same) → IsOutcome pieces schema force task one → IsOutcome pieces same force task other
+    → (one ≢ Err BadPattern) → (other ≢ Err BadPattern) → one ≡ other
 
 -- no new record is put in, and no automatic field
 abbrev pub PutsNoneIn : Task → Type 0
@@ -138,14 +147,6 @@ PutsNoneIn (delete wanted) = Unit {0}
 PutsNoneIn (comment_out wanted) = Unit {0}
 PutsNoneIn (set wanted list action) = Unit {0}
 PutsNoneIn auto_fill = ⊥
-
--- Such an edit has one outcome, whichever way the patterns of the text were built; only where `regex` may refuse a pattern of
--- the edited text, that refusal may stand in the place of the other answer.
-abbrev pub OneOutcome : Type 0
-OneOutcome = (pieces : List Piece) (schema same : Described) (force : Bool) (task : Task) (one other : Result Edited Fault)
-    → PutsNoneIn task → IsSchema pieces (Ok schema) → IsSchema pieces (Ok same)
-    → IsOutcome pieces schema force task one → IsOutcome pieces same force task other
-    → (one ≢ Err BadPattern) → (other ≢ Err BadPattern) → one ≡ other
 
 -- What such an edit makes of a text without a descriptor breaks no rule.
 abbrev pub UnruledEditsAreSound : Type 0

@@ -6,17 +6,15 @@ use Rattle.rec_select.specs.declared.selection.Selection.{Selection}
 use Rattle.rec_select.specs.Selection.{Filter, filter_of}
 use Rattle.rec_edit.specs.declared.request.Action.{Action}
 use Rattle.rec_edit.specs.declared.request.Edit.{Edit}
-use Rattle.rec_edit.specs.declared.request.Edit.TheVariants.{Delete, CommentOut, Set}
+use Rattle.rec_edit.specs.declared.request.Edit.TheVariants.{Insert, Replace, Delete, CommentOut, Set, AutoFill}
+use Rattle.rec_edit.specs.declared.request.NewRecord.{NewRecord as GivenRecord}
+use Rattle.rec_edit.specs.declared.request.NewRecord.TheVariants.{Pairs, Text}
+pub use Rattle.rec_edit.specs.declared.request.Pair.{Pair}
 
 -- which records: those of a type, or of the set that is meant where none is given, that pass a filter
 pub record Wanted : Type 0 where
   pub kind : Option (List ℕ)
   pub filter : Filter
-
--- a field of a new record
-pub record Pair : Type 0 where
-  pub name : List ℕ
-  pub value : List ℕ
 
 -- a new record: its fields, or a text that holds it
 pub data NewRecord : Type 0 where
@@ -36,10 +34,17 @@ pub data Task : Type 0 where
 abbrev pub wanted_by : Selection → Wanted
 wanted_by selection = record { kind = selection.kind; filter = filter_of selection.by }
 
+abbrev pub fresh_by : GivenRecord → NewRecord
+fresh_by (Pairs pairs) = of_pairs pairs.items
+fresh_by (Text text) = of_text text
+
 abbrev pub task_of : Edit → Task
+task_of (Insert kind fresh auto) = insert kind (fresh_by fresh) auto
+task_of (Replace selection fresh) = replace (wanted_by selection) (fresh_by fresh)
 task_of (Delete selection) = delete (wanted_by selection)
 task_of (CommentOut selection) = comment_out (wanted_by selection)
 task_of (Set selection list action) = set (wanted_by selection) list action
+task_of AutoFill = auto_fill
 
 -- the tool that does it
 abbrev pub tool_of : Task → Tool

@@ -52,6 +52,10 @@ impl Plan for Commenting {
         self.own.has(index)
     }
 
+    fn tied(&self, index: usize) -> bool {
+        false
+    }
+
     fn put(&self, index: usize, out: &mut Vec<u8>) -> Result<(), AllocError> {
         Ok(())
     }

@@ -73,7 +73,7 @@ impl Model for Covered {
 }
 
 impl Covered {
-    ghost use Rattle.std.specs.Prelude.{◌≡◌, IfOk};
+    ghost use Rattle.std.specs.Prelude.{◌≡◌, ◌+◌, ◌&&◌, IfOk};
     ghost use Rattle.rec_edit.specs.Rules.{is_own};
 
     /// Marks the indexes of these ranges.
@@ -89,5 +89,15 @@ impl Covered {
         ensures { result ≡ is_own self.now index }
     {
         has_mark(&self.marks, index)
+    }
+
+    /// Whether an index and the next one lie in the ranges.
+    pub fn has_both(&self, index: usize) -> bool
+        ensures { result ≡ (is_own self.now index && is_own self.now (index + 1)) }
+    {
+        if index >= self.marks.len() {
+            return false;
+        }
+        self.has(index) && self.has(index + 1)
     }
 }

@@ -71,6 +71,10 @@ impl Plan for Deletion {
         self.gone.has(index)
     }
 
+    fn tied(&self, index: usize) -> bool {
+        false
+    }
+
     fn put(&self, index: usize, out: &mut Vec<u8>) -> Result<(), AllocError> {
         Ok(())
     }

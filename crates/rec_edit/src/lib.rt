@@ -2,17 +2,25 @@
 //! `docs/editing.md` describes the rules of layout, and `specs/` defines them, from `Task` on.
 #![tactic(auto)]
 
+mod automatic;
 mod chosen;
 mod commenting;
 mod covered;
 mod deletion;
 mod draft;
+mod filled;
+mod filling;
+mod fresh;
+mod insertion;
 mod laws;
+mod numbered;
 mod outcome;
 mod plan;
+mod replacement;
 mod request;
 mod script;
 mod setting;
+mod site;
 mod sound;
 mod wording;
 
@@ -22,4 +30,4 @@ pub use rec_check::Schema;
 pub use rec_journal::Patch;
 pub use rec_select::{By, Selection};
 pub use rec_text::{Bytes, Database, Fault};
-pub use request::{Action, Edit};
+pub use request::{Action, Edit, NewRecord, Pair};

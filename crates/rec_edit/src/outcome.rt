@@ -1,5 +1,5 @@
 //! The outcome of an edit.
-ghost use Rattle.std.specs.Prelude.{◌≡◌, ◌≢◌, ◌↔◌, [], false, Bool, Result, Ok, Err, IfOk, IfErr};
+ghost use Rattle.std.specs.Prelude.{◌≡◌, ◌≢◌, ◌↔◌, [], false, IsTrue, Bool, Result, Ok, Err, IfOk, IfErr};
 ghost use Rattle.std.specs.List.{AllByRecursion};
 ghost use Rattle.rec_text.specs.declared.fault.Fault.{Fault};
 ghost use Rattle.rec_text.specs.declared.fault.Fault.TheVariants.{BadPattern};
@@ -10,16 +10,22 @@ ghost use Rattle.rec_check.specs.Stored.{described};
 ghost use Rattle.rec_journal.specs.Patch.{Splices};
 ghost use Rattle.rec_edit.specs.declared.outcome.Edited.{Edited as EditedOf};
 ghost use Rattle.rec_edit.specs.Edits.{IsEditOf};
-ghost use Rattle.rec_edit.specs.Task.{task_of, wanted_by, delete as deleting, comment_out as commenting_out, set as setting_fields};
+ghost use Rattle.rec_edit.specs.Task.{task_of, wanted_by, fresh_by, insert as inserting_one, replace as replacing, delete as deleting, comment_out as commenting_out, set as setting_fields, auto_fill as filling_all};
 ghost use Rattle.rec_edit.specs.Script.{TakesWhole};
-ghost use Rattle.rec_edit.specs.Outcome.{IsSound, IsOutcome, IsEditRefusal};
+ghost use Rattle.rec_edit.specs.Outcome.{IsSound, IsOutcome, IsEditRefusal, PutsNoneIn};
 ghost use Rattle.rec_edit.specs.Effect.{HasEffect};
 
+use crate::automatic::automatic_fields;
 use crate::chosen::{chosen_records, removable_records};
 use crate::commenting::Commenting;
 use crate::deletion::Deletion;
-use crate::request::{Action, Edit};
-use crate::script::carried_out;
+use crate::filled::filled_records;
+use crate::filling::{Filling, record_ranges};
+use crate::fresh::new_record;
+use crate::insertion::Insertion;
+use crate::replacement::Replacement;
+use crate::request::{Action, Edit, NewRecord};
+use crate::script::{carried_out, carried_out_on};
 use crate::setting::Setting;
 use crate::sound::require_sound;
 use crate::wording::items_for;
@@ -35,6 +41,52 @@ pub struct Edited {
     pub patch: Patch,
     pub text: Bytes,
     pub changed: usize,
+}
+
+/// A record of a type is put in, with its automatic fields where that is asked for.
+fn insert(
+    alloc: Global,
+    database: &Database,
+    schema: &Schema,
+    kind: &Option<Bytes>,
+    fresh: &NewRecord,
+    auto: bool,
+) -> Result<Edited, Fault>
+    requires { IsSchema database.now (Ok (described schema.now)) }
+    ensures { (force : Bool) → UnlessMemory result (IsEditOf database.now (described schema.now) force (inserting_one kind.now (fresh_by fresh.now) auto)) }
+{
+    let pairs = new_record(alloc, kind, fresh)?;
+    let automatic = automatic_fields(alloc, database, schema, kind, auto, &pairs)?;
+    let plan = Insertion::of(alloc, database, schema, kind, &automatic, &pairs)?;
+    Ok(carried_out_on(alloc, database, 1, &plan)?)
+}
+
+/// A new record is put in the place of each of a selection.
+fn replace(
+    alloc: Global,
+    database: &Database,
+    schema: &Schema,
+    selection: &Selection,
+    fresh: &NewRecord,
+) -> Result<Edited, Fault>
+    requires { IsSchema database.now (Ok (described schema.now)) }
+    ensures { (force : Bool) → UnlessMemory result (IsEditOf database.now (described schema.now) force (replacing (wanted_by selection.now) (fresh_by fresh.now))) }
+{
+    let pairs = new_record(alloc, &None, fresh)?;
+    let chosen = chosen_records(alloc, database, schema, selection)?;
+    let plan = Replacement::of(alloc, &pairs, &chosen)?;
+    Ok(carried_out(alloc, database, &chosen, &plan)?)
+}
+
+/// All records of typed sets get the automatic fields that they lack.
+fn auto_fill(alloc: Global, database: &Database, schema: &Schema) -> Result<Edited, Fault>
+    requires { IsSchema database.now (Ok (described schema.now)) }
+    ensures { (force : Bool) → UnlessMemory result (IsEditOf database.now (described schema.now) force filling_all) }
+{
+    let filled = filled_records(alloc, database, schema)?;
+    let ranges = record_ranges(alloc, &filled)?;
+    let plan = Filling::of(alloc, &filled)?;
+    Ok(carried_out(alloc, database, &ranges, &plan)?)
 }
 
 /// The records of a selection are deleted.
@@ -99,6 +151,8 @@ fn made(
     ensures { UnlessMemory result (IsEditOf database.now (described schema.now) force (task_of edit.now)) }
 {
     match edit {
+        Edit::Insert { kind, fresh, auto } => insert(alloc, database, schema, kind, fresh, *auto),
+        Edit::Replace { selection, fresh } => replace(alloc, database, schema, selection, fresh),
         Edit::Delete(selection) => delete(alloc, database, schema, selection, force),
         Edit::CommentOut(selection) => comment_out(alloc, database, schema, selection, force),
         Edit::Set {
@@ -106,6 +160,17 @@ fn made(
             list,
             action,
         } => set(alloc, database, schema, selection, list.as_slice(), action),
+        Edit::AutoFill => auto_fill(alloc, database, schema),
+    }
+}
+
+/// Whether no new record is put in, and no automatic field.
+fn puts_none_in(edit: &Edit) -> bool
+    ensures { IsTrue result → PutsNoneIn (task_of edit.now) }
+{
+    match edit {
+        Edit::Insert { .. } | Edit::Replace { .. } | Edit::AutoFill => false,
+        Edit::Delete(_) | Edit::CommentOut(_) | Edit::Set { .. } => true,
     }
 }
 
@@ -123,7 +188,7 @@ fn require_kept_rules(
 {
     // These are the elements of a text.
     let _text = database.text();
-    if schema.sets().len() == 1 {
+    if puts_none_in(edit) && schema.sets().len() == 1 {
         return Ok(());
     }
     require_sound(alloc, edited.text.as_slice())

@@ -1,5 +1,5 @@
 //! What an edit makes of each element.
-ghost use Rattle.std.specs.Prelude.{◌≡◌, ◌++◌, false, OnOk};
+ghost use Rattle.std.specs.Prelude.{◌≡◌, ◌++◌, ◌+◌, [], false, IsTrue, OnOk};
 ghost use Rattle.rec_text.specs.Elements.{text_of};
 ghost use Rattle.rec_text.specs.Places.{piece_of};
 ghost use Rattle.rec_edit.specs.Script.{Layout};
@@ -15,6 +15,11 @@ pub(crate) trait Plan {
     /// Whether the element of this index may give way to something, or something may be put before it.
     fn touches(&self, index: usize) -> bool
         ensures { result ≡ false → Keeps (layout self.now) index };
+
+    /// Whether the element of this index is changed as one with the next. Nothing is put between the two.
+    fn tied(&self, index: usize) -> bool
+        ensures tied { result ≡ (layout self.now).tied index }
+        ensures alone { IsTrue result → (layout self.now).put (index + 1) ≡ [] };
 
     /// Appends what is put before the element of this index; at the number of elements, what is put behind them all.
     fn put(&self, index: usize, out: &mut Vec<u8>) -> Result<(), AllocError>

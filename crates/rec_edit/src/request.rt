@@ -19,10 +19,38 @@ pub enum Action {
     Comment,
 }
 
-/// An edit of the records that a selection takes.
+/// A field of a new record.
+#[derive(Debug, Drop)]
+pub struct Pair {
+    pub name: Bytes,
+    pub value: Bytes,
+}
+
+/// A new record.
+#[derive(Debug, Drop)]
+pub enum NewRecord {
+    /// Its fields, in order.
+    Pairs(Vec<Pair>),
+    /// A text that holds it alone. Comments and blank lines of the text are dropped.
+    Text(Bytes),
+}
+
+/// An edit of the records of a text.
 #[derive(Drop)]
 pub enum Edit {
-    /// Deletes them, with the blank lines directly behind each.
+    /// Puts a record in, behind the last one of its set: that of a type, which is made where it isn't there, or else the
+    /// untyped one. With `auto` it gets the automatic fields that it lacks.
+    Insert {
+        kind: Option<Bytes>,
+        fresh: NewRecord,
+        auto: bool,
+    },
+    /// Puts a new record in the place of each that a selection takes.
+    Replace {
+        selection: Selection,
+        fresh: NewRecord,
+    },
+    /// Deletes those that a selection takes, with the blank lines directly behind each.
     Delete(Selection),
     /// Makes comments of all their lines.
     CommentOut(Selection),
@@ -32,4 +60,6 @@ pub enum Edit {
         list: Bytes,
         action: Action,
     },
+    /// Gives all records of typed sets the automatic fields that they lack.
+    AutoFill,
 }

@@ -1,13 +1,12 @@
 //! Carries an edit out, element by element.
-ghost use Rattle.std.specs.Prelude.{◌≡◌, ◌≢◌, ◌∷◌, ◌++◌, ◌+◌, ◌^◌, ◌<◌, ◌≤◌, [], IsTrue, List, count_by, length, OnOk, IfOk};
-ghost use Rattle.std.specs.List.{AllByRecursion};
+ghost use Rattle.std.specs.Prelude.{◌≡◌, ◌++◌, ◌+◌, ◌^◌, ◌<◌, ◌≤◌, [], List, count_by, length, OnOk, IfOk};
 ghost use Rattle.std.specs.Str.{bytes_eq};
 ghost use Rattle.rec_text.specs.Bytes.{ends_newline as newline_is_last};
-ghost use Rattle.rec_text.specs.Elements.{Piece, IsElement, EndInNewlines, text_of};
+ghost use Rattle.rec_text.specs.Elements.{text_of};
 ghost use Rattle.rec_text.specs.Places.{piece_of, pieces_of};
-ghost use Rattle.rec_edit.specs.Script.{Part, closed, putting, settled, parts_from, script_of};
+ghost use Rattle.rec_edit.specs.Script.{Part, closed, putting, script_of};
 ghost use Rattle.rec_edit.specs.Outcome.{is_changed, step_of, edited_by};
-ghost use Rattle.rec_edit.specs.Drafts.{AreRanges, LaysLines, TiesNone, IsDraft, settling, laying, closed_text};
+ghost use Rattle.rec_edit.specs.Drafts.{AreRanges, LaysLines, IsTie, IsDraft, IsLaid, settling, settled_as, laying, closed_text};
 
 use crate::draft::Draft;
 use crate::outcome::Edited;
@@ -66,137 +65,6 @@ fn lay_put<P: Plan>(
     draft.change(alloc, b"", scratch)
 }
 
-/// Carries out an element that ends in a newline, with what is put before it.
-fn lay_element<P: Plan>(
-    alloc: Global,
-    plan: &P,
-    index: usize,
-    element: &Element,
-    draft: &mut Draft,
-    scratch: &mut Vec<u8>,
-) -> Result<(), AllocError>
-    requires untied { TiesNone (P.layout plan.now) }
-    requires closed { IsTrue (newline_is_last element.now.raw.now) }
-    requires fits { draft.old.at + length element.now.raw.now < 2 ^ 64 }
-    ensures carried_out { (pieces : List Piece) (whole : List Part) → IsDraft draft.old (settled (parts_from index (P.layout plan.now) (piece_of element.now ∷ pieces))) whole
-        → OnOk result (IsDraft draft.new (settled (parts_from (index + 1) (P.layout plan.now) pieces)) whole) }
-    ensures reached { OnOk result (draft.new.at ≡ draft.old.at + length element.now.raw.now) }
-{
-    if !plan.touches(index) {
-        return draft.keep(element.raw);
-    }
-    lay_put(alloc, plan, index, draft, scratch)?;
-    scratch.clear();
-    plan.becomes(index, element, scratch)?;
-    draft.change(alloc, element.raw, scratch)
-}
-
-/// Carries out elements that end in newlines.
-fn lay_elements<P: Plan>(
-    alloc: Global,
-    plan: &P,
-    elements: &[Element],
-    draft: &mut Draft,
-    scratch: &mut Vec<u8>,
-) -> Result<(), AllocError>
-    requires untied { TiesNone (P.layout plan.now) }
-    requires closed { AllByRecursion (λ piece. IsTrue (newline_is_last piece.bytes)) (pieces_of elements.now) }
-    requires fits { draft.old.at + length (text_of (pieces_of elements.now)) < 2 ^ 64 }
-    ensures carried_out { (last : List Piece) (whole : List Part) → IsDraft draft.old (settled (parts_from 0 (P.layout plan.now) (pieces_of elements.now ++ last))) whole
-        → OnOk result (IsDraft draft.new (settled (parts_from (length elements.now) (P.layout plan.now) last)) whole) }
-    ensures reached { OnOk result (draft.new.at ≡ draft.old.at + length (text_of (pieces_of elements.now))) }
-{
-    for (index, element) in elements.iter().enumerate() {
-        lay_element(alloc, plan, index, element, draft, scratch)?;
-    }
-    Ok(())
-}
-
-/// Writes what stands in the place of a last element that lacks a newline at its end.
-fn lay_settled<P: Plan>(
-    alloc: Global,
-    plan: &P,
-    index: usize,
-    element: &Element,
-    out: &mut Vec<u8>,
-) -> Result<(), AllocError>
-    requires lines { LaysLines (P.layout plan.now) }
-    requires few { index + 1 < 2 ^ 64 }
-    ensures { OnOk result (out.new.items ≡ text_of (settling ((P.layout plan.now).put (index + 1)) ((P.layout plan.now).becomes index (closed (piece_of element.now))))) }
-{
-    out.clear();
-    plan.put(index + 1, out)?;
-    let is_end = out.is_empty();
-    out.clear();
-    lay_closed(alloc, plan, index, element, out)?;
-    if is_end {
-        out.pop();
-    }
-    Ok(())
-}
-
-/// Carries out the last element, which may lack a newline at its end, with what is put before it.
-fn lay_last<P: Plan>(
-    alloc: Global,
-    plan: &P,
-    index: usize,
-    element: &Element,
-    draft: &mut Draft,
-    scratch: &mut Vec<u8>,
-) -> Result<(), AllocError>
-    requires lines { LaysLines (P.layout plan.now) }
-    requires untied { TiesNone (P.layout plan.now) }
-    requires some { element.now.raw.now ≢ [] }
-    requires few { index + 1 < 2 ^ 64 }
-    requires fits { draft.old.at + length element.now.raw.now < 2 ^ 64 }
-    ensures { (whole : List Part) → IsDraft draft.old (settled (parts_from index (P.layout plan.now) (piece_of element.now ∷ []))) whole
-        → OnOk result (IsDraft draft.new (putting ((P.layout plan.now).put (index + 1)) []) whole) }
-{
-    if ends_newline(element.raw) {
-        return lay_element(alloc, plan, index, element, draft, scratch);
-    }
-    lay_put(alloc, plan, index, draft, scratch)?;
-    lay_settled(alloc, plan, index, element, scratch)?;
-    draft.change(alloc, element.raw, scratch)
-}
-
-/// Carries out all elements, the last of which may lack a newline at its end.
-fn lay_all<P: Plan>(
-    alloc: Global,
-    plan: &P,
-    elements: &[Element],
-    draft: &mut Draft,
-    scratch: &mut Vec<u8>,
-) -> Result<(), AllocError>
-    requires lines { LaysLines (P.layout plan.now) }
-    requires untied { TiesNone (P.layout plan.now) }
-    requires elements { AllByRecursion IsElement (pieces_of elements.now) }
-    requires closed { EndInNewlines (pieces_of elements.now) }
-    requires fits { draft.old.at + length (text_of (pieces_of elements.now)) < 2 ^ 64 }
-    ensures { (whole : List Part) → IsDraft draft.old (script_of (P.layout plan.now) (pieces_of elements.now)) whole
-        → OnOk result (IsDraft draft.new (putting ((P.layout plan.now).put (length elements.now)) []) whole) }
-{
-    let Some((last, front)) = elements.split_last() else {
-        return Ok(());
-    };
-    lay_elements(alloc, plan, front, draft, scratch)?;
-    lay_last(alloc, plan, front.len(), last, draft, scratch)
-}
-
-/// The whole script of a plan, carried out.
-fn drafted<P: Plan>(alloc: Global, database: &Database, plan: &P) -> Result<Draft, AllocError>
-    requires lines { LaysLines (P.layout plan.now) }
-    requires untied { TiesNone (P.layout plan.now) }
-    ensures { IfOk result (λ draft. IsDraft draft [] (script_of (P.layout plan.now) database.now)) }
-{
-    let elements = database.elements();
-    let mut scratch = Vec::new(alloc);
-    let mut draft = Draft::start(alloc, database.text().len())?;
-    lay_all(alloc, plan, elements, &mut draft, &mut scratch)?;
-    lay_put(alloc, plan, elements.len(), &mut draft, &mut scratch)?;
-    Ok(draft)
-}
-
 /// Appends what stands in the place of elements, the first of which has this index.
 fn lay_record<P: Plan>(
     alloc: Global,
@@ -212,6 +80,150 @@ fn lay_record<P: Plan>(
         lay_closed(alloc, plan, first + index, element, out)?;
     }
     Ok(())
+}
+
+/// Writes what stands in the place of last elements that lack a newline at their end.
+fn lay_settled<P: Plan>(
+    alloc: Global,
+    plan: &P,
+    first: usize,
+    elements: &[Element],
+    out: &mut Vec<u8>,
+) -> Result<(), AllocError>
+    requires lines { LaysLines (P.layout plan.now) }
+    requires few { first + length elements.now < 2 ^ 64 }
+    ensures { OnOk result (out.new.items ≡ text_of (settling ((P.layout plan.now).put (first + length elements.now)) (laying (P.layout plan.now) first (pieces_of elements.now)))) }
+{
+    out.clear();
+    plan.put(first + elements.len(), out)?;
+    let is_end = out.is_empty();
+    out.clear();
+    lay_record(alloc, plan, first, elements, out)?;
+    if is_end {
+        out.pop();
+    }
+    Ok(())
+}
+
+/// Writes what stands in the place of elements with this text.
+fn lay_tie<P: Plan>(
+    alloc: Global,
+    plan: &P,
+    first: usize,
+    elements: &[Element],
+    text: &[u8],
+    out: &mut Vec<u8>,
+) -> Result<(), AllocError>
+    requires lines { LaysLines (P.layout plan.now) }
+    requires few { first + length elements.now < 2 ^ 64 }
+    ensures { OnOk result (out.new.items ≡ text_of (settled_as text.now ((P.layout plan.now).put (first + length elements.now)) (laying (P.layout plan.now) first (pieces_of elements.now)))) }
+{
+    if !ends_newline(text) {
+        return lay_settled(alloc, plan, first, elements, out);
+    }
+    out.clear();
+    lay_record(alloc, plan, first, elements, out)
+}
+
+/// Carries out the part of elements that are changed as one, with what is put before it.
+fn lay_part<P: Plan>(
+    alloc: Global,
+    plan: &P,
+    database: &Database,
+    range: &Range<usize>,
+    draft: &mut Draft,
+    scratch: &mut Vec<u8>,
+) -> Result<(), AllocError>
+    requires lines { LaysLines (P.layout plan.now) }
+    requires few { length (text_of database.now) < 2 ^ 64 }
+    requires tie { IsTie (P.layout plan.now) (length database.now) range.now.start range.now.end }
+    requires before { IsLaid draft.old (P.layout plan.now) database.now range.now.start }
+    ensures { OnOk result (IsLaid draft.new (P.layout plan.now) database.now range.now.end) }
+{
+    let elements = elements_in(database.elements(), range);
+    let text = database.text_in(range);
+    lay_put(alloc, plan, range.start, draft, scratch)?;
+    lay_tie(alloc, plan, range.start, elements, text, scratch)?;
+    draft.change(alloc, text, scratch)
+}
+
+/// The end of the elements that are changed as one with that of an index, and behind it.
+fn tie_end<P: Plan>(plan: &P, first: usize, count: usize) -> usize
+    requires { first < count }
+    ensures { IsTie (P.layout plan.now) count first result }
+{
+    for index in first..count {
+        if !plan.tied(index) {
+            return index + 1;
+        }
+    }
+    count
+}
+
+/// Carries out the part that begins with an element, with what is put before it. Answers the end of its elements.
+fn lay_next<P: Plan>(
+    alloc: Global,
+    plan: &P,
+    database: &Database,
+    first: usize,
+    draft: &mut Draft,
+    scratch: &mut Vec<u8>,
+) -> Result<usize, AllocError>
+    requires lines { LaysLines (P.layout plan.now) }
+    requires few { length (text_of database.now) < 2 ^ 64 }
+    requires some { first < length database.now }
+    requires before { IsLaid draft.old (P.layout plan.now) database.now first }
+    ensures behind { IfOk result (λ end. IsLaid draft.new (P.layout plan.now) database.now end) }
+    ensures further { IfOk result (λ end. (first < end) × (end ≤ length database.now)) }
+{
+    let elements = database.elements();
+    let element = &elements[first];
+    if ends_newline(element.raw) && !plan.touches(first) && !plan.tied(first) {
+        draft.keep(element.raw)?;
+        return Ok(first + 1);
+    }
+    let end = tie_end(plan, first, elements.len());
+    lay_part(alloc, plan, database, &(first..end), draft, scratch)?;
+    Ok(end)
+}
+
+/// Carries out all elements.
+fn lay_all<P: Plan>(
+    alloc: Global,
+    plan: &P,
+    database: &Database,
+    draft: &mut Draft,
+    scratch: &mut Vec<u8>,
+) -> Result<(), AllocError>
+    requires lines { LaysLines (P.layout plan.now) }
+    requires few { length (text_of database.now) < 2 ^ 64 }
+    requires before { IsLaid draft.old (P.layout plan.now) database.now 0 }
+    ensures { OnOk result (IsLaid draft.new (P.layout plan.now) database.now (length database.now)) }
+{
+    let count = database.elements().len();
+    let mut index = 0;
+    while index < count {
+        index = lay_next(alloc, plan, database, index, draft, scratch)?;
+    }
+    Ok(())
+}
+
+/// The whole script of a plan, carried out.
+fn drafted<P: Plan>(alloc: Global, database: &Database, plan: &P) -> Result<Draft, AllocError>
+    requires lines { LaysLines (P.layout plan.now) }
+    ensures { IfOk result (λ draft. IsDraft draft [] (script_of (P.layout plan.now) database.now)) }
+{
+    let mut scratch = Vec::new(alloc);
+    let mut draft = Draft::start(alloc, database.text().len())?;
+    lay_all(alloc, plan, database, &mut draft, &mut scratch)?;
+    lay_put(
+        alloc,
+        plan,
+        database.elements().len(),
+        &mut draft,
+        &mut scratch,
+    )?;
+    Ok(draft)
 }
 
 /// Whether the first of two texts is the second with a newline at its end.
@@ -267,6 +279,25 @@ fn changed_count<P: Plan>(
     Ok(count)
 }
 
+/// What a plan makes of a text, where it is known how many records it changes.
+pub(crate) fn carried_out_on<P: Plan>(
+    alloc: Global,
+    database: &Database,
+    changed: usize,
+    plan: &P,
+) -> Result<Edited, AllocError>
+    requires { LaysLines (P.layout plan.now) }
+    ensures { IfOk result (λ edited. edited ≡ edited_by (record { script = script_of (P.layout plan.now) database.now; changed = changed })) }
+{
+    let draft = drafted(alloc, database, plan)?;
+    let (patch, text) = draft.finish()?;
+    Ok(Edited {
+        patch,
+        text,
+        changed,
+    })
+}
+
 /// What a plan makes of a text, and how many of the chosen records it changes.
 pub(crate) fn carried_out<P: Plan>(
     alloc: Global,
@@ -276,15 +307,8 @@ pub(crate) fn carried_out<P: Plan>(
 ) -> Result<Edited, AllocError>
     requires chosen { AreRanges (length database.now) chosen.now }
     requires lines { LaysLines (P.layout plan.now) }
-    requires untied { TiesNone (P.layout plan.now) }
     ensures { IfOk result (λ edited. edited ≡ edited_by (step_of database.now chosen.now (P.layout plan.now))) }
 {
     let changed = changed_count(alloc, plan, database, chosen)?;
-    let draft = drafted(alloc, database, plan)?;
-    let (patch, text) = draft.finish()?;
-    Ok(Edited {
-        patch,
-        text,
-        changed,
-    })
+    carried_out_on(alloc, database, changed, plan)
 }

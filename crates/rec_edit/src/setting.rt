@@ -239,6 +239,10 @@ impl<'s, 't> Plan for Setting<'s, 't> {
         adds(self.action) && ending_at(self.chosen, index).is_some()
     }
 
+    fn tied(&self, index: usize) -> bool {
+        false
+    }
+
     fn put(&self, index: usize, out: &mut Vec<u8>) -> Result<(), AllocError> {
         match ending_at(self.chosen, index) {
             Some(record) => {

@@ -1,29 +1,33 @@
 use Rattle.rec_check.specs.Stored.{described}
 use Rattle.rec_edit.specs.Task.{task_of}
-use Rattle.rec_edit.proofs.EditLemmas.{none_put, only_outcome, outcome-leads, outcome-unchanged, outcome-whole, edit-refusals, edit-effect}
+use Rattle.rec_edit.proofs.EditLemmas.{only_outcome, outcome-leads, outcome-unchanged, outcome-whole, outcome-refusals, outcome-effect}
+use Rattle.rec_edit.proofs.EveryKindLemmas.{faithful}
 use Rattle.rec_edit.proofs.outcome.edit.Goals as goal
 
 pub returns-clause-only : goal.returns-clause-only
-returns-clause-only c = only_outcome c.args.database.now (described c.args.schema.now) c.args.force (task_of c.args.edit.now) c.outcome.result (none_put c.args.edit.now) c.requires.schema c.outcome.ensures
+returns-clause-only c = only_outcome c.args.database.now (described c.args.schema.now) c.args.force (task_of c.args.edit.now) c.outcome.result c.requires.schema c.outcome.ensures
 
 pub returns-clause-leads : goal.returns-clause-leads
 returns-clause-leads c =
-    outcome-leads c.args.database.now (described c.args.schema.now) c.args.force (task_of c.args.edit.now) (none_put c.args.edit.now) c.text-text.ensures.whole c.outcome.result c.outcome.ensures
+    outcome-leads c.args.database.now (described c.args.schema.now) c.args.force (task_of c.args.edit.now)
+    (faithful c.args.database.now (described c.args.schema.now) c.args.force (task_of c.args.edit.now) c.text-text.ensures.whole c.requires.schema) c.outcome.result c.outcome.ensures
 
 pub returns-clause-unchanged : goal.returns-clause-unchanged
 returns-clause-unchanged c =
-    outcome-unchanged c.args.database.now (described c.args.schema.now) c.args.force (task_of c.args.edit.now) (none_put c.args.edit.now) c.text-text.ensures.whole c.outcome.result c.outcome.ensures
+    outcome-unchanged c.args.database.now (described c.args.schema.now) c.args.force (task_of c.args.edit.now)
+    (faithful c.args.database.now (described c.args.schema.now) c.args.force (task_of c.args.edit.now) c.text-text.ensures.whole c.requires.schema) c.outcome.result c.outcome.ensures
 
 pub returns-clause-whole : goal.returns-clause-whole
 returns-clause-whole c =
-    outcome-whole c.args.database.now (described c.args.schema.now) c.args.force (task_of c.args.edit.now) (none_put c.args.edit.now) c.text-text.ensures.whole c.outcome.result c.outcome.ensures
+    outcome-whole c.args.database.now (described c.args.schema.now) c.args.force (task_of c.args.edit.now)
+    (faithful c.args.database.now (described c.args.schema.now) c.args.force (task_of c.args.edit.now) c.text-text.ensures.whole c.requires.schema) c.outcome.result c.outcome.ensures
 
 pub returns-clause-refusals : goal.returns-clause-refusals
 returns-clause-refusals c =
-    let elements = c.text-text.ensures.whole in
-    edit-refusals c.args.database.now (described c.args.schema.now) c.args.force (task_of c.args.edit.now) (none_put c.args.edit.now) elements c.requires.schema c.outcome.result c.outcome.ensures
+    outcome-refusals c.args.database.now (described c.args.schema.now) c.args.force (task_of c.args.edit.now)
+    (faithful c.args.database.now (described c.args.schema.now) c.args.force (task_of c.args.edit.now) c.text-text.ensures.whole c.requires.schema) c.outcome.result c.outcome.ensures
 
 pub returns-clause-effect : goal.returns-clause-effect
 returns-clause-effect c =
-    let elements = c.text-text.ensures.whole in
-    edit-effect c.args.database.now (described c.args.schema.now) c.args.force (task_of c.args.edit.now) (none_put c.args.edit.now) elements c.requires.schema c.outcome.result c.outcome.ensures
+    outcome-effect c.args.database.now (described c.args.schema.now) c.args.force (task_of c.args.edit.now)
+    (faithful c.args.database.now (described c.args.schema.now) c.args.force (task_of c.args.edit.now) c.text-text.ensures.whole c.requires.schema) c.outcome.result c.outcome.ensures

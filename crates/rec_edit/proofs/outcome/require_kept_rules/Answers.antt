@@ -3,12 +3,12 @@ use Rattle.rec_text.specs.Faults.{UnlessMemory}
 use Rattle.rec_check.specs.Stored.{described}
 use Rattle.rec_edit.specs.Task.{task_of}
 use Rattle.rec_edit.specs.Outcome.{IsSound}
-use Rattle.rec_edit.proofs.EditLemmas.{none_put, outcome-unruled}
+use Rattle.rec_edit.proofs.EditLemmas.{outcome-unruled}
 use Rattle.rec_edit.proofs.outcome.require_kept_rules.Goals as goal
 
 pub returns-then-sets-eq1 : goal.returns-then-sets-eq1
 returns-then-sets-eq1 c =
-    outcome-unruled c.args.database.now (described c.args.schema.now) (task_of c.args.edit.now) c.args.edited.now c.requires.made (none_put c.args.edit.now) c.text-text.ensures.whole
+    outcome-unruled c.args.database.now (described c.args.schema.now) (task_of c.args.edit.now) c.args.edited.now c.requires.made (c.puts_none_in.ensures c.if-puts_none_in.true) c.text-text.ensures.whole
     c.requires.schema (ap length (sym c.sets.ensures) ∙ c.if-sets-eq1.true)
 
 pub returns : goal.returns

@@ -1,0 +1,245 @@
+-- Fields are put before records: the records of the new elements are those of the old ones, each behind what is put before it.
+use Rattle.std.proofs.Common.{◌≡◌, ◌∙◌, ◌⊎◌, ℕ, suc, ◌+◌, ◌<◌, ◌≤◌, Bool, true, false, List, [], ◌∷◌, ◌++◌, length, map, take, drop, filter, Option, Some, None, refl, ap, ap₂, sym, subst, inl, inr, arith}
+use Rattle.std.specs.Prelude.{is_some, if◌then◌else◌}
+use Rattle.std.specs.List.{AllByRecursion, AllZip, list_any}
+use Rattle.std.specs.declared.ops.Range.{Range}
+use Rattle.std.proofs.lemmas.Bool.{cases_Bool, false≢true, or_from}
+use Rattle.std.proofs.lemmas.List.{append_assoc, append-nil}
+use Rattle.std.proofs.lemmas.List.Elements.{All-from_recursion}
+use Rattle.rec_text.specs.declared.element.Kind.{Kind}
+use Rattle.rec_text.specs.declared.element.Kind.TheVariants.{Blank, Comment, Field}
+use Rattle.rec_text.specs.Elements.{Piece, IsElement, name_of}
+use Rattle.rec_text.specs.Records.{AreRecords, elements_in, is_blank_piece, is_field_piece}
+use Rattle.rec_text.proofs.ListLemmas.{AllByRecursion-weaker}
+use Rattle.rec_check.specs.Descriptors.{type_of}
+use Rattle.rec_check.specs.Violations.{names_of}
+use Rattle.rec_check.specs.Words.{is_among}
+use Rattle.rec_edit.specs.Effect.{IsFilledUp, entries_from, kind_behind}
+use Rattle.rec_edit.specs.Script.{closed, new_pieces, parts_from, script_of}
+use Rattle.rec_edit.specs.Insertions.{Filled, filling}
+use Rattle.rec_edit.proofs.ClosedLemmas.{name_of-closed}
+use Rattle.rec_edit.proofs.EffectLemmas.{closed_owns, elements_part, type_of-closed}
+use Rattle.rec_edit.proofs.FieldsLaidLemmas.{IsOther}
+use Rattle.rec_edit.proofs.FillingLemmas.{IsPut}
+use Rattle.rec_edit.proofs.FitLemmas.{closed-own, list_any-closed}
+use Rattle.rec_edit.proofs.InnerLemmas.{BeginsFrom, all_begin}
+use Rattle.rec_edit.proofs.LaidLemmas.{Ends, LaysNeatly, Ends-laid_from, all_append, closed-blank, closed-field, closed-settled, laid_from, map-closed, new_pieces-parts_from, parts_reopen}
+use Rattle.rec_edit.proofs.ParagraphLemmas.{Spaced, closes, kept, own_of, own_of-Spaced, with_own}
+use Rattle.rec_edit.proofs.RecordCutLemmas.{Cut, Cut-AreRecords, IsOwn, between_fields-own, drop-part, length-part, with_own-some}
+
+-- ---- what is put before elements that stay
+
+module _ (put : ℕ → List Piece) where
+  -- the elements, the first of which has this index, each behind what is put before it
+  abbrev pub filled_from : ℕ → List Piece → List Piece
+  filled_from i [] = []
+  filled_from i (piece ∷ pieces) = put i ++ closed piece ∷ filled_from (i + 1) pieces
+
+  filled_from-append : (i : ℕ) (front behind : List Piece) → filled_from i (front ++ behind) ≡ filled_from i front ++ filled_from (i + length front) behind
+  filled_from-append i [] behind = ap (λ n. filled_from n behind) (let e : i ≡ i + 0 = omega arith in e)
+  filled_from-append i (piece ∷ front) behind =
+      let next : i + 1 + length front ≡ i + suc (length front) = omega arith in
+      ap (λ l. put i ++ closed piece ∷ l) (filled_from-append (i + 1) front behind ∙ ap (λ n. filled_from (i + 1) front ++ filled_from n behind) next)
+      ∙ sym (append_assoc (put i) (closed piece ∷ filled_from (i + 1) front) (filled_from (i + suc (length front)) behind))
+
+  filled_from-none : (i : ℕ) (pieces : List Piece) → ((k : ℕ) → i ≤ k → k < i + length pieces → put k ≡ []) → filled_from i pieces ≡ map closed pieces
+  filled_from-none i [] none = refl
+  filled_from-none i (piece ∷ pieces) none =
+      ap₂ (λ front behind. front ++ closed piece ∷ behind) (none i (omega arith) (omega arith)) (filled_from-none (i + 1) pieces (λ k low high. none k (omega arith) (omega arith)))
+
+  -- nothing is put before an element but the first
+  filled_from-first : (i : ℕ) (pieces : List Piece) → 0 < length pieces → ((k : ℕ) → i < k → k < i + length pieces → put k ≡ []) → filled_from i pieces ≡ put i ++ map closed pieces
+  filled_from-first i [] some none = absurd (omega arith)
+  filled_from-first i (piece ∷ pieces) some none = ap (λ behind. put i ++ closed piece ∷ behind) (filled_from-none (i + 1) pieces (λ k low high. none k (omega arith) (omega arith)))
+
+-- with their newlines, the new elements of the script
+module _ (filled : List Filled) where
+  abbrev pub put_of : ℕ → List Piece
+  put_of i = (filling filled).put i
+
+  filled_from-laid : (i : ℕ) (pieces : List Piece) → put_of (i + length pieces) ≡ [] → put_of i ++ laid_from (filling filled) i pieces ≡ filled_from put_of i pieces
+  filled_from-laid i [] none = append-nil (put_of i) ∙ ap put_of (let e : i ≡ i + 0 = omega arith in e) ∙ none
+  filled_from-laid i (piece ∷ pieces) none =
+      let end : i + 1 + length pieces ≡ i + suc (length pieces) = omega arith in
+      ap (λ l. put_of i ++ closed piece ∷ l) (filled_from-laid (i + 1) pieces (ap put_of end ∙ none))
+
+  pub closed-filled : (pieces : List Piece) → LaysNeatly (filling filled) → put_of (length pieces) ≡ [] → map closed (new_pieces (script_of (filling filled) pieces)) ≡ filled_from put_of 0 pieces
+  closed-filled pieces neatly none =
+      let zeroth : 0 + length pieces ≡ length pieces = omega arith in
+      let whole : List Piece = put_of 0 ++ laid_from (filling filled) 0 pieces in
+      let ends : AllByRecursion Ends whole = all_append Ends (put_of 0) (laid_from (filling filled) 0 pieces) (neatly.put 0) (Ends-laid_from (filling filled) 0 pieces neatly) in
+      closed-settled (parts_from 0 (filling filled) pieces) (parts_reopen 0 (filling filled) pieces neatly)
+      ∙ ap (map closed) (new_pieces-parts_from 0 (filling filled) pieces neatly.unties)
+      ∙ map-closed whole ends ∙ filled_from-laid 0 pieces (ap put_of zeroth ∙ none)
+
+-- ---- a record with fields before it
+
+field_no_blank : (kind : Kind) (bytes : List ℕ) → is_field_piece (record { kind = kind; bytes = bytes }) ≡ true → is_blank_piece (record { kind = kind; bytes = bytes }) ≡ false
+field_no_blank Blank bytes field = absurd (false≢true field)
+field_no_blank Comment bytes field = refl
+field_no_blank Field bytes field = refl
+
+abbrev AreFields : List Piece → Type 0
+AreFields pieces = AllByRecursion (λ piece. is_field_piece piece ≡ true) pieces
+
+kept-before : (piece : Piece) (pieces : List Piece) → 0 < length pieces → kept piece pieces ≡ piece ∷ pieces
+kept-before piece [] some = absurd (omega arith)
+kept-before piece (next ∷ pieces) some = refl
+
+IsOwn-behind : (front own : List Piece) → AreFields front → IsOwn own → IsOwn (front ++ own)
+IsOwn-behind [] own fields is = is
+IsOwn-behind (piece ∷ front) own fields is =
+    let more = IsOwn-behind front own fields.1 is in
+    let field = fields.0 in
+    record {
+      some = omega arith;
+      first = rw field refl;
+      last = ap (kept piece) more.last ∙ kept-before piece (front ++ own) more.some;
+      full = or_from (is_blank_piece piece) (list_any is_blank_piece (front ++ own)) (field_no_blank piece.kind piece.bytes field) more.full;
+    }
+
+-- ---- the records of the new elements
+
+-- the record doesn't begin with the element of this index
+abbrev pub BeginsNot : ℕ → Range ℕ → Type 0
+BeginsNot i q = q.start ≡ i → ⊥
+
+module _ (pieces : List Piece) (put : ℕ → List Piece) where
+  -- a record behind what is put before it
+  abbrev pub filled_own : Range ℕ → List Piece
+  filled_own r = put r.start ++ map closed (elements_in pieces r)
+
+  -- nothing is put before an element from this index on with which none of these records begins
+  abbrev pub PutsBefore : ℕ → List (Range ℕ) → Type 0
+  PutsBefore n records = (i : ℕ) → n ≤ i → AllByRecursion (BeginsNot i) records → put i ≡ []
+
+  none_between : (n : ℕ) (r : Range ℕ) (records : List (Range ℕ)) → AllByRecursion (BeginsFrom r.end) records → PutsBefore n (r ∷ records) → (i : ℕ) → n ≤ i → i < r.end → (r.start ≡ i → ⊥) → put i ≡ []
+  none_between n r records begun before i low high other =
+      before i low (other, AllByRecursion-weaker (BeginsFrom r.end) (BeginsNot i) (λ q begins here. omega (arith, begins.1)) records begun)
+
+  filled_parts : (n start end : ℕ) → n ≤ start → start < end → end ≤ length pieces
+      → filled_from put n (drop n pieces) ≡ filled_from put n (drop n (take start pieces)) ++ (filled_from put start (drop start (take end pieces)) ++ filled_from put end (drop end pieces))
+  filled_parts n start end low some within =
+      let gap : List Piece = drop n (take start pieces) in
+      let own : List Piece = drop start (take end pieces) in
+      let to_start : n + length gap ≡ start = omega (arith, length-part pieces n start low (omega arith)) in
+      let to_end : start + length own ≡ end = omega (arith, length-part pieces start end (omega arith) within) in
+      let second : filled_from put start (drop start pieces) ≡ filled_from put start own ++ filled_from put end (drop end pieces) =
+      ap (filled_from put start) (drop-part pieces start end (omega arith) within) ∙ filled_from-append put start own (drop end pieces)
+      ∙ ap (λ m. filled_from put start own ++ filled_from put m (drop end pieces)) to_end in
+      ap (filled_from put n) (drop-part pieces n start low (omega arith)) ∙ filled_from-append put n gap (drop start pieces)
+      ∙ ap (λ m. filled_from put n gap ++ filled_from put m (drop start pieces)) to_start ∙ ap (λ l. filled_from put n gap ++ l) second
+
+  filled_spaced : (apart : Bool) (n : ℕ) (records : List (Range ℕ)) → ((i : ℕ) → AreFields (put i)) → Cut pieces apart n records → PutsBefore n records
+      → Spaced apart (filled_from put n (drop n pieces)) (map filled_own records)
+  filled_spaced apart n [] fields cut before =
+      ap (list_any is_field_piece) (filled_from-none put n (drop n pieces) (λ k low high. before k low tt)) ∙ list_any-closed is_field_piece closed-field (drop n pieces) ∙ cut
+  filled_spaced apart n (r ∷ records) fields (low, some, within, none, between, own, more) before =
+      let begun : AllByRecursion (BeginsFrom r.end) records = all_begin pieces true r.end records more in
+      let gap : List Piece = drop n (take r.start pieces) in
+      let gap_stays : filled_from put n gap ≡ map closed gap =
+      filled_from-none put n gap (λ k above below.
+      let high : k < r.start = omega (arith, length-part pieces n r.start low (omega arith)) in
+      none_between n r records begun before k above (omega arith) (λ here. omega arith)) in
+      let own_is : filled_from put r.start (elements_in pieces r) ≡ filled_own r =
+      filled_from-first put r.start (elements_in pieces r) own.some (λ k above below.
+      let high : k < r.end = omega (arith, length-part pieces r.start r.end (omega arith) within) in
+      none_between n r records begun before k (omega arith) high (λ here. omega arith)) in
+      let is : IsOwn (filled_own r) = IsOwn-behind (put r.start) (map closed (elements_in pieces r)) (fields r.start) (closed-own (elements_in pieces r) own) in (
+        map closed gap,
+        filled_from put r.end (drop r.end pieces),
+        true,
+        filled_parts n r.start r.end low some within ∙ ap₂ (λ a b. a ++ (b ++ filled_from put r.end (drop r.end pieces))) gap_stays own_is,
+        list_any-closed is_field_piece closed-field gap ∙ none,
+        λ needed. list_any-closed is_blank_piece closed-blank gap ∙ between needed,
+        is.full,
+        λ gone. absurd (false≢true (sym gone)),
+        filled_spaced true r.end records fields more (λ i above others. before i (omega arith) ((λ here. omega arith), others)),
+      )
+
+  closes-filled : (apart : Bool) (n : ℕ) (records : List (Range ℕ)) → ((i : ℕ) → AreFields (put i)) → Cut pieces apart n records → closes (map filled_own records) ≡ map filled_own records
+  closes-filled apart n [] fields cut = refl
+  closes-filled apart n (r ∷ records) fields (low, some, within, none, between, own, more) =
+      let is : IsOwn (filled_own r) = IsOwn-behind (put r.start) (map closed (elements_in pieces r)) (fields r.start) (closed-own (elements_in pieces r) own) in
+      ap (λ made. with_own made (closes (map filled_own records))) (between_fields-own (filled_own r) is)
+      ∙ with_own-some (filled_own r) (closes (map filled_own records)) is.some
+      ∙ ap (λ owns. filled_own r ∷ owns) (closes-filled true r.end records fields more)
+
+  pub own_of-filled : (records : List (Range ℕ)) → ((i : ℕ) → AreFields (put i)) → AreRecords pieces records → PutsBefore 0 records → own_of (filled_from put 0 pieces) ≡ map filled_own records
+  own_of-filled records fields are before =
+      let cut : Cut pieces false 0 records = Cut-AreRecords pieces records are in
+      own_of-Spaced false (filled_from put 0 pieces) (map filled_own records) (filled_spaced false 0 records fields cut before) ∙ closes-filled false 0 records fields cut
+
+-- ---- what becomes of the records
+
+type_of-behind : (front own : List Piece) → AllByRecursion IsOther front → type_of (front ++ own) ≡ type_of own
+type_of-behind [] own others = refl
+type_of-behind (piece ∷ front) own others = let other = others.0 in rw other (type_of-behind front own others.1)
+
+names_of-closed : (own : List Piece) → AllByRecursion IsElement own → names_of (map closed own) ≡ names_of own
+names_of-closed [] all = refl
+names_of-closed (piece ∷ own) all = elim (cases_Bool (is_field_piece piece)) [
+  | inl field ↦ rw (closed-field piece) (rw field (ap₂ (λ name names. name ∷ names) (name_of-closed piece all.0) (names_of-closed own all.1)))
+  | inr other ↦ rw (closed-field piece) (rw other (names_of-closed own all.1))
+]
+
+-- what is put before a record are fields that it lacks, and nothing is put before a descriptor
+abbrev pub IsPutBefore : List Piece → (ℕ → List Piece) → Range ℕ → Type 0
+IsPutBefore pieces put r = AllByRecursion (IsPut pieces r) (put r.start)
+
+module _ (pieces : List Piece) (put : ℕ → List Piece) (all : AllByRecursion IsElement pieces) where
+  same_type : (r : Range ℕ) → IsPutBefore pieces put r → type_of (filled_own pieces put r) ≡ type_of (map closed (elements_in pieces r))
+  same_type r are =
+      type_of-behind (put r.start) (map closed (elements_in pieces r)) (AllByRecursion-weaker (IsPut pieces r) IsOther (λ piece is. is.other) (put r.start) are)
+
+  filled_up : (kind : Option (List ℕ)) (r : Range ℕ) → IsPutBefore pieces put r
+      → IsFilledUp (record { kind = kind_behind kind (map closed (elements_in pieces r)); own = map closed (elements_in pieces r) }) (record { kind = kind_behind kind (filled_own pieces put r); own = filled_own pieces put r })
+  filled_up kind r are =
+      let own : List Piece = map closed (elements_in pieces r) in
+      let names : names_of own ≡ names_of (elements_in pieces r) = names_of-closed (elements_in pieces r) (elements_part pieces r all) in
+      let Lacked : Piece → Type 0 = λ piece. (is_field_piece piece ≡ true) × (is_among (names_of own) (name_of piece) ≡ false) in
+      record {
+        same_kind = ap (λ o. elim o as (λ x. Option (List ℕ)) [ None ↦ kind | Some named ↦ Some named ]) (same_type r are);
+        front = put r.start;
+        own = refl;
+        lacked = All-from_recursion Lacked (put r.start)
+            (AllByRecursion-weaker (IsPut pieces r) Lacked (λ piece is. (is.field, ap (λ ns. is_among ns (name_of piece)) names ∙ is.lacked)) (put r.start) are);
+      }
+
+  pub filled_entries : (kind : Option (List ℕ)) (ranges : List (Range ℕ)) → AllByRecursion (IsPutBefore pieces put) ranges
+      → AllZip IsFilledUp (entries_from kind (closed_owns pieces ranges)) (entries_from kind (map (filled_own pieces put) ranges))
+  filled_entries kind [] are = tt
+  filled_entries kind (r ∷ ranges) are =
+      let own : List Piece = map closed (elements_in pieces r) in
+      let first = filled_up kind r are.0 in (
+        first,
+        subst (λ k. AllZip IsFilledUp (entries_from (kind_behind kind own) (closed_owns pieces ranges)) (entries_from k (map (filled_own pieces put) ranges))) (sym first.same_kind)
+            (filled_entries (kind_behind kind own) ranges are.1),
+      )
+
+  -- the descriptors stay
+  abbrev pub typed : List (List Piece) → List (List Piece)
+  typed owns = filter (λ own. is_some (type_of own)) owns
+
+  typed-no : (own : List Piece) (owns : List (List Piece)) → type_of own ≡ None → typed (own ∷ owns) ≡ typed owns
+  typed-no own owns none = ap (λ o. if is_some o then own ∷ typed owns else typed owns) none
+
+  -- nothing is put before it, or it is no descriptor
+  nothing_or_plain : (r : Range ℕ) (front : List Piece) → AllByRecursion (IsPut pieces r) front → (front ≡ []) ⊎ (type_of (elements_in pieces r) ≡ None)
+  nothing_or_plain r [] are = inl refl
+  nothing_or_plain r (piece ∷ front) are = inr are.0.plain
+
+  pub typed-filled : (ranges : List (Range ℕ)) → AllByRecursion (IsPutBefore pieces put) ranges → typed (map (filled_own pieces put) ranges) ≡ typed (closed_owns pieces ranges)
+  typed-filled [] are = refl
+  typed-filled (r ∷ ranges) are =
+      let own : List Piece = map closed (elements_in pieces r) in
+      let more = typed-filled ranges are.1 in
+      elim (nothing_or_plain r (put r.start) are.0) [
+        | inl nothing ↦
+            ap (λ front. typed ((front ++ own) ∷ map (filled_own pieces put) ranges)) nothing
+            ∙ ap (λ owns. if is_some (type_of own) then own ∷ owns else owns) more
+        | inr plain ↦
+            let none : type_of own ≡ None = type_of-closed (elements_in pieces r) (elements_part pieces r all) ∙ plain in
+            typed-no (filled_own pieces put r) (map (filled_own pieces put) ranges) (same_type r are.0 ∙ none) ∙ more
+            ∙ sym (typed-no own (closed_owns pieces ranges) none)
+      ]

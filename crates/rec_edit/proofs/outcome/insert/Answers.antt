@@ -1,0 +1,53 @@
+use Rattle.std.proofs.Common.{ℕ, List, map, Err, subst}
+use Rattle.std.proofs.lemmas.Result.{err_from_is_err_and}
+use Rattle.rec_text.specs.Faults.{IsMemoryOr}
+use Rattle.rec_check.specs.Stored.{described}
+use Rattle.rec_edit.specs.Task.{Pair, fresh_by}
+use Rattle.rec_edit.specs.Automatic.{AreAutomatic}
+use Rattle.rec_edit.specs.Given.{IsAutomaticText}
+use Rattle.rec_edit.specs.Sites.{IsRecordPut}
+use Rattle.rec_edit.proofs.InsertMadeLemmas.{insert-no_record, insert-no_number, LaysLines-insert, insert-made}
+use Rattle.rec_edit.proofs.outcome.insert.Goals as goal
+use Rattle.rec_edit.proofs.outcome.insert.Goals.{In_ok-plan}
+
+-- the fields of the new record, and the automatic ones before them
+given : (c : In_ok-plan) → IsAutomaticText c.args.database.now (described c.args.schema.now) c.args.kind.now c.args.auto (map (λ pair. pair.name) c.in_ok-pairs.pairs.items) c.in_ok-automatic.automatic.items
+given c =
+    let P : List Pair → Type 0 = λ pairs.
+    IsAutomaticText c.args.database.now (described c.args.schema.now) c.args.kind.now c.args.auto (map (λ pair. pair.name) pairs) c.in_ok-automatic.automatic.items in
+    subst P c.deref.ensures.value c.in_ok-automatic.ensures.found
+
+put : (c : In_ok-plan)
+    → IsRecordPut c.args.database.now c.args.schema.now.sets.items c.args.kind.now c.in_ok-automatic.automatic.items c.in_ok-pairs.pairs.items c.in_ok-plan.plan.place c.in_ok-plan.plan.text.items
+put c =
+    let P : List ℕ → List Pair → Type 0 = λ automatic pairs.
+    IsRecordPut c.args.database.now c.args.schema.now.sets.items c.args.kind.now automatic pairs c.in_ok-plan.plan.place c.in_ok-plan.plan.text.items in
+    subst (λ (pairs : List Pair). P c.in_ok-automatic.automatic.items pairs) c.deref-3.ensures.value
+    (subst (λ (automatic : List ℕ). P automatic c.deref-3.result.now) c.deref-2.ensures.value c.in_ok-plan.ensures)
+
+pub returns-in_err-pairs : goal.returns-in_err-pairs
+returns-in_err-pairs c = λ force.
+    let kept = err_from_is_err_and c.from_residual.result c.from_residual.ensures.1 in
+    rw (kept.1, kept.2)
+    (insert-no_record c.args.database.now (described c.args.schema.now) c.args.kind.now (fresh_by c.args.fresh.now) c.args.auto force c.in_err-pairs.field-0.0 c.in_err-pairs.ensures.refused)
+
+pub returns-in_err-automatic : goal.returns-in_err-automatic
+returns-in_err-automatic c = λ force.
+    let kept = err_from_is_err_and c.from_residual-in_err-automatic.result c.from_residual-in_err-automatic.ensures.1 in
+    let P : List Pair → Type 0 = λ pairs.
+    IsMemoryOr c.in_err-automatic.field-0.0 (AreAutomatic c.args.database.now (described c.args.schema.now) c.args.kind.now c.args.auto (map (λ pair. pair.name) pairs) (Err c.in_err-automatic.field-0.0)) in
+    rw (kept.1, kept.2)
+    (insert-no_number c.args.database.now (described c.args.schema.now) c.args.kind.now (fresh_by c.args.fresh.now) c.args.auto c.in_ok-pairs.pairs.items c.in_ok-pairs.ensures.found force
+    c.in_err-automatic.field-0.0 (subst P c.deref.ensures.value c.in_err-automatic.ensures.refused))
+
+pub carried_out_on-requires : goal.carried_out_on-requires
+carried_out_on-requires c =
+    let at = (goal.at.carried_out_on-requires c).In_ok-plan in
+    LaysLines-insert c.args.database.now (described c.args.schema.now) c.args.kind.now (fresh_by c.args.fresh.now) c.args.auto c.in_ok-pairs.pairs.items c.in_ok-pairs.ensures.found
+    c.in_ok-automatic.automatic.items c.in_ok-plan.plan.place c.in_ok-plan.plan.text.items (given at) (put at)
+
+pub returns : goal.returns
+returns c = λ force.
+    let at = (goal.at.returns c).In_ok-plan in
+    insert-made c.args.database.now (described c.args.schema.now) c.args.kind.now (fresh_by c.args.fresh.now) c.args.auto c.in_ok-pairs.pairs.items c.in_ok-pairs.ensures.found
+    c.in_ok-automatic.automatic.items c.in_ok-plan.plan.place c.in_ok-plan.plan.text.items (given at) (put at) force c.in_ok-carried_out_on.field-0 c.in_ok-carried_out_on.ensures

@@ -1,0 +1,5 @@
+use Rattle.rec_edit.proofs.TieLemmas.{AreTied}
+use Rattle.rec_edit.proofs.script.tie_end.Given as goal
+
+abbrev pub invariant-loop-index : goal.invariant-loop-index
+invariant-loop-index g l = AreTied (g.P.Plan.layout l.plan) l.first l.index

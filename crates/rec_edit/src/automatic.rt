@@ -1,0 +1,80 @@
+//! The automatic fields of a new record.
+ghost use Rattle.std.specs.Prelude.{◌≡◌, ◌<◌, length, map, Err, Ok, IfOk, IfErr, MatchOption};
+ghost use Rattle.rec_text.specs.Faults.{IsMemoryOr};
+ghost use Rattle.rec_check.specs.Schemas.{IsSchema};
+ghost use Rattle.rec_check.specs.Stored.{described};
+ghost use Rattle.rec_edit.specs.Automatic.{AreAutomatic};
+ghost use Rattle.rec_edit.specs.Filling.{numbered, AreNamesOf, AreLacking, GivesNone, GivesAt};
+ghost use Rattle.rec_edit.specs.Given.{IsAutomaticText};
+
+use crate::numbered::{NumberedField, append_numbered, give};
+use crate::request::Pair;
+use rec_check::Schema;
+use rec_text::{Bytes, Database, Fault};
+use std::alloc::Global;
+use std::collections::HashSet;
+
+/// The place of the set whose automatic fields a new record gets, if it gets any.
+fn set_for(schema: &Schema, kind: &Option<Bytes>, auto: bool) -> Option<usize>
+    ensures { MatchOption result (GivesNone (described schema.now) kind.now auto) (GivesAt (described schema.now) kind.now auto) }
+{
+    let Some(kind) = kind else {
+        return None;
+    };
+    if !auto {
+        return None;
+    }
+    schema.set_of_type(kind.as_slice())
+}
+
+/// The names of a new record.
+fn names_of<'p>(alloc: Global, pairs: &'p [Pair]) -> Result<HashSet<&'p [u8]>, Fault>
+    ensures names { IfOk result (λ names. AreNamesOf names (map (λ pair. pair.name) pairs.now)) }
+    ensures refusals { IfErr result (λ fault. fault ≡ Fault.OutOfMemory) }
+{
+    let mut names = HashSet::new(alloc);
+    for pair in pairs {
+        names.insert(pair.name.as_slice())?;
+    }
+    Ok(names)
+}
+
+/// The automatic fields of the set at a place that a new record lacks.
+fn given_at<'s>(
+    alloc: Global,
+    database: &Database,
+    schema: &'s Schema,
+    place: usize,
+    pairs: &[Pair],
+) -> Result<Vec<NumberedField<'s>>, Fault>
+    requires schema { IsSchema database.now (Ok (described schema.now)) }
+    requires place { place < length (described schema.now).sets }
+    ensures given { IfOk result (λ given. AreLacking database.now (described schema.now) place (map (λ pair. pair.name) pairs.now) (Ok (numbered given.items))) }
+    ensures refused { IfErr result (λ fault. IsMemoryOr fault (AreLacking database.now (described schema.now) place (map (λ pair. pair.name) pairs.now) (Err fault))) }
+{
+    let names = names_of(alloc, pairs)?;
+    let mut counters = schema.counters(alloc, database, place)?;
+    give(alloc, &mut counters, &names)
+}
+
+/// The text of the automatic fields that a new record of a type lacks; it is empty where none are asked for.
+pub(crate) fn automatic_fields(
+    alloc: Global,
+    database: &Database,
+    schema: &Schema,
+    kind: &Option<Bytes>,
+    auto: bool,
+    pairs: &[Pair],
+) -> Result<Vec<u8>, Fault>
+    requires { IsSchema database.now (Ok (described schema.now)) }
+    ensures found { IfOk result (λ text. IsAutomaticText database.now (described schema.now) kind.now auto (map (λ pair. pair.name) pairs.now) text.items) }
+    ensures refused { IfErr result (λ fault. IsMemoryOr fault (AreAutomatic database.now (described schema.now) kind.now auto (map (λ pair. pair.name) pairs.now) (Err fault))) }
+{
+    let mut text = Vec::new(alloc);
+    let Some(place) = set_for(schema, kind, auto) else {
+        return Ok(text);
+    };
+    let given = given_at(alloc, database, schema, place, pairs)?;
+    append_numbered(&mut text, &given)?;
+    Ok(text)
+}

@@ -7,34 +7,59 @@ use Rattle.rec_check.specs.Schemas.{Described, IsSchema}
 use Rattle.rec_select.specs.Selection.{Filter}
 use Rattle.rec_journal.specs.History.{Opened, IsOpening}
 use Rattle.rec_edit.specs.declared.outcome.Edited.{Edited}
-use Rattle.rec_edit.specs.Task.{Wanted, Task}
+use Rattle.rec_edit.specs.Task.{Wanted, Task, insert, replace, delete, comment_out, set, auto_fill, fresh_by}
 use Rattle.rec_edit.specs.Outcome.{IsOutcome}
 use Rattle.rec_tools.specs.declared.decision.Change.{Change}
+use Rattle.rec_tools.specs.declared.deed.Deed.{Deed}
+use Rattle.rec_tools.specs.declared.deed.Deed.TheVariants.{Insert, Replace, Delete, CommentOut, Set, AutoFill}
 use Rattle.rec_tools.specs.declared.request.Pick.{Pick}
 use Rattle.rec_tools.specs.Home.{Contents}
 use Rattle.rec_tools.specs.Steps.{Then}
 use Rattle.rec_tools.specs.Asking.{Base, IsBaseOf, IsBase, IsRecFile, IsFilter}
-use Rattle.rec_tools.specs.Edits.{IsEditBy}
-use Rattle.rec_tools.specs.Changes.{IsChange}
+use Rattle.rec_tools.specs.Edits.{IsEditAs, IsEditBy}
+use Rattle.rec_tools.specs.Changes.{IsChange, IsTaskBy, IsTaskOf, IsEditOf}
+use Rattle.rec_tools.proofs.AnswerLemmas.{Then-next, Then-parts, Then-value}
 use Rattle.rec_tools.proofs.FaultLemmas.{memory_or_weaker, ok_is_no_err, same_fault}
 use Rattle.rec_tools.proofs.FileLemmas.{based, file-refused, file-base, file-some_base}
 
+-- ---- the edit that a deed is
+
+module _ (force : Bool) (base : Base) where
+  abbrev edits : Task → Result Edited Fault → Type 0
+  edits task = IsEditAs task force base
+
+  edit_by-task : (task_for : Wanted → Task) (pick : Pick) (r : Result Edited Fault) → Then (IsTaskBy task_for pick) edits r → IsEditBy task_for pick force base r
+  edit_by-task task_for pick r h =
+      let task : Filter → Task = λ filter. task_for (record { kind = pick.kind; filter = filter }) in
+      Then-next (IsFilter pick.by) (λ filter. Then (λ given. given ≡ Ok (task filter)) edits) (λ filter. edits (task filter))
+      (λ filter s. Then-value (task filter) edits s) r
+      (Then-parts (IsFilter pick.by) (λ filter given. given ≡ Ok (task filter)) edits r h)
+
+  edit_of-task : (deed : Deed) (r : Result Edited Fault) → Then (IsTaskOf deed) edits r → IsEditOf deed force base r
+  edit_of-task (Insert kind fresh auto) r h = Then-value (insert kind.now (fresh_by fresh.now) auto) edits r h
+  edit_of-task (Replace pick fresh) r h = edit_by-task (λ wanted. replace wanted (fresh_by fresh.now)) pick.now r h
+  edit_of-task (Delete pick) r h = edit_by-task delete pick.now r h
+  edit_of-task (CommentOut pick) r h = edit_by-task comment_out pick.now r h
+  edit_of-task (Set pick list action) r h = edit_by-task (λ wanted. set wanted list.now action.now) pick.now r h
+  edit_of-task AutoFill r h = Then-value auto_fill edits r h
+
 -- ---- the edit of elements that were given, with their schema
 
-module _ (pieces given : List Piece) (schema : Described) (is : IsSchema pieces (Ok schema)) (same : given ≡ pieces) (task_for : Wanted → Task) (pick : Pick) (force : Bool) where
+module _ (pieces given : List Piece) (schema : Described) (is : IsSchema pieces (Ok schema)) (same : given ≡ pieces) (deed : Deed) (force : Bool) where
   abbrev Edits : Result Edited Fault → Type 0
-  Edits = Then (IsBaseOf pieces) (IsEditBy task_for pick force)
+  Edits = Then (IsBaseOf pieces) (IsEditOf deed force)
 
-  pub by-no_filter : (fault : Fault) → IsMemoryOr fault (IsFilter pick.by (Err fault)) → IsMemoryOr fault (Edits (Err fault))
-  by-no_filter fault h = memory_or_weaker fault _ _ (λ none. inr (record { pieces = pieces; schema = schema }, based pieces schema is, inl (fault, none, refl))) h
+  on_base : (r : Result Edited Fault) → Then (IsTaskOf deed) (λ task. IsOutcome pieces schema force task) r → Edits r
+  on_base r h =
+      let base : Base = record { pieces = pieces; schema = schema } in
+      inr (base, based pieces schema is, edit_of-task force base deed r h)
 
-  module _ (wanted : Filter) (filtered : IsFilter pick.by (Ok wanted)) (task : Task) (e : task ≡ task_for (record { kind = pick.kind; filter = wanted })) where
+  pub by-no_task : (fault : Fault) → IsMemoryOr fault (IsTaskOf deed (Err fault)) → IsMemoryOr fault (Edits (Err fault))
+  by-no_task fault h = memory_or_weaker fault _ _ (λ none. on_base (Err fault) (inl (fault, none, refl))) h
+
+  module _ (task : Task) (asked : IsTaskOf deed (Ok task)) where
     is_edit : (r : Result Edited Fault) → IsOutcome given schema force task r → Edits r
-    is_edit r made = inr (
-      record { pieces = pieces; schema = schema },
-      based pieces schema is,
-      inr (wanted, filtered, subst (λ t. IsOutcome pieces schema force t r) e (subst (λ g. IsOutcome g schema force task r) same made)),
-    )
+    is_edit r made = on_base r (inr (task, asked, subst (λ g. IsOutcome g schema force task r) same made))
 
     pub by-edit : (r : Result Edited Fault) → UnlessMemory r (IsOutcome given schema force task) → UnlessMemory r Edits
     by-edit (Ok edited) made = is_edit (Ok edited) made

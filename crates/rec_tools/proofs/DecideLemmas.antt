@@ -1,11 +1,11 @@
 -- What an edit and a move come to, once their history was opened and their text was found.
-use Rattle.std.proofs.Common.{◌≡◌, ◌≢◌, inl, inr, ℕ, Bool, true, false, List, [], ◌∷◌, Result, Ok, Err, sym, ap, subst, refl, ◌∙◌}
-use Rattle.std.specs.Prelude.{◌↔◌, IsTrue}
+use Rattle.std.proofs.Common.{◌≡◌, ◌≢◌, inl, inr, ℕ, Bool, true, false, Option, Some, None, List, [], ◌∷◌, Result, Ok, Err, sym, ap, subst, refl, ◌∙◌}
+use Rattle.std.specs.Prelude.{◌↔◌, IsTrue, MatchOption}
 use Rattle.rec_text.specs.declared.fault.Fault.{Fault}
 use Rattle.rec_text.specs.declared.fault.Fault.TheVariants.{DigestClash}
 use Rattle.rec_text.specs.Faults.{IsMemoryOr}
 use Rattle.rec_journal.specs.declared.patch.Hunk.{Hunk}
-use Rattle.rec_journal.specs.declared.patch.Direction.TheVariants.{Backward}
+use Rattle.rec_journal.specs.declared.patch.Direction.{Direction}
 use Rattle.rec_journal.specs.declared.event.Pass.{Pass}
 use Rattle.rec_journal.specs.declared.event.Revision.{Revision}
 use Rattle.rec_journal.specs.declared.event.Tool.{Tool}
@@ -13,16 +13,17 @@ use Rattle.rec_journal.specs.declared.plan.Plan.{Plan}
 use Rattle.rec_journal.specs.Patch.{Splices}
 use Rattle.rec_journal.specs.History.{Opened, Opens, IsOpening}
 use Rattle.rec_journal.specs.Revisions.{one_pass}
-use Rattle.rec_journal.specs.Plans.{ShareDigest, IsEditPlan, IsMovePlan, after_edit_plan, after_move}
+use Rattle.rec_journal.specs.Plans.{ShareDigest, IsEditPlan, IsMovePlan, after_edit_plan, after_move, edits_on, nothing_there}
 use Rattle.rec_edit.specs.declared.outcome.Edited.{Edited}
 use Rattle.rec_tools.specs.declared.decision.Change.{Change}
-use Rattle.rec_tools.specs.declared.request.Reply.TheVariants.{Edited as EditedReply, Unchanged, Undone}
+use Rattle.rec_tools.specs.declared.request.Reply.{Reply}
+use Rattle.rec_tools.specs.declared.request.Reply.TheVariants.{Edited as EditedReply, Unchanged}
 use Rattle.rec_tools.specs.Home.{Contents}
 use Rattle.rec_tools.specs.Asking.{Base}
 use Rattle.rec_tools.specs.Requests.{editing, moving}
-use Rattle.rec_tools.specs.Outcomes.{staying, putting, move_plan, IsOutcome}
+use Rattle.rec_tools.specs.Outcomes.{staying, putting, move_plan, reply_of, IsOutcome}
 use Rattle.rec_tools.specs.Changes.{IsChange}
-use Rattle.rec_tools.proofs.FaultLemmas.{memory_or_weaker, ok_is_no_err, same_fault}
+use Rattle.rec_tools.proofs.FaultLemmas.{memory_or_weaker, ok_is_no_err, same_fault, same_value}
 use Rattle.rec_tools.proofs.OpeningLemmas.{told-digest}
 use Rattle.rec_tools.proofs.ChangeLemmas.{Changed}
 
@@ -109,42 +110,69 @@ module _ (c : Contents) (tool : Tool) (IsEdit : Base → Result Edited Fault →
             ),
           )
 
--- ---- an undo
+-- ---- a move
 
-module _ (file journal : List ℕ) where
+-- the number of the nearest edit that way, if there is one
+abbrev IsNearestNumber : Direction → Opened → Option ℕ → Type 0
+IsNearestNumber direction o number =
+    MatchOption number (edits_on direction o ≡ []) (λ n. (e : Revision) × (others : List Revision) × (edits_on direction o ≡ e ∷ others) × (n ≡ e.number))
+
+-- the reply to a move by the edit of this number, or the refusal where there is none
+abbrev IsReplied : Direction → Option ℕ → Result Reply Fault → Type 0
+IsReplied direction number answer = MatchOption number (answer ≡ Err (nothing_there direction)) (λ n. answer ≡ Ok (reply_of direction n))
+
+same_nearest : {x y : Revision} {xs ys : List Revision} → x ∷ xs ≡ y ∷ ys → x ≡ y
+same_nearest e = cc
+
+some_edits : (e : Revision) (others es : List Revision) → es ≡ e ∷ others → es ≡ [] → ⊥
+some_edits e others es there none = cc
+
+-- where a plan was made, there is a reply
+pub move-answered : {P : Type 0} (direction : Direction) (o : Opened) (file journal : List ℕ) (plan : Plan) → IsMovePlan direction o file journal (Ok plan)
+    → (number : Option ℕ) → IsNearestNumber direction o number → (fault : Fault) → IsReplied direction number (Err fault) → P
+move-answered direction o file journal plan planned None none fault e =
+    absurd (some_edits planned.1.nearest planned.1.others (edits_on direction o) planned.1.there none)
+move-answered direction o file journal plan planned (Some n) named fault e = ok_is_no_err (reply_of direction n) fault _ e
+
+module _ (file journal : List ℕ) (direction : Direction) where
   abbrev contents : Contents
   contents = record { file = file; journal = journal }
 
-  pub undo-no_opening : (fault : Fault) → IsMemoryOr fault (IsOpening file journal (Err fault)) → IsMemoryOr fault (IsOutcome contents (moving Backward) (Err fault))
-  undo-no_opening fault h = memory_or_weaker fault _ _ (λ none. inl (fault, none, refl)) h
+  pub move-no_opening : (fault : Fault) → IsMemoryOr fault (IsOpening file journal (Err fault)) → IsMemoryOr fault (IsOutcome contents (moving direction) (Err fault))
+  move-no_opening fault h = memory_or_weaker fault _ _ (λ none. inl (fault, none, refl)) h
 
   module _ (o : Opened) (opens : IsOpening file journal (Ok o)) where
-    pub undo-refused : (fault : Fault) → IsMemoryOr fault (IsMovePlan Backward o file journal (Err fault)) → IsMemoryOr fault (IsOutcome contents (moving Backward) (Err fault))
-    undo-refused fault h = memory_or_weaker fault _ _ (λ refused. inr (o, opens, refused)) h
+    pub move-refused : (fault : Fault) → IsMemoryOr fault (IsMovePlan direction o file journal (Err fault)) → IsMemoryOr fault (IsOutcome contents (moving direction) (Err fault))
+    move-refused fault h = memory_or_weaker fault _ _ (λ refused. inr (o, opens, refused)) h
 
-    pub undo-planned : (plan : Plan) → IsMovePlan Backward o file journal (Ok plan) → (number : ℕ) (newest : Revision) (older : List Revision) → o.past ≡ newest ∷ older → number ≡ newest.number
-        → ((e : Revision) (others : List Revision) → o.past ≡ e ∷ others → IsOpening plan.file plan.journal (Ok (after_move Backward o journal e others)))
-        → IsOutcome contents (moving Backward) (Ok (putting plan (Undone number)))
-    undo-planned plan planned number newest older past named next =
-        let h = planned.1 in
-        let same : h.nearest ≡ newest = heads (sym h.there ∙ past) in
-        let journal_is : plan.journal ≡ (move_plan Backward o contents h.nearest plan.file).journal = h.recorded in
-        inr (
-          o,
-          opens,
-          (
-            planned.0,
-            record {
-              nearest = h.nearest;
-              others = h.others;
-              there = h.there;
-              text = plan.file;
-              leads = h.leads;
-              opens = subst (λ j. IsOpening plan.file j (Ok (after_move Backward o journal h.nearest h.others))) journal_is (next h.nearest h.others h.there);
-              is = ap (λ n. putting plan (Undone n)) (named ∙ ap (λ (e : Revision). e.number) (sym same))
-                  ∙ ap (λ j. putting (record { file = plan.file; journal = j }) (Undone h.nearest.number)) journal_is;
-            },
-          ),
-        ) where
-          heads : {x y : Revision} {xs ys : List Revision} → x ∷ xs ≡ y ∷ ys → x ≡ y
-          heads e = cc
+    module _ (plan : Plan) (planned : IsMovePlan direction o file journal (Ok plan))
+        (next : (e : Revision) (others : List Revision) → edits_on direction o ≡ e ∷ others → IsOpening plan.file plan.journal (Ok (after_move direction o journal e others))) where
+      move-planned : (number : ℕ) (nearest : Revision) (others : List Revision) → edits_on direction o ≡ nearest ∷ others → number ≡ nearest.number
+          → IsOutcome contents (moving direction) (Ok (putting plan (reply_of direction number)))
+      move-planned number nearest others there named =
+          let h = planned.1 in
+          let same : h.nearest ≡ nearest = same_nearest (sym h.there ∙ there) in
+          let journal_is : plan.journal ≡ (move_plan direction o contents h.nearest plan.file).journal = h.recorded in
+          inr (
+            o,
+            opens,
+            (
+              planned.0,
+              record {
+                nearest = h.nearest;
+                others = h.others;
+                there = h.there;
+                text = plan.file;
+                leads = h.leads;
+                opens = subst (λ j. IsOpening plan.file j (Ok (after_move direction o journal h.nearest h.others))) journal_is (next h.nearest h.others h.there);
+                is = ap (λ n. putting plan (reply_of direction n)) (named ∙ ap (λ (e : Revision). e.number) (sym same))
+                    ∙ ap (λ j. putting (record { file = plan.file; journal = j }) (reply_of direction h.nearest.number)) journal_is;
+              },
+            ),
+          )
+
+      pub move-replied : (number : Option ℕ) → IsNearestNumber direction o number → (reply : Reply) → IsReplied direction number (Ok reply)
+          → IsOutcome contents (moving direction) (Ok (putting plan reply))
+      move-replied None none reply e = ok_is_no_err reply (nothing_there direction) _ (sym e)
+      move-replied (Some n) (e, others, there, named) reply is =
+          subst (λ r. IsOutcome contents (moving direction) (Ok (putting plan r))) (sym (same_value reply (reply_of direction n) is)) (move-planned n e others there named)

@@ -1,13 +1,11 @@
--- The edit of the records that a pick selects has one outcome, and it is never refused because a store failed.
+-- An edit has one outcome, also that of the records that a pick selects, and it is never refused because a store failed.
 use Rattle.std.proofs.Common.{◌≡◌, ℕ, Bool, true, false, Option, Some, None, List, [], ◌∷◌, Result, Ok, Err, ◌∙◌}
-use Rattle.std.specs.Prelude.{if◌then◌else◌, position, ◌==◌, ◌++◌, map, filter_map, slice_get}
+use Rattle.std.specs.Prelude.{position, ◌==◌, ◌++◌, map, filter_map, slice_get}
 use Rattle.std.specs.Option.{option_map_or}
-use Rattle.std.specs.List.{list_all}
 use Rattle.std.specs.declared.ops.Range.{Range}
 use Rattle.rec_text.specs.declared.fault.Fault.{Fault}
-use Rattle.rec_text.specs.declared.fault.Fault.TheVariants.{BadFieldList, BadName, BadValue, StoreFailed}
+use Rattle.rec_text.specs.declared.fault.Fault.TheVariants.{BadFieldList, StoreFailed}
 use Rattle.rec_text.specs.declared.violations.Violation.{Violation}
-use Rattle.rec_text.specs.Canonical.{is_plain_name, is_foldable}
 use Rattle.rec_text.specs.Elements.{Piece}
 use Rattle.rec_text.specs.Records.{AreRecords}
 use Rattle.rec_sex.specs.declared.field_list.Item.{Item}
@@ -16,23 +14,27 @@ use Rattle.rec_check.specs.declared.set.Set_.{Set_}
 use Rattle.rec_check.specs.Schemas.{Described}
 use Rattle.rec_check.specs.Violations.{AreViolationsOf}
 use Rattle.rec_select.specs.Selection.{Filter, all as all_members, by_expression, at_places, with_text, IsSelection}
+use Rattle.rec_edit.specs.declared.request.Pair.{Pair}
 use Rattle.rec_edit.specs.declared.request.Action.{Action}
 use Rattle.rec_edit.specs.declared.request.Action.TheVariants.{Set, Add, SetAdd, Rename, Delete, Comment as CommentFields}
-use Rattle.rec_edit.specs.Task.{Wanted, Task, insert, replace, delete, comment_out, set, auto_fill}
+use Rattle.rec_edit.specs.Task.{NewRecord, Wanted, Task, insert, replace, delete, comment_out, set, auto_fill}
+use Rattle.rec_edit.specs.Insertions.{Numbered, Filled, numbered_fields, filling}
+use Rattle.rec_edit.specs.Automatic.{AreAutomatic, AreFilledSets}
 use Rattle.rec_edit.specs.Script.{Layout, edited_text}
-use Rattle.rec_edit.specs.Rules.{deletion, commenting, setting}
-use Rattle.rec_edit.specs.Wording.{unnumbered, names_of_action, values_of_action, written, AreItemsFor}
-use Rattle.rec_edit.specs.Outcome.{AreChosen, AreRemovable, allowed, Step, step_of, IsStep, none_of, IsSoundUnlessForced, edited_by, IsOutcome, PutsNoneIn}
+use Rattle.rec_edit.specs.Rules.{fields_of, deletion, commenting, replacement, setting}
+use Rattle.rec_edit.specs.Wording.{unnumbered, names_of_action, values_of_action, written, AreItemsFor, IsNewRecord}
+use Rattle.rec_edit.specs.Outcome.{AreChosen, AreRemovable, allowed, Step, step_of, step_of_insert, IsStep, none_of, IsSoundUnlessForced, edited_by, IsOutcome}
 use Rattle.rec_edit.proofs.OutcomeLemmas.{one_outcome}
 use Rattle.rec_tools.specs.declared.request.Pick.{Pick}
 use Rattle.rec_tools.specs.Steps.{Then}
 use Rattle.rec_tools.specs.Asking.{Base, IsFilter}
-use Rattle.rec_tools.specs.Edits.{IsEditBy}
+use Rattle.rec_tools.specs.Edits.{IsEditAs, IsEditBy}
 use Rattle.rec_tools.proofs.FaultLemmas.{ok_is_no_err}
 use Rattle.rec_tools.proofs.AnswerLemmas.{Then-first, Then-next, AreAlike, AgreeBut-filter, AgreeOnSchemas, same_selection}
 use Rattle.rec_tools.proofs.PutsLemmas.{no_store_then}
 use Rattle.rec_tools.proofs.ShowLemmas.{no_store_filter, no_store_selection}
 use Rattle.rec_tools.proofs.CheckLemmas.{no_store_report}
+use Rattle.rec_tools.proofs.FreshLemmas.{no_store_written, no_store_new_record, no_store_automatic, no_store_filled_sets}
 
 -- ---- filters that are alike
 
@@ -76,16 +78,25 @@ set_alike list action pieces schema force kind wanted other alike =
     (λ items. Then-first (AreChosen pieces schema.sets (by_filter kind wanted)) (AreChosen pieces schema.sets (by_filter kind other)) _
     (chosen_alike kind wanted other alike pieces schema.sets))
 
+pub replace_alike : (fresh : NewRecord) → IsSameTask (λ wanted. replace wanted fresh)
+replace_alike fresh pieces schema force kind wanted other alike =
+    Then-next (IsNewRecord None fresh) _ _
+    (λ pairs. Then-first (AreChosen pieces schema.sets (by_filter kind wanted)) (AreChosen pieces schema.sets (by_filter kind other)) _
+    (chosen_alike kind wanted other alike pieces schema.sets))
+
 -- an edit is the same on any two schemas that the elements have
-pub agree_on_edits : (task_for : Wanted → Task) → IsSameTask task_for → ((wanted : Wanted) → PutsNoneIn (task_for wanted)) → (pick : Pick) (force : Bool)
+pub agree_on_task : (task : Task) (force : Bool) (pieces : List Piece) → AgreeOnSchemas pieces (IsEditAs task force)
+agree_on_task task force pieces schema same is is_too one other h k built built_too =
+    one_outcome pieces schema same force task one other is is_too h k built built_too
+
+pub agree_on_edits : (task_for : Wanted → Task) → IsSameTask task_for → (pick : Pick) (force : Bool)
     → (pieces : List Piece) → AgreeOnSchemas pieces (IsEditBy task_for pick force)
-agree_on_edits task_for same_task none pick force pieces schema same is is_too =
+agree_on_edits task_for same_task pick force pieces schema same is is_too =
     AgreeBut-filter pick.by
     (λ filter. IsOutcome pieces schema force (task_for (by_filter pick.kind filter))) (λ filter. IsOutcome pieces same force (task_for (by_filter pick.kind filter)))
     (λ wanted other alike. Then-first (IsStep pieces schema force (task_for (by_filter pick.kind wanted))) (IsStep pieces schema force (task_for (by_filter pick.kind other))) _
     (same_task pieces schema force pick.kind wanted other alike))
-    (λ wanted one other h k built built_too.
-    one_outcome pieces schema same force (task_for (by_filter pick.kind wanted)) one other (none (by_filter pick.kind wanted)) is is_too h k built built_too)
+    (λ wanted. agree_on_task (task_for (by_filter pick.kind wanted)) force pieces schema same is is_too)
 
 -- ---- no refusal because a store failed
 
@@ -108,11 +119,6 @@ no_store_unnumbered (Rename name) list items e = cc
 no_store_unnumbered Delete list items e = cc
 no_store_unnumbered CommentFields list items e = cc
 
-no_store_written : {X : Type 0} (named valued : Bool) (x : X) → ◌≡◌ {A = Result X Fault} (Err StoreFailed) (if named then (if valued then Ok x else Err BadValue) else Err BadName) → ⊥
-no_store_written true true x e = cc
-no_store_written true false x e = cc
-no_store_written false valued x e = cc
-
 -- items whose names and values can be written
 abbrev AreWritten : Action → List Item → Result (List Item) Fault → Type 0
 AreWritten action items answer = answer ≡ written (map (λ item. item.name) items ++ names_of_action action) (values_of_action action) items
@@ -121,7 +127,7 @@ no_store_items : (action : Action) (list : List ℕ) → AreItemsFor action list
 no_store_items action list =
     no_store_then (IsFieldList list) (λ items. Then (λ answer. answer ≡ unnumbered action list items) (λ _. AreWritten action items)) (λ h. h) (λ items.
     no_store_then (λ answer. answer ≡ unnumbered action list items) (λ _. AreWritten action items) (no_store_unnumbered action list items)
-    (λ _. no_store_written (list_all is_plain_name (map (λ (item : Item). item.name) items ++ names_of_action action)) (list_all (is_foldable 32) (values_of_action action)) items))
+    (λ _. no_store_written (map (λ (item : Item). item.name) items ++ names_of_action action) (values_of_action action) items))
 
 module _ (base : Base) (wanted : Wanted) where
   no_store_chosen : AreChosen base.pieces base.schema.sets wanted (Err StoreFailed) → ⊥
@@ -143,22 +149,39 @@ module _ (base : Base) (wanted : Wanted) where
   no_store_lays : (layout : List (Range ℕ) → Layout) (chosen : List (Range ℕ)) → Lays layout chosen (Err StoreFailed) → ⊥
   no_store_lays layout chosen e = ok_is_no_err (step_of base.pieces chosen (layout chosen)) StoreFailed ⊥ e
 
-no_store_step : (base : Base) (force : Bool) (task : Task) → PutsNoneIn task → IsStep base.pieces base.schema force task (Err StoreFailed) → ⊥
-no_store_step base force (insert kind fresh auto) none = absurd none
-no_store_step base force (replace wanted fresh) none = absurd none
-no_store_step base force (delete wanted) none =
+-- the step that puts a new record in
+abbrev Puts : Base → Option (List ℕ) → List Pair → List Numbered → Result Step Fault → Type 0
+Puts base kind pairs automatic answer = (records : List (Range ℕ)) × AreRecords base.pieces records
+    × (answer ≡ Ok (step_of_insert base.pieces records base.schema.sets kind (numbered_fields automatic ++ fields_of pairs)))
+
+no_store_step : (base : Base) (force : Bool) (task : Task) → IsStep base.pieces base.schema force task (Err StoreFailed) → ⊥
+no_store_step base force (insert kind fresh auto) =
+    let numbered : List Pair → Result (List Numbered) Fault → Type 0 = λ pairs. AreAutomatic base.pieces base.schema kind auto (map (λ pair. pair.name) pairs) in
+    no_store_then (IsNewRecord kind fresh) (λ pairs. Then (numbered pairs) (Puts base kind pairs)) (no_store_new_record kind fresh) (λ pairs.
+    no_store_then (numbered pairs) (Puts base kind pairs) (no_store_automatic base.pieces base.schema (map (λ pair. pair.name) pairs) kind auto) (λ automatic h.
+    ok_is_no_err (step_of_insert base.pieces h.0 base.schema.sets kind (numbered_fields automatic ++ fields_of pairs)) StoreFailed ⊥ h.2))
+no_store_step base force (replace wanted fresh) =
+    let puts : List Pair → List (Range ℕ) → Layout = λ pairs. replacement (fields_of pairs) in
+    no_store_then (IsNewRecord None fresh) (λ pairs. Then (AreChosen base.pieces base.schema.sets wanted) (Lays base wanted (puts pairs)))
+    (no_store_new_record None fresh) (λ pairs.
+    no_store_then (AreChosen base.pieces base.schema.sets wanted) (Lays base wanted (puts pairs)) (no_store_chosen base wanted)
+    (no_store_lays base wanted (puts pairs)))
+no_store_step base force (delete wanted) =
     no_store_then (AreRemovable base.pieces base.schema.sets wanted force) (Lays base wanted (deletion base.pieces)) (no_store_removable base wanted force)
     (no_store_lays base wanted (deletion base.pieces))
-no_store_step base force (comment_out wanted) none =
+no_store_step base force (comment_out wanted) =
     no_store_then (AreRemovable base.pieces base.schema.sets wanted force) (Lays base wanted commenting) (no_store_removable base wanted force)
     (no_store_lays base wanted commenting)
-no_store_step base force (set wanted list action) none =
+no_store_step base force (set wanted list action) =
     let sets_in : List Item → List (Range ℕ) → Layout = λ items. setting action items base.pieces in
     no_store_then (AreItemsFor action list) (λ items. Then (AreChosen base.pieces base.schema.sets wanted) (Lays base wanted (sets_in items)))
     (no_store_items action list) (λ items.
     no_store_then (AreChosen base.pieces base.schema.sets wanted) (Lays base wanted (sets_in items)) (no_store_chosen base wanted)
     (no_store_lays base wanted (sets_in items)))
-no_store_step base force auto_fill none = absurd none
+no_store_step base force auto_fill = λ h.
+    let fills : List Filled → Result Step Fault → Type 0 = λ filled answer. answer ≡ Ok (step_of base.pieces (map (λ one. one.range) filled) (filling filled)) in
+    no_store_then (AreFilledSets base.pieces h.0 base.schema.sets base.schema.rules) fills (no_store_filled_sets base.pieces h.0 base.schema.sets base.schema.rules)
+    (λ filled. ok_is_no_err (step_of base.pieces (map (λ one. one.range) filled) (filling filled)) StoreFailed ⊥) h.2
 
 no_store_none : (found : List Violation) → Err StoreFailed ≡ none_of found → ⊥
 no_store_none [] e = cc
@@ -168,15 +191,14 @@ no_store_sound : (force : Bool) (text : List ℕ) → IsSoundUnlessForced force 
 no_store_sound true text e = cc
 no_store_sound false text h = no_store_then (AreViolationsOf text) (λ found answer. answer ≡ none_of found) (no_store_report text) no_store_none h
 
-no_store_outcome : (base : Base) (force : Bool) (task : Task) → PutsNoneIn task → IsOutcome base.pieces base.schema force task (Err StoreFailed) → ⊥
-no_store_outcome base force task none =
+pub no_store_task : (task : Task) (force : Bool) (base : Base) → IsEditAs task force base (Err StoreFailed) → ⊥
+no_store_task task force base =
     no_store_then (IsStep base.pieces base.schema force task)
-    (λ step. Then (IsSoundUnlessForced force (edited_text step.script)) (λ _ answer. answer ≡ Ok (edited_by step))) (no_store_step base force task none) (λ step.
+    (λ step. Then (IsSoundUnlessForced force (edited_text step.script)) (λ _ answer. answer ≡ Ok (edited_by step))) (no_store_step base force task) (λ step.
     no_store_then (IsSoundUnlessForced force (edited_text step.script)) (λ _ answer. answer ≡ Ok (edited_by step)) (no_store_sound force (edited_text step.script))
     (λ _. ok_is_no_err (edited_by step) StoreFailed ⊥))
 
-pub no_store_edit_by : (task_for : Wanted → Task) → ((wanted : Wanted) → PutsNoneIn (task_for wanted)) → (pick : Pick) (force : Bool) (base : Base)
-    → IsEditBy task_for pick force base (Err StoreFailed) → ⊥
-no_store_edit_by task_for none pick force base =
-    no_store_then (IsFilter pick.by) (λ filter. IsOutcome base.pieces base.schema force (task_for (by_filter pick.kind filter))) (no_store_filter pick.by) (λ filter.
-    no_store_outcome base force (task_for (by_filter pick.kind filter)) (none (by_filter pick.kind filter)))
+pub no_store_edit_by : (task_for : Wanted → Task) (pick : Pick) (force : Bool) (base : Base) → IsEditBy task_for pick force base (Err StoreFailed) → ⊥
+no_store_edit_by task_for pick force base =
+    no_store_then (IsFilter pick.by) (λ filter. IsEditAs (task_for (by_filter pick.kind filter)) force base) (no_store_filter pick.by)
+    (λ filter. no_store_task (task_for (by_filter pick.kind filter)) force base)

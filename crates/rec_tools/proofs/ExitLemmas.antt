@@ -1,5 +1,5 @@
 -- What a request does at each of its exits, from the calls that were made and what went out.
-use Rattle.std.proofs.Common.{◌≡◌, inl, inr, ℕ, List, [], ◌∷◌, ◌++◌, take, Option, Result, Ok, Err, ap, sym, subst, refl, ◌∙◌}
+use Rattle.std.proofs.Common.{◌≡◌, inl, inr, ℕ, List, [], ◌∷◌, ◌++◌, take, Option, Result, Ok, Err, ap, ap₂, sym, subst, refl, ◌∙◌, append-nil}
 use Rattle.std.specs.Io.KnownBytes.{Appends}
 use Rattle.std.proofs.KnownBytes.{Appends-nil, Appends-kept}
 use Rattle.rec_text.specs.declared.fault.Fault.{Fault}
@@ -10,11 +10,12 @@ use Rattle.rec_tools.specs.declared.decision.Decision.{Decision}
 use Rattle.rec_tools.specs.declared.decision.Decision.TheVariants.{Stay, Put}
 use Rattle.rec_tools.specs.declared.home.Which.TheVariants.{Base as TheFile, Journal as TheJournal}
 use Rattle.rec_tools.specs.Home.{Contents, Call, got, with_content, TellAll, Went}
-use Rattle.rec_tools.specs.Printouts.{Printout, Printed, PutsPrintout, WentOut}
+use Rattle.rec_tools.specs.Printouts.{Printout, Printed, PutsPrintout, WentOut, IsShownText, IsHistory, printed_history}
 use Rattle.rec_tools.specs.Requests.{Asked, looking, listing, editing, moving, reads_of}
-use Rattle.rec_tools.specs.Outcomes.{Write, Outcome, printing, outcome_of, IsOutcome}
+use Rattle.rec_tools.specs.Outcomes.{Write, Outcome, printing, outcome_of, IsPrinting, IsOutcome}
 use Rattle.rec_tools.specs.Silently.{DoesSilently}
 use Rattle.rec_tools.specs.Attempts.{Answer, gots, puts, IsFront, StopsReading, StopsWriting, IsAnswered, Does}
+use Rattle.rec_tools.proofs.FaultLemmas.{ok_is_no_err, same_fault, same_value}
 use Rattle.rec_tools.proofs.CallLemmas.{one_call, went_on}
 use Rattle.rec_tools.proofs.AttemptLemmas.{ByCalls}
 
@@ -93,57 +94,63 @@ module _ {H S : Type 0} (goes : H → Call → H → Type 0) (told : S → Optio
 
 -- ---- a request that prints
 
--- on contents with the file that was read
-abbrev WasRead : List ℕ → (Contents → Type 0) → Type 0
-WasRead bytes P = (c : Contents) → bytes ≡ c.file → P c
-
 file_got : (bytes : List ℕ) (c : Contents) → bytes ≡ c.file → ◌≡◌ {A = List Call} (got TheFile bytes ∷ []) (got TheFile c.file ∷ [])
 file_got bytes c e = ap (λ b. got TheFile b ∷ []) e
 
-front_of : (IsText : List ℕ → Result Printout Fault → Type 0) (bytes : List ℕ) (x : Printout) (n : ℕ) (c : Contents) → bytes ≡ c.file → IsText bytes (Ok x)
-    → IsFront c (looking IsText) (take n x.text)
-front_of IsText bytes x n c e is = (printing x.text x.reply, n, (x, subst (λ b. IsText b (Ok x)) e is, refl), refl)
+-- after calls that tell of some contents, a text was printed that is asked for on these
+module _ (asked : Asked) (calls : List Call) (Tells : Contents → Type 0) (IsText : Result Printout Fault → Type 0)
+    (read : (c : Contents) → Tells c → calls ≡ gots c (reads_of asked))
+    (is : (c : Contents) → Tells c → (r : Result Outcome Fault) → IsPrinting IsText r → IsOutcome c asked r) where
+  front_of : (x : Printout) (n : ℕ) → IsText (Ok x) → (c : Contents) → Tells c → IsFront c asked (take n x.text)
+  front_of x n text c tells = (printing x.text x.reply, n, is c tells (Ok (printing x.text x.reply)) (x, text, refl), refl)
 
--- what went out of a printing call on the bytes that were read, and what was done
-printed_of : (IsText : List ℕ → Result Printout Fault → Type 0) (bytes : List ℕ) (old new : Option (List ℕ)) (n m : ℕ) (answer : Answer)
-    → PutsPrintout (IsText bytes) old new answer → KeptAtSuccess n m answer → RisenAtStoreFailed n m answer
-    → (text : List ℕ) × Appends old new text
-    × WasRead bytes (λ c. Does c (looking IsText) answer (got TheFile bytes ∷ []) (record { text = text; before = n; after = m }))
-printed_of IsText bytes old new n m (Ok reply) put kept risen = (
-  put.0,
-  put.2,
-  λ c e. inr (inr (inr (inr (record {
-    o = printing put.0 reply;
-    outcome = (record { text = put.0; reply = reply }, subst (λ b. IsText b (Ok (record { text = put.0; reply = reply }))) e put.1, refl);
-    behind = [];
-    calls_are = file_got bytes c e;
-    answered = inl (refl, refl);
-    printed = refl;
-    kept = kept;
-  })))),
-)
-printed_of IsText bytes old new n m (Err OutOfMemory) (inl same) kept risen =
-    ([], Appends-kept old old new [] (Appends-nil old) same, λ c e. inr (inl (record { read = file_got bytes c e; answered = refl; printed = inl refl })))
-printed_of IsText bytes old new n m (Err OutOfMemory) (inr front) kept risen = (
-  take front.2.0 front.0.text,
-  front.2.2,
-  λ c e. inr (inl (record { read = file_got bytes c e; answered = refl; printed = inr (front_of IsText bytes front.0 front.2.0 c e front.1) })),
-)
-printed_of IsText bytes old new n m (Err StoreFailed) front kept risen = (
-  take front.2.0 front.0.text,
-  front.2.2,
-  λ c e. inr (inr (inr (inl (record {
-    read = file_got bytes c e;
-    answered = refl;
-    printed = front_of IsText bytes front.0 front.2.0 c e front.1;
-    risen = risen refl;
-  })))),
-)
-printed_of IsText bytes old new n m (Err fault) put kept risen = (
-  [],
-  Appends-kept old old new [] (Appends-nil old) put.1,
-  λ c e. inr (inr (inl (record { read = file_got bytes c e; fault = fault; outcome = subst (λ b. IsText b (Err fault)) e put.0; answered = refl; silent = refl }))),
-)
+  -- what went out of a printing call, and what was done
+  printed_of : (old new : Option (List ℕ)) (n m : ℕ) (answer : Answer) → PutsPrintout IsText old new answer → KeptAtSuccess n m answer → RisenAtStoreFailed n m answer
+      → (text : List ℕ) × Appends old new text × ((c : Contents) → Tells c → Does c asked answer calls (record { text = text; before = n; after = m }))
+  printed_of old new n m (Ok reply) put kept risen = (
+    put.0,
+    put.2,
+    λ c tells. inr (inr (inr (inr (record {
+      o = printing put.0 reply;
+      outcome = is c tells (Ok (printing put.0 reply)) (record { text = put.0; reply = reply }, put.1, refl);
+      behind = [];
+      calls_are = read c tells ∙ sym (append-nil (gots c (reads_of asked)));
+      answered = inl (refl, refl);
+      printed = refl;
+      kept = kept;
+    })))),
+  )
+  printed_of old new n m (Err OutOfMemory) (inl same) kept risen =
+      ([], Appends-kept old old new [] (Appends-nil old) same, λ c tells. inr (inl (record { read = read c tells; answered = refl; printed = inl refl })))
+  printed_of old new n m (Err OutOfMemory) (inr front) kept risen = (
+    take front.2.0 front.0.text,
+    front.2.2,
+    λ c tells. inr (inl (record { read = read c tells; answered = refl; printed = inr (front_of front.0 front.2.0 front.1 c tells) })),
+  )
+  printed_of old new n m (Err StoreFailed) front kept risen = (
+    take front.2.0 front.0.text,
+    front.2.2,
+    λ c tells. inr (inr (inr (inl (record {
+      read = read c tells;
+      answered = refl;
+      printed = front_of front.0 front.2.0 front.1 c tells;
+      risen = risen refl;
+    })))),
+  )
+  printed_of old new n m (Err fault) put kept risen = (
+    [],
+    Appends-kept old old new [] (Appends-nil old) put.1,
+    λ c tells. inr (inr (inl (record { read = read c tells; fault = fault; outcome = is c tells (Err fault) put.0; answered = refl; silent = refl }))),
+  )
+
+-- the history that is printed of a file and its journal is the outcome that is asked for
+listed-outcome : (file journal : List ℕ) (r : Result Outcome Fault) → IsPrinting (IsShownText (IsHistory file journal)) r
+    → IsOutcome (record { file = file; journal = journal }) listing r
+listed-outcome file journal (Ok outcome) (p, (inl (fault, refused, e), shown), is) = ok_is_no_err p.text fault _ (sym e)
+listed-outcome file journal (Ok outcome) (p, (inr (o, opens, e), shown), is) =
+    inr (o, opens, ap Ok (is ∙ ap₂ printing (same_value p.text (printed_history o) e) shown))
+listed-outcome file journal (Err fault) (inl (other, refused, e)) = inl (other, refused, ap Err (same_fault fault other e))
+listed-outcome file journal (Err fault) (inr (o, opens, e)) = ok_is_no_err (printed_history o) fault _ e
 
 -- ---- a decision on both contents
 
@@ -210,13 +217,36 @@ module _ {H S : Type 0} (goes : H → Call → H → Type 0) (told : S → Optio
       → Attempted goes told failures old new out out_new (looking IsText) answer
   attempted-printed old new out out_new IsText bytes file answer step same put kept risen =
       let on : PutsPrintout (IsText bytes) (told out) (told out_new) answer = subst (λ f. PutsPrintout (IsText f) (told out) (told out_new) answer) same put in
-      let done = printed_of IsText bytes (told out) (told out_new) (failures out) (failures out_new) answer on kept risen in (
+      let done = printed_of (looking IsText) (got TheFile bytes ∷ []) (λ c. bytes ≡ c.file) (IsText bytes) (λ c e. file_got bytes c e)
+      (λ c e r h. subst (λ b. IsPrinting (IsText b) r) e h) (told out) (told out_new) (failures out) (failures out_new) answer on kept risen in (
         got TheFile bytes ∷ [],
         record { text = done.0; before = failures out; after = failures out_new },
         one_call goes old new _ step,
         (done.1, refl, refl),
         (file_alone bytes, (refl, tt)),
         λ c tells. done.2 c tells.0,
+      )
+
+  pub attempted-listed : (old new : H) (out out_new : S) (file journal f j : List ℕ) (answer : Answer)
+      → ByCalls goes old new (λ calls. calls ≡ got TheFile file ∷ got TheJournal journal ∷ []) → f ≡ file → j ≡ journal
+      → PutsPrintout (IsShownText (IsHistory f j)) (told out) (told out_new) answer
+      → KeptAtSuccess (failures out) (failures out_new) answer → RisenAtStoreFailed (failures out) (failures out_new) answer
+      → Attempted goes told failures old new out out_new listing answer
+  attempted-listed old new out out_new file journal f j answer read e h put kept risen =
+      let calls : List Call = got TheFile file ∷ got TheJournal journal ∷ [] in
+      let both : Contents = record { file = file; journal = journal } in
+      let on : PutsPrintout (IsShownText (IsHistory file journal)) (told out) (told out_new) answer =
+      subst (λ b. PutsPrintout (IsShownText (IsHistory file b)) (told out) (told out_new) answer) h
+      (subst (λ b. PutsPrintout (IsShownText (IsHistory b j)) (told out) (told out_new) answer) e put) in
+      let done = printed_of listing calls (λ c. both ≡ c) (IsShownText (IsHistory file journal))
+      (λ c same. ap (λ (d : Contents). gots d (reads_of listing)) same) (λ c same r is. subst (λ d. IsOutcome d listing r) same (listed-outcome file journal r is))
+      (told out) (told out_new) (failures out) (failures out_new) answer on kept risen in (
+        calls,
+        record { text = done.0; before = failures out; after = failures out_new },
+        subst (λ calls. Went goes old calls new) read.2 read.1,
+        (done.1, refl, refl),
+        (both, (refl, (refl, tt))),
+        λ c tells. done.2 c (both_got file journal [] c tells),
       )
 
 module _ {H : Type 0} (goes : H → Call → H → Type 0) where

@@ -20,4 +20,6 @@ pub mod StoreLemmas
 pub mod RunLemmas
 pub mod GuaranteeLemmas
 pub mod RunAllLemmas
+pub mod FreshLemmas
 pub mod EditLemmas
+pub mod ListedLemmas

@@ -26,12 +26,12 @@ use Rattle.rec_journal.specs.Plans.{IsMovePlan}
 use Rattle.rec_journal.proofs.PlanLemmas.{one_move_plan}
 use Rattle.rec_journal.proofs.Openings.{one_opening}
 use Rattle.rec_edit.specs.declared.outcome.Edited.{Edited}
-use Rattle.rec_edit.specs.Task.{delete, comment_out, set}
+use Rattle.rec_edit.specs.Task.{insert, replace, delete, comment_out, set, auto_fill, fresh_by}
 use Rattle.rec_tools.specs.declared.request.Form.{Form}
 use Rattle.rec_tools.specs.declared.request.Form.TheVariants.{Blocks, Print, Values, Row, Count}
 use Rattle.rec_tools.specs.declared.request.Pick.{Pick}
 use Rattle.rec_tools.specs.declared.request.Request.{Request}
-use Rattle.rec_tools.specs.declared.request.Request.TheVariants.{Show, Info, Check, Delete, CommentOut, Set, Undo}
+use Rattle.rec_tools.specs.declared.request.Request.TheVariants.{Show, Info, Check, Insert, Replace, Delete, CommentOut, Set, AutoFill, Undo, Redo, History}
 use Rattle.rec_tools.specs.declared.request.Reply.{Reply}
 use Rattle.rec_tools.specs.declared.request.Reply.TheVariants.{Shown, Edited as EditedReply}
 use Rattle.rec_tools.specs.Home.{Contents}
@@ -42,7 +42,7 @@ use Rattle.rec_tools.specs.Requests.{Asked, looking, listing, editing, moving, a
 use Rattle.rec_tools.specs.Outcomes.{Outcome, IsOutcome, IsPrinting, IsEditOutcome, IsMove, Moves, OneOutcome, printing, putting, move_plan, reply_of}
 use Rattle.rec_tools.proofs.FaultLemmas.{same_fault, same_value}
 use Rattle.rec_tools.proofs.OpeningLemmas.{no_clash, same_plan_of}
-use Rattle.rec_tools.proofs.EditLemmas.{delete_alike, comment_out_alike, set_alike, agree_on_edits}
+use Rattle.rec_tools.proofs.EditLemmas.{replace_alike, delete_alike, comment_out_alike, set_alike, agree_on_task, agree_on_edits}
 use Rattle.rec_tools.proofs.AnswerLemmas.{no_both, HasOne, HasOneBut, HasOneBut-of, one_value, no_value, one_fault, HasOne-Then, AgreeBut-after, AgreeBut-before, Then-first, Then-next, HasOneBut-filter, AgreeOnSchemas, based, HasOneBut-base, agree_by_sets, same_selection}
 
 -- ---- printed texts
@@ -144,10 +144,15 @@ pub one_meaning : (request : Request) → MeansOne (asked_of request)
 one_meaning (Show pick form collapse) = λ file. HasOneBut-shown _ (HasOneBut-show file pick form collapse)
 one_meaning (Info kind form) = λ file. HasOneBut-shown _ (HasOneBut-info_of file kind form)
 one_meaning Check = λ file. HasOneBut-reported _ (HasOneBut-check file)
-one_meaning (Delete pick force) = agree_on_edits delete delete_alike (λ _. tt) pick force
-one_meaning (CommentOut pick force) = agree_on_edits comment_out comment_out_alike (λ _. tt) pick force
-one_meaning (Set pick list action force) = agree_on_edits (λ wanted. set wanted list action) (set_alike list action) (λ _. tt) pick force
+one_meaning (Insert kind fresh auto force) = agree_on_task (insert kind (fresh_by fresh) auto) force
+one_meaning (Replace pick fresh force) = agree_on_edits (λ wanted. replace wanted (fresh_by fresh)) (replace_alike (fresh_by fresh)) pick force
+one_meaning (Delete pick force) = agree_on_edits delete delete_alike pick force
+one_meaning (CommentOut pick force) = agree_on_edits comment_out comment_out_alike pick force
+one_meaning (Set pick list action force) = agree_on_edits (λ wanted. set wanted list action) (set_alike list action) pick force
+one_meaning (AutoFill force) = agree_on_task auto_fill force
 one_meaning Undo = tt
+one_meaning Redo = tt
+one_meaning History = tt
 
 -- ---- an edit
 

@@ -1,29 +1,33 @@
 -- What is asked for is never refused because a store failed: that comes of calls alone.
-use Rattle.std.proofs.Common.{◌≡◌, inl, inr, Result, Err}
+use Rattle.std.proofs.Common.{◌≡◌, inl, inr, Bool, Result, Ok, Err}
 use Rattle.rec_text.specs.declared.fault.Fault.{Fault}
 use Rattle.rec_text.specs.declared.fault.Fault.TheVariants.{StoreFailed}
 use Rattle.rec_journal.specs.declared.event.Tool.{Tool}
-use Rattle.rec_journal.specs.declared.event.Tool.TheVariants.{RecDel, RecSet}
+use Rattle.rec_journal.specs.declared.event.Tool.TheVariants.{RecIns, RecDel, RecSet, RecFix}
 use Rattle.rec_journal.specs.History.{Opened, IsOpening}
 use Rattle.rec_edit.specs.declared.outcome.Edited.{Edited}
-use Rattle.rec_edit.specs.Task.{Wanted, Task, delete, comment_out, set}
+use Rattle.rec_edit.specs.Task.{Wanted, Task, insert, replace, delete, comment_out, set, auto_fill, fresh_by}
+use Rattle.rec_tools.specs.declared.request.Pick.{Pick}
+use Rattle.rec_tools.specs.declared.request.Reply.TheVariants.{Shown}
 use Rattle.rec_tools.specs.declared.request.Request.{Request}
-use Rattle.rec_tools.specs.declared.request.Request.TheVariants.{Show, Info, Check, Delete, CommentOut, Set, Undo}
+use Rattle.rec_tools.specs.declared.request.Request.TheVariants.{Show, Info, Check, Insert, Replace, Delete, CommentOut, Set, AutoFill, Undo, Redo, History}
 use Rattle.rec_tools.specs.Home.{Contents}
 use Rattle.rec_tools.specs.Steps.{Then}
 use Rattle.rec_journal.specs.declared.patch.Direction.{Direction}
 use Rattle.rec_journal.specs.declared.patch.Direction.TheVariants.{Forward, Backward}
 use Rattle.rec_journal.specs.Plans.{nothing_there}
 use Rattle.rec_tools.specs.Asking.{Base, IsBase}
-use Rattle.rec_tools.specs.Edits.{IsEditBy}
+use Rattle.rec_tools.specs.Edits.{IsEditAs, IsEditBy}
+use Rattle.rec_tools.specs.Printouts.{printed_history}
 use Rattle.rec_select.specs.Info.{IsInfo}
-use Rattle.rec_tools.specs.Requests.{asked_of}
-use Rattle.rec_tools.specs.Outcomes.{IsEditOutcome, IsMove, IsOutcome}
+use Rattle.rec_tools.specs.Requests.{editing, moving, asked_of}
+use Rattle.rec_tools.specs.Outcomes.{IsEditOutcome, IsMove, IsOutcome, printing}
+use Rattle.rec_tools.proofs.FaultLemmas.{ok_is_no_err}
 use Rattle.rec_tools.proofs.PutsLemmas.{no_store_then, no_store_base}
 use Rattle.rec_tools.proofs.ShowLemmas.{no_store_show}
 use Rattle.rec_tools.proofs.InformLemmas.{no_store_info}
 use Rattle.rec_tools.proofs.CheckLemmas.{no_store_report}
-use Rattle.rec_tools.proofs.EditLemmas.{no_store_edit_by}
+use Rattle.rec_tools.proofs.EditLemmas.{no_store_task, no_store_edit_by}
 
 -- ---- edits
 
@@ -37,6 +41,10 @@ never_edits c tool IsEdit never =
     (no_store_base c.file) (λ base. no_store_then (IsOpening c.file c.journal) (λ o. Then (IsEdit base) (λ edited. IsEditOutcome o c tool edited))
     (λ h. h) (λ o. no_store_then (IsEdit base) (λ edited. IsEditOutcome o c tool edited) (never base) (λ edited. no_store_edit o c tool edited)))
 
+never_edits_by : (c : Contents) (tool : Tool) (task_for : Wanted → Task) (pick : Pick) (force : Bool)
+    → IsOutcome c (editing tool (IsEditBy task_for pick force)) (Err StoreFailed) → ⊥
+never_edits_by c tool task_for pick force = never_edits c tool (IsEditBy task_for pick force) (no_store_edit_by task_for pick force)
+
 -- ---- moves
 
 no_store_there : (direction : Direction) → StoreFailed ≡ nothing_there direction → ⊥
@@ -47,6 +55,9 @@ no_store_move : (direction : Direction) (o : Opened) (c : Contents) → IsMove d
 no_store_move direction o c (inl drifted) = let e = drifted.0 in cc
 no_store_move direction o c (inr none) = no_store_there direction none.0
 
+never_moves : (direction : Direction) (c : Contents) → IsOutcome c (moving direction) (Err StoreFailed) → ⊥
+never_moves direction c = no_store_then (IsOpening c.file c.journal) (λ o. IsMove direction o c) (λ h. h) (λ o. no_store_move direction o c)
+
 -- ---- requests
 
 pub never_store : (request : Request) (c : Contents) → IsOutcome c (asked_of request) (Err StoreFailed) → ⊥
@@ -54,9 +65,15 @@ never_store (Show pick form collapse) c is = no_store_show c.file pick form coll
 never_store (Info kind form) c is =
     no_store_then (IsBase c.file) (λ base. IsInfo base.pieces base.schema.sets kind form) (no_store_base c.file) (λ base. no_store_info base kind form) is
 never_store Check c is = no_store_report c.file is
-never_store (Delete pick force) c is = never_edits c RecDel (IsEditBy delete pick force) (no_store_edit_by delete (λ _. tt) pick force) is
-never_store (CommentOut pick force) c is = never_edits c RecDel (IsEditBy comment_out pick force) (no_store_edit_by comment_out (λ _. tt) pick force) is
-never_store (Set pick list action force) c is =
-    let task_for : Wanted → Task = λ wanted. set wanted list action in
-    never_edits c RecSet (IsEditBy task_for pick force) (no_store_edit_by task_for (λ _. tt) pick force) is
-never_store Undo c is = no_store_then (IsOpening c.file c.journal) (λ o. IsMove Backward o c) (λ h. h) (λ o. no_store_move Backward o c) is
+never_store (Insert kind fresh auto force) c is =
+    never_edits c RecIns (IsEditAs (insert kind (fresh_by fresh) auto) force) (no_store_task (insert kind (fresh_by fresh) auto) force) is
+never_store (Replace pick fresh force) c is = never_edits_by c RecIns (λ wanted. replace wanted (fresh_by fresh)) pick force is
+never_store (Delete pick force) c is = never_edits_by c RecDel delete pick force is
+never_store (CommentOut pick force) c is = never_edits_by c RecDel comment_out pick force is
+never_store (Set pick list action force) c is = never_edits_by c RecSet (λ wanted. set wanted list action) pick force is
+never_store (AutoFill force) c is = never_edits c RecFix (IsEditAs auto_fill force) (no_store_task auto_fill force) is
+never_store Undo c is = never_moves Backward c is
+never_store Redo c is = never_moves Forward c is
+never_store History c is =
+    no_store_then (IsOpening c.file c.journal) (λ o given. given ≡ Ok (printing (printed_history o) Shown)) (λ h. h)
+    (λ o. ok_is_no_err (printing (printed_history o) Shown) StoreFailed ⊥) is

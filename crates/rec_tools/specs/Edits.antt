@@ -8,8 +8,11 @@ use Rattle.rec_tools.specs.declared.request.Pick.{Pick}
 use Rattle.rec_tools.specs.Steps.{Then}
 use Rattle.rec_tools.specs.Asking.{Base, IsFilter}
 
+-- this edit is made of a base
+abbrev pub IsEditAs : Task → Bool → Base → Result Edited Fault → Type 0
+IsEditAs task force base = IsOutcome base.pieces base.schema force task
+
 -- this edit is made of the records that a pick selects
 abbrev pub IsEditBy : (Wanted → Task) → Pick → Bool → Base → Result Edited Fault → Type 0
 IsEditBy task_for pick force base =
-    Then (IsFilter pick.by) (λ filter.
-    IsOutcome base.pieces base.schema force (task_for (record { kind = pick.kind; filter = filter })))
+    Then (IsFilter pick.by) (λ filter. IsEditAs (task_for (record { kind = pick.kind; filter = filter })) force base)

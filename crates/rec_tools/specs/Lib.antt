@@ -12,5 +12,6 @@ pub mod Guarantee
 pub mod Laws
 pub mod Memory
 -- what serves proofs
+pub mod Listed
 pub mod Changes
 pub mod Silently

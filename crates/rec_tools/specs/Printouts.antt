@@ -8,7 +8,7 @@ use Rattle.rec_text.specs.declared.violations.Violation.{Violation}
 use Rattle.rec_text.specs.Sink.{AppendsFront}
 use Rattle.rec_journal.specs.declared.event.Tool.{Tool}
 use Rattle.rec_journal.specs.Event.{tool_name}
-use Rattle.rec_journal.specs.History.{Opened}
+use Rattle.rec_journal.specs.History.{Opened, IsOpening}
 use Rattle.rec_select.specs.declared.info.InfoForm.{InfoForm}
 use Rattle.rec_select.specs.Info.{IsInfo}
 use Rattle.rec_select.specs.Printing.{IsPrinted}
@@ -83,6 +83,10 @@ abbrev pub printed_history : Opened → List ℕ
 printed_history o =
     if o.drifted then codes "drifted\n"
     else history_text (map (λ e. (e.number, e.tool)) o.past) (map (λ e. (e.number, e.tool)) o.future)
+
+-- the history of a file and its journal, or why there is none
+abbrev pub IsHistory : List ℕ → List ℕ → Result (List ℕ) Fault → Type 0
+IsHistory file journal = Then (IsOpening file journal) (λ o answer. answer ≡ Ok (printed_history o))
 
 -- ---- what went out
 

@@ -3,18 +3,18 @@
 use Rattle.std.specs.Prelude.{ℕ, List, [], ◌∷◌, Result}
 use Rattle.rec_text.specs.declared.fault.Fault.{Fault}
 use Rattle.rec_journal.specs.declared.patch.Direction.{Direction}
-use Rattle.rec_journal.specs.declared.patch.Direction.TheVariants.{Backward}
+use Rattle.rec_journal.specs.declared.patch.Direction.TheVariants.{Forward, Backward}
 use Rattle.rec_journal.specs.declared.event.Tool.{Tool}
-use Rattle.rec_journal.specs.declared.event.Tool.TheVariants.{RecDel, RecSet}
+use Rattle.rec_journal.specs.declared.event.Tool.TheVariants.{RecIns, RecDel, RecSet, RecFix}
 use Rattle.rec_edit.specs.declared.outcome.Edited.{Edited}
-use Rattle.rec_edit.specs.Task.{delete, comment_out, set}
+use Rattle.rec_edit.specs.Task.{insert, replace, delete, comment_out, set, auto_fill, fresh_by}
 use Rattle.rec_tools.specs.declared.home.Which.{Which}
 use Rattle.rec_tools.specs.declared.home.Which.TheVariants.{Base as TheFile, Journal as TheJournal}
 use Rattle.rec_tools.specs.declared.request.Request.{Request}
-use Rattle.rec_tools.specs.declared.request.Request.TheVariants.{Show, Info, Check, Delete, CommentOut, Set, Undo}
+use Rattle.rec_tools.specs.declared.request.Request.TheVariants.{Show, Info, Check, Insert, Replace, Delete, CommentOut, Set, AutoFill, Undo, Redo, History}
 use Rattle.rec_check.specs.Violations.{AreViolationsOf}
 use Rattle.rec_tools.specs.Asking.{Base}
-use Rattle.rec_tools.specs.Edits.{IsEditBy}
+use Rattle.rec_tools.specs.Edits.{IsEditAs, IsEditBy}
 use Rattle.rec_tools.specs.Printouts.{Printout, IsShownText, IsReportText, IsShow, IsInfoOf}
 
 -- what a request asks for
@@ -33,10 +33,15 @@ abbrev pub asked_of : Request → Asked
 asked_of (Show pick form collapse) = looking (λ file. IsShownText (IsShow file pick form collapse))
 asked_of (Info kind form) = looking (λ file. IsShownText (IsInfoOf file kind form))
 asked_of Check = looking (λ file. IsReportText (AreViolationsOf file))
+asked_of (Insert kind fresh auto force) = editing RecIns (IsEditAs (insert kind (fresh_by fresh) auto) force)
+asked_of (Replace pick fresh force) = editing RecIns (IsEditBy (λ wanted. replace wanted (fresh_by fresh)) pick force)
 asked_of (Delete pick force) = editing RecDel (IsEditBy delete pick force)
 asked_of (CommentOut pick force) = editing RecDel (IsEditBy comment_out pick force)
 asked_of (Set pick list action force) = editing RecSet (IsEditBy (λ wanted. set wanted list action) pick force)
+asked_of (AutoFill force) = editing RecFix (IsEditAs auto_fill force)
 asked_of Undo = moving Backward
+asked_of Redo = moving Forward
+asked_of History = listing
 
 -- the contents that are read for it, in this order
 abbrev pub reads_of : Asked → List Which

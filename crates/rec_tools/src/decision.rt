@@ -1,21 +1,22 @@
 //! What a request makes of a file and a journal, before anything is replaced.
-ghost use Rattle.std.specs.Prelude.{◌≡◌, ◌↔◌, IsTrue, [], Ok, Err, IfOk, IfErr};
+ghost use Rattle.std.specs.Prelude.{◌≡◌, ◌↔◌, IsTrue, List, [], ◌∷◌, Ok, Err, IfOk, IfErr, MatchOption};
 ghost use Rattle.rec_text.specs.Faults.{UnlessMemory};
 ghost use Rattle.rec_text.specs.Elements.{text_of};
+ghost use Rattle.rec_journal.specs.declared.event.Revision.{Revision};
 ghost use Rattle.rec_journal.specs.Patch.{Splices};
 ghost use Rattle.rec_journal.specs.History.{IsOpening};
+ghost use Rattle.rec_journal.specs.Plans.{IsMovePlan, edits_on, after_move, nothing_there};
 ghost use Rattle.rec_tools.specs.Steps.{Then, IsRefusal};
 ghost use Rattle.rec_tools.specs.Asking.{IsBaseOf};
-ghost use Rattle.rec_tools.specs.Edits.{IsEditBy};
-ghost use Rattle.rec_tools.specs.Requests.{asked_of};
-ghost use Rattle.rec_tools.specs.Outcomes.{Decides};
-ghost use Rattle.rec_tools.specs.Changes.{IsChange, task_by, asked_by};
+ghost use Rattle.rec_tools.specs.Requests.{moving};
+ghost use Rattle.rec_tools.specs.Outcomes.{Decides, reply_of};
+ghost use Rattle.rec_tools.specs.Changes.{IsChange, IsEditOf, asked_by};
 
 use crate::deed::{Deed, edit_of};
 use crate::rec_file::RecFile;
-use crate::request::{Pick, Reply, Request};
+use crate::request::Reply;
 use rec_edit::{Edited, edit};
-use rec_journal::{History, Plan, plan_edit, plan_undo};
+use rec_journal::{Direction, History, Plan, plan_edit, plan_redo, plan_undo};
 use rec_text::Fault;
 use std::alloc::Global;
 
@@ -34,21 +35,15 @@ pub struct Change {
 }
 
 /// Edits a base.
-fn edited_by(
-    alloc: Global,
-    base: &RecFile,
-    deed: Deed,
-    pick: &Pick,
-    force: bool,
-) -> Result<Edited, Fault>
-    ensures found { UnlessMemory result (Then (IsBaseOf base.now) (IsEditBy (task_by deed.entry) pick.now force)) }
+fn edited_by(alloc: Global, base: &RecFile, deed: Deed, force: bool) -> Result<Edited, Fault>
+    ensures found { UnlessMemory result (Then (IsBaseOf base.now) (IsEditOf deed.entry force)) }
     ensures refusals { IfErr result IsRefusal }
     ensures leads { IfOk result (λ edited. Splices edited.patch (text_of base.now) edited.text) }
     ensures unchanged { IfOk result (λ edited. (edited.patch ≡ []) ↔ (edited.text ≡ text_of base.now)) }
 {
     let database = base.database();
     let schema = base.schema();
-    let asked = edit_of(alloc, deed, pick)?;
+    let asked = edit_of(alloc, deed)?;
     edit(alloc, database, schema, &asked, force)
 }
 
@@ -58,10 +53,9 @@ fn change_by(
     file: &[u8],
     journal: &[u8],
     deed: Deed,
-    pick: &Pick,
     force: bool,
 ) -> Result<Change, Fault>
-    ensures found { UnlessMemory result (IsChange (record { file = file.now; journal = journal.now }) (IsEditBy (task_by deed.entry) pick.now force)) }
+    ensures found { UnlessMemory result (IsChange (record { file = file.now; journal = journal.now }) (IsEditOf deed.entry force)) }
     ensures refusals { IfErr result IsRefusal }
     ensures opened { IfOk result (λ change. IsOpening file.now journal.now (Ok change.history)) }
     ensures leads { IfOk result (λ change. Splices change.edited.patch file.now change.edited.text) }
@@ -69,7 +63,7 @@ fn change_by(
 {
     let base = RecFile::read(alloc, file)?;
     let history = History::load(alloc, file, journal)?;
-    let edited = edited_by(alloc, &base, deed, pick, force)?;
+    let edited = edited_by(alloc, &base, deed, force)?;
     Ok(Change { history, edited })
 }
 
@@ -86,13 +80,12 @@ pub fn decide_edit(
     file: &[u8],
     journal: &[u8],
     deed: Deed,
-    pick: &Pick,
     force: bool,
 ) -> Result<Decision, Fault>
-    ensures found { UnlessMemory result (Decides (record { file = file.now; journal = journal.now }) (asked_by deed.entry pick.now force)) }
+    ensures found { UnlessMemory result (Decides (record { file = file.now; journal = journal.now }) (asked_by deed.entry force)) }
     ensures refusals { IfErr result IsRefusal }
 {
-    let Change { history, edited } = change_by(alloc, file, journal, deed, pick, force)?;
+    let Change { history, edited } = change_by(alloc, file, journal, deed, force)?;
     if is_idle(&edited) {
         return Ok(Decision::Stay(Reply::Unchanged));
     }
@@ -109,15 +102,50 @@ pub fn decide_edit(
     Ok(Decision::Put(plan, Reply::Edited(edited.changed)))
 }
 
-/// Decides an undo on a file and a journal.
-pub fn decide_undo(alloc: Global, file: &[u8], journal: &[u8]) -> Result<Decision, Fault>
-    ensures found { UnlessMemory result (Decides (record { file = file.now; journal = journal.now }) (asked_of Request.Undo)) }
+/// The plan of a move by the nearest edit that way.
+fn plan_move(
+    alloc: Global,
+    direction: Direction,
+    history: &History,
+    file: &[u8],
+    journal: &[u8],
+) -> Result<Plan, Fault>
+    requires { IsOpening file.now journal.now (Ok history.now) }
+    ensures found { UnlessMemory result (IsMovePlan direction history.now file.now journal.now) }
+    ensures next { IfOk result (λ plan. (nearest : Revision) (others : List Revision)
+        → edits_on direction history.now ≡ nearest ∷ others
+        → IsOpening plan.file plan.journal (Ok (after_move direction history.now journal.now nearest others))) }
+{
+    match direction {
+        Direction::Forward => plan_redo(alloc, history, file, journal),
+        Direction::Backward => plan_undo(alloc, history, file, journal),
+    }
+}
+
+/// The reply to a move by the edit of this number, or the refusal where there is none.
+fn moved(direction: Direction, number: Option<usize>) -> Result<Reply, Fault>
+    ensures { MatchOption number (result ≡ Err (nothing_there direction)) (λ number. result ≡ Ok (reply_of direction number)) }
+{
+    match (direction, number) {
+        (Direction::Forward, Some(number)) => Ok(Reply::Redone(number)),
+        (Direction::Backward, Some(number)) => Ok(Reply::Undone(number)),
+        (Direction::Forward, None) => Err(Fault::NothingToRedo),
+        (Direction::Backward, None) => Err(Fault::NothingToUndo),
+    }
+}
+
+/// Decides a move on a file and a journal: back it is an undo, forward a redo.
+pub fn decide_move(
+    alloc: Global,
+    file: &[u8],
+    journal: &[u8],
+    direction: Direction,
+) -> Result<Decision, Fault>
+    ensures found { UnlessMemory result (Decides (record { file = file.now; journal = journal.now }) (moving direction)) }
     ensures refusals { IfErr result IsRefusal }
 {
     let history = History::load(alloc, file, journal)?;
-    let plan = plan_undo(alloc, &history, file, journal)?;
-    match history.newest() {
-        Some(number) => Ok(Decision::Put(plan, Reply::Undone(number))),
-        None => Err(Fault::NothingToUndo),
-    }
+    let plan = plan_move(alloc, direction, &history, file, journal)?;
+    let reply = moved(direction, history.nearest_number(direction))?;
+    Ok(Decision::Put(plan, reply))
 }

@@ -4,6 +4,7 @@
 
 mod decision;
 mod deed;
+mod history;
 mod home;
 mod laws;
 mod memory;
@@ -16,7 +17,7 @@ mod selecting;
 pub use home::{Home, Which};
 pub use laws::{first_stands, one_outcome, one_state, one_step, outcomes_are_steps};
 pub use memory::{MemoryHome, StoreFault};
-pub use rec_edit::Action;
+pub use rec_edit::{Action, NewRecord, Pair};
 pub use rec_select::InfoForm;
 pub use rec_text::{Bytes, Fault, Output, Rule, Sink, Violation, Violations};
 pub use request::{Ask, Form, Pick, Reply, Request};

@@ -1,5 +1,5 @@
 //! What a user asks for, and what is answered.
-use rec_edit::Action;
+use rec_edit::{Action, NewRecord};
 use rec_select::InfoForm;
 use rec_text::Bytes;
 
@@ -55,6 +55,21 @@ pub enum Request {
     },
     /// Reports where the file breaks the rules of its record sets.
     Check,
+    /// Puts a record in, as the last one of its set: that of a type, which is made where it isn't there, or else the untyped
+    /// one. With `auto` it gets the automatic fields that it lacks. Only with `force` may the file break the rules of its
+    /// record sets afterwards.
+    Insert {
+        kind: Option<Bytes>,
+        fresh: NewRecord,
+        auto: bool,
+        force: bool,
+    },
+    /// Puts a new record in the place of each that is picked, with `force` as for an insertion.
+    Replace {
+        pick: Pick,
+        fresh: NewRecord,
+        force: bool,
+    },
     /// Deletes records. Only with `force` may these be all records of a set, and may the file break the rules of its
     /// record sets afterwards.
     Delete {
@@ -74,8 +89,17 @@ pub enum Request {
         action: Action,
         force: bool,
     },
+    /// Gives all records of typed sets the automatic fields that they lack, with `force` as for an insertion.
+    AutoFill {
+        force: bool,
+    },
     /// Takes the newest edit back.
     Undo,
+    /// Makes the edit that was taken back last again.
+    Redo,
+    /// Prints the edits: those that stand, the oldest first, and then those that can be made again, the nearest first; or
+    /// that the file was changed outside.
+    History,
 }
 
 /// The answer to a request that isn't refused.

@@ -5,7 +5,7 @@ ghost use Rattle.rec_text.specs.Sink.{UnlessStoreFailed};
 ghost use Rattle.rec_tools.specs.Home.{Contents, Call, Went, TellAll, left_by_all, Rose};
 ghost use Rattle.rec_tools.specs.Steps.{IsRefusal};
 ghost use Rattle.rec_tools.specs.Printouts.{Printed, WentOut};
-ghost use Rattle.rec_tools.specs.Requests.{asked_of, IsSilent, WritesNothing};
+ghost use Rattle.rec_tools.specs.Requests.{listing, moving, asked_of, IsSilent, WritesNothing};
 ghost use Rattle.rec_tools.specs.Outcomes.{outcome_of, writes_of};
 ghost use Rattle.rec_tools.specs.Attempts.{AreRead, AreWritten, IsAnswered, Does, DoesAll};
 ghost use Rattle.rec_tools.specs.Machine.{State, Stands};
@@ -13,12 +13,13 @@ ghost use Rattle.rec_tools.specs.Guarantee.{RunsAsMachine};
 ghost use Rattle.rec_tools.specs.Changes.{asked_by};
 ghost use Rattle.rec_tools.specs.Silently.{DoesSilently};
 
-use crate::decision::{Decision, decide_edit, decide_undo};
+use crate::decision::{Decision, decide_edit, decide_move};
 use crate::deed::Deed;
+use crate::history::print_history;
 use crate::home::{Home, Which};
 use crate::printing::{check, inform, show};
-use crate::request::{Pick, Reply, Request};
-use rec_journal::Plan;
+use crate::request::{Reply, Request};
+use rec_journal::{Direction, Plan};
 use rec_text::{Bytes, Fault, Sink};
 use std::alloc::Global;
 
@@ -56,37 +57,37 @@ fn carry_out<H: Home>(home: &mut H, decision: Decision) -> Result<Reply, Fault>
     }
 }
 
-/// Reads both contents, edits the records that a pick selects, and puts the plan in place.
-fn make_edit<H: Home>(
-    alloc: Global,
-    home: &mut H,
-    deed: Deed,
-    pick: &Pick,
-    force: bool,
-) -> Result<Reply, Fault>
-    ensures attempts { DoesSilently H.goes home.old home.new (asked_by deed.entry pick.now force) result }
+/// Reads both contents, edits the file, and puts the plan in place.
+fn make_edit<H: Home>(alloc: Global, home: &mut H, deed: Deed, force: bool) -> Result<Reply, Fault>
+    ensures attempts { DoesSilently H.goes home.old home.new (asked_by deed.entry force) result }
     ensures refusals { IfErr result IsRefusal }
 {
     let (file, journal) = read_both(alloc, home)?;
-    let decision = decide_edit(
-        alloc,
-        file.as_slice(),
-        journal.as_slice(),
-        deed,
-        pick,
-        force,
-    )?;
+    let decision = decide_edit(alloc, file.as_slice(), journal.as_slice(), deed, force)?;
     carry_out(home, decision)
 }
 
-/// Reads both contents, and takes the newest edit back.
-fn take_back<H: Home>(alloc: Global, home: &mut H) -> Result<Reply, Fault>
-    ensures attempts { DoesSilently H.goes home.old home.new (asked_of Request.Undo) result }
+/// Reads both contents, and takes the newest edit back, or makes the next one again.
+fn make_move<H: Home>(alloc: Global, home: &mut H, direction: Direction) -> Result<Reply, Fault>
+    ensures attempts { DoesSilently H.goes home.old home.new (moving direction) result }
     ensures refusals { IfErr result IsRefusal }
 {
     let (file, journal) = read_both(alloc, home)?;
-    let decision = decide_undo(alloc, file.as_slice(), journal.as_slice())?;
+    let decision = decide_move(alloc, file.as_slice(), journal.as_slice(), direction)?;
     carry_out(home, decision)
+}
+
+/// Reads both contents, and prints the history.
+fn tell_history<H: Home, S: Sink>(alloc: Global, home: &mut H, out: &mut S) -> Result<Reply, Fault>
+    ensures attempts { (calls : List Call) × (p : Printed) × Went H.goes home.old calls home.new
+        × WentOut S.contents S.failure_count out.old out.new p
+        × ((c : Contents) × TellAll c calls)
+        × ((c : Contents) → TellAll c calls → Does c listing result calls p) }
+    ensures counted { S.failure_count out.old ≤ S.failure_count out.new }
+    ensures refusals { IfErr result IsRefusal }
+{
+    let (file, journal) = read_both(alloc, home)?;
+    print_history(alloc, file.as_slice(), journal.as_slice(), out)
 }
 
 /// Reads the contents that a request needs, and prints, or decides and puts a plan in place.
@@ -121,17 +122,32 @@ fn attempt<H: Home, S: Sink>(
             let file = home.read(alloc, Which::Base)?;
             check(alloc, file.as_slice(), out)
         }
-        Request::Delete { pick, force } => make_edit(alloc, home, Deed::Delete, pick, *force),
+        Request::Insert {
+            kind,
+            fresh,
+            auto,
+            force,
+        } => {
+            let auto = *auto;
+            make_edit(alloc, home, Deed::Insert { kind, fresh, auto }, *force)
+        }
+        Request::Replace { pick, fresh, force } => {
+            make_edit(alloc, home, Deed::Replace(pick, fresh), *force)
+        }
+        Request::Delete { pick, force } => make_edit(alloc, home, Deed::Delete(pick), *force),
         Request::CommentOut { pick, force } => {
-            make_edit(alloc, home, Deed::CommentOut, pick, *force)
+            make_edit(alloc, home, Deed::CommentOut(pick), *force)
         }
         Request::Set {
             pick,
             list,
             action,
             force,
-        } => make_edit(alloc, home, Deed::Set(list, action), pick, *force),
-        Request::Undo => take_back(alloc, home),
+        } => make_edit(alloc, home, Deed::Set(pick, list, action), *force),
+        Request::AutoFill { force } => make_edit(alloc, home, Deed::AutoFill, *force),
+        Request::Undo => make_move(alloc, home, Direction::Backward),
+        Request::Redo => make_move(alloc, home, Direction::Forward),
+        Request::History => tell_history(alloc, home, out),
     }
 }
 

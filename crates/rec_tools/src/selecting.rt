@@ -24,7 +24,8 @@ fn by_of(alloc: Global, ask: &Ask) -> Result<By, Fault>
     })
 }
 
-fn copy_of_kind(alloc: Global, kind: &Option<Bytes>) -> Result<Option<Bytes>, AllocError>
+/// A copy of a type, where one is given.
+pub fn copy_of_kind(alloc: Global, kind: &Option<Bytes>) -> Result<Option<Bytes>, AllocError>
     ensures { IfOk result (λ copy. copy ≡ kind.now) }
 {
     match kind {

@@ -1,24 +1,23 @@
 use Rattle.std.proofs.lemmas.Result.{err_from_is_err_and}
-use Rattle.rec_tools.specs.Changes.{task_by}
-use Rattle.rec_tools.specs.Edits.{IsEditBy}
+use Rattle.rec_tools.specs.Changes.{IsEditOf}
 use Rattle.rec_tools.proofs.ChangeLemmas.{change-no_file, change-no_opening, change-no_edit, change-edited}
 use Rattle.rec_tools.proofs.decision.change_by.Goals as goal
 
 pub returns-in_err-base-clause-found : goal.returns-in_err-base-clause-found
 returns-in_err-base-clause-found c =
     let p = err_from_is_err_and c.from_residual.result c.from_residual.ensures.1 in
-    rw (p.1, p.2) (change-no_file c.args.file.now c.args.journal.now (IsEditBy (task_by c.args.deed) c.args.pick.now c.args.force) _ c.in_err-base.ensures.found)
+    rw (p.1, p.2) (change-no_file c.args.file.now c.args.journal.now (IsEditOf c.args.deed c.args.force) _ c.in_err-base.ensures.found)
 
 pub returns-in_err-history-clause-found : goal.returns-in_err-history-clause-found
 returns-in_err-history-clause-found c =
     let p = err_from_is_err_and c.from_residual-in_err-history.result c.from_residual-in_err-history.ensures.1 in
-    rw (p.1, p.2) (change-no_opening c.args.file.now c.args.journal.now (IsEditBy (task_by c.args.deed) c.args.pick.now c.args.force) _ c.in_ok-base.ensures.found _ c.in_err-history.ensures.found)
+    rw (p.1, p.2) (change-no_opening c.args.file.now c.args.journal.now (IsEditOf c.args.deed c.args.force) _ c.in_ok-base.ensures.found _ c.in_err-history.ensures.found)
 
 pub returns-in_err-edited-clause-found : goal.returns-in_err-edited-clause-found
 returns-in_err-edited-clause-found c =
     let p = err_from_is_err_and c.from_residual-in_err-edited.result c.from_residual-in_err-edited.ensures.1 in
-    rw (p.1, p.2) (change-no_edit c.args.file.now c.args.journal.now (IsEditBy (task_by c.args.deed) c.args.pick.now c.args.force) _ c.in_ok-base.ensures.found _ c.in_ok-history.ensures.found _ c.in_err-edited.ensures.found)
+    rw (p.1, p.2) (change-no_edit c.args.file.now c.args.journal.now (IsEditOf c.args.deed c.args.force) _ c.in_ok-base.ensures.found _ c.in_ok-history.ensures.found _ c.in_err-edited.ensures.found)
 
 pub returns-clause-found : goal.returns-clause-found
 returns-clause-found c =
-    change-edited c.args.file.now c.args.journal.now (IsEditBy (task_by c.args.deed) c.args.pick.now c.args.force) _ c.in_ok-base.ensures.found _ c.in_ok-history.ensures.found _ c.in_ok-edited.ensures.found
+    change-edited c.args.file.now c.args.journal.now (IsEditOf c.args.deed c.args.force) _ c.in_ok-base.ensures.found _ c.in_ok-history.ensures.found _ c.in_ok-edited.ensures.found

@@ -1,7 +1,7 @@
 use Rattle.std.proofs.Common.{refl}
 use Rattle.rec_tools.proofs.AttemptLemmas.{refused_with}
 use Rattle.rec_tools.proofs.ExitLemmas.{silently-unread, silently-refused, silently-carried}
-use Rattle.rec_tools.proofs.runner.take_back.Goals as goal
+use Rattle.rec_tools.proofs.runner.make_move.Goals as goal
 
 pub returns-in_err-file-clause-attempts : goal.returns-in_err-file-clause-attempts
 returns-in_err-file-clause-attempts g c =

@@ -1,0 +1,63 @@
+//! Prints the history of a file.
+ghost use Rattle.std.specs.Prelude.{◌≤◌, codes, flat_map, Ok, IfErr, if◌then◌else◌};
+ghost use Rattle.rec_text.specs.Sink.{KeptAtSuccess, RisenAtStoreFailed, UnlessStoreFailed};
+ghost use Rattle.rec_select.specs.Taken.{Prints};
+ghost use Rattle.rec_tools.specs.Steps.{IsRefusal};
+ghost use Rattle.rec_tools.specs.Printouts.{IsHistory, IsShownText, PutsPrintout, printed_history};
+ghost use Rattle.rec_tools.specs.Listed.{line_of};
+
+use crate::request::Reply;
+use itoa::Buffer;
+use rec_journal::{History, Step, Steps};
+use rec_select::put_parts;
+use rec_text::{Fault, Sink, put_all};
+use std::alloc::Global;
+
+/// Prints an edit, in a line.
+fn write_step<S: Sink>(step: Step, out: &mut S) -> Result<(), Fault>
+    ensures printed { Prints (line_of step) (S.contents out.old) (S.contents out.new) (S.failure_count out.old) (S.failure_count out.new) result }
+    ensures refusals { UnlessStoreFailed result }
+{
+    let word: &[u8] = if step.done { b"done" } else { b"undone" };
+    let mut buffer = Buffer::new();
+    let number = buffer.format(step.number).as_bytes();
+    put_parts(out, &[word, b" ", number, b" ", step.tool.name(), b"\n"])
+}
+
+fn write_steps<S: Sink>(steps: Steps, out: &mut S) -> Result<(), Fault>
+    ensures printed { Prints (flat_map line_of steps.entry) (S.contents out.old) (S.contents out.new) (S.failure_count out.old) (S.failure_count out.new) result }
+    ensures refusals { UnlessStoreFailed result }
+{
+    for step in steps {
+        write_step(step, out)?;
+    }
+    Ok(())
+}
+
+fn write_history<S: Sink>(history: &History, out: &mut S) -> Result<(), Fault>
+    ensures printed { Prints (printed_history history.now) (S.contents out.old) (S.contents out.new) (S.failure_count out.old) (S.failure_count out.new) result }
+    ensures refusals { UnlessStoreFailed result }
+{
+    if history.is_drifted() {
+        return put_all(out, b"drifted\n");
+    }
+    write_steps(history.steps(), out)
+}
+
+/// Prints the history that a file and its journal stand for.
+pub fn print_history<S: Sink>(
+    alloc: Global,
+    file: &[u8],
+    journal: &[u8],
+    out: &mut S,
+) -> Result<Reply, Fault>
+    ensures printed { PutsPrintout (IsShownText (IsHistory file.now journal.now)) (S.contents out.old) (S.contents out.new) result }
+    ensures counted { S.failure_count out.old ≤ S.failure_count out.new }
+    ensures kept { KeptAtSuccess (S.failure_count out.old) (S.failure_count out.new) result }
+    ensures store_failed { RisenAtStoreFailed (S.failure_count out.old) (S.failure_count out.new) result }
+    ensures refusals { IfErr result IsRefusal }
+{
+    let history = History::load(alloc, file, journal)?;
+    write_history(&history, out)?;
+    Ok(Reply::Shown)
+}

@@ -3,7 +3,7 @@ use Rattle.std.proofs.Common.{◌≡◌, ◌∙◌, ℕ, ◌+◌, ◌<◌, List,
 use Rattle.std.specs.List.{fold, slice_index_or}
 use Rattle.std.proofs.lemmas.List.Sums.{fold_more}
 use Rattle.std.proofs.Math.Bool.{or-false}
-use Rattle.clap.specs.Words.{App, AddsArg, AddsSubcommand, app_of, rule_of, with_rule, with_subcommand}
+use Rattle.clap.specs.Words.{App, Rule, AddsArg, AddsSubcommand, app_of, rule_of, with_rule, with_subcommand}
 use Rattle.clap.specs.declared.builder.arg.Arg.{Arg}
 use Rattle.clap.specs.declared.builder.command.Command.{Command}
 use Rattle.clap.specs.declared.builder.command.Command.TheViews.{out-Command as fields_of}
@@ -37,3 +37,8 @@ module _ (old new : Command) (arg : Arg) (adds : AddsArg old arg new) (alone : a
 
   pub globals-added : (fields_of new).has_globals ≡ (fields_of old).has_globals
   globals-added = adds.globals ∙ ap (λ b. (fields_of old).has_globals || b) alone ∙ or-false (fields_of old).has_globals
+
+-- a command with one argument more
+pub arg_added : (old new : Command) (arg : Arg) (before : App) (rule : Rule) → AddsArg old arg new → arg.global ≡ false → rule_of arg ≡ rule → app_of old ≡ before
+    → app_of new ≡ with_rule before rule
+arg_added old new arg before rule adds alone rule_is old_is = adds.shape alone ∙ ap₂ with_rule old_is rule_is

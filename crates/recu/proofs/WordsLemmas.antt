@@ -1,5 +1,5 @@
 -- What the getters of the matches read: flags, and paths in the place of equal ones.
-use Rattle.std.proofs.Common.{◌≡◌, Bool, true, false, refl, subst, codes, Option, Some, None}
+use Rattle.std.proofs.Common.{◌≡◌, Bool, true, false, List, [], map, refl, ap, subst, codes, Bor, Option, Some, None, option_map}
 use Rattle.std.specs.Option.{option_map_or, unwrap_or}
 use Rattle.std.specs.Str.{bytes_eq}
 use Rattle.std.specs.Str.Parse.{ParsesBool}
@@ -11,6 +11,12 @@ use Rattle.recu.specs.Words.{IsJournal}
 false_unless : (b : Bool) → (b ≡ true → ⊥) → false ≡ b
 false_unless true h = absurd (h refl)
 false_unless false h = refl
+
+-- the texts of an option, none where it isn't given
+pub texts_read : (given : Option (Bor (List (Bor Text)))) (none : Bor (List (Bor Text))) (texts : Option (List Text)) → none.now ≡ []
+    → option_map (λ all. map (λ text. text.now) all.now) given ≡ texts → map (λ text. text.now) (unwrap_or given none).now ≡ unwrap_or texts []
+texts_read None none texts empty is = subst (λ all. map (λ text. text.now) none.now ≡ unwrap_or all []) is (ap (map (λ text. text.now)) empty)
+texts_read (Some given) none texts empty is = subst (λ all. map (λ text. text.now) given.now ≡ unwrap_or all []) is refl
 
 -- what is read of a flag's text, or of none
 pub flag_read : (E : Type 0) (text : Option Text) (read : Option Bool) → (text ≡ None → read ≡ None)

@@ -1,7 +1,7 @@
 -- The tools and their options, as clap is told of them. A word of the command line is its bytes.
-use Rattle.std.specs.Prelude.{true, List, [], ◌∷◌, codes, Some, slice_get, fold}
+use Rattle.std.specs.Prelude.{true, List, [], ◌∷◌, ◌++◌, codes, Some, slice_get, fold}
 use Rattle.clap.specs.Words.{App, Rule, Text, new_app, new_rule, with_rule, with_subcommand}
-use Rattle.clap.specs.declared.builder.action.ArgAction.TheVariants.{SetTrue}
+use Rattle.clap.specs.declared.builder.action.ArgAction.TheVariants.{SetTrue, Append}
 
 -- `-x VALUE` or `--name VALUE`; without a letter the second alone
 abbrev pub valued : Text → Text → Rule
@@ -10,6 +10,10 @@ valued letter name = record (new_rule name) {
   long = Some name;
   value_names = 1;
 }
+
+-- the same, as often as is wished
+abbrev pub repeated : Text → Text → Rule
+repeated letter name = record (valued letter name) { action = Some Append }
 
 -- `-x` or `--name`; without a letter the second alone
 abbrev pub flag : Text → Text → Rule
@@ -38,13 +42,19 @@ needed_file = record file_word { required = true }
 abbrev pub tool_with : Text → List Rule → App
 tool_with name rules = fold with_rule (new_app name) rules
 
-abbrev pub recsel_usage : App
-recsel_usage = tool_with (codes "recsel") (
+-- which records are meant
+abbrev pub selecting : List Rule
+selecting =
     valued (codes "t") (codes "type")
     ∷ valued (codes "e") (codes "expression")
     ∷ valued (codes "n") (codes "number")
     ∷ valued (codes "q") (codes "quick")
-    ∷ valued (codes "p") (codes "print")
+    ∷ []
+
+abbrev pub recsel_usage : App
+recsel_usage = tool_with (codes "recsel") (
+    selecting
+    ++ valued (codes "p") (codes "print")
     ∷ valued (codes "P") (codes "print-values")
     ∷ valued (codes "R") (codes "print-row")
     ∷ flag (codes "c") (codes "count")
@@ -61,15 +71,30 @@ recinf_usage = tool_with (codes "recinf") (
     ∷ [])
 
 abbrev pub recfix_usage : App
-recfix_usage = tool_with (codes "recfix") (flag [] (codes "check") ∷ file_word ∷ [])
+recfix_usage = tool_with (codes "recfix") (
+    flag [] (codes "check")
+    ∷ flag [] (codes "auto")
+    ∷ flag [] (codes "force")
+    ∷ journal_option
+    ∷ file_word
+    ∷ [])
+
+abbrev pub recins_usage : App
+recins_usage = tool_with (codes "recins") (
+    selecting
+    ++ repeated (codes "f") (codes "field")
+    ∷ repeated (codes "v") (codes "value")
+    ∷ valued (codes "r") (codes "record")
+    ∷ flag [] (codes "no-auto")
+    ∷ flag [] (codes "force")
+    ∷ journal_option
+    ∷ needed_file
+    ∷ [])
 
 abbrev pub recdel_usage : App
 recdel_usage = tool_with (codes "recdel") (
-    valued (codes "t") (codes "type")
-    ∷ valued (codes "e") (codes "expression")
-    ∷ valued (codes "n") (codes "number")
-    ∷ valued (codes "q") (codes "quick")
-    ∷ flag (codes "c") (codes "comment")
+    selecting
+    ++ flag (codes "c") (codes "comment")
     ∷ flag [] (codes "force")
     ∷ journal_option
     ∷ needed_file
@@ -77,11 +102,8 @@ recdel_usage = tool_with (codes "recdel") (
 
 abbrev pub recset_usage : App
 recset_usage = tool_with (codes "recset") (
-    valued (codes "t") (codes "type")
-    ∷ valued (codes "e") (codes "expression")
-    ∷ valued (codes "n") (codes "number")
-    ∷ valued (codes "q") (codes "quick")
-    ∷ valued (codes "f") (codes "fields")
+    selecting
+    ++ valued (codes "f") (codes "fields")
     ∷ valued (codes "s") (codes "set")
     ∷ valued (codes "a") (codes "add")
     ∷ valued (codes "S") (codes "set-add")
@@ -93,8 +115,9 @@ recset_usage = tool_with (codes "recset") (
     ∷ needed_file
     ∷ [])
 
-abbrev pub undo_usage : App
-undo_usage = tool_with (codes "undo") (journal_option ∷ needed_file ∷ [])
+-- a tool that only takes the paths of the file and its journal
+abbrev pub paths_usage : Text → App
+paths_usage name = tool_with name (journal_option ∷ needed_file ∷ [])
 
 -- the words are those behind the program's name, and the first of them is a tool
 abbrev pub plain_usage : App
@@ -108,9 +131,19 @@ plain_usage = record {
   subs = (new_app (codes "recu")).subs;
 }
 
+-- the tools, in the order in which help lists them
+abbrev pub tools : List App
+tools =
+    recsel_usage
+    ∷ recinf_usage
+    ∷ recfix_usage
+    ∷ recins_usage
+    ∷ recdel_usage
+    ∷ recset_usage
+    ∷ paths_usage (codes "undo")
+    ∷ paths_usage (codes "redo")
+    ∷ paths_usage (codes "history")
+    ∷ []
+
 abbrev pub usage : App
-usage = with_subcommand
-    (with_subcommand
-    (with_subcommand (with_subcommand (with_subcommand (with_subcommand plain_usage recsel_usage.top) recinf_usage.top) recfix_usage.top) recdel_usage.top)
-    recset_usage.top)
-    undo_usage.top
+usage = fold (λ app tool. with_subcommand app tool.top) plain_usage tools

@@ -1,19 +1,21 @@
 -- What a command line asks for, and the paths that it names. A path is its bytes.
-use Rattle.std.specs.Prelude.{◌≡◌, ◌≢◌, ℕ, Bool, true, false, List, ◌++◌, codes, Option, Some, None, option_map, string_bytes}
-use Rattle.std.specs.Option.{option_map_or}
+use Rattle.std.specs.Prelude.{◌≡◌, ◌≢◌, ℕ, Bool, true, false, not, List, [], ◌++◌, map, codes, Option, Some, None, option_map, string_bytes}
+use Rattle.std.specs.Option.{option_map_or, unwrap_or}
 use Rattle.std.specs.Str.{bytes_eq}
-use Rattle.clap.specs.Words.{Row, Text, first_of, one_of, subcommand_of}
+use Rattle.clap.specs.Words.{Row, Text, all_of, first_of, one_of, subcommand_of}
 use Rattle.rec_select.specs.declared.info.InfoForm.{InfoForm}
 use Rattle.rec_select.specs.declared.info.InfoForm.TheVariants.{Counts, Names, Descriptors}
 use Rattle.rec_tools.specs.declared.request.Ask.{Ask}
 use Rattle.rec_tools.specs.declared.request.Ask.TheVariants.{All, Expr, Index, Quick}
+use Rattle.rec_edit.specs.declared.request.NewRecord.{NewRecord}
+use Rattle.rec_edit.specs.declared.request.NewRecord.TheVariants.{Pairs, Text as TextOfIt}
 use Rattle.rec_edit.specs.declared.request.Action.{Action}
 use Rattle.rec_edit.specs.declared.request.Action.TheVariants.{Set as SetTo, Add, SetAdd, Rename, Delete as DeleteFields, Comment as CommentFields}
 use Rattle.rec_tools.specs.declared.request.Form.{Form}
 use Rattle.rec_tools.specs.declared.request.Form.TheVariants.{Blocks, Print, Values, Row as OneRow, Count}
 use Rattle.rec_tools.specs.declared.request.Pick.{Pick}
 use Rattle.rec_tools.specs.declared.request.Request.{Request}
-use Rattle.rec_tools.specs.declared.request.Request.TheVariants.{Show, Info, Check, Delete, CommentOut, Set, Undo}
+use Rattle.rec_tools.specs.declared.request.Request.TheVariants.{Show, Info, Check, Insert, Replace, Delete, CommentOut, Set, AutoFill, Undo, Redo, History}
 use Rattle.recu.specs.declared.args.Asked.{Asked}
 use Rattle.recu.specs.Usage.{usage}
 
@@ -85,13 +87,29 @@ action_for (Rename name) = (None, None, None, Some name, false, false)
 action_for DeleteFields = (None, None, None, None, true, false)
 action_for CommentFields = (None, None, None, None, false, true)
 
+-- the texts of an option that can be given several times
+abbrev pub texts_given : Text → List Row → List Text
+texts_given name options = unwrap_or (all_of name options) []
+
+-- the new record that the options give: by `--field` and `--value`, which belong together place by place, or by `--record`
+abbrev pub IsFresh : List Row → NewRecord → Type 0
+IsFresh options (Pairs pairs) = (first_of (codes "record") options ≡ None)
+    × (map (λ pair. pair.name) pairs.items ≡ texts_given (codes "field") options) × (map (λ pair. pair.value) pairs.items ≡ texts_given (codes "value") options)
+IsFresh options (TextOfIt text) = (first_of (codes "record") options ≡ Some text)
+    × (texts_given (codes "field") options ≡ []) × (texts_given (codes "value") options ≡ [])
+
 -- the request of a tool and of the options that are found
 abbrev pub Asks : Text → List Row → Request → Type 0
 Asks tool options (Show pick form collapse) =
     (tool ≡ codes "recsel") × IsPick options pick × (form_for form ≡ form_given options) × (collapse ≡ has_flag (codes "collapse") options)
 Asks tool options (Info kind form) =
     (tool ≡ codes "recinf") × (kind ≡ first_of (codes "type") options) × (info_form_for form ≡ info_form_given options)
-Asks tool options Check = tool ≡ codes "recfix"
+Asks tool options Check = (tool ≡ codes "recfix") × (has_flag (codes "auto") options ≡ false)
+Asks tool options (Insert kind fresh auto force) =
+    (tool ≡ codes "recins") × (selection_given options ≡ selection_for All) × (kind ≡ first_of (codes "type") options) × IsFresh options fresh
+    × (auto ≡ not (has_flag (codes "no-auto") options)) × (force ≡ has_flag (codes "force") options)
+Asks tool options (Replace pick fresh force) =
+    (tool ≡ codes "recins") × (selection_given options ≢ selection_for All) × IsPick options pick × IsFresh options fresh × (force ≡ has_flag (codes "force") options)
 Asks tool options (Delete pick force) =
     (tool ≡ codes "recdel") × (has_flag (codes "comment") options ≡ false) × IsPick options pick × (force ≡ has_flag (codes "force") options)
 Asks tool options (CommentOut pick force) =
@@ -99,7 +117,11 @@ Asks tool options (CommentOut pick force) =
 Asks tool options (Set pick list action force) =
     (tool ≡ codes "recset") × IsPick options pick × (first_of (codes "fields") options ≡ Some list) × (action_for action ≡ action_given options)
     × (force ≡ has_flag (codes "force") options)
+Asks tool options (AutoFill force) =
+    (tool ≡ codes "recfix") × (has_flag (codes "auto") options ≡ true) × (has_flag (codes "check") options ≡ false) × (force ≡ has_flag (codes "force") options)
 Asks tool options Undo = tool ≡ codes "undo"
+Asks tool options Redo = tool ≡ codes "redo"
+Asks tool options History = tool ≡ codes "history"
 
 -- ---- the paths
 
@@ -118,22 +140,24 @@ pub record AreApart (file journal : List ℕ) : Type 0 where
   pub journal_beside : journal ≢ working_name file
   pub file_beside : file ≢ working_name journal
 
--- the journal of a file that is edited, by the two paths that are given
+-- the journal of a file that is edited, or whose history is asked for, by the two paths that are given
 pub record IsEditJournal (file given journal : Option (List ℕ)) : Type 0 where
   pub path : List ℕ
   pub file_given : file ≡ Some path
   pub kept : journal ≡ Some (journal_of path given)
   pub apart : AreApart path (journal_of path given)
 
--- the journal of a request, by the two paths that are given; a request that prints has none
+-- A request that prints of the file alone has no journal. Where the paths of both are given, they are apart all the same.
+abbrev pub HasNoJournal : Option (List ℕ) → Option (List ℕ) → Option (List ℕ) → Type 0
+HasNoJournal (Some file) (Some given) journal = (journal ≡ None) × AreApart file given
+HasNoJournal _ _ journal = journal ≡ None
+
+-- the journal of a request, by the two paths that are given
 abbrev pub IsJournal : Request → Option (List ℕ) → Option (List ℕ) → Option (List ℕ) → Type 0
-IsJournal (Show pick form collapse) file given journal = journal ≡ None
-IsJournal (Info kind form) file given journal = journal ≡ None
-IsJournal Check file given journal = journal ≡ None
-IsJournal (Delete pick force) file given journal = IsEditJournal file given journal
-IsJournal (CommentOut pick force) file given journal = IsEditJournal file given journal
-IsJournal (Set pick list action force) file given journal = IsEditJournal file given journal
-IsJournal Undo file given journal = IsEditJournal file given journal
+IsJournal (Show pick form collapse) file given journal = HasNoJournal file given journal
+IsJournal (Info kind form) file given journal = HasNoJournal file given journal
+IsJournal Check file given journal = HasNoJournal file given journal
+IsJournal _ file given journal = IsEditJournal file given journal
 
 -- what the words ask for: the tool that they name, and what is made of its options
 pub record IsAsked (words : List Text) (asked : Asked) : Type 0 where

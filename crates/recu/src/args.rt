@@ -1,16 +1,19 @@
 //! Reads the command line. No other file knows clap.
-ghost use Rattle.std.specs.Prelude.{◌≡◌, ◌⊎◌, false, map, fold, IfOk, IfErr, string_bytes, codes, option_map};
-ghost use Rattle.clap.specs.Words.{app_of, first_of, found_of, rows_of, rule_of};
+ghost use Rattle.std.specs.Prelude.{◌≡◌, ◌⊎◌, false, map, fold, length, IfOk, IfErr, string_bytes, codes, option_map};
+ghost use Rattle.clap.specs.Words.{app_of, first_of, found_of, rows_of, rule_of, with_rule};
 ghost use Rattle.clap.specs.declared.builder.command.Command.TheViews.{out-Command as fields_of};
 ghost use Rattle.recu.specs.Options.{rule_of_option, with_option};
-ghost use Rattle.recu.specs.Usage.{journal_option, file_word, needed_file, recsel_usage, recinf_usage, recfix_usage, recdel_usage, recset_usage, undo_usage, plain_usage, usage};
-ghost use Rattle.recu.specs.Words.{has_flag, selection_given, selection_for, form_given, form_for, info_form_given, info_form_for, action_given, action_for, IsPick, Asks, IsJournal, IsAsked};
+ghost use Rattle.recu.specs.Usage.{journal_option, file_word, needed_file, recsel_usage, recinf_usage, recfix_usage, recins_usage, recdel_usage, recset_usage, paths_usage, plain_usage, selecting, usage};
+ghost use Rattle.recu.specs.Words.{has_flag, selection_given, selection_for, form_given, form_for, info_form_given, info_form_for, action_given, action_for, texts_given, IsPick, IsFresh, AreApart, Asks, IsJournal, IsAsked};
 
-use crate::options::{RECDEL, RECFIX, RECINF, RECSEL, RECSET, ToolOption};
+use crate::hints::hint_for;
+use crate::options::{
+    PRINTING, RECDEL, RECFIX, RECINF, RECINS, RECSET, SELECTION, Takes, ToolOption,
+};
 use crate::paths::{are_apart, copied, journal_path};
 use clap::error::ErrorKind;
 use clap::{Arg, ArgAction, ArgMatches, Command};
-use rec_tools::{Action, Ask, Bytes, Fault, Form, InfoForm, Pick, Request};
+use rec_tools::{Action, Ask, Bytes, Fault, Form, InfoForm, NewRecord, Pair, Pick, Request};
 use std::alloc::{AllocError, Global};
 use std::convert::AsStr;
 use std::rt::Env;
@@ -21,21 +24,46 @@ const VERSION: &str = "0.1.0";
 const ABOUT: &str = "Prints, checks and edits rec files, and takes edits back";
 
 const WORKING_NAMES: &str =
-    "FILE.new and the journal's .new are working names of recu: each file is written under its own\nbefore it takes its place. What stands there is removed, unless a running recu is writing it.";
+    "FILE.new and the journal's .new are working names of recu: each file is written under its own\nbefore it takes its place. What stands there is removed, unless a running recu is writing it.\n\nExamples:\n  recu recsel -e \"#Phone\" contacts.rec\n  recu recdel -n 1 contacts.rec\n  recu undo contacts.rec";
 
-const RECSEL_RULES: &str =
-    "Only one of -e, -n and -q can be given, and only one of -p, -P, -R and -c.";
+const RECSEL_HELP: &str =
+    "Only one of -e, -n and -q can be given, and only one of -p, -P, -R and -c.\n\nExamples:\n  recu recsel -e \"#Phone || Note ~ 'second'\" -P Name contacts.rec\n  recu recsel -n 0,2 -p Name,Email contacts.rec\n  recu recsel -t Book -q Austen library.rec";
 
-const RECINF_RULES: &str = "Only one of -d and -n can be given.";
+const RECINF_HELP: &str =
+    "Only one of -d and -n can be given.\n\nExamples:\n  recu recinf library.rec\n  recu recinf -t Book -d library.rec";
+
+const RECFIX_ABOUT: &str =
+    "Reports where the rules of record sets are broken, or gives records their automatic fields. Only one\nof --check and --auto can be given. FILE is needed for --auto alone.";
+
+const RECFIX_HELP: &str =
+    "Each violation is a line, LINE: RULE NAME. Where there is one, the exit status is 1.\n\nExamples:\n  recu recfix library.rec\n  recu recfix --auto library.rec";
+
+const RECINS_ABOUT: &str =
+    "Puts a record in, behind the last one of its type. With one of -e, -n and -q it puts it in the place of\neach record that these select. Its fields are those of -f and -v, place by place, or the text of -r.";
+
+const RECINS_HELP: &str =
+    "Examples:\n  recu recins -f Name -v 'Alan Turing' -f Phone -v '555 0123' contacts.rec\n  recu recins -t Book -r 'Title: Emma' library.rec\n  recu recins -n 0 -f Name -v 'Ada King' contacts.rec";
 
 const RECDEL_ABOUT: &str =
     "Deletes records, or makes comments of them. Only one of -e, -n and -q can be given.";
 
+const RECDEL_HELP: &str =
+    "Examples:\n  recu recdel -n 1 contacts.rec\n  recu recdel -c -e \"Name ~ 'Hopper'\" contacts.rec";
+
 const RECSET_ABOUT: &str =
     "Edits fields of records. FIELDS and exactly one of -s, -a, -S, -r, -d and -c are needed. Only one\nof -e, -n and -q can be given; without one all records are edited.";
 
-const RECFIX_RULES: &str =
-    "Each violation is a line, LINE: RULE NAME. Where there is one, the exit status is 1.";
+const RECSET_HELP: &str =
+    "Examples:\n  recu recset -n 0 -f Email -s ada@example.net contacts.rec\n  recu recset -e '!#Phone' -f Phone -a unknown contacts.rec\n  recu recset -n 2 -f Note --set=-5 contacts.rec";
+
+const UNDO_HELP: &str =
+    "Examples:\n  recu undo contacts.rec\n  recu undo --journal edits.rec contacts.rec";
+
+const REDO_HELP: &str =
+    "Examples:\n  recu redo contacts.rec\n  recu redo --journal edits.rec contacts.rec";
+
+const HISTORY_HELP: &str =
+    "Each edit that can be undone is a line, done NUMBER TOOL, the oldest first; behind them each that can\nbe redone is one, undone NUMBER TOOL, the nearest first. For a file that was changed outside it is the\nline drifted.\n\nExamples:\n  recu history contacts.rec\n  recu history --journal edits.rec contacts.rec";
 
 const CLASH: &str = "--journal: FILE and PATH are one path, or one is the other with .new appended";
 
@@ -50,9 +78,10 @@ impl ToolOption {
             Some(letter) => named.short(letter),
             None => named,
         };
-        match self.value {
-            Some(value) => named.value_name(value),
-            None => named.action(ArgAction::SetTrue),
+        match self.takes {
+            Takes::Nothing => named.action(ArgAction::SetTrue),
+            Takes::Value(value) => named.value_name(value),
+            Takes::Values(value) => named.value_name(value).action(ArgAction::Append),
         }
     }
 }
@@ -148,7 +177,22 @@ pub fn request_of<S: AsStr>(alloc: Global, words: &[S]) -> Result<Asked, Fault>
 pub fn explain<R: Print + Eprint + AllocGlobal, S: AsStr>(rt: &R, words: &[S]) -> io::Result<bool> {
     match read(rt.alloc(), words) {
         Ok(_) => Ok(false),
-        Err(refusal) => refusal.explain(rt),
+        Err(refusal) => {
+            let is_help = refusal.explain(rt)?;
+            if !is_help {
+                explain_hyphen(rt, words);
+            }
+            Ok(is_help)
+        }
+    }
+}
+
+/// Says how a value is given that begins with a hyphen, where the words have one.
+fn explain_hyphen<R: Eprint, S: AsStr>(rt: &R, words: &[S]) {
+    if let Some((name, value)) = hint_for(words) {
+        let _ = eprintln!(rt;
+            "hint: a value that begins with a hyphen is given as --{name}={value}"
+        );
     }
 }
 
@@ -183,13 +227,90 @@ fn request(alloc: Global, tool: &str, options: &ArgMatches) -> Result<Request, R
             kind: text(alloc, options, "type")?,
             form: info_form(options)?,
         }),
-        // The option --check asks for what is done without it.
-        "recfix" => Ok(Request::Check),
+        "recfix" => repair(options),
+        "recins" => insertion(alloc, options),
         "recdel" => removal(alloc, options),
         "recset" => setting(alloc, options),
         "undo" => Ok(Request::Undo),
+        "redo" => Ok(Request::Redo),
+        "history" => Ok(Request::History),
         _ => Err(Refusal::Rule("no such tool")),
     }
+}
+
+/// What recfix is asked for: to check, or to give records their automatic fields.
+fn repair(options: &ArgMatches) -> Result<Request, Refusal>
+    ensures { IfOk result (Asks (codes "recfix") (rows_of (found_of options.now))) }
+{
+    if !is_given(options, "auto") {
+        return Ok(Request::Check);
+    }
+    if is_given(options, "check") {
+        return Err(Refusal::Rule("only one of --check and --auto can be given"));
+    }
+    Ok(Request::AutoFill {
+        force: is_given(options, "force"),
+    })
+}
+
+/// What recins is asked for: to put a record in, or in the place of each that is selected.
+fn insertion(alloc: Global, options: &ArgMatches) -> Result<Request, Refusal>
+    ensures { IfOk result (Asks (codes "recins") (rows_of (found_of options.now))) }
+{
+    let Pick { kind, by } = pick(alloc, options)?;
+    let fresh = fresh(alloc, options)?;
+    let force = is_given(options, "force");
+    match by {
+        Ask::All => Ok(Request::Insert {
+            kind,
+            fresh,
+            auto: !is_given(options, "no-auto"),
+            force,
+        }),
+        by => Ok(Request::Replace {
+            pick: Pick { kind, by },
+            fresh,
+            force,
+        }),
+    }
+}
+
+/// The options that give a new record.
+fn fresh(alloc: Global, options: &ArgMatches) -> Result<NewRecord, Refusal>
+    ensures { IfOk result (IsFresh (rows_of (found_of options.now))) }
+{
+    let names = texts(options, "field");
+    let values = texts(options, "value");
+    if names.len() != values.len() {
+        return Err(Refusal::Rule("as many --field as --value are needed"));
+    }
+    match text(alloc, options, "record")? {
+        None => Ok(NewRecord::Pairs(pairs(alloc, names, values)?)),
+        Some(text) if names.is_empty() => Ok(NewRecord::Text(text)),
+        Some(_) => Err(Refusal::Rule("only one of --record and --field can be given")),
+    }
+}
+
+/// The names and values of a new record's fields.
+fn pairs(alloc: Global, names: &[&str], values: &[&str]) -> Result<Vec<Pair>, AllocError>
+    requires { length names.now ≡ length values.now }
+    ensures names { IfOk result (λ pairs. map (λ pair. pair.name) pairs.items ≡ map (λ name. name.now) names.now) }
+    ensures values { IfOk result (λ pairs. map (λ pair. pair.value) pairs.items ≡ map (λ value. value.now) values.now) }
+{
+    let mut pairs = Vec::with_capacity(alloc, names.len())?;
+    for (index, name) in names.iter().enumerate() {
+        pairs.push(pair(alloc, name, values[index])?)?;
+    }
+    Ok(pairs)
+}
+
+fn pair(alloc: Global, name: &str, value: &str) -> Result<Pair, AllocError>
+    ensures { IfOk result (λ pair. (pair.name ≡ name.now) × (pair.value ≡ value.now)) }
+{
+    Ok(Pair {
+        name: Bytes::copy_of(alloc, name.as_bytes())?,
+        value: Bytes::copy_of(alloc, value.as_bytes())?,
+    })
 }
 
 /// What recdel is asked for: to delete records, or to make comments of them.
@@ -314,6 +435,13 @@ fn text(alloc: Global, options: &ArgMatches, name: &str) -> Result<Option<Bytes>
     }
 }
 
+/// The texts of an option that can be given several times.
+fn texts<'m>(options: &'m ArgMatches, name: &str) -> &'m [&'m str]
+    ensures { map (λ text. text.now) result.now ≡ texts_given name.now (rows_of (found_of options.now)) }
+{
+    options.get_strs(name).unwrap_or(&[])
+}
+
 /// Whether a flag is given.
 fn is_given(options: &ArgMatches, name: &str) -> bool
     ensures { result ≡ has_flag name.now (rows_of (found_of options.now)) }
@@ -321,7 +449,7 @@ fn is_given(options: &ArgMatches, name: &str) -> bool
     options.get_one(name).unwrap_or(false)
 }
 
-/// The journal of a request. One that prints has none; one that edits needs a file.
+/// The journal of a request. One that prints of the file alone has none; every other needs a file.
 fn journal(
     alloc: Global,
     request: &Request,
@@ -330,19 +458,28 @@ fn journal(
 ) -> Result<Option<String>, Refusal>
     ensures { IfOk result (λ journal. IsJournal request.now (option_map (λ path. path.now) file.entry) (option_map (λ path. path.now) given.entry) (option_map string_bytes journal)) }
 {
-    match request {
-        Request::Show { .. } | Request::Info { .. } | Request::Check => Ok(None),
-        Request::Delete { .. } | Request::CommentOut { .. } | Request::Set { .. } | Request::Undo =>
-            {
-                let Some(file) = file else {
-                    return Err(Refusal::Rule("FILE is needed"));
-                };
-                let journal = journal_path(alloc, file, given)?;
-                if !are_apart(alloc, file, journal.as_str())? {
-                    return Err(Refusal::Rule(CLASH));
-                }
-                Ok(Some(journal))
-            }
+    if let Request::Show { .. } | Request::Info { .. } | Request::Check = request {
+        if let (Some(file), Some(given)) = (file, given) {
+            require_apart(alloc, file, given)?;
+        }
+        return Ok(None);
+    }
+    let Some(file) = file else {
+        return Err(Refusal::Rule("FILE is needed"));
+    };
+    let journal = journal_path(alloc, file, given)?;
+    require_apart(alloc, file, journal.as_str())?;
+    Ok(Some(journal))
+}
+
+/// Refuses the paths of a file and a journal that are one path, or of which one is the other's working name.
+fn require_apart(alloc: Global, file: &str, journal: &str) -> Result<(), Refusal>
+    ensures { IfOk result (λ _. AreApart file.now journal.now) }
+{
+    if are_apart(alloc, file, journal)? {
+        Ok(())
+    } else {
+        Err(Refusal::Rule(CLASH))
     }
 }
 
@@ -354,9 +491,22 @@ fn command<'a>(alloc: Global) -> Result<Command<'a>, AllocError>
         .subcommand(recsel(alloc)?)?
         .subcommand(recinf(alloc)?)?
         .subcommand(recfix(alloc)?)?
+        .subcommand(recins(alloc)?)?
         .subcommand(recdel(alloc)?)?
         .subcommand(recset(alloc)?)?
-        .subcommand(undo(alloc)?)
+        .subcommand(with_paths(alloc, "undo", "Takes the newest edit back", UNDO_HELP)?)?
+        .subcommand(with_paths(
+            alloc,
+            "redo",
+            "Makes the edit again that was undone last",
+            REDO_HELP,
+        )?)?
+        .subcommand(with_paths(
+            alloc,
+            "history",
+            "Prints the edits that can be undone and redone",
+            HISTORY_HELP,
+        )?)
 }
 
 fn program<'a>(alloc: Global) -> Result<Command<'a>, AllocError>
@@ -380,8 +530,9 @@ fn recsel<'a>(alloc: Global) -> Result<Command<'a>, AllocError>
 {
     let tool = Command::new(alloc, "recsel")
         .about("Prints records")
-        .after_help(RECSEL_RULES);
-    with_options(alloc, tool, RECSEL.as_slice())?.arg(input_arg(alloc))
+        .after_help(RECSEL_HELP);
+    let tool = with_options(alloc, tool, SELECTION.as_slice())?;
+    with_options(alloc, tool, PRINTING.as_slice())?.arg(input_arg(alloc))
 }
 
 fn recinf<'a>(alloc: Global) -> Result<Command<'a>, AllocError>
@@ -390,7 +541,7 @@ fn recinf<'a>(alloc: Global) -> Result<Command<'a>, AllocError>
 {
     let tool = Command::new(alloc, "recinf")
         .about("Prints which record sets there are")
-        .after_help(RECINF_RULES);
+        .after_help(RECINF_HELP);
     with_options(alloc, tool, RECINF.as_slice())?.arg(input_arg(alloc))
 }
 
@@ -399,9 +550,23 @@ fn recfix<'a>(alloc: Global) -> Result<Command<'a>, AllocError>
     ensures alone { IfOk result (λ command. (fields_of command).has_globals ≡ false) }
 {
     let tool = Command::new(alloc, "recfix")
-        .about("Reports where the rules of record sets are broken")
-        .after_help(RECFIX_RULES);
-    with_options(alloc, tool, RECFIX.as_slice())?.arg(input_arg(alloc))
+        .about("Checks the rules of record sets, or gives records their automatic fields")
+        .long_about(RECFIX_ABOUT)
+        .after_help(RECFIX_HELP);
+    with_options(alloc, tool, RECFIX.as_slice())?
+        .arg(journal_arg(alloc))?
+        .arg(input_arg(alloc))
+}
+
+fn recins<'a>(alloc: Global) -> Result<Command<'a>, AllocError>
+    ensures usage { IfOk result (λ command. app_of command ≡ recins_usage) }
+    ensures alone { IfOk result (λ command. (fields_of command).has_globals ≡ false) }
+{
+    let tool = Command::new(alloc, "recins")
+        .about("Puts a record in, or in the place of others")
+        .long_about(RECINS_ABOUT)
+        .after_help(RECINS_HELP);
+    with_edit_options(alloc, tool, RECINS.as_slice())
 }
 
 fn recdel<'a>(alloc: Global) -> Result<Command<'a>, AllocError>
@@ -411,10 +576,8 @@ fn recdel<'a>(alloc: Global) -> Result<Command<'a>, AllocError>
     let tool = Command::new(alloc, "recdel")
         .about("Deletes records, or makes comments of them")
         .long_about(RECDEL_ABOUT)
-        .after_help(WORKING_NAMES);
-    with_options(alloc, tool, RECDEL.as_slice())?
-        .arg(journal_arg(alloc))?
-        .arg(file_arg(alloc))
+        .after_help(RECDEL_HELP);
+    with_edit_options(alloc, tool, RECDEL.as_slice())
 }
 
 fn recset<'a>(alloc: Global) -> Result<Command<'a>, AllocError>
@@ -424,19 +587,39 @@ fn recset<'a>(alloc: Global) -> Result<Command<'a>, AllocError>
     let tool = Command::new(alloc, "recset")
         .about("Edits fields of records")
         .long_about(RECSET_ABOUT)
-        .after_help(WORKING_NAMES);
-    with_options(alloc, tool, RECSET.as_slice())?
+        .after_help(RECSET_HELP);
+    with_edit_options(alloc, tool, RECSET.as_slice())
+}
+
+/// A tool that edits the records of a selection, with these options of its own.
+fn with_edit_options<'a>(
+    alloc: Global,
+    tool: Command<'a>,
+    options: &[ToolOption],
+) -> Result<Command<'a>, AllocError>
+    ensures usage { IfOk result (λ command. app_of command
+        ≡ with_rule (with_rule (fold with_option (fold with_rule (app_of tool.entry) selecting) options.now) journal_option) needed_file) }
+    ensures alone { IfOk result (λ command. (fields_of command).has_globals ≡ (fields_of tool.entry).has_globals) }
+{
+    let tool = with_options(alloc, tool, SELECTION.as_slice())?;
+    with_options(alloc, tool, options)?
         .arg(journal_arg(alloc))?
         .arg(file_arg(alloc))
 }
 
-fn undo<'a>(alloc: Global) -> Result<Command<'a>, AllocError>
-    ensures usage { IfOk result (λ command. app_of command ≡ undo_usage) }
+/// A tool that only takes the paths of the file and its journal.
+fn with_paths<'a>(
+    alloc: Global,
+    name: &'a str,
+    about: &'a str,
+    help: &'a str,
+) -> Result<Command<'a>, AllocError>
+    ensures usage { IfOk result (λ command. app_of command ≡ paths_usage name.now) }
     ensures alone { IfOk result (λ command. (fields_of command).has_globals ≡ false) }
 {
-    Command::new(alloc, "undo")
-        .about("Takes the newest edit back")
-        .after_help(WORKING_NAMES)
+    Command::new(alloc, name)
+        .about(about)
+        .after_help(help)
         .arg(journal_arg(alloc))?
         .arg(file_arg(alloc))
 }
@@ -473,7 +656,7 @@ fn file_arg<'a>(alloc: Global) -> Arg<'a>
     Arg::new(alloc, "file")
         .value_name("FILE")
         .required(true)
-        .help("The rec file")
+        .help("The rec file; FILE.new is its working name")
 }
 
 fn input_arg<'a>(alloc: Global) -> Arg<'a>

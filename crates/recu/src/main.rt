@@ -3,6 +3,7 @@
 
 mod args;
 mod files;
+mod hints;
 mod options;
 mod output;
 mod paths;

@@ -1,66 +1,81 @@
 //! The options of the tools, in tables.
 
-/// An option of a tool. One that has no value is a flag.
+/// What an option takes, under the name that help gives it.
+#[derive(Clone, Copy)]
+pub enum Takes {
+    /// It is a flag.
+    Nothing,
+    Value(&'static str),
+    /// It can be given several times.
+    Values(&'static str),
+}
+
+/// An option of a tool.
 pub struct ToolOption {
     pub letter: Option<char>,
     pub name: &'static str,
-    pub value: Option<&'static str>,
+    pub takes: Takes,
     pub help: &'static str,
 }
 
-pub static RECSEL: [ToolOption; 9] = [
+/// Which records are meant.
+pub static SELECTION: [ToolOption; 4] = [
     ToolOption {
         letter: Some('t'),
         name: "type",
-        value: Some("TYPE"),
+        takes: Takes::Value("TYPE"),
         help: "The records of this type [default: those of no type, or else of the only type]",
     },
     ToolOption {
         letter: Some('e'),
         name: "expression",
-        value: Some("EXPR"),
+        takes: Takes::Value("EXPR"),
         help: "The records for which EXPR is true, such as 'Age > 17 && #Email'",
     },
     ToolOption {
         letter: Some('n'),
         name: "number",
-        value: Some("LIST"),
+        takes: Takes::Value("LIST"),
         help: "The records at these places among those of the type, from 0, such as 0,4-7",
     },
     ToolOption {
         letter: Some('q'),
         name: "quick",
-        value: Some("TEXT"),
+        takes: Takes::Value("TEXT"),
         help: "The records with a value that contains TEXT",
     },
+];
+
+/// What is printed of records.
+pub static PRINTING: [ToolOption; 5] = [
     ToolOption {
         letter: Some('p'),
         name: "print",
-        value: Some("FIELDS"),
+        takes: Takes::Value("FIELDS"),
         help: "Print these fields alone, such as Name,Email[0-1]",
     },
     ToolOption {
         letter: Some('P'),
         name: "print-values",
-        value: Some("FIELDS"),
+        takes: Takes::Value("FIELDS"),
         help: "Print the values of these fields, one in a line",
     },
     ToolOption {
         letter: Some('R'),
         name: "print-row",
-        value: Some("FIELDS"),
+        takes: Takes::Value("FIELDS"),
         help: "Print the values of these fields, those of a record in one line",
     },
     ToolOption {
         letter: Some('c'),
         name: "count",
-        value: None,
+        takes: Takes::Nothing,
         help: "Print the number of the records",
     },
     ToolOption {
         letter: Some('C'),
         name: "collapse",
-        value: None,
+        takes: Takes::Nothing,
         help: "Print no empty line between records",
     },
 ];
@@ -69,140 +84,139 @@ pub static RECINF: [ToolOption; 3] = [
     ToolOption {
         letter: Some('t'),
         name: "type",
-        value: Some("TYPE"),
+        takes: Takes::Value("TYPE"),
         help: "The record set of this type alone",
     },
     ToolOption {
         letter: Some('d'),
         name: "descriptor",
-        value: None,
+        takes: Takes::Nothing,
         help: "Print the descriptor of each set",
     },
     ToolOption {
         letter: Some('n'),
         name: "names-only",
-        value: None,
+        takes: Takes::Nothing,
         help: "Print the type of each set",
     },
 ];
 
-pub static RECFIX: [ToolOption; 1] = [ToolOption {
-    letter: None,
-    name: "check",
-    value: None,
-    help: "Report what breaks the rules, and change nothing [default]",
-}];
+pub static RECFIX: [ToolOption; 3] = [
+    ToolOption {
+        letter: None,
+        name: "check",
+        takes: Takes::Nothing,
+        help: "Report what breaks the rules, and change nothing [default]",
+    },
+    ToolOption {
+        letter: None,
+        name: "auto",
+        takes: Takes::Nothing,
+        help: "Give the records of all types the automatic fields that they lack",
+    },
+    ToolOption {
+        letter: None,
+        name: "force",
+        takes: Takes::Nothing,
+        help: "Edit also where the rules of a record set are broken then",
+    },
+];
 
-pub static RECDEL: [ToolOption; 6] = [
+pub static RECINS: [ToolOption; 5] = [
     ToolOption {
-        letter: Some('t'),
-        name: "type",
-        value: Some("TYPE"),
-        help: "The records of this type [default: those of no type, or else of the only type]",
+        letter: Some('f'),
+        name: "field",
+        takes: Takes::Values("NAME"),
+        help: "A field of the new record; its value is that of the --value at the same place",
     },
     ToolOption {
-        letter: Some('e'),
-        name: "expression",
-        value: Some("EXPR"),
-        help: "The records for which EXPR is true, such as 'Age > 17 && #Email'",
+        letter: Some('v'),
+        name: "value",
+        takes: Takes::Values("VALUE"),
+        help: "The value of a field",
     },
     ToolOption {
-        letter: Some('n'),
-        name: "number",
-        value: Some("LIST"),
-        help: "The records at these places among those of the type, from 0, such as 0,4-7",
+        letter: Some('r'),
+        name: "record",
+        takes: Takes::Value("TEXT"),
+        help: "The new record, as it could stand in a file",
     },
     ToolOption {
-        letter: Some('q'),
-        name: "quick",
-        value: Some("TEXT"),
-        help: "The records with a value that contains TEXT",
+        letter: None,
+        name: "no-auto",
+        takes: Takes::Nothing,
+        help: "Put in no automatic fields",
     },
+    ToolOption {
+        letter: None,
+        name: "force",
+        takes: Takes::Nothing,
+        help: "Edit also where the rules of a record set are broken then",
+    },
+];
+
+pub static RECDEL: [ToolOption; 2] = [
     ToolOption {
         letter: Some('c'),
         name: "comment",
-        value: None,
+        takes: Takes::Nothing,
         help: "Make comments of the records, and delete none",
     },
     ToolOption {
         letter: None,
         name: "force",
-        value: None,
+        takes: Takes::Nothing,
         help: "Delete also where no option selects records, and where the rules of a record set are broken then",
     },
 ];
 
-pub static RECSET: [ToolOption; 12] = [
-    ToolOption {
-        letter: Some('t'),
-        name: "type",
-        value: Some("TYPE"),
-        help: "The records of this type [default: those of no type, or else of the only type]",
-    },
-    ToolOption {
-        letter: Some('e'),
-        name: "expression",
-        value: Some("EXPR"),
-        help: "The records for which EXPR is true, such as 'Age > 17 && #Email'",
-    },
-    ToolOption {
-        letter: Some('n'),
-        name: "number",
-        value: Some("LIST"),
-        help: "The records at these places among those of the type, from 0, such as 0,4-7",
-    },
-    ToolOption {
-        letter: Some('q'),
-        name: "quick",
-        value: Some("TEXT"),
-        help: "The records with a value that contains TEXT",
-    },
+pub static RECSET: [ToolOption; 8] = [
     ToolOption {
         letter: Some('f'),
         name: "fields",
-        value: Some("FIELDS"),
+        takes: Takes::Value("FIELDS"),
         help: "The fields, such as Name,Email[0-1]",
     },
     ToolOption {
         letter: Some('s'),
         name: "set",
-        value: Some("VALUE"),
+        takes: Takes::Value("VALUE"),
         help: "Set the fields to VALUE",
     },
     ToolOption {
         letter: Some('a'),
         name: "add",
-        value: Some("VALUE"),
+        takes: Takes::Value("VALUE"),
         help: "Add a field with VALUE for each of FIELDS, behind the last field",
     },
     ToolOption {
         letter: Some('S'),
         name: "set-add",
-        value: Some("VALUE"),
+        takes: Takes::Value("VALUE"),
         help: "Set the fields that are there to VALUE, and add the others",
     },
     ToolOption {
         letter: Some('r'),
         name: "rename",
-        value: Some("NAME"),
+        takes: Takes::Value("NAME"),
         help: "Rename the fields",
     },
     ToolOption {
         letter: Some('d'),
         name: "delete",
-        value: None,
+        takes: Takes::Nothing,
         help: "Delete the fields",
     },
     ToolOption {
         letter: Some('c'),
         name: "comment",
-        value: None,
+        takes: Takes::Nothing,
         help: "Make comments of the fields",
     },
     ToolOption {
         letter: None,
         name: "force",
-        value: None,
+        takes: Takes::Nothing,
         help: "Edit also where the rules of a record set are broken then",
     },
 ];

@@ -1,5 +1,5 @@
 #!/usr/bin/env bash
-# Builds recu, selects records of a copy of sample/contacts.rec, deletes one, and takes it back.
+# Builds recu, and edits copies of the files in sample/: an edit, a refused one, undo, redo, the history, and the rules.
 set -euo pipefail
 cd "$(dirname "$0")"
 recu=$PWD/crates/recu/out/recu
@@ -38,13 +38,38 @@ jobs=$((jobs < 1 ? 1 : jobs > $(nproc) ? $(nproc) : jobs))
 echo 'Building recu. From nothing, where all of it is proved first, this takes about 20 minutes on 4 processors, and 30 on 2.'
 [ -d crates/rec_journal/out ] || build_libraries
 build . recu run --jobs "$jobs" -- --version
-cp sample/contacts.rec "$folder"
+cp sample/contacts.rec sample/library.rec "$folder"
 cd "$folder"
-show() { echo "--- $1"; cat contacts.rec; }
-show 'contacts.rec'
-"$recu" recdel -n 1 contacts.rec
-show 'after: recu recdel -n 1 contacts.rec'
-"$recu" undo contacts.rec
-show 'after: recu undo contacts.rec'
-echo "--- recu recsel -e \"#Phone || Note ~ 'second'\" -P Name contacts.rec"
-"$recu" recsel -e "#Phone || Note ~ 'second'" -P Name contacts.rec
+
+# try WORD..: a command of recu, with what it prints; one that is refused is part of the session
+try() {
+    printf '\n--- recu'
+    printf ' %q' "$@"
+    echo
+    "$recu" "$@" 2>&1 || echo "(exit status $?)"
+}
+show() {
+    echo "--- $1"
+    cat "$1"
+}
+show contacts.rec
+try recsel -e "#Phone || Note ~ 'second'" -P Name contacts.rec
+try recdel -n 1 contacts.rec
+show contacts.rec
+try undo contacts.rec
+cmp contacts.rec "$OLDPWD/sample/contacts.rec"
+try redo contacts.rec
+try history contacts.rec
+
+echo
+show library.rec
+try recfix library.rec
+try recins -t Book -f Title -v 'GNU Emacs Manual' library.rec
+try recins -t Book -f Title -v Emma -f Author -v 'Jane Austen' library.rec
+try recfix --auto library.rec
+show library.rec
+try history library.rec
+try undo library.rec
+try undo library.rec
+cmp library.rec "$OLDPWD/sample/library.rec"
+try recfix library.rec

@@ -14,12 +14,37 @@ fresh() {
     rm -f db.rec.journal
 }
 
+# an edit of the last record, to be undone; and that edit undone, to be redone
+edited() {
+    fresh
+    "$program" recset -t Contact -n "$last" -f Street -s 'Short Road' db.rec
+}
+
+undone() {
+    edited
+    "$program" undo db.rec
+}
+
+# twenty edits of the last record
+twenty() {
+    local number
+    for ((number = 1; number <= 20; number++)); do
+        "$program" recset -t Contact -n "$last" -f Street -s "$number Short Road" db.rec
+    done
+}
+
+# no record has its automatic field
+unnumbered() {
+    grep -v '^Id: \|^%key' whole.rec >db.rec
+    rm -f db.rec.journal
+}
+
 two_digests() {
     sha256sum whole.rec
     sha256sum whole.rec
 }
 
-export -f two_digests
+export -f two_digests twenty
 
 # edit NAME WORD..: one line of the table, and one of the time for each record
 edit() {
@@ -30,17 +55,25 @@ edit() {
 for size in "${sizes[@]}"; do
     awk -f "$here/keyed.awk" -v records="$size" >whole.rec
     last=$((size - 1))
+    export program last
     every=$((size < 10000 ? 1 : size / 10000))
     printf '%s records, %s bytes %38s\n' "$size" "$(stat -c %s whole.rec)" 'times two sha256sum'
     unit=
     measure 3 as_is 'two sha256sum' bash -c two_digests
     measure 3 as_is 'cp' cp whole.rec copy
+    edit 'recins, automatic Id' recins -t Contact -f Name -v New -f Mail -v n@example.org
+    edit 'recins -n, in place' recins -t Contact -n 5 -f Id -v 9999999 -f Name -v New -f Mail -v n@example.org
     edit 'recset -e, one field' recset -t Contact -e "Id = 1000005" -f Street -s 'Short Road'
     edit 'recset, all records' recset -t Contact -f Street -s 'Short Road'
     edit 'recset, last record' recset -t Contact -n "$last" -f Street -s 'Short Road'
     edit 'recdel -n, one' recdel -t Contact -n 5
     edit 'recdel -n, ten' recdel -t Contact -n 5,7,9,11,13,15,17,19,21,23
     edit 'recdel -n, 10,000' recdel -t Contact -n "$(seq -s, 0 "$every" "$last")" --force
+    measure 3 edited 'recu undo' "$program" undo db.rec
+    measure 3 undone 'recu redo' "$program" redo db.rec
+    measure 1 fresh 'recu recset, 20 in a row' bash -c twenty
+    measure 3 unnumbered 'recu recfix' "$program" recfix db.rec
+    measure 3 unnumbered 'recu recfix --auto' "$program" recfix --auto db.rec
     if [ "$size" -le 10000 ] && command -v recset >/dev/null; then
         fresh
         measure 1 fresh 'GNU recset -e, one field' recset -t Contact -e "Id = 1000005" -f Street -s 'Short Road' db.rec

@@ -195,3 +195,141 @@ layout() {
 @test "layouts of a file" {
     each layout layouts.rows
 }
+
+# inserts TEXT WORDS AFTER: recins gives the text after; undo brings all bytes back, and redo again those after
+inserts() {
+    put db.rec "$1"
+    eval "does recins $2 db.rec"
+    has db.rec "$3"
+    does undo db.rec
+    has db.rec "$1"
+    does redo db.rec
+    has db.rec "$3"
+    only db.rec db.rec.journal
+    rm db.rec.journal
+}
+
+@test "records are put in" {
+    each inserts inserting.rows
+}
+
+@test "a record that breaks a rule is put in with --force alone" {
+    local keyed='%rec: P¶%key: Id¶¶Id: 1¶'
+    put db.rec "$keyed"
+    recu 1 recins -t P -f Id -v 1 db.rec
+    prints '' '6: key Id¶recu: violations: 1¶'
+    has db.rec "$keyed"
+    only db.rec
+    does recins -t P -f Id -v 1 --force db.rec
+    has db.rec "$keyed¶Id: 1¶"
+    recu 1 recfix db.rec
+    prints '6: key Id¶' ''
+    does undo db.rec
+    has db.rec "$keyed"
+    only db.rec db.rec.journal
+}
+
+@test "records that are refused" {
+    put db.rec "$three"
+    refuses 'not exactly one record' recins -r $'A: 1\n\nB: 2' db.rec
+    refuses 'not exactly one record' recins -r '# A: 1' db.rec
+    refuses 'not exactly one record' recins -r 'no field' db.rec
+    refuses 'a line of the value ends in a backslash' recins -r $'B: x\\\\\n\n' db.rec
+    refuses 'bad name' recins -r '%rec: Q' db.rec
+    put last.rec '%rec: P¶%auto: Id¶%type: Id int¶¶Id: 9223372036854775807¶'
+    refuses 'no automatic value' recins -t P -f N -v x last.rec
+    put date.rec '%rec: P¶%auto: Day¶%type: Day date¶'
+    refuses 'no automatic value' recins -t P -f N -v x date.rec
+    has db.rec "$three"
+    only date.rec db.rec last.rec
+}
+
+@test "automatic fields of all records" {
+    put db.rec '%rec: P¶%auto: Id¶¶N: a¶¶Id: 4¶¶N: b¶'
+    does recfix --auto db.rec
+    has db.rec '%rec: P¶%auto: Id¶¶Id: 5¶N: a¶¶Id: 4¶¶Id: 6¶N: b¶'
+    cp db.rec.journal journal
+    does recfix --auto db.rec
+    has db.rec.journal < journal
+    does undo db.rec
+    has db.rec '%rec: P¶%auto: Id¶¶N: a¶¶Id: 4¶¶N: b¶'
+    does redo db.rec
+    has db.rec '%rec: P¶%auto: Id¶¶Id: 5¶N: a¶¶Id: 4¶¶Id: 6¶N: b¶'
+    put keyed.rec '%rec: P¶%auto: Id¶%mandatory: N¶¶A: 1¶'
+    recu 1 recfix --auto keyed.rec
+    prints '' '5: mandatory N¶recu: violations: 1¶'
+    does recfix --auto --force --journal=j keyed.rec
+    has keyed.rec '%rec: P¶%auto: Id¶%mandatory: N¶¶Id: 0¶A: 1¶'
+    only db.rec db.rec.journal j journal keyed.rec
+}
+
+# tells HISTORY WORD..: what history prints
+tells() {
+    recu 0 history "${@:2}"
+    prints "$1" ''
+}
+
+@test "the history, undo and redo" {
+    put db.rec 'A: 1¶'
+    tells '' db.rec
+    only db.rec
+    does recset -n 0 -f A -s 2 db.rec
+    does recset -n 0 -f A -s 3 db.rec
+    tells 'done 1 recset¶done 2 recset¶' db.rec
+    does undo db.rec
+    tells 'done 1 recset¶undone 2 recset¶' db.rec
+    does undo db.rec
+    has db.rec 'A: 1¶'
+    tells 'undone 1 recset¶undone 2 recset¶' db.rec
+    does redo db.rec
+    has db.rec 'A: 2¶'
+    tells 'done 1 recset¶undone 2 recset¶' db.rec
+    does recset -n 0 -f A -s 9 db.rec
+    has db.rec 'A: 9¶'
+    refuses 'nothing to redo' redo db.rec
+    tells 'done 1 recset¶done 6 recset¶' --journal db.rec.journal db.rec
+    does recins -f B -v 1 db.rec
+    does recdel -n 0 db.rec
+    tells 'done 1 recset¶done 6 recset¶done 7 recins¶done 8 recdel¶' db.rec
+    only db.rec db.rec.journal
+}
+
+@test "the history of a file that was changed by hand" {
+    put db.rec 'A: 1¶'
+    does recset -n 0 -f A -s 2 db.rec
+    put db.rec 'A: 7¶'
+    tells 'drifted¶' db.rec
+    refuses 'the file was changed outside' undo db.rec
+    refuses 'the file was changed outside' redo db.rec
+    does recset -n 0 -f A -s 8 db.rec
+    tells 'done 2 recset¶' db.rec
+    does undo db.rec
+    has db.rec 'A: 7¶'
+    refuses 'nothing to undo' undo db.rec
+    put bad 'hello¶'
+    refuses 'journal line 1: not a journal of recu' history --journal bad db.rec
+    refuses 'journal line 1: not a journal of recu' redo --journal bad db.rec
+    only bad db.rec db.rec.journal
+}
+
+@test "the event of a redo" {
+    put db.rec 'A: 1¶'
+    local one two
+    one=$(digest 'A: 1¶')
+    two=$(digest 'A: 2¶')
+    does recset -n 0 -f A -s 2 db.rec
+    does undo db.rec
+    cp db.rec.journal before
+    does redo db.rec
+    put wanted <<REC
+Number: 3
+Kind: redo
+Of: 1
+Before: $one
+After: $two
+
+REC
+    cat before wanted > both
+    has db.rec.journal < both
+    only before both db.rec db.rec.journal wanted
+}

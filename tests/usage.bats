@@ -19,8 +19,9 @@ silent() {
 
 @test "help" {
     local words
-    for words in --help -h help 'help recdel' 'help recset' 'help undo' 'recdel --help' 'recdel -h' 'recset --help' \
-        'recset -h' 'undo --help' 'undo -h' 'undo f -hx'; do
+    for words in --help -h help 'help recins' 'help recdel' 'help recset' 'help undo' 'help redo' 'help history' \
+        'recins --help' 'recins -h' 'recdel --help' 'recdel -h' 'recset --help' 'recset -h' 'undo --help' 'undo -h' \
+        'undo f -hx' 'redo --help' 'redo -h' 'history --help' 'history -h'; do
         recu 0 $words
         out | grep -q 'Usage: recu' || fail "recu $words prints no usage"
         out | grep -q 'FILE.new' || fail "recu $words does not name FILE.new"
@@ -42,7 +43,8 @@ silent() {
         prints 'recu 0.1.0¶' ''
     done
     for words in 'recsel --version' 'recsel -V' 'recinf --version' 'recinf -V' 'recfix --version' 'recfix -V' \
-        'recdel --version' 'recdel -V' 'recset --version' 'recset -V' 'undo --version' 'undo -V'; do
+        'recins --version' 'recins -V' 'recdel --version' 'recdel -V' 'recset --version' 'recset -V' 'undo --version' \
+        'undo -V' 'redo --version' 'redo -V' 'history --version' 'history -V'; do
         recu 0 $words
         [ -n "$(out)" ] || fail "recu $words prints no version"
         silent
@@ -54,6 +56,71 @@ silent() {
     ends 1 bash -c '"$1" --help > /dev/full' '' "$recu"
     prints '' "standard output: No space left on device (os error 28)¶$store_failed"
     only
+}
+
+# example TOOL COMMAND: an example of the tool's help does something well on copies of the samples
+example() {
+    local journal=()
+    rm -f -- library.rec* contacts.rec* edits.rec*
+    cp -- "$top/sample/library.rec" "$top/sample/contacts.rec" .
+    [[ $2 != *' --journal '* ]] || journal=(--journal edits.rec)
+    case $1 in
+        undo | redo | history) does recset -n 0 -f Name -s Ada "${journal[@]}" contacts.rec ;;
+    esac
+    [ "$1" != redo ] || does undo "${journal[@]}" contacts.rec
+    cp contacts.rec contacts.rec.before
+    eval "recu 0 ${2#  recu }"
+    silent
+    case $1 in
+        recsel | recinf | history) [ -n "$(out)" ] || fail "$2 prints nothing" ;;
+        recins | recdel | recset | undo | redo)
+            ! cmp -s contacts.rec contacts.rec.before || ! cmp -s library.rec "$top/sample/library.rec" || fail "$2 changes nothing"
+            ;;
+    esac
+}
+
+@test "the examples of help" {
+    local tool line number
+    for tool in recsel recinf recfix recins recdel recset undo redo history; do
+        recu 0 help "$tool"
+        out > help
+        tail -n 1 help | grep -q '^  recu ' || fail "the help of $tool ends with no example"
+        number=0
+        while IFS= read -r line; do
+            example "$tool" "$line"
+            number=$((number + 1))
+        done < <(sed -n '/^Examples:$/,$ { /^  recu /p }' help)
+        [ "$number" -ge 2 ] || fail "the help of $tool has $number examples"
+    done
+    recu 0 --help
+    out | tail -n 1 | grep -q '^  recu '
+}
+
+@test "the list of tools is the explanation where there is none" {
+    recu 1
+    is_bad_usage
+    grep -q '\[subcommands: recsel, recinf, recfix, recins, recdel, recset, undo, redo, history, help\]' "$BATS_TEST_TMPDIR/err"
+}
+
+# hints WORDS HINT: the line before the last one
+hints() {
+    put f "$three"
+    eval "recu 1 $1"
+    is_bad_usage
+    [ "$(tail -n 2 "$BATS_TEST_TMPDIR/err" | head -n 1)" = "hint: a value that begins with a hyphen is given as $2" ] ||
+        fail 'the line before the last one is:' "$(tail -n 2 "$BATS_TEST_TMPDIR/err" | head -n 1)"
+    has f "$three"
+    only f
+}
+
+@test "how a value is given that begins with a hyphen" {
+    local words
+    each hints hints.rows
+    for words in 'recset -f A -s -d f' 'recdel -n -x f' 'undo -5 f' 'recdel --comment -5 f' 'recfix --check -5'; do
+        recu 1 $words
+        is_bad_usage
+        ! grep -q hint "$BATS_TEST_TMPDIR/err" || fail "recu $words has a hint"
+    done
 }
 
 # is_bad_usage: the last run was refused as bad usage, and explained that
@@ -157,11 +224,12 @@ edits() {
     eval "fails_to_store '$3: not a regular file' $1"
     rmdir -- "$3"
     case $1 in
-        undo*)
+        undo* | redo*)
             rm -- "$2"
             put f "$three"
             does recdel -n 1 f
-            mv -T -- f "./$2" 2> /dev/null || has "$2" 'A: 1¶¶C: 3¶'
+            [[ $1 = undo* ]] || does undo f
+            mv -T -- f "./$2" 2> /dev/null || [ -s "$2" ]
             mv -T -- f.journal "./$3" 2> /dev/null || [ -s "$3" ]
             ;;
     esac

@@ -2,7 +2,7 @@
 //! of other journals.
 ghost use Rattle.std.specs.Prelude.{◌≢◌, [], IfOk};
 
-use rec_journal::{History, Hunk, Patch, Plan, Tool, plan_edit, plan_undo};
+use rec_journal::{History, Hunk, Patch, Plan, Step, Tool, plan_edit, plan_redo, plan_undo};
 use rec_text::{Bytes, Fault};
 use std::alloc::Global;
 use std::process::Abort;
@@ -180,6 +180,44 @@ fn undo_brings_back_the_old_text(rt: HostRuntime) -> Result<(), Fail> {
     for (digit, len, old, end) in [(b'3', 461, b'2', 634), (b'2', 634, b'1', 807)] {
         let plan = undone(rt.alloc(), &file_of(digit), front(len))?;
         check_plan(&rt, &plan, old, end);
+    }
+    Ok(())
+}
+
+fn redone(alloc: Global, file: &[u8], journal: &[u8]) -> Result<Plan, Fault> {
+    let history = History::load(alloc, file, journal)?;
+    plan_redo(alloc, &history, file, journal)
+}
+
+#[test]
+fn redo_brings_back_the_nearest(rt: HostRuntime) -> Result<(), Fail> {
+    for (digit, len, new) in [(b'2', 634, b'3'), (b'1', 807, b'2')] {
+        let plan = redone(rt.alloc(), &file_of(digit), front(len))?;
+        assert_eq!(rt; plan.file.as_slice(), file_of(new).as_slice(), "at {len}");
+    }
+    Ok(())
+}
+
+fn step(number: usize, done: bool) -> Option<Step> {
+    Some(Step {
+        number,
+        tool: Tool::RecSet,
+        done,
+    })
+}
+
+#[test]
+fn steps_go_from_the_oldest_to_the_farthest(rt: HostRuntime) -> Result<(), Fail> {
+    for (digit, len, first, second) in [
+        (b'3', 461, step(1, true), step(2, true)),
+        (b'2', 634, step(1, true), step(2, false)),
+        (b'1', 807, step(1, false), step(2, false)),
+    ] {
+        let history = History::load(rt.alloc(), &file_of(digit), front(len))?;
+        let mut steps = history.steps();
+        assert_eq!(rt; steps.next(), first, "at {len}");
+        assert_eq!(rt; steps.next(), second, "at {len}");
+        assert_eq!(rt; steps.next(), None, "at {len}");
     }
     Ok(())
 }

@@ -2,7 +2,7 @@
 //! answer is the row's or that memory ran out, and the second is the row's.
 ghost use Rattle.std.specs.Prelude.{◌≢◌, [], IfOk};
 
-use rec_journal::{History, Hunk, Patch, Tool, plan_edit, plan_undo};
+use rec_journal::{Direction, History, Hunk, Patch, Tool, plan_edit, plan_redo, plan_undo};
 use rec_text::{Bytes, Fault};
 use std::alloc::{AllocError, Global};
 use std::test::Fail;
@@ -40,6 +40,15 @@ Kind: undo
 Of: 1
 Before: 679372bfd76bf8ed68f70ec527ce4595f05df91c5cab277a112ace73db6cbb3b
 After: f95e734b3da4c8cf8de0ce7f1a4b5b8b9e41fd295544c7cdc62300f6cf89ea38
+
+";
+
+/// What a redo behind the undo appends.
+const REDO: &[u8] = b"Number: 3
+Kind: redo
+Of: 1
+Before: f95e734b3da4c8cf8de0ce7f1a4b5b8b9e41fd295544c7cdc62300f6cf89ea38
+After: 679372bfd76bf8ed68f70ec527ce4595f05df91c5cab277a112ace73db6cbb3b
 
 ";
 
@@ -89,6 +98,13 @@ fn growth_of_apply(rt: HostRuntime) -> Result<(), Fail> {
     Ok(())
 }
 
+/// The journal of the deletion and its undo.
+fn undone(alloc: Global) -> Result<Vec<u8>, AllocError> {
+    let mut journal = Vec::from_slice(alloc, B_DELETED)?;
+    journal.extend_from_slice(UNDO)?;
+    Ok(journal)
+}
+
 fn load_again(alloc: Global, file: &[u8], journal: &[u8]) -> Result<History, Fault> {
     match History::load(alloc, file, journal) {
         Err(Fault::OutOfMemory) => History::load(alloc, file, journal),
@@ -99,14 +115,11 @@ fn load_again(alloc: Global, file: &[u8], journal: &[u8]) -> Result<History, Fau
 #[test]
 fn growth_of_load(rt: HostRuntime) -> Result<(), Fail> {
     let deleted = load_again(rt.alloc(), WITHOUT_B, B_DELETED)?;
-    assert_eq!(rt; deleted.newest(), Some(1));
+    assert_eq!(rt; deleted.nearest_number(Direction::Backward), Some(1));
     assert_eq!(rt; deleted.keep(), B_DELETED.len());
-    let Ok(mut journal) = Vec::from_slice(rt.alloc(), B_DELETED) else {
+    let Ok(journal) = undone(rt.alloc()) else {
         return Ok(());
     };
-    if journal.extend_from_slice(UNDO).is_err() {
-        return Ok(());
-    }
     let undone = load_again(rt.alloc(), ALL, journal.as_slice())?;
     assert_eq!(rt; undone.undos(), 0);
     assert_eq!(rt; undone.redos(), 1);
@@ -153,5 +166,25 @@ fn growth_of_plan_undo(rt: HostRuntime) -> Result<(), Fail> {
     };
     assert_eq!(rt; plan.journal.as_slice().strip_prefix(B_DELETED), Some(UNDO));
     assert_eq!(rt; plan.file.as_slice(), ALL);
+    Ok(())
+}
+
+#[test]
+fn growth_of_plan_redo(rt: HostRuntime) -> Result<(), Fail> {
+    let Ok(journal) = undone(rt.alloc()) else {
+        return Ok(());
+    };
+    let Ok(history) = History::load(rt.alloc(), ALL, &journal) else {
+        return Ok(());
+    };
+    let plan = match plan_redo(rt.alloc(), &history, ALL, &journal) {
+        Err(Fault::OutOfMemory) => plan_redo(rt.alloc(), &history, ALL, &journal)?,
+        answer => answer?,
+    };
+    assert_eq!(rt;
+        plan.journal.as_slice().strip_prefix(journal.as_slice()),
+        Some(REDO)
+    );
+    assert_eq!(rt; plan.file.as_slice(), WITHOUT_B);
     Ok(())
 }

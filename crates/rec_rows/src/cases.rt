@@ -1,4 +1,6 @@
 //! The cases of a file: its records.
+use crate::cells::bytes_in;
+use crate::drawn::run_lists;
 use crate::log::Log;
 use crate::trial::{Trial, Way};
 use rec_text::{Element, Fault, read};
@@ -133,8 +135,30 @@ fn run_rows(
     Ok(())
 }
 
-fn run_case(alloc: Global, case: &[Element<'_>], log: &mut Log) -> Result<(), Fault> {
-    log.begin(field(alloc, case, "Case")?);
+/// The lines from which the requests of a case are drawn.
+fn pool_of(alloc: Global, case: &[Element<'_>]) -> Result<Vec<String>, Fault> {
+    let mut pool = Vec::new(alloc);
+    for element in case {
+        if name_of(element) == "Pool" {
+            pool.push(text_of(alloc, element)?)?;
+        }
+    }
+    Ok(pool)
+}
+
+/// Runs the lists that a case asks for: their number, and their length.
+fn run_drawn(alloc: Global, case: &[Element<'_>], lists: &str, log: &mut Log) -> Result<(), Fault> {
+    let (lists, len) = lists.split_once(' ').unwrap_or((lists, ""));
+    let len = number_in(len)?;
+    let lists = number_in(lists)?;
+    let cell = field(alloc, case, "File")?;
+    let file = bytes_in(alloc, cell.as_str())?;
+    let pool = pool_of(alloc, case)?;
+    run_lists(alloc, file.as_slice(), pool.as_slice(), lists, len, log)
+}
+
+/// Runs a case whose requests it names.
+fn run_named(alloc: Global, case: &[Element<'_>], log: &mut Log) -> Result<(), Fault> {
     let columns = field(alloc, case, "Columns")?;
     let cuts = field(alloc, case, "Cuts")?;
     if columns.as_str().is_empty() {
@@ -145,6 +169,15 @@ fn run_case(alloc: Global, case: &[Element<'_>], log: &mut Log) -> Result<(), Fa
         return run_cuts(alloc, case, row, cuts.as_str(), log);
     }
     run_rows(alloc, case, columns.as_str(), cuts.as_str(), log)
+}
+
+fn run_case(alloc: Global, case: &[Element<'_>], log: &mut Log) -> Result<(), Fault> {
+    log.begin(field(alloc, case, "Case")?);
+    let lists = field(alloc, case, "Lists")?;
+    if lists.as_str().is_empty() {
+        return run_named(alloc, case, log);
+    }
+    run_drawn(alloc, case, lists.as_str(), log)
 }
 
 /// Runs the cases of a text. One that is no case is told of, and the others are run.

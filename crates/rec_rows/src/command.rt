@@ -1,6 +1,6 @@
 //! The requests of lines such as `recdel -t P -n 0 --force`, with the short options of the program.
 use crate::cells::bytes_in;
-use rec_tools::{Action, Ask, Bytes, Fault, Form, InfoForm, Pick, Request};
+use rec_tools::{Action, Ask, Bytes, Fault, Form, InfoForm, NewRecord, Pair, Pick, Request};
 use std::alloc::{AllocError, Global};
 
 /// The options of a tool that take a value, and its flags.
@@ -8,6 +8,8 @@ fn options_of(tool: &str) -> (&'static str, &'static str) {
     match tool {
         "recsel" => ("-t -e -n -q -p -P -R", "-c -C"),
         "recinf" => ("-t", "-d -n"),
+        "recfix" => ("", "--auto --force"),
+        "recins" => ("-t -e -n -q -f -v -r", "--no-auto --force"),
         "recdel" => ("-t -e -n -q", "-c --force"),
         "recset" => ("-t -e -n -q -f -s -a -S -r", "-d -c --force"),
         _ => ("", ""),
@@ -47,13 +49,18 @@ impl<'w> Options<'w> {
         self.words.iter().any(|word| *word == flag)
     }
 
+    /// What a word stands for.
+    fn bytes(&self, alloc: Global, word: &str) -> Result<Bytes, AllocError> {
+        if word == "$" {
+            return Bytes::copy_of(alloc, self.word);
+        }
+        bytes_in(alloc, word)
+    }
+
     fn value(&self, alloc: Global, option: &str) -> Result<Option<Bytes>, AllocError> {
         for pair in self.words.windows(2) {
             match pair {
-                [name, "$"] if *name == option => {
-                    return Ok(Some(Bytes::copy_of(alloc, self.word)?));
-                }
-                [name, value] if *name == option => return Ok(Some(bytes_in(alloc, value)?)),
+                [name, value] if *name == option => return Ok(Some(self.bytes(alloc, value)?)),
                 _ => {}
             }
         }
@@ -71,6 +78,11 @@ impl<'w> Options<'w> {
             return Ok(Ask::Quick(text));
         }
         Ok(Ask::All)
+    }
+
+    /// Whether records are selected.
+    fn selects(&self) -> bool {
+        self.has("-e") || self.has("-n") || self.has("-q")
     }
 
     fn pick(&self, alloc: Global) -> Result<Pick, AllocError> {
@@ -116,6 +128,26 @@ impl<'w> Options<'w> {
             return Ok(Action::Comment);
         }
         Err(Fault::BadUsage)
+    }
+
+    /// The fields of a new record, each as `-f NAME -v VALUE`.
+    fn pairs(&self, alloc: Global) -> Result<Vec<Pair>, AllocError> {
+        let mut pairs = Vec::new(alloc);
+        for words in self.words.windows(4) {
+            if let ["-f", name, "-v", value] = words {
+                let name = self.bytes(alloc, name)?;
+                let value = self.bytes(alloc, value)?;
+                pairs.push(Pair { name, value })?;
+            }
+        }
+        Ok(pairs)
+    }
+
+    fn new_record(&self, alloc: Global) -> Result<NewRecord, AllocError> {
+        match self.value(alloc, "-r")? {
+            Some(text) => Ok(NewRecord::Text(text)),
+            None => Ok(NewRecord::Pairs(self.pairs(alloc)?)),
+        }
     }
 
     fn info_form(&self) -> InfoForm {
@@ -169,6 +201,33 @@ fn info(alloc: Global, options: Options<'_>) -> Result<Request, AllocError> {
     Ok(Request::Info { kind, form })
 }
 
+fn fix(options: Options<'_>) -> Request {
+    let force = options.has("--force");
+    if options.has("--auto") {
+        Request::AutoFill { force }
+    } else {
+        Request::Check
+    }
+}
+
+fn insert(alloc: Global, options: Options<'_>) -> Result<Request, AllocError> {
+    let kind = options.value(alloc, "-t")?;
+    let fresh = options.new_record(alloc)?;
+    Ok(Request::Insert {
+        kind,
+        fresh,
+        auto: !options.has("--no-auto"),
+        force: options.has("--force"),
+    })
+}
+
+fn replace(alloc: Global, options: Options<'_>) -> Result<Request, AllocError> {
+    let pick = options.pick(alloc)?;
+    let fresh = options.new_record(alloc)?;
+    let force = options.has("--force");
+    Ok(Request::Replace { pick, fresh, force })
+}
+
 fn delete(alloc: Global, options: Options<'_>) -> Result<Request, AllocError> {
     let pick = options.pick(alloc)?;
     let force = options.has("--force");
@@ -204,10 +263,14 @@ fn request_in(alloc: Global, words: &[&str], word: &[u8]) -> Result<Request, Fau
     match *tool {
         "recsel" => Ok(show(alloc, options)?),
         "recinf" => Ok(info(alloc, options)?),
-        "recfix" => Ok(Request::Check),
+        "recfix" => Ok(fix(options)),
+        "recins" if options.selects() => Ok(replace(alloc, options)?),
+        "recins" => Ok(insert(alloc, options)?),
         "recdel" => Ok(delete(alloc, options)?),
         "recset" => set(alloc, options),
         "undo" => Ok(Request::Undo),
+        "redo" => Ok(Request::Redo),
+        "history" => Ok(Request::History),
         _ => Err(Fault::BadUsage),
     }
 }

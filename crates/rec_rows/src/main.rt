@@ -5,8 +5,10 @@
 mod cases;
 mod cells;
 mod command;
+mod drawn;
 mod log;
 mod narrow;
+mod plain;
 mod tester;
 mod trial;
 

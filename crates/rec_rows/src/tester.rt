@@ -77,12 +77,17 @@ impl Tester {
     }
 
     /// What a request answers, in words.
-    fn answer(&mut self, request: &Request, room: usize) -> Result<String, AllocError> {
+    pub fn answer(&mut self, request: &Request, room: usize) -> Result<String, AllocError> {
         self.clear(room);
         let mut said = String::new(self.alloc);
         let answer = run(self.alloc, &mut self.home, &mut self.out, request);
         say(&mut said, &answer)?;
         Ok(said)
+    }
+
+    /// What the last request printed.
+    pub fn printed(&self) -> &[u8] {
+        self.out.writer.taken.as_slice()
     }
 
     /// Runs a request, whose answer alone is wanted.

@@ -35,7 +35,7 @@ pub struct Trial {
     word: Bytes,
     line: String,
     taken: Taken,
-    /// How many events the edits of a row have made.
+    /// How many events the edits of a row have made, those that took them back and made them again included.
     events: u64,
 }
 
@@ -56,7 +56,9 @@ fn front(bytes: &[u8], len: usize) -> &[u8] {
 }
 
 fn is_change(answer: &str) -> bool {
-    answer.starts_with("edited ") || answer.starts_with("undone ")
+    ["edited ", "undone ", "redone "]
+        .iter()
+        .any(|front| answer.starts_with(front))
 }
 
 impl Taken {
@@ -197,7 +199,8 @@ impl Trial {
         Ok(self.tester.ask(&request, answer, log)?)
     }
 
-    /// An edit makes this text of the file, of one record, and is taken back. One that changes nothing is no edit.
+    /// An edit makes this text of the file, of one record, and is taken back, made again and taken back. One that
+    /// changes nothing is no edit.
     fn edit(&mut self, line: &str, cell: &str, log: &mut Log) -> Result<(), Fault> {
         let after = bytes_in(self.alloc, cell)?;
         if after.as_slice() == self.wanted.file.as_slice() {
@@ -206,16 +209,30 @@ impl Trial {
         }
         self.ask(line, "edited 1", log)?;
         log.compare(line, self.tester.home.file(), after.as_slice())?;
-        self.take_back(log)
+        self.take_back(log)?;
+        self.make_again(after.as_slice(), log)?;
+        self.take_back(log)?;
+        self.events = self.events.saturating_add(4);
+        Ok(())
     }
 
-    /// Takes back the edit that is the next event.
+    /// The number of the newest edit.
+    fn number(&self) -> u64 {
+        self.events.saturating_add(1)
+    }
+
+    /// Takes the newest edit back.
     fn take_back(&mut self, log: &mut Log) -> Result<(), Fault> {
-        let number = self.events.saturating_add(1);
-        self.events = self.events.saturating_add(2);
-        let undone = format!(in self.alloc; "undone {number}")?;
+        let undone = format!(in self.alloc; "undone {}", self.number())?;
         self.ask("undo", undone.as_str(), log)?;
         self.is_as_before(true, log)
+    }
+
+    /// Makes the newest edit again, whose text is this one.
+    fn make_again(&mut self, after: &[u8], log: &mut Log) -> Result<(), Fault> {
+        let redone = format!(in self.alloc; "redone {}", self.number())?;
+        self.ask("redo", redone.as_str(), log)?;
+        Ok(log.compare("made again", self.tester.home.file(), after)?)
     }
 
     /// Each of so many records is deleted in turn and brought back, and there is no further one.

@@ -1,0 +1,145 @@
+//! A plain machine: it keeps the whole texts of a file, and journals none of its edits.
+use crate::command::request_of;
+use crate::log::Log;
+use crate::tester::Tester;
+use rec_tools::{Bytes, Fault};
+use std::alloc::{AllocError, Global};
+use std::mem;
+
+/// An edit, and the text on its other side: that before an edit which is done, and that after one which is undone.
+#[derive(Drop)]
+struct Step {
+    number: usize,
+    tool: String,
+    text: Bytes,
+}
+
+/// A file, with its edits that are done and those that are undone, the nearest last.
+#[derive(Drop)]
+pub struct Plain {
+    alloc: Global,
+    pub text: Bytes,
+    past: Vec<Step>,
+    future: Vec<Step>,
+    /// How many edits, undos and redos there were.
+    events: usize,
+    /// What was answered, an answer a line.
+    pub answers: String,
+    pub prints: Vec<u8>,
+}
+
+fn put_step(
+    prints: &mut Vec<u8>,
+    alloc: Global,
+    word: &str,
+    step: &Step,
+) -> Result<(), AllocError> {
+    let line = format!(in alloc; "{word} {} {}\n", step.number, step.tool)?;
+    prints.extend_from_slice(line.as_bytes())
+}
+
+fn answer_of(alloc: Global, tester: &mut Tester, line: &str) -> Result<String, Fault> {
+    let request = request_of(alloc, line, &[])?;
+    Ok(tester.answer(&request, usize::MAX)?)
+}
+
+impl Plain {
+    pub fn new(alloc: Global, text: Bytes) -> Plain {
+        Plain {
+            alloc,
+            text,
+            past: Vec::new(alloc),
+            future: Vec::new(alloc),
+            events: 0,
+            answers: String::new(alloc),
+            prints: Vec::new(alloc),
+        }
+    }
+
+    /// The text on the other side of a step is present, and the step leads back.
+    fn turn(&mut self, mut step: Step, word: &str) -> Result<Step, AllocError> {
+        mem::swap(&mut self.text, &mut step.text);
+        self.events = self.events.saturating_add(1);
+        write!(self.answers, "{word} {}\n", step.number)?;
+        Ok(step)
+    }
+
+    fn undo(&mut self) -> Result<(), AllocError> {
+        let Some(step) = self.past.pop() else {
+            return self.answers.push_str("20 nothing to undo\n");
+        };
+        let step = self.turn(step, "undone")?;
+        self.future.push(step)?;
+        Ok(())
+    }
+
+    fn redo(&mut self) -> Result<(), AllocError> {
+        let Some(step) = self.future.pop() else {
+            return self.answers.push_str("21 nothing to redo\n");
+        };
+        let step = self.turn(step, "redone")?;
+        self.past.push(step)?;
+        Ok(())
+    }
+
+    fn print_history(&mut self) -> Result<(), AllocError> {
+        for step in &self.past {
+            put_step(&mut self.prints, self.alloc, "done", step)?;
+        }
+        for step in self.future.iter().rev() {
+            put_step(&mut self.prints, self.alloc, "undone", step)?;
+        }
+        self.answers.push_str("shown\n")
+    }
+
+    /// An edit led from the present text to another.
+    fn keep(&mut self, line: &str, after: &[u8]) -> Result<(), AllocError> {
+        self.events = self.events.saturating_add(1);
+        let (tool, _) = line.split_once(' ').unwrap_or((line, ""));
+        let step = Step {
+            number: self.events,
+            tool: String::from_str(self.alloc, tool)?,
+            text: Bytes::copy_of(self.alloc, self.text.as_slice())?,
+        };
+        self.text = Bytes::copy_of(self.alloc, after)?;
+        self.future.clear();
+        self.past.push(step)?;
+        Ok(())
+    }
+
+    /// A home that has the present text alone.
+    fn fresh(&self) -> Result<Tester, AllocError> {
+        let mut tester = Tester::new(self.alloc);
+        tester.home.file = Bytes::copy_of(self.alloc, self.text.as_slice())?;
+        Ok(tester)
+    }
+
+    /// Takes what a request answered and printed there, and the text that an edit led to.
+    fn follow(&mut self, tester: &Tester, line: &str, answer: &str) -> Result<(), AllocError> {
+        self.answers.push_str(answer)?;
+        self.answers.push('\n')?;
+        self.prints.extend_from_slice(tester.printed())?;
+        if answer.starts_with("edited ") {
+            self.keep(line, tester.home.file())?;
+        }
+        Ok(())
+    }
+
+    /// Runs any other request by itself.
+    fn run(&mut self, line: &str) -> Result<(), Fault> {
+        let mut tester = self.fresh()?;
+        let answer = answer_of(self.alloc, &mut tester, line)?;
+        Ok(self.follow(&tester, line, answer.as_str())?)
+    }
+
+    /// Runs the request of a line.
+    pub fn take(&mut self, line: &str, log: &mut Log) -> Result<(), Fault> {
+        log.count();
+        match line {
+            "undo" => Ok(self.undo()?),
+            "redo" => Ok(self.redo()?),
+            "history" => Ok(self.print_history()?),
+            _ => self.run(line),
+        }
+    }
+}

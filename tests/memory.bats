@@ -101,6 +101,42 @@ is_edited() {
     fast each_allocation is_edited undo db.rec
 }
 
+@test "memory for a redo" {
+    mkdir start
+    put start/db.rec "$three"
+    put after.rec 'A: 1¶¶C: 3¶'
+    (cd start && "$program" recdel -n 1 db.rec && "$program" undo db.rec)
+    fast each_allocation is_edited redo db.rec
+}
+
+@test "memory for a record that is put in" {
+    mkdir start
+    put start/db.rec '%rec: P¶%key: Id¶%auto: Id No¶¶Id: 7¶N: a\¶b'
+    put after.rec '%rec: P¶%key: Id¶%auto: Id No¶¶Id: 7¶N: a\¶b¶¶Id: 8¶No: 0¶N: x¶+ y¶'
+    fast each_allocation is_edited recins -t P -f N -v $'x\ny' db.rec
+}
+
+@test "memory for a record of a new type, given as a text" {
+    mkdir start
+    put start/db.rec "$three"
+    put after.rec 'A: 1¶¶B: 2¶¶C: 3¶¶%rec: Q¶¶N: x¶+ y¶'
+    fast each_allocation is_edited recins -t Q -r $'# c\nN: x\n+y' db.rec
+}
+
+@test "memory for a replace" {
+    mkdir start
+    put start/db.rec 'A: 1¶# c¶B: 2¶¶C: 3'
+    put after.rec 'N: x¶M: y¶¶N: x¶M: y'
+    fast each_allocation is_edited recins -n 0-1 -f N -v x -f M -v y db.rec
+}
+
+@test "memory for automatic fields" {
+    mkdir start
+    put start/db.rec '%rec: P¶%auto: Id No¶¶N: a¶¶Id: 4¶¶N: b'
+    put after.rec '%rec: P¶%auto: Id No¶¶Id: 5¶No: 0¶N: a¶¶No: 1¶Id: 4¶¶Id: 6¶No: 2¶N: b'
+    fast each_allocation is_edited recfix --auto db.rec
+}
+
 # is_printed WORD..: judges a run that prints the file printed, and ends with the status $wanted
 is_printed() {
     case "$status/$(tail -n 1 err)" in
@@ -197,4 +233,14 @@ REC
 23: type Age
 REC
     fast each_allocation is_printed recfix db.rec
+}
+
+@test "memory for the history" {
+    local wanted=0
+    mkdir start
+    put start/db.rec "$three"
+    (cd start && "$program" recdel -n 1 db.rec && "$program" recset -f A -s 2 db.rec && "$program" undo db.rec)
+    put printed 'done 1 recdel¶undone 2 recset¶'
+    fast each_allocation is_printed history db.rec
+    cmp db.rec.journal start/db.rec.journal
 }

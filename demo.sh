@@ -35,7 +35,7 @@ build_libraries() {
 # A job takes 3 GB of memory at most, and the journal's crate has one of its own.
 jobs=$(awk '/^MemAvailable/ { print int($2 / 3000000) - 1 }' /proc/meminfo)
 jobs=$((jobs < 1 ? 1 : jobs > $(nproc) ? $(nproc) : jobs))
-echo 'Building recu. From nothing, where all of it is proved first, this takes about 20 minutes on 4 processors, and 30 on 2.'
+echo 'Building recu. From nothing, where all of it is proved first, this takes about 25 minutes on 4 processors, and 40 on 2.'
 [ -d crates/rec_journal/out ] || build_libraries
 build . recu run --jobs "$jobs" -- --version
 cp sample/contacts.rec sample/library.rec "$folder"

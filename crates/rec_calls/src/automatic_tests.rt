@@ -4,9 +4,10 @@ ghost use Rattle.rec_check.specs.Schemas.{IsSchema};
 ghost use Rattle.rec_check.specs.Stored.{described};
 
 use crate::rows::{cells, split_cell, text_in};
-use rec_check::Schema;
+use rec_check::{Counter, Schema};
 use rec_text::{Database, Fault, read};
 use std::alloc::Global;
+use std::process::Abort;
 use std::test::Fail;
 
 /// A text, in which `|` stands for a newline, the name of a field in its last set, and the next value.
@@ -64,5 +65,65 @@ fn counters_are_named_once(rt: HostRuntime) -> Result<(), Fail> {
         names.as_slice(),
         [b"A".as_slice(), b"B".as_slice(), b"C".as_slice()].as_slice()
     );
+    Ok(())
+}
+
+/// How many records the last set has.
+fn records_in(database: &Database, schema: &Schema) -> usize
+    requires { IsSchema database.now (Ok (described schema.now)) }
+{
+    match schema.sets().len().checked_sub(1) {
+        Some(last) => schema.members(database, last).len(),
+        None => 0,
+    }
+}
+
+/// The counters of the last set.
+fn counters_in<'r>(
+    alloc: Global,
+    database: &Database,
+    schema: &'r Schema,
+) -> Result<Vec<Counter<'r>>, Fault>
+    requires { IsSchema database.now (Ok (described schema.now)) }
+{
+    match schema.sets().len().checked_sub(1) {
+        Some(last) => schema.counters(alloc, database, last),
+        None => Err(Fault::NoSuchType),
+    }
+}
+
+/// A counter of a name goes on with this number and the one behind it.
+fn check_counter(
+    rt: &impl Abort,
+    counter: &mut Counter,
+    name: &[u8],
+    next: i64,
+) -> Result<(), Fault> {
+    assert_eq!(rt; counter.name(), name);
+    assert_eq!(rt; counter.next_number()?, next);
+    assert_eq!(rt; counter.next_number()?, next.saturating_add(1));
+    Ok(())
+}
+
+fn check_counters(rt: &impl Abort, counters: &mut [Counter]) -> Result<(), Fault> {
+    assert_eq!(rt; counters.len(), 2);
+    for (i, counter) in counters.iter_mut().enumerate() {
+        if i == 0 {
+            check_counter(rt, counter, b"A", 4)?;
+        } else {
+            check_counter(rt, counter, b"B", -6)?;
+        }
+    }
+    Ok(())
+}
+
+#[test]
+fn counters_of_a_set(rt: HostRuntime) -> Result<(), Fail> {
+    let text = b"A: 9\n\n%rec: P\n%auto: A B A\n\nA: 3\n\nB: -7\nA: x\n".as_slice();
+    let database = read(rt.alloc(), text)?;
+    let schema = Schema::read(rt.alloc(), &database)?;
+    assert_eq!(rt; records_in(&database, &schema), 2);
+    let mut counters = counters_in(rt.alloc(), &database, &schema)?;
+    check_counters(&rt, &mut counters)?;
     Ok(())
 }

@@ -1,7 +1,7 @@
 //! The edits of the plain program and of `edit`, on the same made texts.
 use crate::plain_edit::{Change, Item, Part, plain_parts, plain_runs, plain_text};
 use rec_check::Schema;
-use rec_edit::{Action, Edit, Edited, edit};
+use rec_edit::{Action, Edit, Edited, NewRecord, Pair, edit};
 use rec_select::{By, Selection};
 use rec_sex::IndexList;
 use rec_text::{Bytes, Database, Fault, read};
@@ -45,15 +45,17 @@ const LISTS: [(&str, &[(&str, usize, usize)]); 5] = [
     ("E,B", &[("E", 0, usize::MAX), ("B", 0, usize::MAX)]),
 ];
 
-/// A set with rules.
+/// A set with rules, and with a field that is given.
 const RULED: &[u8] = b"%rec: P
 %key: Id
+%auto: No
 
 Id: 1
 # c
 N: a
 
 Id: 2
+No: 4
 ";
 
 /// The text of a number. Every third lacks its last newline.
@@ -267,7 +269,8 @@ fn set_or_add(alloc: Global) -> Result<Edit, Fault> {
 fn growth_of_delete(rt: HostRuntime) -> Result<(), Fail> {
     if let Ok(selection) = selection(rt.alloc(), "0") {
         let request = Edit::Delete(selection);
-        check_edit(&rt, rt.alloc(), &request, "%rec: P\n%key: Id\n\nId: 2\n")?;
+        let wanted = "%rec: P\n%key: Id\n%auto: No\n\nId: 2\nNo: 4\n";
+        check_edit(&rt, rt.alloc(), &request, wanted)?;
     }
     Ok(())
 }
@@ -276,7 +279,7 @@ fn growth_of_delete(rt: HostRuntime) -> Result<(), Fail> {
 fn growth_of_comment_out(rt: HostRuntime) -> Result<(), Fail> {
     if let Ok(selection) = selection(rt.alloc(), "1") {
         let request = Edit::CommentOut(selection);
-        let wanted = "%rec: P\n%key: Id\n\nId: 1\n# c\nN: a\n\n#Id: 2\n";
+        let wanted = "%rec: P\n%key: Id\n%auto: No\n\nId: 1\n# c\nN: a\n\n#Id: 2\n#No: 4\n";
         check_edit(&rt, rt.alloc(), &request, wanted)?;
     }
     Ok(())
@@ -285,8 +288,59 @@ fn growth_of_comment_out(rt: HostRuntime) -> Result<(), Fail> {
 #[test]
 fn growth_of_set(rt: HostRuntime) -> Result<(), Fail> {
     if let Ok(request) = set_or_add(rt.alloc()) {
-        let wanted = "%rec: P\n%key: Id\n\nId: 1\n# c\nN: b\nM: b\n\nId: 2\n";
+        let wanted = "%rec: P\n%key: Id\n%auto: No\n\nId: 1\n# c\nN: b\nM: b\n\nId: 2\nNo: 4\n";
         check_edit(&rt, rt.alloc(), &request, wanted)?;
     }
+    Ok(())
+}
+
+/// A new record of one field.
+fn one_field(alloc: Global, name: &str, value: &str) -> Result<NewRecord, AllocError> {
+    let mut pairs = Vec::new(alloc);
+    pairs.push(Pair {
+        name: bytes(alloc, name)?,
+        value: bytes(alloc, value)?,
+    })?;
+    Ok(NewRecord::Pairs(pairs))
+}
+
+fn insertion(alloc: Global) -> Result<Edit, AllocError> {
+    let fresh = one_field(alloc, "Id", "3")?;
+    Ok(Edit::Insert {
+        kind: Some(bytes(alloc, "P")?),
+        fresh,
+        auto: true,
+    })
+}
+
+#[test]
+fn growth_of_insert(rt: HostRuntime) -> Result<(), Fail> {
+    if let Ok(request) = insertion(rt.alloc()) {
+        let wanted =
+            "%rec: P\n%key: Id\n%auto: No\n\nId: 1\n# c\nN: a\n\nId: 2\nNo: 4\n\nNo: 5\nId: 3\n";
+        check_edit(&rt, rt.alloc(), &request, wanted)?;
+    }
+    Ok(())
+}
+
+fn replacement(alloc: Global) -> Result<Edit, Fault> {
+    let selection = selection(alloc, "0")?;
+    let fresh = NewRecord::Text(bytes(alloc, "Id: 3\n# d\nN:x")?);
+    Ok(Edit::Replace { selection, fresh })
+}
+
+#[test]
+fn growth_of_replace(rt: HostRuntime) -> Result<(), Fail> {
+    if let Ok(request) = replacement(rt.alloc()) {
+        let wanted = "%rec: P\n%key: Id\n%auto: No\n\nId: 3\nN: x\n\nId: 2\nNo: 4\n";
+        check_edit(&rt, rt.alloc(), &request, wanted)?;
+    }
+    Ok(())
+}
+
+#[test]
+fn growth_of_auto_fill(rt: HostRuntime) -> Result<(), Fail> {
+    let wanted = "%rec: P\n%key: Id\n%auto: No\n\nNo: 5\nId: 1\n# c\nN: a\n\nId: 2\nNo: 4\n";
+    check_edit(&rt, rt.alloc(), &Edit::AutoFill, wanted)?;
     Ok(())
 }

@@ -2,7 +2,9 @@
 //! of other journals.
 ghost use Rattle.std.specs.Prelude.{◌≢◌, [], IfOk};
 
-use rec_journal::{History, Hunk, Patch, Plan, Step, Tool, plan_edit, plan_redo, plan_undo};
+use rec_journal::{
+    Direction, History, Hunk, Patch, Plan, Step, Tool, plan_edit, plan_redo, plan_undo,
+};
 use rec_text::{Bytes, Fault};
 use std::alloc::Global;
 use std::process::Abort;
@@ -110,6 +112,22 @@ fn a_stop_leaves_the_old_history(rt: HostRuntime) -> Result<(), Fail> {
     for len in 57..260 {
         let told = told(rt.alloc(), &file_of(b'1'), front(len))?;
         assert_eq!(rt; told.as_str(), "0 0 57 false", "at {len}");
+    }
+    Ok(())
+}
+
+#[test]
+fn edits_are_next_to_the_text(rt: HostRuntime) -> Result<(), Fail> {
+    for (digit, len, backward, forward) in [
+        (b'1', 57, None, None),
+        (b'3', 461, Some(2), None),
+        (b'2', 634, Some(1), Some(2)),
+        (b'1', 807, None, Some(1)),
+        (b'4', 1009, Some(5), None),
+    ] {
+        let history = History::load(rt.alloc(), &file_of(digit), front(len))?;
+        assert_eq!(rt; history.nearest_number(Direction::Backward), backward);
+        assert_eq!(rt; history.nearest_number(Direction::Forward), forward);
     }
     Ok(())
 }
@@ -240,6 +258,7 @@ fn an_edit_names_its_tool(rt: HostRuntime) -> Result<(), Fail> {
     ] {
         let plan = planned(rt.alloc(), &file_of(b'1'), b"", tool, b'1', b'2')?;
         assert!(rt; is_edit_by(plan.journal.as_slice(), name), "{name}");
+        assert_eq!(rt; tool.name(), name.as_bytes());
     }
     Ok(())
 }

@@ -7,7 +7,9 @@ ghost use Rattle.rec_check.specs.Stored.{described};
 ghost use Rattle.rec_select.specs.Printing.{AreIndexes};
 
 use rec_check::Schema;
-use rec_select::{By, InfoForm, Selection, Shape, choose, write_info, write_records, write_report};
+use rec_select::{
+    By, InfoForm, Selection, Shape, choose, put_parts, write_info, write_records, write_report,
+};
 use rec_sex::{Expr, FieldList, IndexList};
 use rec_text::{Bytes, Database, Fault, Output, Rule, Violation, read};
 use std::alloc::Global;
@@ -313,6 +315,19 @@ fn growth_of_write_report(rt: HostRuntime) -> Result<(), Fail> {
     if let Err(fault) = write_report(&report, &mut out) {
         check_refusal(&rt, fault, &mut out, text);
         write_report(&report, &mut out)?;
+    }
+    assert_eq!(rt; out.writer.as_slice(), text.as_slice());
+    Ok(())
+}
+
+#[test]
+fn growth_of_put_parts(rt: HostRuntime) -> Result<(), Fail> {
+    let parts = [b"Id".as_slice(), b": ".as_slice(), b"1\n".as_slice()];
+    let text = b"Id: 1\n";
+    let mut out = no_output(rt.alloc());
+    if let Err(fault) = put_parts(&mut out, &parts) {
+        check_refusal(&rt, fault, &mut out, text);
+        put_parts(&mut out, &parts)?;
     }
     assert_eq!(rt; out.writer.as_slice(), text.as_slice());
     Ok(())

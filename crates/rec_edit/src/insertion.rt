@@ -49,7 +49,7 @@ fn append_heading(out: &mut Vec<u8>, kind: &Option<Bytes>) -> Result<(), AllocEr
 }
 
 /// Appends the fields of a new record.
-fn append_fields(out: &mut Vec<u8>, pairs: &[Pair]) -> Result<(), AllocError>
+pub(crate) fn append_fields(out: &mut Vec<u8>, pairs: &[Pair]) -> Result<(), AllocError>
     ensures { OnOk result (out.new.items ≡ out.old.items ++ text_of (fields_of pairs.now)) }
 {
     for pair in pairs {

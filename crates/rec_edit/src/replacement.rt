@@ -5,9 +5,10 @@ ghost use Rattle.rec_edit.specs.Rules.{fields_of, replacement};
 ghost use Rattle.rec_edit.specs.Marks.{is_start, AreMarks};
 
 use crate::covered::{Covered, has_mark, mark};
+use crate::insertion::append_fields;
 use crate::plan::Plan;
 use crate::request::Pair;
-use rec_text::{Element, append_field};
+use rec_text::Element;
 use std::alloc::{AllocError, Global};
 use std::ops::Range;
 
@@ -27,9 +28,7 @@ fn text_of_pairs(alloc: Global, pairs: &[Pair]) -> Result<Vec<u8>, AllocError>
     ensures { IfOk result (λ text. text.items ≡ text_of (fields_of pairs.now)) }
 {
     let mut text = Vec::new(alloc);
-    for pair in pairs {
-        append_field(&mut text, pair.name.as_slice(), pair.value.as_slice())?;
-    }
+    append_fields(&mut text, pairs)?;
     Ok(text)
 }
 

@@ -43,9 +43,12 @@ cd "$folder"
 
 # try WORD..: a command of recu, with what it prints; one that is refused is part of the session
 try() {
-    printf '\n--- recu'
-    printf ' %q' "$@"
-    echo
+    local word line='--- recu'
+    for word; do
+        [[ $word =~ ^[a-zA-Z0-9_./=-]+$ ]] || word="\"$word\""
+        line+=" $word"
+    done
+    printf '\n%s\n' "$line"
     "$recu" "$@" 2>&1 || echo "(exit status $?)"
 }
 show() {

@@ -8,6 +8,7 @@ pub mod IndexListReading
 pub mod FieldListLemmas
 pub mod FieldListReading
 pub mod PickLemmas
+pub mod NamePlaceLemmas
 pub mod ListExamples
 pub mod WalkLemmas
 pub mod ParsingLemmas

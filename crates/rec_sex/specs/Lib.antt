@@ -14,3 +14,4 @@ pub mod Parsing
 pub mod Searching
 pub mod Lists
 pub mod FieldItems
+pub mod NamePlaces

@@ -2,14 +2,18 @@
 ghost use Rattle.std.specs.Prelude.{◌≡◌, ◌∷◌, ◌++◌, false, IfOk, IfErr, MatchOption, MatchResult};
 ghost use Rattle.rec_text.specs.Bytes.{begins_name as may_begin};
 ghost use Rattle.rec_text.specs.Places.{pieces_of};
-ghost use Rattle.rec_sex.specs.Lists.{begins_field, begins_with, occurrences, places_from, IsClosingFault, IsSecondFault, IsSubscriptFault, IsItemFault};
+ghost use Rattle.rec_sex.specs.Lists.{begins_field, begins_with, occurrences, places_from, IsClosingFault, IsSecondFault, IsSubscriptFault, IsItemFault, picks};
 ghost use Rattle.rec_sex.specs.FieldItems.{is_among, BeginsName, Closes, ClosesPair, BeginsSubscript, BeginsItem};
 
 use crate::index_list::{Span, behind_hyphen, ends_item, number};
 use crate::lexeme::word_at;
+use crate::picking::picked_by_table;
 use rec_text::{Bytes, Element, Fault};
 use std::alloc::Global;
 use std::marker::Model;
+
+/// So many items or fields are few: each item then looks at all fields.
+const FEW: usize = 16;
 
 /// A field by its name: all its occurrences in a record, or some of them, counted from 0.
 #[derive(Debug, Drop)]
@@ -155,6 +159,18 @@ fn add_places(item: &Item, fields: &[Element], places: &mut Vec<usize>) -> Resul
     Ok(())
 }
 
+/// What the items pick, by a pass over the fields for each.
+fn picked_by_walks(alloc: Global, items: &[Item], fields: &[Element]) -> Result<Vec<usize>, Fault>
+    ensures places { IfOk result (λ places. places.items ≡ picks items.now (pieces_of fields.now)) }
+    ensures refusals { IfErr result (λ fault. fault ≡ Fault.OutOfMemory) }
+{
+    let mut places = Vec::new(alloc);
+    for item in items {
+        add_places(item, fields, &mut places)?;
+    }
+    Ok(places)
+}
+
 impl FieldList {
     ghost use Rattle.std.specs.Prelude.{◌≡◌, List, Result, IfOk, IfErr};
     ghost use Rattle.rec_text.specs.declared.fault.Fault.{Fault};
@@ -199,10 +215,9 @@ impl FieldList {
         ensures places { IfOk result (λ places. places.items ≡ picks self.now (pieces_of fields.now)) }
         ensures refusals { IfErr result (λ fault. fault ≡ Fault.OutOfMemory) }
     {
-        let mut places = Vec::new(alloc);
-        for item in &self.items {
-            add_places(item, fields, &mut places)?;
+        if self.items.len() <= FEW || fields.len() <= FEW {
+            return picked_by_walks(alloc, &self.items, fields);
         }
-        Ok(places)
+        picked_by_table(alloc, &self.items, fields)
     }
 }

@@ -17,6 +17,7 @@ mod occurrences;
 mod operand;
 mod parser;
 mod pattern;
+mod picking;
 mod token;
 mod tree;
 mod walk;

@@ -1,9 +1,10 @@
 //! Histories and plans of a journal that was written by hand. `crates/rec_rows/data/journals.rec` has what an undo answers
 //! of other journals.
-ghost use Rattle.std.specs.Prelude.{◌≢◌, [], IfOk};
+ghost use Rattle.std.specs.Prelude.{◌≢◌, [], Ok, IfOk};
+ghost use Rattle.rec_journal.specs.History.{IsOpening};
 
 use rec_journal::{
-    Direction, History, Hunk, Patch, Plan, Step, Tool, plan_edit, plan_redo, plan_undo,
+    Direction, Hashed, History, Hunk, Patch, Plan, Step, Tool, plan_edit, plan_redo, plan_undo,
 };
 use rec_text::{Bytes, Fault};
 use std::alloc::Global;
@@ -70,9 +71,16 @@ fn file_of(digit: u8) -> [u8; 5] {
     [b'A', b':', b' ', digit, b'\n']
 }
 
+/// The history of a file, which is hashed first.
+fn loaded(alloc: Global, file: &[u8], journal: &[u8]) -> Result<History, Fault>
+    ensures { IfOk result (λ history. IsOpening file.now journal.now (Ok history)) }
+{
+    History::load(alloc, &Hashed::of(alloc, file)?, journal)
+}
+
 /// The edits to undo, those to redo, how much of the journal counts, and whether the file was changed outside.
 fn told(alloc: Global, file: &[u8], journal: &[u8]) -> Result<String, Fault> {
-    let history = History::load(alloc, file, journal)?;
+    let history = loaded(alloc, file, journal)?;
     Ok(format!(in alloc;
         "{} {} {} {}",
         history.undos(),
@@ -125,7 +133,7 @@ fn edits_are_next_to_the_text(rt: HostRuntime) -> Result<(), Fail> {
         (b'1', 807, None, Some(1)),
         (b'4', 1009, Some(5), None),
     ] {
-        let history = History::load(rt.alloc(), &file_of(digit), front(len))?;
+        let history = loaded(rt.alloc(), &file_of(digit), front(len))?;
         assert_eq!(rt; history.nearest_number(Direction::Backward), backward);
         assert_eq!(rt; history.nearest_number(Direction::Forward), forward);
     }
@@ -154,18 +162,11 @@ fn planned(
     old: u8,
     new: u8,
 ) -> Result<Plan, Fail> {
-    let history = History::load(alloc, file, journal)?;
+    let hashed = Hashed::of(alloc, file)?;
+    let history = History::load(alloc, &hashed, journal)?;
     let patch = patch_to(alloc, old, new)?;
     let text = patch.apply(alloc, file)?;
-    Ok(plan_edit(
-        alloc,
-        &history,
-        file,
-        journal,
-        tool,
-        &patch,
-        text.as_slice(),
-    )?)
+    Ok(plan_edit(alloc, &history, &hashed, journal, tool, &patch, text)?)
 }
 
 /// A plan leads to the file of a digit, and to so much of the journal.
@@ -189,7 +190,7 @@ fn edits_are_planned(rt: HostRuntime) -> Result<(), Fail> {
 }
 
 fn undone(alloc: Global, file: &[u8], journal: &[u8]) -> Result<Plan, Fault> {
-    let history = History::load(alloc, file, journal)?;
+    let history = loaded(alloc, file, journal)?;
     plan_undo(alloc, &history, file, journal)
 }
 
@@ -203,7 +204,7 @@ fn undo_brings_back_the_old_text(rt: HostRuntime) -> Result<(), Fail> {
 }
 
 fn redone(alloc: Global, file: &[u8], journal: &[u8]) -> Result<Plan, Fault> {
-    let history = History::load(alloc, file, journal)?;
+    let history = loaded(alloc, file, journal)?;
     plan_redo(alloc, &history, file, journal)
 }
 
@@ -231,7 +232,7 @@ fn steps_go_from_the_oldest_to_the_farthest(rt: HostRuntime) -> Result<(), Fail>
         (b'2', 634, step(1, true), step(2, false)),
         (b'1', 807, step(1, false), step(2, false)),
     ] {
-        let history = History::load(rt.alloc(), &file_of(digit), front(len))?;
+        let history = loaded(rt.alloc(), &file_of(digit), front(len))?;
         let mut steps = history.steps();
         assert_eq!(rt; steps.next(), first, "at {len}");
         assert_eq!(rt; steps.next(), second, "at {len}");

@@ -1,8 +1,9 @@
 //! Calls that are made again where a growth was refused, as `tests/growth.bats` has it of each growth in turn: the first
 //! answer is the row's or that memory ran out, and the second is the row's.
-ghost use Rattle.std.specs.Prelude.{◌≢◌, [], IfOk};
+ghost use Rattle.std.specs.Prelude.{◌≢◌, [], Ok, IfOk};
+ghost use Rattle.rec_journal.specs.History.{IsOpening};
 
-use rec_journal::{Direction, History, Hunk, Patch, Tool, plan_edit, plan_redo, plan_undo};
+use rec_journal::{Direction, Hashed, History, Hunk, Patch, Tool, plan_edit, plan_redo, plan_undo};
 use rec_text::{Bytes, Fault};
 use std::alloc::{AllocError, Global};
 use std::test::Fail;
@@ -105,9 +106,17 @@ fn undone(alloc: Global) -> Result<Vec<u8>, AllocError> {
     Ok(journal)
 }
 
+/// The history of a file, which is hashed first.
+fn loaded(alloc: Global, file: &[u8], journal: &[u8]) -> Result<History, Fault>
+    ensures { IfOk result (λ history. IsOpening file.now journal.now (Ok history)) }
+{
+    History::load(alloc, &Hashed::of(alloc, file)?, journal)
+}
+
 fn load_again(alloc: Global, file: &[u8], journal: &[u8]) -> Result<History, Fault> {
-    match History::load(alloc, file, journal) {
-        Err(Fault::OutOfMemory) => History::load(alloc, file, journal),
+    let hashed = Hashed::of(alloc, file)?;
+    match History::load(alloc, &hashed, journal) {
+        Err(Fault::OutOfMemory) => History::load(alloc, &hashed, journal),
         answer => answer,
     }
 }
@@ -131,7 +140,10 @@ fn growth_of_load(rt: HostRuntime) -> Result<(), Fail> {
 #[test]
 fn growth_of_plan_edit(rt: HostRuntime) -> Result<(), Fail> {
     let alloc = rt.alloc();
-    let Ok(history) = History::load(alloc, ALL, b"") else {
+    let Ok(file) = Hashed::of(alloc, ALL) else {
+        return Ok(());
+    };
+    let Ok(history) = History::load(alloc, &file, b"") else {
         return Ok(());
     };
     let Ok(hunks) = b_deleted(alloc) else {
@@ -140,13 +152,15 @@ fn growth_of_plan_edit(rt: HostRuntime) -> Result<(), Fail> {
     let Some(patch) = Patch::new(hunks) else {
         return Ok(assert!(rt; false, "no patch"));
     };
-    let Ok(after) = patch.apply(alloc, ALL) else {
+    let Ok(text) = patch.apply(alloc, ALL) else {
         return Ok(());
     };
-    let text = after.as_slice();
-    let plan = match plan_edit(alloc, &history, ALL, b"", Tool::RecDel, &patch, text) {
+    let Ok(again) = patch.apply(alloc, ALL) else {
+        return Ok(());
+    };
+    let plan = match plan_edit(alloc, &history, &file, b"", Tool::RecDel, &patch, text) {
         Err(Fault::OutOfMemory) => {
-            plan_edit(alloc, &history, ALL, b"", Tool::RecDel, &patch, text)?
+            plan_edit(alloc, &history, &file, b"", Tool::RecDel, &patch, again)?
         }
         answer => answer?,
     };
@@ -157,7 +171,7 @@ fn growth_of_plan_edit(rt: HostRuntime) -> Result<(), Fail> {
 
 #[test]
 fn growth_of_plan_undo(rt: HostRuntime) -> Result<(), Fail> {
-    let Ok(history) = History::load(rt.alloc(), WITHOUT_B, B_DELETED) else {
+    let Ok(history) = loaded(rt.alloc(), WITHOUT_B, B_DELETED) else {
         return Ok(());
     };
     let plan = match plan_undo(rt.alloc(), &history, WITHOUT_B, B_DELETED) {
@@ -174,7 +188,7 @@ fn growth_of_plan_redo(rt: HostRuntime) -> Result<(), Fail> {
     let Ok(journal) = undone(rt.alloc()) else {
         return Ok(());
     };
-    let Ok(history) = History::load(rt.alloc(), ALL, &journal) else {
+    let Ok(history) = loaded(rt.alloc(), ALL, &journal) else {
         return Ok(());
     };
     let plan = match plan_redo(rt.alloc(), &history, ALL, &journal) {

@@ -13,6 +13,8 @@ mod element_tests;
 #[cfg(test)]
 mod field_list_tests;
 #[cfg(test)]
+mod hashed_tests;
+#[cfg(test)]
 mod history_tests;
 #[cfg(test)]
 mod index_list_tests;

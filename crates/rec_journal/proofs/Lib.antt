@@ -16,4 +16,5 @@ pub mod Scans
 pub mod Pieces
 pub mod Openings
 pub mod BoundLemmas
+pub mod FrontLemmas
 pub mod PlanLemmas

@@ -1,6 +1,7 @@
 pub mod Direction
 pub mod Patch
 pub mod Weave
+pub mod Fronts
 pub mod Revisions
 pub mod Event
 pub mod Head

@@ -5,10 +5,12 @@
 mod digest;
 mod event;
 mod event_laws;
+mod hashed;
 mod history;
 mod history_laws;
 mod journal;
 mod laws;
+mod mark;
 mod part;
 mod passes;
 mod patch;
@@ -20,6 +22,7 @@ mod steps;
 
 pub use event::Tool;
 pub use event_laws::{events_are_bounded, one_spelling};
+pub use hashed::Hashed;
 pub use history::History;
 pub use history_laws::one_opening;
 pub use laws::{edits_lead_to_one_text, leads_to_one_text, moves_are_converse};

@@ -63,11 +63,10 @@ module _ (c : Contents) (tool : Tool) (IsEdit : Base → Result Edited Fault →
     pub edit-unchanged : change.edited.text ≡ c.file → IsOutcome c (editing tool IsEdit) (Ok (staying Unchanged))
     edit-unchanged same = inr (parts.base, parts.is, inr (change.history, parts.opens, inr (change.edited, parts.made, inl (same, refl))))
 
-    module _ (other : change.edited.text ≢ c.file) (text : List ℕ) (is : text ≡ change.edited.text) (given : Tool) (by : given ≡ tool) where
-      planned_by : (r : Result Plan Fault) → IsEditPlan change.history c.journal given (one_pass given change.edited.patch) text r
+    module _ (other : change.edited.text ≢ c.file) (given : Tool) (by : given ≡ tool) where
+      planned_by : (r : Result Plan Fault) → IsEditPlan change.history c.journal given (one_pass given change.edited.patch) change.edited.text r
           → IsEditPlan change.history c.journal tool (one_pass tool change.edited.patch) change.edited.text r
-      planned_by r h = subst (λ x. IsEditPlan change.history c.journal x (one_pass x change.edited.patch) change.edited.text r) by
-          (subst (λ t. IsEditPlan change.history c.journal given (one_pass given change.edited.patch) t r) is h)
+      planned_by r h = subst (λ x. IsEditPlan change.history c.journal x (one_pass x change.edited.patch) change.edited.text r) by h
 
       clashing : (fault : Fault) → IsEditPlan change.history c.journal tool (one_pass tool change.edited.patch) change.edited.text (Err fault) → IsOutcome c (editing tool IsEdit) (Err fault)
       clashing fault refused =
@@ -76,12 +75,12 @@ module _ (c : Contents) (tool : Tool) (IsEdit : Base → Result Edited Fault →
           (subst (λ f. IsEditPlan change.history c.journal tool (one_pass tool change.edited.patch) change.edited.text (Err f)) e refused) in
           inr (parts.base, parts.is, inr (change.history, parts.opens, inr (change.edited, parts.made, (other, e, same))))
 
-      pub edit-clash : (fault : Fault) → IsMemoryOr fault (IsEditPlan change.history c.journal given (one_pass given change.edited.patch) text (Err fault))
+      pub edit-clash : (fault : Fault) → IsMemoryOr fault (IsEditPlan change.history c.journal given (one_pass given change.edited.patch) change.edited.text (Err fault))
           → IsMemoryOr fault (IsOutcome c (editing tool IsEdit) (Err fault))
       edit-clash fault h = memory_or_weaker fault _ _ (λ refused. clashing fault (planned_by (Err fault) refused)) h
 
-      pub edit-planned : (plan : Plan) → Splices change.edited.patch c.file change.edited.text → IsEditPlan change.history c.journal given (one_pass given change.edited.patch) text (Ok plan)
-          → IsOpening plan.file plan.journal (Ok (after_edit_plan change.history c.journal given (one_pass given change.edited.patch) text))
+      pub edit-planned : (plan : Plan) → Splices change.edited.patch c.file change.edited.text → IsEditPlan change.history c.journal given (one_pass given change.edited.patch) change.edited.text (Ok plan)
+          → IsOpening plan.file plan.journal (Ok (after_edit_plan change.history c.journal given (one_pass given change.edited.patch) change.edited.text))
           → IsOutcome c (editing tool IsEdit) (Ok (putting plan (EditedReply change.edited.changed)))
       edit-planned plan leads planned opens =
           inr (
@@ -100,8 +99,7 @@ module _ (c : Contents) (tool : Tool) (IsEdit : Base → Result Edited Fault →
                     record {
                       leads = leads;
                       planned = planned_by (Ok plan) planned;
-                      opens = subst (λ x. IsOpening plan.file plan.journal (Ok (after_edit_plan change.history c.journal x (one_pass x change.edited.patch) change.edited.text))) by
-                          (subst (λ t. IsOpening plan.file plan.journal (Ok (after_edit_plan change.history c.journal given (one_pass given change.edited.patch) t))) is opens);
+                      opens = subst (λ x. IsOpening plan.file plan.journal (Ok (after_edit_plan change.history c.journal x (one_pass x change.edited.patch) change.edited.text))) by opens;
                     },
                     refl,
                   ),

@@ -13,10 +13,11 @@ ghost use Rattle.rec_tools.specs.Outcomes.{Decides, reply_of};
 ghost use Rattle.rec_tools.specs.Changes.{IsChange, IsEditOf, asked_by};
 
 use crate::deed::{Deed, edit_of};
+use crate::history::history_of;
 use crate::rec_file::RecFile;
 use crate::request::Reply;
 use rec_edit::{Edited, edit};
-use rec_journal::{Direction, History, Plan, plan_edit, plan_redo, plan_undo};
+use rec_journal::{Direction, Hashed, History, Plan, plan_edit, plan_redo, plan_undo};
 use rec_text::Fault;
 use std::alloc::Global;
 
@@ -50,7 +51,7 @@ fn edited_by(alloc: Global, base: &RecFile, deed: Deed, force: bool) -> Result<E
 /// The edit of a file. The elements of the file are let go before a plan is made, which needs memory too.
 fn change_by(
     alloc: Global,
-    file: &[u8],
+    file: &Hashed<'_>,
     journal: &[u8],
     deed: Deed,
     force: bool,
@@ -61,7 +62,7 @@ fn change_by(
     ensures leads { IfOk result (λ change. Splices change.edited.patch file.now change.edited.text) }
     ensures unchanged { IfOk result (λ change. (change.edited.patch ≡ []) ↔ (change.edited.text ≡ file.now)) }
 {
-    let base = RecFile::read(alloc, file)?;
+    let base = RecFile::read(alloc, file.text())?;
     let history = History::load(alloc, file, journal)?;
     let edited = edited_by(alloc, &base, deed, force)?;
     Ok(Change { history, edited })
@@ -72,6 +73,30 @@ fn is_idle(edited: &Edited) -> bool
     ensures { IsTrue result ↔ (edited.now.patch ≡ []) }
 {
     edited.patch.hunks().is_empty()
+}
+
+/// Decides an edit on a file that was hashed and a journal.
+fn decide_on(
+    alloc: Global,
+    file: &Hashed<'_>,
+    journal: &[u8],
+    deed: Deed,
+    force: bool,
+) -> Result<Decision, Fault>
+    ensures found { UnlessMemory result (Decides (record { file = file.now; journal = journal.now }) (asked_by deed.entry force)) }
+    ensures refusals { IfErr result IsRefusal }
+{
+    let Change { history, edited } = change_by(alloc, file, journal, deed, force)?;
+    if is_idle(&edited) {
+        return Ok(Decision::Stay(Reply::Unchanged));
+    }
+    let Edited {
+        patch,
+        text,
+        changed,
+    } = edited;
+    let plan = plan_edit(alloc, &history, file, journal, deed.tool(), &patch, text)?;
+    Ok(Decision::Put(plan, Reply::Edited(changed)))
 }
 
 /// Decides an edit on a file and a journal.
@@ -85,21 +110,8 @@ pub fn decide_edit(
     ensures found { UnlessMemory result (Decides (record { file = file.now; journal = journal.now }) (asked_by deed.entry force)) }
     ensures refusals { IfErr result IsRefusal }
 {
-    let Change { history, edited } = change_by(alloc, file, journal, deed, force)?;
-    if is_idle(&edited) {
-        return Ok(Decision::Stay(Reply::Unchanged));
-    }
-    let text = edited.text.as_slice();
-    let plan = plan_edit(
-        alloc,
-        &history,
-        file,
-        journal,
-        deed.tool(),
-        &edited.patch,
-        text,
-    )?;
-    Ok(Decision::Put(plan, Reply::Edited(edited.changed)))
+    let hashed = Hashed::of(alloc, file)?;
+    decide_on(alloc, &hashed, journal, deed, force)
 }
 
 /// The plan of a move by the nearest edit that way.
@@ -144,7 +156,7 @@ pub fn decide_move(
     ensures found { UnlessMemory result (Decides (record { file = file.now; journal = journal.now }) (moving direction)) }
     ensures refusals { IfErr result IsRefusal }
 {
-    let history = History::load(alloc, file, journal)?;
+    let history = history_of(alloc, file, journal)?;
     let plan = plan_move(alloc, direction, &history, file, journal)?;
     let reply = moved(direction, history.nearest_number(direction))?;
     Ok(Decision::Put(plan, reply))

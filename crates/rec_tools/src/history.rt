@@ -1,17 +1,27 @@
 //! Prints the history of a file.
 ghost use Rattle.std.specs.Prelude.{◌≤◌, codes, flat_map, Ok, IfErr, if◌then◌else◌};
+ghost use Rattle.rec_text.specs.Faults.{UnlessMemory};
 ghost use Rattle.rec_text.specs.Sink.{KeptAtSuccess, RisenAtStoreFailed, UnlessStoreFailed};
 ghost use Rattle.rec_select.specs.Taken.{Prints};
+ghost use Rattle.rec_journal.specs.History.{IsOpening};
 ghost use Rattle.rec_tools.specs.Steps.{IsRefusal};
 ghost use Rattle.rec_tools.specs.Printouts.{IsHistory, IsShownText, PutsPrintout, printed_history};
 ghost use Rattle.rec_tools.specs.Listed.{line_of};
 
 use crate::request::Reply;
 use itoa::Buffer;
-use rec_journal::{History, Step, Steps};
+use rec_journal::{Hashed, History, Step, Steps};
 use rec_select::put_parts;
 use rec_text::{Fault, Sink, put_all};
 use std::alloc::Global;
+
+/// The history that a file and its journal stand for.
+pub fn history_of(alloc: Global, file: &[u8], journal: &[u8]) -> Result<History, Fault>
+    ensures { UnlessMemory result (IsOpening file.now journal.now) }
+{
+    let hashed = Hashed::of(alloc, file)?;
+    History::load(alloc, &hashed, journal)
+}
 
 /// Prints an edit, in a line.
 fn write_step<S: Sink>(step: Step, out: &mut S) -> Result<(), Fault>
@@ -57,7 +67,7 @@ pub fn print_history<S: Sink>(
     ensures store_failed { RisenAtStoreFailed (S.failure_count out.old) (S.failure_count out.new) result }
     ensures refusals { IfErr result IsRefusal }
 {
-    let history = History::load(alloc, file, journal)?;
+    let history = history_of(alloc, file, journal)?;
     write_history(&history, out)?;
     Ok(Reply::Shown)
 }

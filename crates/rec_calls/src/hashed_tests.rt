@@ -1,0 +1,120 @@
+//! Edits of a text that is long enough for marks, which lie 65,536 bytes apart in it. The digests are those that
+//! `sha256sum` prints.
+ghost use Rattle.std.specs.Prelude.{◌≢◌, [], IfOk};
+
+use rec_journal::{Hashed, History, Hunk, Patch, Tool, plan_edit};
+use rec_text::Bytes;
+use std::alloc::{AllocError, Global};
+use std::test::Fail;
+
+/// A text of 200,000 bytes.
+fn long_text(alloc: Global) -> Result<Vec<u8>, AllocError> {
+    let mut text = Vec::new(alloc);
+    for _ in 0..40_000 {
+        text.extend_from_slice(b"A: 1\n")?;
+    }
+    Ok(text)
+}
+
+/// The patch that puts a new text in the place of an old one.
+fn patch_at(alloc: Global, at: usize, old: &[u8], new: &[u8]) -> Result<Patch, Fail>
+    ensures { IfOk result (λ patch. patch ≢ []) }
+{
+    let mut hunks = Vec::new(alloc);
+    hunks.push(Hunk {
+        at,
+        old: Bytes::copy_of(alloc, old)?,
+        new: Bytes::copy_of(alloc, new)?,
+    })?;
+    Ok(Patch::new(hunks).ok_or("no patch")?)
+}
+
+/// The journal of an edit by a patch.
+fn journal_of(alloc: Global, text: &[u8], patch: &Patch) -> Result<Bytes, Fail>
+    requires { patch.now ≢ [] }
+{
+    let hashed = Hashed::of(alloc, text)?;
+    let history = History::load(alloc, &hashed, b"")?;
+    let after = patch.apply(alloc, text)?;
+    let plan = plan_edit(alloc, &history, &hashed, b"", Tool::RecSet, patch, after)?;
+    Ok(plan.journal)
+}
+
+/// What stands behind the header, the number, the kind and the tool of a first edit by recset.
+fn digests_in(journal: &[u8]) -> Option<&[u8]> {
+    journal.get(91..236)
+}
+
+/// A place, the bytes that stand there, what stands in their place after the edit, and the digests.
+const EDITS: [(usize, &[u8], &[u8], &[u8]); 5] = [
+    (
+        3,
+        b"1",
+        b"2",
+        b"Before: 6ed3700a4d791e189948d89f8669b4e05ac6981ac321159a11a371ff3344adde
+After: d7018fcc0b854103e95100a4c344f4a73f918aa8a1fa3a0ddcff69dde53a39a9
+",
+    ),
+    // At the first mark, behind it, at the last one, and at the end.
+    (
+        65_536,
+        b"",
+        b"B",
+        b"Before: 6ed3700a4d791e189948d89f8669b4e05ac6981ac321159a11a371ff3344adde
+After: c506548bca66116539a559c3c24483f035fb7ea166539d3f960754f553033d8e
+",
+    ),
+    (
+        100_003,
+        b"1\n",
+        b"\n",
+        b"Before: 6ed3700a4d791e189948d89f8669b4e05ac6981ac321159a11a371ff3344adde
+After: c5e2044b8db0584be4ae13d20452b78bda9025b9abb4eb908912e5096c18b474
+",
+    ),
+    (
+        196_608,
+        b"1\nA: ",
+        b"",
+        b"Before: 6ed3700a4d791e189948d89f8669b4e05ac6981ac321159a11a371ff3344adde
+After: facaeae2649919c5c96cb0f420c592cf1bff2091c4abe6e196ca2a09c4e5c052
+",
+    ),
+    (
+        200_000,
+        b"",
+        b"A: 2\n",
+        b"Before: 6ed3700a4d791e189948d89f8669b4e05ac6981ac321159a11a371ff3344adde
+After: 914433287b893f4d733017848cb10905a88af9070196b1f4edb8ca26d35630e6
+",
+    ),
+];
+
+#[test]
+fn the_digest_of_the_edited_text_goes_on_from_a_mark(rt: HostRuntime) -> Result<(), Fail> {
+    let text = long_text(rt.alloc())?;
+    for (at, old, new, digests) in EDITS {
+        let patch = patch_at(rt.alloc(), at, old, new)?;
+        let journal = journal_of(rt.alloc(), &text, &patch)?;
+        assert_eq!(rt; digests_in(journal.as_slice()), Some(digests), "at {at}");
+    }
+    Ok(())
+}
+
+/// Whether a text that is hashed is kept.
+fn is_kept(alloc: Global, text: &[u8]) -> Result<bool, AllocError> {
+    Ok(Hashed::of(alloc, text)?.text() == text)
+}
+
+#[test]
+fn growth_of_hashed(rt: HostRuntime) -> Result<(), Fail> {
+    let Ok(text) = long_text(rt.alloc()) else {
+        return Ok(());
+    };
+    let kept = match is_kept(rt.alloc(), &text) {
+        Err(AllocError) => is_kept(rt.alloc(), &text)?,
+        Ok(kept) => kept,
+    };
+    assert!(rt; kept);
+    Ok(())
+}

@@ -17,7 +17,7 @@ use Rattle.rec_edit.specs.Task.{Wanted, Task, delete, comment_out, set}
 use Rattle.rec_edit.specs.Script.{Layout, TakesWhole, old_pieces, edited_text, hunks_of}
 use Rattle.rec_edit.specs.Rules.{with_blanks, taking_out, deletion, commenting, setting}
 use Rattle.rec_edit.specs.Wording.{AreItemsFor}
-use Rattle.rec_edit.specs.Outcome.{AreChosen, AreRemovable, Step, step_of, IsStep, IsSound, IsSoundUnlessForced, edited_by, IsOutcome, IsEditRefusal, PutsNoneIn}
+use Rattle.rec_edit.specs.Outcome.{AreChosen, AreRemovable, Step, step_of, IsStep, IsSound, IsSoundUnlessForced, edited_by, IsOutcome, IsEditRefusal, PutsNoDescriptorIn}
 use Rattle.rec_edit.specs.Edits.{IsEditOf}
 use Rattle.rec_edit.specs.Effect.{HasEffect}
 use Rattle.rec_edit.specs.Endings.{FieldEdit}
@@ -101,7 +101,7 @@ module _ (pieces : List Piece) (schema : Described) (task : Task) where
       let parts = Then-ok (IsStep pieces schema force task) (λ step answer. answer ≡ Ok (edited_by step)) edited is in
       (parts.0, parts.1, same_value edited (edited_by parts.0) parts.2)
 
-  pub outcome-unruled : (edited : Edited) → IsEditOf pieces schema false task (Ok edited) → PutsNoneIn task → AreElementsOf pieces (text_of pieces) → IsSchema pieces (Ok schema)
+  pub outcome-unruled : (edited : Edited) → IsEditOf pieces schema false task (Ok edited) → PutsNoDescriptorIn task → AreElementsOf pieces (text_of pieces) → IsSchema pieces (Ok schema)
       → length schema.sets ≡ 1 → IsSound edited.text (Ok tt)
   outcome-unruled edited is puts elements has one =
       let step = step_of_edit false edited is in

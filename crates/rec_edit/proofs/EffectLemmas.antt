@@ -32,7 +32,7 @@ use Rattle.rec_select.specs.Selection.{IsSelection}
 use Rattle.rec_edit.specs.Task.{Wanted, Task, insert, replace, delete, comment_out, set, auto_fill}
 use Rattle.rec_edit.specs.Script.{Layout, Part, closed, script_of, new_pieces, edited_text}
 use Rattle.rec_edit.specs.Rules.{deletion, commenting}
-use Rattle.rec_edit.specs.Outcome.{AreChosen, AreRemovable, Step, IsStep, PutsNoneIn, step_of}
+use Rattle.rec_edit.specs.Outcome.{AreChosen, AreRemovable, Step, IsStep, step_of}
 use Rattle.rec_edit.specs.Effect.{Entry, HasEffect, Leads, entries_from, remade}
 use Rattle.rec_edit.proofs.ParagraphLemmas.{closes, own_of, own_of-Spaced}
 use Rattle.rec_edit.proofs.RecordCutLemmas.{Cut, Cut-AreRecords, own_of-records, records_there}
@@ -46,6 +46,7 @@ use Rattle.rec_edit.proofs.NeatLemmas.{LaysNeatly-deletion, LaysNeatly-commentin
 use Rattle.rec_edit.proofs.InnerLemmas.{Fits-inner, IsInner, BeginsFrom, all_begin}
 use Rattle.rec_edit.proofs.FieldsLaidLemmas.{ArePlainItems, IsInner-setting, set_of, set_put_first}
 use Rattle.rec_edit.proofs.CommentingLemmas.{IsInner-commenting}
+use Rattle.rec_edit.proofs.ReadingLemmas.{PutsNoneIn}
 use Rattle.rec_edit.proofs.TakingOutLemmas.{Fits-deletion}
 
 pub map-map : {X Y Z : Type 0} (f : Y → Z) (g : X → Y) (xs : List X) → map (λ x. f (g x)) xs ≡ map f (map g xs)
@@ -356,15 +357,9 @@ done_keeps_sets pieces schema task script done edited is elements =
     let answer = schemas_of_same pieces new done.records done.gives.ranges schema done.are done.gives.are same is in
     (answer.0, answer.1, answer.3)
 
-pub step_keeps_sets : (pieces : List Piece) (schema : Described) (force : Bool) (task : Task) (step : Step) → PutsNoneIn task → AreElementsOf (new_pieces step.script) (edited_text step.script)
-    → IsSchema pieces (Ok schema) → AreElementsOf pieces (text_of pieces) → IsStep pieces schema force task (Ok step)
-    → (same : Described) × IsSchema (new_pieces step.script) (Ok same) × (map (λ s. s.kind) same.sets ≡ map (λ s. s.kind) schema.sets)
-step_keeps_sets pieces schema force task step puts edited is elements found =
-    done_keeps_sets pieces schema task step.script (step_done pieces schema is elements.well_formed force task step puts found) edited is elements
-
 pub step_is_sound : (pieces : List Piece) (schema : Described) (force : Bool) (task : Task) (step : Step) → PutsNoneIn task → AreElementsOf (new_pieces step.script) (edited_text step.script)
     → IsSchema pieces (Ok schema) → AreElementsOf pieces (text_of pieces) → IsStep pieces schema force task (Ok step)
     → (same : Described) × IsSchema (new_pieces step.script) (Ok same)
 step_is_sound pieces schema force task step puts edited is elements found =
-    let kept = step_keeps_sets pieces schema force task step puts edited is elements found in
+    let kept = done_keeps_sets pieces schema task step.script (step_done pieces schema is elements.well_formed force task step puts found) edited is elements in
     (kept.0, kept.1)

@@ -3,12 +3,12 @@ use Rattle.std.proofs.Common.{Bool, List, Ok}
 use Rattle.rec_text.specs.Elements.{Piece, AreElementsOf, text_of}
 use Rattle.rec_check.specs.Schemas.{Described, IsSchema}
 use Rattle.rec_edit.specs.Task.{Task, insert, replace, delete, comment_out, set, auto_fill}
-use Rattle.rec_edit.specs.Outcome.{Step, IsStep, PutsNoneIn}
+use Rattle.rec_edit.specs.Outcome.{Step, IsStep}
 use Rattle.rec_edit.proofs.AutoFillLemmas.{faithful_auto_fill}
 use Rattle.rec_edit.proofs.EffectLemmas.{step_has_effect, step_is_sound}
 use Rattle.rec_edit.proofs.FaithfulLemmas.{IsFaithful}
 use Rattle.rec_edit.proofs.InsertLemmas.{faithful_insert}
-use Rattle.rec_edit.proofs.ReadingLemmas.{step_is_laid, step_is_read, step_unchanged}
+use Rattle.rec_edit.proofs.ReadingLemmas.{PutsNoneIn, step_is_laid, step_is_read, step_unchanged}
 use Rattle.rec_edit.proofs.ReplaceLemmas.{faithful_replace}
 
 -- a step of an edit that puts nothing in

@@ -39,7 +39,6 @@ pub mod NeatLemmas
 pub mod FaithfulLemmas
 pub mod FieldsLaidLemmas
 pub mod EffectLemmas
-pub mod UnruledLemmas
 pub mod TiedLemmas
 pub mod ReplacementLemmas
 pub mod ApartLemmas
@@ -60,6 +59,8 @@ pub mod FillingLemmas
 pub mod FilledRecordLemmas
 pub mod AutoFillLemmas
 pub mod EveryKindLemmas
+pub mod UntypedLemmas
+pub mod UnruledLemmas
 pub mod TieLemmas
 pub mod ReplacePlanLemmas
 pub mod FreshLemmas

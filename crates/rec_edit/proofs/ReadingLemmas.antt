@@ -20,7 +20,7 @@ use Rattle.rec_edit.specs.Task.{Task, insert, replace, delete, comment_out, set,
 use Rattle.rec_edit.specs.Script.{Part, Layout, closed, script_of, new_pieces, edited_text, hunks_of}
 use Rattle.rec_edit.specs.Rules.{commented, is_own, is_picked, taking_out, deletion, commenting, setting, picked_becomes, added, with_blanks}
 use Rattle.rec_edit.specs.Wording.{written, unnumbered, names_of_action, values_of_action, AreItemsFor}
-use Rattle.rec_edit.specs.Outcome.{Step, AreChosen, AreRemovable, step_of, IsStep, PutsNoneIn}
+use Rattle.rec_edit.specs.Outcome.{Step, AreChosen, AreRemovable, step_of, IsStep}
 use Rattle.rec_edit.proofs.WellFormedLemmas.{IsClosed, IsClosed-closed, length-commented}
 use Rattle.rec_edit.proofs.SettledLemmas.{CanStandFor, LaysWell, new_pieces_are_read}
 use Rattle.rec_edit.proofs.EqualLemmas.{PutsSome, PutsFew, unchanged_by_some, unchanged_by_few}
@@ -162,6 +162,15 @@ ok_step step = Ok step
 -- the script of a step that this layout makes
 script_is : (pieces : List Piece) (chosen : List (Range ℕ)) (layout : Layout) (step : Step) → ok_step step ≡ ok_step (step_of pieces chosen layout) → step.script ≡ script_of layout pieces
 script_is pieces chosen layout step e = let same : step ≡ step_of pieces chosen layout = cc in ap (λ s. s.script) same
+
+-- no new record is put in, and no automatic field
+abbrev pub PutsNoneIn : Task → Type 0
+PutsNoneIn (insert kind fresh auto) = ⊥
+PutsNoneIn (replace wanted fresh) = ⊥
+PutsNoneIn (delete wanted) = Unit {0}
+PutsNoneIn (comment_out wanted) = Unit {0}
+PutsNoneIn (set wanted list action) = Unit {0}
+PutsNoneIn auto_fill = ⊥
 
 -- the step of each kind of edit
 pub step_is_laid : (pieces : List Piece) (schema : Described) (force : Bool) (task : Task) (step : Step) → AreElementsOf pieces (text_of pieces) → PutsNoneIn task

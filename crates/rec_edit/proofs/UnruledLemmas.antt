@@ -3,7 +3,6 @@ use Rattle.std.proofs.Common.{◌≡◌, ◌∙◌, ℕ, ◌+◌, Bool, true, fa
 use Rattle.std.specs.Prelude.{filter, filter_map, if◌then◌else◌}
 use Rattle.std.specs.List.{AllZip, enumerate_from}
 use Rattle.std.specs.declared.ops.Range.{Range}
-use Rattle.std.proofs.lemmas.List.{length-map}
 use Rattle.rec_text.specs.declared.violations.Rule.TheVariants.{Allowed, Fit}
 use Rattle.rec_text.specs.declared.violations.Violation.{Violation}
 use Rattle.rec_text.specs.Elements.{Piece, AreElementsOf, name_of, text_of}
@@ -16,9 +15,11 @@ use Rattle.rec_check.specs.Violations.{violation, names_of, is_allowed, allowed_
 use Rattle.rec_check.specs.Words.{distinct}
 use Rattle.rec_edit.specs.Task.{Task}
 use Rattle.rec_edit.specs.Script.{new_pieces, edited_text}
-use Rattle.rec_edit.specs.Outcome.{Step, IsStep, IsSound, PutsNoneIn}
-use Rattle.rec_edit.proofs.EffectLemmas.{step_keeps_sets}
-use Rattle.rec_edit.proofs.ReadingLemmas.{step_is_read}
+use Rattle.rec_edit.specs.Effect.{AreEntries}
+use Rattle.rec_edit.specs.Outcome.{Step, IsStep, IsSound, PutsNoDescriptorIn}
+use Rattle.rec_edit.proofs.EveryKindLemmas.{faithful}
+use Rattle.rec_edit.proofs.ReadingLemmas.{one_list_of_elements}
+use Rattle.rec_edit.proofs.UntypedLemmas.{AreUntyped, leads_untyped, one_set_is_untyped, untyped_is_one_set}
 
 -- ---- a record
 
@@ -82,12 +83,16 @@ unruled_text_breaks_none pieces schema is one =
 
 -- ---- an edit
 
-pub unruled_edit_is_sound : (pieces : List Piece) (schema : Described) (force : Bool) (task : Task) (step : Step) → AreElementsOf pieces (text_of pieces) → PutsNoneIn task
+pub unruled_edit_is_sound : (pieces : List Piece) (schema : Described) (force : Bool) (task : Task) (step : Step) → AreElementsOf pieces (text_of pieces) → PutsNoDescriptorIn task
     → IsSchema pieces (Ok schema) → length schema.sets ≡ 1 → IsStep pieces schema force task (Ok step) → IsSound (edited_text step.script) (Ok tt)
 unruled_edit_is_sound pieces schema force task step elements puts is one found =
-    let read = step_is_read pieces schema force task step elements puts found in
-    let kept = step_keeps_sets pieces schema force task step puts read is elements found in
-    let same : Described = kept.0 in
-    let as_many : length same.sets ≡ length schema.sets =
-    sym (length-map same.sets (λ s. s.kind)) ∙ ap length kept.2 ∙ length-map schema.sets (λ s. s.kind) in
-    inr ([], (new_pieces step.script, same, read, kept.1, unruled_text_breaks_none (new_pieces step.script) same kept.1 (as_many ∙ one)), refl)
+    let made = faithful pieces schema force task elements is step found in
+    let effect = made.effect in
+    let same : Described = made.sound.0 in
+    let new : List Piece = new_pieces step.script in
+    let edited : effect.edited ≡ new = one_list_of_elements (edited_text step.script) effect.edited new effect.are_edited made.read in
+    let after : AreEntries new effect.after = subst (λ ps. AreEntries ps effect.after) edited effect.are_after in
+    let untyped : AreUntyped effect.after =
+    leads_untyped pieces schema task effect.before effect.after puts effect.leads (one_set_is_untyped pieces elements.well_formed schema effect.before is effect.are_before one) in
+    let still_one : length same.sets ≡ 1 = untyped_is_one_set new made.read.well_formed same effect.after made.sound.1 after untyped in
+    inr ([], (new, same, made.read, made.sound.1, unruled_text_breaks_none new same made.sound.1 still_one), refl)

@@ -139,16 +139,12 @@ OneOutcome = (pieces : List Piece) (schema same : Described) (force : Bool) (tas
     → IsSchema pieces (Ok schema) → IsSchema pieces (Ok same) → IsOutcome pieces schema force task one → IsOutcome pieces same force task other
     → (one ≢ Err BadPattern) → (other ≢ Err BadPattern) → one ≡ other
 
--- no new record is put in, and no automatic field
-abbrev pub PutsNoneIn : Task → Type 0
-PutsNoneIn (insert kind fresh auto) = ⊥
-PutsNoneIn (replace wanted fresh) = ⊥
-PutsNoneIn (delete wanted) = Unit {0}
-PutsNoneIn (comment_out wanted) = Unit {0}
-PutsNoneIn (set wanted list action) = Unit {0}
-PutsNoneIn auto_fill = ⊥
+-- no descriptor is put in: only a new record of a type may bring one
+abbrev pub PutsNoDescriptorIn : Task → Type 0
+PutsNoDescriptorIn (insert kind fresh auto) = kind ≡ None
+PutsNoDescriptorIn _ = Unit {0}
 
 -- What such an edit makes of a text without a descriptor breaks no rule.
 abbrev pub UnruledEditsAreSound : Type 0
-UnruledEditsAreSound = (pieces : List Piece) (schema : Described) (force : Bool) (task : Task) (step : Step) → AreElementsOf pieces (text_of pieces) → PutsNoneIn task
+UnruledEditsAreSound = (pieces : List Piece) (schema : Described) (force : Bool) (task : Task) (step : Step) → AreElementsOf pieces (text_of pieces) → PutsNoDescriptorIn task
     → IsSchema pieces (Ok schema) → length schema.sets ≡ 1 → IsStep pieces schema force task (Ok step) → IsSound (edited_text step.script) (Ok tt)

@@ -6,7 +6,7 @@ pub fn one_outcome()
     ensures { OneOutcome }
 {}
 
-/// An edit of a text without a descriptor breaks no rule, so what it makes needn't be read and checked.
+/// An edit that puts no descriptor into a text without one breaks no rule, so what it makes needn't be read and checked.
 pub fn unruled_edits_are_sound()
     ensures { UnruledEditsAreSound }
 {}

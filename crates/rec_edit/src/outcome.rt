@@ -12,7 +12,7 @@ ghost use Rattle.rec_edit.specs.declared.outcome.Edited.{Edited as EditedOf};
 ghost use Rattle.rec_edit.specs.Edits.{IsEditOf};
 ghost use Rattle.rec_edit.specs.Task.{task_of, wanted_by, fresh_by, insert as inserting_one, replace as replacing, delete as deleting, comment_out as commenting_out, set as setting_fields, auto_fill as filling_all};
 ghost use Rattle.rec_edit.specs.Script.{TakesWhole};
-ghost use Rattle.rec_edit.specs.Outcome.{IsSound, IsOutcome, IsEditRefusal, PutsNoneIn};
+ghost use Rattle.rec_edit.specs.Outcome.{IsSound, IsOutcome, IsEditRefusal, PutsNoDescriptorIn};
 ghost use Rattle.rec_edit.specs.Effect.{HasEffect};
 
 use crate::automatic::automatic_fields;
@@ -164,17 +164,18 @@ fn made(
     }
 }
 
-/// Whether no new record is put in, and no automatic field.
-fn puts_none_in(edit: &Edit) -> bool
-    ensures { IsTrue result → PutsNoneIn (task_of edit.now) }
+/// Whether no descriptor is put in: only a new record of a type may bring one.
+fn puts_no_descriptor_in(edit: &Edit) -> bool
+    ensures { IsTrue result → PutsNoDescriptorIn (task_of edit.now) }
 {
     match edit {
-        Edit::Insert { .. } | Edit::Replace { .. } | Edit::AutoFill => false,
+        Edit::Insert { kind: Some(_), .. } => false,
+        Edit::Insert { kind: None, .. } | Edit::Replace { .. } | Edit::AutoFill => true,
         Edit::Delete(_) | Edit::CommentOut(_) | Edit::Set { .. } => true,
     }
 }
 
-/// Refuses an edit after which the text breaks rules. A text without a descriptor has none, and no edit puts one in.
+/// Refuses an edit after which the text breaks rules. A text without a descriptor has none, and most edits put none in.
 fn require_kept_rules(
     alloc: Global,
     database: &Database,
@@ -188,7 +189,7 @@ fn require_kept_rules(
 {
     // These are the elements of a text.
     let _text = database.text();
-    if puts_none_in(edit) && schema.sets().len() == 1 {
+    if puts_no_descriptor_in(edit) && schema.sets().len() == 1 {
         return Ok(());
     }
     require_sound(alloc, edited.text.as_slice())

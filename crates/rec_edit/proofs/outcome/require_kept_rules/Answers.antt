@@ -8,7 +8,7 @@ use Rattle.rec_edit.proofs.outcome.require_kept_rules.Goals as goal
 
 pub returns-then-sets-eq1 : goal.returns-then-sets-eq1
 returns-then-sets-eq1 c =
-    outcome-unruled c.args.database.now (described c.args.schema.now) (task_of c.args.edit.now) c.args.edited.now c.requires.made (c.puts_none_in.ensures c.if-puts_none_in.true) c.text-text.ensures.whole
+    outcome-unruled c.args.database.now (described c.args.schema.now) (task_of c.args.edit.now) c.args.edited.now c.requires.made (c.puts_no_descriptor_in.ensures c.if-puts_no_descriptor_in.true) c.text-text.ensures.whole
     c.requires.schema (ap length (sym c.sets.ensures) ∙ c.if-sets-eq1.true)
 
 pub returns : goal.returns

@@ -3,3 +3,4 @@ pub mod Options
 pub mod Words
 pub mod Status
 pub mod Files
+pub mod Rights

@@ -1,14 +1,24 @@
 //! The program. It runs the request of the command line on a file and its journal, and says what was refused.
 #![tactic(auto)]
 
+mod access;
 mod args;
+mod causes;
+mod claim;
 mod files;
+mod held;
 mod hints;
+mod links;
 mod options;
 mod output;
+mod pair;
 mod paths;
+mod reading;
+mod rights;
+mod spot;
 mod status;
 
+use access::access_of;
 use args::Asked;
 use files::FileHome;
 use output::StandardOutput;
@@ -52,7 +62,7 @@ fn run(rt: &HostRuntime, asked: Asked) -> Result<Reply, Fault> {
         file,
         journal,
     } = asked;
-    let mut home = FileHome::new(rt, file, journal);
+    let mut home = FileHome::new(rt, file, journal, access_of(&request));
     let Ok(mut out) = StandardOutput::new(rt.alloc(), rt.stdout()) else {
         return Err(Fault::OutOfMemory);
     };
@@ -60,6 +70,7 @@ fn run(rt: &HostRuntime, asked: Asked) -> Result<Reply, Fault> {
         Ok(reply) => out.finish().map(|()| reply),
         Err(fault) => Err(fault),
     };
+    home.let_go();
     let _ = home.explain(rt);
     let _ = out.explain(rt);
     answer

@@ -7,7 +7,7 @@ ghost use Rattle.rec_text.specs.Sink.{KeptAtSuccess, RisenAtStoreFailed, UnlessS
 use rec_tools::{Fault, Sink};
 use std::alloc::Global;
 use std::io;
-use std::io::{BufWriter, Error, Write};
+use std::io::{BufWriter, Error, ErrorKind, Write};
 
 /// Output goes out in pieces of this size.
 const PIECE: usize = 65_536;
@@ -92,7 +92,10 @@ fn none_taken() -> Error {
     Error::other("failed to write whole buffer")
 }
 
-/// Says on standard error why standard output failed.
+/// Says on standard error why standard output failed. A reader that closed its pipe knows why.
 pub fn explain(err: &impl Eprint, error: Error) -> io::Result<()> {
+    if error.kind() == ErrorKind::BrokenPipe {
+        return Ok(());
+    }
     eprintln!(err; "standard output: {error}")
 }

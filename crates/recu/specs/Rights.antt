@@ -1,0 +1,33 @@
+-- The rights of a file, by its mode: 4 to read, 2 to write, 1 to run, for each of owner, group and others.
+use Rattle.std.specs.Prelude.{ℕ, ◌+◌, ◌*◌, ◌/◌, ◌%◌, Bool, true, false, bit_and, if◌then◌else◌}
+
+-- the octal digits of a mode
+abbrev pub others_of : ℕ → ℕ
+others_of mode = mode % 8
+
+abbrev pub group_of : ℕ → ℕ
+group_of mode = mode / 8 % 8
+
+abbrev pub owner_of : ℕ → ℕ
+owner_of mode = mode / 64 % 8
+
+abbrev pub special_of : ℕ → ℕ
+special_of mode = mode / 512 % 8
+
+-- what group and others may at most: where the group is another one, what both of them might
+abbrev pub most_by_group : ℕ → Bool → ℕ
+most_by_group mode true = 7
+most_by_group mode false = bit_and (group_of mode) (others_of mode)
+
+-- and where the owner is another one, what the owner might
+abbrev pub most_by_owner : ℕ → Bool → ℕ
+most_by_owner mode true = 7
+most_by_owner mode false = owner_of mode
+
+-- by whether the owner was kept, and whether the group was
+abbrev pub most : ℕ → Bool → Bool → ℕ
+most mode owner_kept group_kept = bit_and (most_by_group mode group_kept) (most_by_owner mode owner_kept)
+
+-- of the special bits, to run as the owner (4) goes with the owner, to run as the group (2) with the group
+abbrev pub special_left : ℕ → Bool → Bool → ℕ
+special_left bits owner_kept group_kept = (if owner_kept then bits / 4 else 0) * 4 + (if group_kept then bits / 2 % 2 else 0) * 2 + bits % 2

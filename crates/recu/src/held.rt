@@ -1,0 +1,121 @@
+//! A file as it was read, locked to the end of the program's work, and whether it still stands at its path.
+ghost use Rattle.std.specs.Prelude.{◌≡◌, IsTrue};
+ghost use Rattle.std.specs.Fs.{metadata_len};
+
+use crate::causes::{changed, locked, one_file};
+use crate::reading::read_whole;
+use rec_tools::Which;
+use std::alloc::Global;
+use std::fs::{File, Metadata, OpenOptions, TryLockError};
+use std::io::ErrorKind;
+use std::os::unix::fs::MetadataExt;
+use std::rt::Files;
+use std::{fs, io};
+
+/// How often a file is opened again that another program replaces meanwhile.
+const TRIES: u32 = 16;
+
+/// An open file, and what the system said of it before it was read.
+#[derive(Drop)]
+pub struct Held {
+    pub file: File,
+    pub seen: Metadata,
+}
+
+impl Held {
+    pub fn new(file: File) -> io::Result<Held> {
+        let seen = file.metadata()?;
+        Ok(Held { file, seen })
+    }
+
+    /// Its bytes, where nobody writes it meanwhile.
+    pub fn read(&self, alloc: Global, which: Which) -> io::Result<Vec<u8>> {
+        let bytes = read_whole(alloc, which, &self.file)?;
+        if self.is_disturbed()? {
+            return Err(changed());
+        }
+        Ok(bytes)
+    }
+
+    /// Somebody wrote the open file since it was opened. A pipe or a device changes as it is read.
+    fn is_disturbed(&self) -> io::Result<bool> {
+        Ok(self.seen.is_file() && !is_unchanged(&self.seen, &self.file.metadata()?))
+    }
+}
+
+/// Opens and locks the file at a path, which is no link, unless it is the other file of the two.
+pub fn hold<R: Files<File = File>>(
+    rt: &R,
+    path: &str,
+    other: Option<&Metadata>,
+) -> io::Result<Held> {
+    for _ in 0..TRIES {
+        if let Some(held) = try_to_hold(rt, path, other)? {
+            return Ok(held);
+        }
+    }
+    Err(changed())
+}
+
+/// One try, or nothing where the path no longer leads to what was opened.
+fn try_to_hold<R: Files<File = File>>(
+    rt: &R,
+    path: &str,
+    other: Option<&Metadata>,
+) -> io::Result<Option<Held>> {
+    let file = open_to_lock(rt, path)?;
+    if is_that(&file, other)? {
+        return Err(one_file());
+    }
+    match file.try_lock() {
+        Ok(()) => {}
+        Err(TryLockError::WouldBlock) => return Err(locked()),
+        Err(TryLockError::Error(error)) => return Err(error),
+    }
+    if leads_to(rt, path, &file)? {
+        Ok(Some(Held::new(file)?))
+    } else {
+        Ok(None)
+    }
+}
+
+/// Some network file systems lock only what is open for writing.
+fn open_to_lock<R: Files<File = File>>(rt: &R, path: &str) -> io::Result<File> {
+    match OpenOptions::new().read(true).write(true).open(rt, path) {
+        Ok(file) => Ok(file),
+        Err(_) => File::open(rt, path),
+    }
+}
+
+fn is_that(file: &File, other: Option<&Metadata>) -> io::Result<bool> {
+    match other {
+        Some(other) => Ok(are_one(other, &file.metadata()?)),
+        None => Ok(false),
+    }
+}
+
+/// Whether the name, which is no link then, leads to the open file.
+pub fn leads_to(rt: &impl Files, name: &str, file: &File) -> io::Result<bool> {
+    let own = file.metadata()?;
+    match fs::symlink_metadata(rt, name) {
+        Ok(there) => Ok(are_one(&there, &own)),
+        Err(error) if error.kind() == ErrorKind::NotFound => Ok(false),
+        Err(error) => Err(error),
+    }
+}
+
+pub fn are_one(first: &Metadata, second: &Metadata) -> bool {
+    first.ino() == second.ino() && first.dev() == second.dev()
+}
+
+/// Whether it is one file, which nobody wrote between the two looks.
+pub fn is_unchanged(before: &Metadata, now: &Metadata) -> bool
+    ensures { IsTrue result → metadata_len before.now ≡ metadata_len now.now }
+{
+    are_one(before, now)
+        && before.len() == now.len()
+        && before.mtime() == now.mtime()
+        && before.mtime_nsec() == now.mtime_nsec()
+        && before.ctime() == now.ctime()
+        && before.ctime_nsec() == now.ctime_nsec()
+}

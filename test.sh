@@ -73,7 +73,7 @@ cases() {
 }
 
 program() {
-    cases "${1-}" tests/{edits,usage,files,streams,selecting,rules,sessions}.bats
+    cases "${1-}" tests/{edits,usage,files,rivals,rights,streams,selecting,rules,sessions}.bats
 }
 
 memory() {

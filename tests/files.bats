@@ -27,7 +27,7 @@ teardown() {
     put db.rec "$three"
     truncate -s 1073741825 big
     fails_to_store 'big: more than 1073741824 bytes' recdel -n 0 big
-    fails_to_store 'big: more than 1073741824 bytes' undo --journal big db.rec
+    fails_to_store 'big: more than 1073741824 bytes: shorten the journal, or move it away' undo --journal big db.rec
     has db.rec "$three"
     only big db.rec
 }
@@ -72,6 +72,46 @@ have_modes() {
     only files link link.journal
 }
 
+@test "links in a row, and in a ring" {
+    mkdir files
+    put db.rec "$three"
+    ln -s files/second first
+    ln -s ../db.rec files/second
+    recu 0 recdel -n 0 first
+    [ "$(readlink first files/second)" = $'files/second\n../db.rec' ] || fail 'a link is gone'
+    has db.rec 'B: 2¶¶C: 3¶'
+    recu 0 undo first
+    has db.rec "$three"
+    ln -s one two
+    ln -s two one
+    fails_to_store 'one: Too many levels of symbolic links (os error 40)' recdel -n 0 one
+    only db.rec files first first.journal one two
+}
+
+@test "names that are no text, and long ones" {
+    put $'\xFF' "$three"
+    ln -s $'\xFF' link
+    recu 0 recsel -c link
+    fails_to_store 'link: a symbolic link with a target that is not UTF-8' recdel -n 0 link
+    has $'\xFF' "$three"
+    only link $'\xFF'
+    local name depth
+    name=$(printf 'n%.0s' {1..252})
+    put "$name" "$three"
+    fails_to_store "$name.new: File name too long (os error 36)" recdel -n 0 --journal j "$name"
+    has "$name" "$three"
+    only link "$name" $'\xFF'
+    for ((depth = 0; depth < 20; depth++)); do
+        mkdir "$name"$'\xFF'
+        cd "$name"$'\xFF'
+    done
+    put db.rec "$three"
+    does recdel -n 0 db.rec
+    does undo db.rec
+    has db.rec "$three"
+    only db.rec db.rec.journal
+}
+
 @test "two paths of one file" {
     put db.rec "$three"
     ln -s db.rec link
@@ -83,6 +123,22 @@ have_modes() {
     done
     has db.rec "$three"
     only db.rec hard link
+}
+
+@test "one of the two under the working name of the other" {
+    put db.rec "$three"
+    fails_to_store './db.rec.new: the file or its journal stands under the working name of the other' recdel -n 0 --journal ./db.rec.new db.rec
+    has db.rec "$three"
+    only db.rec
+    put db.rec.new "$header"
+    fails_to_store 'db.rec: the file or its journal stands under the working name of the other' recdel -n 0 --journal ./db.rec.new db.rec
+    has db.rec "$three"
+    has db.rec.new "$header"
+    only db.rec db.rec.new
+    put j.new "$three"
+    fails_to_store './j: the file or its journal stands under the working name of the other' recdel -n 0 --journal ./j j.new
+    has j.new "$three"
+    only db.rec db.rec.new j.new
 }
 
 @test "a link that leads nowhere" {
@@ -105,21 +161,6 @@ have_modes() {
     refuses 'nothing to undo' undo device
     has db.rec "$three"
     only db.rec device pipe
-}
-
-# Root may write everything, so these runs are another user's, who gets a copy of the program and may enter the folders
-# above; where that can't be they are left out.
-as_nobody() {
-    [ "$(id -u)" = 0 ] || return 0
-    as_user=(setpriv --reuid=65534 --regid=65534 --clear-groups)
-    "${as_user[@]}" true || skip 'root runs this, and no other user may'
-    local folder
-    for folder in "$BATS_TEST_TMPDIR" "$BATS_TEST_TMPDIR/.." "$BATS_RUN_TMPDIR"; do
-        chmod a+x "$folder"
-    done
-    recu=$BATS_TEST_TMPDIR/recu
-    cp "$program" "$recu"
-    chmod 755 "$recu"
 }
 
 @test "a file that may not be written" {
@@ -159,7 +200,7 @@ as_nobody() {
     put db.rec.journal "$header"
     chmod 666 db.rec db.rec.journal
     chmod 555 .
-    fails_to_store 'db.rec.journal: Permission denied (os error 13)' recdel -n 0 db.rec
+    fails_to_store 'db.rec.new: Permission denied (os error 13)' recdel -n 0 db.rec
     chmod 755 .
     has db.rec "$three"
     has db.rec.journal "$header"
@@ -183,7 +224,7 @@ as_nobody() {
     put db.rec "$three"
     put other 'other'
     mkdir db.rec.journal.new
-    recu 1 recdel -n 0 db.rec
+    fails_to_store 'db.rec.journal.new: not a regular file: left by another program? remove it' recdel -n 0 db.rec
     has db.rec "$three"
     only db.rec db.rec.journal.new other
     rmdir db.rec.journal.new
@@ -231,6 +272,7 @@ let_go() {
     hold db.rec.new
     fails_to_store 'db.rec: in use: another program is writing it' recdel -n 0 db.rec
     has db.rec "$three"
+    only db.rec db.rec.new
     let_go
     refuses 'nothing to undo' undo db.rec
     recu 0 recdel -n 1 db.rec

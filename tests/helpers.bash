@@ -154,3 +154,18 @@ reports() {
     gives "$status" "$1" '' recfix
     gives "$status" "$1" '' recfix --check
 }
+
+# Root may write everything, so these runs are another user's, who gets a copy of the program and may enter the folders
+# above; where that can't be they are left out.
+as_nobody() {
+    [ "$(id -u)" = 0 ] || return 0
+    as_user=(setpriv --reuid=65534 --regid=65534 --clear-groups)
+    "${as_user[@]}" true || skip 'root runs this, and no other user may'
+    local folder
+    for folder in "$BATS_TEST_TMPDIR" "$BATS_TEST_TMPDIR/.." "$BATS_RUN_TMPDIR"; do
+        chmod a+x "$folder"
+    done
+    recu=$BATS_TEST_TMPDIR/recu
+    cp "$program" "$recu"
+    chmod 755 "$recu"
+}

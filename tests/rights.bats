@@ -1,0 +1,200 @@
+# What a refused command leaves alone, and the rights of what recu puts in place.
+
+load helpers
+
+teardown() {
+    [ -z "${holder-}" ] || kill "$holder"
+    [ -z "${mounted-}" ] || umount "$mounted"
+    chmod -R u+rwx "$BATS_TEST_TMPDIR"
+}
+
+# Only root can give files away, and run the program as another user: the cases that need that are left out for anyone else.
+as_other() {
+    [ "$(id -u)" = 0 ] || skip 'only root can give files away'
+    as_nobody
+    chmod 777 .
+}
+
+# is MODE:OWNER:GROUP FILE
+is() {
+    [ "$(stat -c %a:%u:%g "$2")" = "$1" ] || fail "$2 has $(stat -c %a:%u:%g "$2"), not $1"
+}
+
+# becomes OWNER GROUP MODE NEW: another user edits such a file, which has these rights then
+becomes() {
+    rm -f db.rec db.rec.journal
+    put db.rec "$three"
+    chown "$1:$2" db.rec
+    chmod "$3" db.rec
+    does recdel -n 0 db.rec
+    is "$4" db.rec
+    is "$4" db.rec.journal
+}
+
+@test "nobody gains rights where the group cannot be kept" {
+    as_other
+    becomes 65534 65534 660 660:65534:65534
+    becomes 65534 12345 660 600:65534:65534
+    becomes 65534 12345 640 600:65534:65534
+    becomes 65534 12345 664 644:65534:65534
+    becomes 65534 12345 666 666:65534:65534
+    becomes 65534 12345 604 600:65534:65534
+    becomes 65534 12345 644 644:65534:65534
+}
+
+@test "nobody gains rights where the owner cannot be kept" {
+    as_other
+    becomes 1234 65534 664 664:65534:65534
+    becomes 1234 65534 464 444:65534:65534
+    becomes 1234 12345 666 666:65534:65534
+}
+
+@test "root keeps the owner, the group and the mode" {
+    [ "$(id -u)" = 0 ] || skip 'only root can give files away'
+    put db.rec "$three"
+    chown 1234:12345 db.rec
+    chmod 660 db.rec
+    does recdel -n 0 db.rec
+    is 660:1234:12345 db.rec
+    is 660:1234:12345 db.rec.journal
+}
+
+# untouched WORD..: recu refuses to write, and neither the file nor a journal has changed
+untouched() {
+    recu 1 "$@"
+    tail -n 1 "$BATS_TEST_TMPDIR/err" | grep -qx 'recu: a file could not be read or written' || fail "$(cat "$BATS_TEST_TMPDIR/err")"
+    has db.rec "$three"
+    [ ! -e db.rec.journal ] && [ ! -e j ] || fail 'a journal was made'
+}
+
+says() {
+    grep -qxF "$1" "$BATS_TEST_TMPDIR/err" || fail "it says: $(cat "$BATS_TEST_TMPDIR/err")"
+}
+
+@test "what stands under the working name is not touched, and no journal is made" {
+    put db.rec "$three"
+    mkdir db.rec.new
+    untouched recdel -n 0 db.rec
+    says 'db.rec.new: not a regular file: left by another program? remove it'
+    rmdir db.rec.new
+    put other 'other'
+    ln -s other db.rec.new
+    untouched recdel -n 0 db.rec
+    says 'db.rec.new: not a regular file: left by another program? remove it'
+    has other 'other'
+    only db.rec db.rec.new other
+}
+
+@test "a working name that is too long" {
+    local name
+    name=$(printf '%0252d' 7)
+    put "$name" "$three"
+    recu 1 recdel -n 0 --journal j "$name"
+    says "$name.new: File name too long (os error 36)"
+    has "$name" "$three"
+    only "$name"
+}
+
+@test "another user's file in a sticky folder" {
+    as_other
+    mkdir d
+    chmod 1777 d
+    cd d
+    put db.rec "$three"
+    chown 1234:1234 db.rec
+    chmod 666 db.rec
+    untouched recdel -n 0 db.rec
+    says 'db.rec: Operation not permitted (os error 1)'
+    only db.rec
+    chown 65534 db.rec
+    does recdel -n 0 db.rec
+}
+
+@test "another user's leftover" {
+    as_other
+    put db.rec "$three"
+    put db.rec.new ''
+    chmod 600 db.rec.new
+    chmod 666 db.rec
+    untouched recdel -n 0 db.rec
+    says 'db.rec.new: Permission denied (os error 13): left by another program? remove it'
+    only db.rec db.rec.new
+}
+
+@test "a file that is a mount point" {
+    put db.rec "$three"
+    put other "$three"
+    mount --bind other db.rec 2> "$BATS_TEST_TMPDIR/mount" || skip "no mount can be made here: $(cat "$BATS_TEST_TMPDIR/mount")"
+    mounted=$PWD/db.rec
+    untouched recdel -n 0 db.rec
+    says "db.rec: a mount point, which can't be replaced"
+    only db.rec other
+    umount db.rec
+    mounted=
+    does recdel -n 0 db.rec
+}
+
+@test "a journal under the file's working name" {
+    put db.rec "$three"
+    untouched recdel -n 0 --journal ./db.rec.new db.rec
+    only db.rec
+    put db.rec.new "$header"
+    untouched recdel -n 0 --journal ./db.rec.new db.rec
+    has db.rec.new "$header"
+    only db.rec db.rec.new
+}
+
+@test "a working folder with a path of more than 4096 bytes" {
+    local name
+    name=$(printf '%0250d' 7)
+    for ((depth = 0; depth < 18; depth++)); do
+        mkdir "$name"
+        cd "$name"
+    done
+    put db.rec "$three"
+    does recdel -n 0 db.rec
+    has db.rec 'B: 2¶¶C: 3¶'
+    does undo db.rec
+    has db.rec "$three"
+    only db.rec db.rec.journal
+}
+
+@test "links that are not UTF-8" {
+    local name=$'db\xff.rec'
+    put "$name" "$three"
+    ln -s "$name" link
+    recu 1 recdel -n 0 link
+    says 'link: a symbolic link with a target that is not UTF-8'
+    has "$name" "$three"
+    only "$name" link
+}
+
+@test "a folder whose name is not UTF-8" {
+    mkdir $'d\xff'
+    cd $'d\xff'
+    put db.rec "$three"
+    does recdel -n 0 db.rec
+    has db.rec 'B: 2¶¶C: 3¶'
+}
+
+@test "a closed pipe" {
+    seq 200000 | sed 's/^/N: /' > db.rec
+    local statuses
+    "$recu" recsel db.rec 2> err 3>&- | head -n 1 > out
+    statuses=${PIPESTATUS[*]}
+    [ "$statuses" = '1 0' ] || fail "the statuses are $statuses"
+    has err "$store_failed"
+}
+
+@test "looking takes no lock, and waits for none" {
+    put db.rec "$three"
+    (exec 9< db.rec && flock 9 && : > held && exec sleep 60) 3>&- &
+    holder=$!
+    until [ -e held ]; do sleep 0.01; done
+    recu 0 recsel db.rec
+    recu 0 recfix db.rec
+    recu 1 recdel -n 0 db.rec
+    prints '' "db.rec: in use by another recu¶$store_failed"
+    has db.rec "$three"
+    only db.rec held
+}

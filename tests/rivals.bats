@@ -1,0 +1,270 @@
+# Several programs at once, and calls of the system that fail or at which the program ends: no edit is lost with status 0, and
+# what is refused has changed nothing. calls.c counts the calls of a run; a loop over their numbers ends with a run that has
+# no such call.
+
+load helpers
+
+setup_file() {
+    need_program
+    command -v cc > /dev/null || fail 'no C compiler to build calls.c with'
+    cc -O1 -shared -fPIC -o "$BATS_FILE_TMPDIR/calls.so" "$top/tests/calls.c" -ldl
+}
+
+teardown() {
+    chmod -R u+rwx "$BATS_TEST_TMPDIR"
+}
+
+edited='A: 9¶¶B: 2¶¶C: 3¶'
+
+# at NUMBER WHAT WORD..: recu with these words; what becomes of the call of this number is told in calls.c
+at() {
+    AT=$1 DO=$2 LD_PRELOAD=$BATS_FILE_TMPDIR/calls.so "$program" "${@:3}" > out 2> err 3>&-
+}
+
+# met: the last run had the call; the names in the folder are as before
+met() {
+    [ -e hit ] || return 1
+    call=$(cat hit)
+    rm -f hit paused go
+}
+
+no_leftovers() {
+    [ -z "$(find . -name '*.new')" ] || fail "call $number ($call): left behind:" *.new
+}
+
+wrong() {
+    fail "call $number ($call), status $status: $*" $'\n'"$(cat err)" $'\n'"$(cat -A db.rec 2>&1)"
+}
+
+# can_be_taken_back TEXT: each edit that stands is undone, and then the file has the text
+can_be_taken_back() {
+    local edits
+    edits=$("$program" history db.rec | grep -c '^done')
+    while [ "$edits" -gt 0 ]; do
+        "$program" undo db.rec > /dev/null || wrong 'an edit could not be taken back'
+        edits=$((edits - 1))
+    done
+    fast has db.rec "$1" || wrong "not the first text again"
+}
+
+# writers COUNT ROUNDS: as many programs at once put a record in
+writers() {
+    local round writer done=0 pids
+    put db.rec "$three"
+    rm -f db.rec.journal
+    for ((round = 0; round < $2; round++)); do
+        pids=()
+        for ((writer = 0; writer < $1; writer++)); do
+            "$program" recins -f N -v "$round.$writer" db.rec > out 2> "err.$writer" 3>&- &
+            pids+=($!)
+        done
+        for writer in "${!pids[@]}"; do
+            if wait "${pids[$writer]}"; then
+                done=$((done + 1))
+            elif ! tail -n 1 "err.$writer" | grep -qx 'recu: a file could not be read or written'; then
+                fail "a writer ended with another fault: $(cat "err.$writer")"
+            fi
+        done
+    done
+    [ "$(grep -c '^N: ' db.rec)" = "$done" ] || fail "$done edits were done, and the file has $(grep -c '^N: ' db.rec)"
+    [ "$("$program" history db.rec | grep -c '^done')" = "$done" ] || fail "$done edits were done: $("$program" history db.rec)"
+    number=0 call=none status=0
+    can_be_taken_back "$three"
+    no_leftovers
+}
+
+@test "two writers at once lose no edit" {
+    fast writers 2 160
+}
+
+@test "eight writers at once lose no edit" {
+    fast writers 8 40
+}
+
+# each_pause RIVAL JUDGE: a writer is held up at each of its calls, while a rival comes
+each_pause() {
+    local rival=$1 judge=$2 pid tries
+    for ((number = 1; number <= 1000; number++)); do
+        rm -rf db.rec db.rec.journal other rival.err hit paused go
+        put db.rec "$three"
+        at "$number" pause recset -n 0 -f A -S 9 db.rec &
+        pid=$!
+        for ((tries = 0; tries < 4000; tries++)); do
+            if [ -e paused ] || ! kill -0 "$pid" 2> /dev/null; then break; fi
+            sleep 0.002
+        done
+        if [ -e paused ]; then "$rival"; fi
+        : > go
+        status=0
+        wait "$pid" || status=$?
+        if ! met; then
+            [ "$number" -gt 10 ] || fail 'the writer was never held up'
+            return 0
+        fi
+        "$judge"
+        no_leftovers
+    done
+    fail 'no end'
+}
+
+another_recu() {
+    rival_status=0
+    "$program" recdel -n 1 db.rec > /dev/null 2> rival.err || rival_status=$?
+}
+
+both_stand() {
+    local wanted=$three
+    case $status/$rival_status in
+        0/0) wanted='A: 9¶¶C: 3¶' ;;
+        0/1) wanted=$edited ;;
+        1/0) wanted='A: 1¶¶C: 3¶' ;;
+    esac
+    fast has db.rec "$wanted" || wrong "the rival's status is $rival_status"
+    [ "$status/$rival_status" != 1/1 ] || wrong 'neither came through'
+    can_be_taken_back "$three"
+}
+
+@test "another recu edits the file meanwhile" {
+    fast each_pause another_recu both_stand
+}
+
+saved='A: 5¶¶X: 1¶'
+edited_save='A: 9¶¶X: 1¶'
+
+save() {
+    put db.rec "$saved"
+}
+
+save_by_rename() {
+    put other "$saved"
+    mv other db.rec
+}
+
+# Who saves between the last look of recu and its rename loses what he saved.
+save_stands() {
+    [ "$call" != rename ] || return 0
+    if fast has db.rec "$saved" 2> /dev/null; then return 0; fi
+    [ "$status" = 0 ] && fast has db.rec "$edited_save" || wrong 'what was saved is lost'
+}
+
+@test "another program writes the file meanwhile" {
+    fast each_pause save save_stands
+}
+
+@test "another program puts a file in its place meanwhile" {
+    fast each_pause save_by_rename save_stands
+}
+
+link() {
+    put other "$saved"
+    ln -sfn other db.rec
+}
+
+link_stands() {
+    [ "$call" != rename ] || return 0
+    [ -L db.rec ] || wrong 'the link is gone'
+    if fast has other "$saved" 2> /dev/null; then return 0; fi
+    [ "$status" = 0 ] && fast has other "$edited_save" || wrong 'what the link leads to was written'
+}
+
+@test "the file becomes a link meanwhile" {
+    fast each_pause link link_stands
+}
+
+remove() {
+    rm db.rec
+}
+
+stays_away() {
+    [ "$call" != rename ] || return 0
+    [ ! -e db.rec ] || wrong 'the file is there again'
+}
+
+@test "the file is removed meanwhile" {
+    fast each_pause remove stays_away
+}
+
+# each_call WHAT: the run's calls fail so in turn, or it ends at them
+each_call() {
+    for ((number = 1; number <= 1000; number++)); do
+        rm -rf db.rec db.rec.journal hit ./*.new
+        put db.rec "$three"
+        status=0
+        at "$number" "$1" recset -n 0 -f A -S 9 db.rec || status=$?
+        if ! met; then
+            [ "$number" -gt 10 ] || fail 'no call failed'
+            return 0
+        fi
+        whole "$1"
+    done
+    fail 'no end'
+}
+
+# The file is old or new, and what was done can be taken back.
+whole() {
+    if fast has db.rec "$three" 2> /dev/null; then
+        [ "$status" != 0 ] || wrong 'the edit is lost'
+        "$program" recset -n 0 -f A -S 9 db.rec > out 2> err || wrong 'the next edit is refused'
+    fi
+    fast has db.rec "$edited" || wrong 'neither the old text nor the new one'
+    [ "$1" = end ] || [ "$call" = unlink ] || no_leftovers
+    can_be_taken_back "$three"
+    [ "$call" = unlink ] || no_leftovers
+}
+
+@test "each call of the system fails" {
+    fast each_call 5
+}
+
+@test "there is no room at each call of the system" {
+    fast each_call 28
+}
+
+@test "the program ends at each call of the system" {
+    fast each_call end
+}
+
+# sync_fails NUMBER ERROR: the sync of this number fails so; the second and the fourth are those of the folder
+sync_fails() {
+    rm -rf db.rec db.rec.journal hit
+    put db.rec "$three"
+    status=0 call=fsync number=$1
+    ONLY=fsync at "$1" "$2" recset -n 0 -f A -S 9 db.rec || status=$?
+    [ -e hit ] || fail "there is no sync $1"
+}
+
+@test "a folder that cannot be synced" {
+    local number
+    for number in 2 4; do
+        sync_fails "$number" 22
+        [ "$status" = 0 ] || wrong 'it is a failure'
+        fast has db.rec "$edited" || wrong 'the edit is lost'
+        sync_fails "$number" 95
+        [ "$status" = 0 ] || wrong 'it is a failure'
+    done
+    sync_fails 4 5
+    [ "$status" = 1 ] || wrong 'it is no failure'
+    grep -q '^db.rec: the edit is done, but its folder could not be synced, so a power cut may undo it: ' err || wrong 'it says something else'
+    fast has db.rec "$edited" || wrong 'the edit is lost'
+    can_be_taken_back "$three"
+}
+
+@test "two files with one journal" {
+    local pid
+    for ((number = 1; number <= 1000; number++)); do
+        rm -rf db.rec other.rec j hit paused go
+        put db.rec "$three"
+        put other.rec 'X: 1¶¶Y: 2¶'
+        at "$number" pause recset -n 0 -f A -S 9 --journal j db.rec &
+        pid=$!
+        until [ -e paused ] || ! kill -0 "$pid" 2> /dev/null; do sleep 0.002; done
+        rival_status=0
+        "$program" recdel -n 1 --journal j other.rec > /dev/null 2> rival.err || rival_status=$?
+        : > go
+        status=0
+        wait "$pid" || status=$?
+        met || return 0
+        [ "$(grep -c '^Kind: edit' j)" -ge $(((status == 0) + (rival_status == 0))) ] || wrong "an event is lost, the rival's status is $rival_status"
+        no_leftovers
+    done
+}

@@ -85,7 +85,7 @@ growth() {
 }
 
 all() {
-    echo 'test.sh: all parts take 70 to 110 minutes on 4 processors, nearly all of it for the proofs (250 to 330 processor minutes)'
+    echo 'test.sh: all parts take some 90 to 150 minutes on 4 processors, nearly all of it for the proofs (300 to 400 processor minutes, reckoned)'
     echo 'test.sh: the parts program, memory and growth take a minute or two each, once the proofs have built what they run'
     proofs
     program

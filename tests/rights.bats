@@ -59,6 +59,38 @@ becomes() {
     is 660:1234:12345 db.rec.journal
 }
 
+# attributes WORD..: sets or tells what a file has beside its mode, by attributes.c
+attributes() {
+    if [ ! -x "$BATS_FILE_TMPDIR/attributes" ]; then
+        command -v cc > /dev/null || fail 'no C compiler to build attributes.c with'
+        cc -O1 -o "$BATS_FILE_TMPDIR/attributes" "$top/tests/attributes.c"
+    fi
+    "$BATS_FILE_TMPDIR/attributes" "$@"
+}
+
+# What the library can't reach is not kept, as the documents say. Its group's rights come back with the loss of the list.
+@test "an access control list is not kept, and the mode is" {
+    put db.rec "$three"
+    chmod 600 db.rec
+    attributes db.rec shield 2> "$BATS_TEST_TMPDIR/why" || skip "no access control list here: $(cat "$BATS_TEST_TMPDIR/why")"
+    is "660:$(id -u):$(id -g)" db.rec
+    [ "$(attributes db.rec)" = system.posix_acl_access ] || fail 'the file has no list'
+    does recdel -n 0 db.rec
+    is "660:$(id -u):$(id -g)" db.rec
+    [ -z "$(attributes db.rec)" ] || fail "the new file has $(attributes db.rec)"
+    does undo db.rec
+    has db.rec "$three"
+}
+
+@test "an extended attribute is not kept" {
+    put db.rec "$three"
+    attributes db.rec user.origin 'a list' 2> "$BATS_TEST_TMPDIR/why" || skip "no extended attributes here: $(cat "$BATS_TEST_TMPDIR/why")"
+    recu 0 recsel db.rec
+    [ "$(attributes db.rec)" = user.origin ] || fail 'the attribute has gone though nothing was written'
+    does recdel -n 0 db.rec
+    [ -z "$(attributes db.rec)" ] || fail "the new file has $(attributes db.rec)"
+}
+
 # untouched WORD..: recu refuses to write, and neither the file nor a journal has changed
 untouched() {
     recu 1 "$@"

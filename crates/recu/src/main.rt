@@ -1,27 +1,12 @@
 //! The program. It runs the request of the command line on a file and its journal, and says what was refused.
 #![tactic(auto)]
 
-mod access;
-mod args;
-mod causes;
-mod claim;
-mod files;
-mod held;
-mod hints;
-mod links;
-mod options;
 mod output;
-mod pair;
-mod paths;
-mod reading;
-mod rights;
-mod spot;
 mod status;
 
-use access::access_of;
-use args::Asked;
-use files::FileHome;
 use output::StandardOutput;
+use rec_command::Asked;
+use rec_files::{FileHome, access_of};
 use rec_tools::{Fault, Output, Reply};
 use std::process::ExitCode;
 use std::rt::Runtime;
@@ -39,13 +24,13 @@ fn main(rt: HostRuntime) -> ExitCode {
 
 /// The answer to the command line, or nothing where it asked for help, which is shown then.
 fn answer(rt: &HostRuntime) -> Option<Result<Reply, Fault>> {
-    let words = match args::words(rt) {
+    let words = match rec_command::words(rt) {
         Ok(words) => words,
         Err(fault) => return Some(Err(fault)),
     };
-    match args::request_of(rt.alloc(), words.as_slice()) {
+    match rec_command::request_of(rt.alloc(), words.as_slice()) {
         Ok(asked) => Some(run(rt, asked)),
-        Err(fault) => match args::explain(rt, words.as_slice()) {
+        Err(fault) => match rec_command::explain(rt, words.as_slice()) {
             Ok(true) => None,
             Ok(false) => Some(Err(fault)),
             Err(error) => {

@@ -1,0 +1,124 @@
+//! Why a file could not be read or written, in the program's own words where the system has none.
+ghost use Rattle.std.specs.Prelude.{◌≡◌, Err, IfErr, is_ok};
+
+use rec_tools::Which;
+use std::io::{Error, ErrorKind};
+
+/// Which of the two failed, and why.
+#[derive(Clone, Copy)]
+pub struct Failure {
+    pub which: Which,
+    pub cause: Cause,
+}
+
+/// What is told with the error, and of which path.
+#[derive(Clone, Copy)]
+pub enum Cause {
+    /// Of the path as it was given.
+    Itself(Error),
+    /// Its working name can't be made.
+    Working(Error),
+    /// What stands under its working name is in the way.
+    Leftover(Error),
+    /// It was replaced, and then its folder could not be synced.
+    Unsynced(Error),
+}
+
+impl From<Error> for Cause {
+    ghost use Rattle.std.specs.Prelude.{◌≡◌};
+    ghost use Rattle.rec_files.specs.declared.causes.Cause.TheVariants.{Itself};
+
+    ghost from_gives = { λ error cause. cause ≡ Itself error };
+
+    fn from(error: Error) -> Cause {
+        Cause::Itself(error)
+    }
+}
+
+/// What an answer tells of the file or of the journal.
+pub fn told_of(which: Which, answer: Result<(), Cause>) -> Result<(), Failure>
+    ensures well { is_ok result ≡ is_ok answer }
+    ensures failure { IfErr result (λ failure. (failure.which ≡ which) × (answer ≡ Err failure.cause)) }
+{
+    match answer {
+        Ok(()) => Ok(()),
+        Err(cause) => Err(Failure { which, cause }),
+    }
+}
+
+pub fn not_regular() -> Error {
+    Error::other("not a regular file")
+}
+
+pub fn one_file() -> Error {
+    Error::other("the file and its journal are one file")
+}
+
+/// One of the two stands where the other is written before it takes its place.
+pub fn clash() -> Error {
+    Error::other("the file or its journal stands under the working name of the other")
+}
+
+pub fn too_long(which: Which) -> Error {
+    match which {
+        Which::Base => Error::other("more than 1073741824 bytes"),
+        Which::Journal => Error::other(
+            "more than 1073741824 bytes: shorten the journal, or move it away",
+        ),
+    }
+}
+
+/// A content is replaced that was not read.
+pub fn unread() -> Error {
+    Error::other("not read before")
+}
+
+pub fn mount_point() -> Error {
+    Error::other("a mount point, which can't be replaced")
+}
+
+/// The system's words for what only the owner may do.
+pub fn not_permitted() -> Error {
+    Error::from_raw_os_error(1)
+}
+
+/// A link leads to nothing.
+pub fn not_found() -> Error {
+    Error::from_raw_os_error(2)
+}
+
+/// More links in a row than are followed.
+pub fn too_many_links() -> Error {
+    Error::from_raw_os_error(40)
+}
+
+/// Its working name is held by another program.
+pub fn in_use() -> Error {
+    Error::other("in use: another program is writing it")
+}
+
+/// Another recu edits it.
+pub fn locked() -> Error {
+    Error::other("in use by another recu")
+}
+
+pub fn changed() -> Error {
+    Error::other("changed by another program meanwhile")
+}
+
+/// What was there has gone, or is there again: another program came first.
+pub fn overtaken(error: Error) -> Error {
+    match error.kind() {
+        ErrorKind::NotFound | ErrorKind::AlreadyExists => in_use(),
+        _ => error,
+    }
+}
+
+/// The link's target is no text that can be followed.
+pub fn of_link(error: Error) -> Error {
+    if error.kind() == ErrorKind::InvalidFilename && error.raw_os_error().is_none() {
+        Error::other("a symbolic link with a target that is not UTF-8")
+    } else {
+        error
+    }
+}

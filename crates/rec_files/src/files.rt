@@ -1,0 +1,213 @@
+//! The home of real files. A request that only looks reads them as they stand; one that may write holds them locked.
+//! What opens files stands in `spot`, `held`, `claim`, `rights` and `links`; standard input is read here alone.
+ghost use Rattle.std.specs.Prelude.{◌≡◌, ◌≤◌, ◌↔◌, [], length, IsTrue, IsNone, None, Some, OnOk, option_map, string_bytes, unwrap_or};
+ghost use Rattle.std.specs.IoError.{error_kind, raw_os_error};
+ghost use Rattle.rec_text.specs.Sink.{one_more};
+ghost use Rattle.rec_tools.specs.Home.{Counts};
+ghost use Rattle.rec_files.specs.Files.{path_of};
+
+use crate::access::Access;
+use crate::causes::{Cause, Failure, not_regular, one_file};
+use crate::held::are_one;
+use crate::pair::Pair;
+use crate::reading::{LIMIT, read_rest, read_whole};
+use crate::spot::may_be_missing;
+use rec_tools::{Bytes, Fault, Home, Which};
+use std::alloc::Global;
+use std::fs::File;
+use std::io::{Error, ErrorKind};
+use std::rt::Files;
+use std::{fs, io};
+
+/// A file and its journal on disk. It keeps the last failure, for `explain`.
+#[derive(Drop)]
+pub struct FileHome<'r, R> {
+    rt: &'r R,
+    /// Standard input, where it is missing.
+    base: Option<String>,
+    journal: String,
+    access: Access,
+    /// What is held, where the request may write.
+    pair: Pair,
+    failed: u64,
+    failure: Option<Failure>,
+}
+
+impl<'r, R: Files<File = File> + Input + AllocGlobal> FileHome<'r, R> {
+    /// Where no file is given, standard input is read in its place, once. A journal that isn't given has the empty path,
+    /// which names nothing.
+    pub fn new(
+        rt: &'r R,
+        file: Option<String>,
+        journal: Option<String>,
+        access: Access,
+    ) -> FileHome<'r, R>
+        ensures file { result.base ≡ file }
+        ensures journal { string_bytes result.journal ≡ unwrap_or (option_map string_bytes journal) [] }
+        ensures access { result.access ≡ access }
+        ensures sound { result.failed ≡ 0 }
+    {
+        FileHome {
+            rt,
+            base: file,
+            journal: journal.unwrap_or(String::new(rt.alloc())),
+            access,
+            pair: Pair::new(),
+            failed: 0,
+            failure: None,
+        }
+    }
+
+    /// Says on standard error which path failed last, and why.
+    pub fn explain(&self, err: &impl Eprint) -> io::Result<()> {
+        let Some(failure) = self.failure else {
+            return Ok(());
+        };
+        let name = match failure.which {
+            Which::Base if self.base.is_none() => "standard input",
+            which => self.path(which),
+        };
+        let working = self.pair.working(failure.which).unwrap_or(name);
+        match failure.cause {
+            Cause::Itself(error) => eprintln!(err; "{name}: {error}"),
+            Cause::Working(error) => eprintln!(err; "{working}: {error}"),
+            Cause::Leftover(error) => {
+                eprintln!(err; "{working}: {error}: left by another program? remove it")
+            }
+            Cause::Unsynced(error) => {
+                let what =
+                    "the edit is done, but its folder could not be synced, so a power cut may undo it";
+                eprintln!(err; "{name}: {what}: {error}")
+            }
+        }
+    }
+
+    /// Removes what was made to be put in place and was not.
+    pub fn let_go(&mut self) {
+        self.pair.let_go(self.rt);
+    }
+
+    fn path(&self, which: Which) -> &str
+        ensures { result.now ≡ path_of (option_map string_bytes self.now.base) (string_bytes self.now.journal) which }
+    {
+        path_in(&self.base, &self.journal, which)
+    }
+
+    fn fail(&mut self, failure: Failure) -> Fault
+        ensures fault { result ≡ Fault.StoreFailed }
+        ensures counted { self.old.failed ≤ self.new.failed }
+        ensures once { self.new.failed ≡ one_more self.old.failed }
+        ensures noted { self.new.failure ≡ Some failure }
+    {
+        self.failed = self.failed.saturating_add(1);
+        self.failure = Some(failure);
+        Fault::StoreFailed
+    }
+
+    fn bytes_of(&mut self, alloc: Global, which: Which) -> io::Result<Vec<u8>>
+        ensures { self.new.failed ≡ self.old.failed }
+    {
+        if which == Which::Base && self.base.is_none() {
+            return read_rest(which, Vec::new(alloc), self.rt.reader());
+        }
+        match self.access {
+            Access::Look => self.look_at(alloc, which),
+            Access::Change => self.take(alloc, which),
+        }
+    }
+
+    /// Opens, locks and reads.
+    fn take(&mut self, alloc: Global, which: Which) -> io::Result<Vec<u8>>
+        ensures { self.new.failed ≡ self.old.failed }
+    {
+        let path = path_in(&self.base, &self.journal, which);
+        self.pair.read(self.rt, alloc, which, path)
+    }
+
+    /// Reads without a lock.
+    fn look_at(&self, alloc: Global, which: Which) -> io::Result<Vec<u8>> {
+        let path = self.path(which);
+        match open(self.rt, which, path) {
+            Ok(file) if self.is_base(which, &file)? => Err(one_file()),
+            Ok(file) => read_whole(alloc, which, &file),
+            Err(error) if which == Which::Journal && may_be_missing(path, &error) => {
+                Ok(Vec::new(alloc))
+            }
+            Err(error) => Err(error),
+        }
+    }
+
+    /// Whether the journal is the file itself, under another path.
+    fn is_base(&self, which: Which, file: &File) -> io::Result<bool> {
+        match (which, &self.base) {
+            (Which::Journal, Some(path)) => Ok(are_one(
+                &fs::metadata(self.rt, path.as_str())?,
+                &file.metadata()?,
+            )),
+            _ => Ok(false),
+        }
+    }
+}
+
+impl<'r, R: Files<File = File> + Input + AllocGlobal> Home for FileHome<'r, R> {
+    ghost contents = { λ home. None };
+
+    ghost failure_count = { λ home. home.failed };
+
+    ghost goes = { λ old call new. Counts old.failed call new.failed };
+
+    ghost follows = { λ old new call h. tt };
+
+    ghost counts = { λ old new call h. h };
+
+    fn read(&mut self, alloc: Global, which: Which) -> Result<Bytes, Fault> {
+        match self.bytes_of(alloc, which) {
+            Ok(bytes) => Ok(Bytes::from_vec(bytes)),
+            Err(error) if is_want_of_memory(&error) => Err(Fault::OutOfMemory),
+            Err(error) => Err(self.fail(Failure {
+                which,
+                cause: Cause::Itself(error),
+            })),
+        }
+    }
+
+    fn replace(&mut self, which: Which, bytes: &[u8]) -> Result<(), Fault> {
+        match self.pair.put(self.rt, which, bytes) {
+            Ok(()) => Ok(()),
+            Err(failure) => {
+                self.pair.let_go(self.rt);
+                Err(self.fail(failure))
+            }
+        }
+    }
+
+    fn failures(&self) -> u64 {
+        self.failed
+    }
+}
+
+/// The path of the file or of its journal; standard input has none.
+fn path_in<'p>(file: &'p Option<String>, journal: &'p String, which: Which) -> &'p str
+    ensures { result.now ≡ path_of (option_map string_bytes file.now) (string_bytes journal.now) which }
+{
+    match (which, file) {
+        (Which::Base, Some(path)) => path.as_str(),
+        (Which::Base, None) => "",
+        (Which::Journal, _) => journal.as_str(),
+    }
+}
+
+/// Memory was refused here, and not in the system.
+fn is_want_of_memory(error: &Error) -> bool
+    ensures { IsTrue result ↔ ((error_kind error.now ≡ ErrorKind.OutOfMemory) × IsNone (raw_os_error error.now)) }
+{
+    error.kind() == ErrorKind::OutOfMemory && error.raw_os_error().is_none()
+}
+
+/// Opens a file to read it. A journal is one of recu's own files, so it is no pipe that keeps a reader waiting.
+fn open<R: Files<File = File>>(rt: &R, which: Which, path: &str) -> io::Result<File> {
+    if which == Which::Journal && !fs::metadata(rt, path)?.is_file() {
+        return Err(not_regular());
+    }
+    File::open(rt, path)
+}

@@ -1,0 +1,32 @@
+//! The paths of a file and its journal, and the names under which they are written.
+ghost use Rattle.std.specs.Prelude.{◌≡◌, true, false, IfOk, string_bytes, option_map};
+ghost use Rattle.rec_files.specs.Paths.{AreApart, journal_of, working_name};
+
+use std::alloc::{AllocError, Global};
+
+/// The path of a file's journal.
+pub fn journal_path(alloc: Global, file: &str, given: Option<&str>) -> Result<String, AllocError>
+    ensures { IfOk result (λ path. string_bytes path ≡ journal_of file.now (option_map (λ path. path.now) given.entry)) }
+{
+    match given {
+        Some(path) => String::from_str(alloc, path),
+        None => format!(in alloc; "{file}.journal"),
+    }
+}
+
+/// The name under which a file is written.
+pub fn beside(alloc: Global, path: &str) -> Result<String, AllocError>
+    ensures { IfOk result (λ name. string_bytes name ≡ working_name path.now) }
+{
+    format!(in alloc; "{path}.new")
+}
+
+/// Whether a file and a journal have two paths, and neither stands where the other is written.
+pub fn are_apart(alloc: Global, file: &str, journal: &str) -> Result<bool, AllocError>
+    ensures apart { IfOk result (λ apart. apart ≡ true → AreApart file.now journal.now) }
+    ensures clash { IfOk result (λ apart. apart ≡ false → ¬ AreApart file.now journal.now) }
+{
+    let file_beside = beside(alloc, file)?;
+    let journal_beside = beside(alloc, journal)?;
+    Ok(journal != file && journal != file_beside.as_str() && file != journal_beside.as_str())
+}

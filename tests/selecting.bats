@@ -37,6 +37,18 @@ selects() {
     each selects expressions.rows
 }
 
+@test "patterns of thousands of bytes, and patterns that are nested deeply" {
+    local long opening closing
+    put db.rec 'A: x¶'
+    printf -v long 'x%.0s' {1..20000}
+    shows '0¶' recsel -c -e "A ~ '$long'"
+    printf -v long '|word%d' {1..2000}
+    shows '1¶' recsel -c -e "A ~ '^(x$long)$'"
+    printf -v opening '(%.0s' {1..200}
+    printf -v closing ')%.0s' {1..200}
+    shows '1¶' recsel -c -e "A ~ '^${opening}x$closing$'"
+}
+
 @test "a value of the manual's book" {
     put db.rec <<'REC'
 # -*- mode: rec -*-

@@ -9,6 +9,8 @@ use Rattle.rec_check.specs.Automatic.{IsAutomatic, last_integer}
 use Rattle.rec_check.specs.Rules.{Rules, no_rules}
 use Rattle.rec_check.specs.Schemas.{Described}
 use Rattle.rec_check.specs.Types.{integer, truth}
+use Rattle.rec_check.specs.Meanings.{meaning_in}
+use Rattle.rec_check.specs.Resolving.{is_known_kind}
 use Rattle.rec_check.proofs.CounterLemmas.{greatest_is}
 use Rattle.rec_check.proofs.SetLemmas.{set_of}
 use Rattle.rec_edit.specs.Script.{hunks_of}
@@ -136,7 +138,7 @@ at_four = codes "%rec: P\n%auto: Id\n%type: Id int\n\nId: 4\n\nId: -7\nId: x\n"
 
 -- one more than the greatest, whichever record has it, and texts that are no integers don't count
 next_of_four : IsAutomatic (elements at_four) (described (elements at_four) counting) 1 id (Ok (pos 5))
-unfolding runs_from narrowed_from
+unfolding runs_from narrowed_from meaning_in is_known_kind
 next_of_four = record {
   records = records_of (elements at_four);
   are = AreRecords-records_of (elements at_four);
@@ -271,6 +273,7 @@ lacked = refl
 
 -- a field of another type is no counter
 no_counter : AreFilled (elements some_lack) (record untyped_counting { types = record { place = 2; names = id ∷ []; kind = codes "bool"; type_ = truth } ∷ [] }) (λ name. []) (range 3 4 ∷ []) (Err AutoImpossible)
+unfolding meaning_in is_known_kind
 no_counter = inl (AutoImpossible, inl (AutoImpossible, inl refl, refl), refl)
 
 -- a negative number counts, and a record that gets one is the last line without newline

@@ -13,6 +13,7 @@ use Rattle.rec_check.specs.Schemas.{Described, IsRuled, IsSchema}
 use Rattle.rec_check.specs.Sets.{AreFrom, IsUntypedFirst}
 use Rattle.rec_check.specs.Violations.{violation, names_of, is_allowed, allowed_violations, breaks_type, type_violations, line_at, members, AreOfRecord, AreOfRecords, AreOfSet, AreOfSets, AreViolations}
 use Rattle.rec_check.specs.Words.{distinct}
+use Rattle.rec_check.proofs.UnresolvedLemmas.{head_violations-none}
 use Rattle.rec_edit.specs.Task.{Task}
 use Rattle.rec_edit.specs.Script.{new_pieces, edited_text}
 use Rattle.rec_edit.specs.Effect.{AreEntries}
@@ -51,8 +52,10 @@ no_violations : (pieces : List Piece) (earlier : List (List Piece)) (records : L
 no_violations pieces earlier [] = refl
 no_violations pieces earlier (record_ ∷ records) = ([], [], no_violation pieces earlier record_, no_violations pieces (earlier ++ elements_in pieces record_ ∷ []) records, refl)
 
-none_of_set : (pieces : List Piece) (records : List (Range ℕ)) (s : Set_) → AreOfSet pieces records s no_rules []
-none_of_set pieces records s = ([], no_violations pieces [] (members records s), refl)
+-- which no descriptor begins
+none_of_set : (pieces : List Piece) (records : List (Range ℕ)) (s : Set_) → s.head ≡ None → AreOfSet pieces records s no_rules []
+none_of_set pieces records s headless =
+    ([], no_violations pieces [] (members records s), sym (ap (λ found. found ++ []) (head_violations-none pieces records no_rules s headless refl)))
 
 -- ---- a text without a descriptor
 
@@ -73,8 +76,9 @@ none_of_sets pieces records (s ∷ t ∷ sets) rules one untyped from ruled = le
 none_of_sets pieces records (s ∷ []) [] one untyped from ruled = absurd ruled
 none_of_sets pieces records (s ∷ []) (a ∷ b ∷ rules) one untyped from ruled = absurd ruled.1
 none_of_sets pieces records (s ∷ []) (a ∷ []) one untyped from ruled =
-    let bare : a ≡ no_rules = bare_rules pieces records a s.head (no_head s.kind s.head s.members.start 0 untyped.0 from.0.1) ruled.0 in
-    let own : AreOfSet pieces records s a [] = subst (λ rules. AreOfSet pieces records s rules []) (sym bare) (none_of_set pieces records s) in
+    let headless : s.head ≡ None = no_head s.kind s.head s.members.start 0 untyped.0 from.0.1 in
+    let bare : a ≡ no_rules = bare_rules pieces records a s.head headless ruled.0 in
+    let own : AreOfSet pieces records s a [] = subst (λ rules. AreOfSet pieces records s rules []) (sym bare) (none_of_set pieces records s headless) in
     ([], [], own, refl, refl)
 
 pub unruled_text_breaks_none : (pieces : List Piece) (schema : Described) → IsSchema pieces (Ok schema) → length schema.sets ≡ 1 → AreViolations pieces schema []

@@ -3,7 +3,7 @@ use rec_select::Selection;
 use rec_text::Bytes;
 
 /// What is done to the fields that a list picks of a record.
-#[derive(Debug, Drop)]
+#[derive(Drop)]
 pub enum Action {
     /// Each gets this value.
     Set(Bytes),
@@ -20,14 +20,14 @@ pub enum Action {
 }
 
 /// A field of a new record.
-#[derive(Debug, Drop)]
+#[derive(Drop)]
 pub struct Pair {
     pub name: Bytes,
     pub value: Bytes,
 }
 
 /// A new record.
-#[derive(Debug, Drop)]
+#[derive(Drop)]
 pub enum NewRecord {
     /// Its fields, in order.
     Pairs(Vec<Pair>),

@@ -1,5 +1,5 @@
 -- Texts put to a sink one after another, and what a call puts out that prints a text.
-use Rattle.std.proofs.Common.{◌≡◌, ◌⊎◌, inl, inr, ℕ, ◌+◌, ◌≤◌, List, [], ◌++◌, Option, Result, Ok, Err, length, length-append, take, refl, sym, subst, ◌∙◌, arith}
+use Rattle.std.proofs.Common.{◌≡◌, ◌⊎◌, inl, inr, ℕ, ◌+◌, ◌≤◌, List, [], ◌++◌, Option, Result, Ok, Err, length, length-append, take, refl, ap, sym, subst, ◌∙◌, arith}
 use Rattle.std.proofs.lemmas.List.{take-append-le, take_all}
 use Rattle.std.proofs.Math.Seq.{take-append-add}
 use Rattle.std.proofs.KnownBytes.{Appends-nil, Appends-trans}
@@ -9,7 +9,7 @@ use Rattle.rec_text.specs.declared.fault.Fault.{Fault}
 use Rattle.rec_text.specs.declared.fault.Fault.TheVariants.{OutOfMemory, StoreFailed}
 use Rattle.rec_text.specs.Sink.{AppendsFront, HasRisen, KeptAtSuccess, RisenAtStoreFailed, UnlessStoreFailed}
 use Rattle.rec_select.specs.Printing.{Puts}
-use Rattle.rec_select.specs.Taken.{HasTaken, HasStopped, Prints}
+use Rattle.rec_select.specs.Taken.{HasTaken, HasStopped, Prints, SaysFailures}
 
 -- ---- fronts
 
@@ -50,7 +50,7 @@ HasTaken-append {old} {mid} {new} {x} {y} {z} {a} {b} first next =
 -- the first text is taken, and the next one stops
 pub HasStopped-append : {old mid new : Option (List ℕ)} {x y z : ℕ} {a b : List ℕ} {fault : Fault} → HasTaken a old mid x y → HasStopped b mid new y z fault → HasStopped (a ++ b) old new x z fault
 HasStopped-append {old} {mid} {new} {x} {y} {z} {a} {b} {fault} first next =
-    let P : ℕ → Type 0 = λ n. (fault ≡ OutOfMemory) ⊎ ((fault ≡ StoreFailed) × HasRisen n z) in
+    let P : ℕ → Type 0 = λ n. ((fault ≡ OutOfMemory) × (z ≡ n)) ⊎ ((fault ≡ StoreFailed) × HasRisen n z) in
     record {
       front = AppendsFront-behind old mid new a b first.whole next.front;
       counted = omega (arith, first.sound, next.counted);
@@ -70,7 +70,7 @@ HasStopped-within text rest parts first next = HasStopped-as (sym parts) (HasSto
 -- memory runs out behind a text that is taken
 pub HasStopped-memory : {old new : Option (List ℕ)} {before after : ℕ} {fault : Fault} {a : List ℕ} → HasTaken a old new before after → fault ≡ OutOfMemory → HasStopped a old new before after fault
 HasStopped-memory {old} {new} {a = a} taken e =
-    record { front = AppendsFront-whole old new a taken.whole; counted = omega (arith, taken.sound); cause = inl e }
+    record { front = AppendsFront-whole old new a taken.whole; counted = omega (arith, taken.sound); cause = inl (e, taken.sound) }
 
 -- the sink fails in a text
 pub HasStopped-failed : {old new : Option (List ℕ)} {before after : ℕ} {fault : Fault} {a : List ℕ}
@@ -112,7 +112,7 @@ module _ {X : Type 0} (text : List ℕ) (old new : Option (List ℕ)) (before af
   Puts-prints IsText is (Ok done) taken = (text, is, taken.whole)
   Puts-prints IsText is (Err fault) stopped =
       let P : Fault → Type 0 = λ f. Puts {X = X} IsText old new (Err f) in
-      elim stopped.cause [ inl e ↦ subst P (sym e) (inr (text, is, stopped.front)) | inr e ↦ subst P (sym e.0) (text, is, stopped.front) ]
+      elim stopped.cause [ inl e ↦ subst P (sym e.0) (inr (text, is, stopped.front)) | inr e ↦ subst P (sym e.0) (text, is, stopped.front) ]
 
   pub counted-prints : (r : Result X Fault) → Prints text old new before after r → before ≤ after
   counted-prints (Ok done) taken = omega (arith, taken.sound)
@@ -122,10 +122,14 @@ module _ {X : Type 0} (text : List ℕ) (old new : Option (List ℕ)) (before af
   kept-prints (Ok done) taken = taken.sound
   kept-prints (Err fault) stopped = tt
 
+  pub told-prints : (r : Result X Fault) → Prints text old new before after r → SaysFailures before after r
+  told-prints (Ok done) taken = inr taken.sound
+  told-prints (Err fault) stopped = elim stopped.cause [ inl e ↦ inr e.1 | inr e ↦ inl (ap Err e.0) ]
+
   pub store_failed-prints : (r : Result X Fault) → Prints text old new before after r → RisenAtStoreFailed before after r
   store_failed-prints (Ok done) taken is = cc
-  store_failed-prints (Err fault) stopped is = elim stopped.cause [ inl e ↦ absurd (not_memory {X = X} fault (Err fault) refl e is) | inr e ↦ e.1 ]
+  store_failed-prints (Err fault) stopped is = elim stopped.cause [ inl e ↦ absurd (not_memory {X = X} fault (Err fault) refl e.0 is) | inr e ↦ e.1 ]
 
   pub refusals-prints : (r : Result X Fault) → Prints text old new before after r → IfErr r (λ fault. (fault ≡ OutOfMemory) ⊎ (fault ≡ StoreFailed))
   refusals-prints (Ok done) taken = tt
-  refusals-prints (Err fault) stopped = elim stopped.cause [ inl e ↦ inl e | inr e ↦ inr e.0 ]
+  refusals-prints (Err fault) stopped = elim stopped.cause [ inl e ↦ inl e.0 | inr e ↦ inr e.0 ]

@@ -10,7 +10,7 @@ ghost use Rattle.rec_select.specs.declared.records.Shape.TheVariants.{Blocks};
 ghost use Rattle.rec_select.specs.Heads.{AreHeads};
 ghost use Rattle.rec_select.specs.Info.{IsInfo, count_line, name_line, info, sets_for};
 ghost use Rattle.rec_select.specs.Printing.{Puts, block_of};
-ghost use Rattle.rec_select.specs.Taken.{Prints};
+ghost use Rattle.rec_select.specs.Taken.{Prints, SaysFailures};
 
 use crate::excerpt::Excerpt;
 use crate::parts::put_parts;
@@ -20,7 +20,7 @@ use rec_text::{Database, Fault, Sink, put_all};
 use std::slice;
 
 /// What is printed of each set.
-#[derive(Clone, Copy, Debug, PartialEq, Eq)]
+#[derive(Clone, Copy)]
 pub enum InfoForm {
     /// How many records it holds, and its type.
     Counts,
@@ -149,6 +149,7 @@ pub fn write_info<S: Sink>(
     ensures printed { Puts (IsInfo database.now (described schema.now).sets (option_map (λ kind. kind.now) kind.entry) form) (S.contents out.old) (S.contents out.new) result }
     ensures counted { S.failure_count out.old ≤ S.failure_count out.new }
     ensures kept { KeptAtSuccess (S.failure_count out.old) (S.failure_count out.new) result }
+    ensures told { SaysFailures (S.failure_count out.old) (S.failure_count out.new) result }
     ensures store_failed { RisenAtStoreFailed (S.failure_count out.old) (S.failure_count out.new) result }
     ensures refusals { IfErr result (λ fault. (fault ≡ Fault.NoSuchType) ⊎ (fault ≡ Fault.StoreFailed)) }
 {

@@ -7,7 +7,7 @@ ghost use Rattle.rec_text.specs.Sink.{KeptAtSuccess, RisenAtStoreFailed};
 ghost use Rattle.rec_select.specs.Selection.{record_at};
 ghost use Rattle.rec_select.specs.Blocks.{behind, full, separated};
 ghost use Rattle.rec_select.specs.Printing.{AreIndexes, IsPrinted, Puts, block_of, number_line};
-ghost use Rattle.rec_select.specs.Taken.{Prints};
+ghost use Rattle.rec_select.specs.Taken.{Prints, SaysFailures};
 
 use crate::block::Block;
 use crate::excerpt::Excerpt;
@@ -112,6 +112,7 @@ pub fn write_records<S: Sink>(
     ensures printed { Puts (IsPrinted database.now selected.now shape.now collapse) (S.contents out.old) (S.contents out.new) result }
     ensures counted { S.failure_count out.old ≤ S.failure_count out.new }
     ensures kept { KeptAtSuccess (S.failure_count out.old) (S.failure_count out.new) result }
+    ensures told { SaysFailures (S.failure_count out.old) (S.failure_count out.new) result }
     ensures store_failed { RisenAtStoreFailed (S.failure_count out.old) (S.failure_count out.new) result }
     ensures refusals { IfErr result (λ fault. (fault ≡ Fault.OutOfMemory) ⊎ (fault ≡ Fault.StoreFailed)) }
 {

@@ -3,7 +3,7 @@ ghost use Rattle.std.specs.Prelude.{◌∷◌, ◌++◌, ◌≤◌, [], codes};
 ghost use Rattle.rec_text.specs.Sink.{KeptAtSuccess, RisenAtStoreFailed, UnlessStoreFailed};
 ghost use Rattle.rec_select.specs.Printing.{Puts};
 ghost use Rattle.rec_select.specs.Report.{IsReport, report, report_line};
-ghost use Rattle.rec_select.specs.Taken.{Prints};
+ghost use Rattle.rec_select.specs.Taken.{Prints, SaysFailures};
 
 use crate::parts::put_parts;
 use itoa::Buffer;
@@ -47,6 +47,7 @@ pub fn write_report<S: Sink>(violations: &[Violation], out: &mut S) -> Result<()
     ensures printed { Puts (IsReport violations.now) (S.contents out.old) (S.contents out.new) result }
     ensures counted { S.failure_count out.old ≤ S.failure_count out.new }
     ensures kept { KeptAtSuccess (S.failure_count out.old) (S.failure_count out.new) result }
+    ensures told { SaysFailures (S.failure_count out.old) (S.failure_count out.new) result }
     ensures store_failed { RisenAtStoreFailed (S.failure_count out.old) (S.failure_count out.new) result }
     ensures refusals { UnlessStoreFailed result }
 {

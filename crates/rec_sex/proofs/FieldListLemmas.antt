@@ -9,7 +9,8 @@ use Rattle.rec_text.specs.Bytes.{begins_name, continues_name}
 use Rattle.rec_sex.specs.declared.index_list.Span.{Span}
 use Rattle.rec_sex.specs.declared.field_list.Item.{Item}
 use Rattle.rec_sex.specs.IndexItems.{BeginsNumber}
-use Rattle.rec_sex.specs.Lists.{begins_continuation, IsItem, AreItems, AreItemsBefore, ends_item, IsSecondFault, IsSubscriptFault, IsItemFault, HasFault}
+use Rattle.rec_sex.specs.Lists.{begins_continuation, IsSecondFault, IsSubscriptFault}
+use Rattle.rec_sex.specs.Joined.{ends_item}
 use Rattle.rec_sex.specs.FieldItems.{BeginsName, BeginsSubscript, BeginsItem}
 use Rattle.rec_sex.proofs.IndexListLemmas.{list_all-front, digits_alone}
 
@@ -95,69 +96,8 @@ BeginsItem-subscript text name behind inside span rest (parts, is) opening
       ended,
     )
 
--- ---- whole lists
-
--- one more item, with its comma
-pub AreItemsBefore-push : (before : List ℕ) (items : List Item) (front : List ℕ) (item : Item) → AreItemsBefore before items → IsItem front item
-    → AreItemsBefore (before ++ (front ++ 44 ∷ [])) (items ++ item ∷ [])
-AreItemsBefore-push before [] front item none is =
-    (front, [], ap (λ b. b ++ (front ++ 44 ∷ [])) none, is, refl)
-AreItemsBefore-push before (first ∷ items) front item (first_front, rest, parts, first_is, whole) is = (
-  first_front,
-  rest ++ (front ++ 44 ∷ []),
-  ap (λ b. b ++ (front ++ 44 ∷ [])) parts ∙ append_assoc first_front (44 ∷ rest) (front ++ 44 ∷ []),
-  first_is,
-  AreItemsBefore-push rest items front item whole is,
-)
-
--- the last item, with no comma
-pub AreItems-push : (before : List ℕ) (items : List Item) (front : List ℕ) (item : Item) → AreItemsBefore before items → IsItem front item
-    → AreItems (before ++ front) (items ++ item ∷ [])
-AreItems-push before [] front item none is = let P : List ℕ → Type 0 = λ b. IsItem (b ++ front) item in subst P (sym none) is
-AreItems-push before (first ∷ []) front item (first_front, rest, parts, first_is, whole) is =
-    (first_front, rest ++ front, ap (λ b. b ++ front) parts ∙ append_assoc first_front (44 ∷ rest) front, first_is, AreItems-push rest [] front item whole is)
-AreItems-push before (first ∷ next ∷ items) front item (first_front, rest, parts, first_is, whole) is =
-    (first_front, rest ++ front, ap (λ b. b ++ front) parts ∙ append_assoc first_front (44 ∷ rest) front, first_is, AreItems-push rest (next ∷ items) front item whole is)
-
-is_comma : (b : ℕ) (rest : List ℕ) → ends_item (b ∷ rest) ≡ true → b ≡ 44
-is_comma b rest ended = eqb-true b 44 ended
-
--- whole items stand before what is left to read
-abbrev pub ReadUpTo : List ℕ → List ℕ → List Item → Type 0
-ReadUpTo text rest items = (before : List ℕ) × (text ≡ before ++ rest) × AreItemsBefore before items
-
 -- the item that was pushed, with the name that was copied
 pub pushed_with_copy : {E : Type 0} (more items : List Item) (name copy : List ℕ) (occurrences : Option Span) → more ≡ items ++ record { name = copy; occurrences = occurrences } ∷ []
     → ◌≡◌ {A = Result (List ℕ) E} (Ok copy) (Ok name) → more ≡ items ++ record { name = name; occurrences = occurrences } ∷ []
 pushed_with_copy more items name copy occurrences pushed copied =
     let same : copy ≡ name = cc in pushed ∙ ap (λ n. items ++ record { name = n; occurrences = occurrences } ∷ []) same
-
-pub read_all : (text rest : List ℕ) (items : List Item) (item : Item) (behind : List ℕ) (more : List Item) → ReadUpTo text rest items → BeginsItem rest item behind → length behind ≡ 0
-    → more ≡ items ++ item ∷ [] → AreItems text more
-read_all text rest items item behind more (before, parts, whole) (front, halves, is, ended) none pushed =
-    let last : text ≡ before ++ front = parts ∙ ap (λ r. before ++ r) (halves ∙ ap (λ b. front ++ b) (nil_from_length behind none) ∙ append-nil front) in
-    let P : List Item → Type 0 = AreItems text in
-    let Q : List ℕ → Type 0 = λ t. AreItems t (items ++ item ∷ []) in
-    subst P (sym pushed) (subst Q (sym last) (AreItems-push before items front item whole is))
-
-pub read_more : (text rest : List ℕ) (items : List Item) (item : Item) (behind : List ℕ) (b : ℕ) (next : List ℕ) (more : List Item) → ReadUpTo text rest items
-    → BeginsItem rest item behind → behind ≡ b ∷ next → more ≡ items ++ item ∷ [] → ReadUpTo text next more
-read_more text rest items item behind b next more (before, parts, whole) (front, halves, is, ended) follows pushed =
-    let comma : b ≡ 44 = is_comma b next (ap ends_item (sym follows) ∙ ended) in
-    let P : List Item → Type 0 = AreItemsBefore (before ++ (front ++ 44 ∷ [])) in (
-      before ++ (front ++ 44 ∷ []),
-      parts ∙ ap (λ r. before ++ r) (halves ∙ ap (λ r. front ++ r) (follows ∙ ap (λ c. c ∷ next) comma) ∙ sym (append_assoc front (44 ∷ []) next)) ∙ sym (append_assoc before (front ++ 44 ∷ []) next),
-      subst P (sym pushed) (AreItemsBefore-push before items front item whole is),
-    )
-
-pub read_fault : (text rest : List ℕ) (items : List Item) (place : ℕ) → ReadUpTo text rest items → IsItemFault rest place → HasFault text (length text - length rest + place)
-read_fault text rest items place (before, parts, whole) fault = record {
-  before = before;
-  items = items;
-  rest = rest;
-  at = place;
-  parts = parts;
-  whole = whole;
-  bad = fault;
-  behind = omega (arith, ap length parts, length-append before rest);
-}

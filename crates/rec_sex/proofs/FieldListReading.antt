@@ -1,5 +1,5 @@
 -- A text has at most one reading as a field list: the one that is computed here.
-use Rattle.std.proofs.Common.{◌≡◌, ◌∙◌, ℕ, suc, zero, ◌+◌, ◌-◌, ◌<◌, ◌≤◌, Bool, true, false, cond, List, [], ◌∷◌, ◌++◌, length, take, drop, Option, Some, None, Result, Ok, Err, refl, ap, sym, subst, inl, inr, arith, ltb}
+use Rattle.std.proofs.Common.{◌≡◌, ◌∙◌, ℕ, ◌+◌, ◌-◌, ◌≤◌, Bool, true, false, cond, List, [], ◌∷◌, ◌++◌, length, take, drop, Option, Some, None, Result, Ok, Err, refl, ap, sym, inl, inr, arith, ltb}
 use Rattle.std.proofs.lemmas.List.{append_assoc, append-nil, length-append, take_at, drop_at}
 use Rattle.std.proofs.lemmas.Bool.{and_parts, cases_lt, cond-true, cond-false, lt-ltb, le-ltb, eqb-true}
 use Rattle.std.specs.List.{list_all, prefix_len}
@@ -8,10 +8,12 @@ use Rattle.rec_text.specs.declared.fault.Fault.{Fault}
 use Rattle.rec_text.specs.declared.fault.Fault.TheVariants.{BadFieldList}
 use Rattle.rec_sex.specs.declared.index_list.Span.{Span}
 use Rattle.rec_sex.specs.declared.field_list.Item.{Item}
-use Rattle.rec_sex.specs.IndexList.{AreDigits, value_of, begins_digit, greatest}
+use Rattle.rec_sex.specs.IndexList.{AreDigits, value_of, begins_digit, begins_with, greatest}
+use Rattle.rec_sex.specs.Joined.{ends_item}
 use Rattle.rec_sex.specs.IndexItems.{BeginsNumber}
-use Rattle.rec_sex.specs.Lists.{is_field_name, begins_field, begins_continuation, IsName, AreItems, AreItemsBefore, begins_with, ends_item, IsClosingFault, IsSecondFault, IsSubscriptFault, IsItemFault, IsFieldList}
+use Rattle.rec_sex.specs.Lists.{is_field_name, begins_field, begins_continuation, IsName, IsItem, IsClosingFault, IsSecondFault, IsSubscriptFault, IsItemFault, IsFieldList}
 use Rattle.rec_sex.specs.FieldItems.{BeginsName, Closes, ClosesPair, BeginsSubscript, BeginsItem}
+use Rattle.rec_sex.proofs.JoinedReading.{IsList, one_list}
 use Rattle.rec_sex.proofs.IndexListReading.{number_of, number_of-some, number_of-none}
 
 -- ---- a name
@@ -245,62 +247,19 @@ item_of-ok text name (Some span) rest
 
 -- ---- a whole list
 
-abbrev list_with : Item → Result (List Item) ℕ → Result (List Item) ℕ
-list_with item (Ok items) = Ok (item ∷ items)
-list_with item (Err place) = Err place
+item_of-whole : (text : List ℕ) (item : Item) (rest : List ℕ) → BeginsItem text item rest → item_of text ≡ Ok (item, rest)
+item_of-whole text item rest begins = item_of-ok text item.name item.occurrences rest begins
 
-abbrev list_from : (ℕ → List ℕ → Result (List Item) ℕ) → ℕ → ℕ → Result (Item × List ℕ) ℕ → Result (List Item) ℕ
-list_from next start size (Err place) = Err (start + place)
-list_from next start size (Ok (item, [])) = Ok (item ∷ [])
-list_from next start size (Ok (item, b ∷ rest)) = list_with item (next (start + (size - length rest)) rest)
-
--- the list that a text of fewer bytes than this begins with, at this place of a whole text
-abbrev list_of : ℕ → ℕ → List ℕ → Result (List Item) ℕ
-list_of zero start text = Err start
-list_of (suc bytes) start text = list_from (list_of bytes) start (length text) (item_of text)
-
-list_of-ok : (bytes start : ℕ) (text : List ℕ) (items : List Item) → length text < bytes → AreItems text items → list_of bytes start text ≡ Ok items
-list_of-ok zero start text items short are = absurd (omega arith)
-list_of-ok (suc bytes) start text [] short are = absurd are
-list_of-ok (suc bytes) start text (item ∷ []) short is =
-    ap (list_from (list_of bytes) start (length text)) (item_of-ok text item.name item.occurrences [] (text, sym (append-nil text), is, refl))
-list_of-ok (suc bytes) start text (item ∷ next ∷ items) short (front, rest, parts, is, more) =
-    let shorter : length rest < bytes = omega (arith, short, ap length parts, length-append front (44 ∷ rest)) in
-    ap (list_from (list_of bytes) start (length text)) (item_of-ok text item.name item.occurrences (44 ∷ rest) (front, parts, is, refl))
-    ∙ ap (list_with item) (list_of-ok bytes (start + (length text - length rest)) rest (next ∷ items) shorter more)
-
-list_of-err : (bytes start : ℕ) (text before : List ℕ) (items : List Item) (rest : List ℕ) (at : ℕ) → length text < bytes → text ≡ before ++ rest
-    → AreItemsBefore before items → IsItemFault rest at → list_of bytes start text ≡ Err (start + (length before + at))
-list_of-err zero start text before items rest at short parts whole fault = absurd (omega arith)
-list_of-err (suc bytes) start text before [] rest at short parts none fault =
-    let P : List ℕ → Type 0 = λ t. IsItemFault t at in
-    let place_is : start + at ≡ start + (length before + at) = omega (arith, ap length none) in
-    ap (list_from (list_of bytes) start (length text)) (item_of-err text at (subst P (sym (parts ∙ ap (λ b. b ++ rest) none)) fault)) ∙ ap Err place_is
-list_of-err (suc bytes) start text before (item ∷ items) rest at short parts (front, more, halves, is, whole) fault =
-    let cut : text ≡ front ++ (44 ∷ (more ++ rest)) = parts ∙ ap (λ b. b ++ rest) halves ∙ append_assoc front (44 ∷ more) rest in
-    let size : length text ≡ length front + suc (length (more ++ rest)) = ap length cut ∙ length-append front (44 ∷ (more ++ rest)) in
-    let size_before : length before ≡ length front + suc (length more) = ap length halves ∙ length-append front (44 ∷ more) in
-    let place_is : start + (length text - length (more ++ rest)) + (length more + at) ≡ start + (length before + at) = omega arith in
-    ap (list_from (list_of bytes) start (length text)) (item_of-ok text item.name item.occurrences (44 ∷ (more ++ rest)) (front, cut, is, refl))
-    ∙ ap (list_with item) (list_of-err bytes (start + (length text - length (more ++ rest))) (more ++ rest) more items rest at (omega arith) refl whole fault)
-    ∙ ap Err place_is
-
--- ---- the one reading
-
-abbrev with_fault : Result (List Item) ℕ → Result (List Item) Fault
-with_fault (Ok items) = Ok items
-with_fault (Err place) = Err (BadFieldList place)
-
-abbrev reading_of : List ℕ → Result (List Item) Fault
-reading_of text = with_fault (list_of (length text + 1) 0 text)
-
-is_reading_of : (text : List ℕ) (answer : Result (List Item) Fault) → IsFieldList text answer → reading_of text ≡ answer
-is_reading_of text (Ok items) are = ap with_fault (list_of-ok (length text + 1) 0 text items (omega arith) are)
-is_reading_of text (Err (BadFieldList place)) has =
-    ap with_fault (list_of-err (length text + 1) 0 text has.before has.items has.rest has.at (omega arith) has.parts has.whole has.bad)
-    ∙ ap (λ n. Err (BadFieldList n)) (let e : 0 + (length has.before + has.at) ≡ place = omega (arith, has.behind) in e)
-is_reading_of text (Err _) none = absurd none
+-- a fault's place, in place of the fault
+place_of : (text : List ℕ) (answer : Result (List Item) Fault) → IsFieldList text answer
+    → (places : Result (List Item) ℕ) × IsList IsItem IsItemFault text places × (elim places as (λ _. Result (List Item) Fault) [ Ok items ↦ Ok items | Err place ↦ Err (BadFieldList place) ] ≡ answer)
+place_of text (Ok items) are = (Ok items, are, refl)
+place_of text (Err (BadFieldList place)) has = (Err place, has, refl)
+place_of text (Err _) none = absurd none
 
 -- a text has at most one reading
 pub one_field_list : (text : List ℕ) (some : Result (List Item) Fault) → IsFieldList text some → (other : Result (List Item) Fault) → IsFieldList text other → some ≡ other
-one_field_list text some is other is_too = sym (is_reading_of text some is) ∙ is_reading_of text other is_too
+one_field_list text some is other is_too =
+    let (one, one_is, e) = place_of text some is in
+    let (two, two_is, f) = place_of text other is_too in
+    sym e ∙ ap (λ r. elim r as (λ _. Result (List Item) Fault) [ Ok items ↦ Ok items | Err place ↦ Err (BadFieldList place) ]) (one_list IsItem IsItemFault item_of item_of-whole item_of-err text one two one_is two_is) ∙ f

@@ -1,14 +1,13 @@
 -- Digits, items and whole index lists.
-use Rattle.std.proofs.Common.{◌≡◌, ◌∙◌, ℕ, ◌+◌, ◌-◌, ◌*◌, ◌<◌, ◌≤◌, Bool, true, false, cond, List, [], ◌∷◌, ◌++◌, length, take, drop, get_or, fold, Option, Some, None, refl, ap, sym, subst, inl, inr, arith, leb, ltb, not, unwrap_or}
-use Rattle.std.proofs.lemmas.List.{append_assoc, append-nil, nil_from_length, length-append, take-append-drop}
+use Rattle.std.proofs.Common.{◌≡◌, ◌∙◌, ℕ, ◌+◌, ◌-◌, ◌*◌, ◌<◌, ◌≤◌, Bool, true, false, cond, List, [], ◌∷◌, ◌++◌, length, take, drop, get_or, fold, Option, Some, None, refl, ap, sym, subst, inl, inr, arith, ltb, not, unwrap_or}
+use Rattle.std.proofs.lemmas.List.{append_assoc, length-append, take-append-drop}
 use Rattle.std.proofs.Math.Numerals.{one-add}
 use Rattle.std.proofs.lemmas.List.Folds.{length-prefix_len}
 use Rattle.std.proofs.lemmas.List.Sums.{fold-append, fold_more, prefix_len-le-length}
-use Rattle.std.proofs.lemmas.Bool.{and_parts, and_from, cases_lt, cases_Bool, cond-true, cond-false, le-ltb, lt-ltb, leb-true}
+use Rattle.std.proofs.lemmas.Bool.{and_from, cases_lt, cases_Bool, cond-true, cond-false, le-ltb, lt-ltb}
 use Rattle.std.specs.Char.{is_ascii_digit}
 use Rattle.std.specs.List.{list_all, prefix_len, position_or_len}
-use Rattle.rec_sex.specs.declared.index_list.Span.{Span}
-use Rattle.rec_sex.specs.IndexList.{AreDigits, IsItem, IsSecondFault, IsItemFault, AreItems, AreItemsBefore, HasFault, value_of, begins_digit, begins_comma_or_ends, greatest}
+use Rattle.rec_sex.specs.IndexList.{AreDigits, IsSecondFault, IsItemFault, value_of, begins_digit, greatest}
 use Rattle.rec_sex.specs.IndexItems.{BeginsNumber, EndsPair, BeginsItem}
 
 -- one more digit makes a number no smaller
@@ -63,7 +62,7 @@ list_all-front test (b ∷ bytes) =
       | inr fails ↦ rw fails refl
     ]
 
-begins_digit-behind : (bytes : List ℕ) → begins_digit (drop (prefix_len is_ascii_digit bytes) bytes) ≡ false
+pub begins_digit-behind : (bytes : List ℕ) → begins_digit (drop (prefix_len is_ascii_digit bytes) bytes) ≡ false
 begins_digit-behind [] = refl
 begins_digit-behind (b ∷ bytes) =
     elim (cases_Bool (is_ascii_digit b)) [
@@ -119,68 +118,3 @@ BeginsItem-pair text first rest second last behind (a, parts, are, value, small)
   inr (a, b, refl, digits_alone a rest are, digits_alone b behind second_are, value, second_value, ordered, second_small),
   ended,
 )
-
--- ---- whole lists
-
--- one more item, with its comma
-pub AreItemsBefore-push : (before : List ℕ) (spans : List Span) (item : List ℕ) (span : Span) → AreItemsBefore before spans → IsItem item span
-    → AreItemsBefore (before ++ (item ++ 44 ∷ [])) (spans ++ span ∷ [])
-AreItemsBefore-push before [] item span none is =
-    (item, [], ap (λ b. b ++ (item ++ 44 ∷ [])) none, is, refl)
-AreItemsBefore-push before (first ∷ spans) item span (first_item, rest, parts, first_is, whole) is = (
-  first_item,
-  rest ++ (item ++ 44 ∷ []),
-  ap (λ b. b ++ (item ++ 44 ∷ [])) parts ∙ append_assoc first_item (44 ∷ rest) (item ++ 44 ∷ []),
-  first_is,
-  AreItemsBefore-push rest spans item span whole is,
-)
-
--- the last item, with no comma
-pub AreItems-push : (before : List ℕ) (spans : List Span) (item : List ℕ) (span : Span) → AreItemsBefore before spans → IsItem item span
-    → AreItems (before ++ item) (spans ++ span ∷ [])
-AreItems-push before [] item span none is = let P : List ℕ → Type 0 = λ b. IsItem (b ++ item) span in subst P (sym none) is
-AreItems-push before (first ∷ []) item span (first_item, rest, parts, first_is, whole) is =
-    (first_item, rest ++ item, ap (λ b. b ++ item) parts ∙ append_assoc first_item (44 ∷ rest) item, first_is, AreItems-push rest [] item span whole is)
-AreItems-push before (first ∷ next ∷ spans) item span (first_item, rest, parts, first_is, whole) is =
-    (first_item, rest ++ item, ap (λ b. b ++ item) parts ∙ append_assoc first_item (44 ∷ rest) item, first_is, AreItems-push rest (next ∷ spans) item span whole is)
-
-is_comma : (b : ℕ) (rest : List ℕ) → begins_comma_or_ends (b ∷ rest) ≡ true → b ≡ 44
-is_comma b rest ended =
-    let parts = and_parts (leb b 44) (leb 44 b) ended in
-    let low = leb-true b 44 parts.0 in
-    let high = leb-true 44 b parts.1 in
-    omega arith
-
--- whole items stand before what is left to read
-abbrev pub ReadUpTo : List ℕ → List ℕ → List Span → Type 0
-ReadUpTo text rest spans = (before : List ℕ) × (text ≡ before ++ rest) × AreItemsBefore before spans
-
-pub read_all : (text rest : List ℕ) (spans : List Span) (span : Span) (behind : List ℕ) (more : List Span) → ReadUpTo text rest spans → BeginsItem rest span behind → length behind ≡ 0
-    → more ≡ spans ++ span ∷ [] → AreItems text more
-read_all text rest spans span behind more (before, parts, whole) (item, halves, is, ended) none pushed =
-    let last : text ≡ before ++ item = parts ∙ ap (λ r. before ++ r) (halves ∙ ap (λ b. item ++ b) (nil_from_length behind none) ∙ append-nil item) in
-    let P : List Span → Type 0 = AreItems text in
-    let Q : List ℕ → Type 0 = λ t. AreItems t (spans ++ span ∷ []) in
-    subst P (sym pushed) (subst Q (sym last) (AreItems-push before spans item span whole is))
-
-pub read_more : (text rest : List ℕ) (spans : List Span) (span : Span) (behind : List ℕ) (b : ℕ) (items : List ℕ) (more : List Span) → ReadUpTo text rest spans
-    → BeginsItem rest span behind → behind ≡ b ∷ items → more ≡ spans ++ span ∷ [] → ReadUpTo text items more
-read_more text rest spans span behind b items more (before, parts, whole) (item, halves, is, ended) follows pushed =
-    let comma : b ≡ 44 = is_comma b items (ap begins_comma_or_ends (sym follows) ∙ ended) in
-    let P : List Span → Type 0 = AreItemsBefore (before ++ (item ++ 44 ∷ [])) in (
-      before ++ (item ++ 44 ∷ []),
-      parts ∙ ap (λ r. before ++ r) (halves ∙ ap (λ r. item ++ r) (follows ∙ ap (λ c. c ∷ items) comma) ∙ sym (append_assoc item (44 ∷ []) items)) ∙ sym (append_assoc before (item ++ 44 ∷ []) items),
-      subst P (sym pushed) (AreItemsBefore-push before spans item span whole is),
-    )
-
-pub read_fault : (text rest : List ℕ) (spans : List Span) (place : ℕ) → ReadUpTo text rest spans → IsItemFault rest place → HasFault text (length text - length rest + place)
-read_fault text rest spans place (before, parts, whole) fault = record {
-  before = before;
-  spans = spans;
-  rest = rest;
-  at = place;
-  parts = parts;
-  whole = whole;
-  bad = fault;
-  behind = omega (arith, ap length parts, length-append before rest);
-}

@@ -1,13 +1,15 @@
 -- A text has at most one reading as an index list: the one that is computed here.
-use Rattle.std.proofs.Common.{◌≡◌, ◌≢◌, ◌∙◌, ℕ, suc, zero, ◌+◌, ◌-◌, ◌<◌, ◌≤◌, true, false, cond, List, [], ◌∷◌, ◌++◌, length, take, drop, Option, Some, None, Result, Ok, Err, refl, ap, sym, subst, inl, inr, arith, leb, ltb}
-use Rattle.std.proofs.lemmas.List.{append_assoc, append-nil, length-append, take_at, drop_at}
-use Rattle.std.proofs.lemmas.Bool.{and_parts, cases_lt, cond-true, cond-false, le-leb, lt-leb, lt-ltb, le-ltb, leb-true}
+use Rattle.std.proofs.Common.{◌≡◌, ◌≢◌, ◌∙◌, ℕ, ◌+◌, ◌-◌, ◌<◌, ◌≤◌, true, false, cond, List, [], ◌∷◌, ◌++◌, length, take, drop, Option, Some, None, Result, Ok, Err, refl, ap, sym, subst, inl, inr, arith, leb, ltb}
+use Rattle.std.proofs.lemmas.List.{append_assoc, length-append, take_at, drop_at}
+use Rattle.std.proofs.lemmas.Bool.{and_parts, cases_lt, cond-true, cond-false, le-leb, lt-leb, lt-ltb, le-ltb, eqb-true}
 use Rattle.std.specs.Char.{is_ascii_digit}
 use Rattle.std.specs.List.{list_all, prefix_len}
 use Rattle.rec_text.specs.declared.fault.Fault.{Fault}
 use Rattle.rec_text.specs.declared.fault.Fault.TheVariants.{BadIndexList}
 use Rattle.rec_sex.specs.declared.index_list.Span.{Span}
-use Rattle.rec_sex.specs.IndexList.{AreDigits, IsSecondFault, IsItemFault, AreItems, AreItemsBefore, IsIndexList, value_of, begins_digit, begins_comma_or_ends, begins_hyphen, greatest}
+use Rattle.rec_sex.specs.IndexList.{AreDigits, IsItem, IsSecondFault, IsItemFault, IsIndexList, value_of, begins_digit, begins_with, greatest}
+use Rattle.rec_sex.specs.Joined.{ends_item}
+use Rattle.rec_sex.proofs.JoinedReading.{IsList, one_list}
 use Rattle.rec_sex.specs.IndexItems.{BeginsNumber, BeginsNoNumber, EndsPair, BeginsItem}
 
 -- ---- a number
@@ -54,7 +56,7 @@ number_of-none text (inr (digits, rest, parts, are, large)) = number_of-cut text
 
 abbrev second_from : ℕ → ℕ → Option (ℕ × List ℕ) → Result (ℕ × List ℕ) ℕ
 second_from first size None = Err 0
-second_from first size (Some (last, rest)) = cond (ltb last first) (Err 0) (cond (begins_comma_or_ends rest) (Ok (last, rest)) (Err (size - length rest)))
+second_from first size (Some (last, rest)) = cond (ltb last first) (Err 0) (cond (ends_item rest) (Ok (last, rest)) (Err (size - length rest)))
 
 abbrev second_of : ℕ → List ℕ → Result (ℕ × List ℕ) ℕ
 second_of first text = second_from first (length text) (number_of text)
@@ -62,7 +64,7 @@ second_of first text = second_from first (length text) (number_of text)
 second_of-ok : (first : ℕ) (text : List ℕ) (last : ℕ) (rest : List ℕ) → EndsPair first text last rest → second_of first text ≡ Ok (last, rest)
 second_of-ok first text last rest (number, ordered, ended) =
     ap (second_from first (length text)) (number_of-some text last rest number)
-    ∙ cond-false _ (Err 0) (cond (begins_comma_or_ends rest) (Ok (last, rest)) (Err (length text - length rest))) (le-ltb last first ordered)
+    ∙ cond-false _ (Err 0) (cond (ends_item rest) (Ok (last, rest)) (Err (length text - length rest))) (le-ltb last first ordered)
     ∙ cond-true _ (Ok (last, rest)) (Err (length text - length rest)) ended
 
 second_of-err : (first : ℕ) (text : List ℕ) (place : ℕ) → IsSecondFault first text place → second_of first text ≡ Err place
@@ -74,13 +76,13 @@ second_of-err first text place (inr (digits, rest, parts, are, inl (inr falls, a
       | inl large ↦ ap (second_from first (length text)) (number_of-none text (inr (digits, rest, parts, are, large))) ∙ ap Err (sym at_front)
       | inr small ↦
           ap (second_from first (length text)) (number_of-some text (value_of digits) rest (digits, parts, are, refl, small))
-          ∙ cond-true _ (Err 0) (cond (begins_comma_or_ends rest) (Ok (value_of digits, rest)) (Err (length text - length rest))) (lt-ltb (value_of digits) first falls)
+          ∙ cond-true _ (Err 0) (cond (ends_item rest) (Ok (value_of digits, rest)) (Err (length text - length rest))) (lt-ltb (value_of digits) first falls)
           ∙ ap Err (sym at_front)
     ]
 second_of-err first text place (inr (digits, rest, parts, are, inr (ordered, small, unended, behind))) =
     let place_is : length text - length rest ≡ place = omega (arith, behind, ap length parts, length-append digits rest) in
     ap (second_from first (length text)) (number_of-some text (value_of digits) rest (digits, parts, are, refl, small))
-    ∙ cond-false _ (Err 0) (cond (begins_comma_or_ends rest) (Ok (value_of digits, rest)) (Err (length text - length rest))) (le-ltb (value_of digits) first ordered)
+    ∙ cond-false _ (Err 0) (cond (ends_item rest) (Ok (value_of digits, rest)) (Err (length text - length rest))) (le-ltb (value_of digits) first ordered)
     ∙ cond-false _ (Ok (value_of digits, rest)) (Err (length text - length rest)) unended
     ∙ ap Err place_is
 
@@ -92,20 +94,20 @@ pair_with first end (Err at) = Err (end + 1 + at)
 
 abbrev pair_from : ℕ → ℕ → List ℕ → Result (Span × List ℕ) ℕ
 pair_from first end [] = Err end
-pair_from first end (b ∷ rest) = cond (begins_hyphen (b ∷ rest)) (pair_with first end (second_of first rest)) (Err end)
+pair_from first end (b ∷ rest) = cond (begins_with 45 (b ∷ rest)) (pair_with first end (second_of first rest)) (Err end)
 
 abbrev item_from : ℕ → Option (ℕ × List ℕ) → Result (Span × List ℕ) ℕ
 item_from size None = Err 0
-item_from size (Some (first, rest)) = cond (begins_comma_or_ends rest) (Ok (record { first = first; last = first }, rest)) (pair_from first (size - length rest) rest)
+item_from size (Some (first, rest)) = cond (ends_item rest) (Ok (record { first = first; last = first }, rest)) (pair_from first (size - length rest) rest)
 
 abbrev item_of : List ℕ → Result (Span × List ℕ) ℕ
 item_of text = item_from (length text) (number_of text)
 
-pair_from-none : (first end : ℕ) (rest : List ℕ) → begins_hyphen rest ≡ false → pair_from first end rest ≡ Err end
+pair_from-none : (first end : ℕ) (rest : List ℕ) → begins_with 45 rest ≡ false → pair_from first end rest ≡ Err end
 pair_from-none first end [] none = refl
 pair_from-none first end (b ∷ rest) none = cond-false _ (pair_with first end (second_of first rest)) (Err end) none
 
-item_of-number : (text : List ℕ) (first : ℕ) (rest : List ℕ) → BeginsNumber text first rest → begins_comma_or_ends rest ≡ false
+item_of-number : (text : List ℕ) (first : ℕ) (rest : List ℕ) → BeginsNumber text first rest → ends_item rest ≡ false
     → item_of text ≡ pair_from first (length text - length rest) rest
 item_of-number text first rest number unended =
     ap (item_from (length text)) (number_of-some text first rest number)
@@ -131,13 +133,9 @@ item_of-err text place (inr (digits, rest, parts, are, inr (inr (small, second, 
     ∙ ap (pair_with (value_of digits) (length text - length rest)) (second_of-err (value_of digits) second at fault) ∙ ap Err place_is
 
 -- what stands behind a whole item begins with no digit
-no_digit_behind : (rest : List ℕ) → begins_comma_or_ends rest ≡ true → begins_digit rest ≡ false
+no_digit_behind : (rest : List ℕ) → ends_item rest ≡ true → begins_digit rest ≡ false
 no_digit_behind [] ended = refl
-no_digit_behind (b ∷ rest) ended =
-    let parts = and_parts (leb b 44) (leb 44 b) ended in
-    let low = leb-true b 44 parts.0 in
-    let high = leb-true 44 b parts.1 in
-    let comma : b ≡ 44 = omega arith in ap is_ascii_digit comma
+no_digit_behind (b ∷ rest) ended = let comma : b ≡ 44 = eqb-true b 44 ended in ap is_ascii_digit comma
 
 item_of-ok : (text : List ℕ) (span : Span) (rest : List ℕ) → BeginsItem text span rest → item_of text ≡ Ok (span, rest)
 item_of-ok text span rest (item, parts, inl (are, value, same, small), ended) =
@@ -154,62 +152,16 @@ item_of-ok text span rest (item, parts, inr (a, b, halves, first_are, second_are
 
 -- ---- a whole list
 
-abbrev list_with : Span → Result (List Span) ℕ → Result (List Span) ℕ
-list_with span (Ok spans) = Ok (span ∷ spans)
-list_with span (Err place) = Err place
-
-abbrev list_from : (ℕ → List ℕ → Result (List Span) ℕ) → ℕ → ℕ → Result (Span × List ℕ) ℕ → Result (List Span) ℕ
-list_from next start size (Err place) = Err (start + place)
-list_from next start size (Ok (span, [])) = Ok (span ∷ [])
-list_from next start size (Ok (span, b ∷ rest)) = list_with span (next (start + (size - length rest)) rest)
-
--- the list that a text of fewer bytes than this begins with, at this place of a whole text
-abbrev list_of : ℕ → ℕ → List ℕ → Result (List Span) ℕ
-list_of zero start text = Err start
-list_of (suc bytes) start text = list_from (list_of bytes) start (length text) (item_of text)
-
-list_of-ok : (bytes start : ℕ) (text : List ℕ) (spans : List Span) → length text < bytes → AreItems text spans → list_of bytes start text ≡ Ok spans
-list_of-ok zero start text spans short are = absurd (omega arith)
-list_of-ok (suc bytes) start text [] short are = absurd are
-list_of-ok (suc bytes) start text (span ∷ []) short is =
-    ap (list_from (list_of bytes) start (length text)) (item_of-ok text span [] (text, sym (append-nil text), is, refl))
-list_of-ok (suc bytes) start text (span ∷ next ∷ spans) short (item, rest, parts, is, more) =
-    let shorter : length rest < bytes = omega (arith, short, ap length parts, length-append item (44 ∷ rest)) in
-    ap (list_from (list_of bytes) start (length text)) (item_of-ok text span (44 ∷ rest) (item, parts, is, refl))
-    ∙ ap (list_with span) (list_of-ok bytes (start + (length text - length rest)) rest (next ∷ spans) shorter more)
-
-list_of-err : (bytes start : ℕ) (text before : List ℕ) (spans : List Span) (rest : List ℕ) (at : ℕ) → length text < bytes → text ≡ before ++ rest
-    → AreItemsBefore before spans → IsItemFault rest at → list_of bytes start text ≡ Err (start + (length before + at))
-list_of-err zero start text before spans rest at short parts whole fault = absurd (omega arith)
-list_of-err (suc bytes) start text before [] rest at short parts none fault =
-    let P : List ℕ → Type 0 = λ t. IsItemFault t at in
-    let place_is : start + at ≡ start + (length before + at) = omega (arith, ap length none) in
-    ap (list_from (list_of bytes) start (length text)) (item_of-err text at (subst P (sym (parts ∙ ap (λ b. b ++ rest) none)) fault)) ∙ ap Err place_is
-list_of-err (suc bytes) start text before (span ∷ spans) rest at short parts (item, more, halves, is, whole) fault =
-    let cut : text ≡ item ++ (44 ∷ (more ++ rest)) = parts ∙ ap (λ b. b ++ rest) halves ∙ append_assoc item (44 ∷ more) rest in
-    let size : length text ≡ length item + suc (length (more ++ rest)) = ap length cut ∙ length-append item (44 ∷ (more ++ rest)) in
-    let front : length before ≡ length item + suc (length more) = ap length halves ∙ length-append item (44 ∷ more) in
-    let place_is : start + (length text - length (more ++ rest)) + (length more + at) ≡ start + (length before + at) = omega arith in
-    ap (list_from (list_of bytes) start (length text)) (item_of-ok text span (44 ∷ (more ++ rest)) (item, cut, is, refl))
-    ∙ ap (list_with span) (list_of-err bytes (start + (length text - length (more ++ rest))) (more ++ rest) more spans rest at (omega arith) refl whole fault)
-    ∙ ap Err place_is
-
--- ---- the one reading
-
-abbrev with_fault : Result (List Span) ℕ → Result (List Span) Fault
-with_fault (Ok spans) = Ok spans
-with_fault (Err place) = Err (BadIndexList place)
-
-abbrev reading_of : List ℕ → Result (List Span) Fault
-reading_of text = with_fault (list_of (length text + 1) 0 text)
-
-is_reading_of : (text : List ℕ) (answer : Result (List Span) Fault) → IsIndexList text answer → reading_of text ≡ answer
-is_reading_of text (Ok spans) are = ap with_fault (list_of-ok (length text + 1) 0 text spans (omega arith) are)
-is_reading_of text (Err (BadIndexList place)) has =
-    ap with_fault (list_of-err (length text + 1) 0 text has.before has.spans has.rest has.at (omega arith) has.parts has.whole has.bad)
-    ∙ ap (λ n. Err (BadIndexList n)) (let e : 0 + (length has.before + has.at) ≡ place = omega (arith, has.behind) in e)
-is_reading_of text (Err _) none = absurd none
+-- a fault's place, in place of the fault
+place_of : (text : List ℕ) (answer : Result (List Span) Fault) → IsIndexList text answer
+    → (places : Result (List Span) ℕ) × IsList IsItem IsItemFault text places × (elim places as (λ _. Result (List Span) Fault) [ Ok spans ↦ Ok spans | Err place ↦ Err (BadIndexList place) ] ≡ answer)
+place_of text (Ok spans) are = (Ok spans, are, refl)
+place_of text (Err (BadIndexList place)) has = (Err place, has, refl)
+place_of text (Err _) none = absurd none
 
 -- a text has at most one reading
 pub one_index_list : (text : List ℕ) (some : Result (List Span) Fault) → IsIndexList text some → (other : Result (List Span) Fault) → IsIndexList text other → some ≡ other
-one_index_list text some is other is_too = sym (is_reading_of text some is) ∙ is_reading_of text other is_too
+one_index_list text some is other is_too =
+    let (one, one_is, e) = place_of text some is in
+    let (two, two_is, f) = place_of text other is_too in
+    sym e ∙ ap (λ r. elim r as (λ _. Result (List Span) Fault) [ Ok spans ↦ Ok spans | Err place ↦ Err (BadIndexList place) ]) (one_list IsItem IsItemFault item_of item_of-ok item_of-err text one two one_is two_is) ∙ f

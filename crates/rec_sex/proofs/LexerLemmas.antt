@@ -12,13 +12,13 @@ use Rattle.rec_sex.proofs.WithinLemmas.{IsWithin, lexeme_is_within}
 
 -- ---- the lexemes that are left
 
-lexemes_from-skip : (skip place : ℕ) (s : List ℕ) → lexemes_from skip place s ≡ lexemes_from 0 (place + skip) (drop skip s)
+pub lexemes_from-skip : (skip place : ℕ) (s : List ℕ) → lexemes_from skip place s ≡ lexemes_from 0 (place + skip) (drop skip s)
 lexemes_from-skip zero place s = ap (λ n. lexemes_from 0 n s) (sym (add-zero place))
 lexemes_from-skip (suc skip) place [] = refl
 lexemes_from-skip (suc skip) place (b ∷ bs) =
     lexemes_from-skip skip (place + 1) bs ∙ ap (λ n. lexemes_from 0 n (drop skip bs)) (omega arith)
 
-lexemes_from-cons : (place b : ℕ) (bs : List ℕ) → is_space b ≡ false
+pub lexemes_from-cons : (place b : ℕ) (bs : List ℕ) → is_space b ≡ false
     → lexemes_from 0 place (b ∷ bs) ≡ record { place = place; lexeme = lexeme_at (b ∷ bs) } ∷ lexemes_from (len_of (lexeme_at (b ∷ bs)) - 1) (place + 1) bs
 lexemes_from-cons place b bs none =
     ap (λ t. if t then lexemes_from 0 (place + 1) bs else record { place = place; lexeme = lexeme_at (b ∷ bs) } ∷ lexemes_from (len_of (lexeme_at (b ∷ bs)) - 1) (place + 1) bs) none

@@ -38,7 +38,7 @@ record Parses (n : ℕ) : Type 0 where
   operation : (level : ℕ) (tokens : List Token) → 1 ≤ level → level ≤ 8 → length tokens ≤ n → MayStand Operand tokens → HaveGoodPatterns tokens → HasOperation level tokens
   expression : (tokens : List Token) → length tokens ≤ n → MayStand Operand tokens → HaveGoodPatterns tokens → HasExpression tokens
 
-good_behind : (tokens used rest : List Token) → tokens ≡ used ++ rest → HaveGoodPatterns tokens → HaveGoodPatterns rest
+pub good_behind : (tokens used rest : List Token) → tokens ≡ used ++ rest → HaveGoodPatterns tokens → HaveGoodPatterns rest
 good_behind tokens used rest e good = λ front behind text f. good (used ++ front) behind text (e ∙ ap (λ x. used ++ x) f ∙ sym (append_assoc used front (Found ∷ (Literal text ∷ behind))))
 
 HasTerm-weaker : (level strong : ℕ) (tokens rest : List Token) → level ≤ strong → strong ≤ 9 → HasTerm strong tokens rest → HasTerm level tokens rest
@@ -264,10 +264,12 @@ parses (suc n) = record {
   expression = λ tokens few may good. expression_of n (parses n) tokens (omega arith) may good;
 }
 
-pub derived_taken : (tokens : List Token) → AreTaken tokens → HaveGoodPatterns tokens → (term : Term) × Derives 0 tokens term
-derived_taken tokens taken good =
-    let starts = takes_walked walk_start taken.last tokens taken.walks taken.ends in
+pub derived_all : (tokens : List Token) → takes_from Operand [] tokens ≡ true → HaveGoodPatterns tokens → (term : Term) × Derives 0 tokens term
+derived_all tokens starts good =
     let a = (parses (length tokens)).expression tokens (omega arith) (record { stack = []; taken = starts }) good in
     let end : a.rest ≡ [] = ends_in_nothing a.rest (a.has.goes_on [] starts) a.stops a.no_choice in
     let all : a.has.used ≡ tokens = sym (a.has.parts ∙ ap (λ x. a.has.used ++ x) end ∙ append-nil a.has.used) in
     (a.has.term, subst (λ x. Derives 0 x a.has.term) all a.has.derives)
+
+pub derived_taken : (tokens : List Token) → AreTaken tokens → HaveGoodPatterns tokens → (term : Term) × Derives 0 tokens term
+derived_taken tokens taken good = derived_all tokens (takes_walked walk_start taken.last tokens taken.walks taken.ends) good

@@ -3,7 +3,8 @@ use Rattle.std.specs.Prelude.{◌≡◌, ◌⊎◌, ℕ, ◌≤◌, Bool, true, 
 use Rattle.rec_sex.specs.declared.index_list.Span.{Span}
 use Rattle.rec_sex.specs.declared.field_list.Item.{Item}
 use Rattle.rec_sex.specs.IndexItems.{BeginsNumber}
-use Rattle.rec_sex.specs.Lists.{IsName, IsItem, ends_item}
+use Rattle.rec_sex.specs.Lists.{IsName, IsItem}
+use Rattle.rec_sex.specs.Joined.{BeginsWhole, ends_item}
 
 -- a name comes first, with all that it goes on with, and this stands behind it
 abbrev pub BeginsName : List ℕ → List ℕ → List ℕ → Type 0
@@ -25,7 +26,7 @@ BeginsSubscript text span rest = (behind : List ℕ) × BeginsNumber text span.f
 
 -- a whole item comes first, and what stands behind it ends it
 abbrev pub BeginsItem : List ℕ → Item → List ℕ → Type 0
-BeginsItem text item rest = (front : List ℕ) × (text ≡ front ++ rest) × IsItem front item × (ends_item rest ≡ true)
+BeginsItem text item rest = BeginsWhole IsItem text item rest
 
 -- an occurrence is among these; where none are named, each is
 abbrev pub is_among : Option Span → ℕ → Bool

@@ -2,7 +2,8 @@
 use Rattle.std.specs.Prelude.{◌≡◌, ◌⊎◌, ℕ, ◌<◌, ◌≤◌, max, true, false, List, [], ◌∷◌, ◌++◌}
 use Rattle.std.specs.List.Sorted.{IsNonDecreasingBy}
 use Rattle.rec_sex.specs.declared.index_list.Span.{Span}
-use Rattle.rec_sex.specs.IndexList.{AreDigits, IsItem, value_of, begins_digit, begins_comma_or_ends, greatest, has}
+use Rattle.rec_sex.specs.IndexList.{AreDigits, IsItem, value_of, begins_digit, greatest, has}
+use Rattle.rec_sex.specs.Joined.{BeginsWhole, ends_item}
 
 -- all digits at the front write an index, and this stands behind them
 abbrev pub BeginsNumber : List ℕ → ℕ → List ℕ → Type 0
@@ -16,11 +17,11 @@ BeginsNoNumber text =
 
 -- the second index of a pair comes first, and what stands behind it ends the pair
 abbrev pub EndsPair : ℕ → List ℕ → ℕ → List ℕ → Type 0
-EndsPair first text last rest = BeginsNumber text last rest × (first ≤ last) × (begins_comma_or_ends rest ≡ true)
+EndsPair first text last rest = BeginsNumber text last rest × (first ≤ last) × (ends_item rest ≡ true)
 
 -- a whole item comes first, and what stands behind it ends it
 abbrev pub BeginsItem : List ℕ → Span → List ℕ → Type 0
-BeginsItem text span rest = (item : List ℕ) × (text ≡ item ++ rest) × IsItem item span × (begins_comma_or_ends rest ≡ true)
+BeginsItem text span rest = BeginsWhole IsItem text span rest
 
 -- the spans have the indexes of those that were written, and none begins or ends before an earlier one
 pub record AreSorted (sorted written : List Span) : Type 0 where

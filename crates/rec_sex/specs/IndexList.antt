@@ -1,10 +1,11 @@
 -- Lists of indexes: items joined by commas, each `i` or `i-j` with i at most j.
-use Rattle.std.specs.Prelude.{◌≡◌, ◌≢◌, ◌⊎◌, ℕ, ◌+◌, ◌-◌, ◌*◌, ◌^◌, ◌<◌, ◌≤◌, Bool, true, false, ◌&&◌, nat_le, List, [], ◌∷◌, ◌++◌, length, fold, Result, Ok, Err}
+use Rattle.std.specs.Prelude.{◌≡◌, ◌≢◌, ◌⊎◌, ℕ, ◌+◌, ◌-◌, ◌*◌, ◌^◌, ◌<◌, ◌≤◌, Bool, true, false, ◌==◌, ◌&&◌, nat_le, List, [], ◌∷◌, ◌++◌, length, fold, Result, Ok, Err}
 use Rattle.std.specs.Char.{is_ascii_digit}
 use Rattle.std.specs.List.{list_all, list_any}
 use Rattle.rec_text.specs.declared.fault.Fault.{Fault}
 use Rattle.rec_text.specs.declared.fault.Fault.TheVariants.{BadIndexList}
 use Rattle.rec_sex.specs.declared.index_list.Span.{Span}
+use Rattle.rec_sex.specs.Joined.{AreJoined, HasFaultyItem, ends_item}
 
 -- the number that decimal digits write, leading zeros included
 abbrev pub value_of : List ℕ → ℕ
@@ -32,25 +33,14 @@ IsItem text span =
     ⊎ ((a b : List ℕ) × (text ≡ a ++ 45 ∷ b) × AreDigits a [] × AreDigits b []
     × (value_of a ≡ span.first) × (value_of b ≡ span.last) × (span.first ≤ span.last) × (span.last ≤ greatest))
 
--- items joined by commas, at least one
+-- a list: items joined by commas, at least one
 abbrev pub AreItems : List ℕ → List Span → Type 0
-AreItems text [] = ⊥
-AreItems text (span ∷ []) = IsItem text span
-AreItems text (span ∷ next ∷ spans) = (item rest : List ℕ) × (text ≡ item ++ 44 ∷ rest) × IsItem item span × AreItems rest (next ∷ spans)
+AreItems text spans = AreJoined IsItem text spans
 
--- what stands behind the whole items, each with its comma
-abbrev pub AreItemsBefore : List ℕ → List Span → Type 0
-AreItemsBefore before [] = before ≡ []
-AreItemsBefore before (span ∷ spans) = (item rest : List ℕ) × (before ≡ item ++ 44 ∷ rest) × IsItem item span × AreItemsBefore rest spans
-
--- behind a whole number in an item: nothing, or a comma
-abbrev pub begins_comma_or_ends : List ℕ → Bool
-begins_comma_or_ends [] = true
-begins_comma_or_ends (b ∷ bs) = nat_le b 44 && nat_le 44 b
-
-abbrev pub begins_hyphen : List ℕ → Bool
-begins_hyphen [] = false
-begins_hyphen (b ∷ bs) = nat_le b 45 && nat_le 45 b
+-- this byte comes first
+abbrev pub begins_with : ℕ → List ℕ → Bool
+begins_with c [] = false
+begins_with c (b ∷ bs) = b == c
 
 -- The second number of a pair, behind a first number and the hyphen, has a fault at this place.
 abbrev pub IsSecondFault : ℕ → List ℕ → ℕ → Type 0
@@ -61,7 +51,7 @@ IsSecondFault first text place =
     -- the number is too large, or less than the first
     × ((((greatest < value_of digits) ⊎ (value_of digits < first)) × (place ≡ 0))
     -- or something else than a comma follows
-    ⊎ ((first ≤ value_of digits) × (value_of digits ≤ greatest) × (begins_comma_or_ends rest ≡ false) × (place ≡ length digits))))
+    ⊎ ((first ≤ value_of digits) × (value_of digits ≤ greatest) × (ends_item rest ≡ false) × (place ≡ length digits))))
 
 -- An item has a fault at this place: the first byte that can't go on, or its end where it ends too early; or the first
 -- digit of a number that is too large or, in a pair, less than the one before it.
@@ -70,20 +60,13 @@ IsItemFault text place =
     ((begins_digit text ≡ false) × (place ≡ 0))
     ⊎ ((digits rest : List ℕ) × (text ≡ digits ++ rest) × AreDigits digits rest
     × (((greatest < value_of digits) × (place ≡ 0))
-    ⊎ ((value_of digits ≤ greatest) × (begins_comma_or_ends rest ≡ false) × (begins_hyphen rest ≡ false) × (place ≡ length digits))
+    ⊎ ((value_of digits ≤ greatest) × (ends_item rest ≡ false) × (begins_with 45 rest ≡ false) × (place ≡ length digits))
     ⊎ ((value_of digits ≤ greatest) × (second : List ℕ) × (at : ℕ) × (rest ≡ 45 ∷ second)
     × IsSecondFault (value_of digits) second at × (place ≡ length digits + 1 + at))))
 
--- behind whole items, each with its comma, stands one with a fault
-pub record HasFault (text : List ℕ) (place : ℕ) : Type 0 where
-  pub before : List ℕ
-  pub spans : List Span
-  pub rest : List ℕ
-  pub at : ℕ
-  pub parts : text ≡ before ++ rest
-  pub whole : AreItemsBefore before spans
-  pub bad : IsItemFault rest at
-  pub behind : place ≡ length before + at
+-- an item of the list has a fault at this place, and those before it have none
+abbrev pub HasFault : List ℕ → ℕ → Type 0
+HasFault text place = HasFaultyItem IsItem IsItemFault text place
 
 -- the one answer for a text, memory aside
 abbrev pub IsIndexList : List ℕ → Result (List Span) Fault → Type 0

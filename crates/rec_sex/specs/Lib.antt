@@ -1,5 +1,6 @@
 pub mod Integers
 pub mod Magnitudes
+pub mod Joined
 pub mod IndexList
 pub mod IndexItems
 pub mod Tokens
@@ -8,10 +9,14 @@ pub mod Lexing
 pub mod Meaning
 pub mod Operands
 pub mod Choices
+pub mod Outcomes
 pub mod Patterns
 pub mod Expressions
 pub mod Parsing
 pub mod Searching
 pub mod Lists
 pub mod FieldItems
+pub mod FaultPlaces
 pub mod NamePlaces
+pub mod TokenSpellings
+pub mod LeftmostFaults

@@ -1,5 +1,5 @@
 -- Lists of fields, and what they pick of a record. (Lists of indexes stand in `IndexList`.)
-use Rattle.std.specs.Prelude.{◌≡◌, ◌⊎◌, ℕ, ◌+◌, ◌<◌, ◌≤◌, Bool, true, false, ◌==◌, List, [], ◌∷◌, ◌++◌, length, take, drop, Option, Some, None, Result, Ok, Err, if◌then◌else◌}
+use Rattle.std.specs.Prelude.{◌≡◌, ◌⊎◌, ℕ, ◌+◌, ◌<◌, ◌≤◌, Bool, true, false, List, [], ◌∷◌, ◌++◌, length, take, drop, Option, Some, None, Result, Ok, Err, if◌then◌else◌}
 use Rattle.std.specs.List.{flat_map}
 use Rattle.std.specs.Str.{bytes_eq}
 use Rattle.rec_text.specs.declared.fault.Fault.{Fault}
@@ -9,7 +9,8 @@ pub use Rattle.rec_text.specs.Canonical.{is_field_name}
 use Rattle.rec_text.specs.Elements.{Piece, name_of}
 use Rattle.rec_sex.specs.declared.index_list.Span.{Span}
 use Rattle.rec_sex.specs.declared.field_list.Item.{Item}
-use Rattle.rec_sex.specs.IndexList.{AreDigits, value_of, greatest, begins_digit}
+use Rattle.rec_sex.specs.IndexList.{AreDigits, value_of, greatest, begins_digit, begins_with}
+use Rattle.rec_sex.specs.Joined.{AreJoined, HasFaultyItem, ends_item}
 
 -- a byte that a name begins with comes first
 abbrev pub begins_field : List ℕ → Bool
@@ -38,26 +39,9 @@ IsSubscript text (Some span) =
 abbrev pub IsItem : List ℕ → Item → Type 0
 IsItem text item = (subscript : List ℕ) × (text ≡ item.name ++ subscript) × (is_field_name item.name ≡ true) × IsSubscript subscript item.occurrences
 
--- items joined by commas, at least one
+-- a list: items joined by commas, at least one
 abbrev pub AreItems : List ℕ → List Item → Type 0
-AreItems text [] = ⊥
-AreItems text (item ∷ []) = IsItem text item
-AreItems text (item ∷ next ∷ items) = (front rest : List ℕ) × (text ≡ front ++ 44 ∷ rest) × IsItem front item × AreItems rest (next ∷ items)
-
--- what stands behind the whole items, each with its comma
-abbrev pub AreItemsBefore : List ℕ → List Item → Type 0
-AreItemsBefore before [] = before ≡ []
-AreItemsBefore before (item ∷ items) = (front rest : List ℕ) × (before ≡ front ++ 44 ∷ rest) × IsItem front item × AreItemsBefore rest items
-
--- this byte comes first
-abbrev pub begins_with : ℕ → List ℕ → Bool
-begins_with c [] = false
-begins_with c (b ∷ bs) = b == c
-
--- nothing more, or a comma
-abbrev pub ends_item : List ℕ → Bool
-ends_item [] = true
-ends_item (b ∷ bs) = b == 44
+AreItems text items = AreJoined IsItem text items
 
 -- behind a number of a subscript: its closing bracket is missing at the front of the text, or something else than the end or a comma follows it
 abbrev pub IsClosingFault : List ℕ → ℕ → Type 0
@@ -92,16 +76,9 @@ IsItemFault text place =
     × (((begins_with 91 rest ≡ false) × (ends_item rest ≡ false) × (place ≡ length name))
     ⊎ ((subscript : List ℕ) × (at : ℕ) × (rest ≡ 91 ∷ subscript) × IsSubscriptFault subscript at × (place ≡ length name + 1 + at))))
 
--- behind whole items, each with its comma, stands one with a fault
-pub record HasFault (text : List ℕ) (place : ℕ) : Type 0 where
-  pub before : List ℕ
-  pub items : List Item
-  pub rest : List ℕ
-  pub at : ℕ
-  pub parts : text ≡ before ++ rest
-  pub whole : AreItemsBefore before items
-  pub bad : IsItemFault rest at
-  pub behind : place ≡ length before + at
+-- an item of the list has a fault at this place, and those before it have none
+abbrev pub HasFault : List ℕ → ℕ → Type 0
+HasFault text place = HasFaultyItem IsItem IsItemFault text place
 
 -- the one answer for a text, memory aside
 abbrev pub IsFieldList : List ℕ → Result (List Item) Fault → Type 0

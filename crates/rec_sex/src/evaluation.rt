@@ -2,17 +2,17 @@
 ghost use Rattle.std.specs.Prelude.{◌≡◌, IfOk, IfErr, map, pos, length};
 ghost use Rattle.std.specs.Option.{option_map};
 ghost use Rattle.regex.specs.Strings.{matcher_pattern};
-ghost use Rattle.rec_text.specs.Places.{pieces_of};
 ghost use Rattle.rec_sex.specs.Meaning.{is_found as is_found_in_text, text_of, sem, values_of};
 ghost use Rattle.rec_sex.specs.Operands.{meaning_of};
 ghost use Rattle.rec_sex.specs.Choices.{entry_of, chosen_in, pattern_in, term_under};
 
-use crate::occurrences::{Chosen, value_at};
+use crate::fields::Fields;
+use crate::occurrences::Chosen;
 use crate::operand::{Operand, apply_operator, inverse, negated, reading, truth};
 use crate::pattern::is_found;
 use crate::tree::Tree;
 use itoa::Buffer;
-use rec_text::{Element, Fault, Value, count_of};
+use rec_text::{Fault, Value};
 use regex::Matcher;
 use std::alloc::Global;
 
@@ -28,11 +28,10 @@ fn occurrence_of(chosen: &[Chosen<'_>], name: &[u8]) -> usize
     0
 }
 
-#[tactic(auto, using(crate::proofs::OccurrenceLemmas::occurrence_count))]
-fn count(fields: &[Element<'_>], name: &[u8]) -> i64
-    ensures { result ≡ pos (length (values_of name.now (pieces_of fields.now))) }
+fn count(fields: &Fields<'_, '_>, name: &[u8]) -> i64
+    ensures { result ≡ pos (length (values_of name.now fields.now)) }
 {
-    count_of(fields, name) as i64
+    fields.count(name) as i64
 }
 
 /// Whether the pattern of a number is found in an operand's text.
@@ -53,11 +52,11 @@ fn is_found_at(matchers: &mut [Matcher<'_>], pattern: usize, operand: &Operand<'
 pub(crate) fn evaluate<'v>(
     alloc: Global,
     tree: &'v Tree,
-    fields: &[Element<'v>],
+    fields: &Fields<'_, 'v>,
     chosen: &[Chosen<'_>],
     matchers: &mut [Matcher<'_>],
 ) -> Result<Option<Operand<'v>>, Fault>
-    ensures meaning { IfOk result (λ operand. option_map meaning_of operand ≡ sem (term_under (map matcher_pattern matchers.old) tree.now) (pieces_of fields.now) (chosen_in (map entry_of chosen.now))) }
+    ensures meaning { IfOk result (λ operand. option_map meaning_of operand ≡ sem (term_under (map matcher_pattern matchers.old) tree.now) fields.now (chosen_in (map entry_of chosen.now))) }
     ensures same { map matcher_pattern matchers.new ≡ map matcher_pattern matchers.old }
     ensures refusals { IfErr result (λ fault. fault ≡ Fault.OutOfMemory) }
 {
@@ -66,11 +65,11 @@ pub(crate) fn evaluate<'v>(
         Tree::Literal(text) => Ok(Some(Operand::Text(Value::Part(text.as_slice())))),
         Tree::Name(name) => {
             let occurrence = occurrence_of(chosen, name.as_slice());
-            let value = value_at(alloc, fields, name.as_slice(), occurrence)?;
+            let value = fields.value_at(alloc, name.as_slice(), occurrence)?;
             Ok(Some(Operand::Text(value)))
         }
         Tree::Occurrence(name, occurrence) => {
-            let value = value_at(alloc, fields, name.as_slice(), *occurrence)?;
+            let value = fields.value_at(alloc, name.as_slice(), *occurrence)?;
             Ok(Some(Operand::Text(value)))
         }
         Tree::Count(name) => Ok(Some(Operand::Integer(count(fields, name.as_slice())))),

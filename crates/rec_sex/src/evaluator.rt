@@ -3,7 +3,7 @@ ghost use Rattle.std.specs.Prelude.{◌≡◌, map};
 ghost use Rattle.regex.specs.Strings.{regex_pattern, matcher_pattern};
 ghost use Rattle.rec_sex.specs.Choices.{FindAlike};
 
-use crate::choices::{add_repeated_names, has_choice};
+use crate::choices::holds;
 use crate::expr::Expr;
 use rec_text::{Element, Fault};
 use regex::Matcher;
@@ -50,18 +50,7 @@ impl<'e> Search<'e> {
         ensures same { searched self.new ≡ searched self.old }
         ensures refusals { IfErr result (λ fault. fault ≡ Fault.OutOfMemory) }
     {
-        let tree = &self.expr.tree;
-        let mut names = Vec::new(alloc);
-        add_repeated_names(fields, &mut names, tree)?;
-        let mut chosen = Vec::new(alloc);
         // The elements are lent again, for as long as the tree.
-        has_choice(
-            alloc,
-            tree,
-            &*fields,
-            &names,
-            &mut chosen,
-            &mut self.matchers,
-        )
+        holds(alloc, &self.expr.tree, &*fields, &mut self.matchers)
     }
 }

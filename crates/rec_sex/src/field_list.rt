@@ -2,7 +2,8 @@
 ghost use Rattle.std.specs.Prelude.{◌≡◌, ◌∷◌, ◌++◌, false, IfOk, IfErr, MatchOption, MatchResult};
 ghost use Rattle.rec_text.specs.Bytes.{begins_name as may_begin};
 ghost use Rattle.rec_text.specs.Places.{pieces_of};
-ghost use Rattle.rec_sex.specs.Lists.{begins_field, begins_with, occurrences, places_from, IsClosingFault, IsSecondFault, IsSubscriptFault, IsItemFault, picks};
+ghost use Rattle.rec_sex.specs.IndexList.{begins_with};
+ghost use Rattle.rec_sex.specs.Lists.{begins_field, occurrences, places_from, IsClosingFault, IsSecondFault, IsSubscriptFault, IsItemFault, picks};
 ghost use Rattle.rec_sex.specs.FieldItems.{is_among, BeginsName, Closes, ClosesPair, BeginsSubscript, BeginsItem};
 
 use crate::index_list::{Span, behind_hyphen, ends_item, number};
@@ -16,14 +17,14 @@ use std::marker::Model;
 const FEW: usize = 16;
 
 /// A field by its name: all its occurrences in a record, or some of them, counted from 0.
-#[derive(Debug, Drop)]
+#[derive(Drop)]
 pub struct Item {
     pub name: Bytes,
     pub occurrences: Option<Span>,
 }
 
 /// A list of fields, in the order in which they were written.
-#[derive(Debug, Drop)]
+#[derive(Drop)]
 pub struct FieldList {
     items: Vec<Item>,
 }

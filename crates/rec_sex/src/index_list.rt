@@ -3,7 +3,8 @@ ghost use Rattle.std.specs.Prelude.{◌≡◌, ◌≤◌, ◌∷◌, true, false
 ghost use Rattle.std.specs.Char.{is_ascii_digit};
 ghost use Rattle.std.specs.List.{list_all, prefix_len};
 ghost use Rattle.std.specs.Option.{SomeIff};
-ghost use Rattle.rec_sex.specs.IndexList.{value_of, greatest, begins_comma_or_ends, begins_hyphen, IsSecondFault, IsItemFault};
+ghost use Rattle.rec_sex.specs.IndexList.{value_of, greatest, begins_with, IsSecondFault, IsItemFault};
+ghost use Rattle.rec_sex.specs.Joined.{ends_item};
 ghost use Rattle.rec_sex.specs.IndexItems.{BeginsNumber, BeginsNoNumber, EndsPair, BeginsItem, AreSorted, reach_from};
 
 use rec_text::Fault;
@@ -14,14 +15,14 @@ use std::marker::Model;
 const GREATEST: usize = 4_294_967_295;
 
 /// The indexes from the first to the last.
-#[derive(Clone, Copy, Debug, PartialEq, Eq)]
+#[derive(Clone, Copy)]
 pub struct Span {
     pub first: usize,
     pub last: usize,
 }
 
 /// A list of indexes, as spans in the order in which they were written.
-#[derive(Debug, Drop)]
+#[derive(Drop)]
 pub struct IndexList {
     spans: Vec<Span>,
     /// Spans of the same indexes, of which none begins or ends before an earlier one.
@@ -75,14 +76,14 @@ pub(crate) fn number(text: &[u8]) -> Option<(usize, &[u8])>
 
 /// Whether an item may end before this text.
 pub(crate) fn ends_item(rest: &[u8]) -> bool
-    ensures { result ≡ begins_comma_or_ends rest.now }
+    ensures { result ≡ ends_item rest.now }
 {
     matches!(rest.first(), None | Some(b','))
 }
 
 /// What stands behind the hyphen, where one comes first.
 pub(crate) fn behind_hyphen(rest: &[u8]) -> Option<&[u8]>
-    ensures { MatchOption result (begins_hyphen rest.now ≡ false) (λ second. rest.now ≡ 45 ∷ second.now) }
+    ensures { MatchOption result (begins_with 45 rest.now ≡ false) (λ second. rest.now ≡ 45 ∷ second.now) }
 {
     match rest.split_first() {
         Some((b'-', second)) => Some(second),

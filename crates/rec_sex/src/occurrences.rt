@@ -31,7 +31,7 @@ pub(crate) fn value_at<'t>(
 }
 
 /// The occurrence that is chosen for a name.
-#[derive(Debug, Drop)]
+#[derive(Drop)]
 pub(crate) struct Chosen<'n> {
     pub name: &'n [u8],
     pub occurrence: usize,

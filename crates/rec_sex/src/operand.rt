@@ -1,5 +1,5 @@
 //! Operands, and what the operators make of them.
-ghost use Rattle.std.specs.Prelude.{◌≡◌, ◌++◌, IfOk, IfErr, neg_ℤ};
+ghost use Rattle.std.specs.Prelude.{◌≡◌, ◌≢◌, ◌++◌, IfOk, IfErr, neg_ℤ};
 ghost use Rattle.std.specs.Option.{option_map, option_and_then};
 ghost use Rattle.rec_sex.specs.Meaning.{truth as meaning_of_truth, is_true as is_true_meaning, is_zero, in_range, reading_of, text_of, are_equal as are_equal_meanings, apply_operator as meaning_of_operator, integer, text};
 ghost use Rattle.rec_sex.specs.Operands.{meaning_of, fitting, combined as combined_integers, combined_readings};
@@ -11,7 +11,7 @@ use rec_text::{Bytes, Fault, Value};
 use std::alloc::{AllocError, Global};
 
 /// What an expression means where it is defined.
-#[derive(Debug, Drop)]
+#[derive(Drop)]
 pub(crate) enum Operand<'v> {
     Integer(i64),
     Text(Value<'v>),
@@ -85,15 +85,30 @@ fn are_equal(left: &Operand<'_>, right: &Operand<'_>) -> bool
     }
 }
 
+/// The text of an operand, as bytes of its own. One that was made is taken over as it is.
+fn into_text(alloc: Global, operand: Operand<'_>) -> Result<Vec<u8>, AllocError>
+    ensures { IfOk result (λ text. text.items ≡ text_of (meaning_of operand.entry)) }
+{
+    match operand {
+        Operand::Integer(integer) => {
+            let mut buffer = Buffer::new();
+            Vec::from_slice(alloc, buffer.format(integer).as_bytes())
+        }
+        Operand::Text(Value::Part(part)) => Vec::from_slice(alloc, part),
+        Operand::Text(Value::Made(made)) => Ok(made.into_vec()),
+    }
+}
+
+/// The text of an operand behind that of another.
 fn joined<'v>(
     alloc: Global,
-    left: &Operand<'_>,
+    left: Operand<'_>,
     right: &Operand<'_>,
 ) -> Result<Operand<'v>, AllocError>
-    ensures { IfOk result (λ both. meaning_of both ≡ text (text_of (meaning_of left.now) ++ text_of (meaning_of right.now))) }
+    ensures { IfOk result (λ both. meaning_of both ≡ text (text_of (meaning_of left.entry) ++ text_of (meaning_of right.now))) }
 {
     let mut buffer = Buffer::new();
-    let mut text = Vec::from_slice(alloc, left.text(&mut buffer))?;
+    let mut text = into_text(alloc, left)?;
     text.extend_from_slice(right.text(&mut buffer))?;
     Ok(Operand::Text(Value::Made(Bytes::from_vec(text))))
 }
@@ -142,20 +157,34 @@ fn combined_readings<'v>(
     Some(Operand::Integer(combined(operator, x, y)?))
 }
 
-fn apply_to_defined<'v>(
-    alloc: Global,
+/// An operator that joins no texts.
+fn apply_unjoined<'v>(
     operator: Operator,
     left: &Operand<'_>,
     right: &Operand<'_>,
+) -> Option<Operand<'v>>
+    requires { operator ≢ Operator.Join }
+    ensures { option_map meaning_of result ≡ meaning_of_operator operator (meaning_of left.now) (meaning_of right.now) }
+{
+    match operator {
+        Operator::Equal => Some(truth(are_equal(left, right))),
+        Operator::NotEqual => Some(truth(!are_equal(left, right))),
+        _ => combined_readings(operator, left, right),
+    }
+}
+
+fn apply_to_defined<'v>(
+    alloc: Global,
+    operator: Operator,
+    left: Operand<'_>,
+    right: &Operand<'_>,
 ) -> Result<Option<Operand<'v>>, Fault>
-    ensures meaning { IfOk result (λ both. option_map meaning_of both ≡ meaning_of_operator operator (meaning_of left.now) (meaning_of right.now)) }
+    ensures meaning { IfOk result (λ both. option_map meaning_of both ≡ meaning_of_operator operator (meaning_of left.entry) (meaning_of right.now)) }
     ensures refusals { IfErr result (λ fault. fault ≡ Fault.OutOfMemory) }
 {
     match operator {
-        Operator::Equal => Ok(Some(truth(are_equal(left, right)))),
-        Operator::NotEqual => Ok(Some(truth(!are_equal(left, right)))),
         Operator::Join => Ok(Some(joined(alloc, left, right)?)),
-        _ => Ok(combined_readings(operator, left, right)),
+        _ => Ok(apply_unjoined(operator, &left, right)),
     }
 }
 
@@ -170,7 +199,7 @@ pub(crate) fn apply_operator<'v>(
     ensures refusals { IfErr result (λ fault. fault ≡ Fault.OutOfMemory) }
 {
     match (left, right) {
-        (Some(left), Some(right)) => apply_to_defined(alloc, operator, &left, &right),
+        (Some(left), Some(right)) => apply_to_defined(alloc, operator, left, &right),
         _ => Ok(None),
     }
 }

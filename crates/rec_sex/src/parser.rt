@@ -12,7 +12,7 @@ use std::alloc::Global;
 use std::collections::VecDeque;
 
 /// A tree, and the texts of its patterns, by their numbers.
-#[derive(Debug, Drop)]
+#[derive(Drop)]
 pub(crate) struct Parsed {
     pub tree: Tree,
     pub patterns: Vec<Bytes>,

@@ -3,7 +3,7 @@ use crate::token::Operator;
 use rec_text::Bytes;
 
 /// An expression, or a part of one. Patterns are numbered from 0 in the order in which they stand in the text.
-#[derive(Debug, Drop)]
+#[derive(Drop)]
 pub enum Tree {
     Integer(i64),
     Literal(Bytes),

@@ -8,7 +8,7 @@ use std::marker::Model;
 use std::ops::Range;
 
 /// A text, its elements and its records.
-#[derive(Debug, Drop)]
+#[derive(Drop)]
 pub struct Database<'t> {
     text: &'t [u8],
     elements: Vec<Element<'t>>,

@@ -19,7 +19,7 @@ pub enum Kind {
 }
 
 /// An element, with the place of its first byte in the text.
-#[derive(Clone, Copy, Debug)]
+#[derive(Clone, Copy)]
 pub struct Element<'t> {
     pub kind: Kind,
     pub at: usize,

@@ -10,7 +10,7 @@ pub(crate) fn is_blank(byte: u8) -> bool
 }
 
 /// Which bytes stand between words.
-#[derive(Clone, Copy, Debug, PartialEq, Eq)]
+#[derive(Clone, Copy)]
 pub enum Space {
     /// Spaces and tabs.
     Blank,

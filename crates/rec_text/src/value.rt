@@ -13,7 +13,7 @@ use crate::space::is_blank;
 use std::alloc::{AllocError, Global};
 
 /// A value: a part of the text where it stands in one piece, else bytes of its own.
-#[derive(Debug, Drop)]
+#[derive(Drop)]
 pub enum Value<'t> {
     Part(&'t [u8]),
     Made(Bytes),

@@ -7,7 +7,7 @@ use rec_text::{Bytes, Fault};
 use std::alloc::Global;
 
 /// One of the two contents.
-#[derive(Clone, Copy, Debug, PartialEq, Eq)]
+#[derive(Clone, Copy)]
 pub enum Which {
     /// The rec file.
     Base,

@@ -10,7 +10,7 @@ use rec_text::{Bytes, Fault};
 use std::alloc::{AllocError, Global};
 
 /// How a call of a home in memory fails.
-#[derive(Clone, Copy, Debug, PartialEq, Eq)]
+#[derive(Clone, Copy)]
 pub enum StoreFault {
     /// Nothing is changed.
     LeavesOld,
@@ -19,14 +19,14 @@ pub enum StoreFault {
 }
 
 /// A call that fails, by its number: calls are counted from 0, reads and replaces alike.
-#[derive(Clone, Copy, Debug)]
+#[derive(Clone, Copy)]
 pub struct Failing {
     pub call: u64,
     pub fault: StoreFault,
 }
 
 /// A file and a journal in memory.
-#[derive(Debug, Drop)]
+#[derive(Drop)]
 pub struct MemoryHome {
     pub file: Bytes,
     pub journal: Bytes,

@@ -4,7 +4,7 @@ use rec_select::InfoForm;
 use rec_text::Bytes;
 
 /// How records are selected.
-#[derive(Debug, Drop)]
+#[derive(Drop)]
 pub enum Ask {
     /// All of them.
     All,
@@ -18,14 +18,14 @@ pub enum Ask {
 
 /// Which records of which type. Without a type they are those of the untyped set where that has a record, and else of
 /// the only typed set.
-#[derive(Debug, Drop)]
+#[derive(Drop)]
 pub struct Pick {
     pub kind: Option<Bytes>,
     pub by: Ask,
 }
 
 /// What is printed of each record. A list of fields is a text such as `Name,Email[0-1]`.
-#[derive(Debug, Drop)]
+#[derive(Drop)]
 pub enum Form {
     /// All its fields, as they stand in the file.
     Blocks,
@@ -40,7 +40,7 @@ pub enum Form {
 }
 
 /// A request on a file and its journal.
-#[derive(Debug, Drop)]
+#[derive(Drop)]
 pub enum Request {
     /// Prints records. With `collapse` no empty line stands between them.
     Show {
@@ -103,7 +103,7 @@ pub enum Request {
 }
 
 /// The answer to a request that isn't refused.
-#[derive(Clone, Copy, Debug, PartialEq, Eq)]
+#[derive(Clone, Copy)]
 pub enum Reply {
     /// What was asked for was printed.
     Shown,

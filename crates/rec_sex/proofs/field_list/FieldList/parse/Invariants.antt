@@ -1,9 +1,10 @@
 use Rattle.std.proofs.Common.{length}
-use Rattle.rec_sex.proofs.FieldListLemmas.{ReadUpTo}
+use Rattle.rec_sex.specs.Lists.{IsItem}
+use Rattle.rec_sex.proofs.JoinedLemmas.{ReadUpTo}
 use Rattle.rec_sex.proofs.field_list.FieldList.parse.Given as goal
 
 abbrev pub invariant-loop-found : goal.invariant-loop-found
-invariant-loop-found l = ReadUpTo l.text l.rest l.items.items
+invariant-loop-found l = ReadUpTo IsItem l.text l.rest l.items.items
 
 abbrev pub decreases-loop-found : goal.decreases-loop-found
 decreases-loop-found l = length l.rest

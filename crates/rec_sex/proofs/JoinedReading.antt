@@ -1,0 +1,72 @@
+-- Where a text begins with at most one item, or has one fault there, it has at most one reading as items joined by commas.
+use Rattle.std.proofs.Common.{◌≡◌, ◌∙◌, ℕ, suc, zero, ◌+◌, ◌-◌, ◌<◌, List, [], ◌∷◌, ◌++◌, length, Result, Ok, Err, refl, ap, sym, subst, arith}
+use Rattle.std.proofs.lemmas.List.{append_assoc, append-nil, length-append}
+use Rattle.rec_sex.specs.Joined.{AreJoined, AreWithCommas, BeginsWhole, HasFaultyItem}
+
+abbrev list_with : {I : Type 0} → I → Result (List I) ℕ → Result (List I) ℕ
+list_with item (Ok items) = Ok (item ∷ items)
+list_with item (Err place) = Err place
+
+abbrev list_from : {I : Type 0} → (ℕ → List ℕ → Result (List I) ℕ) → ℕ → ℕ → Result (I × List ℕ) ℕ → Result (List I) ℕ
+list_from next start size (Err place) = Err (start + place)
+list_from next start size (Ok (item, [])) = Ok (item ∷ [])
+list_from next start size (Ok (item, b ∷ rest)) = list_with item (next (start + (size - length rest)) rest)
+
+-- the list that a text of fewer bytes than this begins with, at this place of a whole text
+abbrev list_of : {I : Type 0} → (List ℕ → Result (I × List ℕ) ℕ) → ℕ → ℕ → List ℕ → Result (List I) ℕ
+list_of item_of zero start text = Err start
+list_of item_of (suc bytes) start text = list_from (list_of item_of bytes) start (length text) (item_of text)
+
+list_of-ok : {I : Type 0} (IsItem : List ℕ → I → Type 0) (item_of : List ℕ → Result (I × List ℕ) ℕ)
+    → ((text : List ℕ) (item : I) (rest : List ℕ) → BeginsWhole IsItem text item rest → item_of text ≡ Ok (item, rest))
+    → (bytes start : ℕ) (text : List ℕ) (items : List I) → length text < bytes → AreJoined IsItem text items → list_of item_of bytes start text ≡ Ok items
+list_of-ok IsItem item_of reads zero start text items short are = absurd (omega arith)
+list_of-ok IsItem item_of reads (suc bytes) start text [] short are = absurd are
+list_of-ok IsItem item_of reads (suc bytes) start text (item ∷ []) short is =
+    ap (list_from (list_of item_of bytes) start (length text)) (reads text item [] (text, sym (append-nil text), is, refl))
+list_of-ok IsItem item_of reads (suc bytes) start text (item ∷ next ∷ items) short (front, rest, parts, is, more) =
+    let shorter : length rest < bytes = omega (arith, short, ap length parts, length-append front (44 ∷ rest)) in
+    ap (list_from (list_of item_of bytes) start (length text)) (reads text item (44 ∷ rest) (front, parts, is, refl))
+    ∙ ap (list_with item) (list_of-ok IsItem item_of reads bytes (start + (length text - length rest)) rest (next ∷ items) shorter more)
+
+list_of-err : {I : Type 0} (IsItem : List ℕ → I → Type 0) (IsFault : List ℕ → ℕ → Type 0) (item_of : List ℕ → Result (I × List ℕ) ℕ)
+    → ((text : List ℕ) (item : I) (rest : List ℕ) → BeginsWhole IsItem text item rest → item_of text ≡ Ok (item, rest))
+    → ((text : List ℕ) (place : ℕ) → IsFault text place → item_of text ≡ Err place)
+    → (bytes start : ℕ) (text before : List ℕ) (items : List I) (rest : List ℕ) (at : ℕ) → length text < bytes → text ≡ before ++ rest
+    → AreWithCommas IsItem before items → IsFault rest at → list_of item_of bytes start text ≡ Err (start + (length before + at))
+list_of-err IsItem IsFault item_of reads refuses zero start text before items rest at short parts whole fault = absurd (omega arith)
+list_of-err IsItem IsFault item_of reads refuses (suc bytes) start text before [] rest at short parts none fault =
+    let P : List ℕ → Type 0 = λ t. IsFault t at in
+    let place_is : start + at ≡ start + (length before + at) = omega (arith, ap length none) in
+    ap (list_from (list_of item_of bytes) start (length text)) (refuses text at (subst P (sym (parts ∙ ap (λ b. b ++ rest) none)) fault)) ∙ ap Err place_is
+list_of-err IsItem IsFault item_of reads refuses (suc bytes) start text before (item ∷ items) rest at short parts (front, more, halves, is, whole) fault =
+    let cut : text ≡ front ++ (44 ∷ (more ++ rest)) = parts ∙ ap (λ b. b ++ rest) halves ∙ append_assoc front (44 ∷ more) rest in
+    let size : length text ≡ length front + suc (length (more ++ rest)) = ap length cut ∙ length-append front (44 ∷ (more ++ rest)) in
+    let size_before : length before ≡ length front + suc (length more) = ap length halves ∙ length-append front (44 ∷ more) in
+    let place_is : start + (length text - length (more ++ rest)) + (length more + at) ≡ start + (length before + at) = omega arith in
+    ap (list_from (list_of item_of bytes) start (length text)) (reads text item (44 ∷ (more ++ rest)) (front, cut, is, refl))
+    ∙ ap (list_with item) (list_of-err IsItem IsFault item_of reads refuses bytes (start + (length text - length (more ++ rest))) (more ++ rest) more items rest at (omega arith) refl whole fault)
+    ∙ ap Err place_is
+
+-- ---- the one reading
+
+-- items joined by commas, or the place of a fault
+abbrev pub IsList : {I : Type 0} → (List ℕ → I → Type 0) → (List ℕ → ℕ → Type 0) → List ℕ → Result (List I) ℕ → Type 0
+IsList IsItem IsFault text (Ok items) = AreJoined IsItem text items
+IsList IsItem IsFault text (Err place) = HasFaultyItem IsItem IsFault text place
+
+is_list_of : {I : Type 0} (IsItem : List ℕ → I → Type 0) (IsFault : List ℕ → ℕ → Type 0) (item_of : List ℕ → Result (I × List ℕ) ℕ)
+    → ((text : List ℕ) (item : I) (rest : List ℕ) → BeginsWhole IsItem text item rest → item_of text ≡ Ok (item, rest))
+    → ((text : List ℕ) (place : ℕ) → IsFault text place → item_of text ≡ Err place)
+    → (text : List ℕ) (answer : Result (List I) ℕ) → IsList IsItem IsFault text answer → list_of item_of (length text + 1) 0 text ≡ answer
+is_list_of IsItem IsFault item_of reads refuses text (Ok items) are = list_of-ok IsItem item_of reads (length text + 1) 0 text items (omega arith) are
+is_list_of IsItem IsFault item_of reads refuses text (Err place) has =
+    list_of-err IsItem IsFault item_of reads refuses (length text + 1) 0 text has.before has.items has.rest has.at (omega arith) has.parts has.whole has.bad
+    ∙ ap Err (let e : 0 + (length has.before + has.at) ≡ place = omega (arith, has.behind) in e)
+
+pub one_list : {I : Type 0} (IsItem : List ℕ → I → Type 0) (IsFault : List ℕ → ℕ → Type 0) (item_of : List ℕ → Result (I × List ℕ) ℕ)
+    → ((text : List ℕ) (item : I) (rest : List ℕ) → BeginsWhole IsItem text item rest → item_of text ≡ Ok (item, rest))
+    → ((text : List ℕ) (place : ℕ) → IsFault text place → item_of text ≡ Err place)
+    → (text : List ℕ) (some other : Result (List I) ℕ) → IsList IsItem IsFault text some → IsList IsItem IsFault text other → some ≡ other
+one_list IsItem IsFault item_of reads refuses text some other is is_too =
+    sym (is_list_of IsItem IsFault item_of reads refuses text some is) ∙ is_list_of IsItem IsFault item_of reads refuses text other is_too

@@ -240,8 +240,10 @@ inserts() {
     refuses 'no automatic value' recins -t P -f N -v x last.rec
     put date.rec '%rec: P¶%auto: Day¶%type: Day date¶'
     refuses 'no automatic value' recins -t P -f N -v x date.rec
+    put kind.rec '%rec: P¶%auto: Id¶%type: Id T¶'
+    refuses 'no automatic value' recins -t P -f N -v x kind.rec
     has db.rec "$three"
-    only date.rec db.rec last.rec
+    only date.rec db.rec kind.rec last.rec
 }
 
 @test "automatic fields of all records" {

@@ -103,3 +103,20 @@ REC
 18: size Q
 "
 }
+
+# chain FROM: definitions of T0 to T999, each by the next one, and of T1000 by FROM
+chain() {
+    printf '%%rec: P\n%%type: N T0\n'
+    seq -f '%.0f' 0 999 | awk '{ printf "%%typedef: T%d T%d\n", $1, $1 + 1 }'
+    printf '%%typedef: T1000 %s\n\nN: 1\n\nN: x\n' "$1"
+}
+
+@test "a chain of 1,000 definitions" {
+    chain int | put db.rec
+    reports '1007: type N'$'\n'
+    chain T1001 | put db.rec
+    reports "2: typedef T0"$'\n'"$(seq -f '%.0f' 1 1001 | awk '{ printf "%d: typedef T%d\n", $1 + 2, $1 }')"$'\n'
+    # it comes back to its middle
+    chain T500 | put db.rec
+    reports "2: typedef T0"$'\n'"$(seq -f '%.0f' 1 1000 | awk '{ printf "%d: typedef T%d\n", $1 + 2, $1 }')"$'\n'"1003: typedef T500"$'\n'
+}

@@ -239,13 +239,22 @@ fn a_text_has_names_records_and_lines(rt: HostRuntime) -> Result<(), Fail> {
 }
 
 #[test]
+fn bytes_are_taken_over(rt: HostRuntime) -> Result<(), Fail> {
+    let bytes = Bytes::copy_of(rt.alloc(), b"a\xff")?;
+    assert_eq!(rt; bytes.into_vec().as_slice(), b"a\xff".as_slice());
+    Ok(())
+}
+
+#[test]
 fn words_of_rules(rt: HostRuntime) {
     let words = [
         (Rule::Size, "size"),
+        (Rule::Typedef, "typedef"),
         (Rule::Key, "key"),
         (Rule::Mandatory, "mandatory"),
         (Rule::Prohibit, "prohibit"),
         (Rule::Unique, "unique"),
+        (Rule::Singular, "singular"),
         (Rule::Allowed, "allowed"),
         (Rule::Fit, "type"),
         (Rule::Constraint, "constraint"),

@@ -1,21 +1,19 @@
 -- The greatest number of each name, field by field, and the counters that go on from it.
-use Rattle.std.proofs.Common.{◌≡◌, ◌∙◌, inl, inr, ℕ, ℤ, pos, ◌+ℤ◌, ◌+◌, ◌<◌, true, false, ◌&&◌, ◌||◌, not, cond, List, [], ◌∷◌, ◌++◌, Option, Some, None, option_map, length, take, get_or, refl, ap, sym, subst, arith, zero, suc, unwrap_or}
+use Rattle.std.proofs.Common.{◌≡◌, ◌∙◌, inl, inr, ℕ, ℤ, ◌+◌, ◌<◌, true, false, ◌&&◌, ◌||◌, not, cond, List, [], ◌∷◌, ◌++◌, Option, Some, None, option_map, length, take, get_or, refl, ap, sym, subst, arith, zero, suc, unwrap_or}
 use Rattle.std.proofs.lemmas.Bool.{cases_Bool, or_cases, or_left, or_right}
-use Rattle.std.proofs.lemmas.Int.{ints}
 use Rattle.std.proofs.lemmas.Iterator.Adapters.{option_map_id}
 use Rattle.std.proofs.lemmas.List.{map_more, take_more, flat_map_more}
-use Rattle.std.proofs.lemmas.List.Elements.{All-cons, All-nil, All-weaker, filter_map-append}
+use Rattle.std.proofs.lemmas.List.Elements.{filter_map-append}
 use Rattle.std.proofs.lemmas.List.Folds.{list_any-append}
 use Rattle.std.proofs.lemmas.Option.{same_Some}
 use Rattle.std.specs.Global.{Global}
-use Rattle.std.specs.Prelude.{int_lt, filter_map, IfOk, Result, Ok, Err, All, Contains, Vec, slice_get}
+use Rattle.std.specs.Prelude.{filter_map, IfOk, Result, Ok, Err, Contains, Vec, slice_get}
 use Rattle.std.specs.List.{AllByRecursion}
 use Rattle.std.specs.Str.{bytes_eq}
 use Rattle.std.specs.declared.ops.Range.{Range}
 use Rattle.regex.specs.Patterns.{Re}
 use Rattle.rec_text.specs.declared.element.Element.{Element}
 use Rattle.rec_text.specs.declared.fault.Fault.{Fault}
-use Rattle.rec_text.specs.declared.fault.Fault.TheVariants.{AutoImpossible}
 use Rattle.rec_text.specs.Elements.{Piece, name_of}
 use Rattle.rec_text.specs.Places.{piece_of, pieces_of}
 use Rattle.rec_text.specs.Records.{elements_in}
@@ -24,15 +22,15 @@ use Rattle.rec_text.proofs.ListLemmas.{same_bytes, bytes_eq-self, Contains-head,
 use Rattle.rec_sex.specs.Integers.{int_of}
 use Rattle.rec_sex.specs.Meaning.{values_of}
 use Rattle.rec_check.specs.declared.counter.Counter.{Counter}
-use Rattle.rec_check.specs.Automatic.{IsGreatest, IsNext, automatic_names, begins_special, is_counter, last_integer, may_count, readings}
+use Rattle.rec_check.specs.Automatic.{automatic_names, begins_special, may_count, readings}
 use Rattle.rec_check.specs.Counters.{Counts, CountsFrom, HoldsGreatest, IsTopOf, IsCounterOf, IsKept, AreCounters, AreCountersAt, AreMembersAt, counter_names}
-use Rattle.rec_check.specs.Counting.{greater, greatest_from, readings_in, IsBehind}
+use Rattle.rec_check.specs.Counting.{greater, greatest_from, readings_in}
 use Rattle.rec_check.specs.Rules.{Rules, field_type}
 use Rattle.rec_check.specs.Schemas.{Described}
 use Rattle.rec_check.specs.Types.{FieldType}
 use Rattle.rec_check.specs.Violations.{members}
 use Rattle.rec_check.specs.Words.{is_among}
-use Rattle.rec_check.proofs.CounterLemmas.{greatest_is, none_is, greatest_from-append, greatest_from-option, readings_in-named, readings_in-other, irreflexive}
+use Rattle.rec_check.proofs.CounterLemmas.{greatest_is, none_is, greatest_from-append, greatest_from-option, readings_in-named, readings_in-other}
 
 -- ---- the greatest number of each name
 
@@ -109,6 +107,10 @@ CountsFrom-more names own old new so_far put name among = elim (cases_Bool (byte
         | inr apart ↦ let clash : false ≡ true = (let e = here in rw apart at e) in cc
       ])
     ]
+
+-- a name is the only one of its own
+pub among_itself : (name : List ℕ) → is_among (name ∷ []) name ≡ true
+among_itself name = or_left (bytes_eq name name) false (bytes_eq-self name)
 
 -- ---- counters
 

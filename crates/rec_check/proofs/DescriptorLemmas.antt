@@ -24,13 +24,13 @@ use Rattle.rec_check.specs.declared.refusal.Refusal.{Refusal}
 use Rattle.rec_check.specs.declared.refusal.Refusal.TheVariants.{Bad, Unsupported as NotSupported, Pattern, OutOfMemory}
 use Rattle.rec_check.specs.declared.special.Bound.{Bound}
 use Rattle.rec_check.specs.declared.special.Special.{Special}
-use Rattle.rec_check.specs.declared.special.Special.TheVariants.{Rec, Key, Mandatory, Prohibit, Unique, Allowed, Auto, Type_, Size, Constraint, Confidential}
+use Rattle.rec_check.specs.declared.special.Special.TheVariants.{Rec, Key, Mandatory, Prohibit, Unique, Singular, Allowed, Auto, Type_, Typedef, Size, Constraint, Confidential}
 use Rattle.rec_text.specs.Elements.{has_name}
 use Rattle.rec_check.specs.Descriptors.{Flaw, bad, unsupported, bad_unless, bound_in, element_flaw, first_word, is_one_name, rec_flaw, rec_name, special_flaw, special_of, type_of}
 use Rattle.rec_check.specs.Reading.{Said, Adds, AddsOf, AddsField, AnswersField, AreSaid, HasFieldFlaw, IsFresh, IsRead, bare, field_flaw, flaw_behind, is_repeated}
 use Rattle.rec_check.specs.Rules.{AreRules, names_in, places_of}
 use Rattle.rec_check.specs.Stored.{fault_of}
-use Rattle.rec_check.specs.Types.{Typing, IsTyping}
+use Rattle.rec_check.specs.Types.{Definition, Typing, IsDefinition, IsTyping}
 use Rattle.rec_check.specs.Words.{words, is_among}
 
 -- ---- the names of special fields
@@ -41,9 +41,11 @@ name_for Key = codes "%key"
 name_for Mandatory = codes "%mandatory"
 name_for Prohibit = codes "%prohibit"
 name_for Unique = codes "%unique"
+name_for Singular = codes "%singular"
 name_for Allowed = codes "%allowed"
 name_for Auto = codes "%auto"
 name_for Type_ = codes "%type"
+name_for Typedef = codes "%typedef"
 name_for Size = codes "%size"
 name_for Constraint = codes "%constraint"
 name_for Confidential = codes "%confidential"
@@ -54,9 +56,11 @@ special_of-name_for Key = refl
 special_of-name_for Mandatory = refl
 special_of-name_for Prohibit = refl
 special_of-name_for Unique = refl
+special_of-name_for Singular = refl
 special_of-name_for Allowed = refl
 special_of-name_for Auto = refl
 special_of-name_for Type_ = refl
+special_of-name_for Typedef = refl
 special_of-name_for Size = refl
 special_of-name_for Constraint = refl
 special_of-name_for Confidential = refl
@@ -75,8 +79,9 @@ module _ (name : List ℕ) (special : Special) where
 
   pub name_is : special_of name ≡ Some special → name ≡ name_for special
   name_is is =
-      name_or Rec _ is (λ a. name_or Key _ a (λ b. name_or Mandatory _ b (λ c. name_or Prohibit _ c (λ d. name_or Unique _ d (λ e. name_or Allowed _ e
-      (λ f. name_or Auto _ f (λ g. name_or Type_ _ g (λ h. name_or Size _ h (λ i. name_or Constraint _ i (λ j. name_or Confidential None j (λ none. cc)))))))))))
+      name_or Rec _ is (λ a. name_or Key _ a (λ b. name_or Mandatory _ b (λ c. name_or Prohibit _ c (λ d. name_or Unique _ d (λ e. name_or Singular _ e
+      (λ f. name_or Allowed _ f (λ g. name_or Auto _ g (λ h. name_or Type_ _ h (λ i. name_or Typedef _ i (λ j. name_or Size _ j (λ k. name_or Constraint _ k
+      (λ l. name_or Confidential None l (λ none. cc)))))))))))))
 
 name_for-apart : (name : List ℕ) (special : Special) → special_of name ≡ None → bytes_eq name (name_for special) ≡ false
 name_for-apart name special none = elim (cases_Bool (bytes_eq name (name_for special))) [
@@ -93,7 +98,7 @@ same_special special other same =
 
 -- ---- the values of fields
 
-values_of-append : (name : List ℕ) (front : List Piece) (piece : Piece) → values_of name (front ++ piece ∷ []) ≡ values_of name front ++ cond (has_name name piece) (value_of piece ∷ []) []
+pub values_of-append : (name : List ℕ) (front : List Piece) (piece : Piece) → values_of name (front ++ piece ∷ []) ≡ values_of name front ++ cond (has_name name piece) (value_of piece ∷ []) []
 values_of-append name [] piece = refl
 values_of-append name (first ∷ front) piece = elim (cases_Bool (has_name name first)) [
   | inl here ↦ rw here (ap (λ vs. value_of first ∷ vs) (values_of-append name front piece))
@@ -146,9 +151,11 @@ Part Key values said = (said.rules.key ≡ slice_get (flat_map words values) 0) 
 Part Mandatory values said = said.rules.mandatory ≡ flat_map words values
 Part Prohibit values said = said.rules.prohibited ≡ flat_map words values
 Part Unique values said = said.rules.unique ≡ flat_map words values
+Part Singular values said = said.rules.singular ≡ flat_map words values
 Part Allowed values said = said.rules.allowed ≡ cond (is_met values) (Some (flat_map words values)) None
 Part Auto values said = said.rules.automatic ≡ flat_map words values
 Part Type_ values said = AllZip IsTyping values said.rules.types
+Part Typedef values said = AllZip IsDefinition values said.rules.definitions
 Part Size values said = (said.rules.size ≡ option_and_then bound_in (slice_get values 0)) × (is_some said.rules.size ≡ is_met values)
 Part Constraint values said = AllZip IsExpression values said.rules.constraints
 Part Confidential values said = Unit {0}
@@ -159,9 +166,11 @@ part_none Key = (refl, refl)
 part_none Mandatory = refl
 part_none Prohibit = refl
 part_none Unique = refl
+part_none Singular = refl
 part_none Allowed = refl
 part_none Auto = refl
 part_none Type_ = tt
+part_none Typedef = tt
 part_none Size = (refl, refl)
 part_none Constraint = tt
 part_none Confidential = tt
@@ -192,6 +201,10 @@ module _ (values : List (List ℕ)) (old : Said) where
   keeps_unique Unique names apart part = cc
   keeps_unique other names apart part = part
 
+  keeps_singular : (other : Special) (names : List (List ℕ)) → Keeps Singular other (record old { rules = record old.rules { singular = names } })
+  keeps_singular Singular names apart part = cc
+  keeps_singular other names apart part = part
+
   keeps_allowed : (other : Special) (names : Option (List (List ℕ))) → Keeps Allowed other (record old { rules = record old.rules { allowed = names } })
   keeps_allowed Allowed names apart part = cc
   keeps_allowed other names apart part = part
@@ -203,6 +216,10 @@ module _ (values : List (List ℕ)) (old : Said) where
   keeps_types : (other : Special) (types : List Typing) → Keeps Type_ other (record old { rules = record old.rules { types = types } })
   keeps_types Type_ types apart part = cc
   keeps_types other types apart part = part
+
+  keeps_definitions : (other : Special) (definitions : List Definition) → Keeps Typedef other (record old { rules = record old.rules { definitions = definitions } })
+  keeps_definitions Typedef definitions apart part = cc
+  keeps_definitions other definitions apart part = part
 
   keeps_size : (other : Special) (size : Option Bound) → Keeps Size other (record old { rules = record old.rules { size = size } })
   keeps_size Size size apart part = cc
@@ -218,9 +235,11 @@ module _ (values : List (List ℕ)) (old : Said) where
   keeps_other Mandatory other place value new adds apart part = subst (Part other values) (sym adds) (keeps_mandatory other _ apart part)
   keeps_other Prohibit other place value new adds apart part = subst (Part other values) (sym adds) (keeps_prohibited other _ apart part)
   keeps_other Unique other place value new adds apart part = subst (Part other values) (sym adds) (keeps_unique other _ apart part)
+  keeps_other Singular other place value new adds apart part = subst (Part other values) (sym adds) (keeps_singular other _ apart part)
   keeps_other Allowed other place value new adds apart part = subst (Part other values) (sym adds) (keeps_allowed other _ apart part)
   keeps_other Auto other place value new adds apart part = subst (Part other values) (sym adds) (keeps_automatic other _ apart part)
   keeps_other Type_ other place value new adds apart part = subst (Part other values) (sym adds.3) (keeps_types other _ apart part)
+  keeps_other Typedef other place value new adds apart part = subst (Part other values) (sym adds.2) (keeps_definitions other _ apart part)
   keeps_other Size other place value new adds apart part = subst (Part other values) (sym adds) (keeps_size other _ apart part)
   keeps_other Constraint other place value new adds apart part = subst (Part other values) (sym adds.2) (keeps_constraints other _ apart part)
   keeps_other Confidential other place value new adds apart part = absurd adds
@@ -283,9 +302,11 @@ module _ (values : List (List ℕ)) (place : ℕ) (value : List ℕ) (named : Li
   grows Mandatory sound adds part = ap (λ s. s.rules.mandatory) adds ∙ names_grow values old.rules.mandatory value part
   grows Prohibit sound adds part = ap (λ s. s.rules.prohibited) adds ∙ names_grow values old.rules.prohibited value part
   grows Unique sound adds part = ap (λ s. s.rules.unique) adds ∙ names_grow values old.rules.unique value part
+  grows Singular sound adds part = ap (λ s. s.rules.singular) adds ∙ names_grow values old.rules.singular value part
   grows Allowed sound adds part = ap (λ s. s.rules.allowed) adds ∙ allowed_grow values old.rules.allowed value part
   grows Auto sound adds part = ap (λ s. s.rules.automatic) adds ∙ names_grow values old.rules.automatic value part
   grows Type_ sound adds part = subst (Part Type_ (values ++ value ∷ [])) (sym adds.3) (AllZip-push IsTyping values old.rules.types value adds.0 part adds.1)
+  grows Typedef sound adds part = subst (Part Typedef (values ++ value ∷ [])) (sym adds.2) (AllZip-push IsDefinition values old.rules.definitions value adds.0 part adds.1)
   grows Size sound adds part =
       let first = bad_unless-first (is_some old.rules.size) (is_some (bound_in value)) sound in
       let none = none_met values (is_some old.rules.size) part.1 first.0 in (
@@ -338,6 +359,7 @@ places_of-append name front piece place at =
 -- fields of other kinds add no type
 types_kept : (special : Special) (place : ℕ) (value : List ℕ) (old new : Said) → bytes_eq (name_for special) (codes "%type") ≡ false → Adds special place value old new → new.rules.types ≡ old.rules.types
 types_kept Type_ place value old new apart adds = cc
+types_kept Typedef place value old new apart adds = ap (λ s. s.rules.types) adds.2
 types_kept Constraint place value old new apart adds = ap (λ s. s.rules.types) adds.2
 types_kept Confidential place value old new apart adds = absurd adds
 types_kept Rec place value old new apart adds = ap (λ s. s.rules.types) adds
@@ -345,6 +367,7 @@ types_kept Key place value old new apart adds = ap (λ s. s.rules.types) adds
 types_kept Mandatory place value old new apart adds = ap (λ s. s.rules.types) adds
 types_kept Prohibit place value old new apart adds = ap (λ s. s.rules.types) adds
 types_kept Unique place value old new apart adds = ap (λ s. s.rules.types) adds
+types_kept Singular place value old new apart adds = ap (λ s. s.rules.types) adds
 types_kept Allowed place value old new apart adds = ap (λ s. s.rules.types) adds
 types_kept Auto place value old new apart adds = ap (λ s. s.rules.types) adds
 types_kept Size place value old new apart adds = ap (λ s. s.rules.types) adds
@@ -429,10 +452,12 @@ module _ (named : List (List ℕ)) (fields : List Piece) (said : Said) (are : Ar
     mandatory = are.part Mandatory;
     prohibited = are.part Prohibit;
     unique = are.part Unique;
+    singular = are.part Singular;
     allowed = are.part Allowed ∙ ap (λ b. cond b (Some (names_in (codes "%allowed") fields)) None) (sym (list_any-values_of (codes "%allowed") fields));
     automatic = are.part Auto;
     types = are.part Type_;
     places = are.places;
+    definitions = are.part Typedef;
     size = (are.part Size).0;
     constraints = are.part Constraint;
   }
@@ -460,6 +485,7 @@ module _ (named : List (List ℕ)) (place : ℕ) (value : List ℕ) (old new : S
   fresh_as : (special : Special) → special_flaw special (is_repeated special old) named value ≡ None → Adds special place value old new → IsFresh named new.kind
   fresh_as Rec sound adds = subst (IsFresh named) (sym (ap (λ s. s.kind) adds)) (rec_flaw-fresh (is_some old.kind) named (words value) sound)
   fresh_as Type_ sound adds = subst (IsFresh named) (sym (ap (λ s. s.kind) adds.3)) fresh
+  fresh_as Typedef sound adds = subst (IsFresh named) (sym (ap (λ s. s.kind) adds.2)) fresh
   fresh_as Constraint sound adds = subst (IsFresh named) (sym (ap (λ s. s.kind) adds.2)) fresh
   fresh_as Confidential sound adds = absurd adds
   fresh_as special sound adds = subst (IsFresh named) (sym (ap (λ s. s.kind) adds)) fresh

@@ -1,5 +1,5 @@
 -- The types of fields by their names, and whether values fit them.
-use Rattle.std.proofs.Common.{◌≡◌, ◌∙◌, inl, inr, ℕ, zero, suc, ◌+◌, ◌<◌, Bool, true, false, ◌&&◌, ◌||◌, not, cond, List, [], ◌∷◌, ◌++◌, Option, Some, None, length, length-append, map, take, get_or, refl, ap, sym, subst, arith}
+use Rattle.std.proofs.Common.{◌≡◌, ◌∙◌, inl, inr, ℕ, zero, suc, ◌+◌, ◌<◌, Bool, true, false, ◌&&◌, ◌||◌, not, cond, List, [], ◌∷◌, ◌++◌, Option, Some, None, length, length-append, map, take, get_or, refl, ap, ap₂, sym, subst, arith, unwrap_or}
 use Rattle.std.specs.Prelude.{if◌then◌else◌}
 use Rattle.std.proofs.lemmas.Bool.{cases_Bool}
 use Rattle.std.proofs.lemmas.List.Folds.{list_any_more}
@@ -19,7 +19,10 @@ use Rattle.rec_text.specs.Places.{piece_of, pieces_of}
 use Rattle.rec_text.specs.Records.{is_field_piece}
 use Rattle.rec_text.specs.Values.{value_of}
 use Rattle.rec_check.specs.Fitting.{fails, misfits, misfit_violations}
-use Rattle.rec_check.specs.Types.{FieldType, Typing, fits, type_for}
+use Rattle.rec_check.specs.declared.field_type.Typing.{Typing as StoredTyping}
+use Rattle.rec_check.specs.Rules.{by_meaning}
+use Rattle.rec_check.specs.Stored.{typing_stored}
+use Rattle.rec_check.specs.Types.{FieldType, Typing, fits, type_for, unchecked}
 use Rattle.rec_check.specs.Violations.{line_at, violation}
 use Rattle.rec_check.specs.Words.{is_among}
 use Rattle.rec_check.proofs.NameLemmas.{field_test, no_field_test}
@@ -74,6 +77,20 @@ type_for-push (first ∷ typings) typing name =
       | inl among ↦ rw among refl
       | inr other ↦ rw other refl
     ]
+
+-- what a field in memory says by these meanings of kinds
+abbrev pub typing_meant : (List ℕ → FieldType Re → Option (FieldType Re)) → StoredTyping → Typing
+typing_meant meaning typing = by_meaning meaning (typing_stored typing)
+
+pub all_meant : (meaning : List ℕ → FieldType Re → Option (FieldType Re)) (typings : List StoredTyping) → map (by_meaning meaning) (map typing_stored typings) ≡ map (typing_meant meaning) typings
+all_meant meaning [] = refl
+all_meant meaning (typing ∷ typings) = ap (λ l. typing_meant meaning typing ∷ l) (all_meant meaning typings)
+
+pub same_meant : (meaning same : List ℕ → FieldType Re → Option (FieldType Re)) → ((kind : List ℕ) (own : FieldType Re) → same kind own ≡ meaning kind own)
+    → (typings : List Typing) → map (by_meaning same) typings ≡ map (by_meaning meaning) typings
+same_meant meaning same are [] = refl
+same_meant meaning same are (typing ∷ typings) =
+    ap₂ (λ (o : Option (FieldType Re)) l. record typing { type_ = unwrap_or o unchecked } ∷ l) (are typing.kind typing.type_) (same_meant meaning same are typings)
 
 -- the places of names lead to the types of fields
 pub record LeadsTo (typings : List Typing) (types : List (FieldType Re)) (place : List ℕ → Option ℕ) : Type 0 where
@@ -143,7 +160,7 @@ LeadsTo-more typings more typing types later place next at leads more_is later_i
 
 -- ---- one field after another
 
-enumerate_from-append : {X : Type 0} (n : ℕ) (some more : List X) → enumerate_from n (some ++ more) ≡ enumerate_from n some ++ enumerate_from (n + length some) more
+pub enumerate_from-append : {X : Type 0} (n : ℕ) (some more : List X) → enumerate_from n (some ++ more) ≡ enumerate_from n some ++ enumerate_from (n + length some) more
 enumerate_from-append n [] more = ap (λ k. enumerate_from k more) (omega arith)
 enumerate_from-append n (x ∷ some) more = ap (λ l. (n, x) ∷ l) (enumerate_from-append (n + 1) some more ∙ ap (λ k. enumerate_from (n + 1) some ++ enumerate_from k more) (omega arith))
 

@@ -10,7 +10,7 @@ use Rattle.std.specs.Str.{bytes_eq}
 use Rattle.rec_check.specs.Words.{is_among}
 use Rattle.rec_text.proofs.ListLemmas.{same_bytes}
 
-or_comm : (a b : Bool) → (a || b) ≡ (b || a)
+pub or_comm : (a b : Bool) → (a || b) ≡ (b || a)
 or_comm true true = refl
 or_comm true false = refl
 or_comm false true = refl

@@ -102,7 +102,7 @@ module _ (p : List ℕ → Bool) where
   ]
 
   -- those that pass, each once
-  filter-distinct : (names : List (List ℕ)) → filter p (distinct names) ≡ distinct (filter p names)
+  pub filter-distinct : (names : List (List ℕ)) → filter p (distinct names) ≡ distinct (filter p names)
   filter-distinct [] = refl
   filter-distinct (name ∷ names) =
       let others : List ℕ → Bool = λ other. not (bytes_eq name other) in

@@ -1,18 +1,15 @@
 -- A counter has one next number, whichever way the patterns of its set were built.
-use Rattle.std.proofs.Common.{◌≡◌, ◌∙◌, ℕ, zero, suc, ℤ, pos, ◌+ℤ◌, Bool, true, false, ◌&&◌, List, [], ◌∷◌, Option, Some, None, Result, Ok, Err, refl, ap, sym, subst, inl, inr, arith}
+use Rattle.std.proofs.Common.{◌≡◌, ◌∙◌, ℕ, zero, suc, ℤ, pos, ◌+ℤ◌, true, false, ◌&&◌, List, [], ◌∷◌, Option, Some, None, Result, Ok, Err, refl, ap, sym, subst, inl, inr, arith}
 use Rattle.std.proofs.lemmas.Int.{ints}
 use Rattle.std.proofs.lemmas.List.Elements.{All-contains}
 use Rattle.std.specs.Prelude.{Contains, int_lt, not, slice_get}
 use Rattle.std.specs.List.{AllZip}
 use Rattle.std.specs.Option.{option_map_or}
-use Rattle.std.specs.declared.ops.Range.{Range}
 use Rattle.regex.specs.Patterns.{Re}
 use Rattle.rec_text.specs.declared.fault.Fault.{Fault}
 use Rattle.rec_text.specs.declared.fault.Fault.TheVariants.{AutoImpossible}
 use Rattle.rec_text.specs.Elements.{Piece}
-use Rattle.rec_text.specs.Records.{AreRecords}
 use Rattle.rec_text.proofs.RecordLemmas.{OneListOfRecords-holds}
-use Rattle.rec_check.specs.declared.set.Set_.{Set_}
 use Rattle.rec_check.specs.Automatic.{automatic_names, automatic_of, may_count, begins_special, is_counter, readings, IsGreatest, last_integer, IsNext, IsAutomatic}
 use Rattle.rec_check.specs.Rules.{Rules, AreSameRules, AreSameTypes, field_type}
 use Rattle.rec_check.specs.Schemas.{Described, AreSameSchemas}
@@ -20,7 +17,7 @@ use Rattle.rec_check.specs.Types.{FieldType, matching}
 use Rattle.rec_check.specs.Violations.{members}
 use Rattle.rec_check.specs.Words.{distinct}
 use Rattle.rec_check.proofs.CounterLemmas.{irreflexive}
-use Rattle.rec_check.proofs.OneReportLemmas.{AreSameIfAny, same_type_for}
+use Rattle.rec_check.proofs.SameTypeLemmas.{AreSameIfAny, same_field_type}
 
 -- ---- what counts
 
@@ -36,7 +33,7 @@ may_count-same _ _ same = absurd same
 -- the same rules have the same counters
 pub is_counter-same : (one other : Rules) (name : List ℕ) → AreSameRules one other → is_counter one name ≡ is_counter other name
 is_counter-same one other name same =
-    ap (λ counts. not (begins_special name) && counts) (may_count-same (field_type one name) (field_type other name) (same_type_for one.types other.types name same.types))
+    ap (λ counts. not (begins_special name) && counts) (may_count-same (field_type one name) (field_type other name) (same_field_type one other name same))
 
 -- ---- the next number
 

@@ -1,14 +1,14 @@
 -- A text has one report: what breaks a rule breaks each rule that is the same.
 use Rattle.std.proofs.Common.{◌≡◌, ◌≢◌, ◌∙◌, ℕ, ◌+◌, ◌-◌, Bool, true, false, List, [], ◌∷◌, ◌++◌, Option, Some, None, Result, Ok, Err, refl, sym, ap, ap₂, subst, inl, inr}
-use Rattle.std.specs.Prelude.{◌&&◌, ⊤, nat_le, ◌==◌, not, filter, filter_map, decimal, option_to_list, unwrap_or, if◌then◌else◌}
-use Rattle.std.specs.List.{AllZip, enumerate_from}
-use Rattle.std.specs.Option.{option_map_or}
+use Rattle.std.specs.Prelude.{◌&&◌, nat_le, ◌==◌, not, filter, filter_map, decimal, option_to_list, unwrap_or, if◌then◌else◌}
+use Rattle.std.specs.List.{AllZip, enumerate_from, slice_get}
+use Rattle.std.specs.Option.{option_and_then, option_map_or}
 use Rattle.std.specs.declared.ops.Range.{Range}
 use mathlib.Core.Path.{fun_ext}
 use Rattle.regex.specs.Patterns.{Re}
 use Rattle.rec_text.specs.declared.fault.Fault.{Fault}
 use Rattle.rec_text.specs.declared.fault.Fault.TheVariants.{BadPattern}
-use Rattle.rec_text.specs.declared.violations.Rule.TheVariants.{Size, Key, Mandatory, Prohibit, Unique, Allowed, Fit, Constraint}
+use Rattle.rec_text.specs.declared.violations.Rule.TheVariants.{Size, Key, Mandatory, Prohibit, Unique, Singular, Allowed, Fit, Constraint}
 use Rattle.rec_text.specs.declared.violations.Violation.{Violation}
 use Rattle.rec_text.specs.Elements.{Piece, name_of}
 use Rattle.rec_text.specs.Records.{is_field_piece}
@@ -22,12 +22,13 @@ use Rattle.rec_check.specs.declared.set.Set_.{Set_}
 use Rattle.rec_check.specs.declared.special.Bound.{Bound}
 use Rattle.rec_text.specs.Records.{elements_in}
 use Rattle.rec_check.specs.Descriptors.{meets}
-use Rattle.rec_check.specs.Rules.{Rules, AreSameRules, AreSameTypes, AreSameTypings}
+use Rattle.rec_check.specs.Rules.{Rules, AreSameRules, AreSameTypes, field_type}
 use Rattle.rec_check.specs.Schemas.{Described}
-use Rattle.rec_check.specs.Types.{FieldType, matching, Typing, fits, type_for}
-use Rattle.rec_check.specs.Violations.{line_at, violation, violations_of, occurrences, breaks_key, names_of, key_violations, mandatory_violations, prohibit_violations, unique_violations, allowed_violations, type_violations, breaks_type, size_violations, head_line, members, AreUnselected, AreOfRecord, AreOfRecords, AreOfSet, AreOfSets, OneReport}
+use Rattle.rec_check.specs.Types.{FieldType, matching, fits}
+use Rattle.rec_check.specs.Violations.{line_at, violation, violations_of, occurrences, breaks_key, breaks_singular, names_of, key_violations, mandatory_violations, prohibit_violations, unique_violations, singular_violations, allowed_violations, type_violations, breaks_type, size_violations, head_line, members, resolves, unresolved_violations, typedef_violations, head_violations, AreUnselected, AreOfRecord, AreOfRecords, AreOfSet, AreOfSets, OneReport}
 use Rattle.rec_check.specs.Words.{is_among, distinct}
 use Rattle.rec_check.proofs.SameLemmas.{one_schema}
+use Rattle.rec_check.proofs.SameTypeLemmas.{AreSameIfAny, same_field_type, same_resolves}
 
 -- ---- what the same expressions mean
 
@@ -59,32 +60,6 @@ same_fits : (one other : FieldType Re) (value : List ℕ) → AreSameTypes one o
 same_fits (matching pattern) (matching second) value same = same_is_found pattern second value same
 same_fits one other value same = ap (λ t. fits t value) same
 
--- no type, or the same
-abbrev pub AreSameIfAny : Option (FieldType Re) → Option (FieldType Re) → Type 0
-AreSameIfAny None None = ⊤
-AreSameIfAny (Some one) (Some other) = AreSameTypes one other
-AreSameIfAny _ _ = ⊥
-
-AreSameIfAny-if : (b : Bool) (one other : FieldType Re) → AreSameTypes one other → AreSameIfAny (if b then Some one else None) (if b then Some other else None)
-AreSameIfAny-if true one other same = same
-AreSameIfAny-if false one other same = tt
-
-AreSameIfAny-later : (one other own second : Option (FieldType Re)) → AreSameIfAny one other → AreSameIfAny own second
-    → AreSameIfAny (elim one [ Some t ↦ Some t | None ↦ own ]) (elim other [ Some t ↦ Some t | None ↦ second ])
-AreSameIfAny-later None None own second same too = too
-AreSameIfAny-later None (Some other) own second same too = absurd same
-AreSameIfAny-later (Some one) None own second same too = absurd same
-AreSameIfAny-later (Some one) (Some other) own second same too = same
-
-pub same_type_for : (types others : List Typing) (name : List ℕ) → AllZip AreSameTypings types others → AreSameIfAny (type_for types name) (type_for others name)
-same_type_for [] [] name same = tt
-same_type_for [] (b ∷ others) name same = absurd same
-same_type_for (a ∷ types) [] name same = absurd same
-same_type_for (a ∷ types) (b ∷ others) name same =
-    let P : List (List ℕ) → Type 0 = λ names. AreSameIfAny (if is_among a.names name then Some a.type_ else None) (if is_among names name then Some b.type_ else None) in
-    AreSameIfAny-later (type_for types name) (type_for others name) _ _ (same_type_for types others name same.1)
-    (subst P same.0.names (AreSameIfAny-if (is_among a.names name) a.type_ b.type_ same.0.type_))
-
 same_misfit : (one other : Option (FieldType Re)) (value : List ℕ) → AreSameIfAny one other
     → option_map_or (λ t. not (fits t value)) one false ≡ option_map_or (λ t. not (fits t value)) other false
 same_misfit None None value same = refl
@@ -107,6 +82,9 @@ module _ (one other : Rules) (same : AreSameRules one other) where
   same_unique : (line : ℕ) (fields : List Piece) → unique_violations one line fields ≡ unique_violations other line fields
   same_unique line fields = ap (λ names. violations_of line Unique (filter (λ name. nat_le 2 (occurrences fields name)) (distinct names))) same.unique
 
+  same_singular : (line : ℕ) (earlier : List (List Piece)) (fields : List Piece) → singular_violations one line earlier fields ≡ singular_violations other line earlier fields
+  same_singular line earlier fields = ap (λ names. violations_of line Singular (filter (breaks_singular earlier fields) (distinct names))) same.singular
+
   abbrev unlisted : ℕ → List Piece → Option (List ℕ) → List (List ℕ) → Option (List (List ℕ)) → List Violation
   unlisted line fields key mandatory allowed = violations_of line Allowed
       (filter (λ name. not (option_map_or (λ names. is_among (names ++ (mandatory ++ option_to_list key)) name) allowed true)) (distinct (names_of fields)))
@@ -119,8 +97,7 @@ module _ (one other : Rules) (same : AreSameRules one other) where
 
   same_breaks_type : (piece : Piece) → breaks_type one piece ≡ breaks_type other piece
   same_breaks_type piece =
-      ap (λ breaks. is_field_piece piece && breaks) (same_misfit (type_for one.types (name_of piece)) (type_for other.types (name_of piece)) (value_of piece)
-      (same_type_for one.types other.types (name_of piece) same.types))
+      ap (λ breaks. is_field_piece piece && breaks) (same_misfit (field_type one (name_of piece)) (field_type other (name_of piece)) (value_of piece) (same_field_type one other (name_of piece) same))
 
   same_type_violations : (pieces : List Piece) (record_ : Range ℕ) → type_violations pieces one record_ ≡ type_violations pieces other record_
   same_type_violations pieces record_ =
@@ -135,7 +112,8 @@ module _ (one other : Rules) (same : AreSameRules one other) where
       let unselected : are.unselected ≡ too.unselected =
       one_unselected line 1 one.constraints other.constraints fields are.unselected too.unselected same.constraints are.are too.are in
       are.joined ∙ ap₂ ◌++◌ (same_key line earlier fields) (ap₂ ◌++◌ (same_mandatory line fields) (ap₂ ◌++◌ (same_prohibited line fields)
-      (ap₂ ◌++◌ (same_unique line fields) (ap₂ ◌++◌ (same_allowed line fields) (ap₂ ◌++◌ (same_type_violations pieces record_) unselected))))) ∙ sym too.joined
+      (ap₂ ◌++◌ (same_unique line fields) (ap₂ ◌++◌ (same_singular line earlier fields) (ap₂ ◌++◌ (same_allowed line fields)
+      (ap₂ ◌++◌ (same_type_violations pieces record_) unselected)))))) ∙ sym too.joined
 
   -- ---- one record set
 
@@ -151,10 +129,18 @@ module _ (one other : Rules) (same : AreSameRules one other) where
       ap (λ (size : Option Bound). if option_map_or (λ bound. not (meets bound (s.members.end - s.members.start))) size false
       then violation (head_line pieces records s) Size (unwrap_or s.kind []) ∷ [] else []) same.size
 
+  same_typedefs : (pieces : List Piece) (records : List (Range ℕ)) (s : Set_) → typedef_violations pieces records one s ≡ typedef_violations pieces records other s
+  same_typedefs pieces records s =
+      let same_all : resolves one.definitions ≡ resolves other.definitions = fun_ext (same_resolves one.definitions other.definitions same.definitions) in
+      ap (λ (resolved : List ℕ → Bool). option_map_or (λ record_. unresolved_violations pieces resolved record_.start (elements_in pieces record_)) (option_and_then (slice_get records) s.head) []) same_all
+
+  same_head : (pieces : List Piece) (records : List (Range ℕ)) (s : Set_) → head_violations pieces records one s ≡ head_violations pieces records other s
+  same_head pieces records s = ap₂ ◌++◌ (same_size pieces records s) (same_typedefs pieces records s)
+
   one_of_set : (pieces : List Piece) (records : List (Range ℕ)) (s : Set_) (here there : List Violation)
       → AreOfSet pieces records s one here → AreOfSet pieces records s other there → here ≡ there
   one_of_set pieces records s here there (rest, are, joined) (more, too, joined_too) =
-      joined ∙ ap₂ ◌++◌ (same_size pieces records s) (one_of_records pieces [] (members records s) rest more are too) ∙ sym joined_too
+      joined ∙ ap₂ ◌++◌ (same_head pieces records s) (one_of_records pieces [] (members records s) rest more are too) ∙ sym joined_too
 
 -- ---- one report
 

@@ -1,17 +1,19 @@
 -- The pattern between two equal bytes, and its type.
-use Rattle.std.proofs.Common.{◌≡◌, ◌≢◌, ◌∙◌, ℕ, Bool, true, false, eqb, List, [], ◌∷◌, ◌++◌, Some, None, Ok, Err, refl, ap, sym, eq-eqb}
+use Rattle.std.proofs.Common.{◌≡◌, ◌≢◌, ◌∙◌, ℕ, Bool, true, false, eqb, List, [], ◌∷◌, ◌++◌, Some, None, Ok, Err, refl, ap, subst, sym, eq-eqb}
 use Rattle.std.proofs.lemmas.Bool.{false_from_ne_true, ne_eqb}
 use Rattle.std.proofs.lemmas.Str.{IsUtf8-from_is_utf8, is_utf8-from_IsUtf8}
 use Rattle.std.specs.Option.{option_map}
 use Rattle.std.specs.Prelude.{if◌then◌else◌}
 use Rattle.std.specs.Str.{IsUtf8, is_utf8}
 use Rattle.regex.specs.declared.string.regex.Regex.{Regex}
+use Rattle.regex.specs.Strings.{regex_pattern}
 use Rattle.rec_sex.specs.Patterns.{IsBuiltFrom}
-use Rattle.rec_check.specs.declared.field_type.FieldType.TheVariants.{Matching}
+use Rattle.rec_check.specs.declared.field_type.FieldType.{FieldType as StoredType}
 use Rattle.rec_check.specs.declared.refusal.Refusal.{Refusal}
 use Rattle.rec_check.specs.declared.refusal.Refusal.TheVariants.{Bad, Unsupported, Pattern, OutOfMemory}
 use Rattle.rec_check.specs.Kinds.{IsPatternFor, IsTypeOf}
-use Rattle.rec_check.specs.Types.{between, matching, pattern_in, regexp_of}
+use Rattle.rec_check.specs.Stored.{type_stored}
+use Rattle.rec_check.specs.Types.{between, matching, pattern_in, regexp_of, IsBuilt}
 use Rattle.rec_check.specs.Words.{stripped}
 
 -- ---- the delimiters
@@ -56,5 +58,5 @@ module _ (text bare found pattern : List ℕ) (stripped_is : bare ≡ stripped t
   regexp_type-refused Pattern refused = (pattern, regexp_of-some, refused)
   regexp_type-refused OutOfMemory refused = tt
 
-  pub regexp_type-built : (built : Regex) → IsBuiltFrom pattern built → IsTypeOf (regexp_of text) (Ok (Matching built))
-  regexp_type-built built is = (matching pattern, regexp_of-some, (built, is.0, is.1, is.2, refl))
+  pub regexp_type-built : (built : Regex) (type_ : StoredType) → type_stored type_ ≡ matching (regex_pattern built) → IsBuiltFrom pattern built → IsTypeOf (regexp_of text) (Ok type_)
+  regexp_type-built built type_ stored is = (matching pattern, regexp_of-some, subst (IsBuilt (matching pattern)) (sym stored) (built, is.0, is.1, is.2, refl))

@@ -1,38 +1,34 @@
 -- Violations, joined record by record and set by set.
-use Rattle.std.proofs.Common.{◌≡◌, ◌∙◌, ℕ, ◌+◌, ◌-◌, ◌<◌, ◌≤◌, Bool, true, false, not, List, [], ◌∷◌, ◌++◌, Option, Some, None, filter, length, map, take, get_or, refl, ap, sym, subst, arith, append_assoc}
+use Rattle.std.proofs.Common.{◌≡◌, ◌∙◌, ℕ, ◌+◌, ◌<◌, ◌≤◌, Bool, not, List, [], ◌∷◌, ◌++◌, Option, Some, None, filter, length, map, take, get_or, refl, ap, sym, subst, arith, append_assoc}
 use Rattle.std.proofs.lemmas.List.{append-nil, length-drop, length-map, length-take, take_all, take_more}
 use Rattle.std.proofs.lemmas.List.Elements.{filter_agree}
-use Rattle.std.specs.Prelude.{if◌then◌else◌, option_to_list, unwrap_or}
-use Rattle.std.specs.Option.{option_and_then, option_map_or}
-use Rattle.std.proofs.lemmas.Option.{slice_get-get_or}
-use Rattle.std.specs.List.{enumerate_from, filter_map, cons_option, slice_get}
+use Rattle.std.specs.Prelude.{if◌then◌else◌, option_to_list}
+use Rattle.std.specs.List.{enumerate_from, filter_map, cons_option}
 use Rattle.std.specs.declared.ops.Range.{Range}
 use Rattle.regex.specs.Patterns.{Re}
 use Rattle.rec_text.specs.declared.element.Element.{Element}
-use Rattle.rec_text.specs.declared.violations.Rule.TheVariants.{Size, Key, Allowed, Fit}
+use Rattle.rec_text.specs.declared.violations.Rule.TheVariants.{Key, Allowed, Fit}
 use Rattle.rec_text.specs.declared.violations.Violation.{Violation}
 use Rattle.rec_text.specs.Elements.{Piece, name_of}
 use Rattle.rec_text.specs.Places.{piece_of, pieces_of}
 use Rattle.rec_sex.specs.Grammar.{Term}
 use Rattle.rec_check.specs.declared.set.Set_.{Set_}
-use Rattle.rec_check.specs.declared.special.Bound.{Bound}
 use Rattle.rec_check.specs.declared.limit.Limit.{Limit}
 use Rattle.rec_check.specs.declared.limit.Limit.TheVariants.{Present, Absent, Single}
 use Rattle.rec_check.specs.Checks.{AddsOfRecord, AddsOfRecords, AddsOfSet, AddsUnselected, limit_violations}
 use Rattle.rec_text.specs.Records.{elements_in}
-use Rattle.rec_check.specs.Descriptors.{meets}
-use Rattle.rec_check.specs.Rules.{Rules}
+use Rattle.rec_check.specs.Rules.{Rules, field_type}
 use Rattle.rec_check.specs.Fitting.{misfit_violations}
-use Rattle.rec_check.specs.Types.{FieldType, type_for}
-use Rattle.rec_check.specs.Violations.{AreOfRecord, AreOfRecords, AreUnselected, allowed_violations, breaks_key, breaks_size, head_line, is_allowed, key_violations, line_at, mandatory_violations, members, names_of, prohibit_violations, size_violations, type_violations, unique_violations, violation, violations_of}
+use Rattle.rec_check.specs.Types.{FieldType}
+use Rattle.rec_check.specs.Violations.{AreOfRecord, AreOfRecords, AreUnselected, allowed_violations, breaks_key, head_violations, is_allowed, key_violations, line_at, mandatory_violations, members, names_of, prohibit_violations, singular_violations, type_violations, unique_violations, violation, violations_of}
 use Rattle.rec_check.specs.Words.{distinct}
 use Rattle.rec_check.proofs.FittingLemmas.{misfits-same}
 
 -- ---- one record
 
--- seven parts, one behind another
-regroup : (old a b c d e f g : List Violation) → ((((((old ++ a) ++ b) ++ c) ++ d) ++ e) ++ f) ++ g ≡ old ++ (a ++ (b ++ (c ++ (d ++ (e ++ (f ++ g))))))
-regroup old a b c d e f g = simp append_assoc
+-- eight parts, one behind another
+regroup : (old a b c d e f g h : List Violation) → (((((((old ++ a) ++ b) ++ c) ++ d) ++ e) ++ f) ++ g) ++ h ≡ old ++ (a ++ (b ++ (c ++ (d ++ (e ++ (f ++ (g ++ h)))))))
+regroup old a b c d e f g h = simp append_assoc
 
 filter_map-same : {X Y : Type 0} (f g : X → Option Y) → ((x : X) → f x ≡ g x) → (xs : List X) → filter_map f xs ≡ filter_map g xs
 filter_map-same f g same [] = refl
@@ -48,26 +44,28 @@ limit_violations-same limit asked names wanted line fields same are = ap (λ l. 
 
 -- what was added for one rule after another
 module _ (pieces : List Piece) (rules : Rules) (earlier : List (List Piece)) (record_ : Range ℕ) (line : ℕ) (fields : List Piece) (line_is : line ≡ line_at pieces record_.start) (fields_are : fields ≡ elements_in pieces record_)
-    (old after_key after_mandatory after_prohibited after_unique after_allowed after_types new : List Violation) where
+    (old after_key after_mandatory after_prohibited after_unique after_singular after_allowed after_types new : List Violation) where
   own_of : ℕ → List Piece → List Violation → List Violation
   own_of line fields unselected =
       key_violations rules line earlier fields ++ (mandatory_violations rules line fields ++ (prohibit_violations rules line fields
-      ++ (unique_violations rules line fields ++ (allowed_violations rules line fields ++ (type_violations pieces rules record_ ++ unselected)))))
+      ++ (unique_violations rules line fields ++ (singular_violations rules line earlier fields ++ (allowed_violations rules line fields
+      ++ (type_violations pieces rules record_ ++ unselected))))))
 
   pub AddsOfRecord-joined : (name : Option (List ℕ)) (mandatory prohibited unique : Limit) (mandatory_names prohibited_names unique_names : List (List ℕ)) (allows : List ℕ → Bool) (types : List ℕ → Option (FieldType Re)) (terms : List Term)
       → name ≡ rules.key → mandatory ≡ Present → mandatory_names ≡ distinct rules.mandatory → prohibited ≡ Absent → prohibited_names ≡ distinct rules.prohibited → unique ≡ Single → unique_names ≡ distinct rules.unique
-      → ((name : List ℕ) → allows name ≡ is_allowed rules name) → ((name : List ℕ) → types name ≡ type_for rules.types name) → terms ≡ rules.constraints
+      → ((name : List ℕ) → allows name ≡ is_allowed rules name) → ((name : List ℕ) → types name ≡ field_type rules name) → terms ≡ rules.constraints
       → after_key ≡ old ++ violations_of line Key (filter (breaks_key earlier fields) (option_to_list name))
       → after_mandatory ≡ after_key ++ limit_violations mandatory mandatory_names line fields
       → after_prohibited ≡ after_mandatory ++ limit_violations prohibited prohibited_names line fields
       → after_unique ≡ after_prohibited ++ limit_violations unique unique_names line fields
-      → after_allowed ≡ after_unique ++ violations_of line Allowed (filter (λ name. not (allows name)) (distinct (names_of fields)))
+      → after_singular ≡ after_unique ++ singular_violations rules line earlier fields
+      → after_allowed ≡ after_singular ++ violations_of line Allowed (filter (λ name. not (allows name)) (distinct (names_of fields)))
       → after_types ≡ after_allowed ++ misfit_violations pieces types record_.start fields
       → AddsUnselected line terms fields after_types new
       → AddsOfRecord pieces rules earlier record_ old new
   unfolding own_of
   AddsOfRecord-joined name mandatory prohibited unique mandatory_names prohibited_names unique_names allows types terms key_is mandatory_is mandatory_are prohibited_is prohibited_are unique_is unique_are allows_is types_are terms_are
-      key_added mandatory_added prohibited_added unique_added allowed_added types_added unselected =
+      key_added mandatory_added prohibited_added unique_added singular_added allowed_added types_added unselected =
       let unselected_are : AreUnselected (line_at pieces record_.start) 1 rules.constraints (elements_in pieces record_) unselected.own =
       (let P : ℕ → Type 0 = λ n. AreUnselected n 1 rules.constraints (elements_in pieces record_) unselected.own in
       let Q : List Piece → Type 0 = λ f. AreUnselected line 1 rules.constraints f unselected.own in
@@ -78,18 +76,18 @@ module _ (pieces : List Piece) (rules : Rules) (earlier : List (List Piece)) (re
       let mandatory = mandatory_added ∙ ap (λ l. after_key ++ l) (limit_violations-same mandatory Present mandatory_names (distinct rules.mandatory) line fields mandatory_is mandatory_are) in
       let prohibited = prohibited_added ∙ ap (λ l. after_mandatory ++ l) (limit_violations-same prohibited Absent prohibited_names (distinct rules.prohibited) line fields prohibited_is prohibited_are) in
       let unique = unique_added ∙ ap (λ l. after_prohibited ++ l) (limit_violations-same unique Single unique_names (distinct rules.unique) line fields unique_is unique_are) in
-      let allowed = allowed_added ∙ ap (λ l. after_unique ++ violations_of line Allowed l) (filter_agree (λ name. not (allows name)) (λ name. not (is_allowed rules name)) (λ name. ap not (allows_is name)) names) in
-      let types_same = misfit_violations-same pieces (type_for rules.types) types record_.start fields types_are ∙ ap (misfit_violations pieces (type_for rules.types) record_.start) fields_are in
+      let allowed = allowed_added ∙ ap (λ l. after_singular ++ violations_of line Allowed l) (filter_agree (λ name. not (allows name)) (λ name. not (is_allowed rules name)) (λ name. ap not (allows_is name)) names) in
+      let types_same = misfit_violations-same pieces (field_type rules) types record_.start fields types_are ∙ ap (misfit_violations pieces (field_type rules) record_.start) fields_are in
       record {
         own = own_of (line_at pieces record_.start) (elements_in pieces record_) unselected.own;
         are = record { unselected = unselected.own; are = unselected_are; joined = refl };
         joined =
             unselected.joined
             ∙ ap (λ l. l ++ unselected.own) (types_added ∙ ap (λ l. after_allowed ++ l) types_same
-            ∙ ap (λ l. l ++ type_violations pieces rules record_) (allowed ∙ ap (λ l. l ++ allowed_violations rules line fields) (unique ∙ ap (λ l. l ++ unique_violations rules line fields)
-            (prohibited ∙ ap (λ l. l ++ prohibit_violations rules line fields) (mandatory ∙ ap (λ l. l ++ mandatory_violations rules line fields) key)))))
-            ∙ regroup old (key_violations rules line earlier fields) (mandatory_violations rules line fields) (prohibit_violations rules line fields) (unique_violations rules line fields) (allowed_violations rules line fields)
-            (type_violations pieces rules record_) unselected.own
+            ∙ ap (λ l. l ++ type_violations pieces rules record_) (allowed ∙ ap (λ l. l ++ allowed_violations rules line fields) (singular_added ∙ ap (λ l. l ++ singular_violations rules line earlier fields)
+            (unique ∙ ap (λ l. l ++ unique_violations rules line fields) (prohibited ∙ ap (λ l. l ++ prohibit_violations rules line fields) (mandatory ∙ ap (λ l. l ++ mandatory_violations rules line fields) key))))))
+            ∙ regroup old (key_violations rules line earlier fields) (mandatory_violations rules line fields) (prohibit_violations rules line fields) (unique_violations rules line fields) (singular_violations rules line earlier fields)
+            (allowed_violations rules line fields) (type_violations pieces rules record_) unselected.own
             ∙ ap (λ n. old ++ own_of n fields unselected.own) line_is ∙ ap (λ f. old ++ own_of (line_at pieces record_.start) f unselected.own) fields_are;
       }
 
@@ -133,23 +131,12 @@ module _ (pieces : List Piece) (rules : Rules) where
   pub AddsOfRecords-all : (records : List (Range ℕ)) (i : ℕ) (old new : List Violation) → length records ≤ i → AddsOfRecords pieces rules (take i records) old new → AddsOfRecords pieces rules records old new
   AddsOfRecords-all records i old new past so_far = let P : List (Range ℕ) → Type 0 = λ l. AddsOfRecords pieces rules l old new in subst P (take_all i records past) so_far
 
--- ---- the size of a set
+-- ---- a set
 
-pub size_violations-broken : (pieces : List Piece) (records : List (Range ℕ)) (rules : Rules) (s : Set_) (bound : Bound) (head count line : ℕ) (name : List ℕ) (d : Range ℕ) → rules.size ≡ Some bound → s.head ≡ Some head
-    → count ≡ s.members.end - s.members.start → meets bound count ≡ false → head < length records → line ≡ line_at pieces (get_or records head d).start → name ≡ unwrap_or s.kind []
-    → violation line Size name ∷ [] ≡ size_violations pieces records rules s
-size_violations-broken pieces records rules s bound head count line name d size_is head_is count_is fails within line_is named =
-    let size : ℕ = s.members.end - s.members.start in
-    let broken : breaks_size rules s ≡ true = ap (λ o. option_map_or (λ bound. not (meets bound size)) o false) size_is ∙ ap (λ n. not (meets bound n)) (sym count_is) ∙ ap not fails in
-    let at : head_line pieces records s ≡ line_at pieces (get_or records head d).start =
-    ap (λ o. option_map_or (λ record_. line_at pieces record_.start) (option_and_then (slice_get records) o) 0) head_is ∙ ap (λ o. option_map_or (λ record_. line_at pieces record_.start) o 0) (slice_get-get_or records head d within) in
-    ap (λ n. violation n Size name ∷ []) (line_is ∙ sym at) ∙ ap (λ n. violation (head_line pieces records s) Size n ∷ []) named
-    ∙ sym (ap (λ b. if b then violation (head_line pieces records s) Size (unwrap_or s.kind []) ∷ [] else []) broken)
-
-pub AddsOfSet-joined : (pieces : List Piece) (records : List (Range ℕ)) (s : Set_) (rules : Rules) (old found new : List Violation) → found ≡ old ++ size_violations pieces records rules s
+pub AddsOfSet-joined : (pieces : List Piece) (records : List (Range ℕ)) (s : Set_) (rules : Rules) (old found new : List Violation) → found ≡ old ++ head_violations pieces records rules s
     → AddsOfRecords pieces rules (members records s) found new → AddsOfSet pieces records s rules old new
-AddsOfSet-joined pieces records s rules old found new size_added added = record {
-  own = size_violations pieces records rules s ++ added.own;
+AddsOfSet-joined pieces records s rules old found new head_added added = record {
+  own = head_violations pieces records rules s ++ added.own;
   are = (added.own, added.are, refl);
-  joined = added.joined ∙ ap (λ l. l ++ added.own) size_added ∙ append_assoc old (size_violations pieces records rules s) added.own;
+  joined = added.joined ∙ ap (λ l. l ++ added.own) head_added ∙ append_assoc old (head_violations pieces records rules s) added.own;
 }

@@ -15,10 +15,10 @@ use Rattle.rec_sex.proofs.UniqueLemmas.{same_expression, same_pattern}
 use Rattle.rec_check.specs.declared.set.Set_.{Set_}
 use Rattle.rec_text.specs.Records.{record_at}
 use Rattle.rec_check.specs.Descriptors.{Flaw, bad, unsupported, flaw_at, types_of}
-use Rattle.rec_check.specs.Rules.{Rules, no_rules, AreRules, AreSameRules, AreSameTypes, AreSameTypings}
+use Rattle.rec_check.specs.Rules.{Rules, no_rules, AreRules, AreSameRules, AreSameDefinitions, AreSameTypes, AreSameTypings}
 use Rattle.rec_check.specs.Schemas.{Described, IsDescribed, IsRuled, IsSchema, HasFlaw, AreSameSchemas, OneSchema}
 use Rattle.rec_check.specs.Sets.{AreSets}
-use Rattle.rec_check.specs.Types.{FieldType, integer, range, line as one_line, size, truth, one_of, matching, unchecked, Typing, Written, IsTyping, IsBuilt, typing_of}
+use Rattle.rec_check.specs.Types.{FieldType, integer, range, line as one_line, size, truth, one_of, matching, unchecked, Definition, Typing, Written, WrittenDefinition, IsDefinition, IsTyping, IsBuilt, definition_of, typing_of}
 use Rattle.rec_check.proofs.SetLemmas.{one_list_of_sets}
 
 -- ---- one list of records and sets
@@ -79,6 +79,18 @@ same_typings (x ∷ values) (y ∷ one) (z ∷ other) all too places =
     let rest : map (λ typing. typing.place) one ≡ map (λ typing. typing.place) other = cc in
     (same_typing x y z all.0 too.0 first, same_typings values one other all.1 too.1 rest)
 
+same_parts_defined : (value : List ℕ) (one other : WrittenDefinition) → definition_of value ≡ Some one → definition_of value ≡ Some other
+    → (one.name ≡ other.name) × (one.kind ≡ other.kind) × (other.type_ ≡ one.type_)
+same_parts_defined value one other is too =
+    let both : Some one ≡ Some other = sym is ∙ too in
+    let same : one ≡ other = cc in
+    (ap (λ definition. definition.name) same, ap (λ definition. definition.kind) same, ap (λ definition. definition.type_) (sym same))
+
+same_definition : (value : List ℕ) (one other : Definition) → IsDefinition value one → IsDefinition value other → AreSameDefinitions one other
+same_definition value one other (written, is, built) (more, too, built_too) =
+    let same = same_parts_defined value (record { name = one.name; kind = one.kind; type_ = written }) (record { name = other.name; kind = other.kind; type_ = more }) is too in
+    record { name = same.0; kind = same.1; type_ = same_built written one.type_ other.type_ built (subst (λ w. IsBuilt w other.type_) same.2 built_too) }
+
 -- ---- one list of rules
 
 same_rules : (fields : List Piece) (one other : Rules) → AreRules fields one → AreRules fields other → AreSameRules one other
@@ -87,16 +99,18 @@ same_rules fields one other are too = record {
   mandatory = are.mandatory ∙ sym too.mandatory;
   prohibited = are.prohibited ∙ sym too.prohibited;
   unique = are.unique ∙ sym too.unique;
+  singular = are.singular ∙ sym too.singular;
   allowed = are.allowed ∙ sym too.allowed;
   automatic = are.automatic ∙ sym too.automatic;
   types = same_typings _ one.types other.types are.types too.types (are.places ∙ sym too.places);
+  definitions = AllZip-same IsDefinition AreSameDefinitions same_definition _ one.definitions other.definitions are.definitions too.definitions;
   size = are.size ∙ sym too.size;
   constraints = AllZip-same IsExpression AreSame same_expression _ one.constraints other.constraints are.constraints too.constraints;
 }
 
 same_as_none : (one other : Rules) → one ≡ no_rules → other ≡ no_rules → AreSameRules one other
 same_as_none one other is too =
-    let none : AreSameRules no_rules no_rules = record { key = refl; mandatory = refl; prohibited = refl; unique = refl; allowed = refl; automatic = refl; types = tt; size = refl; constraints = tt } in
+    let none : AreSameRules no_rules no_rules = record { key = refl; mandatory = refl; prohibited = refl; unique = refl; singular = refl; allowed = refl; automatic = refl; types = tt; definitions = tt; size = refl; constraints = tt } in
     subst (λ r. AreSameRules r other) (sym is) (subst (AreSameRules no_rules) (sym too) none)
 
 same_ruled_by : (pieces : List Piece) (records : List (Range ℕ)) (head : Option ℕ) (one other : Rules)

@@ -18,6 +18,8 @@ use Rattle.rec_check.specs.declared.special.Comparison.TheVariants.{Exactly, AtM
 use Rattle.rec_check.specs.Automatic.{automatic_names, automatic_of}
 use Rattle.rec_text.specs.Records.{elements_in}
 use Rattle.rec_check.specs.Descriptors.{bad, unsupported, bound_in, type_of, types_of, rec_flaw, own_flaw, flaw_at}
+use Rattle.rec_check.specs.Meanings.{meaning_in}
+use Rattle.rec_check.specs.Resolving.{is_known_kind}
 use Rattle.rec_check.specs.Rules.{Rules, no_rules, AreRules, field_type}
 use Rattle.rec_check.specs.Schemas.{IsSchema}
 use Rattle.rec_check.specs.Sets.{AreSets, is_of_type}
@@ -85,7 +87,7 @@ listed = record no_rules {
 }
 
 listed_are : AreRules listing listed
-listed_are = record { key = refl; mandatory = refl; prohibited = refl; unique = refl; allowed = refl; automatic = refl; types = tt; places = refl; size = refl; constraints = tt }
+listed_are = record { key = refl; mandatory = refl; prohibited = refl; unique = refl; singular = refl; allowed = refl; automatic = refl; types = tt; places = refl; definitions = tt; size = refl; constraints = tt }
 
 -- each `%type` field keeps its place among all elements and the word of its kind, also one that is unchecked
 abbrev typing : List Piece
@@ -105,16 +107,19 @@ typed_are = record {
   mandatory = refl;
   prohibited = refl;
   unique = refl;
+  singular = refl;
   allowed = refl;
   automatic = refl;
   types = ((integer, refl, refl), ((unchecked, refl, refl), tt));
   places = refl;
+  definitions = tt;
   size = refl;
   constraints = tt;
 }
 
 -- of two types the later holds, and a counter is named once
 types_of_fields : map (field_type typed) (codes "A" ∷ codes "B" ∷ codes "C" ∷ []) ≡ Some unchecked ∷ Some integer ∷ None ∷ []
+unfolding meaning_in is_known_kind
 types_of_fields = refl
 
 counters : automatic_names typed ≡ codes "A" ∷ codes "B" ∷ codes "C" ∷ []
@@ -146,7 +151,7 @@ abbrev keyed : Rules
 keyed = record no_rules { key = Some (codes "N") }
 
 keyed_are : AreRules (field (codes "%rec: P") ∷ field (codes "%key: N") ∷ []) keyed
-keyed_are = record { key = refl; mandatory = refl; prohibited = refl; unique = refl; allowed = refl; automatic = refl; types = tt; places = refl; size = refl; constraints = tt }
+keyed_are = record { key = refl; mandatory = refl; prohibited = refl; unique = refl; singular = refl; allowed = refl; automatic = refl; types = tt; places = refl; definitions = tt; size = refl; constraints = tt }
 
 -- no range holds what stands behind all
 behind_all : (ranges : List (Range ℕ)) (end i : ℕ) → AllByRecursion (λ r. r.end ≤ end) ranges → end ≤ i → LiesIn ranges i → ⊥

@@ -20,7 +20,7 @@ use Rattle.rec_check.specs.Descriptors.{Flaw, bad, bound_in, element_flaw, first
 use Rattle.rec_check.specs.Reading.{field_flaw}
 use Rattle.rec_check.specs.Rules.{Rules, no_rules, AreRules, places_of}
 use Rattle.rec_check.specs.Soundness.{says}
-use Rattle.rec_check.specs.Types.{IsTyping}
+use Rattle.rec_check.specs.Types.{IsDefinition, IsTyping}
 use Rattle.rec_check.specs.Words.{words, is_among}
 use Rattle.rec_check.proofs.DescriptorLemmas.{is_met, list_any-values_of, places_from, type_in, type_in-values_of}
 use Rattle.rec_check.proofs.TypeLemmas.{list_any-map}
@@ -87,10 +87,12 @@ module _ (own other : List Piece) (alike : map says own ≡ map says other) wher
     mandatory = are.mandatory ∙ ap (flat_map words) (same_values (codes "%mandatory"));
     prohibited = are.prohibited ∙ ap (flat_map words) (same_values (codes "%prohibit"));
     unique = are.unique ∙ ap (flat_map words) (same_values (codes "%unique"));
+    singular = are.singular ∙ ap (flat_map words) (same_values (codes "%singular"));
     allowed = are.allowed ∙ ap₂ (λ b vs. cond b (Some (flat_map words vs)) None) (same_any (codes "%allowed")) (same_values (codes "%allowed"));
     automatic = are.automatic ∙ ap (flat_map words) (same_values (codes "%auto"));
     types = subst (λ vs. AllZip IsTyping vs rules.types) (same_values (codes "%type")) are.types;
     places = are.places ∙ same_places (codes "%type");
+    definitions = subst (λ vs. AllZip IsDefinition vs rules.definitions) (same_values (codes "%typedef")) are.definitions;
     size = are.size ∙ ap (λ vs. option_and_then bound_in (slice_get vs 0)) (same_values (codes "%size"));
     constraints = subst (λ vs. AllZip IsExpression vs rules.constraints) (same_values (codes "%constraint")) are.constraints;
   }
@@ -220,10 +222,12 @@ module _ (kind : List ℕ) (own : List Piece) (alike : map says own ≡ (rec_nam
     mandatory = ap (flat_map words) (sym (one_value (codes "%mandatory")));
     prohibited = ap (flat_map words) (sym (one_value (codes "%prohibit")));
     unique = ap (flat_map words) (sym (one_value (codes "%unique")));
+    singular = ap (flat_map words) (sym (one_value (codes "%singular")));
     allowed = ap₂ (λ b vs. cond b (Some (flat_map words vs)) None) (sym (list_any-values_of (codes "%allowed") own ∙ ap is_met (one_value (codes "%allowed")))) (sym (one_value (codes "%allowed")));
     automatic = ap (flat_map words) (sym (one_value (codes "%auto")));
     types = subst (λ vs. AllZip IsTyping vs []) (sym (one_value (codes "%type"))) tt;
     places = sym (places_from-says 0 (codes "%type") own ∙ ap (places_said 0 (codes "%type")) alike);
+    definitions = subst (λ vs. AllZip IsDefinition vs []) (sym (one_value (codes "%typedef"))) tt;
     size = ap (λ vs. option_and_then bound_in (slice_get vs 0)) (sym (one_value (codes "%size")));
     constraints = subst (λ vs. AllZip IsExpression vs []) (sym (one_value (codes "%constraint"))) tt;
   }

@@ -70,13 +70,13 @@ no_place None none = refl
 no_place (Some n) none = absurd (none-some (n + 1) (sym none))
 
 -- behind one that doesn't pass
-position-behind : {X : Type 0} (test : X → Bool) (x : X) (xs : List X) → test x ≡ false → position test (x ∷ xs) ≡ option_map (λ place. place + 1) (position test xs)
+pub position-behind : {X : Type 0} (test : X → Bool) (x : X) (xs : List X) → test x ≡ false → position test (x ∷ xs) ≡ option_map (λ place. place + 1) (position test xs)
 position-behind test x xs other =
     let size : prefix_len (λ y. not (test y)) (x ∷ xs) ≡ 1 + prefix_len (λ y. not (test y)) xs = ap (λ b. cond (not b) (1 + prefix_len (λ y. not (test y)) xs) 0) other in
     ap (λ n. cond (ltb n (length (x ∷ xs))) (Some n) None) size ∙ place_behind (prefix_len (λ y. not (test y)) xs) (length xs)
 
 -- the first that passes is met at once
-position-here : {X : Type 0} (test : X → Bool) (x : X) (xs : List X) → test x ≡ true → position test (x ∷ xs) ≡ Some 0
+pub position-here : {X : Type 0} (test : X → Bool) (x : X) (xs : List X) → test x ≡ true → position test (x ∷ xs) ≡ Some 0
 position-here test x xs passes =
     let none : prefix_len (λ y. not (test y)) (x ∷ xs) ≡ 0 = ap (λ b. cond (not b) (1 + prefix_len (λ y. not (test y)) xs) 0) passes in
     ap (λ n. cond (ltb n (length (x ∷ xs))) (Some n) None) none ∙ ap (λ b. cond b (Some 0) None) (lt-ltb 0 (length (x ∷ xs)) (omega arith))

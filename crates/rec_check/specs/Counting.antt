@@ -1,16 +1,11 @@
 -- The greatest reading of a counter's fields, number by number, and the number behind it.
-use Rattle.std.specs.Prelude.{◌≡◌, ℕ, ℤ, pos, ◌+ℤ◌, ◌-◌, int_lt, true, List, [], ◌∷◌, drop, take, filter_map, Option, Some, None, Result, Ok, Err, if◌then◌else◌}
-use Rattle.std.specs.declared.ops.Range.{Range}
+use Rattle.std.specs.Prelude.{◌≡◌, ℕ, ℤ, pos, ◌+ℤ◌, int_lt, true, List, [], ◌∷◌, filter_map, Option, Some, None, Result, Ok, Err, if◌then◌else◌}
 use Rattle.rec_text.specs.declared.fault.Fault.{Fault}
 use Rattle.rec_text.specs.declared.fault.Fault.TheVariants.{AutoImpossible}
 use Rattle.rec_text.specs.Elements.{Piece}
-use Rattle.rec_text.specs.Records.{AreRecords}
 use Rattle.rec_sex.specs.Integers.{int_of}
 use Rattle.rec_sex.specs.Meaning.{values_of}
-use Rattle.rec_check.specs.declared.set.Set_.{Set_}
-use Rattle.rec_check.specs.Automatic.{IsNext, last_integer, readings}
-use Rattle.rec_check.specs.Rules.{Rules}
-use Rattle.rec_check.specs.Violations.{members}
+use Rattle.rec_check.specs.Automatic.{last_integer}
 
 -- the integer readings of the fields of a name in one record
 abbrev pub readings_in : List ℕ → List Piece → List ℤ
@@ -27,18 +22,9 @@ abbrev pub greatest_from : Option ℤ → List ℤ → Option ℤ
 greatest_from so_far [] = so_far
 greatest_from so_far (z ∷ numbers) = greatest_from (greater so_far (Some z)) numbers
 
--- the greatest reading in the records of these indexes
-abbrev pub IsGreatestOf : List Piece → Range ℕ → List ℕ → Option ℤ → Type 0
-IsGreatestOf pieces own name greatest = (records : List (Range ℕ)) × AreRecords pieces records
-    × (greatest ≡ greatest_from None (readings pieces (take (own.end - own.start) (drop own.start records)) name))
-
 -- one more than the greatest, 0 where there is none; nothing stands behind the last integer
 abbrev pub IsBehind : Option ℤ → Result ℤ Fault → Type 0
 IsBehind None (Ok z) = z ≡ pos 0
 IsBehind (Some greatest) (Ok z) = (int_lt greatest last_integer ≡ true) × (z ≡ greatest +ℤ pos 1)
 IsBehind greatest (Err AutoImpossible) = greatest ≡ Some last_integer
 IsBehind greatest (Err _) = ⊥
-
--- the next value in a set with these rules
-abbrev pub IsNextOf : List Piece → Set_ → Rules → List ℕ → Result ℤ Fault → Type 0
-IsNextOf pieces s rules name answer = (records : List (Range ℕ)) → AreRecords pieces records → IsNext rules name (readings pieces (members records s) name) answer

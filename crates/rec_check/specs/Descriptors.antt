@@ -9,11 +9,11 @@ pub use Rattle.rec_text.specs.Records.{elements_in}
 use Rattle.rec_text.specs.Values.{value_of}
 use Rattle.rec_sex.specs.Grammar.{fault_of}
 use Rattle.rec_check.specs.declared.special.Special.{Special}
-use Rattle.rec_check.specs.declared.special.Special.TheVariants.{Rec, Key, Mandatory, Prohibit, Unique, Allowed, Auto, Type_, Size, Constraint, Confidential}
+use Rattle.rec_check.specs.declared.special.Special.TheVariants.{Rec, Key, Mandatory, Prohibit, Unique, Singular, Allowed, Auto, Type_, Typedef, Size, Constraint, Confidential}
 use Rattle.rec_check.specs.declared.special.Bound.{Bound}
 use Rattle.rec_check.specs.declared.special.Comparison.{Comparison}
 use Rattle.rec_check.specs.declared.special.Comparison.TheVariants.{Exactly, Less, AtMost, Greater, AtLeast}
-use Rattle.rec_check.specs.Types.{natural_of, typing_of}
+use Rattle.rec_check.specs.Types.{definition_of, natural_of, typing_of}
 use Rattle.rec_check.specs.Words.{words, is_among}
 
 -- ---- descriptors
@@ -26,9 +26,11 @@ special_of name =
     else if bytes_eq name (codes "%mandatory") then Some Mandatory
     else if bytes_eq name (codes "%prohibit") then Some Prohibit
     else if bytes_eq name (codes "%unique") then Some Unique
+    else if bytes_eq name (codes "%singular") then Some Singular
     else if bytes_eq name (codes "%allowed") then Some Allowed
     else if bytes_eq name (codes "%auto") then Some Auto
     else if bytes_eq name (codes "%type") then Some Type_
+    else if bytes_eq name (codes "%typedef") then Some Typedef
     else if bytes_eq name (codes "%size") then Some Size
     else if bytes_eq name (codes "%constraint") then Some Constraint
     else if bytes_eq name (codes "%confidential") then Some Confidential
@@ -115,9 +117,11 @@ special_flaw Key repeated named value = bad_unless (not repeated && is_one_name 
 special_flaw Mandatory repeated named value = bad_unless (list_all is_field_name (words value))
 special_flaw Prohibit repeated named value = bad_unless (list_all is_field_name (words value))
 special_flaw Unique repeated named value = bad_unless (list_all is_field_name (words value))
+special_flaw Singular repeated named value = bad_unless (list_all is_field_name (words value))
 special_flaw Allowed repeated named value = bad_unless (list_all is_field_name (words value))
 special_flaw Auto repeated named value = bad_unless (list_all is_field_name (words value))
 special_flaw Type_ repeated named value = bad_unless (is_some (typing_of value))
+special_flaw Typedef repeated named value = bad_unless (is_some (definition_of value))
 special_flaw Size repeated named value = bad_unless (not repeated && is_some (bound_in value))
 special_flaw Constraint repeated named value = bad_unless (not (is_some (fault_of value)))
 special_flaw Confidential repeated named value = Some unsupported

@@ -1,5 +1,5 @@
 -- Fields and the types that they have.
-use Rattle.std.specs.Prelude.{ℕ, Bool, false, ◌&&◌, not, List, filter_map, Option, Some, None, if◌then◌else◌}
+use Rattle.std.specs.Prelude.{ℕ, Bool, false, ◌&&◌, not, List, filter_map, Option, Some, None, option_map, unwrap_or, if◌then◌else◌}
 use Rattle.std.specs.List.{enumerate_from}
 use Rattle.std.specs.Borrow.{Bor}
 use Rattle.std.specs.HashMap.{HashMap, get_by}
@@ -11,8 +11,14 @@ use Rattle.rec_text.specs.declared.violations.Violation.{Violation}
 use Rattle.rec_text.specs.Elements.{Piece, name_of}
 use Rattle.rec_text.specs.Records.{is_field_piece}
 use Rattle.rec_text.specs.Values.{value_of}
-use Rattle.rec_check.specs.Types.{FieldType, fits}
+use Rattle.rec_check.specs.declared.tested.Tested.{Tested}
+use Rattle.rec_check.specs.Stored.{type_stored}
+use Rattle.rec_check.specs.Types.{FieldType, fits, unchecked}
 use Rattle.rec_check.specs.Violations.{line_at, violation}
+
+-- the type that values are tried for; where there is none, any value fits
+abbrev pub tested : Tested → FieldType Re
+tested test = unwrap_or (option_map (λ tried. type_stored tried.type_.now) test.tried) unchecked
 
 abbrev pub place_of : {S : Type 0} → HashMap (Bor (List ℕ)) ℕ S → List ℕ → Option ℕ
 place_of places name = get_by (λ one. bytes_eq name one.now) places

@@ -1,4 +1,4 @@
--- What is answered for a type that a `%type` field writes.
+-- What is answered for a type that a `%type` or a `%typedef` field writes.
 use Rattle.std.specs.Prelude.{◌≡◌, List, ℕ, Option, Some, None, Result, Ok, Err}
 use Rattle.regex.specs.declared.string.regex.Regex.{Regex}
 use Rattle.rec_sex.specs.Patterns.{IsBuiltFrom, IsRefusedPattern}
@@ -6,7 +6,7 @@ use Rattle.rec_check.specs.declared.field_type.FieldType.{FieldType as StoredTyp
 use Rattle.rec_check.specs.declared.refusal.Refusal.{Refusal}
 use Rattle.rec_check.specs.declared.refusal.Refusal.TheVariants.{Bad, Unsupported, Pattern, OutOfMemory}
 use Rattle.rec_check.specs.Stored.{type_stored}
-use Rattle.rec_check.specs.Types.{FieldType, matching, IsBuilt}
+use Rattle.rec_check.specs.Types.{FieldType, matching, IsBuilt, kind_of}
 
 -- the type that is written, with its pattern built; a refusal where none is, or where its pattern is refused
 abbrev pub IsTypeOf : Option (FieldType (List ℕ)) → Result StoredType Refusal → Type 0
@@ -15,6 +15,14 @@ IsTypeOf written (Err Bad) = written ≡ None
 IsTypeOf written (Err Unsupported) = ⊥
 IsTypeOf written (Err Pattern) = (pattern : List ℕ) × (written ≡ Some (matching pattern)) × IsRefusedPattern pattern
 IsTypeOf written (Err OutOfMemory) = Unit {0}
+
+-- the kind that is written first, and its type with its pattern built; a refusal where that isn't right, or its pattern refused
+abbrev pub IsKindIn : List ℕ → Result (List ℕ × StoredType) Refusal → Type 0
+IsKindIn text (Ok (kind, type_)) = (one : FieldType (List ℕ)) × (kind_of text ≡ Some (kind, one)) × IsBuilt one (type_stored type_)
+IsKindIn text (Err Bad) = kind_of text ≡ None
+IsKindIn text (Err Unsupported) = ⊥
+IsKindIn text (Err Pattern) = (kind : List ℕ) × (pattern : List ℕ) × (kind_of text ≡ Some (kind, matching pattern)) × IsRefusedPattern pattern
+IsKindIn text (Err OutOfMemory) = Unit {0}
 
 -- the pattern that is built of a text, or a refusal of that
 abbrev pub IsPatternFor : List ℕ → Result Regex Refusal → Type 0

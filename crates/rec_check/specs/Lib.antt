@@ -1,5 +1,7 @@
 pub mod Words
 pub mod Types
+pub mod Resolving
+pub mod Meanings
 pub mod Descriptors
 pub mod Rules
 pub mod Sets
@@ -10,7 +12,9 @@ pub mod Soundness
 pub mod Steps
 pub mod Walking
 pub mod Checks
+pub mod Met
 pub mod Keys
+pub mod Singulars
 pub mod Names
 pub mod Fitting
 pub mod Tests
@@ -18,6 +22,7 @@ pub mod Constraints
 pub mod Ready
 pub mod Stored
 pub mod Kinds
+pub mod Resolved
 pub mod Testing
 pub mod Reading
 pub mod Counting

@@ -10,19 +10,20 @@ use Rattle.rec_text.specs.Values.{value_of}
 use Rattle.rec_sex.specs.declared.expr.Expr.{Expr}
 use Rattle.rec_sex.specs.Expressions.{IsExpression, HasRefusedPattern, term_of}
 use Rattle.rec_sex.specs.Grammar.{Term}
+use Rattle.rec_check.specs.declared.definition.Definition.{Definition as StoredDefinition}
 use Rattle.rec_check.specs.declared.descriptor.Descriptor.{Descriptor}
 use Rattle.rec_check.specs.declared.draft.Draft.{Draft}
 use Rattle.rec_check.specs.declared.field_type.Typing.{Typing as StoredTyping}
 use Rattle.rec_check.specs.declared.refusal.Refusal.{Refusal}
 use Rattle.rec_check.specs.declared.refusal.Refusal.TheVariants.{Bad, Unsupported as NotSupported, Pattern, OutOfMemory}
 use Rattle.rec_check.specs.declared.special.Special.{Special}
-use Rattle.rec_check.specs.declared.special.Special.TheVariants.{Rec, Key, Mandatory, Prohibit, Unique, Allowed, Auto, Type_, Size, Constraint, Confidential}
+use Rattle.rec_check.specs.declared.special.Special.TheVariants.{Rec, Key, Mandatory, Prohibit, Unique, Singular, Allowed, Auto, Type_, Typedef, Size, Constraint, Confidential}
 use Rattle.rec_check.specs.Descriptors.{Flaw, bad, unsupported, element_flaw, first_word, special_flaw, special_of, type_of, bound_in}
 use Rattle.rec_check.specs.Rules.{Rules, no_rules, AreRules}
 use Rattle.rec_check.specs.Schemas.{Described, MayBeRefused}
 use Rattle.rec_check.specs.Steps.{with_record}
-use Rattle.rec_check.specs.Stored.{rules_stored, typing_stored}
-use Rattle.rec_check.specs.Types.{Typing, IsTyping, HasRefusedType}
+use Rattle.rec_check.specs.Stored.{definition_stored, rules_stored, typing_stored}
+use Rattle.rec_check.specs.Types.{Definition, Typing, IsDefinition, IsTyping, HasRefusedDefinition, HasRefusedType}
 use Rattle.rec_check.specs.Words.{words, is_among}
 
 -- ---- one field
@@ -53,9 +54,11 @@ Adds Key place value old new = new ≡ record old { rules = record old.rules { k
 Adds Mandatory place value old new = new ≡ record old { rules = record old.rules { mandatory = old.rules.mandatory ++ words value } }
 Adds Prohibit place value old new = new ≡ record old { rules = record old.rules { prohibited = old.rules.prohibited ++ words value } }
 Adds Unique place value old new = new ≡ record old { rules = record old.rules { unique = old.rules.unique ++ words value } }
+Adds Singular place value old new = new ≡ record old { rules = record old.rules { singular = old.rules.singular ++ words value } }
 Adds Allowed place value old new = new ≡ record old { rules = record old.rules { allowed = Some (unwrap_or old.rules.allowed [] ++ words value) } }
 Adds Auto place value old new = new ≡ record old { rules = record old.rules { automatic = old.rules.automatic ++ words value } }
 Adds Type_ place value old new = (typing : Typing) × IsTyping value typing × (typing.place ≡ place) × (new ≡ record old { rules = record old.rules { types = old.rules.types ++ typing ∷ [] } })
+Adds Typedef place value old new = (definition : Definition) × IsDefinition value definition × (new ≡ record old { rules = record old.rules { definitions = old.rules.definitions ++ definition ∷ [] } })
 Adds Size place value old new = new ≡ record old { rules = record old.rules { size = bound_in value } }
 Adds Constraint place value old new = (term : Term) × IsExpression value term × (new ≡ record old { rules = record old.rules { constraints = old.rules.constraints ++ term ∷ [] } })
 Adds Confidential place value old new = ⊥
@@ -63,6 +66,7 @@ Adds Confidential place value old new = ⊥
 -- a field of this kind has a pattern that may be refused
 abbrev pub IsRefusedAs : Special → List ℕ → Type 0
 IsRefusedAs Type_ value = HasRefusedType value
+IsRefusedAs Typedef value = HasRefusedDefinition value
 IsRefusedAs Constraint value = HasRefusedPattern value
 IsRefusedAs _ value = ⊥
 
@@ -74,9 +78,12 @@ Answers flaw Added IsRefused (Err NotSupported) = flaw ≡ Some unsupported
 Answers flaw Added IsRefused (Err Pattern) = (flaw ≡ None) × IsRefused
 Answers flaw Added IsRefused (Err OutOfMemory) = Unit {0}
 
--- the same of types and expressions in memory
+-- the same of types, definitions and expressions in memory
 abbrev pub AddsTyping : ℕ → List ℕ → List StoredTyping → List StoredTyping → Type 0
 AddsTyping place value old new = (typing : Typing) × IsTyping value typing × (typing.place ≡ place) × (map typing_stored new ≡ map typing_stored old ++ typing ∷ [])
+
+abbrev pub AddsDefinition : List ℕ → List StoredDefinition → List StoredDefinition → Type 0
+AddsDefinition value old new = (definition : Definition) × IsDefinition value definition × (map definition_stored new ≡ map definition_stored old ++ definition ∷ [])
 
 abbrev pub AddsConstraint : List ℕ → List Expr → List Expr → Type 0
 AddsConstraint value old new = (term : Term) × IsExpression value term × (map term_of new ≡ map term_of old ++ term ∷ [])

@@ -9,6 +9,7 @@ use Rattle.rec_check.specs.Constraints.{terms_in}
 use Rattle.rec_check.specs.Keys.{IsAfter}
 use Rattle.rec_check.specs.Names.{allows}
 use Rattle.rec_check.specs.Rules.{Rules, field_type}
+use Rattle.rec_check.specs.Singulars.{IsAfter as IsSingularAfter}
 use Rattle.rec_check.specs.Tests.{type_in}
 use Rattle.rec_check.specs.Violations.{is_allowed}
 use Rattle.rec_check.specs.Words.{distinct}
@@ -23,6 +24,7 @@ pub record IsReady (rules : Rules) (earlier : List (List Piece)) (checker : Chec
   pub mandatory : IsLimit Present rules.mandatory checker.mandatory
   pub prohibited : IsLimit Absent rules.prohibited checker.prohibited
   pub unique : IsLimit Single rules.unique checker.unique
+  pub singular : IsSingularAfter rules.singular earlier checker.singular
   pub allowed : (name : List ℕ) → allows checker.allowed name ≡ is_allowed rules name
   pub types : (name : List ℕ) → type_in checker.types name ≡ field_type rules name
   pub constraints : terms_in checker.constraints ≡ rules.constraints

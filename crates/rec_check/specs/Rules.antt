@@ -1,5 +1,5 @@
 -- What a descriptor asks of the records of its set.
-use Rattle.std.specs.Prelude.{◌≡◌, ℕ, List, [], codes, flat_map, filter_map, map, slice_get, Option, Some, None, option_and_then, if◌then◌else◌}
+use Rattle.std.specs.Prelude.{◌≡◌, ℕ, List, [], codes, flat_map, filter_map, map, slice_get, Option, Some, None, option_and_then, unwrap_or, if◌then◌else◌}
 use Rattle.std.specs.List.{AllZip, enumerate_from, list_any}
 use Rattle.regex.specs.Patterns.{Re, SameCaptures}
 use Rattle.rec_text.specs.Elements.{Piece}
@@ -9,20 +9,23 @@ use Rattle.rec_sex.specs.Meaning.{values_of}
 use Rattle.rec_check.specs.declared.special.Bound.{Bound}
 use Rattle.rec_text.specs.Elements.{has_name}
 use Rattle.rec_check.specs.Descriptors.{bound_in}
-use Rattle.rec_check.specs.Types.{FieldType, matching, Typing, IsTyping, type_for}
+use Rattle.rec_check.specs.Meanings.{meaning_in}
+use Rattle.rec_check.specs.Types.{FieldType, matching, unchecked, Definition, Typing, IsDefinition, IsTyping, type_for}
 use Rattle.rec_check.specs.Words.{words}
 
--- The key; the names of fields that each record has, has none of, has at most one of; where they are limited, the names
--- that are allowed beside the key and these; the names of counters; the types; how many records there are; and the
--- expressions that select each record.
+-- The key; the names of fields that each record has, has none of, has at most one of, and has with values that no other
+-- record has; where they are limited, the names that are allowed beside the key and what each record has; the names of
+-- counters; the types; what kinds mean; how many records there are; and the expressions that select each record.
 pub record Rules : Type 0 where
   pub key : Option (List ℕ)
   pub mandatory : List (List ℕ)
   pub prohibited : List (List ℕ)
   pub unique : List (List ℕ)
+  pub singular : List (List ℕ)
   pub allowed : Option (List (List ℕ))
   pub automatic : List (List ℕ)
   pub types : List Typing
+  pub definitions : List Definition
   pub size : Option Bound
   pub constraints : List Term
 
@@ -33,9 +36,11 @@ no_rules = record {
   mandatory = [];
   prohibited = [];
   unique = [];
+  singular = [];
   allowed = None;
   automatic = [];
   types = [];
+  definitions = [];
   size = None;
   constraints = [];
 }
@@ -54,16 +59,22 @@ pub record AreRules (fields : List Piece) (rules : Rules) : Type 0 where
   pub mandatory : rules.mandatory ≡ names_in (codes "%mandatory") fields
   pub prohibited : rules.prohibited ≡ names_in (codes "%prohibit") fields
   pub unique : rules.unique ≡ names_in (codes "%unique") fields
+  pub singular : rules.singular ≡ names_in (codes "%singular") fields
   pub allowed : rules.allowed ≡ (if list_any (has_name (codes "%allowed")) fields then Some (names_in (codes "%allowed") fields) else None)
   pub automatic : rules.automatic ≡ names_in (codes "%auto") fields
   pub types : AllZip IsTyping (values_of (codes "%type") fields) rules.types
   pub places : map (λ typing. typing.place) rules.types ≡ places_of (codes "%type") fields
+  pub definitions : AllZip IsDefinition (values_of (codes "%typedef") fields) rules.definitions
   pub size : rules.size ≡ option_and_then bound_in (slice_get (values_of (codes "%size") fields) 0)
   pub constraints : AllZip IsExpression (values_of (codes "%constraint") fields) rules.constraints
 
+-- what a `%type` field says by these meanings of kinds; where its kind has none, any value fits
+abbrev pub by_meaning : (List ℕ → FieldType Re → Option (FieldType Re)) → Typing → Typing
+by_meaning meaning typing = record typing { type_ = unwrap_or (meaning typing.kind typing.type_) unchecked }
+
 -- the type of the fields of a name under these rules, where they have one
 abbrev pub field_type : Rules → List ℕ → Option (FieldType Re)
-field_type rules name = type_for rules.types name
+field_type rules name = type_for (map (by_meaning (meaning_in rules.definitions)) rules.types) name
 
 -- ---- rules that are the same
 
@@ -78,14 +89,21 @@ pub record AreSameTypings (one other : Typing) : Type 0 where
   pub kind : one.kind ≡ other.kind
   pub type_ : AreSameTypes one.type_ other.type_
 
+pub record AreSameDefinitions (one other : Definition) : Type 0 where
+  pub name : one.name ≡ other.name
+  pub kind : one.kind ≡ other.kind
+  pub type_ : AreSameTypes one.type_ other.type_
+
 -- the same rules, up to patterns that give the same matches
 pub record AreSameRules (one other : Rules) : Type 0 where
   pub key : one.key ≡ other.key
   pub mandatory : one.mandatory ≡ other.mandatory
   pub prohibited : one.prohibited ≡ other.prohibited
   pub unique : one.unique ≡ other.unique
+  pub singular : one.singular ≡ other.singular
   pub allowed : one.allowed ≡ other.allowed
   pub automatic : one.automatic ≡ other.automatic
   pub types : AllZip AreSameTypings one.types other.types
+  pub definitions : AllZip AreSameDefinitions one.definitions other.definitions
   pub size : one.size ≡ other.size
   pub constraints : AllZip AreSame one.constraints other.constraints

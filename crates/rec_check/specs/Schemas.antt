@@ -11,12 +11,12 @@ use Rattle.rec_text.specs.Records.{AreRecords}
 use Rattle.rec_text.specs.Values.{value_of}
 use Rattle.rec_sex.specs.Expressions.{HasRefusedPattern}
 use Rattle.rec_check.specs.declared.set.Set_.{Set_}
-use Rattle.rec_check.specs.declared.special.Special.TheVariants.{Type_, Constraint}
+use Rattle.rec_check.specs.declared.special.Special.TheVariants.{Type_, Typedef, Constraint}
 use Rattle.rec_text.specs.Records.{elements_in, record_at}
 use Rattle.rec_check.specs.Descriptors.{Flaw, bad, unsupported, flaw_at, holds_index, special_of, type_of, types_of}
 use Rattle.rec_check.specs.Rules.{Rules, no_rules, AreRules, AreSameRules}
 use Rattle.rec_check.specs.Sets.{AreSets}
-use Rattle.rec_check.specs.Types.{HasRefusedType}
+use Rattle.rec_check.specs.Types.{HasRefusedDefinition, HasRefusedType}
 
 -- what a schema holds: the record sets, and for each of them its rules
 pub record Described : Type 0 where
@@ -44,10 +44,11 @@ pub record HasFlaw (pieces : List Piece) (flaw : Flaw) (line : ℕ) : Type 0 whe
   pub met : flaw_at pieces records at ≡ Some flaw
   pub number : line ≡ line_after (text_of (take at pieces))
 
--- the type or the expression that a field gives has a pattern that `regex` may refuse, for another cause than memory
+-- the type, the definition or the expression that a field gives has a pattern that `regex` may refuse, for another cause than memory
 abbrev pub MayBeRefused : Piece → Type 0
 MayBeRefused field = elim (special_of (name_of field)) [
   | Some Type_ ↦ HasRefusedType (value_of field)
+  | Some Typedef ↦ HasRefusedDefinition (value_of field)
   | Some Constraint ↦ HasRefusedPattern (value_of field)
   | _ ↦ ⊥
 ]

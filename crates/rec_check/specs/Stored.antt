@@ -7,15 +7,15 @@ use Rattle.rec_text.specs.declared.fault.Fault.TheVariants.{OutOfMemory, BadDesc
 use Rattle.rec_sex.specs.Expressions.{term_of}
 use Rattle.rec_check.specs.declared.refusal.Refusal.{Refusal}
 use Rattle.rec_check.specs.declared.refusal.Refusal.TheVariants.{Bad, Unsupported as NotSupported, Pattern, OutOfMemory as NoMemory}
+use Rattle.rec_check.specs.declared.definition.Definition.{Definition as StoredDefinition}
 use Rattle.rec_check.specs.declared.field_type.FieldType.{FieldType as StoredType}
 use Rattle.rec_check.specs.declared.field_type.FieldType.TheVariants.{Integer, Range, Line, Size, Truth, OneOf, Matching, Unchecked}
 use Rattle.rec_check.specs.declared.field_type.Typing.{Typing as StoredTyping}
 use Rattle.rec_check.specs.declared.rules.Rules.{Rules as StoredRules}
-use Rattle.rec_check.specs.declared.tested.Tested.{Tested}
 use Rattle.rec_check.specs.declared.schema.Schema.{Schema}
 use Rattle.rec_check.specs.Rules.{Rules}
 use Rattle.rec_check.specs.Schemas.{Described}
-use Rattle.rec_check.specs.Types.{FieldType, integer, range, line, size, truth, one_of, matching, unchecked, Typing}
+use Rattle.rec_check.specs.Types.{FieldType, integer, range, line, size, truth, one_of, matching, unchecked, Typing, Definition}
 
 abbrev pub type_stored : StoredType → FieldType Re
 type_stored Integer = integer
@@ -24,11 +24,14 @@ type_stored Line = line
 type_stored (Size most) = size most
 type_stored Truth = truth
 type_stored (OneOf items) = one_of items.items
-type_stored (Matching pattern) = matching (regex_pattern pattern)
+type_stored (Matching pattern) = matching (regex_pattern pattern.value)
 type_stored Unchecked = unchecked
 
 abbrev pub typing_stored : StoredTyping → Typing
 typing_stored typing = record { place = typing.place; names = typing.names.items; kind = typing.kind; type_ = type_stored typing.type_ }
+
+abbrev pub definition_stored : StoredDefinition → Definition
+definition_stored definition = record { name = definition.name; kind = definition.kind; type_ = type_stored definition.type_ }
 
 abbrev pub rules_stored : StoredRules → Rules
 rules_stored rules = record {
@@ -36,9 +39,11 @@ rules_stored rules = record {
   mandatory = rules.mandatory.items;
   prohibited = rules.prohibited.items;
   unique = rules.unique.items;
+  singular = rules.singular.items;
   allowed = option_map (λ names. names.items) rules.allowed;
   automatic = rules.automatic.items;
   types = map typing_stored rules.types.items;
+  definitions = map definition_stored rules.definitions.items;
   size = rules.size;
   constraints = map term_of rules.constraints.items;
 }
@@ -46,10 +51,6 @@ rules_stored rules = record {
 -- the sets and the rules of a schema
 abbrev pub described : Schema → Described
 described schema = record { sets = schema.sets.items; rules = map rules_stored schema.rules.items }
-
--- the type that a value is tested by
-abbrev pub tested : Tested → FieldType Re
-tested test = type_stored test.type_.now
 
 -- the fault of a field that begins at a line
 abbrev pub fault_of : Refusal → ℕ → Fault

@@ -1,21 +1,32 @@
--- A type that is tried on values: what its matcher finds.
-use Rattle.std.specs.Prelude.{◌≡◌, ℕ, List, Bool, false, Option, Some, None}
-use Rattle.regex.specs.Patterns.{Re}
-use Rattle.regex.specs.Strings.{regex_pattern}
+-- How values are tried for a type: each test answers as the type does.
+use Rattle.std.specs.Prelude.{◌≡◌, ℕ, List, Bool, true, false}
+use Rattle.regex.specs.Strings.{matcher_pattern}
+use Rattle.rec_sex.specs.Integers.{trimmed}
 use Rattle.rec_sex.specs.Meaning.{is_found}
 use Rattle.rec_check.specs.declared.field_type.FieldType.{FieldType}
 use Rattle.rec_check.specs.declared.field_type.FieldType.TheVariants.{Matching}
+use Rattle.rec_check.specs.declared.test.Test.{Test}
+use Rattle.rec_check.specs.declared.test.Test.TheVariants.{Direct, Words, Pattern}
+use Rattle.rec_check.specs.Names.{has_name}
+use Rattle.rec_check.specs.Stored.{type_stored}
+use Rattle.rec_check.specs.Types.{fits}
 
--- the pattern of a type, where it has one
-abbrev pub pattern_of : FieldType → Option Re
-pattern_of (Matching pattern) = Some (regex_pattern pattern)
-pattern_of _ = None
+-- the type has no pattern
+abbrev pub is_plain : FieldType → Bool
+is_plain (Matching pattern) = false
+is_plain _ = true
 
--- the pattern is there, and it is found
-abbrev pub found_by : Option Re → List ℕ → Bool
-found_by None value = false
-found_by (Some pattern) value = is_found pattern value
+-- a type with a pattern isn't tried by itself
+abbrev pub may_serve : Test → FieldType → Bool
+may_serve Direct type_ = is_plain type_
+may_serve _ type_ = true
 
--- the two are found in the same values
-abbrev pub FindAlike : Option Re → Option Re → Type 0
-FindAlike one other = (value : List ℕ) → found_by one value ≡ found_by other value
+-- what a test answers of a value of the type
+abbrev pub passes : Test → FieldType → List ℕ → Bool
+passes Direct type_ value = fits (type_stored type_) value
+passes (Words words) type_ value = has_name words (trimmed value)
+passes (Pattern matcher) type_ value = is_found (matcher_pattern matcher.value) value
+
+-- the test passes the values that fit the type
+abbrev pub Serves : Test → FieldType → Type 0
+Serves test type_ = (may_serve test type_ ≡ true) × ((value : List ℕ) → passes test type_ value ≡ fits (type_stored type_) value)

@@ -2,8 +2,7 @@
 use Rattle.std.specs.Prelude.{ℕ, List, Option, map, option_and_then, slice_get}
 use Rattle.regex.specs.Patterns.{Re}
 use Rattle.rec_check.specs.declared.types.Types.{Types}
-use Rattle.rec_check.specs.Fitting.{place_of}
-use Rattle.rec_check.specs.Stored.{tested}
+use Rattle.rec_check.specs.Fitting.{place_of, tested}
 use Rattle.rec_check.specs.Types.{FieldType}
 
 -- the type of the fields of a name

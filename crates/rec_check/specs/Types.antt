@@ -5,7 +5,7 @@ use Rattle.std.specs.Option.{option_map_or}
 use Rattle.std.specs.Str.{bytes_eq, is_utf8}
 use Rattle.regex.specs.Patterns.{Re}
 use Rattle.rec_text.specs.Bytes.{is_letter}
-use Rattle.rec_text.specs.Canonical.{is_field_name}
+use Rattle.rec_text.specs.Canonical.{is_field_name, is_plain_name}
 use Rattle.rec_sex.specs.Grammar.{IsPatternOf}
 use Rattle.rec_sex.specs.Integers.{int_of, trimmed}
 use Rattle.rec_sex.specs.Meaning.{is_found}
@@ -131,6 +131,13 @@ type_of_kind kind behind =
     else if bytes_eq kind (codes "regexp") then regexp_of behind
     else Some unchecked
 
+-- the word of a kind that comes first, and the type that it means; nothing where there is none, or where it isn't right
+abbrev pub kind_of : List ℕ → Option (List ℕ × FieldType (List ℕ))
+kind_of text = elim (words text) [
+  | [] ↦ None
+  | kind ∷ rest ↦ option_map (λ type_. (kind, type_)) (type_of_kind kind (behind_first_word text))
+]
+
 -- ---- fields with a type
 
 -- what a `%type` field says: the names of some fields, the word of a kind, and the type that this means
@@ -146,6 +153,13 @@ pub record Typing : Type 0 where
   pub kind : List ℕ
   pub type_ : FieldType Re
 
+-- a `%typedef` field of a descriptor: the kind that it defines, and what it says of this: the word of a kind, and the type
+-- that is written, with its pattern built
+pub record Definition : Type 0 where
+  pub name : List ℕ
+  pub kind : List ℕ
+  pub type_ : FieldType Re
+
 -- the names, joined by commas
 abbrev pub names_of : List ℕ → Option (List (List ℕ))
 names_of word = let names : List (List ℕ) = slice_split (λ b. b == 44) word in if list_all is_field_name names then Some names else None
@@ -154,12 +168,7 @@ names_of word = let names : List (List ℕ) = slice_split (λ b. b == 44) word i
 abbrev pub typing_of : List ℕ → Option Written
 typing_of value = elim (words value) [
   | [] ↦ None
-  | names ∷ more ↦ elim more [
-    | [] ↦ None
-    | kind ∷ rest ↦ option_and_then
-        (λ names. option_map (λ type_. record { names = names; kind = kind; type_ = type_ }) (type_of_kind kind (behind_first_word (behind_first_word value))))
-        (names_of names)
-  ]
+  | names ∷ more ↦ option_and_then (λ names. option_map (λ (kind, type_). record { names = names; kind = kind; type_ = type_ }) (kind_of (behind_first_word value))) (names_of names)
 ]
 
 -- the same type, with the pattern that `regex` builds of its text
@@ -189,4 +198,29 @@ type_for (typing ∷ later) name = elim (type_for later name) [
 -- the type that a `%type` field gives has a pattern that `regex` may refuse, for another cause than memory
 abbrev pub HasRefusedType : List ℕ → Type 0
 HasRefusedType value = (names : List (List ℕ)) × (kind : List ℕ) × (pattern : List ℕ) × (typing_of value ≡ Some (record { names = names; kind = kind; type_ = matching pattern }))
+    × IsRefusedPattern pattern
+
+-- ---- kinds that are defined
+
+-- what a `%typedef` field says: the name of a kind, and the word and the type of another
+pub record WrittenDefinition : Type 0 where
+  pub name : List ℕ
+  pub kind : List ℕ
+  pub type_ : FieldType (List ℕ)
+
+-- a name, as a set may have it, a kind, and the words of the kind; nothing where it doesn't say so
+abbrev pub definition_of : List ℕ → Option WrittenDefinition
+definition_of value = elim (words value) [
+  | [] ↦ None
+  | name ∷ more ↦ if is_plain_name name then option_map (λ (kind, type_). record { name = name; kind = kind; type_ = type_ }) (kind_of (behind_first_word value)) else None
+]
+
+-- what a `%typedef` field of this value says, with the pattern that is built of it
+abbrev pub IsDefinition : List ℕ → Definition → Type 0
+IsDefinition value definition = (written : FieldType (List ℕ))
+    × (definition_of value ≡ Some (record { name = definition.name; kind = definition.kind; type_ = written })) × IsBuilt written definition.type_
+
+-- the type that a `%typedef` field gives has a pattern that `regex` may refuse, for another cause than memory
+abbrev pub HasRefusedDefinition : List ℕ → Type 0
+HasRefusedDefinition value = (name : List ℕ) × (kind : List ℕ) × (pattern : List ℕ) × (definition_of value ≡ Some (record { name = name; kind = kind; type_ = matching pattern }))
     × IsRefusedPattern pattern

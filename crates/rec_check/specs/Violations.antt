@@ -1,5 +1,5 @@
 -- Where a text breaks the rules of its record sets, in the order of the report.
-use Rattle.std.specs.Prelude.{◌≡◌, ◌≢◌, ◌⊎◌, ℕ, ◌+◌, ◌-◌, ◌==◌, Bool, true, false, ◌&&◌, not, nat_le, List, [], ◌∷◌, ◌++◌, length, map, filter, filter_map, take, drop, decimal, Option, Some, None, unwrap_or, option_to_list, option_and_then, slice_get, Result, Ok, Err, if◌then◌else◌}
+use Rattle.std.specs.Prelude.{◌≡◌, ◌≢◌, ◌⊎◌, ℕ, ◌+◌, ◌-◌, ◌==◌, Bool, true, false, ◌&&◌, ◌||◌, not, nat_le, List, [], ◌∷◌, ◌++◌, codes, length, map, filter, filter_map, take, drop, decimal, is_some, Option, Some, None, unwrap_or, option_to_list, option_map, option_and_then, slice_get, Result, Ok, Err, if◌then◌else◌}
 use Rattle.std.specs.List.{list_any, enumerate_from}
 use Rattle.std.specs.Option.{option_map_or}
 use Rattle.std.specs.Str.{bytes_eq}
@@ -7,9 +7,9 @@ use Rattle.std.specs.declared.ops.Range.{Range}
 use Rattle.rec_text.specs.declared.fault.Fault.{Fault}
 use Rattle.rec_text.specs.declared.fault.Fault.TheVariants.{BadPattern}
 use Rattle.rec_text.specs.declared.violations.Rule.{Rule}
-use Rattle.rec_text.specs.declared.violations.Rule.TheVariants.{Size, Key, Mandatory, Prohibit, Unique, Allowed, Fit, Constraint}
+use Rattle.rec_text.specs.declared.violations.Rule.TheVariants.{Size, Typedef, Key, Mandatory, Prohibit, Unique, Singular, Allowed, Fit, Constraint}
 use Rattle.rec_text.specs.declared.violations.Violation.{Violation}
-use Rattle.rec_text.specs.Elements.{Piece, text_of, name_of}
+use Rattle.rec_text.specs.Elements.{Piece, text_of, name_of, has_name}
 use Rattle.rec_text.specs.Reading.{IsReading, line_after}
 use Rattle.rec_text.specs.Records.{AreRecords, is_field_piece}
 use Rattle.rec_text.specs.Values.{value_of}
@@ -18,10 +18,11 @@ use Rattle.rec_sex.specs.Meaning.{values_of, Selects}
 use Rattle.rec_check.specs.declared.set.Set_.{Set_}
 use Rattle.rec_text.specs.Records.{elements_in}
 use Rattle.rec_check.specs.Descriptors.{meets}
+use Rattle.rec_check.specs.Meanings.{meaning_in}
 use Rattle.rec_check.specs.Rules.{Rules, field_type}
 use Rattle.rec_check.specs.Schemas.{Described, IsSchema}
-use Rattle.rec_check.specs.Types.{fits}
-use Rattle.rec_check.specs.Words.{is_among, distinct}
+use Rattle.rec_check.specs.Types.{Definition, fits, unchecked}
+use Rattle.rec_check.specs.Words.{is_among, distinct, words}
 
 -- the line at which the element of an index begins
 abbrev pub line_at : List Piece → ℕ → ℕ
@@ -68,6 +69,17 @@ prohibit_violations rules line fields = violations_of line Prohibit (filter (λ 
 abbrev pub unique_violations : Rules → ℕ → List Piece → List Violation
 unique_violations rules line fields = violations_of line Unique (filter (λ name. nat_le 2 (occurrences fields name)) (distinct rules.unique))
 
+-- one of these records has a field of this name with this value
+abbrev pub stands_in : List ℕ → List (List Piece) → List ℕ → Bool
+stands_in name records value = list_any (λ fields. is_among (values_of name fields) value) records
+
+-- the record has a value of this name that an earlier one has too
+abbrev pub breaks_singular : List (List Piece) → List Piece → List ℕ → Bool
+breaks_singular earlier fields name = list_any (stands_in name earlier) (values_of name fields)
+
+abbrev pub singular_violations : Rules → ℕ → List (List Piece) → List Piece → List Violation
+singular_violations rules line earlier fields = violations_of line Singular (filter (breaks_singular earlier fields) (distinct rules.singular))
+
 -- the names of the fields
 abbrev pub names_of : List Piece → List (List ℕ)
 names_of fields = map name_of (filter is_field_piece fields)
@@ -102,7 +114,8 @@ pub record AreOfRecord (pieces : List Piece) (rules : Rules) (earlier : List (Li
   pub are : AreUnselected (line_at pieces record_.start) 1 rules.constraints (elements_in pieces record_) unselected
   pub joined : let fields : List Piece = elements_in pieces record_ in let line : ℕ = line_at pieces record_.start in
       found ≡ key_violations rules line earlier fields ++ (mandatory_violations rules line fields ++ (prohibit_violations rules line fields
-      ++ (unique_violations rules line fields ++ (allowed_violations rules line fields ++ (type_violations pieces rules record_ ++ unselected)))))
+      ++ (unique_violations rules line fields ++ (singular_violations rules line earlier fields ++ (allowed_violations rules line fields
+      ++ (type_violations pieces rules record_ ++ unselected))))))
 
 -- ---- record sets
 
@@ -127,10 +140,41 @@ breaks_size rules s = option_map_or (λ bound. not (meets bound (s.members.end -
 abbrev pub size_violations : List Piece → List (Range ℕ) → Rules → Set_ → List Violation
 size_violations pieces records rules s = if breaks_size rules s then violation (head_line pieces records s) Size (unwrap_or s.kind []) ∷ [] else []
 
--- all of a set: its size, and then record by record
+-- ---- kinds without a meaning
+
+-- by these definitions a kind means a type
+abbrev pub resolves : List Definition → List ℕ → Bool
+resolves definitions kind = is_some (meaning_in definitions kind unchecked)
+
+-- the field is a `%type` or a `%typedef`
+abbrev pub names_kind : Piece → Bool
+names_kind piece = has_name (codes "%type") piece || has_name (codes "%typedef") piece
+
+-- the kind that such a field names, its second word, where that means nothing
+abbrev pub unresolved_in : (List ℕ → Bool) → List ℕ → Option (List ℕ)
+unresolved_in resolves value = option_and_then (λ kind. if resolves kind then None else Some kind) (slice_get (words value) 1)
+
+abbrev pub unresolved_of : (List ℕ → Bool) → Piece → Option (List ℕ)
+unresolved_of resolves piece = if names_kind piece then unresolved_in resolves (value_of piece) else None
+
+-- each of the fields, which begin at an index, that names such a kind, at its own line
+abbrev pub unresolved_violations : List Piece → (List ℕ → Bool) → ℕ → List Piece → List Violation
+unresolved_violations pieces resolves start fields = filter_map (λ (i, piece). option_map (violation (line_at pieces i) Typedef) (unresolved_of resolves piece)) (enumerate_from start fields)
+
+-- those of a set's descriptor
+abbrev pub typedef_violations : List Piece → List (Range ℕ) → Rules → Set_ → List Violation
+typedef_violations pieces records rules s = option_map_or
+    (λ record_. unresolved_violations pieces (resolves rules.definitions) record_.start (elements_in pieces record_))
+    (option_and_then (slice_get records) s.head) []
+
+-- what is found before all records of a set
+abbrev pub head_violations : List Piece → List (Range ℕ) → Rules → Set_ → List Violation
+head_violations pieces records rules s = size_violations pieces records rules s ++ typedef_violations pieces records rules s
+
+-- all of a set: its size, the kinds of its descriptor, and then record by record
 abbrev pub AreOfSet : List Piece → List (Range ℕ) → Set_ → Rules → List Violation → Type 0
 AreOfSet pieces records s rules found = (rest : List Violation) × AreOfRecords pieces rules [] (members records s) rest
-    × (found ≡ size_violations pieces records rules s ++ rest)
+    × (found ≡ head_violations pieces records rules s ++ rest)
 
 -- set by set
 abbrev pub AreOfSets : List Piece → List (Range ℕ) → List Set_ → List Rules → List Violation → Type 0

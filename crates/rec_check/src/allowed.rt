@@ -1,25 +1,11 @@
 //! The names that a record may have.
-ghost use Rattle.std.specs.Prelude.{◌≡◌, ◌||◌, ℕ, List, OnOk, IfErr};
-ghost use Rattle.rec_check.specs.Names.{has_name};
-ghost use Rattle.rec_check.specs.Words.{is_among};
 
 use crate::found::add_violations;
-use crate::names::Names;
+use crate::names::{Names, add_names};
 use crate::rules::Rules;
-use rec_text::{Bytes, Element, Fault, Kind, Rule, Violation};
+use rec_text::{Element, Fault, Kind, Rule, Violation};
 use std::alloc::Global;
 use std::collections::HashSet;
-
-/// Adds names to those of a set.
-fn add_names<'n>(names: &mut HashSet<&'n [u8]>, more: &'n [Bytes]) -> Result<(), Fault>
-    ensures names { OnOk result ((name : List ℕ) → has_name names.new name ≡ (has_name names.old name || is_among more.now name)) }
-    ensures refusals { IfErr result (λ fault. fault ≡ Fault.OutOfMemory) }
-{
-    for name in more {
-        names.insert(name.as_slice())?;
-    }
-    Ok(())
-}
 
 /// The names that a record of a set may have, where they are limited.
 #[derive(Drop)]

@@ -6,6 +6,7 @@ use crate::key::Key;
 use crate::limit::{Limit, Limited};
 use crate::lines::Lines;
 use crate::rules::Rules;
+use crate::singular::Singular;
 use crate::types::Types;
 use rec_text::{Fault, Violation, elements_in};
 use std::alloc::Global;
@@ -18,6 +19,7 @@ pub(crate) struct Checker<'r, 't> {
     pub mandatory: Limited<'r>,
     pub prohibited: Limited<'r>,
     pub unique: Limited<'r>,
+    pub singular: Singular<'r, 't>,
     pub allowed: Allowed<'r>,
     pub types: Types<'r>,
     pub constraints: Constraints<'r>,
@@ -44,8 +46,9 @@ impl<'r, 't> Checker<'r, 't> {
             mandatory: Limited::of(alloc, Limit::Present, &rules.mandatory)?,
             prohibited: Limited::of(alloc, Limit::Absent, &rules.prohibited)?,
             unique: Limited::of(alloc, Limit::Single, &rules.unique)?,
+            singular: Singular::of(alloc, &rules.singular)?,
             allowed: Allowed::of(alloc, rules)?,
-            types: Types::of(alloc, &rules.types)?,
+            types: Types::of(alloc, rules)?,
             constraints: Constraints::of(alloc, &rules.constraints)?,
         })
     }
@@ -73,6 +76,7 @@ impl<'r, 't> Checker<'r, 't> {
         self.mandatory.check(alloc, line, fields, found)?;
         self.prohibited.check(alloc, line, fields, found)?;
         self.unique.check(alloc, line, fields, found)?;
+        self.singular.check(alloc, line, fields, found)?;
         self.allowed.check(alloc, line, fields, found)?;
         self.types.check(alloc, lines, range.start, fields, found)?;
         self.constraints.check(alloc, line, fields, found)

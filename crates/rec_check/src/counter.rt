@@ -1,8 +1,9 @@
 //! The counters of a set, each with its greatest number so far.
-ghost use Rattle.std.specs.Prelude.{◌≡◌, ◌&&◌, not, [], ◌∷◌, None, unwrap_or, length, OnOk, IfOk, IfErr};
+ghost use Rattle.std.specs.Prelude.{◌≡◌, [], ◌∷◌, None, unwrap_or, length, OnOk, IfOk, IfErr};
 ghost use Rattle.std.specs.List.{AllByRecursion};
+ghost use Rattle.rec_text.specs.Faults.{UnlessMemory};
 ghost use Rattle.rec_text.specs.Places.{piece_of, pieces_of};
-ghost use Rattle.rec_check.specs.Automatic.{readings, begins_special as special_first, may_count as countable};
+ghost use Rattle.rec_check.specs.Automatic.{IsNext, readings};
 ghost use Rattle.rec_check.specs.Checks.{texts};
 ghost use Rattle.rec_check.specs.Counters.{greatest_at, Counts, CountsFrom, HoldsGreatest, counter_names, IsKept, AreCounters};
 ghost use Rattle.rec_check.specs.Counting.{readings_in};
@@ -10,7 +11,7 @@ ghost use Rattle.rec_check.specs.Stored.{rules_stored};
 ghost use Rattle.rec_check.specs.Tests.{type_in};
 ghost use Rattle.rec_check.specs.Walking.{AreWithin};
 
-use crate::automatic::{automatic_names, begins_special, behind, greater, may_count, reading_of};
+use crate::automatic::{automatic_names, behind, greater, is_counter, may_be_counter, reading_of};
 use crate::rules::Rules;
 use crate::types::Types;
 use rec_text::{Element, Fault, elements_in};
@@ -133,13 +134,6 @@ fn greatest_numbers<'a>(
     Ok(greatest)
 }
 
-/// Whether fields of a name may be counted.
-fn counts(types: &Types, name: &[u8]) -> bool
-    ensures { result ≡ (not (special_first name.now) && countable (type_in types.now name.now)) }
-{
-    !begins_special(name) && may_count(types.type_of(name))
-}
-
 /// What is kept for a name.
 fn kept(greatest: &HashMap<&[u8], Option<i64>>, name: &[u8]) -> Option<i64>
     ensures { result ≡ unwrap_or (greatest_at greatest.now name.now) None }
@@ -164,7 +158,7 @@ fn counters_with<'r>(
     for name in names {
         counters.push(Counter {
             name: *name,
-            counts: counts(types, name),
+            counts: is_counter(types, name),
             greatest: kept(greatest, name),
         })?;
     }
@@ -186,7 +180,25 @@ pub(crate) fn counters_of<'r>(
     if names.is_empty() {
         return Ok(Vec::new(alloc));
     }
-    let types = Types::of(alloc, &rules.types)?;
+    let types = Types::of(alloc, rules)?;
     let greatest = greatest_numbers(alloc, elements, records, &names)?;
     Ok(counters_with(alloc, &names, &types, &greatest)?)
+}
+
+/// The next value of a counter in a set with these records and rules.
+pub(crate) fn next_value<'a>(
+    alloc: Global,
+    elements: &[Element<'a>],
+    records: &[Range<usize>],
+    rules: &Rules,
+    name: &'a [u8],
+) -> Result<i64, Fault>
+    requires { AreWithin (length elements.now) records.now }
+    ensures { UnlessMemory result (IsNext (rules_stored rules.now) name.now (readings (pieces_of elements.now) records.now name.now)) }
+{
+    if !may_be_counter(alloc, rules, name)? {
+        return Err(Fault::AutoImpossible);
+    }
+    let greatest = greatest_numbers(alloc, elements, records, &[name])?;
+    behind(kept(&greatest, name))
 }

@@ -7,16 +7,17 @@ ghost use Rattle.rec_text.specs.Places.{piece_of, pieces_of};
 ghost use Rattle.rec_sex.specs.Expressions.{HasRefusedPattern};
 ghost use Rattle.rec_text.specs.Elements.{has_name};
 ghost use Rattle.rec_check.specs.Descriptors.{bad_unless, rec_flaw, first_word, rec_name, type_of, bound_in, special_flaw};
-ghost use Rattle.rec_check.specs.Reading.{Answers, AddsTyping, AddsConstraint, refusal_for};
-ghost use Rattle.rec_check.specs.Types.{HasRefusedType};
+ghost use Rattle.rec_check.specs.Reading.{Answers, AddsDefinition, AddsTyping, AddsConstraint, refusal_for};
+ghost use Rattle.rec_check.specs.Types.{HasRefusedDefinition, HasRefusedType};
 ghost use Rattle.rec_check.specs.Words.{words};
 
+use crate::definition::Definition;
 use crate::field_type::Typing;
 use crate::refusal::Refusal;
 use crate::rules::Rules;
 use crate::special::{Bound, Special, bound_in, special_of};
 use crate::type_names::TypeNames;
-use crate::typing::typing_in;
+use crate::typing::{definition_in, typing_in};
 use crate::words::split_word;
 use rec_sex::Expr;
 use rec_text::{Bytes, Database, Element, Fault, is_field_name, is_plain_name};
@@ -120,6 +121,18 @@ fn add_typing(
     Ok(())
 }
 
+/// Takes what a `%typedef` field says of a kind.
+fn add_definition(
+    alloc: Global,
+    definitions: &mut Vec<Definition>,
+    value: &[u8],
+) -> Result<(), Refusal>
+    ensures { Answers (special_flaw Special.Typedef false [] value.now) (AddsDefinition value.now definitions.old.items definitions.new.items) (HasRefusedDefinition value.now) result }
+{
+    definitions.push(definition_in(alloc, value)?)?;
+    Ok(())
+}
+
 /// Takes what a `%size` field says.
 fn add_bound(size: &mut Option<Bound>, value: &[u8]) -> Result<(), Refusal>
     ensures { Answers (special_flaw Special.Size (is_some size.old) [] value.now) (size.new ≡ bound_in value.now) ⊥ result }
@@ -192,9 +205,11 @@ impl Descriptor {
             Special::Mandatory => add_names(alloc, &mut self.rules.mandatory, value),
             Special::Prohibit => add_names(alloc, &mut self.rules.prohibited, value),
             Special::Unique => add_names(alloc, &mut self.rules.unique, value),
+            Special::Singular => add_names(alloc, &mut self.rules.singular, value),
             Special::Allowed => add_allowed(alloc, &mut self.rules.allowed, value),
             Special::Auto => add_names(alloc, &mut self.rules.automatic, value),
             Special::Type_ => add_typing(alloc, &mut self.rules.types, place, value),
+            Special::Typedef => add_definition(alloc, &mut self.rules.definitions, value),
             Special::Size => add_bound(&mut self.rules.size, value),
             Special::Constraint => add_constraint(alloc, &mut self.rules.constraints, value),
             Special::Confidential => Err(Refusal::Unsupported),

@@ -19,7 +19,7 @@ pub(crate) enum FieldType {
     /// One of some words.
     OneOf(Vec<Bytes>),
     /// A text in which a pattern is found.
-    Matching(Regex),
+    Matching(Box<Regex>),
     /// Any text.
     Unchecked,
 }

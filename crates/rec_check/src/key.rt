@@ -29,7 +29,7 @@ fn only_field<'f, 't>(fields: &'f [Element<'t>], name: &[u8]) -> Option<&'f Elem
 }
 
 /// The bytes of a value, copied only where they don't stand in the text.
-fn bytes_in<'t>(alloc: Global, value: Value<'t>) -> Result<CowSlice<'t, u8>, Fault>
+pub(crate) fn bytes_in<'t>(alloc: Global, value: Value<'t>) -> Result<CowSlice<'t, u8>, Fault>
     ensures bytes { IfOk result (λ bytes. cow_slice_items bytes ≡ bytes_of value.entry) }
     ensures refusals { IfErr result (λ fault. fault ≡ Fault.OutOfMemory) }
 {

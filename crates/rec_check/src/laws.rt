@@ -1,4 +1,5 @@
 //! Laws of the definitions, which no function computes.
+ghost use Rattle.rec_check.specs.Meanings.{MeaningIsOne};
 ghost use Rattle.rec_check.specs.Schemas.{OneSchema};
 ghost use Rattle.rec_check.specs.Soundness.{NewDescriptor, SameDescriptors};
 ghost use Rattle.rec_check.specs.Violations.{OneCheck, OneReport};
@@ -26,4 +27,9 @@ pub fn one_report()
 /// A text has one list of violations, or one refusal; the same patterns may be built in more ways than one.
 pub fn one_check()
     ensures { OneCheck }
+{}
+
+/// A kind has one meaning within a descriptor, and a function finds it.
+pub fn one_meaning()
+    ensures { MeaningIsOne }
 {}

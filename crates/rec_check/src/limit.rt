@@ -1,12 +1,17 @@
 //! How often names occur in a record.
 
 use crate::found::add_violation;
+use crate::met::Met;
 use crate::names::Names;
 use rec_text::{Bytes, Element, Fault, Rule, Violation, count_of};
 use std::alloc::Global;
+use std::collections::BTreeSet;
+
+/// How many names are counted one by one in a record.
+const FEW: usize = 8;
 
 /// What a rule asks of how often a name occurs in a record.
-#[derive(Clone, Copy, Debug, PartialEq, Eq)]
+#[derive(Clone, Copy)]
 pub(crate) enum Limit {
     /// At least once.
     Present,
@@ -54,9 +59,11 @@ pub(crate) struct Limited<'r> {
 }
 
 impl<'r> Limited<'r> {
-    ghost use Rattle.std.specs.Prelude.{◌≡◌, ◌++◌, IfErr, IfOk, OnOk};
+    ghost use Rattle.std.specs.Prelude.{◌≡◌, ◌++◌, ℕ, Bool, List, filter, filter_map, not, slice_get, IfErr, IfOk, OnOk};
     ghost use Rattle.rec_text.specs.Places.{pieces_of};
-    ghost use Rattle.rec_check.specs.Checks.{limit_violations};
+    ghost use Rattle.rec_check.specs.Checks.{limit_violations, rule_of};
+    ghost use Rattle.rec_check.specs.Met.{places_of};
+    ghost use Rattle.rec_check.specs.Violations.{violations_of};
     ghost use Rattle.rec_check.specs.Words.{distinct};
 
     pub(crate) fn of(alloc: Global, limit: Limit, names: &'r [Bytes]) -> Result<Limited<'r>, Fault>
@@ -68,8 +75,8 @@ impl<'r> Limited<'r> {
         Ok(Limited { limit, names })
     }
 
-    /// Adds a violation for each of the names that breaks the limit in a record.
-    pub(crate) fn check(
+    /// Adds a violation for each of the names that breaks the limit in a record, where they are few.
+    fn check_each(
         &self,
         alloc: Global,
         line: usize,
@@ -85,5 +92,83 @@ impl<'r> Limited<'r> {
             }
         }
         Ok(())
+    }
+
+    /// Adds a violation for each of the names at some places.
+    fn add_at(
+        &self,
+        alloc: Global,
+        line: usize,
+        places: &BTreeSet<usize>,
+        found: &mut Vec<Violation>,
+    ) -> Result<(), Fault>
+        ensures added { OnOk result (found.new.items ≡ found.old.items ++ violations_of line (rule_of self.now.limit) (filter_map (slice_get self.now.names) places.now.keys)) }
+        ensures refusals { IfErr result (λ fault. fault ≡ Fault.OutOfMemory) }
+    {
+        let names = self.names.as_slice();
+        for place in places {
+            let Some(name) = names.get(*place) else {
+                continue;
+            };
+            add_violation(alloc, line, self.limit.rule(), name, found)?;
+        }
+        Ok(())
+    }
+
+    /// Adds a violation for each of the names that stands at none of some places.
+    fn add_missing(
+        &self,
+        alloc: Global,
+        line: usize,
+        places: &BTreeSet<usize>,
+        found: &mut Vec<Violation>,
+    ) -> Result<(), Fault>
+        ensures added { (test : List ℕ → Bool) → places.now.keys ≡ places_of test self.now.names → OnOk result (found.new.items ≡ found.old.items ++ violations_of line (rule_of self.now.limit) (filter (λ name. not (test name)) self.now.names)) }
+        ensures refusals { IfErr result (λ fault. fault ≡ Fault.OutOfMemory) }
+    {
+        let names = self.names.as_slice();
+        let rule = self.limit.rule();
+        for (place, name) in names.iter().enumerate() {
+            if !places.contains(&place) {
+                add_violation(alloc, line, rule, name, found)?;
+            }
+        }
+        Ok(())
+    }
+
+    /// The same as `check_each`, in one pass over the fields.
+    fn check_met(
+        &self,
+        alloc: Global,
+        line: usize,
+        fields: &[Element],
+        found: &mut Vec<Violation>,
+    ) -> Result<(), Fault>
+        ensures added { distinct self.now.names ≡ self.now.names → OnOk result (found.new.items ≡ found.old.items ++ limit_violations self.now.limit self.now.names line (pieces_of fields.now)) }
+        ensures refusals { IfErr result (λ fault. fault ≡ Fault.OutOfMemory) }
+    {
+        let met = Met::of(alloc, &self.names, fields)?;
+        match self.limit {
+            Limit::Present => self.add_missing(alloc, line, &met.once, found),
+            Limit::Absent => self.add_at(alloc, line, &met.once, found),
+            Limit::Single => self.add_at(alloc, line, &met.again, found),
+        }
+    }
+
+    /// Adds a violation for each of the names that breaks the limit in a record.
+    pub(crate) fn check(
+        &self,
+        alloc: Global,
+        line: usize,
+        fields: &[Element],
+        found: &mut Vec<Violation>,
+    ) -> Result<(), Fault>
+        ensures added { OnOk result (found.new.items ≡ found.old.items ++ limit_violations self.now.limit self.now.names line (pieces_of fields.now)) }
+        ensures refusals { IfErr result (λ fault. fault ≡ Fault.OutOfMemory) }
+    {
+        if self.names.len() <= FEW {
+            return self.check_each(alloc, line, fields, found);
+        }
+        self.check_met(alloc, line, fields, found)
     }
 }

@@ -1,16 +1,29 @@
 //! Lists of names.
-ghost use Rattle.std.specs.Prelude.{◌≡◌};
+ghost use Rattle.std.specs.Prelude.{◌≡◌, ◌||◌, ℕ, List, OnOk, IfErr};
+ghost use Rattle.rec_check.specs.Names.{has_name};
 ghost use Rattle.rec_check.specs.Words.{is_among as among};
 
 use indexmap::IndexSet;
-use rec_text::Bytes;
+use rec_text::{Bytes, Fault};
 use std::alloc::{AllocError, Global};
+use std::collections::HashSet;
 use std::marker::Model;
 
 pub(crate) fn is_among(names: &[Bytes], name: &[u8]) -> bool
     ensures { result ≡ among names.now name.now }
 {
     names.iter().any(|one| name == one.as_slice())
+}
+
+/// Adds names to those of a set.
+pub(crate) fn add_names<'n>(names: &mut HashSet<&'n [u8]>, more: &'n [Bytes]) -> Result<(), Fault>
+    ensures names { OnOk result ((name : List ℕ) → has_name names.new name ≡ (has_name names.old name || among more.now name)) }
+    ensures refusals { IfErr result (λ fault. fault ≡ Fault.OutOfMemory) }
+{
+    for name in more {
+        names.insert(name.as_slice())?;
+    }
+    Ok(())
 }
 
 /// Names, each where it stands first. However many there are, one is found at once.
@@ -32,7 +45,8 @@ impl<'n> Model for Names<'n> {
 }
 
 impl<'n> Names<'n> {
-    ghost use Rattle.std.specs.Prelude.{◌≡◌, ◌++◌, ◌∷◌, [], IfOk, OnOk};
+    ghost use Rattle.std.specs.Prelude.{◌≡◌, ◌++◌, ◌∷◌, [], length, position, IfOk, OnOk};
+    ghost use Rattle.std.specs.Str.{bytes_eq};
     ghost use Rattle.rec_check.specs.Checks.{texts};
     ghost use Rattle.rec_check.specs.Words.{distinct};
 
@@ -61,6 +75,21 @@ impl<'n> Names<'n> {
     {
         self.names.insert(name)?;
         Ok(())
+    }
+
+    /// How many there are.
+    pub(crate) fn len(&self) -> usize
+        ensures len { result ≡ length self.now }
+        ensures once { distinct self.now ≡ self.now }
+    {
+        self.names.len()
+    }
+
+    /// The place of a name among them.
+    pub(crate) fn place_of(&self, name: &[u8]) -> Option<usize>
+        ensures { result ≡ position (bytes_eq name.now) self.now }
+    {
+        self.names.get_index_of(name)
     }
 
     pub(crate) fn as_slice(&self) -> &[&'n [u8]]

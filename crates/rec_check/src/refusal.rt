@@ -3,7 +3,7 @@ use rec_text::Fault;
 use std::alloc::{AllocError, AllocFailed};
 
 /// Why a field of a descriptor is refused.
-#[derive(Clone, Copy, Debug, PartialEq, Eq)]
+#[derive(Clone, Copy)]
 pub(crate) enum Refusal {
     /// It means nothing.
     Bad,

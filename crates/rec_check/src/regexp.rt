@@ -41,5 +41,6 @@ pub(crate) fn regexp_type(alloc: Global, text: &[u8]) -> Result<FieldType, Refus
     let Ok(pattern) = std::str::from_utf8(pattern) else {
         return Err(Refusal::Bad);
     };
-    Ok(FieldType::Matching(built(alloc, pattern)?))
+    let pattern = built(alloc, pattern)?;
+    Ok(FieldType::Matching(Box::new(alloc, pattern)?))
 }

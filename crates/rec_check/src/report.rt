@@ -1,5 +1,5 @@
 //! Where a text breaks the rules of its record sets.
-ghost use Rattle.std.specs.Prelude.{◌≡◌, ◌++◌, [], ℕ, List, Ok, None, drop, length, map, unwrap_or, IfErr, IfOk, OnOk};
+ghost use Rattle.std.specs.Prelude.{◌≡◌, ◌++◌, ◌∷◌, [], ◌<◌, ◌≤◌, ℕ, List, Ok, None, drop, length, map, unwrap_or, if◌then◌else◌, IfErr, IfOk, OnOk};
 ghost use Rattle.std.specs.declared.ops.Range.{Range};
 ghost use Rattle.rec_text.specs.Places.{pieces_of};
 ghost use Rattle.rec_text.specs.Records.{AreAscending};
@@ -7,7 +7,7 @@ ghost use Rattle.rec_check.specs.Checks.{AddsOfRecords, AddsOfSet};
 ghost use Rattle.rec_check.specs.Descriptors.{meets};
 ghost use Rattle.rec_check.specs.Schemas.{IsSchema};
 ghost use Rattle.rec_check.specs.Stored.{rules_stored};
-ghost use Rattle.rec_check.specs.Violations.{AreViolations, size_violations};
+ghost use Rattle.rec_check.specs.Violations.{AreViolations, breaks_size, head_violations, line_at, violation};
 ghost use Rattle.rec_check.specs.Walking.{AreWithin, IsNext};
 
 use crate::checker::Checker;
@@ -16,6 +16,7 @@ use crate::lines::Lines;
 use crate::rules::Rules;
 use crate::set::Set_;
 use crate::special::{Bound, Comparison};
+use crate::unresolved::check_kinds;
 use rec_text::{Database, Fault, Rule, Violation};
 use std::alloc::Global;
 use std::ops::Range;
@@ -43,8 +44,34 @@ fn kind_of(set: &Set_) -> &[u8]
     }
 }
 
-/// Adds a violation if a set has not as many records as is asked.
+/// Adds a violation if a set, whose descriptor begins at an index, has not as many records as is asked.
 fn check_size(
+    alloc: Global,
+    lines: &mut Lines,
+    start: usize,
+    set: &Set_,
+    rules: &Rules,
+    found: &mut Vec<Violation>,
+) -> Result<(), Fault>
+    requires forward { lines.old.passed ≤ start }
+    requires within { start < length lines.old.elements.now }
+    ensures added { OnOk result (found.new.items ≡ found.old.items ++ (if breaks_size (rules_stored rules.now) set.now then violation (line_at (pieces_of lines.old.elements.now) start) Rule.Size (unwrap_or set.now.kind []) ∷ [] else [])) }
+    ensures passed { OnOk result (lines.new.passed ≤ start) }
+    ensures elements { OnOk result (lines.new.elements.now ≡ lines.old.elements.now) }
+    ensures refusals { IfErr result (λ fault. fault ≡ Fault.OutOfMemory) }
+{
+    let Some(bound) = &rules.size else {
+        return Ok(());
+    };
+    if is_met(bound, set.members.len() as u64) {
+        return Ok(());
+    }
+    let line = lines.line_of(start);
+    add_violation(alloc, line, Rule::Size, kind_of(set), found)
+}
+
+/// Adds the violations of a set's descriptor: the size, and the kinds that mean nothing.
+fn check_head(
     alloc: Global,
     lines: &mut Lines,
     records: &[Range<usize>],
@@ -55,19 +82,17 @@ fn check_size(
     requires ruled { set.now.head ≡ None → rules.now.size ≡ None }
     requires next { IsNext lines.old.passed records.now set.now }
     requires within { AreWithin (length lines.old.elements.now) records.now }
-    ensures added { OnOk result (found.new.items ≡ found.old.items ++ size_violations (pieces_of lines.old.elements.now) records.now (rules_stored rules.now) set.now) }
+    ensures added { OnOk result (found.new.items ≡ found.old.items ++ head_violations (pieces_of lines.old.elements.now) records.now (rules_stored rules.now) set.now) }
     ensures ahead { OnOk result (AreAscending lines.new.passed (drop set.now.members.start records.now)) }
     ensures elements { OnOk result (lines.new.elements.now ≡ lines.old.elements.now) }
     ensures refusals { IfErr result (λ fault. fault ≡ Fault.OutOfMemory) }
 {
-    let (Some(bound), Some(head)) = (&rules.size, set.head) else {
+    let Some(head) = set.head else {
         return Ok(());
     };
-    if is_met(bound, set.members.len() as u64) {
-        return Ok(());
-    }
-    let line = lines.line_of(records[head].start);
-    add_violation(alloc, line, Rule::Size, kind_of(set), found)
+    let range = &records[head];
+    check_size(alloc, lines, range.start, set, rules, found)?;
+    check_kinds(alloc, lines, range, rules, found)
 }
 
 /// Adds the violations of the records of a set.
@@ -89,7 +114,7 @@ fn check_records<'t>(
     checker.check_all(alloc, lines, records, found)
 }
 
-/// Adds the violations of a set: its size, and then its records.
+/// Adds the violations of a set: those of its descriptor, and then its records.
 fn check_set<'t>(
     alloc: Global,
     lines: &mut Lines<'_, 't>,
@@ -106,7 +131,7 @@ fn check_set<'t>(
     ensures elements { OnOk result (lines.new.elements.now ≡ lines.old.elements.now) }
     ensures refusals { IfErr result (λ fault. fault ≡ Fault.OutOfMemory) }
 {
-    check_size(alloc, lines, records, set, rules, found)?;
+    check_head(alloc, lines, records, set, rules, found)?;
     let members = &records[set.members.start..set.members.end];
     check_records(alloc, lines, members, rules, found)
 }

@@ -1,5 +1,6 @@
 //! What a descriptor asks of the records of its set.
 
+use crate::definition::Definition;
 use crate::field_type::Typing;
 use crate::special::Bound;
 use rec_sex::Expr;
@@ -17,12 +18,16 @@ pub(crate) struct Rules {
     pub prohibited: Vec<Bytes>,
     /// What no record has twice.
     pub unique: Vec<Bytes>,
+    /// What has a value in one record alone.
+    pub singular: Vec<Bytes>,
     /// What else a record may have, where that is limited.
     pub allowed: Option<Vec<Bytes>>,
     /// The counters.
     pub automatic: Vec<Bytes>,
     /// The types of fields; of two for one field the later holds.
     pub types: Vec<Typing>,
+    /// What kinds mean; of two definitions of one kind the later holds.
+    pub definitions: Vec<Definition>,
     /// How many records there are.
     pub size: Option<Bound>,
     /// What selects each record.
@@ -43,9 +48,11 @@ impl Rules {
             mandatory: Vec::new(alloc),
             prohibited: Vec::new(alloc),
             unique: Vec::new(alloc),
+            singular: Vec::new(alloc),
             allowed: None,
             automatic: Vec::new(alloc),
             types: Vec::new(alloc),
+            definitions: Vec::new(alloc),
             size: None,
             constraints: Vec::new(alloc),
         }

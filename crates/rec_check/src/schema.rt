@@ -1,8 +1,8 @@
 //! What the descriptors of a text say.
 ghost use Rattle.rec_check.specs.Steps.{HaveTypes};
 
-use crate::automatic::{automatic_names, next_value};
-use crate::counter::{Counter, counters_of};
+use crate::automatic::automatic_names;
+use crate::counter::{Counter, counters_of, next_value};
 use crate::draft::Draft;
 use crate::report::violations_of;
 use crate::rules::Rules;
@@ -64,7 +64,8 @@ impl Schema {
         Some(self.types.place_of(kind)? + 1)
     }
 
-    /// Where a text breaks the rules of its sets: set by set, first its size, and then record by record.
+    /// Where a text breaks the rules of its sets: set by set, first its size, then the kinds that mean nothing, and then
+    /// record by record.
     pub fn violations(&self, alloc: Global, database: &Database) -> Result<Vec<Violation>, Fault>
         requires { IsSchema database.now (Ok (described self.now)) }
         ensures violations { IfOk result (λ found. AreViolations database.now (described self.now) found.items) }
@@ -97,7 +98,8 @@ impl Schema {
         requires place { set < length (described self.now).sets }
         ensures { UnlessMemory result (IsAutomatic database.now (described self.now) set name.now) }
     {
-        next_value(alloc, database, &self.sets[set], &self.rules[set], name)
+        let records = self.members(database, set);
+        next_value(alloc, database.elements(), records, &self.rules[set], name)
     }
 
     /// The records of the set at this place, its descriptor aside.

@@ -8,7 +8,7 @@ use std::alloc::AllocError;
 use std::ops::Range;
 
 /// A set of records: the untyped one, or a descriptor's. Records are counted from 0, descriptors too.
-#[derive(Debug, Drop)]
+#[derive(Drop)]
 pub struct Set_ {
     /// The type; none for the untyped set.
     pub kind: Option<Bytes>,

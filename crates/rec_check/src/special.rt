@@ -5,7 +5,7 @@ ghost use Rattle.rec_check.specs.Descriptors.{special_of, bound_in, comparison_i
 use crate::kind::natural_of;
 
 /// What a field of a descriptor says, by its name.
-#[derive(Clone, Copy, Debug, PartialEq, Eq)]
+#[derive(Clone, Copy)]
 pub(crate) enum Special {
     /// `%rec`: the type of the set.
     Rec,
@@ -17,12 +17,16 @@ pub(crate) enum Special {
     Prohibit,
     /// `%unique`: fields that no record has twice.
     Unique,
+    /// `%singular`: fields of whose values no two records have the same.
+    Singular,
     /// `%allowed`: all that a record may have, beside its key and what is mandatory.
     Allowed,
     /// `%auto`: counters.
     Auto,
     /// `%type`: the type of some fields.
     Type_,
+    /// `%typedef`: what a kind of types means.
+    Typedef,
     /// `%size`: how many records there are.
     Size,
     /// `%constraint`: an expression that selects each record.
@@ -32,7 +36,7 @@ pub(crate) enum Special {
 }
 
 /// How a number of records is compared.
-#[derive(Clone, Copy, Debug, PartialEq, Eq)]
+#[derive(Clone, Copy)]
 pub enum Comparison {
     Exactly,
     Less,
@@ -42,7 +46,7 @@ pub enum Comparison {
 }
 
 /// How many records a set has.
-#[derive(Clone, Copy, Debug, PartialEq, Eq)]
+#[derive(Clone, Copy)]
 pub struct Bound {
     pub comparison: Comparison,
     pub number: u64,
@@ -52,19 +56,34 @@ pub struct Bound {
 pub(crate) fn special_of(name: &[u8]) -> Option<Special>
     ensures { result ≡ special_of name.now }
 {
-    match name {
-        b"%rec" => Some(Special::Rec),
-        b"%key" => Some(Special::Key),
-        b"%mandatory" => Some(Special::Mandatory),
-        b"%prohibit" => Some(Special::Prohibit),
-        b"%unique" => Some(Special::Unique),
-        b"%allowed" => Some(Special::Allowed),
-        b"%auto" => Some(Special::Auto),
-        b"%type" => Some(Special::Type_),
-        b"%size" => Some(Special::Size),
-        b"%constraint" => Some(Special::Constraint),
-        b"%confidential" => Some(Special::Confidential),
-        _ => None,
+    if name == b"%rec".as_slice() {
+        Some(Special::Rec)
+    } else if name == b"%key".as_slice() {
+        Some(Special::Key)
+    } else if name == b"%mandatory".as_slice() {
+        Some(Special::Mandatory)
+    } else if name == b"%prohibit".as_slice() {
+        Some(Special::Prohibit)
+    } else if name == b"%unique".as_slice() {
+        Some(Special::Unique)
+    } else if name == b"%singular".as_slice() {
+        Some(Special::Singular)
+    } else if name == b"%allowed".as_slice() {
+        Some(Special::Allowed)
+    } else if name == b"%auto".as_slice() {
+        Some(Special::Auto)
+    } else if name == b"%type".as_slice() {
+        Some(Special::Type_)
+    } else if name == b"%typedef".as_slice() {
+        Some(Special::Typedef)
+    } else if name == b"%size".as_slice() {
+        Some(Special::Size)
+    } else if name == b"%constraint".as_slice() {
+        Some(Special::Constraint)
+    } else if name == b"%confidential".as_slice() {
+        Some(Special::Confidential)
+    } else {
+        None
     }
 }
 

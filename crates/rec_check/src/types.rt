@@ -1,31 +1,17 @@
 //! The types of the fields of a set.
-ghost use Rattle.std.specs.Prelude.{◌≡◌, ℕ, List, Some, if◌then◌else◌, map, option_map, slice_get, OnOk, IfOk, IfErr};
-ghost use Rattle.rec_check.specs.Fitting.{fails, place_of};
-ghost use Rattle.rec_check.specs.Stored.{tested, type_stored, typing_stored};
-ghost use Rattle.rec_check.specs.Types.{type_for};
+ghost use Rattle.std.specs.Prelude.{◌≡◌, ℕ, List, Some, if◌then◌else◌, map, slice_get, OnOk, IfErr};
+ghost use Rattle.rec_check.specs.Fitting.{fails, place_of, tested};
 ghost use Rattle.rec_check.specs.Words.{is_among as among};
 
-use crate::field_type::{FieldType, Typing};
+use crate::field_type::Typing;
 use crate::found::add_violation;
 use crate::lines::Lines;
-use crate::names::is_among;
+use crate::resolution::Resolver;
+use crate::rules::Rules;
 use crate::tested::Tested;
 use rec_text::{Bytes, Element, Fault, Kind, Rule, Violation};
 use std::alloc::Global;
 use std::collections::HashMap;
-
-/// The type of a field; of two typings of one field the later holds.
-pub(crate) fn type_for<'r>(typings: &'r [Typing], name: &[u8]) -> Option<&'r FieldType>
-    ensures { option_map (λ type_. type_stored type_.now) result ≡ type_for (map typing_stored typings.now) name.now }
-{
-    let mut found = None;
-    for typing in typings {
-        if is_among(&typing.names, name) {
-            found = Some(&typing.type_);
-        }
-    }
-    found
-}
 
 /// Sets the place of some names.
 fn place_names<'n>(
@@ -62,33 +48,55 @@ pub(crate) struct Types<'r> {
 }
 
 impl<'r> Types<'r> {
-    ghost use Rattle.std.specs.Prelude.{◌≡◌, ◌+◌, ◌++◌, ◌≤◌, ℕ, List, length, map, option_map, IfErr, IfOk, OnOk};
+    ghost use Rattle.std.specs.Prelude.{◌≡◌, ◌+◌, ◌++◌, ◌≤◌, ℕ, List, length, map, IfErr, IfOk, OnOk};
     ghost use Rattle.rec_text.specs.Places.{piece_of, pieces_of};
+    ghost use Rattle.rec_check.specs.Automatic.{may_count};
     ghost use Rattle.rec_check.specs.Fitting.{misfits, misfit_violations};
+    ghost use Rattle.rec_check.specs.Resolved.{meaning_by};
+    ghost use Rattle.rec_check.specs.Rules.{by_meaning, field_type};
     ghost use Rattle.rec_check.specs.Tests.{type_in};
-    ghost use Rattle.rec_check.specs.Stored.{type_stored, typing_stored};
+    ghost use Rattle.rec_check.specs.Stored.{rules_stored, typing_stored};
     ghost use Rattle.rec_check.specs.Types.{type_for};
 
     /// Of two types for one field the later holds.
-    pub(crate) fn of(alloc: Global, typings: &'r [Typing]) -> Result<Types<'r>, Fault>
-        ensures types { IfOk result (λ types. (name : List ℕ) → type_in types name ≡ type_for (map typing_stored typings.now) name) }
+    pub(crate) fn of(alloc: Global, rules: &'r Rules) -> Result<Types<'r>, Fault>
+        ensures types { IfOk result (λ types. (name : List ℕ) → type_in types name ≡ field_type (rules_stored rules.now) name) }
+        ensures refusals { IfErr result (λ fault. fault ≡ Fault.OutOfMemory) }
+    {
+        let resolver = Resolver::of(alloc, &rules.definitions)?;
+        Types::with(alloc, &resolver, &rules.types)
+    }
+
+    /// The types as kinds mean them.
+    fn with(
+        alloc: Global,
+        resolver: &Resolver<'r>,
+        typings: &'r [Typing],
+    ) -> Result<Types<'r>, Fault>
+        ensures types { IfOk result (λ types. (name : List ℕ) → type_in types name ≡ type_for (map (by_meaning (meaning_by resolver.now)) (map typing_stored typings.now)) name) }
         ensures refusals { IfErr result (λ fault. fault ≡ Fault.OutOfMemory) }
     {
         let mut places = HashMap::new(alloc);
-        let mut tests = Vec::new(alloc);
+        let mut tests = Vec::with_capacity(alloc, typings.len())?;
         for (place, typing) in typings.iter().enumerate() {
-            tests.push(Tested::of(alloc, &typing.type_)?)?;
+            let type_ = resolver.meaning_of(typing.kind.as_slice(), &typing.type_);
+            tests.push(Tested::of(alloc, type_)?)?;
             place_names(&mut places, &typing.names, place)?;
         }
         Ok(Types { places, tests })
     }
 
-    /// The type of the fields of a name.
-    pub(crate) fn type_of(&self, name: &[u8]) -> Option<&'r FieldType>
-        ensures { option_map (λ type_. type_stored type_.now) result ≡ type_in self.now name.now }
+    /// Whether fields of a name have no type, or one whose values may be counted.
+    pub(crate) fn may_count(&self, name: &[u8]) -> bool
+        ensures { result ≡ may_count (type_in self.now name.now) }
     {
-        let place = *self.places.get(name)?;
-        Some(self.tests.get(place)?.type_)
+        let Some(place) = self.places.get(name) else {
+            return true;
+        };
+        let Some(test) = self.tests.get(*place) else {
+            return true;
+        };
+        test.may_count()
     }
 
     /// Whether an element is a field with a type that its value doesn't fit.

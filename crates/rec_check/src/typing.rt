@@ -1,15 +1,17 @@
-//! Reads the type of some fields.
+//! Reads the type of some fields, and what a kind means.
 ghost use Rattle.std.specs.Prelude.{◌≡◌, ◌⊎◌, ◌==◌, None, IfOk, IfErr, IsErrOf};
 ghost use Rattle.std.specs.List.{list_all, slice_split};
 ghost use Rattle.rec_text.specs.Canonical.{is_field_name as may_name_a_field};
-ghost use Rattle.rec_check.specs.Stored.{typing_stored};
-ghost use Rattle.rec_check.specs.Types.{IsTyping, HasRefusedType, typing_of};
+ghost use Rattle.rec_check.specs.Kinds.{IsKindIn};
+ghost use Rattle.rec_check.specs.Stored.{definition_stored, typing_stored};
+ghost use Rattle.rec_check.specs.Types.{IsDefinition, IsTyping, HasRefusedDefinition, HasRefusedType, definition_of, typing_of};
 
-use crate::field_type::Typing;
+use crate::definition::Definition;
+use crate::field_type::{FieldType, Typing};
 use crate::kind::type_of_kind;
 use crate::refusal::Refusal;
 use crate::words::split_word;
-use rec_text::{Bytes, is_field_name};
+use rec_text::{Bytes, is_field_name, is_plain_name};
 use std::alloc::{AllocError, Global};
 
 /// Copies of what stands between commas.
@@ -29,6 +31,17 @@ fn are_names(names: &[Bytes]) -> bool
     names.iter().all(|name| is_field_name(name.as_slice()))
 }
 
+/// The kind that comes first, and its type, with the words of it that stand behind.
+fn kind_in(alloc: Global, text: &[u8]) -> Result<(Bytes, FieldType), Refusal>
+    ensures { IsKindIn text.now result }
+{
+    let Some((kind, behind)) = split_word(text) else {
+        return Err(Refusal::Bad);
+    };
+    let type_ = type_of_kind(alloc, kind, behind)?;
+    Ok((Bytes::copy_of(alloc, kind)?, type_))
+}
+
 /// The names, the kind and the type that the value of a `%type` field gives, which stands at a place of its descriptor.
 pub(crate) fn typing_in(alloc: Global, place: usize, value: &[u8]) -> Result<Typing, Refusal>
     ensures found { IfOk result (λ typing. IsTyping value.now (typing_stored typing)) }
@@ -40,19 +53,33 @@ pub(crate) fn typing_in(alloc: Global, place: usize, value: &[u8]) -> Result<Typ
     let Some((joined, behind)) = split_word(value) else {
         return Err(Refusal::Bad);
     };
-    let Some((kind, behind)) = split_word(behind) else {
-        return Err(Refusal::Bad);
-    };
     let names = split_names(alloc, joined)?;
     if !are_names(&names) {
         return Err(Refusal::Bad);
     }
-    let type_ = type_of_kind(alloc, kind, behind)?;
-    let kind = Bytes::copy_of(alloc, kind)?;
+    let (kind, type_) = kind_in(alloc, behind)?;
     Ok(Typing {
         place,
         names,
         kind,
         type_,
     })
+}
+
+/// The name, the kind and the type that the value of a `%typedef` field gives.
+pub(crate) fn definition_in(alloc: Global, value: &[u8]) -> Result<Definition, Refusal>
+    ensures found { IfOk result (λ definition. IsDefinition value.now (definition_stored definition)) }
+    ensures bad { IsErrOf result Refusal.Bad → definition_of value.now ≡ None }
+    ensures pattern { IsErrOf result Refusal.Pattern → HasRefusedDefinition value.now }
+    ensures refusals { IfErr result (λ refusal. (refusal ≡ Refusal.Bad) ⊎ ((refusal ≡ Refusal.Pattern) ⊎ (refusal ≡ Refusal.OutOfMemory))) }
+{
+    let Some((name, behind)) = split_word(value) else {
+        return Err(Refusal::Bad);
+    };
+    if !is_plain_name(name) {
+        return Err(Refusal::Bad);
+    }
+    let (kind, type_) = kind_in(alloc, behind)?;
+    let name = Bytes::copy_of(alloc, name)?;
+    Ok(Definition { name, kind, type_ })
 }

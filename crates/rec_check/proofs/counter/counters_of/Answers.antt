@@ -1,11 +1,10 @@
-use Rattle.std.proofs.Common.{◌∙◌, ap, map, subst}
+use Rattle.std.proofs.Common.{◌∙◌, ap, subst}
 use Rattle.rec_text.specs.Places.{pieces_of}
 use Rattle.rec_check.specs.Automatic.{readings}
 use Rattle.rec_check.specs.Checks.{texts}
 use Rattle.rec_check.specs.Counters.{greatest_at, HoldsGreatest}
-use Rattle.rec_check.specs.Stored.{rules_stored, typing_stored}
+use Rattle.rec_check.specs.Stored.{rules_stored}
 use Rattle.rec_check.specs.Tests.{type_in}
-use Rattle.rec_check.specs.Types.{type_for}
 use Rattle.rec_check.proofs.CountLemmas.{AreCounters-kept}
 use Rattle.rec_check.proofs.counter.counters_of.Goals as goal
 
@@ -14,7 +13,7 @@ returns-clause-counters c =
     let greatest = greatest_at c.in_ok-greatest.greatest in
     let numbers = readings (pieces_of c.args.elements.now) c.args.records.now in
     AreCounters-kept (rules_stored c.args.rules.now) (type_in c.in_ok-types.types) greatest numbers
-    (λ name. c.in_ok-types.ensures.types name ∙ ap (λ typings. type_for (map typing_stored typings) name) c.deref.ensures.value)
+    c.in_ok-types.ensures.types
     (texts c.in_ok-names.names.items) c.in_ok-counters_with.field-0.items c.in_ok-names.ensures
-    (subst (λ names. HoldsGreatest (texts names) greatest numbers) c.deref-2.ensures.value c.in_ok-greatest.ensures.greatest)
-    (c.in_ok-counters_with.ensures.names ∙ ap texts c.deref-3.ensures.value) c.in_ok-counters_with.ensures.each
+    (subst (λ names. HoldsGreatest (texts names) greatest numbers) c.deref.ensures.value c.in_ok-greatest.ensures.greatest)
+    (c.in_ok-counters_with.ensures.names ∙ ap texts c.deref-2.ensures.value) c.in_ok-counters_with.ensures.each

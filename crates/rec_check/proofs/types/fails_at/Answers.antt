@@ -1,5 +1,5 @@
 use Rattle.rec_sex.proofs.PatternLemmas.{map-set_same}
-use Rattle.rec_check.specs.Stored.{tested}
+use Rattle.rec_check.specs.Fitting.{tested}
 use Rattle.rec_check.proofs.FittingLemmas.{fails-at}
 use Rattle.rec_check.proofs.types.fails_at.Goals as goal
 

@@ -2,7 +2,7 @@ use Rattle.std.proofs.Common.{map, ap, sym, ◌∙◌}
 use Rattle.std.specs.List.{slice_get}
 use Rattle.std.specs.Option.{option_and_then}
 use Rattle.rec_text.specs.Places.{piece_of}
-use Rattle.rec_check.specs.Stored.{tested}
+use Rattle.rec_check.specs.Fitting.{tested}
 use Rattle.rec_check.specs.Tests.{type_in}
 use Rattle.rec_check.proofs.FittingLemmas.{misfits-no_field, misfits-untyped, misfits-typed}
 use Rattle.rec_check.proofs.types.Types.is_misfit.Goals as goal

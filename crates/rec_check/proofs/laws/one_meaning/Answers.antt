@@ -1,0 +1,5 @@
+use Rattle.rec_check.proofs.MeaningLemmas as lemma
+use Rattle.rec_check.proofs.laws.one_meaning.Goals as goal
+
+pub returns : goal.returns
+returns c = lemma.one_meaning

@@ -1,0 +1,21 @@
+use Rattle.std.proofs.Common.{◌∙◌, ap, position, sym}
+use Rattle.std.specs.Str.{bytes_eq}
+use Rattle.rec_check.proofs.MetLemmas.{met_more, met_other, no_option, none_again, none_once}
+use Rattle.rec_check.proofs.NameLemmas.{no_element}
+use Rattle.rec_check.proofs.met.Met.of.Goals as goal
+
+pub loop-field-init : goal.loop-field-init
+loop-field-init c = λ once. record { once = c.new.ensures.empty ∙ none_once 0 c.args.names.now; again = c.new-2.ensures.empty ∙ none_again 0 c.args.names.now }
+
+pub loop-field-preserved-in_default : goal.loop-field-preserved-in_default
+loop-field-preserved-in_default c = λ once.
+    let names = c.args.names.now in
+    met_other c.args.fields.now c.loop-field.field-index no_element c.loop-field-test.true names c.loop-field.met
+    (ap (λ n. position (bytes_eq n) names) (sym c.name.ensures) ∙ sym c.place_of.ensures ∙ no_option c.place_of.result c.in_default.not-Some) (c.loop-field.invariant once)
+
+pub loop-field-preserved : goal.loop-field-preserved
+loop-field-preserved c = λ once.
+    let names = c.args.names.now in
+    met_more c.args.fields.now c.loop-field.field-index no_element c.loop-field-test.true names c.loop-field.met c.note.new.self c.in-Some.place once
+    (ap (λ n. position (bytes_eq n) names) (sym c.name.ensures) ∙ sym c.place_of.ensures ∙ c.in-Some.is) (c.loop-field.invariant once)
+    c.in_ok-note.ensures.once c.in_ok-note.ensures.again

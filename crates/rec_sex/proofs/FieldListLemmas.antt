@@ -1,13 +1,12 @@
 -- Names, items and whole field lists.
-use Rattle.std.proofs.Common.{◌≡◌, ◌∙◌, ℕ, ◌+◌, ◌-◌, true, false, List, [], ◌∷◌, ◌++◌, length, take, drop, Option, Some, None, Result, Ok, refl, ap, sym, subst, inl, inr, arith}
-use Rattle.std.proofs.lemmas.List.{append_assoc, append-nil, nil_from_length, length-append, length-take-le, take-append-drop}
+use Rattle.std.proofs.Common.{◌≡◌, ◌∙◌, ℕ, ◌+◌, ◌-◌, true, false, List, [], ◌∷◌, ◌++◌, length, take, drop, Some, None, refl, ap, sym, subst, inl, inr, arith}
+use Rattle.std.proofs.lemmas.List.{append_assoc, append-nil, length-append, length-take-le, take-append-drop}
 use Rattle.std.proofs.Math.Numerals.{one-add}
 use Rattle.std.proofs.lemmas.List.Sums.{prefix_len-le-length}
-use Rattle.std.proofs.lemmas.Bool.{cases_Bool, eqb-true}
+use Rattle.std.proofs.lemmas.Bool.{cases_Bool}
 use Rattle.std.specs.List.{prefix_len, take_while}
 use Rattle.rec_text.specs.Bytes.{begins_name, continues_name}
 use Rattle.rec_sex.specs.declared.index_list.Span.{Span}
-use Rattle.rec_sex.specs.declared.field_list.Item.{Item}
 use Rattle.rec_sex.specs.IndexItems.{BeginsNumber}
 use Rattle.rec_sex.specs.Lists.{begins_continuation, IsSecondFault, IsSubscriptFault}
 use Rattle.rec_sex.specs.Joined.{ends_item}
@@ -95,9 +94,3 @@ BeginsItem-subscript text name behind inside span rest (parts, is) opening
       (91 ∷ subscript, refl, is.well_formed, inr (a, b, refl, digits_alone a after first_are, digits_alone b closed second_are, first_value, second_value, ordered, second_small)),
       ended,
     )
-
--- the item that was pushed, with the name that was copied
-pub pushed_with_copy : {E : Type 0} (more items : List Item) (name copy : List ℕ) (occurrences : Option Span) → more ≡ items ++ record { name = copy; occurrences = occurrences } ∷ []
-    → ◌≡◌ {A = Result (List ℕ) E} (Ok copy) (Ok name) → more ≡ items ++ record { name = name; occurrences = occurrences } ∷ []
-pushed_with_copy more items name copy occurrences pushed copied =
-    let same : copy ≡ name = cc in pushed ∙ ap (λ n. items ++ record { name = n; occurrences = occurrences } ∷ []) same

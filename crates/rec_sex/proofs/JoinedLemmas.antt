@@ -1,8 +1,8 @@
 -- Items joined by commas, read one by one.
-use Rattle.std.proofs.Common.{◌≡◌, ◌∙◌, ℕ, ◌+◌, ◌-◌, List, [], ◌∷◌, ◌++◌, length, refl, ap, sym, subst, arith}
-use Rattle.std.proofs.lemmas.List.{append_assoc, append-nil, nil_from_length, length-append}
+use Rattle.std.proofs.Common.{◌≡◌, ◌∙◌, ℕ, List, [], ◌∷◌, ◌++◌, length, refl, ap, sym, subst}
+use Rattle.std.proofs.lemmas.List.{append_assoc, append-nil, nil_from_length}
 use Rattle.std.proofs.lemmas.Bool.{eqb-true}
-use Rattle.rec_sex.specs.Joined.{AreJoined, AreWithCommas, BeginsWhole, HasFaultyItem, ends_item}
+use Rattle.rec_sex.specs.Joined.{AreJoined, AreWithCommas, BeginsWhole, ends_item}
 
 -- one more item, with its comma
 pub AreWithCommas-push : {I : Type 0} (IsItem : List ℕ → I → Type 0) (before : List ℕ) (items : List I) (front : List ℕ) (item : I) → AreWithCommas IsItem before items → IsItem front item
@@ -47,16 +47,3 @@ read_more IsItem text rest items item behind b next more (before, parts, whole) 
       parts ∙ ap (λ r. before ++ r) (halves ∙ ap (λ r. front ++ r) (follows ∙ ap (λ c. c ∷ next) comma) ∙ sym (append_assoc front (44 ∷ []) next)) ∙ sym (append_assoc before (front ++ 44 ∷ []) next),
       subst P (sym pushed) (AreWithCommas-push IsItem before items front item whole is),
     )
-
-pub read_fault : {I : Type 0} (IsItem : List ℕ → I → Type 0) (IsFault : List ℕ → ℕ → Type 0) (text rest : List ℕ) (items : List I) (place : ℕ) → ReadUpTo IsItem text rest items
-    → IsFault rest place → HasFaultyItem IsItem IsFault text (length text - length rest + place)
-read_fault IsItem IsFault text rest items place (before, parts, whole) fault = record {
-  before = before;
-  items = items;
-  rest = rest;
-  at = place;
-  parts = parts;
-  whole = whole;
-  bad = fault;
-  behind = omega (arith, ap length parts, length-append before rest);
-}

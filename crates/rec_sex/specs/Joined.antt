@@ -1,5 +1,7 @@
 -- Items joined by commas, whatever the items are.
 use Rattle.std.specs.Prelude.{◌≡◌, ℕ, ◌+◌, Bool, true, ◌==◌, List, [], ◌∷◌, ◌++◌, length}
+use Rattle.rec_sex.specs.declared.joined.Unread.{Unread}
+use Rattle.rec_sex.specs.declared.joined.Unread.TheVariants.{FaultAt, OutOfMemory}
 
 -- items joined by commas, at least one
 abbrev pub AreJoined : {I : Type 0} → (List ℕ → I → Type 0) → List ℕ → List I → Type 0
@@ -31,3 +33,8 @@ pub record HasFaultyItem {I : Type 0} (IsItem : List ℕ → I → Type 0) (IsFa
   pub whole : AreWithCommas IsItem before items
   pub bad : IsFault rest at
   pub behind : place ≡ length before + at
+
+-- where nothing was read, there is a fault at the place that is told; or memory ran out
+abbrev pub IsUnread : (ℕ → Type 0) → Unread → Type 0
+IsUnread IsFault (FaultAt place) = IsFault place
+IsUnread IsFault OutOfMemory = Unit {0}

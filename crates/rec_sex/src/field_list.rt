@@ -3,10 +3,11 @@ ghost use Rattle.std.specs.Prelude.{◌≡◌, ◌∷◌, ◌++◌, false, IfOk,
 ghost use Rattle.rec_text.specs.Bytes.{begins_name as may_begin};
 ghost use Rattle.rec_text.specs.Places.{pieces_of};
 ghost use Rattle.rec_sex.specs.IndexList.{begins_with};
-ghost use Rattle.rec_sex.specs.Lists.{begins_field, occurrences, places_from, IsClosingFault, IsSecondFault, IsSubscriptFault, IsItemFault, picks};
+ghost use Rattle.rec_sex.specs.Lists.{begins_field, occurrences, places_from, IsClosingFault, IsSecondFault, IsSubscriptFault, IsItem, IsItemFault, picks};
 ghost use Rattle.rec_sex.specs.FieldItems.{is_among, BeginsName, Closes, ClosesPair, BeginsSubscript, BeginsItem};
 
 use crate::index_list::{Span, behind_hyphen, ends_item, number};
+use crate::joined::{ListItem, Unread, items_of};
 use crate::lexeme::word_at;
 use crate::picking::picked_by_table;
 use rec_text::{Bytes, Element, Fault};
@@ -133,6 +134,18 @@ fn leading_item(text: &[u8]) -> Result<(&[u8], Option<Span>, &[u8]), usize>
     }
 }
 
+impl ListItem for Item {
+    ghost is_item = { IsItem };
+
+    ghost is_fault = { IsItemFault };
+
+    fn leading(alloc: Global, text: &[u8]) -> Result<(Item, &[u8]), Unread> {
+        let (name, occurrences, rest) = leading_item(text).map_err(Unread::FaultAt)?;
+        let name = Bytes::copy_of(alloc, name)?;
+        Ok((Item { name, occurrences }, rest))
+    }
+}
+
 /// Whether an occurrence is among these; all are where none are named.
 fn is_among(span: Option<Span>, occurrence: usize) -> bool
     ensures { result ≡ is_among span occurrence }
@@ -185,22 +198,10 @@ impl FieldList {
         ensures found { UnlessMemory result (IsFieldList text.now) }
         ensures only { (other : Result (List Item) Fault) → IsFieldList text.now other → UnlessMemory result (λ answer. answer ≡ other) }
     {
-        let mut items = Vec::new(alloc);
-        let mut rest = text;
-        loop {
-            let (name, occurrences, behind) = match leading_item(rest) {
-                Ok(found) => found,
-                Err(place) => {
-                    let at = text.len() - rest.len() + place;
-                    return Err(Fault::BadFieldList { at });
-                }
-            };
-            let name = Bytes::copy_of(alloc, name)?;
-            items.push(Item { name, occurrences })?;
-            match behind.split_first() {
-                None => return Ok(FieldList { items }),
-                Some((_, next)) => rest = next,
-            }
+        match items_of(alloc, text) {
+            Ok(items) => Ok(FieldList { items }),
+            Err(Unread::FaultAt(at)) => Err(Fault::BadFieldList { at }),
+            Err(Unread::OutOfMemory) => Err(Fault::OutOfMemory),
         }
     }
 

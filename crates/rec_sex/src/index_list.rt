@@ -3,10 +3,11 @@ ghost use Rattle.std.specs.Prelude.{◌≡◌, ◌≤◌, ◌∷◌, true, false
 ghost use Rattle.std.specs.Char.{is_ascii_digit};
 ghost use Rattle.std.specs.List.{list_all, prefix_len};
 ghost use Rattle.std.specs.Option.{SomeIff};
-ghost use Rattle.rec_sex.specs.IndexList.{value_of, greatest, begins_with, IsSecondFault, IsItemFault};
+ghost use Rattle.rec_sex.specs.IndexList.{value_of, greatest, begins_with, IsSecondFault, IsItem, IsItemFault};
 ghost use Rattle.rec_sex.specs.Joined.{ends_item};
 ghost use Rattle.rec_sex.specs.IndexItems.{BeginsNumber, BeginsNoNumber, EndsPair, BeginsItem, AreSorted, reach_from};
 
+use crate::joined::{ListItem, Unread, items_of};
 use rec_text::Fault;
 use std::alloc::{AllocError, Global};
 use std::marker::Model;
@@ -107,8 +108,8 @@ fn last_of_pair(first: usize, text: &[u8]) -> Result<(usize, &[u8]), usize>
     Ok((last, rest))
 }
 
-/// The item that a text begins with, and what stands behind it; or the place of its fault.
-fn item(text: &[u8]) -> Result<(Span, &[u8]), usize>
+/// The span that a text begins with, and what stands behind it; or the place of its fault.
+fn leading_span(text: &[u8]) -> Result<(Span, &[u8]), usize>
     ensures { MatchResult result (λ (span, rest). BeginsItem text.now span rest.now) (λ place. IsItemFault text.now place) }
 {
     let Some((first, behind)) = number(text) else {
@@ -124,6 +125,16 @@ fn item(text: &[u8]) -> Result<(Span, &[u8]), usize>
     match last_of_pair(first, second) {
         Ok((last, rest)) => Ok((Span { first, last }, rest)),
         Err(place) => Err(end + 1 + place),
+    }
+}
+
+impl ListItem for Span {
+    ghost is_item = { IsItem };
+
+    ghost is_fault = { IsItemFault };
+
+    fn leading(_alloc: Global, text: &[u8]) -> Result<(Span, &[u8]), Unread> {
+        leading_span(text).map_err(Unread::FaultAt)
     }
 }
 
@@ -164,24 +175,13 @@ impl IndexList {
         ensures found { UnlessMemory result (IsIndexList text.now) }
         ensures only { (other : Result (List Span) Fault) → IsIndexList text.now other → UnlessMemory result (λ answer. answer ≡ other) }
     {
-        let mut spans = Vec::new(alloc);
-        let mut rest = text;
-        loop {
-            let (span, behind) = match item(rest) {
-                Ok(found) => found,
-                Err(place) => {
-                    let at = text.len() - rest.len() + place;
-                    return Err(Fault::BadIndexList { at });
-                }
-            };
-            spans.push(span)?;
-            match behind.split_first() {
-                None => {
-                    let sorted = sorted_spans(alloc, &spans)?;
-                    return Ok(IndexList { spans, sorted });
-                }
-                Some((_, items)) => rest = items,
+        match items_of(alloc, text) {
+            Ok(spans) => {
+                let sorted = sorted_spans(alloc, &spans)?;
+                Ok(IndexList { spans, sorted })
             }
+            Err(Unread::FaultAt(at)) => Err(Fault::BadIndexList { at }),
+            Err(Unread::OutOfMemory) => Err(Fault::OutOfMemory),
         }
     }
 

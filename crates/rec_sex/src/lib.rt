@@ -11,6 +11,7 @@ mod field_list;
 mod fields;
 mod index_list;
 mod integer;
+mod joined;
 mod laws;
 mod lexeme;
 mod lexer;

@@ -1,5 +1,5 @@
 use Rattle.rec_sex.proofs.IndexListLemmas.{BeginsItem-pair, IsItemFault-in_second}
-use Rattle.rec_sex.proofs.index_list.item.Goals as goal
+use Rattle.rec_sex.proofs.index_list.leading_span.Goals as goal
 
 pub returns-in-Ok : goal.returns-in-Ok
 returns-in-Ok c =

@@ -17,6 +17,7 @@ pub mod ResolvingExamples
 pub mod MeaningLemmas
 pub mod ResolvedLemmas
 pub mod OneReportLemmas
+pub mod BuiltLemmas
 pub mod CheckLemmas
 pub mod CounterLemmas
 pub mod NameLemmas

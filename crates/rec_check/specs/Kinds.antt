@@ -1,5 +1,6 @@
 -- What is answered for a type that a `%type` or a `%typedef` field writes.
 use Rattle.std.specs.Prelude.{◌≡◌, List, ℕ, Option, Some, None, Result, Ok, Err}
+use Rattle.std.specs.declared.rc.Rc.{Rc}
 use Rattle.regex.specs.declared.string.regex.Regex.{Regex}
 use Rattle.rec_sex.specs.Patterns.{IsBuiltFrom, IsRefusedPattern}
 use Rattle.rec_check.specs.declared.field_type.FieldType.{FieldType as StoredType}
@@ -31,3 +32,8 @@ IsPatternFor text (Err Bad) = ⊥
 IsPatternFor text (Err Unsupported) = ⊥
 IsPatternFor text (Err Pattern) = IsRefusedPattern text
 IsPatternFor text (Err OutOfMemory) = Unit {0}
+
+-- the same of a pattern that several types share
+abbrev pub IsSharedPatternFor : {Z : Type 0} → List ℕ → Result (Rc Regex Z) Refusal → Type 0
+IsSharedPatternFor text (Ok pattern) = IsPatternFor text (Ok pattern.value)
+IsSharedPatternFor text (Err refusal) = IsPatternFor text (Err refusal)

@@ -16,6 +16,7 @@ pub mod Met
 pub mod Keys
 pub mod Singulars
 pub mod Names
+pub mod Patterns
 pub mod Fitting
 pub mod Tests
 pub mod Constraints

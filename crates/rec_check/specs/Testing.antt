@@ -1,5 +1,5 @@
 -- How values are tried for a type: each test answers as the type does.
-use Rattle.std.specs.Prelude.{◌≡◌, ℕ, List, Bool, true, false}
+use Rattle.std.specs.Prelude.{◌≡◌, ℕ, List, Bool, true, false, Option, Some}
 use Rattle.regex.specs.Strings.{matcher_pattern}
 use Rattle.rec_sex.specs.Integers.{trimmed}
 use Rattle.rec_sex.specs.Meaning.{is_found}
@@ -30,3 +30,7 @@ passes (Pattern matcher) type_ value = is_found (matcher_pattern matcher.value) 
 -- the test passes the values that fit the type
 abbrev pub Serves : Test → FieldType → Type 0
 Serves test type_ = (may_serve test type_ ≡ true) × ((value : List ℕ) → passes test type_ value ≡ fits (type_stored type_) value)
+
+-- the same of a test that may not be made yet
+abbrev pub ServesOnceMade : Option Test → FieldType → Type 0
+ServesOnceMade made type_ = (test : Test) → made ≡ Some test → Serves test type_

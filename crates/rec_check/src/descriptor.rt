@@ -13,6 +13,7 @@ ghost use Rattle.rec_check.specs.Words.{words};
 
 use crate::definition::Definition;
 use crate::field_type::Typing;
+use crate::patterns::Patterns;
 use crate::refusal::Refusal;
 use crate::rules::Rules;
 use crate::special::{Bound, Special, bound_in, special_of};
@@ -29,6 +30,8 @@ pub(crate) struct Descriptor {
     /// The type of the set.
     pub kind: Option<Bytes>,
     pub rules: Rules,
+    /// Serves its types while it is read.
+    pub patterns: Patterns,
 }
 
 fn is_rec(element: &Element) -> bool
@@ -111,25 +114,27 @@ fn add_allowed(alloc: Global, allowed: &mut Option<Vec<Bytes>>, value: &[u8]) ->
 /// Takes the type that a `%type` field at a place gives.
 fn add_typing(
     alloc: Global,
+    patterns: &mut Patterns,
     types: &mut Vec<Typing>,
     place: usize,
     value: &[u8],
 ) -> Result<(), Refusal>
     ensures { Answers (special_flaw Special.Type_ false [] value.now) (AddsTyping place value.now types.old.items types.new.items) (HasRefusedType value.now) result }
 {
-    types.push(typing_in(alloc, place, value)?)?;
+    types.push(typing_in(alloc, patterns, place, value)?)?;
     Ok(())
 }
 
 /// Takes what a `%typedef` field says of a kind.
 fn add_definition(
     alloc: Global,
+    patterns: &mut Patterns,
     definitions: &mut Vec<Definition>,
     value: &[u8],
 ) -> Result<(), Refusal>
     ensures { Answers (special_flaw Special.Typedef false [] value.now) (AddsDefinition value.now definitions.old.items definitions.new.items) (HasRefusedDefinition value.now) result }
 {
-    definitions.push(definition_in(alloc, value)?)?;
+    definitions.push(definition_in(alloc, patterns, value)?)?;
     Ok(())
 }
 
@@ -185,6 +190,7 @@ impl Descriptor {
         Descriptor {
             kind: None,
             rules: Rules::none(alloc),
+            patterns: Patterns::new(alloc),
         }
     }
 
@@ -199,6 +205,7 @@ impl Descriptor {
     ) -> Result<(), Refusal>
         ensures { Answers (special_flaw special (is_repeated special (said self.old)) types.now value.now) (Adds special place value.now (said self.old) (said self.new)) (IsRefusedAs special value.now) result }
     {
+        let patterns = &mut self.patterns;
         match special {
             Special::Rec => add_type(alloc, &mut self.kind, types, value),
             Special::Key => add_key(alloc, &mut self.rules.key, value),
@@ -208,8 +215,8 @@ impl Descriptor {
             Special::Singular => add_names(alloc, &mut self.rules.singular, value),
             Special::Allowed => add_allowed(alloc, &mut self.rules.allowed, value),
             Special::Auto => add_names(alloc, &mut self.rules.automatic, value),
-            Special::Type_ => add_typing(alloc, &mut self.rules.types, place, value),
-            Special::Typedef => add_definition(alloc, &mut self.rules.definitions, value),
+            Special::Type_ => add_typing(alloc, patterns, &mut self.rules.types, place, value),
+            Special::Typedef => add_definition(alloc, patterns, &mut self.rules.definitions, value),
             Special::Size => add_bound(&mut self.rules.size, value),
             Special::Constraint => add_constraint(alloc, &mut self.rules.constraints, value),
             Special::Confidential => Err(Refusal::Unsupported),

@@ -63,7 +63,8 @@ impl Draft {
             add_record(&mut self.sets, index, None)?;
             return Ok(());
         }
-        let Descriptor { kind, rules } = Descriptor::read(alloc, database, fields, &self.types)?;
+        let descriptor = Descriptor::read(alloc, database, fields, &self.types)?;
+        let Descriptor { kind, rules, .. } = descriptor;
         if let Some(kind) = &kind {
             self.types.add(alloc, kind.as_slice())?;
         }

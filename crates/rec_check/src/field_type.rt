@@ -2,6 +2,7 @@
 
 use rec_text::Bytes;
 use regex::Regex;
+use std::rc::Rc;
 
 /// A type of fields.
 #[derive(Drop)]
@@ -18,8 +19,8 @@ pub(crate) enum FieldType {
     Truth,
     /// One of some words.
     OneOf(Vec<Bytes>),
-    /// A text in which a pattern is found.
-    Matching(Box<Regex>),
+    /// A text in which a pattern is found. Types with equal patterns share one.
+    Matching(Rc<Regex>),
     /// Any text.
     Unchecked,
 }

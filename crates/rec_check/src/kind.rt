@@ -7,6 +7,7 @@ ghost use Rattle.rec_check.specs.Words.{words};
 
 use crate::enumeration::enum_type;
 use crate::field_type::FieldType;
+use crate::patterns::Patterns;
 use crate::refusal::Refusal;
 use crate::regexp::regexp_type;
 use crate::words::split_word;
@@ -87,7 +88,12 @@ fn size_type(text: &[u8]) -> Result<FieldType, Refusal>
 }
 
 /// The type of a kind, with what stands behind the kind.
-pub(crate) fn type_of_kind(alloc: Global, kind: &[u8], text: &[u8]) -> Result<FieldType, Refusal>
+pub(crate) fn type_of_kind(
+    alloc: Global,
+    patterns: &mut Patterns,
+    kind: &[u8],
+    text: &[u8],
+) -> Result<FieldType, Refusal>
     ensures { IsTypeOf (type_of_kind kind.now text.now) result }
 {
     if kind == b"int".as_slice() {
@@ -103,7 +109,7 @@ pub(crate) fn type_of_kind(alloc: Global, kind: &[u8], text: &[u8]) -> Result<Fi
     } else if kind == b"enum".as_slice() {
         enum_type(alloc, text)
     } else if kind == b"regexp".as_slice() {
-        regexp_type(alloc, text)
+        regexp_type(alloc, patterns, text)
     } else {
         Ok(FieldType::Unchecked)
     }

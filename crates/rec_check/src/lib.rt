@@ -20,6 +20,7 @@ mod limit;
 mod lines;
 mod met;
 mod names;
+mod patterns;
 mod refusal;
 mod regexp;
 mod report;

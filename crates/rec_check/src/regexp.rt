@@ -1,14 +1,12 @@
 //! The pattern of a type.
 ghost use Rattle.std.specs.Prelude.{◌≡◌, Some, None, option_map};
-ghost use Rattle.rec_check.specs.Kinds.{IsPatternFor, IsTypeOf};
+ghost use Rattle.rec_check.specs.Kinds.{IsTypeOf};
 ghost use Rattle.rec_check.specs.Types.{pattern_in, regexp_of};
 
 use crate::field_type::FieldType;
+use crate::patterns::Patterns;
 use crate::refusal::Refusal;
 use crate::words::strip;
-use rec_sex::pattern_of;
-use rec_text::Fault;
-use regex::Regex;
 use std::alloc::Global;
 
 /// What stands between the first byte and the last one, if these are equal.
@@ -20,19 +18,12 @@ fn pattern_in(text: &[u8]) -> Option<&[u8]>
     if first == last { Some(pattern) } else { None }
 }
 
-/// The pattern of a text.
-fn built(alloc: Global, text: &str) -> Result<Regex, Refusal>
-    ensures { IsPatternFor text.now result }
-{
-    match pattern_of(alloc, text) {
-        Ok(pattern) => Ok(pattern),
-        Err(Fault::BadPattern) => Err(Refusal::Pattern),
-        Err(_) => Err(Refusal::OutOfMemory),
-    }
-}
-
 /// The type of texts in which a pattern is found.
-pub(crate) fn regexp_type(alloc: Global, text: &[u8]) -> Result<FieldType, Refusal>
+pub(crate) fn regexp_type(
+    alloc: Global,
+    patterns: &mut Patterns,
+    text: &[u8],
+) -> Result<FieldType, Refusal>
     ensures { IsTypeOf (regexp_of text.now) result }
 {
     let Some(pattern) = pattern_in(strip(text)) else {
@@ -41,6 +32,6 @@ pub(crate) fn regexp_type(alloc: Global, text: &[u8]) -> Result<FieldType, Refus
     let Ok(pattern) = std::str::from_utf8(pattern) else {
         return Err(Refusal::Bad);
     };
-    let pattern = built(alloc, pattern)?;
-    Ok(FieldType::Matching(Box::new(alloc, pattern)?))
+    let pattern = patterns.pattern_of(alloc, pattern)?;
+    Ok(FieldType::Matching(pattern))
 }

@@ -1,5 +1,5 @@
 //! Types, ready to be tried on many values.
-ghost use Rattle.rec_check.specs.Testing.{Serves};
+ghost use Rattle.rec_check.specs.Testing.{ServesOnceMade};
 
 use crate::field_type::FieldType;
 use crate::test::Test;
@@ -10,8 +10,9 @@ use std::alloc::Global;
 #[derive(Drop)]
 pub(crate) struct Tried<'r> {
     pub type_: &'r FieldType,
-    pub test: Test<'r>,
-    ghost serves: { Serves test type_.now },
+    /// It is made when the first value is tried.
+    pub test: Option<Test<'r>>,
+    ghost serves: { ServesOnceMade test type_.now },
 }
 
 impl<'r> Tried<'r> {
@@ -20,20 +21,25 @@ impl<'r> Tried<'r> {
     ghost use Rattle.rec_check.specs.Stored.{type_stored};
     ghost use Rattle.rec_check.specs.Types.{fits};
 
-    fn of(alloc: Global, type_: &'r FieldType) -> Result<Tried<'r>, Fault>
-        ensures type_ { IfOk result (λ tried. type_stored tried.type_.now ≡ type_stored type_.now) }
-        ensures refusals { IfErr result (λ fault. fault ≡ Fault.OutOfMemory) }
+    fn of(type_: &'r FieldType) -> Tried<'r>
+        ensures { type_stored result.type_.now ≡ type_stored type_.now }
     {
-        let test = Test::of(alloc, type_)?;
-        Ok(Tried { type_, test })
+        Tried { type_, test: None }
     }
 
     /// Whether a value fits the type.
-    fn fits(&mut self, value: &[u8]) -> bool
-        ensures fits { result ≡ fits (type_stored self.old.type_.now) value.now }
+    fn fits(&mut self, alloc: Global, value: &[u8]) -> Result<bool, Fault>
+        ensures fits { IfOk result (λ answer. answer ≡ fits (type_stored self.old.type_.now) value.now) }
         ensures same { type_stored self.new.type_.now ≡ type_stored self.old.type_.now }
+        ensures refusals { IfErr result (λ fault. fault ≡ Fault.OutOfMemory) }
     {
-        self.test.passes(self.type_, value)
+        let mut test = match self.test.take() {
+            Some(test) => test,
+            None => Test::of(alloc, self.type_)?,
+        };
+        let answer = test.passes(self.type_, value);
+        self.test = Some(test);
+        Ok(answer)
     }
 
     /// Whether values of the type may be counted.
@@ -57,26 +63,26 @@ impl<'r> Tested<'r> {
     ghost use Rattle.rec_check.specs.Stored.{type_stored};
     ghost use Rattle.rec_check.specs.Types.{fits, unchecked};
 
-    pub(crate) fn of(alloc: Global, type_: Option<&'r FieldType>) -> Result<Tested<'r>, Fault>
-        ensures type_ { IfOk result (λ test. tested test ≡ unwrap_or (option_map (λ type_. type_stored type_.now) type_.entry) unchecked) }
-        ensures refusals { IfErr result (λ fault. fault ≡ Fault.OutOfMemory) }
+    pub(crate) fn of(type_: Option<&'r FieldType>) -> Tested<'r>
+        ensures { tested result ≡ unwrap_or (option_map (λ type_. type_stored type_.now) type_.entry) unchecked }
     {
         match type_ {
-            Some(type_) => Ok(Tested {
-                tried: Some(Tried::of(alloc, type_)?),
-            }),
-            None => Ok(Tested { tried: None }),
+            Some(type_) => Tested {
+                tried: Some(Tried::of(type_)),
+            },
+            None => Tested { tried: None },
         }
     }
 
     /// Whether a value fits the type.
-    pub(crate) fn fits(&mut self, value: &[u8]) -> bool
-        ensures fits { result ≡ fits (tested self.old) value.now }
+    pub(crate) fn fits(&mut self, alloc: Global, value: &[u8]) -> Result<bool, Fault>
+        ensures fits { IfOk result (λ answer. answer ≡ fits (tested self.old) value.now) }
         ensures same { tested self.new ≡ tested self.old }
+        ensures refusals { IfErr result (λ fault. fault ≡ Fault.OutOfMemory) }
     {
         match &mut self.tried {
-            Some(tried) => tried.fits(value),
-            None => true,
+            Some(tried) => tried.fits(alloc, value),
+            None => Ok(true),
         }
     }
 

@@ -1,5 +1,5 @@
 //! The types of the fields of a set.
-ghost use Rattle.std.specs.Prelude.{◌≡◌, ℕ, List, Some, if◌then◌else◌, map, slice_get, OnOk, IfErr};
+ghost use Rattle.std.specs.Prelude.{◌≡◌, ℕ, List, Some, if◌then◌else◌, map, slice_get, IfOk, OnOk, IfErr};
 ghost use Rattle.rec_check.specs.Fitting.{fails, place_of, tested};
 ghost use Rattle.rec_check.specs.Words.{is_among as among};
 
@@ -29,14 +29,20 @@ fn place_names<'n>(
 }
 
 /// Whether a value doesn't fit the type at a place, if there is one.
-fn fails_at(tests: &mut [Tested<'_>], place: usize, value: &[u8]) -> bool
-    ensures fails { result ≡ fails (slice_get (map tested tests.old) place) value.now }
+fn fails_at(
+    alloc: Global,
+    tests: &mut [Tested<'_>],
+    place: usize,
+    value: &[u8],
+) -> Result<bool, Fault>
+    ensures fails { IfOk result (λ answer. answer ≡ fails (slice_get (map tested tests.old) place) value.now) }
     ensures same { map tested tests.new ≡ map tested tests.old }
+    ensures refusals { IfErr result (λ fault. fault ≡ Fault.OutOfMemory) }
 {
     if place >= tests.len() {
-        return false;
+        return Ok(false);
     }
-    !tests[place].fits(value)
+    Ok(!tests[place].fits(alloc, value)?)
 }
 
 /// The types of the fields of a set, ready to be tried on many values.
@@ -80,7 +86,7 @@ impl<'r> Types<'r> {
         let mut tests = Vec::with_capacity(alloc, typings.len())?;
         for (place, typing) in typings.iter().enumerate() {
             let type_ = resolver.meaning_of(typing.kind.as_slice(), &typing.type_);
-            tests.push(Tested::of(alloc, type_)?)?;
+            tests.push(Tested::of(type_))?;
             place_names(&mut places, &typing.names, place)?;
         }
         Ok(Types { places, tests })
@@ -112,7 +118,7 @@ impl<'r> Types<'r> {
             return Ok(false);
         };
         let value = element.value(alloc)?;
-        Ok(fails_at(&mut self.tests, *place, value.bytes()))
+        fails_at(alloc, &mut self.tests, *place, value.bytes())
     }
 
     /// Adds a violation for each of these fields, which begin at an index, whose value doesn't fit its type.

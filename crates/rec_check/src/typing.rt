@@ -9,6 +9,7 @@ ghost use Rattle.rec_check.specs.Types.{IsDefinition, IsTyping, HasRefusedDefini
 use crate::definition::Definition;
 use crate::field_type::{FieldType, Typing};
 use crate::kind::type_of_kind;
+use crate::patterns::Patterns;
 use crate::refusal::Refusal;
 use crate::words::split_word;
 use rec_text::{Bytes, is_field_name, is_plain_name};
@@ -32,18 +33,27 @@ fn are_names(names: &[Bytes]) -> bool
 }
 
 /// The kind that comes first, and its type, with the words of it that stand behind.
-fn kind_in(alloc: Global, text: &[u8]) -> Result<(Bytes, FieldType), Refusal>
+fn kind_in(
+    alloc: Global,
+    patterns: &mut Patterns,
+    text: &[u8],
+) -> Result<(Bytes, FieldType), Refusal>
     ensures { IsKindIn text.now result }
 {
     let Some((kind, behind)) = split_word(text) else {
         return Err(Refusal::Bad);
     };
-    let type_ = type_of_kind(alloc, kind, behind)?;
+    let type_ = type_of_kind(alloc, patterns, kind, behind)?;
     Ok((Bytes::copy_of(alloc, kind)?, type_))
 }
 
 /// The names, the kind and the type that the value of a `%type` field gives, which stands at a place of its descriptor.
-pub(crate) fn typing_in(alloc: Global, place: usize, value: &[u8]) -> Result<Typing, Refusal>
+pub(crate) fn typing_in(
+    alloc: Global,
+    patterns: &mut Patterns,
+    place: usize,
+    value: &[u8],
+) -> Result<Typing, Refusal>
     ensures found { IfOk result (λ typing. IsTyping value.now (typing_stored typing)) }
     ensures place { IfOk result (λ typing. typing.place ≡ place) }
     ensures bad { IsErrOf result Refusal.Bad → typing_of value.now ≡ None }
@@ -57,7 +67,7 @@ pub(crate) fn typing_in(alloc: Global, place: usize, value: &[u8]) -> Result<Typ
     if !are_names(&names) {
         return Err(Refusal::Bad);
     }
-    let (kind, type_) = kind_in(alloc, behind)?;
+    let (kind, type_) = kind_in(alloc, patterns, behind)?;
     Ok(Typing {
         place,
         names,
@@ -67,7 +77,11 @@ pub(crate) fn typing_in(alloc: Global, place: usize, value: &[u8]) -> Result<Typ
 }
 
 /// The name, the kind and the type that the value of a `%typedef` field gives.
-pub(crate) fn definition_in(alloc: Global, value: &[u8]) -> Result<Definition, Refusal>
+pub(crate) fn definition_in(
+    alloc: Global,
+    patterns: &mut Patterns,
+    value: &[u8],
+) -> Result<Definition, Refusal>
     ensures found { IfOk result (λ definition. IsDefinition value.now (definition_stored definition)) }
     ensures bad { IsErrOf result Refusal.Bad → definition_of value.now ≡ None }
     ensures pattern { IsErrOf result Refusal.Pattern → HasRefusedDefinition value.now }
@@ -79,7 +93,7 @@ pub(crate) fn definition_in(alloc: Global, value: &[u8]) -> Result<Definition, R
     if !is_plain_name(name) {
         return Err(Refusal::Bad);
     }
-    let (kind, type_) = kind_in(alloc, behind)?;
+    let (kind, type_) = kind_in(alloc, patterns, behind)?;
     let name = Bytes::copy_of(alloc, name)?;
     Ok(Definition { name, kind, type_ })
 }

@@ -1,8 +1,6 @@
-use Rattle.std.proofs.Common.{ap}
+use Rattle.std.proofs.Common.{refl}
 use Rattle.std.proofs.lemmas.Result.{err_from_is_err_and}
-use Rattle.regex.specs.Strings.{regex_pattern}
 use Rattle.rec_check.specs.declared.field_type.FieldType.TheVariants.{Matching}
-use Rattle.rec_check.specs.Types.{matching}
 use Rattle.rec_check.proofs.RegexpLemmas.{regexp_of-none, regexp_type-refused, regexp_type-built}
 use Rattle.rec_check.proofs.regexp.regexp_type.Goals as goal
 
@@ -13,10 +11,9 @@ pub returns-in_err-pattern : goal.returns-in_err-pattern
 returns-in_err-pattern c =
     let text = c.in-Ok.ensures.cases in
     let p = err_from_is_err_and c.from_residual.result c.from_residual.ensures.1 in
-    rw (p.1, p.2) (regexp_type-refused c.args.text.now _ _ _ c.strip.ensures c.in-Some.ensures text.0 text.1 _ c.in_err-pattern.ensures)
+    rw (p.1, p.2) (regexp_type-refused c.args.text.now _ _ _ c.strip.ensures c.in-Some.ensures text.0 text.1 _ c.in_err-pattern.ensures.pattern)
 
 pub returns : goal.returns
 returns c =
     let text = c.in-Ok.ensures.cases in
-    regexp_type-built c.args.text.now _ _ _ c.strip.ensures c.in-Some.ensures text.0 text.1 c.in_ok-pattern.pattern (Matching c.in_ok-new.field-0)
-    (ap (λ regex. matching (regex_pattern regex)) c.in_ok-new.ensures.ok) c.in_ok-pattern.ensures
+    regexp_type-built c.args.text.now _ _ _ c.strip.ensures c.in-Some.ensures text.0 text.1 c.in_ok-pattern.pattern.value (Matching c.in_ok-pattern.pattern) refl c.in_ok-pattern.ensures.pattern

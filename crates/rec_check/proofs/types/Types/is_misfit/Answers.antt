@@ -1,4 +1,5 @@
 use Rattle.std.proofs.Common.{map, ap, sym, ◌∙◌}
+use Rattle.std.proofs.lemmas.Result.{IfOk-weaker}
 use Rattle.std.specs.List.{slice_get}
 use Rattle.std.specs.Option.{option_and_then}
 use Rattle.rec_text.specs.Places.{piece_of}
@@ -17,7 +18,9 @@ returns-in_default-get-clause-misfit c =
 
 pub returns-clause-misfit : goal.returns-clause-misfit
 returns-clause-misfit c =
-    misfits-typed (type_in c.args.self.now) (piece_of c.args.element.now) c.in-Field.is c.name.result.now c.name.ensures
-    (slice_get (map tested c.deref_mut.result.now) c.in-Some.place.now) c.bytes.result.now c.fails_at.result
+    IfOk-weaker c.fails_at.result _ _
+    (λ answer is. misfits-typed (type_in c.args.self.now) (piece_of c.args.element.now) c.in-Field.is c.name.result.now c.name.ensures
+    (slice_get (map tested c.deref_mut.result.now) c.in-Some.place.now) c.bytes.result.now answer
     (ap (option_and_then (slice_get (map tested c.args.self.now.tests.items))) (sym c.in-Some.ensures.value) ∙ ap (λ tests. slice_get (map tested tests) c.in-Some.place.now) (sym c.deref_mut.ensures.value))
-    (c.bytes.ensures ∙ c.in_ok-value.ensures.value) c.fails_at.ensures.fails
+    (c.bytes.ensures ∙ c.in_ok-value.ensures.value) is)
+    c.fails_at.ensures.fails

@@ -13,10 +13,10 @@ loop-place-preserved c =
     let meaning = meaning_by c.args.resolver.now in
     let one = c.index-typings-place.result in
     let so_far = map (typing_meant meaning) (take c.loop-place.place c.args.typings.now) in
-    let type_is = c.in_ok-of.ensures.type_ ∙ ap (λ o. unwrap_or o unchecked) (c.meaning_of-type_.ensures ∙ ap (λ kind. meaning kind (type_stored one.type_)) c.as_slice.ensures) in
+    let type_is = c.of.ensures ∙ ap (λ o. unwrap_or o unchecked) (c.meaning_of-type_.ensures ∙ ap (λ kind. meaning kind (type_stored one.type_)) c.as_slice.ensures) in
     LeadsTo-more so_far _ (typing_meant meaning one) (map tested c.loop-place.tests.items) _ (place_of c.loop-place.places) (place_of c.place_names.new.places) c.loop-place.place
     c.loop-place.invariant (map_more (typing_meant meaning) c.args.typings.now c.loop-place.place one c.loop-place-test.true ∙ ap (λ t. so_far ++ typing_meant meaning t ∷ []) (sym c.index-typings-place.is))
-    (ap (map tested) c.in_ok-push.ensures.items ∙ map_push tested c.loop-place.tests.items c.in_ok-of.field-0 ∙ ap (λ t. map tested c.loop-place.tests.items ++ t ∷ []) type_is)
+    (ap (map tested) c.in_ok-push.ensures.items ∙ map_push tested c.loop-place.tests.items c.of.result ∙ ap (λ t. map tested c.loop-place.tests.items ++ t ∷ []) type_is)
     (omega (arith, length-map (take c.loop-place.place c.args.typings.now) (typing_meant meaning), length-take-le c.loop-place.place c.args.typings.now (omega arith)))
     (λ name. c.in_ok-place_names.ensures.places name ∙ ap (λ l. cond (is_among l name) (Some c.loop-place.place) (place_of c.loop-place.places name)) c.deref.ensures.value)
 

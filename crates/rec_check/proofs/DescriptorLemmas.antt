@@ -1,12 +1,12 @@
 -- What the fields of a descriptor say, as they are read one by one.
-use Rattle.std.proofs.Common.{◌≡◌, ◌∙◌, ℕ, ◌+◌, ◌<◌, ◌≤◌, Bool, true, false, not, cond, ◌||◌, ◌&&◌, List, [], ◌∷◌, ◌++◌, length, map, take, get_or, Option, Some, None, Err, unwrap_or, refl, ap, sym, subst, inl, inr, arith}
+use Rattle.std.proofs.Common.{◌≡◌, ◌∙◌, ℕ, ◌+◌, ◌<◌, ◌≤◌, Bool, true, false, not, cond, ◌||◌, ◌&&◌, List, [], ◌∷◌, ◌++◌, length, take, get_or, Option, Some, None, Err, unwrap_or, refl, ap, sym, subst, inl, inr, arith}
 use Rattle.std.proofs.lemmas.Bool.{cases_Bool, cases_lt, false≢true}
-use Rattle.std.proofs.lemmas.List.{append-nil, length-take, map-append, take_more, take_all}
+use Rattle.std.proofs.lemmas.List.{append-nil, take_more, take_all}
 use Rattle.std.proofs.lemmas.List.Concat.{flat_map-append}
 use Rattle.std.proofs.lemmas.Option.{slice_get-get_or, slice_get_past, slice_get_within, get_or_from_slice_get, slice_get-map}
 use Rattle.std.proofs.lemmas.Slice.Eq.{bytes_eq-Decides}
 use Rattle.std.specs.Prelude.{codes}
-use Rattle.std.specs.List.{AllZip, cons_option, enumerate_from, filter_map, list_any, flat_map, slice_get}
+use Rattle.std.specs.List.{AllZip, list_any, flat_map, slice_get}
 use Rattle.std.specs.Option.{is_some, option_map, option_and_then}
 use Rattle.std.specs.Str.{bytes_eq}
 use Rattle.rec_text.specs.declared.element.Element.{Element}
@@ -28,7 +28,7 @@ use Rattle.rec_check.specs.declared.special.Special.TheVariants.{Rec, Key, Manda
 use Rattle.rec_text.specs.Elements.{has_name}
 use Rattle.rec_check.specs.Descriptors.{Flaw, bad, unsupported, bad_unless, bound_in, element_flaw, first_word, is_one_name, rec_flaw, rec_name, special_flaw, special_of, type_of}
 use Rattle.rec_check.specs.Reading.{Said, Adds, AddsOf, AddsField, AnswersField, AreSaid, HasFieldFlaw, IsFresh, IsRead, bare, field_flaw, flaw_behind, is_repeated}
-use Rattle.rec_check.specs.Rules.{AreRules, names_in, places_of}
+use Rattle.rec_check.specs.Rules.{AreRules, names_in}
 use Rattle.rec_check.specs.Stored.{fault_of}
 use Rattle.rec_check.specs.Types.{Definition, Typing, IsDefinition, IsTyping}
 use Rattle.rec_check.specs.Words.{words, is_among}
@@ -229,20 +229,20 @@ module _ (values : List (List ℕ)) (old : Said) where
   keeps_constraints Constraint terms apart part = cc
   keeps_constraints other terms apart part = part
 
-  keeps_other : (special other : Special) (place : ℕ) (value : List ℕ) (new : Said) → Adds special place value old new → Keeps special other new
-  keeps_other Rec other place value new adds apart part = subst (Part other values) (sym adds) (keeps_kind other _ apart part)
-  keeps_other Key other place value new adds apart part = subst (Part other values) (sym adds) (keeps_key other _ apart part)
-  keeps_other Mandatory other place value new adds apart part = subst (Part other values) (sym adds) (keeps_mandatory other _ apart part)
-  keeps_other Prohibit other place value new adds apart part = subst (Part other values) (sym adds) (keeps_prohibited other _ apart part)
-  keeps_other Unique other place value new adds apart part = subst (Part other values) (sym adds) (keeps_unique other _ apart part)
-  keeps_other Singular other place value new adds apart part = subst (Part other values) (sym adds) (keeps_singular other _ apart part)
-  keeps_other Allowed other place value new adds apart part = subst (Part other values) (sym adds) (keeps_allowed other _ apart part)
-  keeps_other Auto other place value new adds apart part = subst (Part other values) (sym adds) (keeps_automatic other _ apart part)
-  keeps_other Type_ other place value new adds apart part = subst (Part other values) (sym adds.3) (keeps_types other _ apart part)
-  keeps_other Typedef other place value new adds apart part = subst (Part other values) (sym adds.2) (keeps_definitions other _ apart part)
-  keeps_other Size other place value new adds apart part = subst (Part other values) (sym adds) (keeps_size other _ apart part)
-  keeps_other Constraint other place value new adds apart part = subst (Part other values) (sym adds.2) (keeps_constraints other _ apart part)
-  keeps_other Confidential other place value new adds apart part = absurd adds
+  keeps_other : (special other : Special) (value : List ℕ) (new : Said) → Adds special value old new → Keeps special other new
+  keeps_other Rec other value new adds apart part = subst (Part other values) (sym adds) (keeps_kind other _ apart part)
+  keeps_other Key other value new adds apart part = subst (Part other values) (sym adds) (keeps_key other _ apart part)
+  keeps_other Mandatory other value new adds apart part = subst (Part other values) (sym adds) (keeps_mandatory other _ apart part)
+  keeps_other Prohibit other value new adds apart part = subst (Part other values) (sym adds) (keeps_prohibited other _ apart part)
+  keeps_other Unique other value new adds apart part = subst (Part other values) (sym adds) (keeps_unique other _ apart part)
+  keeps_other Singular other value new adds apart part = subst (Part other values) (sym adds) (keeps_singular other _ apart part)
+  keeps_other Allowed other value new adds apart part = subst (Part other values) (sym adds) (keeps_allowed other _ apart part)
+  keeps_other Auto other value new adds apart part = subst (Part other values) (sym adds) (keeps_automatic other _ apart part)
+  keeps_other Type_ other value new adds apart part = subst (Part other values) (sym adds.2) (keeps_types other _ apart part)
+  keeps_other Typedef other value new adds apart part = subst (Part other values) (sym adds.2) (keeps_definitions other _ apart part)
+  keeps_other Size other value new adds apart part = subst (Part other values) (sym adds) (keeps_size other _ apart part)
+  keeps_other Constraint other value new adds apart part = subst (Part other values) (sym adds.2) (keeps_constraints other _ apart part)
+  keeps_other Confidential other value new adds apart part = absurd adds
 
 -- ---- one field more
 
@@ -287,8 +287,8 @@ is_some-type_in [] = refl
 is_some-type_in (value ∷ values) = refl
 
 -- the part of its own kind takes a sound field up
-module _ (values : List (List ℕ)) (place : ℕ) (value : List ℕ) (named : List (List ℕ)) (old new : Said) where
-  grows : (special : Special) → special_flaw special (is_repeated special old) named value ≡ None → Adds special place value old new → Part special values old → Part special (values ++ value ∷ []) new
+module _ (values : List (List ℕ)) (value : List ℕ) (named : List (List ℕ)) (old new : Said) where
+  grows : (special : Special) → special_flaw special (is_repeated special old) named value ≡ None → Adds special value old new → Part special values old → Part special (values ++ value ∷ []) new
   grows Rec sound adds part =
       let none = none_met values (is_some old.kind) (ap is_some part ∙ is_some-type_in values) (rec_flaw-first (is_some old.kind) named (words value) sound) in
       ap (λ s. s.kind) adds ∙ ap (λ vs. type_in (vs ++ value ∷ [])) (sym none)
@@ -305,7 +305,7 @@ module _ (values : List (List ℕ)) (place : ℕ) (value : List ℕ) (named : Li
   grows Singular sound adds part = ap (λ s. s.rules.singular) adds ∙ names_grow values old.rules.singular value part
   grows Allowed sound adds part = ap (λ s. s.rules.allowed) adds ∙ allowed_grow values old.rules.allowed value part
   grows Auto sound adds part = ap (λ s. s.rules.automatic) adds ∙ names_grow values old.rules.automatic value part
-  grows Type_ sound adds part = subst (Part Type_ (values ++ value ∷ [])) (sym adds.3) (AllZip-push IsTyping values old.rules.types value adds.0 part adds.1)
+  grows Type_ sound adds part = subst (Part Type_ (values ++ value ∷ [])) (sym adds.2) (AllZip-push IsTyping values old.rules.types value adds.0 part adds.1)
   grows Typedef sound adds part = subst (Part Typedef (values ++ value ∷ [])) (sym adds.2) (AllZip-push IsDefinition values old.rules.definitions value adds.0 part adds.1)
   grows Size sound adds part =
       let first = bad_unless-first (is_some old.rules.size) (is_some (bound_in value)) sound in
@@ -318,59 +318,12 @@ module _ (values : List (List ℕ)) (place : ℕ) (value : List ℕ) (named : Li
 
 -- ---- what some fields say
 
--- the places of some types
-abbrev places_in : List Typing → List ℕ
-places_in types = map (λ typing. typing.place) types
-
 -- each part of what these fields say
 pub record AreParts (fields : List Piece) (said : Said) : Type 0 where
   pub part : (special : Special) → Part special (values_of (name_for special) fields) said
-  pub places : places_in said.rules.types ≡ places_of (codes "%type") fields
 
 pub parts_none : AreParts [] bare
-parts_none = record { part = part_none; places = refl }
-
--- where the fields of a name stand, the first of these at an index
-abbrev pub places_from : ℕ → List ℕ → List Piece → List ℕ
-places_from i name fields = filter_map (λ (k, piece). cond (has_name name piece) (Some k) None) (enumerate_from i fields)
-
-cond-option : (b : Bool) (n m : ℕ) → n ≡ m → cons_option (cond b (Some n) None) [] ≡ cond b (m ∷ []) []
-cond-option true n m same = ap (λ k. k ∷ []) same
-cond-option false n m same = refl
-
-cons_option-append : (b : Bool) (n : ℕ) (some more : List ℕ) → cons_option (cond b (Some n) None) (some ++ more) ≡ cons_option (cond b (Some n) None) some ++ more
-cons_option-append true n some more = refl
-cons_option-append false n some more = refl
-
-places_from-append : (i : ℕ) (name : List ℕ) (front : List Piece) (piece : Piece)
-    → places_from i name (front ++ piece ∷ []) ≡ places_from i name front ++ cond (has_name name piece) ((i + length front) ∷ []) []
-places_from-append i name [] piece = cond-option (has_name name piece) i (i + 0) (omega arith)
-places_from-append i name (first ∷ front) piece =
-    let next : i + 1 + length front ≡ i + length (first ∷ front) = omega arith in
-    ap (cons_option (cond (has_name name first) (Some i) None)) (places_from-append (i + 1) name front piece ∙ ap (λ n. places_from (i + 1) name front ++ cond (has_name name piece) (n ∷ []) []) next)
-    ∙ cons_option-append (has_name name first) i (places_from (i + 1) name front) _
-
-places_of-append : (name : List ℕ) (front : List Piece) (piece : Piece) (place : ℕ) → place ≡ length front
-    → places_of name (front ++ piece ∷ []) ≡ places_of name front ++ cond (has_name name piece) (place ∷ []) []
-places_of-append name front piece place at =
-    let end : 0 + length front ≡ place = omega arith in
-    places_from-append 0 name front piece ∙ ap (λ n. places_of name front ++ cond (has_name name piece) (n ∷ []) []) end
-
--- fields of other kinds add no type
-types_kept : (special : Special) (place : ℕ) (value : List ℕ) (old new : Said) → bytes_eq (name_for special) (codes "%type") ≡ false → Adds special place value old new → new.rules.types ≡ old.rules.types
-types_kept Type_ place value old new apart adds = cc
-types_kept Typedef place value old new apart adds = ap (λ s. s.rules.types) adds.2
-types_kept Constraint place value old new apart adds = ap (λ s. s.rules.types) adds.2
-types_kept Confidential place value old new apart adds = absurd adds
-types_kept Rec place value old new apart adds = ap (λ s. s.rules.types) adds
-types_kept Key place value old new apart adds = ap (λ s. s.rules.types) adds
-types_kept Mandatory place value old new apart adds = ap (λ s. s.rules.types) adds
-types_kept Prohibit place value old new apart adds = ap (λ s. s.rules.types) adds
-types_kept Unique place value old new apart adds = ap (λ s. s.rules.types) adds
-types_kept Singular place value old new apart adds = ap (λ s. s.rules.types) adds
-types_kept Allowed place value old new apart adds = ap (λ s. s.rules.types) adds
-types_kept Auto place value old new apart adds = ap (λ s. s.rules.types) adds
-types_kept Size place value old new apart adds = ap (λ s. s.rules.types) adds
+parts_none = record { part = part_none }
 
 module _ (fields : List Piece) (piece : Piece) where
   values_more : (name : List ℕ) → has_name name piece ≡ true → values_of name (fields ++ piece ∷ []) ≡ values_of name fields ++ value_of piece ∷ []
@@ -379,49 +332,30 @@ module _ (fields : List Piece) (piece : Piece) where
   values_same : (name : List ℕ) → has_name name piece ≡ false → values_of name (fields ++ piece ∷ []) ≡ values_of name fields
   values_same name other = values_of-append name fields piece ∙ ap (λ b. values_of name fields ++ cond b (value_of piece ∷ []) []) other ∙ append-nil (values_of name fields)
 
-  places_same : has_name (codes "%type") piece ≡ false → places_of (codes "%type") (fields ++ piece ∷ []) ≡ places_of (codes "%type") fields
-  places_same other =
-      places_of-append (codes "%type") fields piece (length fields) refl ∙ ap (λ b. places_of (codes "%type") fields ++ cond b (length fields ∷ []) []) other ∙ append-nil (places_of (codes "%type") fields)
-
   -- a field that says nothing
   pub parts_other : (said : Said) → special_of (name_of piece) ≡ None → AreParts fields said → AreParts (fields ++ piece ∷ []) said
   parts_other said none are = record {
     part = λ special. subst (λ vs. Part special vs said) (sym (values_same (name_for special) (name_for-apart (name_of piece) special none))) (are.part special);
-    places = are.places ∙ sym (places_same (name_for-apart (name_of piece) Type_ none));
   }
 
-  module _ (named : List (List ℕ)) (place : ℕ) (old new : Said) (special : Special) (is : special_of (name_of piece) ≡ Some special) (are : AreParts fields old) (at : place ≡ length fields)
-      (sound : special_flaw special (is_repeated special old) named (value_of piece) ≡ None) (adds : Adds special place (value_of piece) old new) where
+  module _ (named : List (List ℕ)) (old new : Said) (special : Special) (is : special_of (name_of piece) ≡ Some special) (are : AreParts fields old)
+      (sound : special_flaw special (is_repeated special old) named (value_of piece) ≡ None) (adds : Adds special (value_of piece) old new) where
     part_more : (other : Special) → Part other (values_of (name_for other) (fields ++ piece ∷ [])) new
     part_more other =
         let name = name_is (name_of piece) special is in
         elim (cases_Bool (bytes_eq (name_for special) (name_for other))) [
           | inl same ↦
-              let grown = grows (values_of (name_for special) fields) place (value_of piece) named old new special sound adds (are.part special) in
+              let grown = grows (values_of (name_for special) fields) (value_of piece) named old new special sound adds (are.part special) in
               let here : has_name (name_for special) piece ≡ true = (bytes_eq-Decides (name_of piece) (name_for special)).1 name in
               let P : Special → Type 0 = λ s. Part s (values_of (name_for s) (fields ++ piece ∷ [])) new in
               subst P (same_special special other same) (subst (λ vs. Part special vs new) (sym (values_more (name_for special) here)) grown)
           | inr apart ↦
-              let kept = keeps_other (values_of (name_for other) fields) old special other place (value_of piece) new adds apart (are.part other) in
+              let kept = keeps_other (values_of (name_for other) fields) old special other (value_of piece) new adds apart (are.part other) in
               subst (λ vs. Part other vs new) (sym (values_same (name_for other) (ap (λ n. bytes_eq n (name_for other)) name ∙ apart))) kept
         ]
 
-    type_placed : Adds Type_ place (value_of piece) old new → has_name (codes "%type") piece ≡ true → places_in new.rules.types ≡ places_of (codes "%type") (fields ++ piece ∷ [])
-    type_placed (typing, is_typing, stands, grown) here =
-        ap (λ s. places_in s.rules.types) grown ∙ map-append (λ t. t.place) old.rules.types (typing ∷ []) ∙ ap (λ ps. ps ++ typing.place ∷ []) are.places
-        ∙ ap (λ n. places_of (codes "%type") fields ++ n ∷ []) stands
-        ∙ sym (places_of-append (codes "%type") fields piece place at ∙ ap (λ b. places_of (codes "%type") fields ++ cond b (place ∷ []) []) here)
-
-    places_more : places_in new.rules.types ≡ places_of (codes "%type") (fields ++ piece ∷ [])
-    places_more =
-        let name = name_is (name_of piece) special is in
-        elim (cases_Bool (bytes_eq (name_for special) (codes "%type"))) [
-          | inl same ↦ type_placed (subst (λ s. Adds s place (value_of piece) old new) (same_special special Type_ same) adds) (ap (λ n. bytes_eq n (codes "%type")) name ∙ same)
-          | inr apart ↦ ap places_in (types_kept special place (value_of piece) old new apart adds) ∙ are.places ∙ sym (places_same (ap (λ n. bytes_eq n (codes "%type")) name ∙ apart))
-        ]
-
     pub parts_more : AreParts (fields ++ piece ∷ []) new
-    parts_more = record { part = part_more; places = places_more }
+    parts_more = record { part = part_more }
 
 -- ---- field by field
 
@@ -456,18 +390,17 @@ module _ (named : List (List ℕ)) (fields : List Piece) (said : Said) (are : Ar
     allowed = are.part Allowed ∙ ap (λ b. cond b (Some (names_in (codes "%allowed") fields)) None) (sym (list_any-values_of (codes "%allowed") fields));
     automatic = are.part Auto;
     types = are.part Type_;
-    places = are.places;
     definitions = are.part Typedef;
     size = (are.part Size).0;
     constraints = are.part Constraint;
   }
 
-module _ (fields : List Piece) (piece : Piece) (named : List (List ℕ)) (place : ℕ) (old new : Said) (at : place ≡ length fields) where
+module _ (fields : List Piece) (piece : Piece) (named : List (List ℕ)) (old new : Said) where
   parts_by : (kind : Option Special) → special_of (name_of piece) ≡ kind → AreParts fields old
       → option_and_then (λ special. special_flaw special (is_repeated special old) named (value_of piece)) kind ≡ None
-      → AddsOf kind place (value_of piece) old new → AreParts (fields ++ piece ∷ []) new
+      → AddsOf kind (value_of piece) old new → AreParts (fields ++ piece ∷ []) new
   parts_by None is are sound adds = subst (AreParts (fields ++ piece ∷ [])) (sym adds) (parts_other fields piece old is are)
-  parts_by (Some special) is are sound adds = parts_more fields piece named place old new special is are at sound adds
+  parts_by (Some special) is are sound adds = parts_more fields piece named old new special is are sound adds
 
 -- ---- the type is a new one
 
@@ -481,16 +414,16 @@ rec_flaw-fresh : (repeated : Bool) (named : List (List ℕ)) (ws : List (List �
 rec_flaw-fresh repeated named [] sound = cc
 rec_flaw-fresh repeated named (kind ∷ source) sound = fresh_type repeated (not (is_plain_name kind)) (is_among named kind) _ sound
 
-module _ (named : List (List ℕ)) (place : ℕ) (value : List ℕ) (old new : Said) (fresh : IsFresh named old.kind) where
-  fresh_as : (special : Special) → special_flaw special (is_repeated special old) named value ≡ None → Adds special place value old new → IsFresh named new.kind
+module _ (named : List (List ℕ)) (value : List ℕ) (old new : Said) (fresh : IsFresh named old.kind) where
+  fresh_as : (special : Special) → special_flaw special (is_repeated special old) named value ≡ None → Adds special value old new → IsFresh named new.kind
   fresh_as Rec sound adds = subst (IsFresh named) (sym (ap (λ s. s.kind) adds)) (rec_flaw-fresh (is_some old.kind) named (words value) sound)
-  fresh_as Type_ sound adds = subst (IsFresh named) (sym (ap (λ s. s.kind) adds.3)) fresh
+  fresh_as Type_ sound adds = subst (IsFresh named) (sym (ap (λ s. s.kind) adds.2)) fresh
   fresh_as Typedef sound adds = subst (IsFresh named) (sym (ap (λ s. s.kind) adds.2)) fresh
   fresh_as Constraint sound adds = subst (IsFresh named) (sym (ap (λ s. s.kind) adds.2)) fresh
   fresh_as Confidential sound adds = absurd adds
   fresh_as special sound adds = subst (IsFresh named) (sym (ap (λ s. s.kind) adds)) fresh
 
-  fresh_by : (kind : Option Special) → option_and_then (λ special. special_flaw special (is_repeated special old) named value) kind ≡ None → AddsOf kind place value old new → IsFresh named new.kind
+  fresh_by : (kind : Option Special) → option_and_then (λ special. special_flaw special (is_repeated special old) named value) kind ≡ None → AddsOf kind value old new → IsFresh named new.kind
   fresh_by None sound adds = subst (IsFresh named) (sym (ap (λ s. s.kind) adds)) fresh
   fresh_by (Some special) sound adds = fresh_as special sound adds
 
@@ -527,15 +460,14 @@ module _ (named : List (List ℕ)) (fields : List Piece) (i : ℕ) (said : Said)
       | inr now ↦ let same : k ≡ i = omega arith in ap (field_flaw named fields) same ∙ field_flaw-met ∙ here
     ]
 
-    pub read_more : (more : Said) → flaw_behind named said piece ≡ None → AddsField i piece said more → IsReadUpTo named fields (i + 1) more
+    pub read_more : (more : Said) → flaw_behind named said piece ≡ None → AddsField piece said more → IsReadUpTo named fields (i + 1) more
     read_more more sound adds =
         let front : take (i + 1) fields ≡ take i fields ++ piece ∷ [] =
         take_more fields i piece (slice_get_within fields i piece met) ∙ ap (λ p. take i fields ++ p ∷ []) (get_or_from_slice_get fields i piece piece met) in
-        let at : i ≡ length (take i fields) = omega (arith, slice_get_within fields i piece met, length-take i fields) in
         record {
           sound = λ k less. sound_here sound k (omega arith);
-          are = subst (λ fs. AreParts fs more) (sym front) (parts_by (take i fields) piece named i said more at (special_of (name_of piece)) refl so_far.are sound adds);
-          fresh = fresh_by named i (value_of piece) said more so_far.fresh (special_of (name_of piece)) sound adds;
+          are = subst (λ fs. AreParts fs more) (sym front) (parts_by (take i fields) piece named said more (special_of (name_of piece)) refl so_far.are sound adds);
+          fresh = fresh_by named (value_of piece) said more so_far.fresh (special_of (name_of piece)) sound adds;
         }
 
     -- the fault of the field, which is one of these elements
@@ -551,7 +483,7 @@ module _ (named : List (List ℕ)) (fields : List Piece) (i : ℕ) (said : Said)
         number = line_is;
       }
 
-      is_read_fault : (refusal : Refusal) → AnswersField named i piece said more (Err refusal) → IsMemoryOr (fault_of refusal line) (IsRead text named elements (Err (fault_of refusal line)))
+      is_read_fault : (refusal : Refusal) → AnswersField named piece said more (Err refusal) → IsMemoryOr (fault_of refusal line) (IsRead text named elements (Err (fault_of refusal line)))
       is_read_fault Bad told = has_flaw bad told
       is_read_fault NotSupported told = has_flaw unsupported told
       is_read_fault Pattern told = record {
@@ -563,7 +495,7 @@ module _ (named : List (List ℕ)) (fields : List Piece) (i : ℕ) (said : Said)
       }
       is_read_fault OutOfMemory told = tt
 
-      pub read_fault : (refusal : Refusal) (fault : Fault) → fault ≡ fault_of refusal line → AnswersField named i piece said more (Err refusal) → IsMemoryOr fault (IsRead text named elements (Err fault))
+      pub read_fault : (refusal : Refusal) (fault : Fault) → fault ≡ fault_of refusal line → AnswersField named piece said more (Err refusal) → IsMemoryOr fault (IsRead text named elements (Err fault))
       read_fault refusal fault is told =
           let P : Fault → Type 0 = λ f. IsMemoryOr f (IsRead text named elements (Err f)) in
           subst P (sym is) (is_read_fault refusal told)

@@ -1,5 +1,5 @@
 -- A text has one schema.
-use Rattle.std.proofs.Common.{◌≡◌, ◌≢◌, ◌∙◌, ℕ, ◌<◌, List, [], ◌∷◌, map, take, Option, Some, None, Result, Ok, Err, refl, ap, sym, subst, inl, inr, arith}
+use Rattle.std.proofs.Common.{◌≡◌, ◌≢◌, ◌∙◌, ℕ, ◌<◌, List, [], ◌∷◌, take, Option, Some, None, Result, Ok, Err, refl, ap, sym, subst, inl, inr, arith}
 use Rattle.std.proofs.lemmas.Bool.{cases_lt}
 use Rattle.std.specs.List.{AllZip}
 use Rattle.std.specs.declared.ops.Range.{Range}
@@ -62,22 +62,10 @@ same_parts value one other is too =
     let same : one ≡ other = cc in
     (ap (λ typing. typing.names) same, ap (λ typing. typing.kind) same, ap (λ typing. typing.type_) (sym same))
 
-same_typing : (value : List ℕ) (one other : Typing) → IsTyping value one → IsTyping value other → one.place ≡ other.place → AreSameTypings one other
-same_typing value one other (written, is, built) (more, too, built_too) place =
+same_typing : (value : List ℕ) (one other : Typing) → IsTyping value one → IsTyping value other → AreSameTypings one other
+same_typing value one other (written, is, built) (more, too, built_too) =
     let same = same_parts value (record { names = one.names; kind = one.kind; type_ = written }) (record { names = other.names; kind = other.kind; type_ = more }) is too in
-    record { place = place; names = same.0; kind = same.1; type_ = same_built written one.type_ other.type_ built (subst (λ w. IsBuilt w other.type_) same.2 built_too) }
-
-same_typings : (values : List (List ℕ)) (one other : List Typing) → AllZip IsTyping values one → AllZip IsTyping values other
-    → map (λ typing. typing.place) one ≡ map (λ typing. typing.place) other → AllZip AreSameTypings one other
-same_typings [] [] [] all too places = tt
-same_typings [] [] (z ∷ other) all too places = absurd too
-same_typings [] (y ∷ one) other all too places = absurd all
-same_typings (x ∷ values) [] other all too places = absurd all
-same_typings (x ∷ values) (y ∷ one) [] all too places = absurd too
-same_typings (x ∷ values) (y ∷ one) (z ∷ other) all too places =
-    let first : y.place ≡ z.place = cc in
-    let rest : map (λ typing. typing.place) one ≡ map (λ typing. typing.place) other = cc in
-    (same_typing x y z all.0 too.0 first, same_typings values one other all.1 too.1 rest)
+    record { names = same.0; kind = same.1; type_ = same_built written one.type_ other.type_ built (subst (λ w. IsBuilt w other.type_) same.2 built_too) }
 
 same_parts_defined : (value : List ℕ) (one other : WrittenDefinition) → definition_of value ≡ Some one → definition_of value ≡ Some other
     → (one.name ≡ other.name) × (one.kind ≡ other.kind) × (other.type_ ≡ one.type_)
@@ -102,7 +90,7 @@ same_rules fields one other are too = record {
   singular = are.singular ∙ sym too.singular;
   allowed = are.allowed ∙ sym too.allowed;
   automatic = are.automatic ∙ sym too.automatic;
-  types = same_typings _ one.types other.types are.types too.types (are.places ∙ sym too.places);
+  types = AllZip-same IsTyping AreSameTypings same_typing _ one.types other.types are.types too.types;
   definitions = AllZip-same IsDefinition AreSameDefinitions same_definition _ one.definitions other.definitions are.definitions too.definitions;
   size = are.size ∙ sym too.size;
   constraints = AllZip-same IsExpression AreSame same_expression _ one.constraints other.constraints are.constraints too.constraints;

@@ -121,7 +121,6 @@ module _ (definitions others : List Definition) (same : AllZip AreSameDefinition
       let P : List ℕ → Type 0 = λ k. AreSameIfAny (meaning_in definitions a.kind a.type_) (meaning_in others k b.type_) in
       let meant = subst P alike.0.kind (same_meaning a.kind a.type_ b.type_ alike.0.type_) in
       let first : AreSameTypings (by_meaning (meaning_in definitions) a) (by_meaning (meaning_in others) b) = record {
-        place = alike.0.place;
         names = alike.0.names;
         kind = alike.0.kind;
         type_ = same_unwrapped (meaning_in definitions a.kind a.type_) (meaning_in others b.kind b.type_) meant;

@@ -87,9 +87,9 @@ listed = record no_rules {
 }
 
 listed_are : AreRules listing listed
-listed_are = record { key = refl; mandatory = refl; prohibited = refl; unique = refl; singular = refl; allowed = refl; automatic = refl; types = tt; places = refl; definitions = tt; size = refl; constraints = tt }
+listed_are = record { key = refl; mandatory = refl; prohibited = refl; unique = refl; singular = refl; allowed = refl; automatic = refl; types = tt; definitions = tt; size = refl; constraints = tt }
 
--- each `%type` field keeps its place among all elements and the word of its kind, also one that is unchecked
+-- each `%type` field keeps the word of its kind, also one that is unchecked
 abbrev typing : List Piece
 typing = field (codes "%rec: P") ∷ field (codes "%auto: A B") ∷ record { kind = Comment; bytes = codes "# c" ++ 10 ∷ [] } ∷ field (codes "%type: A,B int")
     ∷ field (codes "%auto: C A") ∷ field (codes "%type: A  real x") ∷ []
@@ -97,8 +97,8 @@ typing = field (codes "%rec: P") ∷ field (codes "%auto: A B") ∷ record { kin
 abbrev typed : Rules
 typed = record no_rules {
   automatic = codes "A" ∷ codes "B" ∷ codes "C" ∷ codes "A" ∷ [];
-  types = record { place = 3; names = codes "A" ∷ codes "B" ∷ []; kind = codes "int"; type_ = integer }
-      ∷ record { place = 5; names = codes "A" ∷ []; kind = codes "real"; type_ = unchecked } ∷ [];
+  types = record { names = codes "A" ∷ codes "B" ∷ []; kind = codes "int"; type_ = integer }
+      ∷ record { names = codes "A" ∷ []; kind = codes "real"; type_ = unchecked } ∷ [];
 }
 
 typed_are : AreRules typing typed
@@ -111,7 +111,6 @@ typed_are = record {
   allowed = refl;
   automatic = refl;
   types = ((integer, refl, refl), ((unchecked, refl, refl), tt));
-  places = refl;
   definitions = tt;
   size = refl;
   constraints = tt;
@@ -151,7 +150,7 @@ abbrev keyed : Rules
 keyed = record no_rules { key = Some (codes "N") }
 
 keyed_are : AreRules (field (codes "%rec: P") ∷ field (codes "%key: N") ∷ []) keyed
-keyed_are = record { key = refl; mandatory = refl; prohibited = refl; unique = refl; singular = refl; allowed = refl; automatic = refl; types = tt; places = refl; definitions = tt; size = refl; constraints = tt }
+keyed_are = record { key = refl; mandatory = refl; prohibited = refl; unique = refl; singular = refl; allowed = refl; automatic = refl; types = tt; definitions = tt; size = refl; constraints = tt }
 
 -- no range holds what stands behind all
 behind_all : (ranges : List (Range ℕ)) (end i : ℕ) → AllByRecursion (λ r. r.end ≤ end) ranges → end ≤ i → LiesIn ranges i → ⊥

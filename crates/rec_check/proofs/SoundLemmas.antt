@@ -1,5 +1,5 @@
 -- A text's descriptors decide alone whether one of them is faulty, and which rules they give.
-use Rattle.std.proofs.Common.{◌≡◌, ◌∙◌, ℕ, ◌+◌, true, false, cond, not, ◌||◌, List, [], ◌∷◌, ◌++◌, map, take, Option, Some, None, refl, ap, ap₂, sym, subst, inl, inr, suc, zero, arith}
+use Rattle.std.proofs.Common.{◌≡◌, ◌∙◌, ℕ, true, false, cond, not, ◌||◌, List, [], ◌∷◌, ◌++◌, map, take, Option, Some, None, refl, ap, ap₂, sym, subst, inl, inr, suc, zero, arith}
 use Rattle.std.proofs.lemmas.Bool.{and_from, and_parts, cases_Bool, false≢true}
 use Rattle.std.proofs.lemmas.List.{append_assoc, append-nil, take-map}
 use Rattle.std.proofs.lemmas.Bool.Decides.{nat_tests}
@@ -18,11 +18,11 @@ use Rattle.rec_sex.specs.Meaning.{values_of}
 use Rattle.rec_text.specs.Elements.{has_name}
 use Rattle.rec_check.specs.Descriptors.{Flaw, bad, bound_in, element_flaw, first_word, own_flaw, rec_flaw, rec_name, special_flaw, special_of, type_of}
 use Rattle.rec_check.specs.Reading.{field_flaw}
-use Rattle.rec_check.specs.Rules.{Rules, no_rules, AreRules, places_of}
+use Rattle.rec_check.specs.Rules.{Rules, no_rules, AreRules}
 use Rattle.rec_check.specs.Soundness.{says}
 use Rattle.rec_check.specs.Types.{IsDefinition, IsTyping}
 use Rattle.rec_check.specs.Words.{words, is_among}
-use Rattle.rec_check.proofs.DescriptorLemmas.{is_met, list_any-values_of, places_from, type_in, type_in-values_of}
+use Rattle.rec_check.proofs.DescriptorLemmas.{is_met, list_any-values_of, type_in, type_in-values_of}
 use Rattle.rec_check.proofs.TypeLemmas.{list_any-map}
 
 -- what an element says
@@ -38,14 +38,6 @@ values_said name (s ∷ ss) = cond (bytes_eq s.0 name) (s.1 ∷ values_said name
 values_of-says : (name : List ℕ) (own : List Piece) → values_of name own ≡ values_said name (map says own)
 values_of-says name [] = refl
 values_of-says name (piece ∷ own) = ap (λ vs. cond (has_name name piece) (value_of piece ∷ vs) vs) (values_of-says name own)
-
-abbrev places_said : ℕ → List ℕ → List Saying → List ℕ
-places_said i name [] = []
-places_said i name (s ∷ ss) = cons_option (cond (bytes_eq s.0 name) (Some i) None) (places_said (i + 1) name ss)
-
-places_from-says : (i : ℕ) (name : List ℕ) (own : List Piece) → places_from i name own ≡ places_said i name (map says own)
-places_from-says i name [] = refl
-places_from-says i name (piece ∷ own) = ap (cons_option (cond (has_name name piece) (Some i) None)) (places_from-says (i + 1) name own)
 
 abbrev flaw_said : List (List ℕ) → List Saying → Saying → Option Flaw
 flaw_said named before s = option_and_then (λ special. special_flaw special (list_any (λ t. bytes_eq t.0 s.0) before) named s.1) (special_of s.0)
@@ -68,9 +60,6 @@ module _ (own other : List Piece) (alike : map says own ≡ map says other) wher
   same_values : (name : List ℕ) → values_of name own ≡ values_of name other
   same_values name = values_of-says name own ∙ ap (values_said name) alike ∙ sym (values_of-says name other)
 
-  same_places : (name : List ℕ) → places_of name own ≡ places_of name other
-  same_places name = places_from-says 0 name own ∙ ap (places_said 0 name) alike ∙ sym (places_from-says 0 name other)
-
   same_any : (name : List ℕ) → list_any (has_name name) own ≡ list_any (has_name name) other
   same_any name = list_any-values_of name own ∙ ap is_met (same_values name) ∙ sym (list_any-values_of name other)
 
@@ -91,7 +80,6 @@ module _ (own other : List Piece) (alike : map says own ≡ map says other) wher
     allowed = are.allowed ∙ ap₂ (λ b vs. cond b (Some (flat_map words vs)) None) (same_any (codes "%allowed")) (same_values (codes "%allowed"));
     automatic = are.automatic ∙ ap (flat_map words) (same_values (codes "%auto"));
     types = subst (λ vs. AllZip IsTyping vs rules.types) (same_values (codes "%type")) are.types;
-    places = are.places ∙ same_places (codes "%type");
     definitions = subst (λ vs. AllZip IsDefinition vs rules.definitions) (same_values (codes "%typedef")) are.definitions;
     size = are.size ∙ ap (λ vs. option_and_then bound_in (slice_get vs 0)) (same_values (codes "%size"));
     constraints = subst (λ vs. AllZip IsExpression vs rules.constraints) (same_values (codes "%constraint")) are.constraints;
@@ -226,7 +214,6 @@ module _ (kind : List ℕ) (own : List Piece) (alike : map says own ≡ (rec_nam
     allowed = ap₂ (λ b vs. cond b (Some (flat_map words vs)) None) (sym (list_any-values_of (codes "%allowed") own ∙ ap is_met (one_value (codes "%allowed")))) (sym (one_value (codes "%allowed")));
     automatic = ap (flat_map words) (sym (one_value (codes "%auto")));
     types = subst (λ vs. AllZip IsTyping vs []) (sym (one_value (codes "%type"))) tt;
-    places = sym (places_from-says 0 (codes "%type") own ∙ ap (places_said 0 (codes "%type")) alike);
     definitions = subst (λ vs. AllZip IsDefinition vs []) (sym (one_value (codes "%typedef"))) tt;
     size = ap (λ vs. option_and_then bound_in (slice_get vs 0)) (sym (one_value (codes "%size")));
     constraints = subst (λ vs. AllZip IsExpression vs []) (sym (one_value (codes "%constraint"))) tt;

@@ -47,21 +47,21 @@ is_repeated Key so_far = is_some so_far.rules.key
 is_repeated Size so_far = is_some so_far.rules.size
 is_repeated _ so_far = false
 
--- what a sound field of this kind adds, which stands at this place of its descriptor
-abbrev pub Adds : Special → ℕ → List ℕ → Said → Said → Type 0
-Adds Rec place value old new = new ≡ record old { kind = Some (first_word (words value)) }
-Adds Key place value old new = new ≡ record old { rules = record old.rules { key = slice_get (words value) 0 } }
-Adds Mandatory place value old new = new ≡ record old { rules = record old.rules { mandatory = old.rules.mandatory ++ words value } }
-Adds Prohibit place value old new = new ≡ record old { rules = record old.rules { prohibited = old.rules.prohibited ++ words value } }
-Adds Unique place value old new = new ≡ record old { rules = record old.rules { unique = old.rules.unique ++ words value } }
-Adds Singular place value old new = new ≡ record old { rules = record old.rules { singular = old.rules.singular ++ words value } }
-Adds Allowed place value old new = new ≡ record old { rules = record old.rules { allowed = Some (unwrap_or old.rules.allowed [] ++ words value) } }
-Adds Auto place value old new = new ≡ record old { rules = record old.rules { automatic = old.rules.automatic ++ words value } }
-Adds Type_ place value old new = (typing : Typing) × IsTyping value typing × (typing.place ≡ place) × (new ≡ record old { rules = record old.rules { types = old.rules.types ++ typing ∷ [] } })
-Adds Typedef place value old new = (definition : Definition) × IsDefinition value definition × (new ≡ record old { rules = record old.rules { definitions = old.rules.definitions ++ definition ∷ [] } })
-Adds Size place value old new = new ≡ record old { rules = record old.rules { size = bound_in value } }
-Adds Constraint place value old new = (term : Term) × IsExpression value term × (new ≡ record old { rules = record old.rules { constraints = old.rules.constraints ++ term ∷ [] } })
-Adds Confidential place value old new = ⊥
+-- what a sound field of this kind adds
+abbrev pub Adds : Special → List ℕ → Said → Said → Type 0
+Adds Rec value old new = new ≡ record old { kind = Some (first_word (words value)) }
+Adds Key value old new = new ≡ record old { rules = record old.rules { key = slice_get (words value) 0 } }
+Adds Mandatory value old new = new ≡ record old { rules = record old.rules { mandatory = old.rules.mandatory ++ words value } }
+Adds Prohibit value old new = new ≡ record old { rules = record old.rules { prohibited = old.rules.prohibited ++ words value } }
+Adds Unique value old new = new ≡ record old { rules = record old.rules { unique = old.rules.unique ++ words value } }
+Adds Singular value old new = new ≡ record old { rules = record old.rules { singular = old.rules.singular ++ words value } }
+Adds Allowed value old new = new ≡ record old { rules = record old.rules { allowed = Some (unwrap_or old.rules.allowed [] ++ words value) } }
+Adds Auto value old new = new ≡ record old { rules = record old.rules { automatic = old.rules.automatic ++ words value } }
+Adds Type_ value old new = (typing : Typing) × IsTyping value typing × (new ≡ record old { rules = record old.rules { types = old.rules.types ++ typing ∷ [] } })
+Adds Typedef value old new = (definition : Definition) × IsDefinition value definition × (new ≡ record old { rules = record old.rules { definitions = old.rules.definitions ++ definition ∷ [] } })
+Adds Size value old new = new ≡ record old { rules = record old.rules { size = bound_in value } }
+Adds Constraint value old new = (term : Term) × IsExpression value term × (new ≡ record old { rules = record old.rules { constraints = old.rules.constraints ++ term ∷ [] } })
+Adds Confidential value old new = ⊥
 
 -- a field of this kind has a pattern that may be refused
 abbrev pub IsRefusedAs : Special → List ℕ → Type 0
@@ -79,8 +79,8 @@ Answers flaw Added IsRefused (Err Pattern) = (flaw ≡ None) × IsRefused
 Answers flaw Added IsRefused (Err OutOfMemory) = Unit {0}
 
 -- the same of types, definitions and expressions in memory
-abbrev pub AddsTyping : ℕ → List ℕ → List StoredTyping → List StoredTyping → Type 0
-AddsTyping place value old new = (typing : Typing) × IsTyping value typing × (typing.place ≡ place) × (map typing_stored new ≡ map typing_stored old ++ typing ∷ [])
+abbrev pub AddsTyping : List ℕ → List StoredTyping → List StoredTyping → Type 0
+AddsTyping value old new = (typing : Typing) × IsTyping value typing × (map typing_stored new ≡ map typing_stored old ++ typing ∷ [])
 
 abbrev pub AddsDefinition : List ℕ → List StoredDefinition → List StoredDefinition → Type 0
 AddsDefinition value old new = (definition : Definition) × IsDefinition value definition × (map definition_stored new ≡ map definition_stored old ++ definition ∷ [])
@@ -95,20 +95,20 @@ refusal_for BadPattern = Pattern
 refusal_for _ = OutOfMemory
 
 -- what an element of a descriptor adds: a comment and a field of another name nothing
-abbrev pub AddsOf : Option Special → ℕ → List ℕ → Said → Said → Type 0
-AddsOf None place value old new = new ≡ old
-AddsOf (Some special) place value old new = Adds special place value old new
+abbrev pub AddsOf : Option Special → List ℕ → Said → Said → Type 0
+AddsOf None value old new = new ≡ old
+AddsOf (Some special) value old new = Adds special value old new
 
-abbrev pub AddsField : ℕ → Piece → Said → Said → Type 0
-AddsField place piece old new = AddsOf (special_of (name_of piece)) place (value_of piece) old new
+abbrev pub AddsField : Piece → Said → Said → Type 0
+AddsField piece old new = AddsOf (special_of (name_of piece)) (value_of piece) old new
 
 -- what is wrong with an element behind those that say this
 abbrev pub flaw_behind : List (List ℕ) → Said → Piece → Option Flaw
 flaw_behind named so_far piece = option_and_then (λ special. special_flaw special (is_repeated special so_far) named (value_of piece)) (special_of (name_of piece))
 
--- what is answered of the element at this place, behind those that say this, memory aside
-abbrev pub AnswersField : List (List ℕ) → ℕ → Piece → Said → Said → Result (Unit {0}) Refusal → Type 0
-AnswersField named place piece old new answer = Answers (flaw_behind named old piece) (AddsField place piece old new) (MayBeRefused piece) answer
+-- what is answered of an element behind those that say this, memory aside
+abbrev pub AnswersField : List (List ℕ) → Piece → Said → Said → Result (Unit {0}) Refusal → Type 0
+AnswersField named piece old new answer = Answers (flaw_behind named old piece) (AddsField piece old new) (MayBeRefused piece) answer
 
 -- ---- one descriptor
 

@@ -1,6 +1,6 @@
 -- What a descriptor asks of the records of its set.
-use Rattle.std.specs.Prelude.{◌≡◌, ℕ, List, [], codes, flat_map, filter_map, map, slice_get, Option, Some, None, option_and_then, unwrap_or, if◌then◌else◌}
-use Rattle.std.specs.List.{AllZip, enumerate_from, list_any}
+use Rattle.std.specs.Prelude.{◌≡◌, ℕ, List, [], codes, flat_map, map, slice_get, Option, Some, None, option_and_then, unwrap_or, if◌then◌else◌}
+use Rattle.std.specs.List.{AllZip, list_any}
 use Rattle.regex.specs.Patterns.{Re, SameCaptures}
 use Rattle.rec_text.specs.Elements.{Piece}
 use Rattle.rec_sex.specs.Expressions.{IsExpression, AreSame}
@@ -49,10 +49,6 @@ no_rules = record {
 abbrev pub names_in : List ℕ → List Piece → List (List ℕ)
 names_in name fields = flat_map words (values_of name fields)
 
--- where the fields of a name stand among these
-abbrev pub places_of : List ℕ → List Piece → List ℕ
-places_of name fields = filter_map (λ (i, piece). if has_name name piece then Some i else None) (enumerate_from 0 fields)
-
 -- the rules of a descriptor with these elements, none of which is faulty
 pub record AreRules (fields : List Piece) (rules : Rules) : Type 0 where
   pub key : rules.key ≡ slice_get (names_in (codes "%key") fields) 0
@@ -63,7 +59,6 @@ pub record AreRules (fields : List Piece) (rules : Rules) : Type 0 where
   pub allowed : rules.allowed ≡ (if list_any (has_name (codes "%allowed")) fields then Some (names_in (codes "%allowed") fields) else None)
   pub automatic : rules.automatic ≡ names_in (codes "%auto") fields
   pub types : AllZip IsTyping (values_of (codes "%type") fields) rules.types
-  pub places : map (λ typing. typing.place) rules.types ≡ places_of (codes "%type") fields
   pub definitions : AllZip IsDefinition (values_of (codes "%typedef") fields) rules.definitions
   pub size : rules.size ≡ option_and_then bound_in (slice_get (values_of (codes "%size") fields) 0)
   pub constraints : AllZip IsExpression (values_of (codes "%constraint") fields) rules.constraints
@@ -84,7 +79,6 @@ AreSameTypes (matching pattern) (matching other) = SameCaptures pattern other
 AreSameTypes one other = one ≡ other
 
 pub record AreSameTypings (one other : Typing) : Type 0 where
-  pub place : one.place ≡ other.place
   pub names : one.names ≡ other.names
   pub kind : one.kind ≡ other.kind
   pub type_ : AreSameTypes one.type_ other.type_

@@ -28,7 +28,7 @@ type_stored (Matching pattern) = matching (regex_pattern pattern.value)
 type_stored Unchecked = unchecked
 
 abbrev pub typing_stored : StoredTyping → Typing
-typing_stored typing = record { place = typing.place; names = typing.names.items; kind = typing.kind; type_ = type_stored typing.type_ }
+typing_stored typing = record { names = typing.names.items; kind = typing.kind; type_ = type_stored typing.type_ }
 
 abbrev pub definition_stored : StoredDefinition → Definition
 definition_stored definition = record { name = definition.name; kind = definition.kind; type_ = type_stored definition.type_ }

@@ -146,9 +146,8 @@ pub record Written : Type 0 where
   pub kind : List ℕ
   pub type_ : FieldType (List ℕ)
 
--- a `%type` field of a descriptor: its place among the elements of that, and what it says, with its pattern built
+-- what a `%type` field of a descriptor says, with its pattern built
 pub record Typing : Type 0 where
-  pub place : ℕ
   pub names : List (List ℕ)
   pub kind : List ℕ
   pub type_ : FieldType Re
@@ -183,7 +182,7 @@ IsBuilt truth built = built ≡ truth
 IsBuilt (one_of items) built = built ≡ one_of items
 IsBuilt unchecked built = built ≡ unchecked
 
--- what a `%type` field of this value says, wherever it stands, with the pattern that is built of it
+-- what a `%type` field of this value says, with the pattern that is built of it
 abbrev pub IsTyping : List ℕ → Typing → Type 0
 IsTyping value typing = (written : FieldType (List ℕ)) × (typing_of value ≡ Some (record { names = typing.names; kind = typing.kind; type_ = written })) × IsBuilt written typing.type_
 

@@ -111,17 +111,16 @@ fn add_allowed(alloc: Global, allowed: &mut Option<Vec<Bytes>>, value: &[u8]) ->
     answer
 }
 
-/// Takes the type that a `%type` field at a place gives.
+/// Takes the type that a `%type` field gives.
 fn add_typing(
     alloc: Global,
     patterns: &mut Patterns,
     types: &mut Vec<Typing>,
-    place: usize,
     value: &[u8],
 ) -> Result<(), Refusal>
-    ensures { Answers (special_flaw Special.Type_ false [] value.now) (AddsTyping place value.now types.old.items types.new.items) (HasRefusedType value.now) result }
+    ensures { Answers (special_flaw Special.Type_ false [] value.now) (AddsTyping value.now types.old.items types.new.items) (HasRefusedType value.now) result }
 {
-    types.push(typing_in(alloc, patterns, place, value)?)?;
+    types.push(typing_in(alloc, patterns, value)?)?;
     Ok(())
 }
 
@@ -194,16 +193,15 @@ impl Descriptor {
         }
     }
 
-    /// Takes what a field of this kind at a place says.
+    /// Takes what a field of this kind says.
     fn add(
         &mut self,
         alloc: Global,
         types: &TypeNames,
         special: Special,
-        place: usize,
         value: &[u8],
     ) -> Result<(), Refusal>
-        ensures { Answers (special_flaw special (is_repeated special (said self.old)) types.now value.now) (Adds special place value.now (said self.old) (said self.new)) (IsRefusedAs special value.now) result }
+        ensures { Answers (special_flaw special (is_repeated special (said self.old)) types.now value.now) (Adds special value.now (said self.old) (said self.new)) (IsRefusedAs special value.now) result }
     {
         let patterns = &mut self.patterns;
         match special {
@@ -215,7 +213,7 @@ impl Descriptor {
             Special::Singular => add_names(alloc, &mut self.rules.singular, value),
             Special::Allowed => add_allowed(alloc, &mut self.rules.allowed, value),
             Special::Auto => add_names(alloc, &mut self.rules.automatic, value),
-            Special::Type_ => add_typing(alloc, patterns, &mut self.rules.types, place, value),
+            Special::Type_ => add_typing(alloc, patterns, &mut self.rules.types, value),
             Special::Typedef => add_definition(alloc, patterns, &mut self.rules.definitions, value),
             Special::Size => add_bound(&mut self.rules.size, value),
             Special::Constraint => add_constraint(alloc, &mut self.rules.constraints, value),
@@ -223,15 +221,14 @@ impl Descriptor {
         }
     }
 
-    /// Takes what the element at a place says.
+    /// Takes what an element says.
     fn add_field(
         &mut self,
         alloc: Global,
         types: &TypeNames,
-        place: usize,
         field: &Element,
     ) -> Result<(), Refusal>
-        ensures { AnswersField types.now place (piece_of field.now) (said self.old) (said self.new) result }
+        ensures { AnswersField types.now (piece_of field.now) (said self.old) (said self.new) result }
     {
         let Some(special) = special_of(field.name()) else {
             return Ok(());
@@ -239,7 +236,7 @@ impl Descriptor {
         let Ok(value) = field.value(alloc) else {
             return Err(Refusal::OutOfMemory);
         };
-        self.add(alloc, types, special, place, value.bytes())
+        self.add(alloc, types, special, value.bytes())
     }
 
     /// Reads the fields of a descriptor, where these types are named before. The first faulty one is refused with its line.
@@ -254,8 +251,8 @@ impl Descriptor {
         ensures refused { IfErr result (λ fault. IsMemoryOr fault (IsRead (text_of database.now) types.now fields.now (Err fault))) }
     {
         let mut descriptor = Descriptor::new(alloc);
-        for (place, field) in fields.iter().enumerate() {
-            match descriptor.add_field(alloc, types, place, field) {
+        for field in fields {
+            match descriptor.add_field(alloc, types, field) {
                 Ok(()) => {}
                 Err(refusal) => return Err(refusal.at_line(database.line_of(field.at))),
             }

@@ -28,8 +28,6 @@ pub(crate) enum FieldType {
 /// A `%type` field of a descriptor: the type of some fields.
 #[derive(Drop)]
 pub(crate) struct Typing {
-    /// Which of the descriptor's elements it is.
-    pub place: usize,
     pub names: Vec<Bytes>,
     /// The kind, as it is written.
     pub kind: Bytes,

@@ -47,15 +47,13 @@ fn kind_in(
     Ok((Bytes::copy_of(alloc, kind)?, type_))
 }
 
-/// The names, the kind and the type that the value of a `%type` field gives, which stands at a place of its descriptor.
+/// The names, the kind and the type that the value of a `%type` field gives.
 pub(crate) fn typing_in(
     alloc: Global,
     patterns: &mut Patterns,
-    place: usize,
     value: &[u8],
 ) -> Result<Typing, Refusal>
     ensures found { IfOk result (λ typing. IsTyping value.now (typing_stored typing)) }
-    ensures place { IfOk result (λ typing. typing.place ≡ place) }
     ensures bad { IsErrOf result Refusal.Bad → typing_of value.now ≡ None }
     ensures pattern { IsErrOf result Refusal.Pattern → HasRefusedType value.now }
     ensures refusals { IfErr result (λ refusal. (refusal ≡ Refusal.Bad) ⊎ ((refusal ≡ Refusal.Pattern) ⊎ (refusal ≡ Refusal.OutOfMemory))) }
@@ -68,12 +66,7 @@ pub(crate) fn typing_in(
         return Err(Refusal::Bad);
     }
     let (kind, type_) = kind_in(alloc, patterns, behind)?;
-    Ok(Typing {
-        place,
-        names,
-        kind,
-        type_,
-    })
+    Ok(Typing { names, kind, type_ })
 }
 
 /// The name, the kind and the type that the value of a `%typedef` field gives.

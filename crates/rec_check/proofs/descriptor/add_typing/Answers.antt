@@ -10,5 +10,5 @@ returns c =
     let typing = c.in_ok-typing_in.field-0 in
     let found = c.in_ok-typing_in.ensures.found in (
       ap (λ o. bad_unless (is_some o)) found.1,
-      (typing_stored typing, found, c.in_ok-typing_in.ensures.place, ap (map typing_stored) c.in_ok-push.ensures.items ∙ map-append typing_stored c.args.types.now.items (typing ∷ [])),
+      (typing_stored typing, found, ap (map typing_stored) c.in_ok-push.ensures.items ∙ map-append typing_stored c.args.types.now.items (typing ∷ [])),
     )

@@ -10,18 +10,18 @@ use Rattle.rec_check.proofs.descriptor.Descriptor.read.Goals as goal
 pub returns-in-Err-clause-refused : goal.returns-in-Err-clause-refused
 returns-in-Err-clause-refused c =
     let fields = c.args.fields.now in
-    read_fault c.args.types.now (pieces_of fields) c.loop-place.place (said c.loop-place.descriptor) c.loop-place.invariant
-    _ (piece_met fields c.loop-place.place _ c.loop-place-test.true) (text_of c.args.database.now) fields _ refl
-    (slice_get-get_or fields c.loop-place.place _ c.loop-place-test.true) c.line_of.result c.line_of.ensures (said c.add_field.new.self)
+    read_fault c.args.types.now (pieces_of fields) c.loop-field.field-index (said c.loop-field.descriptor) c.loop-field.invariant
+    _ (piece_met fields c.loop-field.field-index _ c.loop-field-test.true) (text_of c.args.database.now) fields _ refl
+    (slice_get-get_or fields c.loop-field.field-index _ c.loop-field-test.true) c.line_of.result c.line_of.ensures (said c.add_field.new.self)
     c.in-Err.refusal c.at_line.result c.at_line.ensures c.in-Err.ensures
 
-pub loop-place-preserved : goal.loop-place-preserved
-loop-place-preserved c =
+pub loop-field-preserved : goal.loop-field-preserved
+loop-field-preserved c =
     let fields = c.args.fields.now in
-    read_more c.args.types.now (pieces_of fields) c.loop-place.place (said c.loop-place.descriptor) c.loop-place.invariant
-    _ (piece_met fields c.loop-place.place _ c.loop-place-test.true) (said c.add_field.new.self) c.in-Ok.ensures.0 c.in-Ok.ensures.1
+    read_more c.args.types.now (pieces_of fields) c.loop-field.field-index (said c.loop-field.descriptor) c.loop-field.invariant
+    _ (piece_met fields c.loop-field.field-index _ c.loop-field-test.true) (said c.add_field.new.self) c.in-Ok.ensures.0 c.in-Ok.ensures.1
 
 pub returns-clause-found : goal.returns-clause-found
 returns-clause-found c =
-    read_all c.args.types.now (pieces_of c.args.fields.now) c.loop-place.place (said c.loop-place.descriptor) c.loop-place.invariant
+    read_all c.args.types.now (pieces_of c.args.fields.now) c.loop-field.field-index (said c.loop-field.descriptor) c.loop-field.invariant
     (omega (arith, length-map c.args.fields.now piece_of))

@@ -30,7 +30,7 @@ pub(crate) struct Descriptor {
     /// The type of the set.
     pub kind: Option<Bytes>,
     pub rules: Rules,
-    /// Serves its types while it is read.
+    /// The patterns built for its types, of use only while it is read.
     pub patterns: Patterns,
 }
 

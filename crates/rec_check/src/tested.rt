@@ -33,10 +33,10 @@ impl<'r> Tried<'r> {
         ensures same { type_stored self.new.type_.now ≡ type_stored self.old.type_.now }
         ensures refusals { IfErr result (λ fault. fault ≡ Fault.OutOfMemory) }
     {
-        let mut test = match self.test.take() {
-            Some(test) => test,
-            None => Test::of(alloc, self.type_)?,
-        };
+        if let Some(test) = &mut self.test {
+            return Ok(test.passes(self.type_, value));
+        }
+        let mut test = Test::of(alloc, self.type_)?;
         let answer = test.passes(self.type_, value);
         self.test = Some(test);
         Ok(answer)

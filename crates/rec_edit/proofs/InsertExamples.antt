@@ -127,7 +127,7 @@ numbered n = record { name = id; number = pos n }
 abbrev counting : Rules
 counting = record no_rules {
   automatic = id ∷ id ∷ [];
-  types = record { place = 2; names = id ∷ []; kind = codes "int"; type_ = integer } ∷ [];
+  types = record { names = id ∷ []; kind = codes "int"; type_ = integer } ∷ [];
 }
 
 abbrev described : List Piece → Rules → Described
@@ -272,7 +272,7 @@ lacked : lacking (id ∷ codes "No" ∷ []) (codes "N" ∷ id ∷ []) ≡ codes 
 lacked = refl
 
 -- a field of another type is no counter
-no_counter : AreFilled (elements some_lack) (record untyped_counting { types = record { place = 2; names = id ∷ []; kind = codes "bool"; type_ = truth } ∷ [] }) (λ name. []) (range 3 4 ∷ []) (Err AutoImpossible)
+no_counter : AreFilled (elements some_lack) (record untyped_counting { types = record { names = id ∷ []; kind = codes "bool"; type_ = truth } ∷ [] }) (λ name. []) (range 3 4 ∷ []) (Err AutoImpossible)
 unfolding meaning_in is_known_kind
 no_counter = inl (AutoImpossible, inl (AutoImpossible, inl refl, refl), refl)
 

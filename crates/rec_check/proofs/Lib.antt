@@ -21,6 +21,7 @@ pub mod BuiltLemmas
 pub mod CheckLemmas
 pub mod CounterLemmas
 pub mod NameLemmas
+pub mod NamePlaceLemmas
 pub mod KeyLemmas
 pub mod SingularLemmas
 pub mod FittingLemmas

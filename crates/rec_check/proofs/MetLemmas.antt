@@ -1,190 +1,34 @@
 -- The places of names that a record has, field by field, and the names that stand at places.
-use Rattle.std.proofs.Common.{◌≡◌, ◌∙◌, inl, inr, ℕ, zero, suc, ◌+◌, ◌<◌, Bool, true, false, ◌||◌, ◌&&◌, not, cond, List, [], ◌∷◌, ◌++◌, filter, length, position, take, get_or, Option, Some, None, refl, ap, ap₂, sym, subst, arith, append_assoc}
-use Rattle.std.proofs.lemmas.Bool.{cases_Bool, false≢true, le-leb, ne_eqb, or_left, or_parts, or_right}
-use Rattle.std.proofs.lemmas.List.{append-nil, map-append, map_more}
+use Rattle.std.proofs.Common.{◌≡◌, ◌∙◌, inl, inr, ℕ, zero, suc, ◌+◌, ◌<◌, Bool, true, false, ◌||◌, ◌&&◌, not, cond, List, [], ◌∷◌, ◌++◌, filter, length, position, take, get_or, Some, None, refl, ap, ap₂, sym, arith, append_assoc}
+use Rattle.std.proofs.lemmas.Bool.{cases_Bool, le-leb, ne_eqb, or_left}
+use Rattle.std.proofs.lemmas.List.{append-nil, length-map, map-append, map_more}
 use Rattle.std.proofs.lemmas.List.Elements.{filter_agree, filter-append}
 use Rattle.std.proofs.lemmas.List.Quantifiers.{position-Some}
-use Rattle.std.proofs.lemmas.Option.{none-some, slice_get-get_or, slice_get-map}
-use Rattle.std.proofs.Math.Bool.{or-false}
+use Rattle.std.proofs.lemmas.Option.{get_or_from_slice_get, slice_get-get_or, slice_get-map}
+use Rattle.std.proofs.Math.Bool.{and-false}
 use Rattle.std.specs.BTreeMap.{is_at}
 use Rattle.std.specs.BTreeSet.{insert_key}
 use Rattle.std.specs.Borrow.{Bor}
-use Rattle.std.specs.Cmp.{nat_cmp_is}
 use Rattle.std.specs.List.{cons_option, filter_map, list_any, slice_get}
-use Rattle.std.specs.Option.{option_map, option_map_or}
+use Rattle.std.specs.Option.{option_map}
 use Rattle.std.specs.Ordering.{nat_cmp}
 use Rattle.std.specs.Prelude.{◌==◌, nat_le}
 use Rattle.std.specs.Str.{bytes_eq}
-use Rattle.std.specs.declared.cmp.Ordering.TheVariants.{Less, Equal, Greater}
 use Rattle.rec_text.specs.declared.element.Element.{Element}
 use Rattle.rec_text.specs.declared.violations.Rule.{Rule}
 use Rattle.rec_text.specs.declared.violations.Rule.TheVariants.{Mandatory}
 use Rattle.rec_text.specs.declared.violations.Violation.{Violation}
 use Rattle.rec_text.specs.Elements.{Piece, name_of}
 use Rattle.rec_text.specs.Places.{piece_of, pieces_of}
-use Rattle.rec_text.proofs.ListLemmas.{same_bytes, bytes_eq-self}
+use Rattle.rec_text.proofs.ListLemmas.{same_bytes}
 use Rattle.rec_check.specs.declared.limit.Limit.{Limit}
 use Rattle.rec_check.specs.declared.limit.Limit.TheVariants.{Present}
 use Rattle.rec_check.specs.declared.met.Met.{Met}
 use Rattle.rec_check.specs.Checks.{texts, rule_of, breaks_limit, limit_violations}
-use Rattle.rec_check.specs.Met.{places_from, places_of, occurs, AreMet}
+use Rattle.rec_check.specs.Met.{places_of, occurs, AreMet}
 use Rattle.rec_check.specs.Violations.{occurrences, violation, violations_of}
-use Rattle.rec_check.specs.Words.{distinct, is_among}
-use Rattle.rec_check.proofs.TypeLemmas.{list_any-position}
-
-same_option : {X : Type 0} (a b : X) → Some a ≡ Some b → a ≡ b
-same_option a b same = cc
-
-pub no_option : {X : Type 0} (option : Option X) → ((x : X) → option ≡ Some x → ⊥) → option ≡ None
-no_option None none = refl
-no_option (Some x) none = absurd (none x refl)
-
--- ---- names that stand once have one place
-
--- no name stands behind itself
-abbrev AreOnce : List (List ℕ) → Type 0
-AreOnce [] = Unit {0}
-AreOnce (name ∷ names) = (is_among names name ≡ false) × AreOnce names
-
-not_filtered : (name : List ℕ) (names : List (List ℕ)) → is_among (filter (λ other. not (bytes_eq name other)) names) name ≡ false
-not_filtered name [] = refl
-not_filtered name (first ∷ names) = elim (cases_Bool (bytes_eq name first)) [
-  | inl same ↦ rw same (not_filtered name names)
-  | inr other ↦ rw (other, other) (not_filtered name names)
-]
-
-still_none : (p : List ℕ → Bool) (name : List ℕ) (names : List (List ℕ)) → is_among names name ≡ false → is_among (filter p names) name ≡ false
-still_none p name [] none = refl
-still_none p name (first ∷ names) none =
-    let parts = or_parts (bytes_eq name first) (is_among names name) none in
-    elim (cases_Bool (p first)) [
-      | inl passes ↦ rw (passes, parts.0) (still_none p name names parts.1)
-      | inr fails ↦ rw fails (still_none p name names parts.1)
-    ]
-
-once_filtered : (p : List ℕ → Bool) (names : List (List ℕ)) → AreOnce names → AreOnce (filter p names)
-once_filtered p [] once = tt
-once_filtered p (name ∷ names) once = elim (cases_Bool (p name)) [
-  | inl passes ↦ rw passes (still_none p name names once.0, once_filtered p names once.1)
-  | inr fails ↦ rw fails (once_filtered p names once.1)
-]
-
-once_distinct : (names : List (List ℕ)) → AreOnce (distinct names)
-once_distinct [] = tt
-once_distinct (name ∷ names) = (not_filtered name (distinct names), once_filtered (λ other. not (bytes_eq name other)) (distinct names) (once_distinct names))
-
-are_once : (names : List (List ℕ)) → distinct names ≡ names → AreOnce names
-are_once names once = subst AreOnce once (once_distinct names)
-
--- what stands at a place is among the names
-among_at : (names : List (List ℕ)) (i : ℕ) (name : List ℕ) → slice_get names i ≡ Some name → is_among names name ≡ true
-among_at [] i name is = absurd (none-some name is)
-among_at (first ∷ names) zero name is =
-    or_left (bytes_eq name first) (is_among names name) (ap (bytes_eq name) (same_option first name is) ∙ bytes_eq-self name)
-among_at (first ∷ names) (suc i) name is = or_right (bytes_eq name first) (is_among names name) (among_at names i name is)
-
--- ---- places of names that pass a test
-
-places_agree : (at : ℕ) (p q : List ℕ → Bool) (names : List (List ℕ)) → ((name : List ℕ) → is_among names name ≡ true → p name ≡ q name) → places_from at p names ≡ places_from at q names
-places_agree at p q [] agree = refl
-places_agree at p q (name ∷ names) agree =
-    let first : is_among (name ∷ names) name ≡ true = or_left (bytes_eq name name) (is_among names name) (bytes_eq-self name) in
-    ap₂ (λ b l. cond b (at ∷ l) l) (agree name first) (places_agree (at + 1) p q names (λ other among. agree other (or_right (bytes_eq other name) (is_among names other) among)))
-
--- one more name passes the test
-abbrev or_is : (List ℕ → Bool) → List ℕ → List ℕ → Bool
-or_is test name other = test other || bytes_eq name other
-
-module _ (test : List ℕ → Bool) where
-  places_without : (at : ℕ) (name : List ℕ) (names : List (List ℕ)) → is_among names name ≡ false → places_from at (or_is test name) names ≡ places_from at test names
-  places_without at name [] none = refl
-  places_without at name (first ∷ names) none =
-      let parts = or_parts (bytes_eq name first) (is_among names name) none in
-      ap₂ (λ b l. cond b (at ∷ l) l) (ap (λ b. test first || b) parts.0 ∙ or-false (test first)) (places_without (at + 1) name names parts.1)
-
-  insert_first : (at low : ℕ) (names : List (List ℕ)) → low < at → insert_key nat_cmp (places_from at test names) low ≡ low ∷ places_from at test names
-  insert_first at low [] below = refl
-  insert_first at low (name ∷ names) below = elim (cases_Bool (test name)) [
-    | inl passes ↦ let less : nat_cmp low at ≡ Less = sym (nat_cmp_is low at Less below) in rw (passes, less) refl
-    | inr fails ↦ rw fails (insert_first (at + 1) low names (omega arith))
-  ]
-
-  insert_place : (at i : ℕ) (name : List ℕ) (names : List (List ℕ)) → AreOnce names → slice_get names i ≡ Some name → insert_key nat_cmp (places_from at test names) (at + i) ≡ places_from at (or_is test name) names
-  insert_place at i name [] once is = absurd (none-some name is)
-  insert_place at zero name (first ∷ names) once is =
-      let same : first ≡ name = same_option first name is in
-      let own : bytes_eq name first ≡ true = ap (bytes_eq name) same ∙ bytes_eq-self name in
-      let here : at + 0 ≡ at = omega arith in
-      let rest : places_from (at + 1) (or_is test name) names ≡ places_from (at + 1) test names = places_without (at + 1) name names (ap (is_among names) (sym same) ∙ once.0) in
-      let equal : nat_cmp at at ≡ Equal = sym (nat_cmp_is at at Equal refl) in
-      ap (insert_key nat_cmp (places_from at test (first ∷ names))) here ∙ elim (cases_Bool (test first)) [
-        | inl passes ↦ rw (passes, equal) (ap (λ l. at ∷ l) (sym rest))
-        | inr fails ↦ rw (fails, own) (insert_first (at + 1) at names (omega arith) ∙ ap (λ l. at ∷ l) (sym rest))
-      ]
-  insert_place at (suc i) name (first ∷ names) once is =
-      let other : bytes_eq name first ≡ false = elim (cases_Bool (bytes_eq name first)) [
-        | inl same ↦ absurd (false≢true (sym once.0 ∙ ap (is_among names) (sym (same_bytes name first same)) ∙ among_at names i name is))
-        | inr other ↦ other
-      ] in
-      let there : at + suc i ≡ at + 1 + i = omega arith in
-      let rest : insert_key nat_cmp (places_from (at + 1) test names) (at + suc i) ≡ places_from (at + 1) (or_is test name) names =
-      ap (insert_key nat_cmp (places_from (at + 1) test names)) there ∙ insert_place (at + 1) i name names once.1 is in
-      let greater : nat_cmp (at + suc i) at ≡ Greater = sym (nat_cmp_is (at + suc i) at Greater (omega arith)) in
-      elim (cases_Bool (test first)) [
-        | inl passes ↦ rw (passes, greater) (ap (λ l. at ∷ l) rest)
-        | inr fails ↦ rw (fails, other) rest
-      ]
-
-  abbrev holds : List ℕ → ℕ → Bool
-  holds places place = list_any (is_at (nat_cmp place)) places
-
-  -- no place stands before the first
-  holds_past : (at low : ℕ) (names : List (List ℕ)) → low < at → holds (places_from at test names) low ≡ false
-  holds_past at low [] below = refl
-  holds_past at low (name ∷ names) below = elim (cases_Bool (test name)) [
-    | inl passes ↦ let less : nat_cmp low at ≡ Less = sym (nat_cmp_is low at Less below) in rw (passes, less) (holds_past (at + 1) low names (omega arith))
-    | inr fails ↦ rw fails (holds_past (at + 1) low names (omega arith))
-  ]
-
-  holds_from : (at i : ℕ) (names : List (List ℕ)) → holds (places_from at test names) (at + i) ≡ option_map_or test (slice_get names i) false
-  holds_from at i [] = refl
-  holds_from at zero (name ∷ names) =
-      let here : at + 0 ≡ at = omega arith in
-      let equal : nat_cmp at at ≡ Equal = sym (nat_cmp_is at at Equal refl) in
-      ap (holds (places_from at test (name ∷ names))) here ∙ elim (cases_Bool (test name)) [
-        | inl passes ↦ rw (passes, equal) refl
-        | inr fails ↦ rw fails (holds_past (at + 1) at names (omega arith))
-      ]
-  holds_from at (suc i) (name ∷ names) =
-      let there : at + suc i ≡ at + 1 + i = omega arith in
-      let greater : nat_cmp (at + suc i) at ≡ Greater = sym (nat_cmp_is (at + suc i) at Greater (omega arith)) in
-      let rest : holds (places_from (at + 1) test names) (at + suc i) ≡ option_map_or test (slice_get names i) false =
-      ap (holds (places_from (at + 1) test names)) there ∙ holds_from (at + 1) i names in
-      elim (cases_Bool (test name)) [
-        | inl passes ↦ rw (passes, greater) rest
-        | inr fails ↦ rw fails rest
-      ]
-
-  -- a place is among them where the name that stands there passes
-  pub holds_place : (names : List (List ℕ)) (place : ℕ) (name : List ℕ) → slice_get names place ≡ Some name → holds (places_of test names) place ≡ test name
-  holds_place names place name is =
-      let same : 0 + place ≡ place = omega arith in
-      ap (holds (places_of test names)) (sym same) ∙ holds_from 0 place names ∙ ap (λ o. option_map_or test o false) is
-
--- the names that stand at these places
-module _ (test : List ℕ → Bool) (all : List (List ℕ)) where
-  names_from : (at : ℕ) (names : List (List ℕ)) → ((k : ℕ) → slice_get all (at + k) ≡ slice_get names k) → filter_map (slice_get all) (places_from at test names) ≡ filter test names
-  names_from at [] stand = refl
-  names_from at (name ∷ names) stand =
-      let here : slice_get all at ≡ Some name = (let none : at ≡ at + 0 = omega arith in ap (slice_get all) none ∙ stand 0) in
-      let rest = names_from (at + 1) names (λ k. (let next : at + 1 + k ≡ at + suc k = omega arith in ap (slice_get all) next ∙ stand (suc k))) in
-      elim (cases_Bool (test name)) [
-        | inl passes ↦ rw passes (ap (λ o. cons_option o (filter_map (slice_get all) (places_from (at + 1) test names))) here ∙ ap (λ l. name ∷ l) rest)
-        | inr fails ↦ rw fails rest
-      ]
-
-  pub names_at : filter_map (slice_get all) (places_of test all) ≡ filter test all
-  names_at = names_from 0 all (λ k. (let same : 0 + k ≡ k = omega arith in ap (slice_get all) same))
+use Rattle.rec_check.specs.Words.{distinct}
+use Rattle.rec_check.proofs.NamePlaceLemmas.{apart, holds_place, names_at, places_agree, places_next}
 
 -- ---- one field more
 
@@ -215,18 +59,17 @@ module _ (fields : List Piece) (piece : Piece) (names : List (List ℕ)) where
   abbrev own : List ℕ
   own = name_of piece
 
-  once_more : (name : List ℕ) → occurs 1 (fields ++ piece ∷ []) name ≡ or_is (occurs 1 fields) own name
+  once_more : (name : List ℕ) → occurs 1 (fields ++ piece ∷ []) name ≡ (occurs 1 fields name || bytes_eq own name)
   once_more name = ap (nat_le 1) (occurrences-push fields piece name) ∙ one_at_least (occurrences fields name) (bytes_eq own name)
 
-  again_more : (name : List ℕ) → occurs 2 (fields ++ piece ∷ []) name ≡ (occurs 2 fields name || (occurs 1 fields name && bytes_eq own name))
-  again_more name = ap (nat_le 2) (occurrences-push fields piece name) ∙ two_at_least (occurrences fields name) (bytes_eq own name)
-
-  -- a field of another name
-  apart : position (bytes_eq own) names ≡ None → (name : List ℕ) → is_among names name ≡ true → bytes_eq own name ≡ false
-  apart none name among = elim (cases_Bool (bytes_eq own name)) [
-    | inl same ↦ absurd (false≢true (sym (list_any-position (bytes_eq own) names none) ∙ ap (is_among names) (same_bytes own name same) ∙ among))
-    | inr other ↦ other
+  same_own : (name : List ℕ) → (occurs 1 fields name && bytes_eq own name) ≡ (occurs 1 fields own && bytes_eq own name)
+  same_own name = elim (cases_Bool (bytes_eq own name)) [
+    | inl same ↦ ap (λ n. occurs 1 fields n && bytes_eq own name) (sym (same_bytes own name same))
+    | inr other ↦ rw other (and-false (occurs 1 fields name) ∙ sym (and-false (occurs 1 fields own)))
   ]
+
+  again_more : (name : List ℕ) → occurs 2 (fields ++ piece ∷ []) name ≡ (occurs 2 fields name || (occurs 1 fields own && bytes_eq own name))
+  again_more name = ap (nat_le 2) (occurrences-push fields piece name) ∙ two_at_least (occurrences fields name) (bytes_eq own name) ∙ ap (λ b. occurs 2 fields name || b) (same_own name)
 
   same_count : (least : ℕ) (name : List ℕ) → bytes_eq own name ≡ false → occurs least fields name ≡ occurs least (fields ++ piece ∷ []) name
   same_count least name other =
@@ -234,53 +77,20 @@ module _ (fields : List Piece) (piece : Piece) (names : List (List ℕ)) where
       ap (nat_le least) (sym (occurrences-push fields piece name ∙ ap (λ b. occurrences fields name + cond b 1 0) other ∙ none))
 
   pub places_passed : (least : ℕ) → position (bytes_eq own) names ≡ None → places_of (occurs least fields) names ≡ places_of (occurs least (fields ++ piece ∷ [])) names
-  places_passed least none = places_agree 0 _ _ names (λ name among. same_count least name (apart none name among))
+  places_passed least none = places_agree 0 _ _ names (λ name among. same_count least name (apart own names none name among))
 
   -- one of the name at a place
   module _ (i : ℕ) (once : distinct names ≡ names) (at : position (bytes_eq own) names ≡ Some i) where
-    stands : slice_get names i ≡ Some own
-    stands =
-        let there = position-Some (bytes_eq own) names i [] at in
-        slice_get-get_or names i [] there.0 ∙ ap Some (sym (same_bytes own (get_or names i []) there.1))
-
-    inserted : (test : List ℕ → Bool) → insert_key nat_cmp (places_of test names) i ≡ places_of (or_is test own) names
-    inserted test =
-        let same : 0 + i ≡ i = omega arith in
-        ap (insert_key nat_cmp (places_of test names)) (sym same) ∙ insert_place test 0 i own names (are_once names once) stands
-
     pub once_inserted : insert_key nat_cmp (places_of (occurs 1 fields) names) i ≡ places_of (occurs 1 (fields ++ piece ∷ [])) names
-    once_inserted = inserted (occurs 1 fields) ∙ places_agree 0 _ _ names (λ name among. sym (once_more name))
-
-    -- the name was there before, or it wasn't
-    again_test : (was : Bool) → occurs 1 fields own ≡ was → (name : List ℕ) → cond was (or_is (occurs 2 fields) own name) (occurs 2 fields name) ≡ occurs 2 (fields ++ piece ∷ []) name
-    again_test true there name = elim (cases_Bool (bytes_eq own name)) [
-      | inl same ↦ sym (again_more name ∙ ap (λ b. occurs 2 fields name || (b && bytes_eq own name)) (ap (occurs 1 fields) (sym (same_bytes own name same)) ∙ there))
-      | inr other ↦ ap (λ b. occurs 2 fields name || b) other ∙ or-false (occurs 2 fields name) ∙ same_count 2 name other
-    ]
-    again_test false new name = elim (cases_Bool (bytes_eq own name)) [
-      | inl same ↦ sym (again_more name ∙ ap (λ b. occurs 2 fields name || (b && bytes_eq own name)) (ap (occurs 1 fields) (sym (same_bytes own name same)) ∙ new) ∙ or-false (occurs 2 fields name))
-      | inr other ↦ same_count 2 name other
-    ]
-
-    again_by : (was : Bool) → occurs 1 fields own ≡ was
-        → cond was (insert_key nat_cmp (places_of (occurs 2 fields) names) i) (places_of (occurs 2 fields) names) ≡ places_of (occurs 2 (fields ++ piece ∷ [])) names
-    again_by true there = inserted (occurs 2 fields) ∙ places_agree 0 _ _ names (λ name among. again_test true there name)
-    again_by false new = places_agree 0 _ _ names (λ name among. again_test false new name)
+    once_inserted = places_next (occurs 1 fields) (occurs 1 (fields ++ piece ∷ [])) true own names i once_more once at
 
     pub again_inserted : cond (list_any (is_at (nat_cmp i)) (places_of (occurs 1 fields) names)) (insert_key nat_cmp (places_of (occurs 2 fields) names) i) (places_of (occurs 2 fields) names)
         ≡ places_of (occurs 2 (fields ++ piece ∷ [])) names
     again_inserted =
-        ap (λ b. cond b (insert_key nat_cmp (places_of (occurs 2 fields) names) i) (places_of (occurs 2 fields) names)) (holds_place (occurs 1 fields) names i own stands)
-        ∙ again_by (occurs 1 fields own) refl
-
--- nothing is met before the first
-pub none_once : (at : ℕ) (names : List (List ℕ)) → [] ≡ places_from at (occurs 1 []) names
-none_once at [] = refl
-none_once at (name ∷ names) = none_once (at + 1) names
-
-pub none_again : (at : ℕ) (names : List (List ℕ)) → [] ≡ places_from at (occurs 2 []) names
-none_again at [] = refl
-none_again at (name ∷ names) = none_again (at + 1) names
+        let there = position-Some (bytes_eq own) names i [] at in
+        ap (λ b. cond b (insert_key nat_cmp (places_of (occurs 2 fields) names) i) (places_of (occurs 2 fields) names))
+        (holds_place (occurs 1 fields) names i there.0 ∙ ap (occurs 1 fields) (sym (same_bytes own (get_or names i []) there.1)))
+        ∙ places_next (occurs 2 fields) (occurs 2 (fields ++ piece ∷ [])) (occurs 1 fields own) own names i again_more once at
 
 -- as a loop takes the elements
 module _ (elements : List Element) (i : ℕ) (d : Element) (within : i < length elements) (names : List (List ℕ)) where
@@ -336,8 +146,9 @@ module _ (line : ℕ) (rule : Rule) (test : List ℕ → Bool) (names : List (Li
 
   is_there : list_any (is_at (nat_cmp i)) places ≡ test name_at
   is_there =
-      ap (list_any (is_at (nat_cmp i))) were ∙ holds_place test names i name_at
-      (ap (λ l. slice_get l i) (sym are) ∙ slice_get-map (λ one. one.now) all i ∙ ap (option_map (λ one. one.now)) (slice_get-get_or all i d within))
+      let inside : i < length names = omega (arith, ap length are, length-map all (λ one. one.now)) in
+      let here : slice_get names i ≡ Some name_at = ap (λ l. slice_get l i) (sym are) ∙ slice_get-map (λ one. one.now) all i ∙ ap (option_map (λ one. one.now)) (slice_get-get_or all i d within) in
+      ap (list_any (is_at (nat_cmp i))) were ∙ holds_place test names i inside ∙ ap test (get_or_from_slice_get names i name_at [] here)
 
   reported_next : reported (i + 1) ≡ reported i ++ violations_of line rule (cond (not (test name_at)) (name_at ∷ []) [])
   reported_next =

@@ -1,44 +1,35 @@
 -- The values that records of a set have in its singular fields.
-use Rattle.std.proofs.Common.{◌≡◌, ◌∙◌, inl, inr, ℕ, ◌+◌, ◌<◌, Bool, true, false, ◌||◌, ◌&&◌, not, cond, eqb, List, [], ◌∷◌, ◌++◌, filter, length, position, take, get_or, Option, Some, None, refl, ap, ap₂, sym, suc, arith, append_assoc}
-use Rattle.std.proofs.lemmas.Bool.{and_parts, cases_Bool, eq-eqb, eqb-true, false≢true, or_left, or_parts, or_right}
+use Rattle.std.proofs.Common.{◌≡◌, ◌∙◌, inl, inr, ℕ, ◌+◌, ◌<◌, Bool, true, false, ◌||◌, ◌&&◌, cond, eqb, List, [], ◌∷◌, ◌++◌, filter, length, position, take, get_or, Option, Some, None, refl, ap, ap₂, sym, append_assoc}
+use Rattle.std.proofs.lemmas.Bool.{and_parts, cases_Bool, eq-eqb, eqb-true, false≢true, or_left}
 use Rattle.std.proofs.lemmas.List.{map_more, map_push}
 use Rattle.std.proofs.lemmas.List.Folds.{list_any-append}
 use Rattle.std.proofs.lemmas.List.Quantifiers.{position-Some}
 use Rattle.std.proofs.lemmas.List.Sorted.{list_any-IsPermutation}
-use Rattle.std.proofs.lemmas.Option.{none-some, slice_get-map}
-use Rattle.std.proofs.lemmas.Slice.Eq.{bytes_eq-Decides}
+use Rattle.std.proofs.lemmas.Option.{none-some, same_Some, slice_get-map}
 use Rattle.std.proofs.Math.Bool.{and-false, and-true, or-false, or_assoc}
 use Rattle.std.specs.BTreeSet.{insert_key}
 use Rattle.std.specs.Borrow.{Bor}
-use Rattle.std.specs.Cmp.{nat_cmp_is}
 use Rattle.std.specs.HashSet.{HashSet, PutsKey}
 use Rattle.std.specs.List.{cons_option, filter_map, list_any, slice_get}
 use Rattle.std.specs.Option.{option_map, option_map_or}
 use Rattle.std.specs.Ordering.{nat_cmp}
 use Rattle.std.specs.Str.{bytes_eq}
-use Rattle.std.specs.declared.cmp.Ordering.TheVariants.{Less, Equal, Greater}
 use Rattle.rec_text.specs.declared.element.Element.{Element}
 use Rattle.rec_text.specs.Elements.{Piece, name_of}
 use Rattle.rec_text.specs.Places.{piece_of, pieces_of}
 use Rattle.rec_text.specs.Values.{value_of}
-use Rattle.rec_text.proofs.ListLemmas.{same_bytes}
+use Rattle.rec_text.proofs.ListLemmas.{same_bytes, bytes_eq-self}
 use Rattle.rec_sex.specs.Meaning.{values_of}
 use Rattle.rec_check.specs.Checks.{texts}
-use Rattle.rec_check.specs.Met.{places_from, places_of}
+use Rattle.rec_check.specs.Met.{places_of}
 use Rattle.rec_check.specs.Violations.{breaks_singular, stands_in}
 use Rattle.rec_check.specs.Words.{distinct, is_among}
 use Rattle.rec_check.proofs.DescriptorLemmas.{values_of-append}
 use Rattle.rec_check.proofs.KeyLemmas.{or_comm}
-use Rattle.rec_check.proofs.NameLemmas.{filter-distinct, distinct-distinct}
-use Rattle.rec_check.proofs.TypeLemmas.{bytes_eq-sym, list_any-position, position-behind, position-here}
+use Rattle.rec_check.proofs.NamePlaceLemmas.{apart, names_at, places_agree, places_kept, places_next}
+use Rattle.rec_check.proofs.TypeLemmas.{bytes_eq-sym, list_any-position}
 
 -- ---- the place of a name
-
-bytes_eq-refl : (bytes : List ℕ) → bytes_eq bytes bytes ≡ true
-bytes_eq-refl bytes = (bytes_eq-Decides bytes bytes).1 refl
-
-same_option : {X : Type 0} (a b : X) → Some a ≡ Some b → a ≡ b
-same_option a b same = cc
 
 -- two names have one place where they are the same
 pub same_place : (names : List (List ℕ)) (a b : List ℕ) (i j : ℕ) → position (bytes_eq a) names ≡ Some i → position (bytes_eq b) names ≡ Some j → eqb i j ≡ bytes_eq a b
@@ -46,108 +37,14 @@ same_place names a b i j at_a at_b =
     let stands_a : a ≡ get_or names i [] = same_bytes a (get_or names i []) (position-Some (bytes_eq a) names i [] at_a).1 in
     let stands_b : b ≡ get_or names j [] = same_bytes b (get_or names j []) (position-Some (bytes_eq b) names j [] at_b).1 in
     elim (cases_Bool (bytes_eq a b)) [
-      | inl same ↦ eq-eqb i j (same_option i j (sym at_a ∙ ap (λ n. position (bytes_eq n) names) (same_bytes a b same) ∙ at_b)) ∙ sym same
+      | inl same ↦ eq-eqb i j (same_Some i j (sym at_a ∙ ap (λ n. position (bytes_eq n) names) (same_bytes a b same) ∙ at_b)) ∙ sym same
       | inr apart ↦ elim (cases_Bool (eqb i j)) [
         | inl one ↦
             let same : a ≡ b = stands_a ∙ ap (λ k. get_or names k []) (eqb-true i j one) ∙ sym stands_b in
-            absurd (false≢true (sym apart ∙ ap (λ n. bytes_eq n b) same ∙ bytes_eq-refl b))
+            absurd (false≢true (sym apart ∙ ap (λ n. bytes_eq n b) same ∙ bytes_eq-self b))
         | inr two ↦ two ∙ sym apart
       ]
     ]
-
--- ---- places of names that pass a test
-
--- no name stands behind itself
-abbrev AreOnce : List (List ℕ) → Type 0
-AreOnce [] = Unit {0}
-AreOnce (name ∷ names) = (is_among names name ≡ false) × AreOnce names
-
-not_filtered : (name : List ℕ) (names : List (List ℕ)) → is_among (filter (λ other. not (bytes_eq name other)) names) name ≡ false
-not_filtered name [] = refl
-not_filtered name (first ∷ names) = elim (cases_Bool (bytes_eq name first)) [
-  | inl same ↦ rw same (not_filtered name names)
-  | inr other ↦ rw (other, other) (not_filtered name names)
-]
-
-cons_parts : {X : Type 0} (x : X) (xs ys : List X) → x ∷ xs ≡ x ∷ ys → xs ≡ ys
-cons_parts x xs ys same = cc
-
-are_once : (names : List (List ℕ)) → distinct names ≡ names → AreOnce names
-are_once [] once = tt
-are_once (name ∷ names) once =
-    let others : List ℕ → Bool = λ other. not (bytes_eq name other) in
-    let left : filter others (distinct names) ≡ names = cons_parts name (filter others (distinct names)) names once in
-    let rest : distinct names ≡ names = ap distinct (sym left) ∙ ap distinct (filter-distinct others names) ∙ distinct-distinct (filter others names) ∙ sym (filter-distinct others names) ∙ left in
-    (ap (λ l. is_among l name) (sym left) ∙ not_filtered name (distinct names), are_once names rest)
-
-places_agree : (at : ℕ) (p q : List ℕ → Bool) → ((name : List ℕ) → p name ≡ q name) → (names : List (List ℕ)) → places_from at p names ≡ places_from at q names
-places_agree at p q agree [] = refl
-places_agree at p q agree (name ∷ names) =
-    ap₂ (λ b l. cond b (at ∷ l) l) (agree name) (places_agree (at + 1) p q agree names)
-
--- one more name passes the test
-abbrev pub or_is : (List ℕ → Bool) → List ℕ → List ℕ → Bool
-or_is test name other = test other || bytes_eq name other
-
-place_before : (place : Option ℕ) (i : ℕ) → option_map (λ n. n + 1) place ≡ Some i → (k : ℕ) × (place ≡ Some k) × (k + 1 ≡ i)
-place_before None i is = absurd (none-some i is)
-place_before (Some k) i is = (k, refl, same_option (k + 1) i is)
-
-module _ (test : List ℕ → Bool) where
-  places_without : (at : ℕ) (name : List ℕ) (names : List (List ℕ)) → is_among names name ≡ false → places_from at (or_is test name) names ≡ places_from at test names
-  places_without at name [] none = refl
-  places_without at name (first ∷ names) none =
-      let parts = or_parts (bytes_eq name first) (is_among names name) none in
-      ap₂ (λ b l. cond b (at ∷ l) l) (ap (λ b. test first || b) parts.0 ∙ or-false (test first)) (places_without (at + 1) name names parts.1)
-
-  insert_first : (at low : ℕ) (names : List (List ℕ)) → low < at → insert_key nat_cmp (places_from at test names) low ≡ low ∷ places_from at test names
-  insert_first at low [] below = refl
-  insert_first at low (name ∷ names) below = elim (cases_Bool (test name)) [
-    | inl passes ↦ let less : nat_cmp low at ≡ Less = sym (nat_cmp_is low at Less below) in rw (passes, less) refl
-    | inr fails ↦ rw fails (insert_first (at + 1) low names (omega arith))
-  ]
-
-  pub insert_place : (at : ℕ) (name : List ℕ) (i : ℕ) (names : List (List ℕ)) → AreOnce names → position (bytes_eq name) names ≡ Some i
-      → insert_key nat_cmp (places_from at test names) (at + i) ≡ places_from at (or_is test name) names
-  insert_place at name i [] once is = absurd (none-some i is)
-  insert_place at name i (first ∷ names) once is = elim (cases_Bool (bytes_eq name first)) [
-    | inl same ↦
-        let here : at + i ≡ at = (let zero_is : 0 ≡ i = same_option 0 i (sym (position-here (bytes_eq name) first names same) ∙ is) in omega (arith, zero_is)) in
-        let rest : places_from (at + 1) (or_is test name) names ≡ places_from (at + 1) test names =
-        places_without (at + 1) name names (ap (is_among names) (same_bytes name first same) ∙ once.0) in
-        let equal : nat_cmp at at ≡ Equal = sym (nat_cmp_is at at Equal refl) in
-        ap (insert_key nat_cmp (places_from at test (first ∷ names))) here ∙ elim (cases_Bool (test first)) [
-          | inl passes ↦ rw (passes, equal) (ap (λ l. at ∷ l) (sym rest))
-          | inr fails ↦ rw (fails, same) (insert_first (at + 1) at names (omega arith) ∙ ap (λ l. at ∷ l) (sym rest))
-        ]
-    | inr other ↦
-        let behind = place_before (position (bytes_eq name) names) i (sym (position-behind (bytes_eq name) first names other) ∙ is) in
-        let k : ℕ = behind.0 in
-        let next : k + 1 ≡ i = behind.2 in
-        let there : at + i ≡ at + 1 + k = omega (arith, next) in
-        let rest : insert_key nat_cmp (places_from (at + 1) test names) (at + i) ≡ places_from (at + 1) (or_is test name) names =
-        ap (insert_key nat_cmp (places_from (at + 1) test names)) there ∙ insert_place (at + 1) name k names once.1 behind.1 in
-        let greater : nat_cmp (at + i) at ≡ Greater = sym (nat_cmp_is (at + i) at Greater (omega (arith, next))) in
-        elim (cases_Bool (test first)) [
-          | inl passes ↦ rw (passes, greater) (ap (λ l. at ∷ l) rest)
-          | inr fails ↦ rw (fails, other) rest
-        ]
-  ]
-
--- the names that stand at these places
-module _ (test : List ℕ → Bool) (all : List (List ℕ)) where
-  names_from : (at : ℕ) (names : List (List ℕ)) → ((k : ℕ) → slice_get all (at + k) ≡ slice_get names k) → filter_map (slice_get all) (places_from at test names) ≡ filter test names
-  names_from at [] stand = refl
-  names_from at (name ∷ names) stand =
-      let here : slice_get all at ≡ Some name = (let none : at ≡ at + 0 = omega arith in ap (slice_get all) none ∙ stand 0) in
-      let rest = names_from (at + 1) names (λ k. (let next : at + 1 + k ≡ at + suc k = omega arith in ap (slice_get all) next ∙ stand (suc k))) in
-      elim (cases_Bool (test name)) [
-        | inl passes ↦ rw passes (ap (λ o. cons_option o (filter_map (slice_get all) (places_from (at + 1) test names))) here ∙ ap (λ l. name ∷ l) rest)
-        | inr fails ↦ rw fails rest
-      ]
-
-  pub names_at : filter_map (slice_get all) (places_of test all) ≡ filter test all
-  names_at = names_from 0 all (λ k. (let same : 0 + k ≡ k = omega arith in ap (slice_get all) same))
 
 -- as a loop takes the places
 module _ (names : List (List ℕ)) (all found : List (Bor (List ℕ))) (place : ℕ) (left next : List ℕ) (whole : List (List ℕ)) (are : texts all ≡ names) (taken : left ≡ place ∷ next)
@@ -169,14 +66,6 @@ module _ (names : List (List ℕ)) (all found : List (Bor (List ℕ))) (place : 
 
 -- ---- one record
 
--- tests that agree on the names of a list
-filter_among : (p q : List ℕ → Bool) (names : List (List ℕ)) → ((name : List ℕ) → is_among names name ≡ true → p name ≡ q name) → filter p names ≡ filter q names
-filter_among p q [] agree = refl
-filter_among p q (name ∷ names) agree =
-    let first : is_among (name ∷ names) name ≡ true = ap (λ b. b || is_among names name) (bytes_eq-refl name) in
-    let rest = filter_among p q names (λ other among. agree other (or_right (bytes_eq other name) (is_among names other) among)) in
-    ap₂ (λ b l. cond b (name ∷ l) l) (agree name first) rest
-
 list_any_agree : {X : Type 0} (p q : X → Bool) → ((x : X) → p x ≡ q x) → (xs : List X) → list_any p xs ≡ list_any q xs
 list_any_agree p q agree [] = refl
 list_any_agree p q agree (x ∷ xs) = ap₂ ◌||◌ (agree x) (list_any_agree p q agree xs)
@@ -186,9 +75,9 @@ pub broken_names : (names asked : List (List ℕ)) (has_seen : List ℕ → List
     → ((name value : List ℕ) → is_among names name ≡ true → has_seen name value ≡ stands_in name earlier value)
     → filter_map (slice_get names) (places_of (λ name. list_any (has_seen name) (values_of name fields)) names) ≡ filter (breaks_singular earlier fields) (distinct asked)
 broken_names names asked has_seen earlier fields are seen =
-    names_at (λ name. list_any (has_seen name) (values_of name fields)) names
-    ∙ filter_among _ (breaks_singular earlier fields) names (λ name among. list_any_agree (has_seen name) (stands_in name earlier) (λ value. seen name value among) (values_of name fields))
-    ∙ ap (filter (breaks_singular earlier fields)) are
+    ap (filter_map (slice_get names))
+    (places_agree 0 _ (breaks_singular earlier fields) names (λ name among. list_any_agree (has_seen name) (stands_in name earlier) (λ value. seen name value among) (values_of name fields)))
+    ∙ names_at (breaks_singular earlier fields) names ∙ ap (filter (breaks_singular earlier fields)) are
 
 -- ---- one field more
 
@@ -211,24 +100,6 @@ module _ (has_seen : List ℕ → List ℕ → Bool) (fields : List Piece) (piec
         | inr other ↦ rw other (sym (and-false repeats))
       ])
 
-  broken-same : (names : List (List ℕ)) → repeats ≡ false → places_of (broken_by (fields ++ piece ∷ [])) names ≡ places_of (broken_by fields) names
-  broken-same names new =
-      places_agree 0 (broken_by (fields ++ piece ∷ [])) (broken_by fields)
-      (λ name. broken-push name ∙ ap (λ b. broken_by fields name || (b && bytes_eq (name_of piece) name)) new ∙ or-false (broken_by fields name)) names
-
-  broken-more : (names : List (List ℕ)) (i : ℕ) → distinct names ≡ names → repeats ≡ true → position (bytes_eq (name_of piece)) names ≡ Some i
-      → insert_key nat_cmp (places_of (broken_by fields) names) i ≡ places_of (broken_by (fields ++ piece ∷ [])) names
-  broken-more names i once old at =
-      let place : 0 + i ≡ i = omega arith in
-      ap (insert_key nat_cmp (places_of (broken_by fields) names)) (sym place) ∙ insert_place (broken_by fields) 0 (name_of piece) i names (are_once names once) at
-      ∙ places_agree 0 (or_is (broken_by fields) (name_of piece)) (broken_by (fields ++ piece ∷ []))
-      (λ name. ap (λ b. broken_by fields name || (b && bytes_eq (name_of piece) name)) (sym old) ∙ sym (broken-push name)) names
-
--- nothing is broken before the first
-pub broken_none : (has_seen : List ℕ → List ℕ → Bool) (at : ℕ) (names : List (List ℕ)) → [] ≡ places_from at (has_broken has_seen []) names
-broken_none has_seen at [] = refl
-broken_none has_seen at (name ∷ names) = broken_none has_seen (at + 1) names
-
 -- as a loop takes the elements
 module _ (has_seen : List ℕ → List ℕ → Bool) (elements : List Element) (i : ℕ) (d : Element) (within : i < length elements) (names : List (List ℕ)) where
   abbrev element : Element
@@ -244,11 +115,13 @@ module _ (has_seen : List ℕ → List ℕ → Bool) (elements : List Element) (
   up_to_next = ap (λ l. places_of (has_broken has_seen l) names) (sym (map_more piece_of elements i d within))
 
   pub broken_passed : is_repeated ≡ false → places_up_to i ≡ places_up_to (i + 1)
-  broken_passed new = sym (broken-same has_seen (pieces_of (take i elements)) (piece_of element) names new) ∙ up_to_next
+  broken_passed new = places_kept _ _ is_repeated (name_of (piece_of element)) names (broken-push has_seen (pieces_of (take i elements)) (piece_of element)) new ∙ up_to_next
 
   pub broken_met : (place : ℕ) → distinct names ≡ names → is_repeated ≡ true → position (bytes_eq (name_of (piece_of element))) names ≡ Some place
       → insert_key nat_cmp (places_up_to i) place ≡ places_up_to (i + 1)
-  broken_met place once old at = broken-more has_seen (pieces_of (take i elements)) (piece_of element) names place once old at ∙ up_to_next
+  broken_met place once old at =
+      ap (λ b. cond b (insert_key nat_cmp (places_up_to i) place) (places_up_to i)) (sym old)
+      ∙ places_next _ _ is_repeated (name_of (piece_of element)) names place (broken-push has_seen (pieces_of (take i elements)) (piece_of element)) once at ∙ up_to_next
 
 -- ---- values that are seen
 
@@ -294,11 +167,8 @@ module _ (names : List (List ℕ)) (piece : Piece) (name value : List ℕ) (amon
   -- a field of another name adds none
   pub seen_other : (at : List ℕ → ℕ → Bool) → position (bytes_eq (name_of piece)) names ≡ None → seen_by at names name value ≡ (seen_by at names name value || is_own)
   seen_other at none =
-      let apart : bytes_eq (name_of piece) name ≡ false = elim (cases_Bool (bytes_eq (name_of piece) name)) [
-        | inl same ↦ absurd (false≢true (sym (list_any-position (bytes_eq (name_of piece)) names none) ∙ ap (is_among names) (same_bytes (name_of piece) name same) ∙ among))
-        | inr other ↦ other
-      ] in
-      sym (ap (λ b. seen_by at names name value || b) (is_own-is ∙ ap (λ b. b && bytes_eq value (value_of piece)) apart) ∙ or-false (seen_by at names name value))
+      let other : bytes_eq (name_of piece) name ≡ false = apart (name_of piece) names none name among in
+      sym (ap (λ b. seen_by at names name value || b) (is_own-is ∙ ap (λ b. b && bytes_eq value (value_of piece)) other) ∙ or-false (seen_by at names name value))
 
   pub seen_own : (old new : List ℕ → ℕ → Bool) (i : ℕ) → position (bytes_eq (name_of piece)) names ≡ Some i
       → ((value : List ℕ) (place : ℕ) → new value place ≡ (old value place || (eqb place i && bytes_eq value (value_of piece))))
@@ -309,10 +179,6 @@ module _ (names : List (List ℕ)) (piece : Piece) (name value : List ℕ) (amon
       let here : (at : List ℕ → ℕ → Bool) → seen_by at names name value ≡ at value k = λ at. ap (λ o. option_map_or (at value) o false) place.1 in
       here new ∙ put value k ∙ ap (λ b. old value k || (b && bytes_eq value (value_of piece))) (same_place names name (name_of piece) k i place.1 at ∙ bytes_eq-sym name (name_of piece))
       ∙ ap₂ ◌||◌ (sym (here old)) (sym is_own-is)
-
-pub no_option : {X : Type 0} (option : Option X) → ((x : X) → option ≡ Some x → ⊥) → option ≡ None
-no_option None none = refl
-no_option (Some x) none = absurd (none x refl)
 
 -- the place of a value that was seen
 repeated_at : (at : ℕ → Bool) (place : Option ℕ) → cond (option_map_or at place false) place None ≡ None → option_map_or at place false ≡ false

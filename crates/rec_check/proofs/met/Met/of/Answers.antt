@@ -1,11 +1,12 @@
-use Rattle.std.proofs.Common.{◌∙◌, ap, position, sym}
+use Rattle.std.proofs.Common.{◌∙◌, ap, position, refl, sym}
 use Rattle.std.specs.Str.{bytes_eq}
-use Rattle.rec_check.proofs.MetLemmas.{met_more, met_other, no_option, none_again, none_once}
+use Rattle.rec_check.proofs.MetLemmas.{met_more, met_other}
 use Rattle.rec_check.proofs.NameLemmas.{no_element}
+use Rattle.rec_check.proofs.NamePlaceLemmas.{no_option, no_places}
 use Rattle.rec_check.proofs.met.Met.of.Goals as goal
 
 pub loop-field-init : goal.loop-field-init
-loop-field-init c = λ once. record { once = c.new.ensures.empty ∙ none_once 0 c.args.names.now; again = c.new-2.ensures.empty ∙ none_again 0 c.args.names.now }
+loop-field-init c = λ once. record { once = c.new.ensures.empty ∙ no_places _ (λ name. refl) 0 c.args.names.now; again = c.new-2.ensures.empty ∙ no_places _ (λ name. refl) 0 c.args.names.now }
 
 pub loop-field-preserved-in_default : goal.loop-field-preserved-in_default
 loop-field-preserved-in_default c = λ once.

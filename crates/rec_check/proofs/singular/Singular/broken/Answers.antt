@@ -1,4 +1,4 @@
-use Rattle.std.proofs.Common.{◌∙◌, ap, get_or, sym}
+use Rattle.std.proofs.Common.{◌∙◌, ap, get_or, refl, sym}
 use Rattle.std.specs.BTreeSet.{insert_key}
 use Rattle.std.specs.Ordering.{nat_cmp}
 use Rattle.rec_text.specs.Elements.{name_of}
@@ -6,11 +6,12 @@ use Rattle.rec_text.specs.Places.{piece_of}
 use Rattle.rec_text.specs.Values.{value_of}
 use Rattle.rec_check.specs.Singulars.{has_seen, has_seen_at}
 use Rattle.rec_check.proofs.NameLemmas.{no_element}
-use Rattle.rec_check.proofs.SingularLemmas.{broken_met, broken_none, broken_passed, no_option, not_repeated, repeated}
+use Rattle.rec_check.proofs.NamePlaceLemmas.{no_option, no_places}
+use Rattle.rec_check.proofs.SingularLemmas.{broken_met, broken_passed, not_repeated, repeated}
 use Rattle.rec_check.proofs.singular.Singular.broken.Goals as goal
 
 pub loop-field-init : goal.loop-field-init
-loop-field-init c = λ once. c.new-broken.ensures.empty ∙ broken_none (has_seen c.args.self.now) 0 c.args.self.now.names
+loop-field-init c = λ once. c.new-broken.ensures.empty ∙ no_places _ (λ name. refl) 0 c.args.self.now.names
 
 pub loop-field-preserved-in_default : goal.loop-field-preserved-in_default
 loop-field-preserved-in_default c = λ once.

@@ -7,7 +7,8 @@ use Rattle.rec_text.specs.Values.{value_of}
 use Rattle.rec_check.specs.Singulars.{has_seen, has_seen_at}
 use Rattle.rec_check.specs.Words.{is_among}
 use Rattle.rec_check.proofs.NameLemmas.{no_element}
-use Rattle.rec_check.proofs.SingularLemmas.{no_option, seen-put, seen_more, seen_other, seen_own}
+use Rattle.rec_check.proofs.NamePlaceLemmas.{no_option}
+use Rattle.rec_check.proofs.SingularLemmas.{seen-put, seen_more, seen_other, seen_own}
 use Rattle.rec_check.proofs.singular.Singular.take.Goals as goal
 
 pub loop-field-preserved-in_default : goal.loop-field-preserved-in_default

@@ -1,34 +1,28 @@
 -- The places of names that a record has, field by field, and the names that stand at places.
-use Rattle.std.proofs.Common.{◌≡◌, ◌∙◌, inl, inr, ℕ, zero, suc, ◌+◌, ◌<◌, Bool, true, false, ◌||◌, ◌&&◌, not, cond, List, [], ◌∷◌, ◌++◌, filter, length, position, take, get_or, Some, None, refl, ap, ap₂, sym, arith, append_assoc}
+use Rattle.std.proofs.Common.{◌≡◌, ◌∙◌, inl, inr, ℕ, zero, suc, ◌+◌, ◌<◌, Bool, true, false, ◌||◌, ◌&&◌, not, cond, List, [], ◌∷◌, ◌++◌, filter, length, position, take, get_or, Some, None, refl, ap, ap₂, sym, arith}
 use Rattle.std.proofs.lemmas.Bool.{cases_Bool, le-leb, ne_eqb, or_left}
-use Rattle.std.proofs.lemmas.List.{append-nil, length-map, map-append, map_more}
-use Rattle.std.proofs.lemmas.List.Elements.{filter_agree, filter-append}
+use Rattle.std.proofs.lemmas.List.{map_more}
+use Rattle.std.proofs.lemmas.List.Elements.{filter_agree}
 use Rattle.std.proofs.lemmas.List.Quantifiers.{position-Some}
-use Rattle.std.proofs.lemmas.Option.{get_or_from_slice_get, slice_get-get_or, slice_get-map}
 use Rattle.std.proofs.Math.Bool.{and-false}
 use Rattle.std.specs.BTreeMap.{is_at}
 use Rattle.std.specs.BTreeSet.{insert_key}
-use Rattle.std.specs.Borrow.{Bor}
-use Rattle.std.specs.List.{cons_option, filter_map, list_any, slice_get}
-use Rattle.std.specs.Option.{option_map}
+use Rattle.std.specs.List.{enumerate_from, filter_map, list_any, slice_get}
 use Rattle.std.specs.Ordering.{nat_cmp}
 use Rattle.std.specs.Prelude.{◌==◌, nat_le}
 use Rattle.std.specs.Str.{bytes_eq}
 use Rattle.rec_text.specs.declared.element.Element.{Element}
-use Rattle.rec_text.specs.declared.violations.Rule.{Rule}
-use Rattle.rec_text.specs.declared.violations.Rule.TheVariants.{Mandatory}
-use Rattle.rec_text.specs.declared.violations.Violation.{Violation}
 use Rattle.rec_text.specs.Elements.{Piece, name_of}
 use Rattle.rec_text.specs.Places.{piece_of, pieces_of}
 use Rattle.rec_text.proofs.ListLemmas.{same_bytes}
 use Rattle.rec_check.specs.declared.limit.Limit.{Limit}
 use Rattle.rec_check.specs.declared.limit.Limit.TheVariants.{Present}
 use Rattle.rec_check.specs.declared.met.Met.{Met}
-use Rattle.rec_check.specs.Checks.{texts, rule_of, breaks_limit, limit_violations}
+use Rattle.rec_check.specs.Checks.{breaking, breaks_limit}
 use Rattle.rec_check.specs.Met.{places_of, occurs, AreMet}
-use Rattle.rec_check.specs.Violations.{occurrences, violation, violations_of}
+use Rattle.rec_check.specs.Violations.{occurrences}
 use Rattle.rec_check.specs.Words.{distinct}
-use Rattle.rec_check.proofs.NamePlaceLemmas.{apart, holds_place, names_at, places_agree, places_next}
+use Rattle.rec_check.proofs.NamePlaceLemmas.{apart, beside, holds_place, names_at, names_besides, places_agree, places_next}
 
 -- ---- one field more
 
@@ -115,72 +109,21 @@ module _ (elements : List Element) (i : ℕ) (d : Element) (within : i < length 
         ∙ again_inserted (pieces_of (take i elements)) piece_at names place once at ∙ up_to_next 2;
   }
 
--- ---- what is reported
-
--- those of the names that stand at some places, as a loop takes these
-module _ (line : ℕ) (rule : Rule) (names : List (List ℕ)) (all : List (Bor (List ℕ))) (are : texts all ≡ names) (place : ℕ) (left next : List ℕ) (taken : left ≡ place ∷ next)
-    (whole found : List Violation) (so_far : whole ≡ found ++ violations_of line rule (filter_map (slice_get names) left)) where
-  with_next : whole ≡ found ++ violations_of line rule (cons_option (option_map (λ one. one.now) (slice_get all place)) (filter_map (slice_get names) next))
-  with_next =
-      so_far ∙ ap (λ l. found ++ violations_of line rule (filter_map (slice_get names) l)) taken
-      ∙ ap (λ o. found ++ violations_of line rule (cons_option o (filter_map (slice_get names) next))) (ap (λ l. slice_get l place) (sym are) ∙ slice_get-map (λ one. one.now) all place)
-
-  pub none_there : slice_get all place ≡ None → whole ≡ found ++ violations_of line rule (filter_map (slice_get names) next)
-  none_there none = with_next ∙ ap (λ o. found ++ violations_of line rule (cons_option (option_map (λ one. one.now) o) (filter_map (slice_get names) next))) none
-
-  pub name_there : (name : Bor (List ℕ)) (asked : Rule) (new : List Violation) → slice_get all place ≡ Some name → asked ≡ rule → new ≡ found ++ violation line asked name.now ∷ []
-      → whole ≡ new ++ violations_of line rule (filter_map (slice_get names) next)
-  name_there name asked new there is added =
-      with_next ∙ ap (λ o. found ++ violations_of line rule (cons_option (option_map (λ one. one.now) o) (filter_map (slice_get names) next))) there
-      ∙ sym (append_assoc found (violation line rule name.now ∷ []) (violations_of line rule (filter_map (slice_get names) next)))
-      ∙ ap (λ l. l ++ violations_of line rule (filter_map (slice_get names) next)) (ap (λ r. found ++ violation line r name.now ∷ []) (sym is) ∙ sym added)
-
--- those that stand at none of these places, as a loop takes the names
-module _ (line : ℕ) (rule : Rule) (test : List ℕ → Bool) (names : List (List ℕ)) (all : List (Bor (List ℕ))) (are : texts all ≡ names) (places : List ℕ) (were : places ≡ places_of test names)
-    (i : ℕ) (d : Bor (List ℕ)) (within : i < length all) (whole found : List Violation) where
-  abbrev reported : ℕ → List Violation
-  reported n = violations_of line rule (filter (λ name. not (test name)) (texts (take n all)))
-
-  abbrev name_at : List ℕ
-  name_at = (get_or all i d).now
-
-  is_there : list_any (is_at (nat_cmp i)) places ≡ test name_at
-  is_there =
-      let inside : i < length names = omega (arith, ap length are, length-map all (λ one. one.now)) in
-      let here : slice_get names i ≡ Some name_at = ap (λ l. slice_get l i) (sym are) ∙ slice_get-map (λ one. one.now) all i ∙ ap (option_map (λ one. one.now)) (slice_get-get_or all i d within) in
-      ap (list_any (is_at (nat_cmp i))) were ∙ holds_place test names i inside ∙ ap test (get_or_from_slice_get names i name_at [] here)
-
-  reported_next : reported (i + 1) ≡ reported i ++ violations_of line rule (cond (not (test name_at)) (name_at ∷ []) [])
-  reported_next =
-      ap (λ l. violations_of line rule (filter (λ name. not (test name)) l)) (map_more (λ one. one.now) all i d within)
-      ∙ ap (violations_of line rule) (filter-append (λ name. not (test name)) (texts (take i all)) (name_at ∷ []))
-      ∙ map-append (violation line rule) (filter (λ name. not (test name)) (texts (take i all))) (cond (not (test name_at)) (name_at ∷ []) [])
-
-  pub there_passed : list_any (is_at (nat_cmp i)) places ≡ true → found ≡ whole ++ reported i → found ≡ whole ++ reported (i + 1)
-  there_passed there so_far =
-      so_far ∙ ap (λ l. whole ++ l) (sym (reported_next ∙ ap (λ b. reported i ++ violations_of line rule (cond (not b) (name_at ∷ []) [])) (sym is_there ∙ there) ∙ append-nil (reported i)))
-
-  pub missing_added : (name : List ℕ) (asked : Rule) (new : List Violation) → list_any (is_at (nat_cmp i)) places ≡ false → found ≡ whole ++ reported i → name ≡ name_at → asked ≡ rule
-      → new ≡ found ++ violation line asked name ∷ [] → new ≡ whole ++ reported (i + 1)
-  missing_added name asked new missing so_far is rules added =
-      added ∙ ap₂ (λ r n. found ++ violation line r n ∷ []) rules is ∙ ap (λ l. l ++ violation line rule name_at ∷ []) so_far ∙ append_assoc whole (reported i) (violation line rule name_at ∷ [])
-      ∙ ap (λ l. whole ++ l) (sym (reported_next ∙ ap (λ b. reported i ++ violations_of line rule (cond (not b) (name_at ∷ []) [])) (sym is_there ∙ missing)))
+-- ---- the names that break a limit
 
 not_once : (n : ℕ) → not (nat_le 1 n) ≡ (n == 0)
 not_once zero = refl
 not_once (suc n) = ap not (le-leb 1 (suc n) (omega arith)) ∙ sym (ne_eqb (suc n) 0 (λ same. absurd (omega (arith, same))))
 
-module _ (limit : Limit) (line : ℕ) (names : List (List ℕ)) (fields : List Piece) where
+module _ (limit : Limit) (names : List (List ℕ)) (fields : List Piece) where
   -- those that occur so often
-  pub reported_at : (least : ℕ) (places : List ℕ) → places ≡ places_of (occurs least fields) names → breaks_limit limit ≡ nat_le least
-      → violations_of line (rule_of limit) (filter_map (slice_get names) places) ≡ limit_violations limit names line fields
-  reported_at least places are breaks =
-      ap (λ l. violations_of line (rule_of limit) (filter_map (slice_get names) l)) are ∙ ap (violations_of line (rule_of limit)) (names_at (occurs least fields) names)
-      ∙ ap (λ breaks. violations_of line (rule_of limit) (filter (λ name. breaks (occurrences fields name)) names)) (sym breaks)
+  pub breaking_at : (least : ℕ) (places : List ℕ) → places ≡ places_of (occurs least fields) names → breaks_limit limit ≡ nat_le least → filter_map (slice_get names) places ≡ breaking limit names fields
+  breaking_at least places are breaks =
+      ap (filter_map (slice_get names)) are ∙ names_at (occurs least fields) names ∙ ap (λ breaks. filter (λ name. breaks (occurrences fields name)) names) (sym breaks)
 
   -- those that don't occur
-  pub reported_missing : limit ≡ Present → violations_of line (rule_of limit) (filter (λ name. not (occurs 1 fields name)) names) ≡ limit_violations limit names line fields
-  reported_missing is =
-      ap (λ l. violations_of line (rule_of l) (filter (λ name. not (occurs 1 fields name)) names)) is
-      ∙ ap (violations_of line Mandatory) (filter_agree (λ name. not (occurs 1 fields name)) (λ name. occurrences fields name == 0) (λ name. not_once (occurrences fields name)) names)
-      ∙ sym (ap (λ l. limit_violations l names line fields) is)
+  pub breaking_besides : (places : List ℕ) → places ≡ places_of (occurs 1 fields) names → limit ≡ Present → filter_map (beside places) (enumerate_from 0 names) ≡ breaking limit names fields
+  breaking_besides places are is =
+      ap (λ l. filter_map (beside l) (enumerate_from 0 names)) are ∙ names_besides (occurs 1 fields) names
+      ∙ filter_agree (λ name. not (occurs 1 fields name)) (λ name. occurrences fields name == 0) (λ name. not_once (occurrences fields name)) names
+      ∙ ap (λ l. breaking l names fields) (sym is)

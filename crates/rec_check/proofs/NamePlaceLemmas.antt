@@ -1,5 +1,8 @@
 -- The places of names that pass a test, in a list where each name stands once, and the names at these places.
-use Rattle.std.proofs.Common.{◌≡◌, ◌∙◌, inl, inr, ℕ, zero, suc, ◌+◌, ◌<◌, Bool, true, false, ◌||◌, ◌&&◌, not, cond, List, [], ◌∷◌, drop, filter, get_or, length, position, Option, Some, None, refl, ap, ap₂, sym, arith}
+use Rattle.std.proofs.Common.{◌≡◌, ◌∙◌, inl, inr, ℕ, zero, suc, ◌+◌, ◌<◌, Bool, true, false, ◌||◌, ◌&&◌, not, cond, List, [], ◌∷◌, ◌++◌, drop, take, append_assoc, filter, get_or, length, position, Option, Some, None, refl, ap, ap₂, sym, arith}
+use Rattle.std.proofs.lemmas.List.{append-nil, length-map, length-take-le, map_more, map_push}
+use Rattle.std.proofs.lemmas.List.Elements.{filter_map-append}
+use Rattle.std.proofs.lemmas.Option.{get_or_from_slice_get, slice_get-map, slice_get_within}
 use Rattle.std.proofs.lemmas.Bool.{cases_Bool, false≢true, or_left, or_parts, or_right}
 use Rattle.std.proofs.lemmas.List.Folds.{list_any_at}
 use Rattle.std.proofs.lemmas.List.Quantifiers.{position-Some}
@@ -7,13 +10,17 @@ use Rattle.std.proofs.Math.Bool.{or-false}
 use Rattle.std.specs.BTreeMap.{is_at}
 use Rattle.std.specs.BTreeSet.{insert_key}
 use Rattle.std.specs.Cmp.{nat_cmp_is}
-use Rattle.std.specs.List.{cons_option, filter_map, list_any, slice_get}
+use Rattle.std.specs.Borrow.{Bor}
+use Rattle.std.specs.List.{cons_option, enumerate_from, filter_map, list_any, slice_get}
+use Rattle.std.specs.Option.{option_map}
 use Rattle.std.specs.Ordering.{nat_cmp}
 use Rattle.std.specs.Str.{bytes_eq}
 use Rattle.std.specs.declared.cmp.Ordering.TheVariants.{Less, Equal, Greater}
 use Rattle.rec_text.proofs.ListLemmas.{same_bytes, bytes_eq-self}
+use Rattle.rec_check.specs.Checks.{texts}
 use Rattle.rec_check.specs.Met.{places_from, places_of}
 use Rattle.rec_check.specs.Words.{distinct, is_among}
+use Rattle.rec_check.proofs.FittingLemmas.{enumerate_from-append}
 use Rattle.rec_check.proofs.NameLemmas.{filter-distinct, distinct-distinct}
 use Rattle.rec_check.proofs.TypeLemmas.{list_any-position}
 
@@ -55,6 +62,10 @@ places_agree at p q (name ∷ names) agree =
 pub no_places : (test : List ℕ → Bool) → ((name : List ℕ) → test name ≡ false) → (at : ℕ) (names : List (List ℕ)) → [] ≡ places_from at test names
 no_places test none at [] = refl
 no_places test none at (name ∷ names) = rw (none name) (no_places test none (at + 1) names)
+
+-- a place is among these
+abbrev holds : List ℕ → ℕ → Bool
+holds places place = list_any (is_at (nat_cmp place)) places
 
 -- one more name passes the test
 abbrev or_is : (List ℕ → Bool) → List ℕ → List ℕ → Bool
@@ -101,9 +112,6 @@ module _ (test : List ℕ → Bool) where
         | inl passes ↦ rw (passes, greater) (ap (λ l. at ∷ l) rest)
         | inr fails ↦ rw (fails, other) rest
       ]
-
-  abbrev holds : List ℕ → ℕ → Bool
-  holds places place = list_any (is_at (nat_cmp place)) places
 
   -- no place stands before the first
   holds_past : (at low : ℕ) (names : List (List ℕ)) → low < at → holds (places_from at test names) low ≡ false
@@ -155,17 +163,85 @@ places_next test next true name names i grows once at =
     ∙ places_agree 0 (or_is test name) next names (λ other among. sym (grows other))
 places_next test next false name names i grows once at = places_kept test next false name names grows refl
 
--- the names that stand at these places
+-- ---- the names at places, and those beside them
+
+-- a name, where its place is none of these
+abbrev pub beside : List ℕ → ℕ × List ℕ → Option (List ℕ)
+beside places (place, name) = cond (holds places place) None (Some name)
+
+-- the names of a list from a place on
+abbrev StandFrom : List (List ℕ) → ℕ → List (List ℕ) → Type 0
+StandFrom all at names = (k : ℕ) → slice_get all (at + k) ≡ slice_get names k
+
 module _ (test : List ℕ → Bool) (all : List (List ℕ)) where
-  names_from : (at : ℕ) (names : List (List ℕ)) → ((k : ℕ) → slice_get all (at + k) ≡ slice_get names k) → filter_map (slice_get all) (places_from at test names) ≡ filter test names
+  first_stands : (at : ℕ) (name : List ℕ) (names : List (List ℕ)) → StandFrom all at (name ∷ names) → slice_get all at ≡ Some name
+  first_stands at name names stand = let none : at ≡ at + 0 = omega arith in ap (slice_get all) none ∙ stand 0
+
+  others_stand : (at : ℕ) (name : List ℕ) (names : List (List ℕ)) → StandFrom all at (name ∷ names) → StandFrom all (at + 1) names
+  others_stand at name names stand k = let next : at + 1 + k ≡ at + suc k = omega arith in ap (slice_get all) next ∙ stand (suc k)
+
+  names_from : (at : ℕ) (names : List (List ℕ)) → StandFrom all at names → filter_map (slice_get all) (places_from at test names) ≡ filter test names
   names_from at [] stand = refl
   names_from at (name ∷ names) stand =
-      let here : slice_get all at ≡ Some name = (let none : at ≡ at + 0 = omega arith in ap (slice_get all) none ∙ stand 0) in
-      let rest = names_from (at + 1) names (λ k. (let next : at + 1 + k ≡ at + suc k = omega arith in ap (slice_get all) next ∙ stand (suc k))) in
+      let rest = names_from (at + 1) names (others_stand at name names stand) in
       elim (cases_Bool (test name)) [
-        | inl passes ↦ rw passes (ap (λ o. cons_option o (filter_map (slice_get all) (places_from (at + 1) test names))) here ∙ ap (λ l. name ∷ l) rest)
+        | inl passes ↦ rw passes (ap₂ cons_option (first_stands at name names stand) rest)
         | inr fails ↦ rw fails rest
       ]
 
+  besides_from : (at : ℕ) (names : List (List ℕ)) → StandFrom all at names → filter_map (beside (places_of test all)) (enumerate_from at names) ≡ filter (λ name. not (test name)) names
+  besides_from at [] stand = refl
+  besides_from at (name ∷ names) stand =
+      let here = first_stands at name names stand in
+      let held : holds (places_of test all) at ≡ test name = holds_place test all at (slice_get_within all at name here) ∙ ap test (get_or_from_slice_get all at name [] here) in
+      ap₂ (λ b l. cons_option (cond b None (Some name)) l) held (besides_from (at + 1) names (others_stand at name names stand))
+      ∙ elim (cases_Bool (test name)) [ inl passes ↦ rw passes refl | inr fails ↦ rw fails refl ]
+
+  all_stand : StandFrom all 0 all
+  all_stand k = let same : 0 + k ≡ k = omega arith in ap (slice_get all) same
+
   pub names_at : filter_map (slice_get all) (places_of test all) ≡ filter test all
-  names_at = names_from 0 all (λ k. (let same : 0 + k ≡ k = omega arith in ap (slice_get all) same))
+  names_at = names_from 0 all all_stand
+
+  pub names_besides : filter_map (beside (places_of test all)) (enumerate_from 0 all) ≡ filter (λ name. not (test name)) all
+  names_besides = besides_from 0 all all_stand
+
+-- as a loop takes the places
+module _ (names : List (List ℕ)) (all found : List (Bor (List ℕ))) (place : ℕ) (left next : List ℕ) (whole : List (List ℕ)) (are : texts all ≡ names) (taken : left ≡ place ∷ next)
+    (so_far : whole ≡ texts found ++ filter_map (slice_get names) left) where
+  stands : slice_get names place ≡ option_map (λ one. one.now) (slice_get all place)
+  stands = ap (λ l. slice_get l place) (sym are) ∙ slice_get-map (λ one. one.now) all place
+
+  with_next : whole ≡ texts found ++ cons_option (option_map (λ one. one.now) (slice_get all place)) (filter_map (slice_get names) next)
+  with_next = so_far ∙ ap (λ l. texts found ++ filter_map (slice_get names) l) taken ∙ ap (λ o. texts found ++ cons_option o (filter_map (slice_get names) next)) stands
+
+  pub name_more : (name : Bor (List ℕ)) (new : List (Bor (List ℕ))) → slice_get all place ≡ Some name → new ≡ found ++ name ∷ [] → whole ≡ texts new ++ filter_map (slice_get names) next
+  name_more name new there added =
+      with_next ∙ ap (λ o. texts found ++ cons_option (option_map (λ one. one.now) o) (filter_map (slice_get names) next)) there
+      ∙ sym (append_assoc (texts found) (name.now ∷ []) (filter_map (slice_get names) next))
+      ∙ ap (λ l. l ++ filter_map (slice_get names) next) (sym (ap texts added ∙ map_push (λ one. one.now) found name))
+
+-- as a loop takes the names
+module _ (places : List ℕ) (all found : List (Bor (List ℕ))) (i : ℕ) (d : Bor (List ℕ)) (within : i < length all) where
+  abbrev besides : ℕ → List (List ℕ)
+  besides n = filter_map (beside places) (enumerate_from 0 (texts (take n all)))
+
+  abbrev own : Bor (List ℕ)
+  own = get_or all i d
+
+  besides_next : besides (i + 1) ≡ besides i ++ cond (holds places i) [] (own.now ∷ [])
+  besides_next =
+      let front : List (List ℕ) = texts (take i all) in
+      let size : 0 + length front ≡ i = omega (arith, length-map (take i all) (λ one. one.now), length-take-le i all (omega arith)) in
+      ap (λ l. filter_map (beside places) (enumerate_from 0 l)) (map_more (λ one. one.now) all i d within)
+      ∙ ap (filter_map (beside places)) (enumerate_from-append 0 front (own.now ∷ []) ∙ ap (λ k. enumerate_from 0 front ++ (k, own.now) ∷ []) size)
+      ∙ filter_map-append (beside places) (enumerate_from 0 front) ((i, own.now) ∷ [])
+      ∙ ap (λ l. besides i ++ l) (elim (cases_Bool (holds places i)) [ inl held ↦ rw held refl | inr none ↦ rw none refl ])
+
+  module _ (so_far : texts found ≡ besides i) where
+    pub beside_passed : holds places i ≡ true → texts found ≡ besides (i + 1)
+    beside_passed held = so_far ∙ sym (besides_next ∙ ap (λ b. besides i ++ cond b [] (own.now ∷ [])) held ∙ append-nil (besides i))
+
+    pub beside_added : (new : List (Bor (List ℕ))) → holds places i ≡ false → new ≡ found ++ own ∷ [] → texts new ≡ besides (i + 1)
+    beside_added new none added =
+        ap texts added ∙ map_push (λ one. one.now) found own ∙ ap (λ l. l ++ own.now ∷ []) so_far ∙ sym (besides_next ∙ ap (λ b. besides i ++ cond b [] (own.now ∷ [])) none)

@@ -1,17 +1,16 @@
 -- The values that records of a set have in its singular fields.
-use Rattle.std.proofs.Common.{◌≡◌, ◌∙◌, inl, inr, ℕ, ◌+◌, ◌<◌, Bool, true, false, ◌||◌, ◌&&◌, cond, eqb, List, [], ◌∷◌, ◌++◌, filter, length, position, take, get_or, Option, Some, None, refl, ap, ap₂, sym, append_assoc}
+use Rattle.std.proofs.Common.{◌≡◌, ◌∙◌, inl, inr, ℕ, ◌+◌, ◌<◌, Bool, true, false, ◌||◌, ◌&&◌, cond, eqb, List, [], ◌∷◌, ◌++◌, filter, length, position, take, get_or, Option, Some, None, refl, ap, ap₂, sym}
 use Rattle.std.proofs.lemmas.Bool.{and_parts, cases_Bool, eq-eqb, eqb-true, false≢true, or_left}
-use Rattle.std.proofs.lemmas.List.{map_more, map_push}
+use Rattle.std.proofs.lemmas.List.{map_more}
 use Rattle.std.proofs.lemmas.List.Folds.{list_any-append}
 use Rattle.std.proofs.lemmas.List.Quantifiers.{position-Some}
 use Rattle.std.proofs.lemmas.List.Sorted.{list_any-IsPermutation}
-use Rattle.std.proofs.lemmas.Option.{none-some, same_Some, slice_get-map}
+use Rattle.std.proofs.lemmas.Option.{none-some, same_Some}
 use Rattle.std.proofs.Math.Bool.{and-false, and-true, or-false, or_assoc}
 use Rattle.std.specs.BTreeSet.{insert_key}
-use Rattle.std.specs.Borrow.{Bor}
 use Rattle.std.specs.HashSet.{HashSet, PutsKey}
-use Rattle.std.specs.List.{cons_option, filter_map, list_any, slice_get}
-use Rattle.std.specs.Option.{option_map, option_map_or}
+use Rattle.std.specs.List.{filter_map, list_any, slice_get}
+use Rattle.std.specs.Option.{option_map_or}
 use Rattle.std.specs.Ordering.{nat_cmp}
 use Rattle.std.specs.Str.{bytes_eq}
 use Rattle.rec_text.specs.declared.element.Element.{Element}
@@ -20,7 +19,6 @@ use Rattle.rec_text.specs.Places.{piece_of, pieces_of}
 use Rattle.rec_text.specs.Values.{value_of}
 use Rattle.rec_text.proofs.ListLemmas.{same_bytes, bytes_eq-self}
 use Rattle.rec_sex.specs.Meaning.{values_of}
-use Rattle.rec_check.specs.Checks.{texts}
 use Rattle.rec_check.specs.Met.{places_of}
 use Rattle.rec_check.specs.Violations.{breaks_singular, stands_in}
 use Rattle.rec_check.specs.Words.{distinct, is_among}
@@ -45,24 +43,6 @@ same_place names a b i j at_a at_b =
         | inr two ↦ two ∙ sym apart
       ]
     ]
-
--- as a loop takes the places
-module _ (names : List (List ℕ)) (all found : List (Bor (List ℕ))) (place : ℕ) (left next : List ℕ) (whole : List (List ℕ)) (are : texts all ≡ names) (taken : left ≡ place ∷ next)
-    (so_far : whole ≡ texts found ++ filter_map (slice_get names) left) where
-  stands : slice_get names place ≡ option_map (λ one. one.now) (slice_get all place)
-  stands = ap (λ l. slice_get l place) (sym are) ∙ slice_get-map (λ one. one.now) all place
-
-  with_next : whole ≡ texts found ++ cons_option (option_map (λ one. one.now) (slice_get all place)) (filter_map (slice_get names) next)
-  with_next = so_far ∙ ap (λ l. texts found ++ filter_map (slice_get names) l) taken ∙ ap (λ o. texts found ++ cons_option o (filter_map (slice_get names) next)) stands
-
-  pub none_more : slice_get all place ≡ None → whole ≡ texts found ++ filter_map (slice_get names) next
-  none_more none = with_next ∙ ap (λ o. texts found ++ cons_option (option_map (λ one. one.now) o) (filter_map (slice_get names) next)) none
-
-  pub name_more : (name : Bor (List ℕ)) (new : List (Bor (List ℕ))) → slice_get all place ≡ Some name → new ≡ found ++ name ∷ [] → whole ≡ texts new ++ filter_map (slice_get names) next
-  name_more name new there added =
-      with_next ∙ ap (λ o. texts found ++ cons_option (option_map (λ one. one.now) o) (filter_map (slice_get names) next)) there
-      ∙ sym (append_assoc (texts found) (name.now ∷ []) (filter_map (slice_get names) next))
-      ∙ ap (λ l. l ++ filter_map (slice_get names) next) (sym (ap texts added ∙ map_push (λ one. one.now) found name))
 
 -- ---- one record
 

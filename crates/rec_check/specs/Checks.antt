@@ -29,8 +29,12 @@ breaks_limit Present count = count == 0
 breaks_limit Absent count = nat_le 1 count
 breaks_limit Single count = nat_le 2 count
 
+-- those of the names that break the limit in a record
+abbrev pub breaking : Limit → List (List ℕ) → List Piece → List (List ℕ)
+breaking limit names fields = filter (λ name. breaks_limit limit (occurrences fields name)) names
+
 abbrev pub limit_violations : Limit → List (List ℕ) → ℕ → List Piece → List Violation
-limit_violations limit names line fields = violations_of line (rule_of limit) (filter (λ name. breaks_limit limit (occurrences fields name)) names)
+limit_violations limit names line fields = violations_of line (rule_of limit) (breaking limit names fields)
 
 -- ---- constraints
 

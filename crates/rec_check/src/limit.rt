@@ -1,11 +1,10 @@
 //! How often names occur in a record.
 
-use crate::found::add_violation;
+use crate::found::add_violations;
 use crate::met::Met;
 use crate::names::Names;
 use rec_text::{Bytes, Element, Fault, Rule, Violation, count_of};
 use std::alloc::Global;
-use std::collections::BTreeSet;
 
 /// How many names are counted one by one in a record.
 const FEW: usize = 8;
@@ -59,11 +58,9 @@ pub(crate) struct Limited<'r> {
 }
 
 impl<'r> Limited<'r> {
-    ghost use Rattle.std.specs.Prelude.{◌≡◌, ◌++◌, ℕ, Bool, List, filter, filter_map, not, slice_get, IfErr, IfOk, OnOk};
+    ghost use Rattle.std.specs.Prelude.{◌≡◌, ◌++◌, IfErr, IfOk, OnOk};
     ghost use Rattle.rec_text.specs.Places.{pieces_of};
-    ghost use Rattle.rec_check.specs.Checks.{limit_violations, rule_of};
-    ghost use Rattle.rec_check.specs.Met.{places_of};
-    ghost use Rattle.rec_check.specs.Violations.{violations_of};
+    ghost use Rattle.rec_check.specs.Checks.{breaking, limit_violations, texts};
     ghost use Rattle.rec_check.specs.Words.{distinct};
 
     pub(crate) fn of(alloc: Global, limit: Limit, names: &'r [Bytes]) -> Result<Limited<'r>, Fault>
@@ -75,84 +72,42 @@ impl<'r> Limited<'r> {
         Ok(Limited { limit, names })
     }
 
-    /// Adds a violation for each of the names that breaks the limit in a record, where they are few.
-    fn check_each(
-        &self,
-        alloc: Global,
-        line: usize,
-        fields: &[Element],
-        found: &mut Vec<Violation>,
-    ) -> Result<(), Fault>
-        ensures added { OnOk result (found.new.items ≡ found.old.items ++ limit_violations self.now.limit self.now.names line (pieces_of fields.now)) }
+    /// The names that break the limit in a record, where they are few.
+    fn broken_each(&self, alloc: Global, fields: &[Element]) -> Result<Vec<&'r [u8]>, Fault>
+        ensures names { IfOk result (λ names. texts names.items ≡ breaking self.now.limit self.now.names (pieces_of fields.now)) }
         ensures refusals { IfErr result (λ fault. fault ≡ Fault.OutOfMemory) }
     {
+        let mut broken = Vec::new(alloc);
         for name in self.names.as_slice() {
             if self.limit.is_broken(fields, name) {
-                add_violation(alloc, line, self.limit.rule(), name, found)?;
+                broken.push(*name)?;
             }
         }
-        Ok(())
+        Ok(broken)
     }
 
-    /// Adds a violation for each of the names at some places.
-    fn add_at(
-        &self,
-        alloc: Global,
-        line: usize,
-        places: &BTreeSet<usize>,
-        found: &mut Vec<Violation>,
-    ) -> Result<(), Fault>
-        ensures added { OnOk result (found.new.items ≡ found.old.items ++ violations_of line (rule_of self.now.limit) (filter_map (slice_get self.now.names) places.now.keys)) }
-        ensures refusals { IfErr result (λ fault. fault ≡ Fault.OutOfMemory) }
-    {
-        let names = self.names.as_slice();
-        for place in places {
-            let Some(name) = names.get(*place) else {
-                continue;
-            };
-            add_violation(alloc, line, self.limit.rule(), name, found)?;
-        }
-        Ok(())
-    }
-
-    /// Adds a violation for each of the names that stands at none of some places.
-    fn add_missing(
-        &self,
-        alloc: Global,
-        line: usize,
-        places: &BTreeSet<usize>,
-        found: &mut Vec<Violation>,
-    ) -> Result<(), Fault>
-        ensures added { (test : List ℕ → Bool) → places.now.keys ≡ places_of test self.now.names → OnOk result (found.new.items ≡ found.old.items ++ violations_of line (rule_of self.now.limit) (filter (λ name. not (test name)) self.now.names)) }
-        ensures refusals { IfErr result (λ fault. fault ≡ Fault.OutOfMemory) }
-    {
-        let names = self.names.as_slice();
-        let rule = self.limit.rule();
-        for (place, name) in names.iter().enumerate() {
-            if !places.contains(&place) {
-                add_violation(alloc, line, rule, name, found)?;
-            }
-        }
-        Ok(())
-    }
-
-    /// The same as `check_each`, in one pass over the fields.
-    fn check_met(
-        &self,
-        alloc: Global,
-        line: usize,
-        fields: &[Element],
-        found: &mut Vec<Violation>,
-    ) -> Result<(), Fault>
-        ensures added { distinct self.now.names ≡ self.now.names → OnOk result (found.new.items ≡ found.old.items ++ limit_violations self.now.limit self.now.names line (pieces_of fields.now)) }
+    /// The same as `broken_each`, in one pass over the fields.
+    fn broken_met(&self, alloc: Global, fields: &[Element]) -> Result<Vec<&'r [u8]>, Fault>
+        ensures names { distinct self.now.names ≡ self.now.names → IfOk result (λ names. texts names.items ≡ breaking self.now.limit self.now.names (pieces_of fields.now)) }
         ensures refusals { IfErr result (λ fault. fault ≡ Fault.OutOfMemory) }
     {
         let met = Met::of(alloc, &self.names, fields)?;
         match self.limit {
-            Limit::Present => self.add_missing(alloc, line, &met.once, found),
-            Limit::Absent => self.add_at(alloc, line, &met.once, found),
-            Limit::Single => self.add_at(alloc, line, &met.again, found),
+            Limit::Present => self.names.besides(alloc, &met.once),
+            Limit::Absent => self.names.at(alloc, &met.once),
+            Limit::Single => self.names.at(alloc, &met.again),
         }
+    }
+
+    /// The names that break the limit in a record.
+    fn broken(&self, alloc: Global, fields: &[Element]) -> Result<Vec<&'r [u8]>, Fault>
+        ensures names { IfOk result (λ names. texts names.items ≡ breaking self.now.limit self.now.names (pieces_of fields.now)) }
+        ensures refusals { IfErr result (λ fault. fault ≡ Fault.OutOfMemory) }
+    {
+        if self.names.len() <= FEW {
+            return self.broken_each(alloc, fields);
+        }
+        self.broken_met(alloc, fields)
     }
 
     /// Adds a violation for each of the names that breaks the limit in a record.
@@ -166,9 +121,7 @@ impl<'r> Limited<'r> {
         ensures added { OnOk result (found.new.items ≡ found.old.items ++ limit_violations self.now.limit self.now.names line (pieces_of fields.now)) }
         ensures refusals { IfErr result (λ fault. fault ≡ Fault.OutOfMemory) }
     {
-        if self.names.len() <= FEW {
-            return self.check_each(alloc, line, fields, found);
-        }
-        self.check_met(alloc, line, fields, found)
+        let broken = self.broken(alloc, fields)?;
+        add_violations(alloc, line, self.limit.rule(), &broken, found)
     }
 }

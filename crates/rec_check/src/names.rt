@@ -6,7 +6,7 @@ ghost use Rattle.rec_check.specs.Words.{is_among as among};
 use indexmap::IndexSet;
 use rec_text::{Bytes, Fault};
 use std::alloc::{AllocError, Global};
-use std::collections::HashSet;
+use std::collections::{BTreeSet, HashSet};
 use std::marker::Model;
 
 pub(crate) fn is_among(names: &[Bytes], name: &[u8]) -> bool
@@ -45,7 +45,10 @@ impl<'n> Model for Names<'n> {
 }
 
 impl<'n> Names<'n> {
-    ghost use Rattle.std.specs.Prelude.{◌≡◌, ◌++◌, ◌∷◌, [], length, position, IfOk, OnOk};
+    ghost use Rattle.std.specs.Prelude.{◌≡◌, ◌++◌, ◌∷◌, [], filter_map, if◌then◌else◌, length, position, slice_get, None, Some, IfErr, IfOk, OnOk};
+    ghost use Rattle.std.specs.BTreeSet.{contains};
+    ghost use Rattle.std.specs.List.{enumerate_from};
+    ghost use Rattle.std.specs.Ordering.{nat_cmp};
     ghost use Rattle.std.specs.Str.{bytes_eq};
     ghost use Rattle.rec_check.specs.Checks.{texts};
     ghost use Rattle.rec_check.specs.Words.{distinct};
@@ -96,5 +99,40 @@ impl<'n> Names<'n> {
         ensures { texts result.now ≡ self.now }
     {
         self.names.as_slice()
+    }
+
+    /// The names at some places.
+    pub(crate) fn at(&self, alloc: Global, places: &BTreeSet<usize>) -> Result<Vec<&'n [u8]>, Fault>
+        ensures names { IfOk result (λ names. texts names.items ≡ filter_map (slice_get self.now) places.now.keys) }
+        ensures refusals { IfErr result (λ fault. fault ≡ Fault.OutOfMemory) }
+    {
+        let all = self.as_slice();
+        let mut names = Vec::new(alloc);
+        for place in places {
+            let Some(name) = all.get(*place) else {
+                continue;
+            };
+            names.push(*name)?;
+        }
+        Ok(names)
+    }
+
+    /// The names that stand at none of some places.
+    pub(crate) fn besides(
+        &self,
+        alloc: Global,
+        places: &BTreeSet<usize>,
+    ) -> Result<Vec<&'n [u8]>, Fault>
+        ensures names { IfOk result (λ names. texts names.items ≡ filter_map (λ (place, name). if contains nat_cmp places.now place then None else Some name) (enumerate_from 0 self.now)) }
+        ensures refusals { IfErr result (λ fault. fault ≡ Fault.OutOfMemory) }
+    {
+        let all = self.as_slice();
+        let mut names = Vec::new(alloc);
+        for (place, name) in all.iter().enumerate() {
+            if !places.contains(&place) {
+                names.push(*name)?;
+            }
+        }
+        Ok(names)
     }
 }

@@ -17,7 +17,7 @@ pub(crate) struct Singular<'r, 't> {
 }
 
 impl<'r, 't> Singular<'r, 't> {
-    ghost use Rattle.std.specs.Prelude.{◌≡◌, ◌++◌, ◌∷◌, [], ◌||◌, ℕ, List, true, if◌then◌else◌, None, filter, filter_map, option_map, position, slice_get, IfErr, IfOk, IfSome, OnOk};
+    ghost use Rattle.std.specs.Prelude.{◌≡◌, ◌++◌, ◌∷◌, [], ◌||◌, ℕ, List, true, if◌then◌else◌, None, filter, option_map, position, IfErr, IfOk, IfSome, OnOk};
     ghost use Rattle.std.specs.Cow.{cow_slice_items};
     ghost use Rattle.std.specs.List.{list_any};
     ghost use Rattle.std.specs.Str.{bytes_eq};
@@ -25,7 +25,6 @@ impl<'r, 't> Singular<'r, 't> {
     ghost use Rattle.rec_text.specs.Places.{piece_of, pieces_of};
     ghost use Rattle.rec_text.specs.Values.{value_of};
     ghost use Rattle.rec_sex.specs.Meaning.{values_of};
-    ghost use Rattle.rec_check.specs.Checks.{texts};
     ghost use Rattle.rec_check.specs.Met.{places_of};
     ghost use Rattle.rec_check.specs.Singulars.{IsAfter, has_seen, is_repeat};
     ghost use Rattle.rec_check.specs.Violations.{breaks_singular, violations_of};
@@ -84,22 +83,6 @@ impl<'r, 't> Singular<'r, 't> {
         Ok(broken)
     }
 
-    /// The names at some places.
-    fn names_at(&self, alloc: Global, places: &BTreeSet<usize>) -> Result<Vec<&'r [u8]>, Fault>
-        ensures names { IfOk result (λ names. texts names.items ≡ filter_map (slice_get self.now.names) places.now.keys) }
-        ensures refusals { IfErr result (λ fault. fault ≡ Fault.OutOfMemory) }
-    {
-        let all = self.names.as_slice();
-        let mut names = Vec::new(alloc);
-        for place in places {
-            let Some(name) = all.get(*place) else {
-                continue;
-            };
-            names.push(*name)?;
-        }
-        Ok(names)
-    }
-
     /// Takes the values of a record.
     fn take(&mut self, alloc: Global, fields: &[Element<'t>]) -> Result<(), Fault>
         ensures seen { OnOk result ((name value : List ℕ) → is_among self.old.names name ≡ true → has_seen self.new name value ≡ (has_seen self.old name value || is_among (values_of name (pieces_of fields.now)) value)) }
@@ -131,7 +114,7 @@ impl<'r, 't> Singular<'r, 't> {
             return Ok(());
         }
         let broken = self.broken(alloc, fields)?;
-        let names = self.names_at(alloc, &broken)?;
+        let names = self.names.at(alloc, &broken)?;
         add_violations(alloc, line, Rule::Singular, &names, found)?;
         self.take(alloc, fields)
     }

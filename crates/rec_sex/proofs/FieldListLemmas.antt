@@ -1,17 +1,16 @@
 -- Names, items and whole field lists.
-use Rattle.std.proofs.Common.{◌≡◌, ◌∙◌, ℕ, ◌+◌, ◌-◌, true, false, List, [], ◌∷◌, ◌++◌, length, take, drop, Some, None, refl, ap, sym, subst, inl, inr, arith}
-use Rattle.std.proofs.lemmas.List.{append_assoc, append-nil, length-append, length-take-le, take-append-drop}
+use Rattle.std.proofs.Common.{◌≡◌, ◌∙◌, ℕ, ◌+◌, true, false, List, [], ◌∷◌, ◌++◌, length, take, drop, Some, None, refl, ap, sym, subst, inl, inr}
+use Rattle.std.proofs.lemmas.List.{append_assoc, append-nil, length-take-le, take-append-drop}
 use Rattle.std.proofs.Math.Numerals.{one-add}
 use Rattle.std.proofs.lemmas.List.Sums.{prefix_len-le-length}
 use Rattle.std.proofs.lemmas.Bool.{cases_Bool}
 use Rattle.std.specs.List.{prefix_len, take_while}
 use Rattle.rec_text.specs.Bytes.{begins_name, continues_name}
 use Rattle.rec_sex.specs.declared.index_list.Span.{Span}
-use Rattle.rec_sex.specs.IndexItems.{BeginsNumber}
-use Rattle.rec_sex.specs.Lists.{begins_continuation, IsSecondFault, IsSubscriptFault}
+use Rattle.rec_sex.specs.Lists.{begins_continuation}
 use Rattle.rec_sex.specs.Joined.{ends_item}
 use Rattle.rec_sex.specs.FieldItems.{BeginsName, BeginsSubscript, BeginsItem}
-use Rattle.rec_sex.proofs.IndexListLemmas.{list_all-front, digits_alone}
+use Rattle.rec_sex.proofs.IndexListLemmas.{list_all-front, span_before}
 
 -- ---- names
 
@@ -52,13 +51,6 @@ cut_behind_name text b bytes count front back parts begins is front_is back_is =
 
 -- ---- items
 
--- a fault in the second number of a pair
-pub IsSubscriptFault-in_second : (text : List ℕ) (first : ℕ) (rest second : List ℕ) (at : ℕ) → BeginsNumber text first rest → rest ≡ 45 ∷ second → IsSecondFault first second at
-    → IsSubscriptFault text (length text - length rest + 1 + at)
-IsSubscriptFault-in_second text first rest second at (digits, parts, are, value, small) hyphen fault =
-    let P : ℕ → Type 0 = λ n. IsSecondFault n second at in
-    inr (digits, rest, parts, are, inr (inr (omega arith, second, at, hyphen, subst P (sym value) fault, omega (arith, ap length parts, length-append digits rest))))
-
 -- a name alone
 pub BeginsItem-name : (text name rest : List ℕ) → BeginsName text name rest → ends_item rest ≡ true → BeginsItem text (record { name = name; occurrences = None }) rest
 BeginsItem-name text name rest (parts, is) ended = (name, parts, ([], sym (append-nil name), is.well_formed, refl), ended)
@@ -69,28 +61,17 @@ cut_behind_subscript : (text name behind inside subscript rest : List ℕ) → t
 cut_behind_subscript text name behind inside subscript rest parts opening cut =
     parts ∙ ap (λ b. name ++ b) (opening ∙ ap (λ i. 91 ∷ i) cut) ∙ sym (append_assoc name (91 ∷ subscript) rest)
 
--- an index and its bracket
-cut_behind_index : (inside digits behind rest : List ℕ) → inside ≡ digits ++ behind → behind ≡ 93 ∷ rest → inside ≡ (digits ++ 93 ∷ []) ++ rest
-cut_behind_index inside digits behind rest parts closing = parts ∙ ap (λ b. digits ++ b) closing ∙ sym (append_assoc digits (93 ∷ []) rest)
+-- a span and its bracket
+cut_behind_span : (inside front behind rest : List ℕ) → inside ≡ front ++ behind → behind ≡ 93 ∷ rest → inside ≡ (front ++ 93 ∷ []) ++ rest
+cut_behind_span inside front behind rest parts closing = parts ∙ ap (λ b. front ++ b) closing ∙ sym (append_assoc front (93 ∷ []) rest)
 
 -- a name and its subscript
 pub BeginsItem-subscript : (text name behind inside : List ℕ) (span : Span) (rest : List ℕ) → BeginsName text name behind → behind ≡ 91 ∷ inside → BeginsSubscript inside span rest
     → BeginsItem text (record { name = name; occurrences = Some span }) rest
-BeginsItem-subscript text name behind inside span rest (parts, is) opening (after, (digits, number_parts, are, value, small), inl (same, (closing, ended))) =
-    let subscript = digits ++ 93 ∷ [] in (
+BeginsItem-subscript text name behind inside span rest (parts, is) opening (after, (front, cut, is_span), (closing, ended)) =
+    let subscript = front ++ 93 ∷ [] in (
       name ++ 91 ∷ subscript,
-      cut_behind_subscript text name behind inside subscript rest parts opening (cut_behind_index inside digits after rest number_parts closing),
-      (91 ∷ subscript, refl, is.well_formed, inl (digits, refl, digits_alone digits after are, value, same, small)),
-      ended,
-    )
-BeginsItem-subscript text name behind inside span rest (parts, is) opening
-    (after, (a, first_parts, first_are, first_value, first_small), inr (second, hyphen, (closed, (b, second_parts, second_are, second_value, second_small), ordered, (closing, ended)))) =
-    let pair = b ++ 93 ∷ [] in
-    let subscript = a ++ 45 ∷ pair in
-    let cut : inside ≡ subscript ++ rest =
-    first_parts ∙ ap (λ r. a ++ r) (hyphen ∙ ap (λ s. 45 ∷ s) (cut_behind_index second b closed rest second_parts closing)) ∙ sym (append_assoc a (45 ∷ pair) rest) in (
-      name ++ 91 ∷ subscript,
-      cut_behind_subscript text name behind inside subscript rest parts opening cut,
-      (91 ∷ subscript, refl, is.well_formed, inr (a, b, refl, digits_alone a after first_are, digits_alone b closed second_are, first_value, second_value, ordered, second_small)),
+      cut_behind_subscript text name behind inside subscript rest parts opening (cut_behind_span inside front after rest cut closing),
+      (91 ∷ subscript, refl, is.well_formed, (front, refl, span_before front span after [] is_span refl refl)),
       ended,
     )

@@ -1,20 +1,20 @@
 -- A text has at most one reading as a field list: the one that is computed here.
-use Rattle.std.proofs.Common.{◌≡◌, ◌∙◌, ℕ, ◌+◌, ◌-◌, ◌≤◌, Bool, true, false, cond, List, [], ◌∷◌, ◌++◌, length, take, drop, Option, Some, None, Result, Ok, Err, refl, ap, sym, inl, inr, arith, ltb}
+use Rattle.std.proofs.Common.{◌≡◌, ◌∙◌, ℕ, ◌+◌, ◌-◌, Bool, true, false, cond, List, [], ◌∷◌, ◌++◌, length, take, drop, Option, Some, None, Result, Ok, Err, refl, ap, sym, inl, inr, arith}
 use Rattle.std.proofs.lemmas.List.{append_assoc, append-nil, length-append, take_at, drop_at}
-use Rattle.std.proofs.lemmas.Bool.{and_parts, cases_lt, cond-true, cond-false, lt-ltb, le-ltb, eqb-true}
+use Rattle.std.proofs.lemmas.Bool.{and_parts, cond-true, cond-false, eqb-true}
 use Rattle.std.specs.List.{list_all, prefix_len}
 use Rattle.rec_text.specs.Bytes.{begins_name, continues_name}
 use Rattle.rec_text.specs.declared.fault.Fault.{Fault}
 use Rattle.rec_text.specs.declared.fault.Fault.TheVariants.{BadFieldList}
 use Rattle.rec_sex.specs.declared.index_list.Span.{Span}
 use Rattle.rec_sex.specs.declared.field_list.Item.{Item}
-use Rattle.rec_sex.specs.IndexList.{AreDigits, value_of, begins_digit, begins_with, greatest}
+use Rattle.rec_sex.specs.IndexList.{begins_with}
 use Rattle.rec_sex.specs.Joined.{ends_item}
-use Rattle.rec_sex.specs.IndexItems.{BeginsNumber}
-use Rattle.rec_sex.specs.Lists.{is_field_name, begins_field, begins_continuation, IsName, IsItem, IsClosingFault, IsSecondFault, IsSubscriptFault, IsItemFault, IsFieldList}
-use Rattle.rec_sex.specs.FieldItems.{BeginsName, Closes, ClosesPair, BeginsSubscript, BeginsItem}
+use Rattle.rec_sex.specs.Lists.{is_field_name, begins_field, begins_continuation, IsName, IsItem, IsClosingFault, IsSubscriptFault, IsItemFault, IsFieldList}
+use Rattle.rec_sex.specs.FieldItems.{BeginsName, Closes, BeginsSubscript, BeginsItem}
 use Rattle.rec_sex.proofs.JoinedReading.{IsList, one_list}
-use Rattle.rec_sex.proofs.IndexListReading.{number_of, number_of-some, number_of-none}
+use Rattle.rec_sex.proofs.IndexListReading.{span_of, span_of-ok, span_of-err}
+use Rattle.rec_sex.proofs.IndexListLemmas.{span_before}
 
 -- ---- a name
 
@@ -67,102 +67,28 @@ closing_of-err : (text : List ℕ) (place : ℕ) → IsClosingFault text place �
 closing_of-err text place (inl (unclosed, at_front)) = cond-false (begins_with 93 text) (cond (ends_item (drop 1 text)) (Ok (drop 1 text)) (Err 1)) (Err 0) unclosed ∙ ap Err (sym at_front)
 closing_of-err text place (inr (rest, closing, unended, behind)) = ap closing_of closing ∙ cond-false (ends_item rest) (Ok rest) (Err 1) unended ∙ ap Err (sym behind)
 
--- ---- a pair
-
-abbrev last_with : ℕ → ℕ → Result (List ℕ) ℕ → Result (ℕ × List ℕ) ℕ
-last_with last end (Ok rest) = Ok (last, rest)
-last_with last end (Err at) = Err (end + at)
-
-abbrev last_from : ℕ → ℕ → Option (ℕ × List ℕ) → Result (ℕ × List ℕ) ℕ
-last_from first size None = Err 0
-last_from first size (Some (last, behind)) = cond (ltb last first) (Err 0) (last_with last (size - length behind) (closing_of behind))
-
-abbrev last_of : ℕ → List ℕ → Result (ℕ × List ℕ) ℕ
-last_of first text = last_from first (length text) (number_of text)
-
-last_of-number : (first : ℕ) (text : List ℕ) (last : ℕ) (behind : List ℕ) → BeginsNumber text last behind → first ≤ last
-    → last_of first text ≡ last_with last (length text - length behind) (closing_of behind)
-last_of-number first text last behind number ordered =
-    ap (last_from first (length text)) (number_of-some text last behind number)
-    ∙ cond-false _ (Err 0) (last_with last (length text - length behind) (closing_of behind)) (le-ltb last first ordered)
-
-last_of-ok : (first : ℕ) (text : List ℕ) (last : ℕ) (rest : List ℕ) → ClosesPair first text last rest → last_of first text ≡ Ok (last, rest)
-last_of-ok first text last rest (behind, number, ordered, closes) =
-    last_of-number first text last behind number ordered ∙ ap (last_with last (length text - length behind)) (closing_of-ok behind rest closes)
-
-last_of-err : (first : ℕ) (text : List ℕ) (place : ℕ) → IsSecondFault first text place → last_of first text ≡ Err place
-last_of-err first text place (inl (no_digit, at_front)) = ap (last_from first (length text)) (number_of-none text (inl no_digit)) ∙ ap Err (sym at_front)
-last_of-err first text place (inr (digits, rest, parts, are, inl (inl large, at_front))) =
-    ap (last_from first (length text)) (number_of-none text (inr (digits, rest, parts, are, large))) ∙ ap Err (sym at_front)
-last_of-err first text place (inr (digits, rest, parts, are, inl (inr falls, at_front))) =
-    elim (cases_lt greatest (value_of digits)) [
-      | inl large ↦ ap (last_from first (length text)) (number_of-none text (inr (digits, rest, parts, are, large))) ∙ ap Err (sym at_front)
-      | inr small ↦
-          ap (last_from first (length text)) (number_of-some text (value_of digits) rest (digits, parts, are, refl, small))
-          ∙ cond-true _ (Err 0) (last_with (value_of digits) (length text - length rest) (closing_of rest)) (lt-ltb (value_of digits) first falls)
-          ∙ ap Err (sym at_front)
-    ]
-last_of-err first text place (inr (digits, rest, parts, are, inr (ordered, small, at, fault, behind))) =
-    let place_is : length text - length rest + at ≡ place = omega (arith, behind, ap length parts, length-append digits rest) in
-    last_of-number first text (value_of digits) rest (digits, parts, are, refl, small) ordered
-    ∙ ap (last_with (value_of digits) (length text - length rest)) (closing_of-err rest at fault)
-    ∙ ap Err place_is
-
 -- ---- a subscript
 
-abbrev pair_with : ℕ → ℕ → Result (ℕ × List ℕ) ℕ → Result (Span × List ℕ) ℕ
-pair_with first end (Ok (last, rest)) = Ok (record { first = first; last = last }, rest)
-pair_with first end (Err at) = Err (end + 1 + at)
+abbrev closed_with : Span → ℕ → Result (List ℕ) ℕ → Result (Span × List ℕ) ℕ
+closed_with span end (Ok rest) = Ok (span, rest)
+closed_with span end (Err at) = Err (end + at)
 
-abbrev index_with : ℕ → ℕ → Result (List ℕ) ℕ → Result (Span × List ℕ) ℕ
-index_with first end (Ok rest) = Ok (record { first = first; last = first }, rest)
-index_with first end (Err at) = Err (end + at)
-
-abbrev subscript_with : ℕ → ℕ → List ℕ → Result (Span × List ℕ) ℕ
-subscript_with first end behind = cond (begins_with 45 behind) (pair_with first end (last_of first (drop 1 behind))) (index_with first end (closing_of behind))
-
-abbrev subscript_from : ℕ → Option (ℕ × List ℕ) → Result (Span × List ℕ) ℕ
-subscript_from size None = Err 0
-subscript_from size (Some (first, behind)) = subscript_with first (size - length behind) behind
+abbrev subscript_from : ℕ → Result (Span × List ℕ) ℕ → Result (Span × List ℕ) ℕ
+subscript_from size (Err place) = Err place
+subscript_from size (Ok (span, behind)) = closed_with span (size - length behind) (closing_of behind)
 
 abbrev subscript_of : List ℕ → Result (Span × List ℕ) ℕ
-subscript_of text = subscript_from (length text) (number_of text)
-
-subscript_of-index : (text : List ℕ) (first : ℕ) (behind : List ℕ) → BeginsNumber text first behind → begins_with 45 behind ≡ false
-    → subscript_of text ≡ index_with first (length text - length behind) (closing_of behind)
-subscript_of-index text first behind number alone =
-    ap (subscript_from (length text)) (number_of-some text first behind number)
-    ∙ cond-false _ (pair_with first (length text - length behind) (last_of first (drop 1 behind))) (index_with first (length text - length behind) (closing_of behind)) alone
-
-subscript_of-pair : (text : List ℕ) (first : ℕ) (behind second : List ℕ) → BeginsNumber text first behind → behind ≡ 45 ∷ second
-    → subscript_of text ≡ pair_with first (length text - length behind) (last_of first second)
-subscript_of-pair text first behind second number hyphen =
-    ap (subscript_from (length text)) (number_of-some text first behind number) ∙ ap (subscript_with first (length text - length behind)) hyphen
-
-no_hyphen : (behind rest : List ℕ) → Closes behind rest → begins_with 45 behind ≡ false
-no_hyphen behind rest (closing, ended) = ap (begins_with 45) closing
+subscript_of text = subscript_from (length text) (span_of text)
 
 subscript_of-ok : (text : List ℕ) (span : Span) (rest : List ℕ) → BeginsSubscript text span rest → subscript_of text ≡ Ok (span, rest)
-subscript_of-ok text span rest (behind, number, inl (same, closes)) =
-    subscript_of-index text span.first behind number (no_hyphen behind rest closes)
-    ∙ ap (index_with span.first (length text - length behind)) (closing_of-ok behind rest closes)
-    ∙ ap (λ last. Ok (record { first = span.first; last = last }, rest)) (sym same)
-subscript_of-ok text span rest (behind, number, inr (second, hyphen, closes)) =
-    subscript_of-pair text span.first behind second number hyphen
-    ∙ ap (pair_with span.first (length text - length behind)) (last_of-ok span.first second span.last rest closes)
+subscript_of-ok text span rest (behind, begins, closes) =
+    ap (subscript_from (length text)) (span_of-ok text span behind begins) ∙ ap (closed_with span (length text - length behind)) (closing_of-ok behind rest closes)
 
 subscript_of-err : (text : List ℕ) (place : ℕ) → IsSubscriptFault text place → subscript_of text ≡ Err place
-subscript_of-err text place (inl (no_digit, at_front)) = ap (subscript_from (length text)) (number_of-none text (inl no_digit)) ∙ ap Err (sym at_front)
-subscript_of-err text place (inr (digits, rest, parts, are, inl (large, at_front))) =
-    ap (subscript_from (length text)) (number_of-none text (inr (digits, rest, parts, are, large))) ∙ ap Err (sym at_front)
-subscript_of-err text place (inr (digits, rest, parts, are, inr (inl (small, alone, at, fault, behind)))) =
-    let place_is : length text - length rest + at ≡ place = omega (arith, behind, ap length parts, length-append digits rest) in
-    subscript_of-index text (value_of digits) rest (digits, parts, are, refl, small) alone
-    ∙ ap (index_with (value_of digits) (length text - length rest)) (closing_of-err rest at fault) ∙ ap Err place_is
-subscript_of-err text place (inr (digits, rest, parts, are, inr (inr (small, second, at, hyphen, fault, behind)))) =
-    let place_is : length text - length rest + 1 + at ≡ place = omega (arith, behind, ap length parts, length-append digits rest) in
-    subscript_of-pair text (value_of digits) rest second (digits, parts, are, refl, small) hyphen
-    ∙ ap (pair_with (value_of digits) (length text - length rest)) (last_of-err (value_of digits) second at fault) ∙ ap Err place_is
+subscript_of-err text place (inl fault) = ap (subscript_from (length text)) (span_of-err text place fault)
+subscript_of-err text place (inr (front, rest, span, at, parts, is, fault, behind)) =
+    let place_is : length text - length rest + at ≡ place = omega (arith, behind, ap length parts, length-append front rest) in
+    ap (subscript_from (length text)) (span_of-ok text span rest (front, parts, is)) ∙ ap (closed_with span (length text - length rest)) (closing_of-err rest at fault) ∙ ap Err place_is
 
 -- ---- an item
 
@@ -196,27 +122,10 @@ item_of-err text place (inr (name, rest, parts, is, inl (no_subscript, unended, 
 item_of-err text place (inr (name, rest, parts, is, inr (inside, at, opening, fault, behind))) =
     item_of-subscript text name rest inside (parts, is) opening ∙ ap (named_with name) (subscript_of-err inside at fault) ∙ ap Err (sym behind)
 
--- what stands behind a whole item goes on with no name and with no digit
+-- what stands behind a whole item goes on with no name
 no_continuation_behind : (rest : List ℕ) → ends_item rest ≡ true → begins_continuation rest ≡ false
 no_continuation_behind [] ended = refl
 no_continuation_behind (b ∷ rest) ended = let comma : b ≡ 44 = eqb-true b 44 ended in ap continues_name comma
-
--- digits alone are all the digits that stand before a byte that is none
-digits_before : (digits : List ℕ) (b : ℕ) (rest : List ℕ) → AreDigits digits [] → begins_digit (b ∷ rest) ≡ false → AreDigits digits (b ∷ rest)
-digits_before digits b rest are ended = record { some = are.some; all = are.all; ended = ended }
-
-BeginsSubscript-index : (digits rest : List ℕ) (span : Span) → AreDigits digits [] → value_of digits ≡ span.first → span.last ≡ span.first → span.first ≤ greatest → ends_item rest ≡ true
-    → BeginsSubscript (digits ++ 93 ∷ rest) span rest
-BeginsSubscript-index digits rest span are value same small ended =
-    (93 ∷ rest, (digits, refl, digits_before digits 93 rest are refl, value, small), inl (same, (refl, ended)))
-
-BeginsSubscript-pair : (a b rest : List ℕ) (span : Span) → AreDigits a [] → AreDigits b [] → value_of a ≡ span.first → value_of b ≡ span.last → span.first ≤ span.last
-    → span.last ≤ greatest → ends_item rest ≡ true → BeginsSubscript (a ++ 45 ∷ (b ++ 93 ∷ rest)) span rest
-BeginsSubscript-pair a b rest span first_are second_are first_value second_value ordered small ended = (
-  45 ∷ (b ++ 93 ∷ rest),
-  (a, refl, digits_before a 45 (b ++ 93 ∷ rest) first_are refl, first_value, omega arith),
-  inr (b ++ 93 ∷ rest, refl, (93 ∷ rest, (b, refl, digits_before b 93 rest second_are refl, second_value, small), ordered, (refl, ended))),
-)
 
 item_of-ok : (text name : List ℕ) (occurrences : Option Span) (rest : List ℕ) → BeginsItem text (record { name = name; occurrences = occurrences }) rest
     → item_of text ≡ Ok (record { name = name; occurrences = occurrences }, rest)
@@ -226,24 +135,13 @@ item_of-ok text name None rest (front, parts, (subscript, halves, well_formed, n
     ap item_from (name_of-some text name rest (whole, is))
     ∙ cond-true (ends_item rest) (Ok (record { name = name; occurrences = None }, rest))
     (cond (begins_with 91 rest) (named_with name (subscript_of (drop 1 rest))) (Err (length name))) ended
-item_of-ok text name (Some span) rest (front, parts, (subscript, halves, well_formed, inl (digits, written, are, value, same, small)), ended) =
-    let inside = digits ++ 93 ∷ rest in
-    let regrouped : (digits ++ 93 ∷ []) ++ rest ≡ inside = append_assoc digits (93 ∷ []) rest in
-    let whole : text ≡ name ++ 91 ∷ inside =
-    parts ∙ ap (λ f. f ++ rest) (halves ∙ ap (λ s. name ++ s) written) ∙ append_assoc name (91 ∷ (digits ++ 93 ∷ [])) rest ∙ ap (λ i. name ++ 91 ∷ i) regrouped in
-    let is : IsName name (91 ∷ inside) = record { well_formed = well_formed; ended = refl } in
-    item_of-subscript text name (91 ∷ inside) inside (whole, is) refl
-    ∙ ap (named_with name) (subscript_of-ok inside span rest (BeginsSubscript-index digits rest span are value same small ended))
-item_of-ok text name (Some span) rest
-    (front, parts, (subscript, halves, well_formed, inr (a, b, written, first_are, second_are, first_value, second_value, ordered, small)), ended) =
-    let inside = a ++ 45 ∷ (b ++ 93 ∷ rest) in
-    let regrouped : (a ++ 45 ∷ (b ++ 93 ∷ [])) ++ rest ≡ inside =
-    append_assoc a (45 ∷ (b ++ 93 ∷ [])) rest ∙ ap (λ i. a ++ 45 ∷ i) (append_assoc b (93 ∷ []) rest) in
-    let whole : text ≡ name ++ 91 ∷ inside =
-    parts ∙ ap (λ f. f ++ rest) (halves ∙ ap (λ s. name ++ s) written) ∙ append_assoc name (91 ∷ (a ++ 45 ∷ (b ++ 93 ∷ []))) rest ∙ ap (λ i. name ++ 91 ∷ i) regrouped in
-    let is : IsName name (91 ∷ inside) = record { well_formed = well_formed; ended = refl } in
-    item_of-subscript text name (91 ∷ inside) inside (whole, is) refl
-    ∙ ap (named_with name) (subscript_of-ok inside span rest (BeginsSubscript-pair a b rest span first_are second_are first_value second_value ordered small ended))
+item_of-ok text name (Some span) rest (front, parts, (subscript, halves, well_formed, (inside, written, is_span)), ended) =
+    let closed = inside ++ 93 ∷ rest in
+    let whole : text ≡ name ++ 91 ∷ closed =
+    parts ∙ ap (λ f. f ++ rest) (halves ∙ ap (λ s. name ++ s) written) ∙ append_assoc name (91 ∷ (inside ++ 93 ∷ [])) rest ∙ ap (λ i. name ++ 91 ∷ i) (append_assoc inside (93 ∷ []) rest) in
+    let is : IsName name (91 ∷ closed) = record { well_formed = well_formed; ended = refl } in
+    item_of-subscript text name (91 ∷ closed) closed (whole, is) refl
+    ∙ ap (named_with name) (subscript_of-ok closed span rest (93 ∷ rest, (inside, refl, span_before inside span [] (93 ∷ rest) is_span refl refl), (refl, ended)))
 
 -- ---- a whole list
 

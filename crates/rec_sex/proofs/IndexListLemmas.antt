@@ -1,5 +1,5 @@
--- Digits, items and whole index lists.
-use Rattle.std.proofs.Common.{◌≡◌, ◌∙◌, ℕ, ◌+◌, ◌-◌, ◌*◌, ◌<◌, ◌≤◌, Bool, true, false, cond, List, [], ◌∷◌, ◌++◌, length, take, drop, get_or, fold, Option, Some, None, refl, ap, sym, subst, inl, inr, arith, ltb, not, unwrap_or}
+-- Digits, indexes and spans.
+use Rattle.std.proofs.Common.{◌≡◌, ◌∙◌, ℕ, ◌+◌, ◌-◌, ◌*◌, ◌<◌, ◌≤◌, Bool, true, false, cond, List, [], ◌∷◌, ◌++◌, length, take, drop, get_or, fold, Option, Some, None, refl, ap, sym, inl, inr, arith, ltb, not, unwrap_or}
 use Rattle.std.proofs.lemmas.List.{append_assoc, length-append, take-append-drop}
 use Rattle.std.proofs.Math.Numerals.{one-add}
 use Rattle.std.proofs.lemmas.List.Folds.{length-prefix_len}
@@ -7,8 +7,9 @@ use Rattle.std.proofs.lemmas.List.Sums.{fold-append, fold_more, prefix_len-le-le
 use Rattle.std.proofs.lemmas.Bool.{and_from, cases_lt, cases_Bool, cond-true, cond-false, le-ltb, lt-ltb}
 use Rattle.std.specs.Char.{is_ascii_digit}
 use Rattle.std.specs.List.{list_all, prefix_len, position_or_len}
-use Rattle.rec_sex.specs.IndexList.{AreDigits, IsSecondFault, IsItemFault, value_of, begins_digit, greatest}
-use Rattle.rec_sex.specs.IndexItems.{BeginsNumber, EndsPair, BeginsItem}
+use Rattle.rec_sex.specs.declared.index_list.Span.{Span}
+use Rattle.rec_sex.specs.IndexList.{AreDigits, IsIndex, IsSpan, LacksIndex, IsSpanFault, value_of, begins_digit, begins_with, greatest}
+use Rattle.rec_sex.specs.IndexItems.{BeginsIndex, BeginsSpan}
 
 -- one more digit makes a number no smaller
 pub value-le-fold : (n : ℕ) (digits : List ℕ) → n ≤ fold (λ n digit. n * 10 + (digit - 48)) n digits
@@ -96,25 +97,43 @@ cut_behind_digits text front back count is front_is back_is some =
       rw (front_is, back_is) (AreDigits-front text count is counted),
     )
 
+-- the digits again, before something else that begins with none
+pub digits_before : (digits rest other : List ℕ) → AreDigits digits rest → begins_digit other ≡ false → AreDigits digits other
+digits_before digits rest other are ended = record { some = are.some; all = are.all; ended = ended }
+
 -- digits that are all that stand somewhere are digits alone
 pub digits_alone : (digits rest : List ℕ) → AreDigits digits rest → AreDigits digits []
-digits_alone digits rest are = record { some = are.some; all = are.all; ended = refl }
+digits_alone digits rest are = digits_before digits rest [] are refl
 
--- ---- items
+-- ---- spans
 
--- a fault in the second number of a pair
-pub IsItemFault-in_second : (text : List ℕ) (first : ℕ) (rest second : List ℕ) (at : ℕ) → BeginsNumber text first rest → rest ≡ 45 ∷ second → IsSecondFault first second at
-    → IsItemFault text (length text - length rest + 1 + at)
-IsItemFault-in_second text first rest second at (digits, parts, are, value, small) hyphen fault =
-    let P : ℕ → Type 0 = λ n. IsSecondFault n second at in
-    inr (digits, rest, parts, are, inr (inr (omega arith, second, at, hyphen, subst P (sym value) fault, omega (arith, ap length parts, length-append digits rest))))
+-- an index again, before something else that begins with no digit
+pub index_before : (digits : List ℕ) (index : ℕ) (rest other : List ℕ) → IsIndex digits index rest → begins_digit other ≡ false → IsIndex digits index other
+index_before digits index rest other (are, value, small) ended = (digits_before digits rest other are ended, value, small)
 
--- a pair
-pub BeginsItem-pair : (text : List ℕ) (first : ℕ) (rest second : List ℕ) (last : ℕ) (behind : List ℕ) → BeginsNumber text first rest → rest ≡ 45 ∷ second → EndsPair first second last behind
-    → BeginsItem text (record { first = first; last = last }) behind
-BeginsItem-pair text first rest second last behind (a, parts, are, value, small) hyphen ((b, second_parts, second_are, second_value, second_small), ordered, ended) = (
+-- a span again, before something else that goes on with none
+pub span_before : (front : List ℕ) (span : Span) (rest other : List ℕ) → IsSpan front span rest → begins_digit other ≡ false → begins_with 45 other ≡ false → IsSpan front span other
+span_before front span rest other (inl (index, same, alone)) ended no_hyphen = inl (index_before front span.first rest other index ended, same, no_hyphen)
+span_before front span rest other (inr (a, b, halves, first, last, ordered)) ended no_hyphen = inr (a, b, halves, first, index_before b span.last rest other last ended, ordered)
+
+-- a span again, before something else that begins with the same byte
+pub span_before_same : (front : List ℕ) (span : Span) (b : ℕ) (rest other : List ℕ) → IsSpan front span (b ∷ rest) → IsSpan front span (b ∷ other)
+span_before_same front span b rest other (inl (index, same, alone)) = inl (index_before front span.first (b ∷ rest) (b ∷ other) index index.0.ended, same, alone)
+span_before_same front span b rest other (inr (x, y, halves, first, last, ordered)) =
+    inr (x, y, halves, first, index_before y span.last (b ∷ rest) (b ∷ other) last last.0.ended, ordered)
+
+-- a pair comes first where its first index, a hyphen and its second index do
+pub pair_begins : (text : List ℕ) (first : ℕ) (behind second : List ℕ) (last : ℕ) (rest : List ℕ) → BeginsIndex 0 text first behind → behind ≡ 45 ∷ second
+    → BeginsIndex first second last rest → BeginsSpan text (record { first = first; last = last }) rest
+pair_begins text first behind second last rest (a, parts, index, _) hyphen (b, second_parts, second_index, ordered) = (
   a ++ 45 ∷ b,
-  parts ∙ ap (λ r. a ++ r) (hyphen ∙ ap (λ s. 45 ∷ s) second_parts) ∙ sym (append_assoc a (45 ∷ b) behind),
-  inr (a, b, refl, digits_alone a rest are, digits_alone b behind second_are, value, second_value, ordered, second_small),
-  ended,
+  parts ∙ ap (λ r. a ++ r) (hyphen ∙ ap (λ s. 45 ∷ s) second_parts) ∙ sym (append_assoc a (45 ∷ b) rest),
+  inr (a, b, refl, index_before a first behind [] index refl, second_index, ordered),
 )
+
+-- a pair has a fault where its second index should begin
+pub pair_fails : (text : List ℕ) (first : ℕ) (behind second : List ℕ) → BeginsIndex 0 text first behind → behind ≡ 45 ∷ second → LacksIndex first second
+    → IsSpanFault text (length text - length second)
+pair_fails text first behind second (a, parts, index, _) hyphen lacks =
+    let whole : text ≡ a ++ 45 ∷ second = parts ∙ ap (λ r. a ++ r) hyphen in
+    inr (a, second, first, whole, index_before a first behind [] index refl, lacks, omega (arith, ap length whole, length-append a (45 ∷ second)))

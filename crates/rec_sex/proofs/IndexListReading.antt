@@ -1,5 +1,6 @@
 -- A text has at most one reading as an index list: the one that is computed here.
-use Rattle.std.proofs.Common.{◌≡◌, ◌≢◌, ◌∙◌, ℕ, ◌+◌, ◌-◌, ◌<◌, ◌≤◌, true, false, cond, List, [], ◌∷◌, ◌++◌, length, take, drop, Option, Some, None, Result, Ok, Err, refl, ap, sym, subst, inl, inr, arith, leb, ltb}
+use Rattle.std.proofs.Common.{◌≡◌, ◌≢◌, ◌∙◌, ℕ, ◌-◌, ◌<◌, ◌≤◌, true, false, cond, List, [], ◌∷◌, ◌++◌, length, take, drop, Option, Some, None, Result, Ok, Err, refl, ap, sym, inl, inr, arith, leb, ltb}
+use Rattle.std.specs.Prelude.{◌⊎◌, ◌==◌}
 use Rattle.std.proofs.lemmas.List.{append_assoc, length-append, take_at, drop_at}
 use Rattle.std.proofs.lemmas.Bool.{and_parts, cases_lt, cond-true, cond-false, le-leb, lt-leb, lt-ltb, le-ltb, eqb-true}
 use Rattle.std.specs.Char.{is_ascii_digit}
@@ -7,19 +8,21 @@ use Rattle.std.specs.List.{list_all, prefix_len}
 use Rattle.rec_text.specs.declared.fault.Fault.{Fault}
 use Rattle.rec_text.specs.declared.fault.Fault.TheVariants.{BadIndexList}
 use Rattle.rec_sex.specs.declared.index_list.Span.{Span}
-use Rattle.rec_sex.specs.IndexList.{AreDigits, IsItem, IsSecondFault, IsItemFault, IsIndexList, value_of, begins_digit, begins_with, greatest}
-use Rattle.rec_sex.specs.Joined.{ends_item}
+use Rattle.rec_sex.specs.IndexList.{IsIndex, IsSpan, LacksIndex, IsSpanFault, IsItem, IsItemFault, IsIndexList, value_of, begins_digit, begins_with, greatest}
+use Rattle.rec_sex.specs.IndexItems.{BeginsIndex, BeginsSpan}
+use Rattle.rec_sex.specs.Joined.{BeginsWhole, ends_item}
+use Rattle.rec_sex.proofs.IndexListLemmas.{index_before, span_before}
 use Rattle.rec_sex.proofs.JoinedReading.{IsList, one_list}
-use Rattle.rec_sex.specs.IndexItems.{BeginsNumber, BeginsNoNumber, EndsPair, BeginsItem}
 
--- ---- a number
+-- ---- an index
 
-abbrev pub number_from : List ℕ → List ℕ → Option (ℕ × List ℕ)
-number_from [] rest = None
-number_from (d ∷ digits) rest = cond (leb (value_of (d ∷ digits)) greatest) (Some (value_of (d ∷ digits), rest)) None
+abbrev index_from : ℕ → List ℕ → List ℕ → Option (ℕ × List ℕ)
+index_from least [] rest = None
+index_from least (d ∷ digits) rest =
+    cond (ltb (value_of (d ∷ digits)) least) None (cond (leb (value_of (d ∷ digits)) greatest) (Some (value_of (d ∷ digits), rest)) None)
 
-abbrev pub number_of : List ℕ → Option (ℕ × List ℕ)
-number_of text = number_from (take (prefix_len is_ascii_digit text) text) (drop (prefix_len is_ascii_digit text) text)
+abbrev index_of : ℕ → List ℕ → Option (ℕ × List ℕ)
+index_of least text = index_from least (take (prefix_len is_ascii_digit text) text) (drop (prefix_len is_ascii_digit text) text)
 
 prefix_len-digits : (digits rest : List ℕ) → list_all is_ascii_digit digits ≡ true → begins_digit rest ≡ false → prefix_len is_ascii_digit (digits ++ rest) ≡ length digits
 prefix_len-digits [] [] all ended = refl
@@ -29,126 +32,95 @@ prefix_len-digits (d ∷ digits) rest all ended =
     let more = prefix_len-digits digits rest parts.1 ended in
     rw (parts.0, more) (omega arith)
 
-number_of-cut : (text digits rest : List ℕ) → text ≡ digits ++ rest → list_all is_ascii_digit digits ≡ true → begins_digit rest ≡ false → number_of text ≡ number_from digits rest
-number_of-cut text digits rest parts all ended =
+index_of-cut : (least : ℕ) (text digits rest : List ℕ) → text ≡ digits ++ rest → list_all is_ascii_digit digits ≡ true → begins_digit rest ≡ false
+    → index_of least text ≡ index_from least digits rest
+index_of-cut least text digits rest parts all ended =
     let count : prefix_len is_ascii_digit text ≡ length digits = ap (prefix_len is_ascii_digit) parts ∙ prefix_len-digits digits rest all ended in
     let front : take (prefix_len is_ascii_digit text) text ≡ digits = ap (λ n. take n text) count ∙ ap (take (length digits)) parts ∙ take_at digits rest (length digits) refl in
     let back : drop (prefix_len is_ascii_digit text) text ≡ rest = ap (λ n. drop n text) count ∙ ap (drop (length digits)) parts ∙ drop_at digits rest (length digits) refl in
-    ap (λ d. number_from d (drop (prefix_len is_ascii_digit text) text)) front ∙ ap (number_from digits) back
+    ap (λ d. index_from least d (drop (prefix_len is_ascii_digit text) text)) front ∙ ap (index_from least digits) back
 
-number_from-small : (digits rest : List ℕ) → digits ≢ [] → value_of digits ≤ greatest → number_from digits rest ≡ Some (value_of digits, rest)
-number_from-small [] rest some small = absurd (some refl)
-number_from-small (d ∷ digits) rest some small = cond-true _ (Some (value_of (d ∷ digits), rest)) None (le-leb (value_of (d ∷ digits)) greatest small)
+index_from-some : (least : ℕ) (digits rest : List ℕ) → digits ≢ [] → least ≤ value_of digits → value_of digits ≤ greatest → index_from least digits rest ≡ Some (value_of digits, rest)
+index_from-some least [] rest some enough small = absurd (some refl)
+index_from-some least (d ∷ digits) rest some enough small =
+    cond-false _ None (cond (leb (value_of (d ∷ digits)) greatest) (Some (value_of (d ∷ digits), rest)) None) (le-ltb (value_of (d ∷ digits)) least enough)
+    ∙ cond-true _ (Some (value_of (d ∷ digits), rest)) None (le-leb (value_of (d ∷ digits)) greatest small)
 
-number_from-large : (digits rest : List ℕ) → greatest < value_of digits → number_from digits rest ≡ None
-number_from-large [] rest large = refl
-number_from-large (d ∷ digits) rest large = cond-false _ (Some (value_of (d ∷ digits), rest)) None (lt-leb (value_of (d ∷ digits)) greatest large)
-
-pub number_of-some : (text : List ℕ) (index : ℕ) (rest : List ℕ) → BeginsNumber text index rest → number_of text ≡ Some (index, rest)
-number_of-some text index rest (digits, parts, are, value, small) =
-    number_of-cut text digits rest parts are.all are.ended ∙ number_from-small digits rest are.some (omega arith) ∙ ap (λ n. Some (n, rest)) value
-
-pub number_of-none : (text : List ℕ) → BeginsNoNumber text → number_of text ≡ None
-number_of-none text (inl no_digit) = number_of-cut text [] text refl refl no_digit
-number_of-none text (inr (digits, rest, parts, are, large)) = number_of-cut text digits rest parts are.all are.ended ∙ number_from-large digits rest large
-
--- ---- a pair
-
-abbrev second_from : ℕ → ℕ → Option (ℕ × List ℕ) → Result (ℕ × List ℕ) ℕ
-second_from first size None = Err 0
-second_from first size (Some (last, rest)) = cond (ltb last first) (Err 0) (cond (ends_item rest) (Ok (last, rest)) (Err (size - length rest)))
-
-abbrev second_of : ℕ → List ℕ → Result (ℕ × List ℕ) ℕ
-second_of first text = second_from first (length text) (number_of text)
-
-second_of-ok : (first : ℕ) (text : List ℕ) (last : ℕ) (rest : List ℕ) → EndsPair first text last rest → second_of first text ≡ Ok (last, rest)
-second_of-ok first text last rest (number, ordered, ended) =
-    ap (second_from first (length text)) (number_of-some text last rest number)
-    ∙ cond-false _ (Err 0) (cond (ends_item rest) (Ok (last, rest)) (Err (length text - length rest))) (le-ltb last first ordered)
-    ∙ cond-true _ (Ok (last, rest)) (Err (length text - length rest)) ended
-
-second_of-err : (first : ℕ) (text : List ℕ) (place : ℕ) → IsSecondFault first text place → second_of first text ≡ Err place
-second_of-err first text place (inl (no_digit, at_front)) = ap (second_from first (length text)) (number_of-none text (inl no_digit)) ∙ ap Err (sym at_front)
-second_of-err first text place (inr (digits, rest, parts, are, inl (inl large, at_front))) =
-    ap (second_from first (length text)) (number_of-none text (inr (digits, rest, parts, are, large))) ∙ ap Err (sym at_front)
-second_of-err first text place (inr (digits, rest, parts, are, inl (inr falls, at_front))) =
-    elim (cases_lt greatest (value_of digits)) [
-      | inl large ↦ ap (second_from first (length text)) (number_of-none text (inr (digits, rest, parts, are, large))) ∙ ap Err (sym at_front)
-      | inr small ↦
-          ap (second_from first (length text)) (number_of-some text (value_of digits) rest (digits, parts, are, refl, small))
-          ∙ cond-true _ (Err 0) (cond (ends_item rest) (Ok (value_of digits, rest)) (Err (length text - length rest))) (lt-ltb (value_of digits) first falls)
-          ∙ ap Err (sym at_front)
+index_from-none : (least : ℕ) (digits rest : List ℕ) → (value_of digits < least) ⊎ (greatest < value_of digits) → index_from least digits rest ≡ None
+index_from-none least [] rest wrong = refl
+index_from-none least (d ∷ digits) rest wrong =
+    let value = value_of (d ∷ digits) in
+    elim (cases_lt value least) [
+      | inl less ↦ cond-true _ None (cond (leb value greatest) (Some (value, rest)) None) (lt-ltb value least less)
+      | inr enough ↦
+          let large : greatest < value = elim wrong [ inl less ↦ absurd (omega (arith, less, enough)) | inr large ↦ large ] in
+          cond-false _ None (cond (leb value greatest) (Some (value, rest)) None) (le-ltb value least enough) ∙ cond-false _ (Some (value, rest)) None (lt-leb value greatest large)
     ]
-second_of-err first text place (inr (digits, rest, parts, are, inr (ordered, small, unended, behind))) =
-    let place_is : length text - length rest ≡ place = omega (arith, behind, ap length parts, length-append digits rest) in
-    ap (second_from first (length text)) (number_of-some text (value_of digits) rest (digits, parts, are, refl, small))
-    ∙ cond-false _ (Err 0) (cond (ends_item rest) (Ok (value_of digits, rest)) (Err (length text - length rest))) (le-ltb (value_of digits) first ordered)
-    ∙ cond-false _ (Ok (value_of digits, rest)) (Err (length text - length rest)) unended
-    ∙ ap Err place_is
+
+index_of-some : (least : ℕ) (text : List ℕ) (index : ℕ) (rest : List ℕ) → BeginsIndex least text index rest → index_of least text ≡ Some (index, rest)
+index_of-some least text index rest (digits, parts, (are, value, small), enough) =
+    index_of-cut least text digits rest parts are.all are.ended ∙ index_from-some least digits rest are.some (omega arith) (omega arith) ∙ ap (λ n. Some (n, rest)) value
+
+index_of-none : (least : ℕ) (text : List ℕ) → LacksIndex least text → index_of least text ≡ None
+index_of-none least text (inl no_digit) = index_of-cut least text [] text refl refl no_digit
+index_of-none least text (inr (digits, rest, parts, are, wrong)) = index_of-cut least text digits rest parts are.all are.ended ∙ index_from-none least digits rest wrong
+
+-- ---- a span
+
+abbrev pair_from : ℕ → ℕ → Option (ℕ × List ℕ) → Result (Span × List ℕ) ℕ
+pair_from first place None = Err place
+pair_from first place (Some (last, rest)) = Ok (record { first = first; last = last }, rest)
+
+abbrev span_from : ℕ → Option (ℕ × List ℕ) → Result (Span × List ℕ) ℕ
+span_from size None = Err 0
+span_from size (Some (first, behind)) =
+    cond (begins_with 45 behind) (pair_from first (size - length (drop 1 behind)) (index_of first (drop 1 behind))) (Ok (record { first = first; last = first }, behind))
+
+abbrev pub span_of : List ℕ → Result (Span × List ℕ) ℕ
+span_of text = span_from (length text) (index_of 0 text)
+
+span_of-pair : (text a second : List ℕ) (first : ℕ) → text ≡ a ++ 45 ∷ second → IsIndex a first [] → span_of text ≡ pair_from first (length text - length second) (index_of first second)
+span_of-pair text a second first parts index =
+    ap (span_from (length text)) (index_of-some 0 text first (45 ∷ second) (a, parts, index_before a first [] (45 ∷ second) index refl, omega arith))
+
+pub span_of-ok : (text : List ℕ) (span : Span) (rest : List ℕ) → BeginsSpan text span rest → span_of text ≡ Ok (span, rest)
+span_of-ok text span rest (front, parts, inl (index, same, alone)) =
+    ap (span_from (length text)) (index_of-some 0 text span.first rest (front, parts, index, omega arith))
+    ∙ cond-false _ (pair_from span.first (length text - length (drop 1 rest)) (index_of span.first (drop 1 rest))) (Ok (record { first = span.first; last = span.first }, rest)) alone
+    ∙ ap (λ last. Ok (record { first = span.first; last = last }, rest)) (sym same)
+span_of-ok text span rest (front, parts, inr (a, b, halves, first, last, ordered)) =
+    span_of-pair text a (b ++ rest) span.first (parts ∙ ap (λ f. f ++ rest) halves ∙ append_assoc a (45 ∷ b) rest) first
+    ∙ ap (pair_from span.first (length text - length (b ++ rest))) (index_of-some span.first (b ++ rest) span.last rest (b, refl, last, ordered))
+
+pub span_of-err : (text : List ℕ) (place : ℕ) → IsSpanFault text place → span_of text ≡ Err place
+span_of-err text place (inl (lacks, at_front)) = ap (span_from (length text)) (index_of-none 0 text lacks) ∙ ap Err (sym at_front)
+span_of-err text place (inr (a, second, first, parts, index, lacks, behind)) =
+    let place_is : length text - length second ≡ place = omega (arith, behind, ap length parts, length-append a (45 ∷ second)) in
+    span_of-pair text a second first parts index ∙ ap (pair_from first (length text - length second)) (index_of-none first second lacks) ∙ ap Err place_is
 
 -- ---- an item
 
-abbrev pair_with : ℕ → ℕ → Result (ℕ × List ℕ) ℕ → Result (Span × List ℕ) ℕ
-pair_with first end (Ok (last, rest)) = Ok (record { first = first; last = last }, rest)
-pair_with first end (Err at) = Err (end + 1 + at)
-
-abbrev pair_from : ℕ → ℕ → List ℕ → Result (Span × List ℕ) ℕ
-pair_from first end [] = Err end
-pair_from first end (b ∷ rest) = cond (begins_with 45 (b ∷ rest)) (pair_with first end (second_of first rest)) (Err end)
-
-abbrev item_from : ℕ → Option (ℕ × List ℕ) → Result (Span × List ℕ) ℕ
-item_from size None = Err 0
-item_from size (Some (first, rest)) = cond (ends_item rest) (Ok (record { first = first; last = first }, rest)) (pair_from first (size - length rest) rest)
+abbrev item_from : ℕ → Result (Span × List ℕ) ℕ → Result (Span × List ℕ) ℕ
+item_from size (Err place) = Err place
+item_from size (Ok (span, rest)) = cond (ends_item rest) (Ok (span, rest)) (Err (size - length rest))
 
 abbrev item_of : List ℕ → Result (Span × List ℕ) ℕ
-item_of text = item_from (length text) (number_of text)
-
-pair_from-none : (first end : ℕ) (rest : List ℕ) → begins_with 45 rest ≡ false → pair_from first end rest ≡ Err end
-pair_from-none first end [] none = refl
-pair_from-none first end (b ∷ rest) none = cond-false _ (pair_with first end (second_of first rest)) (Err end) none
-
-item_of-number : (text : List ℕ) (first : ℕ) (rest : List ℕ) → BeginsNumber text first rest → ends_item rest ≡ false
-    → item_of text ≡ pair_from first (length text - length rest) rest
-item_of-number text first rest number unended =
-    ap (item_from (length text)) (number_of-some text first rest number)
-    ∙ cond-false _ (Ok (record { first = first; last = first }, rest)) (pair_from first (length text - length rest) rest) unended
-
-item_of-pair : (text : List ℕ) (first : ℕ) (rest second : List ℕ) → BeginsNumber text first rest → rest ≡ 45 ∷ second
-    → item_of text ≡ pair_with first (length text - length rest) (second_of first second)
-item_of-pair text first rest second number hyphen =
-    let P : List ℕ → Type 0 = λ r. BeginsNumber text first r → item_of text ≡ pair_with first (length text - length r) (second_of first second) in
-    subst P (sym hyphen) (λ n. item_of-number text first (45 ∷ second) n refl) number
+item_of text = item_from (length text) (span_of text)
 
 item_of-err : (text : List ℕ) (place : ℕ) → IsItemFault text place → item_of text ≡ Err place
-item_of-err text place (inl (no_digit, at_front)) = ap (item_from (length text)) (number_of-none text (inl no_digit)) ∙ ap Err (sym at_front)
-item_of-err text place (inr (digits, rest, parts, are, inl (large, at_front))) =
-    ap (item_from (length text)) (number_of-none text (inr (digits, rest, parts, are, large))) ∙ ap Err (sym at_front)
-item_of-err text place (inr (digits, rest, parts, are, inr (inl (small, unended, no_hyphen, behind)))) =
-    let place_is : length text - length rest ≡ place = omega (arith, behind, ap length parts, length-append digits rest) in
-    item_of-number text (value_of digits) rest (digits, parts, are, refl, small) unended
-    ∙ pair_from-none (value_of digits) (length text - length rest) rest no_hyphen ∙ ap Err place_is
-item_of-err text place (inr (digits, rest, parts, are, inr (inr (small, second, at, hyphen, fault, behind)))) =
-    let place_is : length text - length rest + 1 + at ≡ place = omega (arith, behind, ap length parts, length-append digits rest) in
-    item_of-pair text (value_of digits) rest second (digits, parts, are, refl, small) hyphen
-    ∙ ap (pair_with (value_of digits) (length text - length rest)) (second_of-err (value_of digits) second at fault) ∙ ap Err place_is
+item_of-err text place (inl fault) = ap (item_from (length text)) (span_of-err text place fault)
+item_of-err text place (inr (front, rest, span, parts, is, unended, behind)) =
+    let place_is : length text - length rest ≡ place = omega (arith, behind, ap length parts, length-append front rest) in
+    ap (item_from (length text)) (span_of-ok text span rest (front, parts, is)) ∙ cond-false _ (Ok (span, rest)) (Err (length text - length rest)) unended ∙ ap Err place_is
 
--- what stands behind a whole item begins with no digit
-no_digit_behind : (rest : List ℕ) → ends_item rest ≡ true → begins_digit rest ≡ false
-no_digit_behind [] ended = refl
-no_digit_behind (b ∷ rest) ended = let comma : b ≡ 44 = eqb-true b 44 ended in ap is_ascii_digit comma
+-- a span again, before something that ends the item
+span_before_end : (front : List ℕ) (span : Span) (rest : List ℕ) → IsSpan front span [] → ends_item rest ≡ true → IsSpan front span rest
+span_before_end front span [] is ended = is
+span_before_end front span (b ∷ rest) is ended = let comma : b ≡ 44 = eqb-true b 44 ended in span_before front span [] (b ∷ rest) is (ap is_ascii_digit comma) (ap (λ c. c == 45) comma)
 
-item_of-ok : (text : List ℕ) (span : Span) (rest : List ℕ) → BeginsItem text span rest → item_of text ≡ Ok (span, rest)
-item_of-ok text span rest (item, parts, inl (are, value, same, small), ended) =
-    let alone : AreDigits item rest = record { some = are.some; all = are.all; ended = no_digit_behind rest ended } in
-    ap (item_from (length text)) (number_of-some text span.first rest (item, parts, alone, value, small))
-    ∙ cond-true _ (Ok (record { first = span.first; last = span.first }, rest)) (pair_from span.first (length text - length rest) rest) ended
-    ∙ ap (λ last. Ok (record { first = span.first; last = last }, rest)) (sym same)
-item_of-ok text span rest (item, parts, inr (a, b, halves, first_are, second_are, first_value, last_value, ordered, small), ended) =
-    let whole : text ≡ a ++ (45 ∷ (b ++ rest)) = parts ∙ ap (λ i. i ++ rest) halves ∙ append_assoc a (45 ∷ b) rest in
-    let first_alone : AreDigits a (45 ∷ (b ++ rest)) = record { some = first_are.some; all = first_are.all; ended = refl } in
-    let last_alone : AreDigits b rest = record { some = second_are.some; all = second_are.all; ended = no_digit_behind rest ended } in
-    item_of-pair text span.first (45 ∷ (b ++ rest)) (b ++ rest) (a, whole, first_alone, first_value, omega arith) refl
-    ∙ ap (pair_with span.first (length text - length (45 ∷ (b ++ rest)))) (second_of-ok span.first (b ++ rest) span.last rest ((b, refl, last_alone, last_value, small), ordered, ended))
+item_of-ok : (text : List ℕ) (span : Span) (rest : List ℕ) → BeginsWhole IsItem text span rest → item_of text ≡ Ok (span, rest)
+item_of-ok text span rest (front, parts, is, ended) =
+    ap (item_from (length text)) (span_of-ok text span rest (front, parts, span_before_end front span rest is ended)) ∙ cond-true _ (Ok (span, rest)) (Err (length text - length rest)) ended
 
 -- ---- a whole list
 

@@ -1,8 +1,8 @@
 -- What a text begins with, where an item of a field list is read.
-use Rattle.std.specs.Prelude.{◌≡◌, ◌⊎◌, ℕ, ◌≤◌, Bool, true, ◌&&◌, nat_le, List, ◌∷◌, ◌++◌, Option, Some, None}
+use Rattle.std.specs.Prelude.{◌≡◌, ℕ, Bool, true, ◌&&◌, nat_le, List, ◌∷◌, ◌++◌, Option, Some, None}
 use Rattle.rec_sex.specs.declared.index_list.Span.{Span}
 use Rattle.rec_sex.specs.declared.field_list.Item.{Item}
-use Rattle.rec_sex.specs.IndexItems.{BeginsNumber}
+use Rattle.rec_sex.specs.IndexItems.{BeginsSpan}
 use Rattle.rec_sex.specs.Lists.{IsName, IsItem}
 use Rattle.rec_sex.specs.Joined.{BeginsWhole, ends_item}
 
@@ -14,15 +14,9 @@ BeginsName text name rest = (text ≡ name ++ rest) × IsName name rest
 abbrev pub Closes : List ℕ → List ℕ → Type 0
 Closes text rest = (text ≡ 93 ∷ rest) × (ends_item rest ≡ true)
 
--- the second index of a pair comes first, with the bracket that closes it
-abbrev pub ClosesPair : ℕ → List ℕ → ℕ → List ℕ → Type 0
-ClosesPair first text last rest = (behind : List ℕ) × BeginsNumber text last behind × (first ≤ last) × Closes behind rest
-
--- behind its opening bracket the rest of a subscript comes first: one index or a pair, and the closing bracket
+-- behind its opening bracket the rest of a subscript comes first: a span, and the closing bracket
 abbrev pub BeginsSubscript : List ℕ → Span → List ℕ → Type 0
-BeginsSubscript text span rest = (behind : List ℕ) × BeginsNumber text span.first behind
-    × (((span.last ≡ span.first) × Closes behind rest)
-    ⊎ ((second : List ℕ) × (behind ≡ 45 ∷ second) × ClosesPair span.first second span.last rest))
+BeginsSubscript text span rest = (behind : List ℕ) × BeginsSpan text span behind × Closes behind rest
 
 -- a whole item comes first, and what stands behind it ends it
 abbrev pub BeginsItem : List ℕ → Item → List ℕ → Type 0

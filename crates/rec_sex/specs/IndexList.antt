@@ -26,43 +26,47 @@ pub record AreDigits (digits rest : List ℕ) : Type 0 where
 abbrev pub greatest : ℕ
 greatest = 2 ^ 32 - 1
 
--- an item: `i`, or `i-j`
-abbrev pub IsItem : List ℕ → Span → Type 0
-IsItem text span =
-    (AreDigits text [] × (value_of text ≡ span.first) × (span.last ≡ span.first) × (span.first ≤ greatest))
-    ⊎ ((a b : List ℕ) × (text ≡ a ++ 45 ∷ b) × AreDigits a [] × AreDigits b []
-    × (value_of a ≡ span.first) × (value_of b ≡ span.last) × (span.first ≤ span.last) × (span.last ≤ greatest))
-
--- a list: items joined by commas, at least one
-abbrev pub AreItems : List ℕ → List Span → Type 0
-AreItems text spans = AreJoined IsItem text spans
-
 -- this byte comes first
 abbrev pub begins_with : ℕ → List ℕ → Bool
 begins_with c [] = false
 begins_with c (b ∷ bs) = b == c
 
--- The second number of a pair, behind a first number and the hyphen, has a fault at this place.
-abbrev pub IsSecondFault : ℕ → List ℕ → ℕ → Type 0
-IsSecondFault first text place =
-    -- no digit comes
-    ((begins_digit text ≡ false) × (place ≡ 0))
-    ⊎ ((digits rest : List ℕ) × (text ≡ digits ++ rest) × AreDigits digits rest
-    -- the number is too large, or less than the first
-    × ((((greatest < value_of digits) ⊎ (value_of digits < first)) × (place ≡ 0))
-    -- or something else than a comma follows
-    ⊎ ((first ≤ value_of digits) × (value_of digits ≤ greatest) × (ends_item rest ≡ false) × (place ≡ length digits))))
+-- an index, in all the digits that stand there
+abbrev pub IsIndex : List ℕ → ℕ → List ℕ → Type 0
+IsIndex digits index rest = AreDigits digits rest × (value_of digits ≡ index) × (index ≤ greatest)
+
+-- a span, as far as it goes on: one index with no hyphen behind it, or a pair `i-j` with i at most j
+abbrev pub IsSpan : List ℕ → Span → List ℕ → Type 0
+IsSpan text span rest =
+    (IsIndex text span.first rest × (span.last ≡ span.first) × (begins_with 45 rest ≡ false))
+    ⊎ ((a b : List ℕ) × (text ≡ a ++ 45 ∷ b) × IsIndex a span.first [] × IsIndex b span.last rest × (span.first ≤ span.last))
+
+-- no index that is at least this comes first: no digit does, or the digits write a lesser number or one that is too large
+abbrev pub LacksIndex : ℕ → List ℕ → Type 0
+LacksIndex least text =
+    (begins_digit text ≡ false)
+    ⊎ ((digits rest : List ℕ) × (text ≡ digits ++ rest) × AreDigits digits rest × ((value_of digits < least) ⊎ (greatest < value_of digits)))
+
+-- a span lacks an index at this place: its first, or behind that and the hyphen one that is at least the first
+abbrev pub IsSpanFault : List ℕ → ℕ → Type 0
+IsSpanFault text place =
+    (LacksIndex 0 text × (place ≡ 0))
+    ⊎ ((a second : List ℕ) × (first : ℕ) × (text ≡ a ++ 45 ∷ second) × IsIndex a first [] × LacksIndex first second × (place ≡ length a + 1))
+
+-- an item: a span, and nothing more
+abbrev pub IsItem : List ℕ → Span → Type 0
+IsItem text span = IsSpan text span []
+
+-- a list: items joined by commas, at least one
+abbrev pub AreItems : List ℕ → List Span → Type 0
+AreItems text spans = AreJoined IsItem text spans
 
 -- An item has a fault at this place: the first byte that can't go on, or its end where it ends too early; or the first
 -- digit of a number that is too large or, in a pair, less than the one before it.
 abbrev pub IsItemFault : List ℕ → ℕ → Type 0
 IsItemFault text place =
-    ((begins_digit text ≡ false) × (place ≡ 0))
-    ⊎ ((digits rest : List ℕ) × (text ≡ digits ++ rest) × AreDigits digits rest
-    × (((greatest < value_of digits) × (place ≡ 0))
-    ⊎ ((value_of digits ≤ greatest) × (ends_item rest ≡ false) × (begins_with 45 rest ≡ false) × (place ≡ length digits))
-    ⊎ ((value_of digits ≤ greatest) × (second : List ℕ) × (at : ℕ) × (rest ≡ 45 ∷ second)
-    × IsSecondFault (value_of digits) second at × (place ≡ length digits + 1 + at))))
+    IsSpanFault text place
+    ⊎ ((front rest : List ℕ) × (span : Span) × (text ≡ front ++ rest) × IsSpan front span rest × (ends_item rest ≡ false) × (place ≡ length front))
 
 -- an item of the list has a fault at this place, and those before it have none
 abbrev pub HasFault : List ℕ → ℕ → Type 0

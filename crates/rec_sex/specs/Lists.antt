@@ -1,5 +1,5 @@
 -- Lists of fields, and what they pick of a record. (Lists of indexes stand in `IndexList`.)
-use Rattle.std.specs.Prelude.{◌≡◌, ◌⊎◌, ℕ, ◌+◌, ◌<◌, ◌≤◌, Bool, true, false, List, [], ◌∷◌, ◌++◌, length, take, drop, Option, Some, None, Result, Ok, Err, if◌then◌else◌}
+use Rattle.std.specs.Prelude.{◌≡◌, ◌⊎◌, ℕ, ◌+◌, Bool, true, false, List, [], ◌∷◌, ◌++◌, length, take, drop, Option, Some, None, Result, Ok, Err, if◌then◌else◌}
 use Rattle.std.specs.List.{flat_map}
 use Rattle.std.specs.Str.{bytes_eq}
 use Rattle.rec_text.specs.declared.fault.Fault.{Fault}
@@ -9,7 +9,7 @@ pub use Rattle.rec_text.specs.Canonical.{is_field_name}
 use Rattle.rec_text.specs.Elements.{Piece, name_of}
 use Rattle.rec_sex.specs.declared.index_list.Span.{Span}
 use Rattle.rec_sex.specs.declared.field_list.Item.{Item}
-use Rattle.rec_sex.specs.IndexList.{AreDigits, value_of, greatest, begins_digit, begins_with}
+use Rattle.rec_sex.specs.IndexList.{IsSpan, IsSpanFault, begins_with}
 use Rattle.rec_sex.specs.Joined.{AreJoined, HasFaultyItem, ends_item}
 
 -- a byte that a name begins with comes first
@@ -27,13 +27,10 @@ pub record IsName (name rest : List ℕ) : Type 0 where
   pub well_formed : is_field_name name ≡ true
   pub ended : begins_continuation rest ≡ false
 
--- the occurrences that an item without a subscript means, and those from the first to the last
+-- no subscript, which means all occurrences, or a span in brackets, which means those from its first to its last
 abbrev pub IsSubscript : List ℕ → Option Span → Type 0
 IsSubscript text None = text ≡ []
-IsSubscript text (Some span) =
-    ((digits : List ℕ) × (text ≡ 91 ∷ (digits ++ 93 ∷ [])) × AreDigits digits [] × (value_of digits ≡ span.first) × (span.last ≡ span.first) × (span.first ≤ greatest))
-    ⊎ ((a b : List ℕ) × (text ≡ 91 ∷ (a ++ 45 ∷ (b ++ 93 ∷ []))) × AreDigits a [] × AreDigits b []
-    × (value_of a ≡ span.first) × (value_of b ≡ span.last) × (span.first ≤ span.last) × (span.last ≤ greatest))
+IsSubscript text (Some span) = (inside : List ℕ) × (text ≡ 91 ∷ (inside ++ 93 ∷ [])) × IsSpan inside span []
 
 -- an item: FIELD, FIELD[i] or FIELD[i-j]
 abbrev pub IsItem : List ℕ → Item → Type 0
@@ -43,29 +40,17 @@ IsItem text item = (subscript : List ℕ) × (text ≡ item.name ++ subscript) �
 abbrev pub AreItems : List ℕ → List Item → Type 0
 AreItems text items = AreJoined IsItem text items
 
--- behind a number of a subscript: its closing bracket is missing at the front of the text, or something else than the end or a comma follows it
+-- behind the span of a subscript the closing bracket is missing, or something else than the end or a comma follows it
 abbrev pub IsClosingFault : List ℕ → ℕ → Type 0
 IsClosingFault text place =
     ((begins_with 93 text ≡ false) × (place ≡ 0))
     ⊎ ((rest : List ℕ) × (text ≡ 93 ∷ rest) × (ends_item rest ≡ false) × (place ≡ 1))
 
--- the second number of a pair, behind the hyphen, has a fault at this place
-abbrev pub IsSecondFault : ℕ → List ℕ → ℕ → Type 0
-IsSecondFault first text place =
-    ((begins_digit text ≡ false) × (place ≡ 0))
-    ⊎ ((digits rest : List ℕ) × (text ≡ digits ++ rest) × AreDigits digits rest
-    × ((((greatest < value_of digits) ⊎ (value_of digits < first)) × (place ≡ 0))
-    ⊎ ((first ≤ value_of digits) × (value_of digits ≤ greatest) × (at : ℕ) × IsClosingFault rest at × (place ≡ length digits + at))))
-
 -- a subscript has a fault at this place, counted behind its opening bracket
 abbrev pub IsSubscriptFault : List ℕ → ℕ → Type 0
 IsSubscriptFault text place =
-    ((begins_digit text ≡ false) × (place ≡ 0))
-    ⊎ ((digits rest : List ℕ) × (text ≡ digits ++ rest) × AreDigits digits rest
-    × (((greatest < value_of digits) × (place ≡ 0))
-    ⊎ ((value_of digits ≤ greatest) × (begins_with 45 rest ≡ false) × (at : ℕ) × IsClosingFault rest at × (place ≡ length digits + at))
-    ⊎ ((value_of digits ≤ greatest) × (second : List ℕ) × (at : ℕ) × (rest ≡ 45 ∷ second)
-    × IsSecondFault (value_of digits) second at × (place ≡ length digits + 1 + at))))
+    IsSpanFault text place
+    ⊎ ((front rest : List ℕ) × (span : Span) × (at : ℕ) × (text ≡ front ++ rest) × IsSpan front span rest × IsClosingFault rest at × (place ≡ length front + at))
 
 -- An item has a fault at this place: the first byte that can't go on, or its end where it ends too early; or the first
 -- digit of a number that is too large or, in a pair, less than the one before it.

@@ -3,10 +3,10 @@ ghost use Rattle.std.specs.Prelude.{◌≡◌, ◌∷◌, ◌++◌, false, IfOk,
 ghost use Rattle.rec_text.specs.Bytes.{begins_name as may_begin};
 ghost use Rattle.rec_text.specs.Places.{pieces_of};
 ghost use Rattle.rec_sex.specs.IndexList.{begins_with};
-ghost use Rattle.rec_sex.specs.Lists.{begins_field, occurrences, places_from, IsClosingFault, IsSecondFault, IsSubscriptFault, IsItem, IsItemFault, picks};
-ghost use Rattle.rec_sex.specs.FieldItems.{is_among, BeginsName, Closes, ClosesPair, BeginsSubscript, BeginsItem};
+ghost use Rattle.rec_sex.specs.Lists.{begins_field, occurrences, places_from, IsClosingFault, IsSubscriptFault, IsItem, IsItemFault, picks};
+ghost use Rattle.rec_sex.specs.FieldItems.{is_among, BeginsName, Closes, BeginsSubscript, BeginsItem};
 
-use crate::index_list::{Span, behind_hyphen, ends_item, number};
+use crate::index_list::{Span, ends_item, leading_span};
 use crate::joined::{ListItem, Unread, items_of};
 use crate::lexeme::word_at;
 use crate::picking::picked_by_table;
@@ -79,39 +79,14 @@ fn behind_bracket(text: &[u8]) -> Result<&[u8], usize>
     Ok(rest)
 }
 
-/// The second index of a pair, behind the first and the hyphen, and what stands behind its bracket; or the place of the fault.
-fn last_of_subscript(first: usize, text: &[u8]) -> Result<(usize, &[u8]), usize>
-    ensures { MatchResult result (λ (last, rest). ClosesPair first text.now last rest.now) (λ place. IsSecondFault first text.now place) }
-{
-    let Some((last, behind)) = number(text) else {
-        return Err(0);
-    };
-    if last < first {
-        return Err(0);
-    }
-    match behind_bracket(behind) {
-        Ok(rest) => Ok((last, rest)),
-        Err(place) => Err(text.len() - behind.len() + place),
-    }
-}
-
 /// The occurrences that a subscript names, behind its opening bracket, and what stands behind it; or the place of the fault.
 fn subscript(text: &[u8]) -> Result<(Span, &[u8]), usize>
     ensures { MatchResult result (λ (span, rest). BeginsSubscript text.now span rest.now) (λ place. IsSubscriptFault text.now place) }
 {
-    let Some((first, behind)) = number(text) else {
-        return Err(0);
-    };
-    let end = text.len() - behind.len();
-    if let Some(second) = behind_hyphen(behind) {
-        return match last_of_subscript(first, second) {
-            Ok((last, rest)) => Ok((Span { first, last }, rest)),
-            Err(place) => Err(end + 1 + place),
-        };
-    }
+    let (span, behind) = leading_span(text)?;
     match behind_bracket(behind) {
-        Ok(rest) => Ok((Span { first, last: first }, rest)),
-        Err(place) => Err(end + place),
+        Ok(rest) => Ok((span, rest)),
+        Err(place) => Err(text.len() - behind.len() + place),
     }
 }
 

@@ -3,9 +3,9 @@ ghost use Rattle.std.specs.Prelude.{◌≡◌, ◌≤◌, ◌∷◌, true, false
 ghost use Rattle.std.specs.Char.{is_ascii_digit};
 ghost use Rattle.std.specs.List.{list_all, prefix_len};
 ghost use Rattle.std.specs.Option.{SomeIff};
-ghost use Rattle.rec_sex.specs.IndexList.{value_of, greatest, begins_with, IsSecondFault, IsItem, IsItemFault};
+ghost use Rattle.rec_sex.specs.IndexList.{value_of, greatest, begins_with, LacksIndex, IsSpanFault, IsItem, IsItemFault};
 ghost use Rattle.rec_sex.specs.Joined.{ends_item};
-ghost use Rattle.rec_sex.specs.IndexItems.{BeginsNumber, BeginsNoNumber, EndsPair, BeginsItem, AreSorted, reach_from};
+ghost use Rattle.rec_sex.specs.IndexItems.{BeginsIndex, BeginsSpan, AreSorted, reach_from};
 
 use crate::joined::{ListItem, Unread, items_of};
 use rec_text::Fault;
@@ -64,15 +64,19 @@ fn digit_count(text: &[u8]) -> usize
         .unwrap_or(text.len())
 }
 
-/// The index that a text begins with, and what stands behind it.
-pub(crate) fn number(text: &[u8]) -> Option<(usize, &[u8])>
-    ensures { MatchOption result (BeginsNoNumber text.now) (λ (index, rest). BeginsNumber text.now index rest.now) }
+/// The index that a text begins with, if it is at least this, and what stands behind it.
+fn leading_index(least: usize, text: &[u8]) -> Option<(usize, &[u8])>
+    ensures { MatchOption result (LacksIndex least text.now) (λ (index, rest). BeginsIndex least text.now index rest.now) }
 {
     let (digits, rest) = text.split_at(digit_count(text));
     if digits.is_empty() {
         return None;
     }
-    Some((index_of(digits)?, rest))
+    let index = index_of(digits)?;
+    if index < least {
+        return None;
+    }
+    Some((index, rest))
 }
 
 /// Whether an item may end before this text.
@@ -83,7 +87,7 @@ pub(crate) fn ends_item(rest: &[u8]) -> bool
 }
 
 /// What stands behind the hyphen, where one comes first.
-pub(crate) fn behind_hyphen(rest: &[u8]) -> Option<&[u8]>
+fn behind_hyphen(rest: &[u8]) -> Option<&[u8]>
     ensures { MatchOption result (begins_with 45 rest.now ≡ false) (λ second. rest.now ≡ 45 ∷ second.now) }
 {
     match rest.split_first() {
@@ -92,39 +96,19 @@ pub(crate) fn behind_hyphen(rest: &[u8]) -> Option<&[u8]>
     }
 }
 
-/// The second index of a pair, behind the first and the hyphen, and what stands behind it; or the place of the fault.
-fn last_of_pair(first: usize, text: &[u8]) -> Result<(usize, &[u8]), usize>
-    ensures { MatchResult result (λ (last, rest). EndsPair first text.now last rest.now) (λ place. IsSecondFault first text.now place) }
-{
-    let Some((last, rest)) = number(text) else {
-        return Err(0);
-    };
-    if last < first {
-        return Err(0);
-    }
-    if !ends_item(rest) {
-        return Err(text.len() - rest.len());
-    }
-    Ok((last, rest))
-}
-
 /// The span that a text begins with, and what stands behind it; or the place of its fault.
-fn leading_span(text: &[u8]) -> Result<(Span, &[u8]), usize>
-    ensures { MatchResult result (λ (span, rest). BeginsItem text.now span rest.now) (λ place. IsItemFault text.now place) }
+pub(crate) fn leading_span(text: &[u8]) -> Result<(Span, &[u8]), usize>
+    ensures { MatchResult result (λ (span, rest). BeginsSpan text.now span rest.now) (λ place. IsSpanFault text.now place) }
 {
-    let Some((first, behind)) = number(text) else {
+    let Some((first, behind)) = leading_index(0, text) else {
         return Err(0);
     };
-    if ends_item(behind) {
-        return Ok((Span { first, last: first }, behind));
-    }
-    let end = text.len() - behind.len();
     let Some(second) = behind_hyphen(behind) else {
-        return Err(end);
+        return Ok((Span { first, last: first }, behind));
     };
-    match last_of_pair(first, second) {
-        Ok((last, rest)) => Ok((Span { first, last }, rest)),
-        Err(place) => Err(end + 1 + place),
+    match leading_index(first, second) {
+        Some((last, rest)) => Ok((Span { first, last }, rest)),
+        None => Err(text.len() - second.len()),
     }
 }
 
@@ -134,7 +118,11 @@ impl ListItem for Span {
     ghost is_fault = { IsItemFault };
 
     fn leading(_alloc: Global, text: &[u8]) -> Result<(Span, &[u8]), Unread> {
-        leading_span(text).map_err(Unread::FaultAt)
+        let (span, rest) = leading_span(text).map_err(Unread::FaultAt)?;
+        if !ends_item(rest) {
+            return Err(Unread::FaultAt(text.len() - rest.len()));
+        }
+        Ok((span, rest))
     }
 }
 

@@ -12,7 +12,7 @@ use Rattle.rec_sex.specs.IndexList.{begins_with}
 use Rattle.rec_sex.specs.Joined.{ends_item}
 use Rattle.rec_sex.specs.Lists.{is_field_name, begins_field, begins_continuation, IsName, IsItem, IsClosingFault, IsSubscriptFault, IsItemFault, IsFieldList}
 use Rattle.rec_sex.specs.FieldItems.{BeginsName, Closes, BeginsSubscript, BeginsItem}
-use Rattle.rec_sex.proofs.JoinedReading.{IsList, one_list}
+use Rattle.rec_sex.proofs.JoinedReading.{IsList, told, one_answer}
 use Rattle.rec_sex.proofs.IndexListReading.{span_of, span_of-ok, span_of-err}
 use Rattle.rec_sex.proofs.IndexListLemmas.{span_before}
 
@@ -150,14 +150,11 @@ item_of-whole text item rest begins = item_of-ok text item.name item.occurrences
 
 -- a fault's place, in place of the fault
 place_of : (text : List ℕ) (answer : Result (List Item) Fault) → IsFieldList text answer
-    → (places : Result (List Item) ℕ) × IsList IsItem IsItemFault text places × (elim places as (λ _. Result (List Item) Fault) [ Ok items ↦ Ok items | Err place ↦ Err (BadFieldList place) ] ≡ answer)
+    → (places : Result (List Item) ℕ) × IsList IsItem IsItemFault text places × (told BadFieldList places ≡ answer)
 place_of text (Ok items) are = (Ok items, are, refl)
 place_of text (Err (BadFieldList place)) has = (Err place, has, refl)
 place_of text (Err _) none = absurd none
 
 -- a text has at most one reading
 pub one_field_list : (text : List ℕ) (some : Result (List Item) Fault) → IsFieldList text some → (other : Result (List Item) Fault) → IsFieldList text other → some ≡ other
-one_field_list text some is other is_too =
-    let (one, one_is, e) = place_of text some is in
-    let (two, two_is, f) = place_of text other is_too in
-    sym e ∙ ap (λ r. elim r as (λ _. Result (List Item) Fault) [ Ok items ↦ Ok items | Err place ↦ Err (BadFieldList place) ]) (one_list IsItem IsItemFault item_of item_of-whole item_of-err text one two one_is two_is) ∙ f
+one_field_list text = one_answer IsItem IsItemFault item_of item_of-whole item_of-err BadFieldList text (IsFieldList text) (place_of text)

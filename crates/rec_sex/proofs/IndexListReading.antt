@@ -12,7 +12,7 @@ use Rattle.rec_sex.specs.IndexList.{IsIndex, IsSpan, LacksIndex, IsSpanFault, Is
 use Rattle.rec_sex.specs.IndexItems.{BeginsIndex, BeginsSpan}
 use Rattle.rec_sex.specs.Joined.{BeginsWhole, ends_item}
 use Rattle.rec_sex.proofs.IndexListLemmas.{index_before, span_before}
-use Rattle.rec_sex.proofs.JoinedReading.{IsList, one_list}
+use Rattle.rec_sex.proofs.JoinedReading.{IsList, told, one_answer}
 
 -- ---- an index
 
@@ -126,14 +126,11 @@ item_of-ok text span rest (front, parts, is, ended) =
 
 -- a fault's place, in place of the fault
 place_of : (text : List ℕ) (answer : Result (List Span) Fault) → IsIndexList text answer
-    → (places : Result (List Span) ℕ) × IsList IsItem IsItemFault text places × (elim places as (λ _. Result (List Span) Fault) [ Ok spans ↦ Ok spans | Err place ↦ Err (BadIndexList place) ] ≡ answer)
+    → (places : Result (List Span) ℕ) × IsList IsItem IsItemFault text places × (told BadIndexList places ≡ answer)
 place_of text (Ok spans) are = (Ok spans, are, refl)
 place_of text (Err (BadIndexList place)) has = (Err place, has, refl)
 place_of text (Err _) none = absurd none
 
 -- a text has at most one reading
 pub one_index_list : (text : List ℕ) (some : Result (List Span) Fault) → IsIndexList text some → (other : Result (List Span) Fault) → IsIndexList text other → some ≡ other
-one_index_list text some is other is_too =
-    let (one, one_is, e) = place_of text some is in
-    let (two, two_is, f) = place_of text other is_too in
-    sym e ∙ ap (λ r. elim r as (λ _. Result (List Span) Fault) [ Ok spans ↦ Ok spans | Err place ↦ Err (BadIndexList place) ]) (one_list IsItem IsItemFault item_of item_of-ok item_of-err text one two one_is two_is) ∙ f
+one_index_list text = one_answer IsItem IsItemFault item_of item_of-ok item_of-err BadIndexList text (IsIndexList text) (place_of text)

@@ -17,56 +17,56 @@ abbrev list_of : {I : Type 0} → (List ℕ → Result (I × List ℕ) ℕ) → 
 list_of item_of zero start text = Err start
 list_of item_of (suc bytes) start text = list_from (list_of item_of bytes) start (length text) (item_of text)
 
-list_of-ok : {I : Type 0} (IsItem : List ℕ → I → Type 0) (item_of : List ℕ → Result (I × List ℕ) ℕ)
-    → ((text : List ℕ) (item : I) (rest : List ℕ) → BeginsWhole IsItem text item rest → item_of text ≡ Ok (item, rest))
-    → (bytes start : ℕ) (text : List ℕ) (items : List I) → length text < bytes → AreJoined IsItem text items → list_of item_of bytes start text ≡ Ok items
-list_of-ok IsItem item_of reads zero start text items short are = absurd (omega arith)
-list_of-ok IsItem item_of reads (suc bytes) start text [] short are = absurd are
-list_of-ok IsItem item_of reads (suc bytes) start text (item ∷ []) short is =
-    ap (list_from (list_of item_of bytes) start (length text)) (reads text item [] (text, sym (append-nil text), is, refl))
-list_of-ok IsItem item_of reads (suc bytes) start text (item ∷ next ∷ items) short (front, rest, parts, is, more) =
-    let shorter : length rest < bytes = omega (arith, short, ap length parts, length-append front (44 ∷ rest)) in
-    ap (list_from (list_of item_of bytes) start (length text)) (reads text item (44 ∷ rest) (front, parts, is, refl))
-    ∙ ap (list_with item) (list_of-ok IsItem item_of reads bytes (start + (length text - length rest)) rest (next ∷ items) shorter more)
-
-list_of-err : {I : Type 0} (IsItem : List ℕ → I → Type 0) (IsFault : List ℕ → ℕ → Type 0) (item_of : List ℕ → Result (I × List ℕ) ℕ)
-    → ((text : List ℕ) (item : I) (rest : List ℕ) → BeginsWhole IsItem text item rest → item_of text ≡ Ok (item, rest))
-    → ((text : List ℕ) (place : ℕ) → IsFault text place → item_of text ≡ Err place)
-    → (bytes start : ℕ) (text before : List ℕ) (items : List I) (rest : List ℕ) (at : ℕ) → length text < bytes → text ≡ before ++ rest
-    → AreWithCommas IsItem before items → IsFault rest at → list_of item_of bytes start text ≡ Err (start + (length before + at))
-list_of-err IsItem IsFault item_of reads refuses zero start text before items rest at short parts whole fault = absurd (omega arith)
-list_of-err IsItem IsFault item_of reads refuses (suc bytes) start text before [] rest at short parts none fault =
-    let P : List ℕ → Type 0 = λ t. IsFault t at in
-    let place_is : start + at ≡ start + (length before + at) = omega (arith, ap length none) in
-    ap (list_from (list_of item_of bytes) start (length text)) (refuses text at (subst P (sym (parts ∙ ap (λ b. b ++ rest) none)) fault)) ∙ ap Err place_is
-list_of-err IsItem IsFault item_of reads refuses (suc bytes) start text before (item ∷ items) rest at short parts (front, more, halves, is, whole) fault =
-    let cut : text ≡ front ++ (44 ∷ (more ++ rest)) = parts ∙ ap (λ b. b ++ rest) halves ∙ append_assoc front (44 ∷ more) rest in
-    let size : length text ≡ length front + suc (length (more ++ rest)) = ap length cut ∙ length-append front (44 ∷ (more ++ rest)) in
-    let size_before : length before ≡ length front + suc (length more) = ap length halves ∙ length-append front (44 ∷ more) in
-    let place_is : start + (length text - length (more ++ rest)) + (length more + at) ≡ start + (length before + at) = omega arith in
-    ap (list_from (list_of item_of bytes) start (length text)) (reads text item (44 ∷ (more ++ rest)) (front, cut, is, refl))
-    ∙ ap (list_with item) (list_of-err IsItem IsFault item_of reads refuses bytes (start + (length text - length (more ++ rest))) (more ++ rest) more items rest at (omega arith) refl whole fault)
-    ∙ ap Err place_is
-
--- ---- the one reading
-
 -- items joined by commas, or the place of a fault
 abbrev pub IsList : {I : Type 0} → (List ℕ → I → Type 0) → (List ℕ → ℕ → Type 0) → List ℕ → Result (List I) ℕ → Type 0
 IsList IsItem IsFault text (Ok items) = AreJoined IsItem text items
 IsList IsItem IsFault text (Err place) = HasFaultyItem IsItem IsFault text place
 
-is_list_of : {I : Type 0} (IsItem : List ℕ → I → Type 0) (IsFault : List ℕ → ℕ → Type 0) (item_of : List ℕ → Result (I × List ℕ) ℕ)
-    → ((text : List ℕ) (item : I) (rest : List ℕ) → BeginsWhole IsItem text item rest → item_of text ≡ Ok (item, rest))
-    → ((text : List ℕ) (place : ℕ) → IsFault text place → item_of text ≡ Err place)
-    → (text : List ℕ) (answer : Result (List I) ℕ) → IsList IsItem IsFault text answer → list_of item_of (length text + 1) 0 text ≡ answer
-is_list_of IsItem IsFault item_of reads refuses text (Ok items) are = list_of-ok IsItem item_of reads (length text + 1) 0 text items (omega arith) are
-is_list_of IsItem IsFault item_of reads refuses text (Err place) has =
-    list_of-err IsItem IsFault item_of reads refuses (length text + 1) 0 text has.before has.items has.rest has.at (omega arith) has.parts has.whole has.bad
-    ∙ ap Err (let e : 0 + (length has.before + has.at) ≡ place = omega (arith, has.behind) in e)
+-- a fault that tells its place, where there is one
+abbrev pub told : {I F : Type 0} → (ℕ → F) → Result (List I) ℕ → Result (List I) F
+told fault (Ok items) = Ok items
+told fault (Err place) = Err (fault place)
 
-pub one_list : {I : Type 0} (IsItem : List ℕ → I → Type 0) (IsFault : List ℕ → ℕ → Type 0) (item_of : List ℕ → Result (I × List ℕ) ℕ)
-    → ((text : List ℕ) (item : I) (rest : List ℕ) → BeginsWhole IsItem text item rest → item_of text ≡ Ok (item, rest))
-    → ((text : List ℕ) (place : ℕ) → IsFault text place → item_of text ≡ Err place)
-    → (text : List ℕ) (some other : Result (List I) ℕ) → IsList IsItem IsFault text some → IsList IsItem IsFault text other → some ≡ other
-one_list IsItem IsFault item_of reads refuses text some other is is_too =
-    sym (is_list_of IsItem IsFault item_of reads refuses text some is) ∙ is_list_of IsItem IsFault item_of reads refuses text other is_too
+module _ {I : Type 0} (IsItem : List ℕ → I → Type 0) (IsFault : List ℕ → ℕ → Type 0) (item_of : List ℕ → Result (I × List ℕ) ℕ)
+    (reads : (text : List ℕ) (item : I) (rest : List ℕ) → BeginsWhole IsItem text item rest → item_of text ≡ Ok (item, rest))
+    (refuses : (text : List ℕ) (place : ℕ) → IsFault text place → item_of text ≡ Err place) where
+  list_of-ok : (bytes start : ℕ) (text : List ℕ) (items : List I) → length text < bytes → AreJoined IsItem text items → list_of item_of bytes start text ≡ Ok items
+  list_of-ok zero start text items short are = absurd (omega arith)
+  list_of-ok (suc bytes) start text [] short are = absurd are
+  list_of-ok (suc bytes) start text (item ∷ []) short is =
+      ap (list_from (list_of item_of bytes) start (length text)) (reads text item [] (text, sym (append-nil text), is, refl))
+  list_of-ok (suc bytes) start text (item ∷ next ∷ items) short (front, rest, parts, is, more) =
+      let shorter : length rest < bytes = omega (arith, short, ap length parts, length-append front (44 ∷ rest)) in
+      ap (list_from (list_of item_of bytes) start (length text)) (reads text item (44 ∷ rest) (front, parts, is, refl))
+      ∙ ap (list_with item) (list_of-ok bytes (start + (length text - length rest)) rest (next ∷ items) shorter more)
+
+  list_of-err : (bytes start : ℕ) (text before : List ℕ) (items : List I) (rest : List ℕ) (at : ℕ) → length text < bytes → text ≡ before ++ rest
+      → AreWithCommas IsItem before items → IsFault rest at → list_of item_of bytes start text ≡ Err (start + (length before + at))
+  list_of-err zero start text before items rest at short parts whole fault = absurd (omega arith)
+  list_of-err (suc bytes) start text before [] rest at short parts none fault =
+      let P : List ℕ → Type 0 = λ t. IsFault t at in
+      let place_is : start + at ≡ start + (length before + at) = omega (arith, ap length none) in
+      ap (list_from (list_of item_of bytes) start (length text)) (refuses text at (subst P (sym (parts ∙ ap (λ b. b ++ rest) none)) fault)) ∙ ap Err place_is
+  list_of-err (suc bytes) start text before (item ∷ items) rest at short parts (front, more, halves, is, whole) fault =
+      let cut : text ≡ front ++ (44 ∷ (more ++ rest)) = parts ∙ ap (λ b. b ++ rest) halves ∙ append_assoc front (44 ∷ more) rest in
+      let size : length text ≡ length front + suc (length (more ++ rest)) = ap length cut ∙ length-append front (44 ∷ (more ++ rest)) in
+      let size_before : length before ≡ length front + suc (length more) = ap length halves ∙ length-append front (44 ∷ more) in
+      let place_is : start + (length text - length (more ++ rest)) + (length more + at) ≡ start + (length before + at) = omega arith in
+      ap (list_from (list_of item_of bytes) start (length text)) (reads text item (44 ∷ (more ++ rest)) (front, cut, is, refl))
+      ∙ ap (list_with item) (list_of-err bytes (start + (length text - length (more ++ rest))) (more ++ rest) more items rest at (omega arith) refl whole fault)
+      ∙ ap Err place_is
+
+  is_list_of : (text : List ℕ) (answer : Result (List I) ℕ) → IsList IsItem IsFault text answer → list_of item_of (length text + 1) 0 text ≡ answer
+  is_list_of text (Ok items) are = list_of-ok (length text + 1) 0 text items (omega arith) are
+  is_list_of text (Err place) has =
+      list_of-err (length text + 1) 0 text has.before has.items has.rest has.at (omega arith) has.parts has.whole has.bad
+      ∙ ap Err (let e : 0 + (length has.before + has.at) ≡ place = omega (arith, has.behind) in e)
+
+  -- a text has at most one answer, where each is a list or tells the place of a fault
+  pub one_answer : {F : Type 0} (fault : ℕ → F) (text : List ℕ) (IsAnswer : Result (List I) F → Type 0)
+      → ((answer : Result (List I) F) → IsAnswer answer → (places : Result (List I) ℕ) × IsList IsItem IsFault text places × (told fault places ≡ answer))
+      → (some : Result (List I) F) → IsAnswer some → (other : Result (List I) F) → IsAnswer other → some ≡ other
+  one_answer fault text IsAnswer place_of some is other is_too =
+      let (one, one_is, e) = place_of some is in
+      let (two, two_is, f) = place_of other is_too in
+      sym e ∙ ap (told fault) (sym (is_list_of text one one_is) ∙ is_list_of text two two_is) ∙ f

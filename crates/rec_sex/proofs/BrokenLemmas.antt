@@ -13,7 +13,7 @@ use Rattle.rec_sex.specs.IndexList.{begins_digit, value_of, greatest}
 use Rattle.rec_sex.specs.Integers.{magnitude_of}
 use Rattle.rec_sex.specs.Tokens.{Whole, Broken, literal_from, literal_at, integer_at, name_at, behind_name, subscript_at, closing_at, count_at, token_of_one, token_of_two, of_one, operator_at, lexeme_at}
 use Rattle.rec_sex.specs.TokenSpellings.{is_word, IsSubscriptFault, IsFaultInside}
-use Rattle.rec_sex.proofs.SpellingLemmas.{if_then, if_else, begins, while_none, word_continues, not_empty, subscript_with, subscript_is_with, word_is_read}
+use Rattle.rec_sex.proofs.SpellingLemmas.{if_then, if_else, while_none, word_continues, not_empty, subscript_with, subscript_is_with, word_is_read}
 use Rattle.rec_sex.proofs.LongestLemmas.{if_cases, split, word_of_letter, some_digits}
 
 same_inside : (a at : ℕ) → Broken a ≡ Broken at → at ≡ a
@@ -71,14 +71,6 @@ operator_inside (b ∷ c ∷ bs) at e =
 
 -- ---- subscripts
 
-no_digit_begins : (rest : List ℕ) → begins is_ascii_digit rest ≡ false → begins_digit rest ≡ false
-no_digit_begins [] e = refl
-no_digit_begins (b ∷ bs) e = e
-
-no_digit : (rest : List ℕ) → begins_digit rest ≡ false → begins is_ascii_digit rest ≡ false
-no_digit [] e = refl
-no_digit (b ∷ bs) e = e
-
 closing_inside : (name : List ℕ) (n : ℕ) (s : List ℕ) (len at : ℕ) → closing_at name n s len ≡ Broken at → at ≡ len
 closing_inside name n [] len at e = same_inside len at e
 closing_inside name n (b ∷ bs) len at e = if_cases (at ≡ len) (b == 93) (Whole (Occurrence name n) (len + 1)) (Broken len) (Broken at) (λ h f. absurd (cc)) (λ h f. same_inside len at f) e
@@ -112,7 +104,7 @@ subscript_inside name s len at e =
     let digits = take_while is_ascii_digit s in
     let cut = split is_ascii_digit s in
     let behind : drop (length digits) s ≡ cut.rest = ap (drop (length digits)) cut.parts ∙ drop_at digits cut.rest (length digits) refl in
-    broken_subscript digits cut.rest s len at cut.parts cut.all (no_digit_begins cut.rest cut.ended) name (ap (λ x. subscript_with name digits x len) (sym behind) ∙ e)
+    broken_subscript digits cut.rest s len at cut.parts cut.all cut.ended name (ap (λ x. subscript_with name digits x len) (sym behind) ∙ e)
 
 behind_name_inside : (name rest : List ℕ) (at : ℕ) → is_word name ≡ true → behind_name name rest ≡ Broken at → IsFaultInside (name ++ rest) at
 behind_name_inside name [] at w e = absurd (cc)
@@ -159,12 +151,12 @@ fault_is_read : (name s : List ℕ) (len inside at : ℕ) → IsSubscriptFault s
 fault_is_read name s len inside at fault e =
     ⊎_elim
     (λ (t : (begins_digit s ≡ false) × (inside ≡ 0)).
-    let here : Broken len ≡ Broken at = sym (ap (λ x. subscript_with name x (drop (length x) s) len) (while_none is_ascii_digit s (no_digit s t.0))) ∙ e in
+    let here : Broken len ≡ Broken at = sym (ap (λ x. subscript_with name x (drop (length x) s) len) (while_none is_ascii_digit s t.0)) ∙ e in
     omega (arith, same_inside len at here, t.1))
     (λ t.
     let digits = t.0 in
     let rest = t.1 in
-    let with_digits : subscript_with name digits rest len ≡ Broken at = sym (subscript_is_with name digits rest len t.3.all (no_digit rest t.3.ended)) ∙ ap (λ x. subscript_at name x len) (sym t.2) ∙ e in
+    let with_digits : subscript_with name digits rest len ≡ Broken at = sym (subscript_is_with name digits rest len t.3.all t.3.ended) ∙ ap (λ x. subscript_at name x len) (sym t.2) ∙ e in
     ⊎_elim
     (λ (u : (greatest < value_of digits) × (inside ≡ 0)). let here : Broken len ≡ Broken at = sym (large_is_broken name digits rest len u.0) ∙ with_digits in omega (arith, same_inside len at here, u.1))
     (λ u. let here : closing_at name (value_of digits) rest (len + length digits) ≡ Broken at = sym (small_is_closed name digits rest len t.3.some u.0) ∙ with_digits in

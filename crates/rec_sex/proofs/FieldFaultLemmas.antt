@@ -4,9 +4,10 @@ use Rattle.std.proofs.lemmas.List.{append_assoc, append-nil, length-append}
 use Rattle.rec_text.specs.declared.fault.Fault.TheVariants.{BadFieldList}
 use Rattle.rec_sex.specs.declared.index_list.Span.{Span}
 use Rattle.rec_sex.specs.declared.field_list.Item.{Item}
-use Rattle.rec_sex.specs.IndexList.{IsSpan, begins_with}
+use Rattle.rec_sex.specs.IndexList.{IsSpan, begins, begins_with}
+use Rattle.rec_text.specs.Bytes.{continues_name}
 use Rattle.rec_sex.specs.Joined.{ends_item}
-use Rattle.rec_sex.specs.Lists.{IsSubscript, IsItem, IsSubscriptFault, IsItemFault, HasFault, begins_field, begins_continuation}
+use Rattle.rec_sex.specs.Lists.{IsSubscript, IsItem, IsSubscriptFault, IsItemFault, HasFault, begins_field}
 use Rattle.rec_sex.specs.FaultPlaces.{IsFields, IsFirstFault}
 use Rattle.rec_sex.proofs.IndexListLemmas.{span_before, span_before_same}
 use Rattle.rec_sex.proofs.IndexFaultLemmas.{span_goes_wrong}
@@ -73,7 +74,7 @@ item_goes_wrong text place (inr (name, rest, parts, is, inl (no_subscript, unend
   size = behind;
   rest = [];
   whole = (record { name = name; occurrences = None }, ([], refl, is.well_formed, refl));
-  stuck = stuck_at_byte IsItemFault name (λ t. (begins_continuation t ≡ false) × (begins_with 91 t ≡ false) × (ends_item t ≡ false)) rest (is.ended, no_subscript, unended) (λ b more other q. q)
+  stuck = stuck_at_byte IsItemFault name (λ t. (begins continues_name t ≡ false) × (begins_with 91 t ≡ false) × (ends_item t ≡ false)) rest (is.ended, no_subscript, unended) (λ b more other q. q)
       (λ other (fails, opens, ends). inr (name, other, refl, record { well_formed = is.well_formed; ended = fails }, inl (opens, ends, refl)));
 }
 item_goes_wrong text place (inr (name, rest, parts, is, inr (inside, at, opening, fault, behind))) =

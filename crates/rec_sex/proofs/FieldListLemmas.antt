@@ -1,30 +1,20 @@
 -- Names, items and whole field lists.
-use Rattle.std.proofs.Common.{◌≡◌, ◌∙◌, ℕ, ◌+◌, true, false, List, [], ◌∷◌, ◌++◌, length, take, drop, Some, None, refl, ap, sym, subst, inl, inr}
+use Rattle.std.proofs.Common.{◌≡◌, ◌∙◌, ℕ, ◌+◌, true, List, [], ◌∷◌, ◌++◌, length, take, drop, Some, None, refl, ap, sym, subst}
 use Rattle.std.proofs.lemmas.List.{append_assoc, append-nil, length-take-le, take-append-drop}
 use Rattle.std.proofs.Math.Numerals.{one-add}
 use Rattle.std.proofs.lemmas.List.Sums.{prefix_len-le-length}
-use Rattle.std.proofs.lemmas.Bool.{cases_Bool}
 use Rattle.std.specs.List.{prefix_len, take_while}
 use Rattle.rec_text.specs.Bytes.{begins_name, continues_name}
 use Rattle.rec_sex.specs.declared.index_list.Span.{Span}
-use Rattle.rec_sex.specs.Lists.{begins_continuation}
 use Rattle.rec_sex.specs.Joined.{ends_item}
 use Rattle.rec_sex.specs.FieldItems.{BeginsName, BeginsSubscript, BeginsItem}
-use Rattle.rec_sex.proofs.IndexListLemmas.{list_all-front, span_before}
+use Rattle.rec_sex.proofs.IndexListLemmas.{list_all-front, begins-behind, span_before}
 
 -- ---- names
 
 -- how many bytes that a name goes on with come first
 pub length-word : (bytes : List ℕ) → length (take_while continues_name bytes) ≡ prefix_len continues_name bytes
 length-word bytes = length-take-le (prefix_len continues_name bytes) bytes (prefix_len-le-length continues_name bytes)
-
-begins_continuation-behind : (bytes : List ℕ) → begins_continuation (drop (prefix_len continues_name bytes) bytes) ≡ false
-begins_continuation-behind [] = refl
-begins_continuation-behind (b ∷ bytes) =
-    elim (cases_Bool (continues_name b)) [
-      | inl passes ↦ rw (passes, one-add) (begins_continuation-behind bytes)
-      | inr fails ↦ rw fails fails
-    ]
 
 -- the name at the front of a text, whose first byte begins one
 BeginsName-first : (b : ℕ) (bytes : List ℕ) → begins_name b ≡ true
@@ -33,7 +23,7 @@ BeginsName-first b bytes begins = (
   ap (λ t. b ∷ t) (sym (take-append-drop (prefix_len continues_name bytes) bytes)),
   record {
     well_formed = rw begins (list_all-front continues_name bytes);
-    ended = begins_continuation-behind bytes;
+    ended = begins-behind continues_name bytes;
   },
 )
 

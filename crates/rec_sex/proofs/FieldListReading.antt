@@ -1,20 +1,20 @@
 -- A text has at most one reading as a field list: the one that is computed here.
 use Rattle.std.proofs.Common.{◌≡◌, ◌∙◌, ℕ, ◌+◌, ◌-◌, Bool, true, false, cond, List, [], ◌∷◌, ◌++◌, length, take, drop, Option, Some, None, Result, Ok, Err, refl, ap, sym, inl, inr, arith}
 use Rattle.std.proofs.lemmas.List.{append_assoc, append-nil, length-append, take_at, drop_at}
-use Rattle.std.proofs.lemmas.Bool.{and_parts, cond-true, cond-false, eqb-true}
+use Rattle.std.proofs.lemmas.Bool.{cond-true, cond-false, eqb-true}
 use Rattle.std.specs.List.{list_all, prefix_len}
 use Rattle.rec_text.specs.Bytes.{begins_name, continues_name}
 use Rattle.rec_text.specs.declared.fault.Fault.{Fault}
 use Rattle.rec_text.specs.declared.fault.Fault.TheVariants.{BadFieldList}
 use Rattle.rec_sex.specs.declared.index_list.Span.{Span}
 use Rattle.rec_sex.specs.declared.field_list.Item.{Item}
-use Rattle.rec_sex.specs.IndexList.{begins_with}
+use Rattle.rec_sex.specs.IndexList.{begins, begins_with}
 use Rattle.rec_sex.specs.Joined.{ends_item}
-use Rattle.rec_sex.specs.Lists.{is_field_name, begins_field, begins_continuation, IsName, IsItem, IsClosingFault, IsSubscriptFault, IsItemFault, IsFieldList}
+use Rattle.rec_sex.specs.Lists.{is_field_name, begins_field, IsName, IsItem, IsClosingFault, IsSubscriptFault, IsItemFault, IsFieldList}
 use Rattle.rec_sex.specs.FieldItems.{BeginsName, Closes, BeginsSubscript, BeginsItem}
 use Rattle.rec_sex.proofs.JoinedReading.{IsList, told, one_answer}
 use Rattle.rec_sex.proofs.IndexListReading.{span_of, span_of-ok, span_of-err}
-use Rattle.rec_sex.proofs.IndexListLemmas.{span_before}
+use Rattle.rec_sex.proofs.IndexListLemmas.{prefix_len-all, span_before}
 
 -- ---- a name
 
@@ -25,23 +25,15 @@ name_len (b ∷ bytes) = 1 + prefix_len continues_name bytes
 abbrev name_of : List ℕ → Option (List ℕ × List ℕ)
 name_of text = cond (begins_field text) (Some (take (name_len text) text, drop (name_len text) text)) None
 
-prefix_len-continuation : (bytes rest : List ℕ) → list_all continues_name bytes ≡ true → begins_continuation rest ≡ false → prefix_len continues_name (bytes ++ rest) ≡ length bytes
-prefix_len-continuation [] [] all ended = refl
-prefix_len-continuation [] (b ∷ rest) all ended = rw ended refl
-prefix_len-continuation (d ∷ bytes) rest all ended =
-    let parts = and_parts (continues_name d) (list_all continues_name bytes) all in
-    let more = prefix_len-continuation bytes rest parts.1 ended in
-    rw (parts.0, more) (omega arith)
-
 -- the two parts of a test for a name
 name_parts : (first all : Bool) → cond first all false ≡ true → (first ≡ true) × (all ≡ true)
 name_parts true all is = (refl, is)
 name_parts false all is = absurd (cc)
 
-name_of-at : (b : ℕ) (bytes rest : List ℕ) → is_field_name (b ∷ bytes) ≡ true → begins_continuation rest ≡ false → name_of (b ∷ (bytes ++ rest)) ≡ Some (b ∷ bytes, rest)
+name_of-at : (b : ℕ) (bytes rest : List ℕ) → is_field_name (b ∷ bytes) ≡ true → begins continues_name rest ≡ false → name_of (b ∷ (bytes ++ rest)) ≡ Some (b ∷ bytes, rest)
 name_of-at b bytes rest is ended =
     let parts = name_parts (begins_name b) (list_all continues_name bytes) is in
-    let count : 1 + prefix_len continues_name (bytes ++ rest) ≡ length (b ∷ bytes) = omega (arith, prefix_len-continuation bytes rest parts.1 ended) in
+    let count : 1 + prefix_len continues_name (bytes ++ rest) ≡ length (b ∷ bytes) = omega (arith, prefix_len-all continues_name bytes rest parts.1 ended) in
     let whole = b ∷ (bytes ++ rest) in
     cond-true (begins_name b) (Some (take (name_len whole) whole, drop (name_len whole) whole)) None parts.0
     ∙ ap (λ n. Some (take n whole, drop n whole)) count
@@ -123,7 +115,7 @@ item_of-err text place (inr (name, rest, parts, is, inr (inside, at, opening, fa
     item_of-subscript text name rest inside (parts, is) opening ∙ ap (named_with name) (subscript_of-err inside at fault) ∙ ap Err (sym behind)
 
 -- what stands behind a whole item goes on with no name
-no_continuation_behind : (rest : List ℕ) → ends_item rest ≡ true → begins_continuation rest ≡ false
+no_continuation_behind : (rest : List ℕ) → ends_item rest ≡ true → begins continues_name rest ≡ false
 no_continuation_behind [] ended = refl
 no_continuation_behind (b ∷ rest) ended = let comma : b ≡ 44 = eqb-true b 44 ended in ap continues_name comma
 

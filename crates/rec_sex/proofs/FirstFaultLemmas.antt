@@ -10,7 +10,7 @@ use Rattle.std.specs.List.{prefix_len}
 use Rattle.rec_sex.specs.IndexList.{AreDigits, value_of, greatest}
 use Rattle.rec_sex.specs.Joined.{AreJoined, HasFaultyItem}
 use Rattle.rec_sex.specs.FaultPlaces.{BeginsList, IsLess, HasBadNumber, IsFirstFault}
-use Rattle.rec_sex.proofs.IndexListLemmas.{value-le-fold, list_all-front, begins_digit-behind, digits_alone}
+use Rattle.rec_sex.proofs.IndexListLemmas.{value-le-fold, list_all-front, begins-behind, digits_alone}
 use Rattle.rec_sex.proofs.JoinedLemmas.{AreJoined-push}
 
 -- with these bytes behind the front there is that fault, whatever follows them
@@ -59,7 +59,7 @@ more_digits digits other are large =
       record {
         some = λ none. absurd (are.some (nil_from_length digits (omega (arith, ap length none, length-append digits more))));
         all = list_all-append is_ascii_digit digits more ∙ and_from _ _ are.all (list_all-front is_ascii_digit other);
-        ended = begins_digit-behind other;
+        ended = begins-behind is_ascii_digit other;
       },
       omega (arith, grown, value-le-fold (value_of digits) more),
     )

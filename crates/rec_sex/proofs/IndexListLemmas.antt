@@ -4,11 +4,11 @@ use Rattle.std.proofs.lemmas.List.{append_assoc, length-append, take-append-drop
 use Rattle.std.proofs.Math.Numerals.{one-add}
 use Rattle.std.proofs.lemmas.List.Folds.{length-prefix_len}
 use Rattle.std.proofs.lemmas.List.Sums.{fold-append, fold_more, prefix_len-le-length}
-use Rattle.std.proofs.lemmas.Bool.{and_from, cases_lt, cases_Bool, cond-true, cond-false, le-ltb, lt-ltb}
+use Rattle.std.proofs.lemmas.Bool.{and_from, and_parts, cases_lt, cases_Bool, cond-true, cond-false, le-ltb, lt-ltb}
 use Rattle.std.specs.Char.{is_ascii_digit}
 use Rattle.std.specs.List.{list_all, prefix_len, position_or_len}
 use Rattle.rec_sex.specs.declared.index_list.Span.{Span}
-use Rattle.rec_sex.specs.IndexList.{AreDigits, IsIndex, IsSpan, LacksIndex, IsSpanFault, value_of, begins_digit, begins_with, greatest}
+use Rattle.rec_sex.specs.IndexList.{AreDigits, IsIndex, IsSpan, LacksIndex, IsSpanFault, value_of, begins, begins_digit, begins_with, greatest}
 use Rattle.rec_sex.specs.IndexItems.{BeginsIndex, BeginsSpan}
 
 -- one more digit makes a number no smaller
@@ -27,7 +27,7 @@ pub too_large : (digits : List ℕ) (i : ℕ) → i < length digits → greatest
 too_large digits i within above small =
     omega (arith, value_of-take-le (i + 1) digits, fold_more (λ n digit. n * 10 + (digit - 48)) 0 digits i 0 within)
 
--- ---- runs of digits
+-- ---- runs of bytes that pass
 
 pub prefix_len-not_not : (test : ℕ → Bool) (bytes : List ℕ) → prefix_len (λ b. not (not (test b))) bytes ≡ prefix_len test bytes
 prefix_len-not_not test [] = refl
@@ -63,11 +63,20 @@ list_all-front test (b ∷ bytes) =
       | inr fails ↦ rw fails refl
     ]
 
-pub begins_digit-behind : (bytes : List ℕ) → begins_digit (drop (prefix_len is_ascii_digit bytes) bytes) ≡ false
-begins_digit-behind [] = refl
-begins_digit-behind (b ∷ bytes) =
-    elim (cases_Bool (is_ascii_digit b)) [
-      | inl passes ↦ rw (passes, one-add) (begins_digit-behind bytes)
+-- the bytes that pass are all of those in front of one that doesn't
+pub prefix_len-all : (test : ℕ → Bool) (bytes rest : List ℕ) → list_all test bytes ≡ true → begins test rest ≡ false → prefix_len test (bytes ++ rest) ≡ length bytes
+prefix_len-all test [] [] all ended = refl
+prefix_len-all test [] (b ∷ rest) all ended = rw ended refl
+prefix_len-all test (b ∷ bytes) rest all ended =
+    let parts = and_parts (test b) (list_all test bytes) all in
+    let more = prefix_len-all test bytes rest parts.1 ended in
+    rw (parts.0, more) (omega arith)
+
+pub begins-behind : (test : ℕ → Bool) (bytes : List ℕ) → begins test (drop (prefix_len test bytes) bytes) ≡ false
+begins-behind test [] = refl
+begins-behind test (b ∷ bytes) =
+    elim (cases_Bool (test b)) [
+      | inl passes ↦ rw (passes, one-add) (begins-behind test bytes)
       | inr fails ↦ rw fails fails
     ]
 
@@ -76,13 +85,8 @@ pub AreDigits-front : (text : List ℕ) (count : ℕ) → count ≡ prefix_len i
 AreDigits-front text count is some = record {
   some = λ none. let size : length (take count text) ≡ count = rw is (length-prefix_len is_ascii_digit text) in absurd (omega (arith, ap length none));
   all = rw is (list_all-front is_ascii_digit text);
-  ended = rw is (begins_digit-behind text);
+  ended = rw is (begins-behind is_ascii_digit text);
 }
-
--- no digit comes first where there are none at the front
-pub begins_digit-none : (text : List ℕ) → prefix_len is_ascii_digit text ≡ 0 → begins_digit text ≡ false
-begins_digit-none text none =
-    let behind : begins_digit (drop (prefix_len is_ascii_digit text) text) ≡ false = begins_digit-behind text in rw none at behind
 
 -- a text cut behind the digits at its front
 pub cut_behind_digits : (text front back : List ℕ) (count : ℕ) → count ≡ prefix_len is_ascii_digit text → front ≡ take count text → back ≡ drop count text → 0 < length front

@@ -2,7 +2,7 @@
 use Rattle.std.proofs.Common.{◌≡◌, ◌≢◌, ◌∙◌, ℕ, ◌-◌, ◌<◌, ◌≤◌, true, false, cond, List, [], ◌∷◌, ◌++◌, length, take, drop, Option, Some, None, Result, Ok, Err, refl, ap, sym, inl, inr, arith, leb, ltb}
 use Rattle.std.specs.Prelude.{◌⊎◌, ◌==◌}
 use Rattle.std.proofs.lemmas.List.{append_assoc, length-append, take_at, drop_at}
-use Rattle.std.proofs.lemmas.Bool.{and_parts, cases_lt, cond-true, cond-false, le-leb, lt-leb, lt-ltb, le-ltb, eqb-true}
+use Rattle.std.proofs.lemmas.Bool.{cases_lt, cond-true, cond-false, le-leb, lt-leb, lt-ltb, le-ltb, eqb-true}
 use Rattle.std.specs.Char.{is_ascii_digit}
 use Rattle.std.specs.List.{list_all, prefix_len}
 use Rattle.rec_text.specs.declared.fault.Fault.{Fault}
@@ -11,7 +11,7 @@ use Rattle.rec_sex.specs.declared.index_list.Span.{Span}
 use Rattle.rec_sex.specs.IndexList.{IsIndex, IsSpan, LacksIndex, IsSpanFault, IsItem, IsItemFault, IsIndexList, value_of, begins_digit, begins_with, greatest}
 use Rattle.rec_sex.specs.IndexItems.{BeginsIndex, BeginsSpan}
 use Rattle.rec_sex.specs.Joined.{BeginsWhole, ends_item}
-use Rattle.rec_sex.proofs.IndexListLemmas.{index_before, span_before}
+use Rattle.rec_sex.proofs.IndexListLemmas.{prefix_len-all, index_before, span_before}
 use Rattle.rec_sex.proofs.JoinedReading.{IsList, told, one_answer}
 
 -- ---- an index
@@ -24,18 +24,10 @@ index_from least (d ∷ digits) rest =
 abbrev index_of : ℕ → List ℕ → Option (ℕ × List ℕ)
 index_of least text = index_from least (take (prefix_len is_ascii_digit text) text) (drop (prefix_len is_ascii_digit text) text)
 
-prefix_len-digits : (digits rest : List ℕ) → list_all is_ascii_digit digits ≡ true → begins_digit rest ≡ false → prefix_len is_ascii_digit (digits ++ rest) ≡ length digits
-prefix_len-digits [] [] all ended = refl
-prefix_len-digits [] (b ∷ rest) all ended = rw ended refl
-prefix_len-digits (d ∷ digits) rest all ended =
-    let parts = and_parts (is_ascii_digit d) (list_all is_ascii_digit digits) all in
-    let more = prefix_len-digits digits rest parts.1 ended in
-    rw (parts.0, more) (omega arith)
-
 index_of-cut : (least : ℕ) (text digits rest : List ℕ) → text ≡ digits ++ rest → list_all is_ascii_digit digits ≡ true → begins_digit rest ≡ false
     → index_of least text ≡ index_from least digits rest
 index_of-cut least text digits rest parts all ended =
-    let count : prefix_len is_ascii_digit text ≡ length digits = ap (prefix_len is_ascii_digit) parts ∙ prefix_len-digits digits rest all ended in
+    let count : prefix_len is_ascii_digit text ≡ length digits = ap (prefix_len is_ascii_digit) parts ∙ prefix_len-all is_ascii_digit digits rest all ended in
     let front : take (prefix_len is_ascii_digit text) text ≡ digits = ap (λ n. take n text) count ∙ ap (take (length digits)) parts ∙ take_at digits rest (length digits) refl in
     let back : drop (prefix_len is_ascii_digit text) text ≡ rest = ap (λ n. drop n text) count ∙ ap (drop (length digits)) parts ∙ drop_at digits rest (length digits) refl in
     ap (λ d. index_from least d (drop (prefix_len is_ascii_digit text) text)) front ∙ ap (index_from least digits) back

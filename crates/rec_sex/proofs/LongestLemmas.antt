@@ -13,11 +13,11 @@ use Rattle.rec_text.specs.Bytes.{is_letter, continues_name}
 use Rattle.rec_sex.specs.declared.token.Operator.TheVariants.{Equal, NotEqual, Less, Greater, LessOrEqual, GreaterOrEqual, Join, Add, Subtract, Multiply, Divide, Remainder, And, Or, Implies}
 use Rattle.rec_sex.specs.declared.token.Token.{Token}
 use Rattle.rec_sex.specs.declared.token.Token.TheVariants.{Integer, Literal, Name, Occurrence, Count, Not, Binary, Found, Open, Close, Then, Else, Unused}
-use Rattle.rec_sex.specs.IndexList.{AreDigits, value_of, greatest}
+use Rattle.rec_sex.specs.IndexList.{AreDigits, begins, value_of, greatest}
 use Rattle.rec_sex.specs.Integers.{magnitude_of}
 use Rattle.rec_sex.specs.Tokens.{Lexeme, Whole, Broken, with_byte, literal_from, literal_at, integer_at, name_at, behind_name, subscript_at, closing_at, count_at, token_of_one, token_of_two, of_one, operator_at, lexeme_at}
 use Rattle.rec_sex.specs.TokenSpellings.{is_word, is_quote, begins_escape, Closes, operator_of, Spells, by_integer, by_literal, by_name, by_occurrence, by_count, by_operator, is_continued, IsLongest}
-use Rattle.rec_sex.proofs.SpellingLemmas.{begins, while_longer, word_continues, magnitude_bytes, lexeme_at-digit, lexeme_at-letter, integer_with, subscript_with, closes_some, occurrence_is_whole, literal_is_whole, two_is_read, spelled_is_read}
+use Rattle.rec_sex.proofs.SpellingLemmas.{while_longer, word_continues, magnitude_bytes, lexeme_at-digit, lexeme_at-letter, integer_with, subscript_with, closes_some, occurrence_is_whole, literal_is_whole, two_is_read, spelled_is_read}
 use Rattle.rec_sex.proofs.WithinLemmas.{IsWithin, lexeme_is_within}
 
 pub if_cases : {A : Type 0} (P : Type 0) (test : Bool) (a b x : A) → (test ≡ true → a ≡ x → P) → (test ≡ false → b ≡ x → P) → (if test then a else b) ≡ x → P

@@ -12,7 +12,7 @@ use Rattle.std.proofs.lemmas.List.Sums.{take_while-cons}
 use Rattle.rec_text.specs.Bytes.{is_letter, continues_name, is_space, is_nil}
 use Rattle.rec_sex.specs.declared.token.Token.{Token}
 use Rattle.rec_sex.specs.declared.token.Token.TheVariants.{Integer, Literal, Name, Occurrence, Count}
-use Rattle.rec_sex.specs.IndexList.{AreDigits, value_of, greatest}
+use Rattle.rec_sex.specs.IndexList.{AreDigits, begins, value_of, greatest}
 use Rattle.rec_sex.specs.Integers.{magnitude_of, digit_of, number_from, behind_zero}
 use Rattle.rec_sex.specs.Tokens.{Lexeme, Whole, Broken, with_byte, literal_from, literal_at, integer_at, name_at, behind_name, subscript_at, closing_at, token_of_one, token_of_two, of_one, operator_at, lexeme_at}
 use Rattle.rec_sex.specs.TokenSpellings.{is_word, is_quote, begins_escape, Closes, operator_of, Spells, by_integer, by_literal, by_name, by_occurrence, by_count, by_operator, is_continued}
@@ -28,11 +28,6 @@ if_else true a b h = absurd (false≢true (sym h))
 if_else false a b h = refl
 
 -- ---- the bytes that pass a test
-
--- a byte that passes comes first
-abbrev pub begins : (ℕ → Bool) → List ℕ → Bool
-begins p [] = false
-begins p (b ∷ bs) = p b
 
 while_append : (p : ℕ → Bool) (front behind : List ℕ) → list_all p front ≡ true → take_while p (front ++ behind) ≡ front ++ take_while p behind
 while_append p [] behind all = refl

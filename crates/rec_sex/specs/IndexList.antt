@@ -11,10 +11,14 @@ use Rattle.rec_sex.specs.Joined.{AreJoined, HasFaultyItem, ends_item}
 abbrev pub value_of : List ℕ → ℕ
 value_of digits = fold (λ n digit. n * 10 + (digit - 48)) 0 digits
 
+-- a byte that passes comes first
+abbrev pub begins : (ℕ → Bool) → List ℕ → Bool
+begins passes [] = false
+begins passes (b ∷ bs) = passes b
+
 -- a digit comes first
 abbrev pub begins_digit : List ℕ → Bool
-begins_digit [] = false
-begins_digit (b ∷ bs) = is_ascii_digit b
+begins_digit text = begins is_ascii_digit text
 
 -- one digit or more, and all of those that stand there
 pub record AreDigits (digits rest : List ℕ) : Type 0 where
@@ -28,8 +32,7 @@ greatest = 2 ^ 32 - 1
 
 -- this byte comes first
 abbrev pub begins_with : ℕ → List ℕ → Bool
-begins_with c [] = false
-begins_with c (b ∷ bs) = b == c
+begins_with c text = begins (λ b. b == c) text
 
 -- an index, in all the digits that stand there
 abbrev pub IsIndex : List ℕ → ℕ → List ℕ → Type 0

@@ -9,23 +9,17 @@ pub use Rattle.rec_text.specs.Canonical.{is_field_name}
 use Rattle.rec_text.specs.Elements.{Piece, name_of}
 use Rattle.rec_sex.specs.declared.index_list.Span.{Span}
 use Rattle.rec_sex.specs.declared.field_list.Item.{Item}
-use Rattle.rec_sex.specs.IndexList.{IsSpan, IsSpanFault, begins_with}
+use Rattle.rec_sex.specs.IndexList.{IsSpan, IsSpanFault, begins, begins_with}
 use Rattle.rec_sex.specs.Joined.{AreJoined, HasFaultyItem, ends_item}
 
 -- a byte that a name begins with comes first
 abbrev pub begins_field : List ℕ → Bool
-begins_field [] = false
-begins_field (b ∷ bs) = begins_name b
-
--- a byte that a name goes on with comes first
-abbrev pub begins_continuation : List ℕ → Bool
-begins_continuation [] = false
-begins_continuation (b ∷ bs) = continues_name b
+begins_field text = begins begins_name text
 
 -- a name, and all that a name goes on with there
 pub record IsName (name rest : List ℕ) : Type 0 where
   pub well_formed : is_field_name name ≡ true
-  pub ended : begins_continuation rest ≡ false
+  pub ended : begins continues_name rest ≡ false
 
 -- no subscript, which means all occurrences, or a span in brackets, which means those from its first to its last
 abbrev pub IsSubscript : List ℕ → Option Span → Type 0

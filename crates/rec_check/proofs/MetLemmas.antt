@@ -1,4 +1,4 @@
--- The places of names that a record has, field by field, and the names that stand at places.
+-- Which of some names a record has, field by field, and which of them break a limit.
 use Rattle.std.proofs.Common.{◌≡◌, ◌∙◌, inl, inr, ℕ, zero, suc, ◌+◌, ◌<◌, Bool, true, false, ◌||◌, ◌&&◌, not, cond, List, [], ◌∷◌, ◌++◌, filter, length, position, take, get_or, Some, None, refl, ap, ap₂, sym, arith}
 use Rattle.std.proofs.lemmas.Bool.{cases_Bool, le-leb, ne_eqb, or_left}
 use Rattle.std.proofs.lemmas.List.{map_more}

@@ -14,7 +14,7 @@ use Rattle.rec_edit.proofs.ExampleTexts.{elements, AreRecords-records_of, pair, 
 -- ---- the list of fields
 
 list_of_numbered : AreItems (codes "%a[0]") (nth (codes "%a") 0 ∷ [])
-list_of_numbered = (codes "[0]", refl, refl, inl (codes "0", refl, record { some = λ none. omega (arith, ap length none); all = refl; ended = refl }, refl, refl, lit≤ tt))
+list_of_numbered = (codes "[0]", refl, refl, (codes "0", refl, inl ((record { some = λ none. omega (arith, ap length none); all = refl; ended = refl }, refl, lit≤ tt), refl, refl)))
 
 list_of_special : AreItems (codes "%rec") (every (codes "%rec") ∷ [])
 list_of_special = ([], refl, refl, refl)

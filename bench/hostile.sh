@@ -20,6 +20,18 @@ items_on_fields() {
     done
 }
 
+# a list of so many items, none of which picks a field, on 40,000 records of two fields
+items_on_records() {
+    local factor items
+    printf '%s items and more, on 40,000 records of two fields\n' "$1"
+    unit=
+    awk 'BEGIN { for (i = 0; i < 40000; i++) printf "A: %d\nB: 1\n\n", i }' >db.rec
+    for factor in 1 2 4; do
+        items=$(($1 * factor))
+        measure 3 as_is "recu recsel -p, $items" "$program" recsel -p "$(seq -s, -f 'F%.0f' 1 "$items")" db.rec
+    done
+}
+
 # so many names, each twice in a record and once in an expression that no record fits, with this operator between them
 names_in_places() {
     local operator=$1 names factor
@@ -128,6 +140,7 @@ joined_texts() {
 
 for size in "${sizes[@]}"; do
     items_on_fields "$size"
+    items_on_records "$size"
     fields_of_one_name $((size * 4))
     fields_of_two_names $((size * 2 / 25))
 done

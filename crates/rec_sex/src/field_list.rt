@@ -1,20 +1,23 @@
 //! Lists of fields, such as `Name,Email[0-1]`.
-ghost use Rattle.std.specs.Prelude.{◌≡◌, ◌∷◌, ◌++◌, false, IfOk, IfErr, MatchOption, MatchResult};
+ghost use Rattle.std.specs.Prelude.{◌≡◌, ◌∷◌, ◌++◌, false, IfOk, IfErr, IfSome, MatchOption, MatchResult};
 ghost use Rattle.rec_text.specs.Bytes.{begins_name as may_begin};
 ghost use Rattle.rec_text.specs.Places.{pieces_of};
 ghost use Rattle.rec_sex.specs.IndexList.{begins_with};
 ghost use Rattle.rec_sex.specs.Lists.{begins_field, occurrences, places_from, IsClosingFault, IsSubscriptFault, IsItem, IsItemFault, picks};
 ghost use Rattle.rec_sex.specs.FieldItems.{is_among, BeginsName, Closes, BeginsSubscript, BeginsItem};
+ghost use Rattle.rec_sex.specs.ItemIndexes.{Covers};
 
 use crate::index_list::{Span, ends_item, leading_span};
+use crate::indexes::indexes_by_name;
 use crate::joined::{ListItem, Unread, items_of};
 use crate::lexeme::word_at;
-use crate::picking::picked_by_table;
+use crate::picking::picked_by_name;
 use rec_text::{Bytes, Element, Fault};
-use std::alloc::Global;
+use std::alloc::{AllocError, Global};
+use std::collections::HashMap;
 use std::marker::Model;
 
-/// So many items or fields are few: each item then looks at all fields.
+/// So many items are few: each of them then looks at all fields.
 const FEW: usize = 16;
 
 /// A field by its name: all its occurrences in a record, or some of them, counted from 0.
@@ -28,15 +31,20 @@ pub struct Item {
 #[derive(Drop)]
 pub struct FieldList {
     items: Vec<Item>,
+    /// The indexes of the items of each name, where the items are many.
+    by_name: Option<HashMap<Vec<u8>, Vec<usize>>>,
 }
 
 impl Model for FieldList {
-    ghost use Rattle.std.specs.Prelude.{List};
+    ghost use Rattle.std.specs.Prelude.{IfSome, List};
     ghost use Rattle.rec_sex.specs.declared.field_list.Item.{Item};
+    ghost use Rattle.rec_sex.specs.ItemIndexes.{Covers};
 
     ghost Value = { List Item };
 
     ghost view = { λ list. list.items.items };
+
+    ghost invariant = { λ list. IfSome list.by_name (λ table. Covers table list.items.items) };
 }
 
 fn begins_name(byte: u8) -> bool
@@ -160,6 +168,19 @@ fn picked_by_walks(alloc: Global, items: &[Item], fields: &[Element]) -> Result<
     Ok(places)
 }
 
+/// The indexes of the items of each name, where the items are many.
+fn table_of_many(
+    alloc: Global,
+    items: &[Item],
+) -> Result<Option<HashMap<Vec<u8>, Vec<usize>>>, AllocError>
+    ensures { IfOk result (λ by_name. IfSome by_name (λ table. Covers table items.now)) }
+{
+    if items.len() <= FEW {
+        return Ok(None);
+    }
+    Ok(Some(indexes_by_name(alloc, items)?))
+}
+
 impl FieldList {
     ghost use Rattle.std.specs.Prelude.{◌≡◌, List, Result, IfOk, IfErr};
     ghost use Rattle.rec_text.specs.declared.fault.Fault.{Fault};
@@ -174,7 +195,10 @@ impl FieldList {
         ensures only { (other : Result (List Item) Fault) → IsFieldList text.now other → UnlessMemory result (λ answer. answer ≡ other) }
     {
         match items_of(alloc, text) {
-            Ok(items) => Ok(FieldList { items }),
+            Ok(items) => {
+                let by_name = table_of_many(alloc, &items)?;
+                Ok(FieldList { items, by_name })
+            }
             Err(Unread::FaultAt(at)) => Err(Fault::BadFieldList { at }),
             Err(Unread::OutOfMemory) => Err(Fault::OutOfMemory),
         }
@@ -192,9 +216,9 @@ impl FieldList {
         ensures places { IfOk result (λ places. places.items ≡ picks self.now (pieces_of fields.now)) }
         ensures refusals { IfErr result (λ fault. fault ≡ Fault.OutOfMemory) }
     {
-        if self.items.len() <= FEW || fields.len() <= FEW {
-            return picked_by_walks(alloc, &self.items, fields);
+        match &self.by_name {
+            Some(by_name) => picked_by_name(alloc, &self.items, by_name, fields),
+            None => picked_by_walks(alloc, &self.items, fields),
         }
-        picked_by_table(alloc, &self.items, fields)
     }
 }

@@ -10,6 +10,7 @@ mod expr;
 mod field_list;
 mod fields;
 mod index_list;
+mod indexes;
 mod integer;
 mod joined;
 mod laws;

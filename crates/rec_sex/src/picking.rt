@@ -1,16 +1,17 @@
-//! What many items pick of a record with many fields, by a table of the places of each name.
-ghost use Rattle.std.specs.Prelude.{◌≡◌, ◌++◌, IfOk, IfErr};
-ghost use Rattle.std.specs.List.{flat_map};
+//! What many items pick of a record: its fields find the items by their names.
+ghost use Rattle.std.specs.Prelude.{◌≡◌, ◌||◌, ◌++◌, ℕ, IfOk, OnOk, IfErr};
 ghost use Rattle.rec_text.specs.Places.{pieces_of};
+ghost use Rattle.rec_sex.specs.ItemIndexes.{has_index, AreWanted, Covers};
 ghost use Rattle.rec_sex.specs.Lists.{occurrences, picks};
-ghost use Rattle.rec_sex.specs.NamePlaces.{places_in};
+ghost use Rattle.rec_sex.specs.NamePlaces.{places_in, HasPlaces};
 
 use crate::field_list::Item;
 use crate::index_list::Span;
-use crate::places::{places_of, table_of};
+use crate::indexes::indexes_of;
+use crate::places::{place_of, places_of, table_of};
 use rec_text::{Element, Fault};
 use std::alloc::Global;
-use std::collections::HashMap;
+use std::collections::{BTreeSet, HashMap};
 
 /// Those of a name's places that an item means.
 fn meant(span: Option<Span>, places: &[usize]) -> &[usize]
@@ -44,32 +45,56 @@ fn add_meant(
     Ok(())
 }
 
-/// Adds the places of the occurrences of items, in their order.
-fn add_all(
-    table: &HashMap<&[u8], Vec<usize>>,
-    items: &[Item],
-    places: &mut Vec<usize>,
-) -> Result<(), Fault>
-    ensures added { IfOk result (λ _. places.new.items ≡ places.old.items ++ flat_map (λ item. occurrences item.occurrences (places_in table.now item.name)) items.now) }
+/// Adds indexes to those of a set.
+fn add_indexes(wanted: &mut BTreeSet<usize>, indexes: &[usize]) -> Result<(), Fault>
+    ensures added { OnOk result ((index : ℕ) → has_index wanted.new.keys index ≡ (has_index indexes.now index || has_index wanted.old.keys index)) }
     ensures refusals { IfErr result (λ fault. fault ≡ Fault.OutOfMemory) }
 {
-    for item in items {
-        add_meant(table, item, places)?;
+    for index in indexes {
+        wanted.insert(*index)?;
     }
     Ok(())
 }
 
-/// What the items pick, by one pass over the fields.
-pub(crate) fn picked_by_table(
+/// The indexes of the items that may pick one of the fields. A name is looked up once, at the first field that has it.
+fn wanted_indexes(
+    alloc: Global,
+    by_name: &HashMap<Vec<u8>, Vec<usize>>,
+    table: &HashMap<&[u8], Vec<usize>>,
+    fields: &[Element],
+) -> Result<BTreeSet<usize>, Fault>
+    requires { HasPlaces table.now (pieces_of fields.now) }
+    ensures wanted { IfOk result (λ wanted. AreWanted by_name.now (pieces_of fields.now) wanted.keys) }
+    ensures refusals { IfErr result (λ fault. fault ≡ Fault.OutOfMemory) }
+{
+    let mut wanted = BTreeSet::new(alloc);
+    for (place, field) in fields.iter().enumerate() {
+        if place_of(table, field.name(), 0) == Some(place) {
+            add_indexes(&mut wanted, indexes_of(by_name, field.name()))?;
+        }
+    }
+    Ok(wanted)
+}
+
+/// What the items pick, by one pass over the fields and one over the items that they find by their names.
+pub(crate) fn picked_by_name(
     alloc: Global,
     items: &[Item],
+    by_name: &HashMap<Vec<u8>, Vec<usize>>,
     fields: &[Element],
 ) -> Result<Vec<usize>, Fault>
+    requires { Covers by_name.now items.now }
     ensures places { IfOk result (λ places. places.items ≡ picks items.now (pieces_of fields.now)) }
     ensures refusals { IfErr result (λ fault. fault ≡ Fault.OutOfMemory) }
 {
     let table = table_of(alloc, fields)?;
+    let wanted = wanted_indexes(alloc, by_name, &table, fields)?;
     let mut places = Vec::new(alloc);
-    add_all(&table, items, &mut places)?;
+    for index in &wanted {
+        let Some(item) = items.get(*index) else {
+            continue;
+        };
+        add_meant(&table, item, &mut places)?;
+    }
     Ok(places)
 }

@@ -1,4 +1,4 @@
-use Rattle.std.proofs.Common.{Ok, Err, subst}
+use Rattle.std.proofs.Common.{Ok, Err, subst, sym}
 use Rattle.rec_text.specs.declared.fault.Fault.TheVariants.{BadFieldList}
 use Rattle.rec_sex.specs.declared.joined.Unread.{Unread}
 use Rattle.rec_sex.specs.Joined.{IsUnread}
@@ -6,10 +6,11 @@ use Rattle.rec_sex.specs.Lists.{HasFault}
 use Rattle.rec_sex.proofs.FieldListReading.{one_field_list}
 use Rattle.rec_sex.proofs.field_list.FieldList.parse.Goals as goal
 
-pub returns-in-Ok-clause-only : goal.returns-in-Ok-clause-only
-returns-in-Ok-clause-only c = one_field_list c.args.text.now (Ok c.in-Ok.items.items) c.in-Ok.ensures
+pub returns-in_ok-by_name-in-Ok-clause-only : goal.returns-in_ok-by_name-in-Ok-clause-only
+returns-in_ok-by_name-in-Ok-clause-only c = one_field_list c.args.text.now (Ok c.in-Ok.items.items) c.in-Ok.ensures
 
 pub returns-in-Err-FaultAt-clause-only : goal.returns-in-Err-FaultAt-clause-only
 returns-in-Err-FaultAt-clause-only c =
     let P : Unread → Type 0 = IsUnread (HasFault c.args.text.now) in
-    one_field_list c.args.text.now (Err (BadFieldList c.in-Err-FaultAt.at)) (subst P c.in-Err-FaultAt.field-0-is c.in-Err-FaultAt.ensures)
+    let fault = subst P c.in-Err-FaultAt.field-0-is c.in-Err-FaultAt.ensures in
+    one_field_list c.args.text.now (Err (BadFieldList _)) (subst (HasFault c.args.text.now) (sym c.in-Err-FaultAt.at-is) fault)

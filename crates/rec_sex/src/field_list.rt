@@ -11,13 +11,13 @@ use crate::index_list::{Span, ends_item, leading_span};
 use crate::indexes::indexes_by_name;
 use crate::joined::{ListItem, Unread, items_of};
 use crate::lexeme::word_at;
-use crate::picking::picked_by_name;
+use crate::picking::{are_few_named, picked_by_name, picked_by_table};
 use rec_text::{Bytes, Element, Fault};
 use std::alloc::{AllocError, Global};
 use std::collections::HashMap;
 use std::marker::Model;
 
-/// So many items are few: each of them then looks at all fields.
+/// So many items or fields are few: each item then looks at all fields.
 const FEW: usize = 16;
 
 /// A field by its name: all its occurrences in a record, or some of them, counted from 0.
@@ -217,8 +217,11 @@ impl FieldList {
         ensures refusals { IfErr result (λ fault. fault ≡ Fault.OutOfMemory) }
     {
         match &self.by_name {
-            Some(by_name) => picked_by_name(alloc, &self.items, by_name, fields),
-            None => picked_by_walks(alloc, &self.items, fields),
+            Some(by_name) if are_few_named(by_name, fields, self.items.len()) => {
+                picked_by_name(alloc, &self.items, by_name, fields)
+            }
+            Some(_) if fields.len() > FEW => picked_by_table(alloc, &self.items, fields),
+            _ => picked_by_walks(alloc, &self.items, fields),
         }
     }
 }

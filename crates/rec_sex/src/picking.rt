@@ -1,5 +1,6 @@
-//! What many items pick of a record: its fields find the items by their names.
+//! What many items pick of a record: its fields find the items by their names, or the items their places by theirs.
 ghost use Rattle.std.specs.Prelude.{◌≡◌, ◌||◌, ◌++◌, ℕ, IfOk, OnOk, IfErr};
+ghost use Rattle.std.specs.List.{flat_map};
 ghost use Rattle.rec_text.specs.Places.{pieces_of};
 ghost use Rattle.rec_sex.specs.ItemIndexes.{has_index, AreWanted, Covers};
 ghost use Rattle.rec_sex.specs.Lists.{occurrences, picks};
@@ -43,6 +44,36 @@ fn add_meant(
     let found = places_of(table, item.name.as_slice());
     places.extend_from_slice(meant(item.occurrences, found))?;
     Ok(())
+}
+
+/// Adds the places of the occurrences of items, in their order.
+fn add_all(
+    table: &HashMap<&[u8], Vec<usize>>,
+    items: &[Item],
+    places: &mut Vec<usize>,
+) -> Result<(), Fault>
+    ensures added { IfOk result (λ _. places.new.items ≡ places.old.items ++ flat_map (λ item. occurrences item.occurrences (places_in table.now item.name)) items.now) }
+    ensures refusals { IfErr result (λ fault. fault ≡ Fault.OutOfMemory) }
+{
+    for item in items {
+        add_meant(table, item, places)?;
+    }
+    Ok(())
+}
+
+/// What the items pick, by one pass over the fields.
+pub(crate) fn picked_by_table(
+    alloc: Global,
+    items: &[Item],
+    fields: &[Element],
+) -> Result<Vec<usize>, Fault>
+    ensures places { IfOk result (λ places. places.items ≡ picks items.now (pieces_of fields.now)) }
+    ensures refusals { IfErr result (λ fault. fault ≡ Fault.OutOfMemory) }
+{
+    let table = table_of(alloc, fields)?;
+    let mut places = Vec::new(alloc);
+    add_all(&table, items, &mut places)?;
+    Ok(places)
 }
 
 /// Adds indexes to those of a set.
@@ -97,4 +128,17 @@ pub(crate) fn picked_by_name(
         add_meant(&table, item, &mut places)?;
     }
     Ok(places)
+}
+
+/// Whether the fields find few of the items by their names, so that looking at those alone pays. Both ways pick the same.
+pub(crate) fn are_few_named(
+    by_name: &HashMap<Vec<u8>, Vec<usize>>,
+    fields: &[Element],
+    items: usize,
+) -> bool {
+    let mut named: usize = 0;
+    for field in fields {
+        named = named.saturating_add(indexes_of(by_name, field.name()).len());
+    }
+    named < items / 8
 }

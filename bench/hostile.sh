@@ -20,15 +20,16 @@ items_on_fields() {
     done
 }
 
-# a list of so many items, none of which picks a field, on 40,000 records of two fields
+# a list of so many items of this form, of which 40,000 records of two fields have none or one
 items_on_records() {
     local factor items
-    printf '%s items and more, on 40,000 records of two fields\n' "$1"
+    printf '%s items %s and more, on 40,000 records of two fields\n' "$1" "$2"
     unit=
     awk 'BEGIN { for (i = 0; i < 40000; i++) printf "A: %d\nB: 1\n\n", i }' >db.rec
+    measure 3 as_is "recu recsel -p, 4" "$program" recsel -p "$(seq -s, -f "$2" 0 3)" db.rec
     for factor in 1 2 4; do
         items=$(($1 * factor))
-        measure 3 as_is "recu recsel -p, $items" "$program" recsel -p "$(seq -s, -f 'F%.0f' 1 "$items")" db.rec
+        measure 3 as_is "recu recsel -p, $items" "$program" recsel -p "$(seq -s, -f "$2" 0 $((items - 1)))" db.rec
     done
 }
 
@@ -140,7 +141,8 @@ joined_texts() {
 
 for size in "${sizes[@]}"; do
     items_on_fields "$size"
-    items_on_records "$size"
+    items_on_records "$size" 'F%.0f'
+    items_on_records "$size" 'A[%.0f]'
     fields_of_one_name $((size * 4))
     fields_of_two_names $((size * 2 / 25))
 done

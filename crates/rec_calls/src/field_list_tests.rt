@@ -11,8 +11,9 @@ A[4294967295] ; A: 1 ; []
 A[1] ; # A: 0, A: 1, # A: 2, A: 3 ; [3]
 %rec ; %rec: Book, rec: Book ; [0]
 A ;  ; []
-// more items and elements than are few; each value is the element's place
-A[1],B,A[2-9],D[1-2],C[1],K,E,F,G,H,I,J,A[3],D[0],B[1-1],A,A[4] ; A: 0, B: 1, # A: 2, A: 3, C: 4, A: 5, B: 6, D: 7, D: 8, D: 9, D: 10, E: 11, F: 12, G: 13, H: 14, I: 15, J: 16, A: 17 ; [3, 1, 6, 5, 17, 8, 9, 11, 12, 13, 14, 15, 16, 17, 7, 6, 0, 3, 5, 17]";
+// each value is the element's place; the second list has more items than are few
+A[1],B,A[2-9],D[1-2],C[1],K,E,F,G,H,I,J,A[3],D[0],B[1-1],A,A[4] ; A: 0, B: 1, # A: 2, A: 3, C: 4, A: 5, B: 6, D: 7, D: 8, D: 9, D: 10, E: 11, F: 12, G: 13, H: 14, I: 15, J: 16, A: 17 ; [3, 1, 6, 5, 17, 8, 9, 11, 12, 13, 14, 15, 16, 17, 7, 6, 0, 3, 5, 17]
+A[1],B,A[2-9],D[1-2],C[1],K,E,F,G,H,I,J,A[3],D[0],B[1-1],P,Q,R,S,T,U,V,W,X,Y,Z,P[1],Q[2],A[9],D[4-7],B[2],C[3],A,A[4] ; A: 0, B: 1, # A: 2, A: 3, C: 4, A: 5, B: 6, D: 7, D: 8, D: 9, D: 10, E: 11, F: 12, G: 13, H: 14, I: 15, J: 16, A: 17 ; [3, 1, 6, 5, 17, 8, 9, 11, 12, 13, 14, 15, 16, 17, 7, 6, 0, 3, 5, 17]";
 
 /// The element of a line of a record.
 fn element(line: &str) -> Element {

@@ -14,7 +14,7 @@ pub mod IndexFaultLemmas
 pub mod FieldFaultLemmas
 pub mod PickLemmas
 pub mod NamePlaceLemmas
-pub mod ItemIndexLemmas
+pub mod ItemStartLemmas
 pub mod ListExamples
 pub mod WalkLemmas
 pub mod ParsingLemmas

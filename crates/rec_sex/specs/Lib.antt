@@ -18,6 +18,6 @@ pub mod Lists
 pub mod FieldItems
 pub mod FaultPlaces
 pub mod NamePlaces
-pub mod ItemIndexes
+pub mod ItemStarts
 pub mod TokenSpellings
 pub mod LeftmostFaults

@@ -5,20 +5,20 @@ ghost use Rattle.rec_text.specs.Places.{pieces_of};
 ghost use Rattle.rec_sex.specs.IndexList.{begins_with};
 ghost use Rattle.rec_sex.specs.Lists.{begins_field, occurrences, places_from, IsClosingFault, IsSubscriptFault, IsItem, IsItemFault, picks};
 ghost use Rattle.rec_sex.specs.FieldItems.{is_among, BeginsName, Closes, BeginsSubscript, BeginsItem};
-ghost use Rattle.rec_sex.specs.ItemIndexes.{Covers};
+ghost use Rattle.rec_sex.specs.ItemStarts.{Covers};
 
 use crate::index_list::{Span, ends_item, leading_span};
-use crate::indexes::indexes_by_name;
 use crate::joined::{ListItem, Unread, items_of};
 use crate::lexeme::word_at;
-use crate::picking::{are_few_named, picked_by_name, picked_by_table};
+use crate::picking::picked_by_name;
+use crate::starts::starts_of;
 use rec_text::{Bytes, Element, Fault};
 use std::alloc::{AllocError, Global};
 use std::collections::HashMap;
 use std::marker::Model;
 
-/// So many items or fields are few: each item then looks at all fields.
-const FEW: usize = 16;
+/// So many items are few: each of them then looks at all fields.
+const FEW: usize = 32;
 
 /// A field by its name: all its occurrences in a record, or some of them, counted from 0.
 #[derive(Drop)]
@@ -31,20 +31,20 @@ pub struct Item {
 #[derive(Drop)]
 pub struct FieldList {
     items: Vec<Item>,
-    /// The indexes of the items of each name, where the items are many.
-    by_name: Option<HashMap<Vec<u8>, Vec<usize>>>,
+    /// Where the items start, if they are many.
+    starts: Option<HashMap<Vec<u8>, HashMap<usize, Vec<usize>>>>,
 }
 
 impl Model for FieldList {
     ghost use Rattle.std.specs.Prelude.{IfSome, List};
     ghost use Rattle.rec_sex.specs.declared.field_list.Item.{Item};
-    ghost use Rattle.rec_sex.specs.ItemIndexes.{Covers};
+    ghost use Rattle.rec_sex.specs.ItemStarts.{Covers};
 
     ghost Value = { List Item };
 
     ghost view = { λ list. list.items.items };
 
-    ghost invariant = { λ list. IfSome list.by_name (λ table. Covers table list.items.items) };
+    ghost invariant = { λ list. IfSome list.starts (λ table. Covers table list.items.items) };
 }
 
 fn begins_name(byte: u8) -> bool
@@ -168,17 +168,17 @@ fn picked_by_walks(alloc: Global, items: &[Item], fields: &[Element]) -> Result<
     Ok(places)
 }
 
-/// The indexes of the items of each name, where the items are many.
-fn table_of_many(
+/// Where the items start, if they are many.
+fn starts_of_many(
     alloc: Global,
     items: &[Item],
-) -> Result<Option<HashMap<Vec<u8>, Vec<usize>>>, AllocError>
-    ensures { IfOk result (λ by_name. IfSome by_name (λ table. Covers table items.now)) }
+) -> Result<Option<HashMap<Vec<u8>, HashMap<usize, Vec<usize>>>>, AllocError>
+    ensures { IfOk result (λ starts. IfSome starts (λ table. Covers table items.now)) }
 {
     if items.len() <= FEW {
         return Ok(None);
     }
-    Ok(Some(indexes_by_name(alloc, items)?))
+    Ok(Some(starts_of(alloc, items)?))
 }
 
 impl FieldList {
@@ -196,8 +196,8 @@ impl FieldList {
     {
         match items_of(alloc, text) {
             Ok(items) => {
-                let by_name = table_of_many(alloc, &items)?;
-                Ok(FieldList { items, by_name })
+                let starts = starts_of_many(alloc, &items)?;
+                Ok(FieldList { items, starts })
             }
             Err(Unread::FaultAt(at)) => Err(Fault::BadFieldList { at }),
             Err(Unread::OutOfMemory) => Err(Fault::OutOfMemory),
@@ -216,12 +216,9 @@ impl FieldList {
         ensures places { IfOk result (λ places. places.items ≡ picks self.now (pieces_of fields.now)) }
         ensures refusals { IfErr result (λ fault. fault ≡ Fault.OutOfMemory) }
     {
-        match &self.by_name {
-            Some(by_name) if are_few_named(by_name, fields, self.items.len()) => {
-                picked_by_name(alloc, &self.items, by_name, fields)
-            }
-            Some(_) if fields.len() > FEW => picked_by_table(alloc, &self.items, fields),
-            _ => picked_by_walks(alloc, &self.items, fields),
+        match &self.starts {
+            Some(starts) => picked_by_name(alloc, &self.items, starts, fields),
+            None => picked_by_walks(alloc, &self.items, fields),
         }
     }
 }

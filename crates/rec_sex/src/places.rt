@@ -9,7 +9,7 @@ use std::alloc::Global;
 use std::collections::HashMap;
 
 /// Adds the place of a field, behind those of its name.
-fn add_place<'t>(
+pub(crate) fn add_place<'t>(
     alloc: Global,
     table: &mut HashMap<&'t [u8], Vec<usize>>,
     name: &'t [u8],

@@ -1,5 +1,5 @@
-use Rattle.rec_sex.specs.ItemIndexes.{has_index}
-use Rattle.rec_sex.proofs.ItemIndexLemmas.{has_more}
+use Rattle.rec_sex.specs.ItemStarts.{has_index}
+use Rattle.rec_sex.proofs.ItemStartLemmas.{has_more}
 use Rattle.rec_sex.proofs.picking.add_indexes.Goals as goal
 
 pub loop-index-preserved : goal.loop-index-preserved

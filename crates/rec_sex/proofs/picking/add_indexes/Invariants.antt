@@ -1,5 +1,5 @@
 use Rattle.std.proofs.Common.{◌≡◌, ◌||◌, ℕ, take}
-use Rattle.rec_sex.specs.ItemIndexes.{has_index}
+use Rattle.rec_sex.specs.ItemStarts.{has_index}
 use Rattle.rec_sex.proofs.picking.add_indexes.Given as goal
 
 abbrev pub invariant-loop-index : goal.invariant-loop-index

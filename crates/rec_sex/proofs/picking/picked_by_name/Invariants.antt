@@ -1,6 +1,6 @@
 use Rattle.std.proofs.Common.{◌≡◌, ◌++◌}
 use Rattle.std.specs.List.{flat_map}
-use Rattle.rec_sex.proofs.ItemIndexLemmas.{meant_of, picked_at}
+use Rattle.rec_sex.proofs.ItemStartLemmas.{meant_of, picked_at}
 use Rattle.rec_sex.proofs.picking.picked_by_name.Given as goal
 
 -- what is picked so far, and then what the items at the indexes that are left pick

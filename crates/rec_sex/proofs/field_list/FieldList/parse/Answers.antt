@@ -6,8 +6,8 @@ use Rattle.rec_sex.specs.Lists.{HasFault}
 use Rattle.rec_sex.proofs.FieldListReading.{one_field_list}
 use Rattle.rec_sex.proofs.field_list.FieldList.parse.Goals as goal
 
-pub returns-in_ok-by_name-in-Ok-clause-only : goal.returns-in_ok-by_name-in-Ok-clause-only
-returns-in_ok-by_name-in-Ok-clause-only c = one_field_list c.args.text.now (Ok c.in-Ok.items.items) c.in-Ok.ensures
+pub returns-in_ok-starts-in-Ok-clause-only : goal.returns-in_ok-starts-in-Ok-clause-only
+returns-in_ok-starts-in-Ok-clause-only c = one_field_list c.args.text.now (Ok c.in-Ok.items.items) c.in-Ok.ensures
 
 pub returns-in-Err-FaultAt-clause-only : goal.returns-in-Err-FaultAt-clause-only
 returns-in-Err-FaultAt-clause-only c =

@@ -1,6 +1,6 @@
 use Rattle.std.proofs.Common.{take}
-use Rattle.rec_sex.specs.ItemIndexes.{Covers}
-use Rattle.rec_sex.proofs.indexes.indexes_by_name.Given as goal
+use Rattle.rec_sex.specs.ItemStarts.{Covers}
+use Rattle.rec_sex.proofs.starts.starts_of.Given as goal
 
 abbrev pub invariant-loop-index : goal.invariant-loop-index
 invariant-loop-index l = Covers l.table (take l.index l.items)

@@ -13,8 +13,8 @@ use Rattle.rec_text.proofs.ListLemmas.{AllByRecursion-behind, slice_get-drop, sl
 use Rattle.rec_text.proofs.RangeLemmas.{LiesIn-cases, LiesIn-here, LiesIn-low, LiesIn-there}
 use Rattle.rec_text.specs.Records.{elements_in}
 use Rattle.rec_check.specs.Descriptors.{Flaw, element_flaw, flaw_at, holds_index, own_flaw, type_of, types_before, types_of}
-use Rattle.rec_check.specs.Reading.{field_flaw, HasRefusedField}
-use Rattle.rec_check.specs.Schemas.{HasFlaw, HasRefused}
+use Rattle.rec_check.specs.Reading.{field_flaw, DescriptorMayBeRefused}
+use Rattle.rec_check.specs.Schemas.{HasFlaw, SchemaMayBeRefused}
 use Rattle.rec_check.proofs.SetLemmas.{types_among, filter_map-append}
 
 -- ---- the record that holds an index
@@ -174,8 +174,8 @@ module _ (pieces : List Piece) (done : List (Range ℕ)) (fields : Range ℕ) (r
             number = number;
           }
 
-      pub HasRefused-own : HasRefusedField named own → HasRefused pieces
-      HasRefused-own has =
+      pub SchemaMayBeRefused-own : DescriptorMayBeRefused named own → SchemaMayBeRefused pieces
+      SchemaMayBeRefused-own has =
           let within : fields.start + has.at < fields.end = own_within has.at has.field has.stands in
           record {
             records = all;

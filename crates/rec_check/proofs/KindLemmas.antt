@@ -6,7 +6,7 @@ use Rattle.rec_text.specs.Canonical.{is_field_name, is_plain_name}
 use Rattle.rec_check.specs.declared.refusal.Refusal.{Refusal}
 use Rattle.rec_check.specs.declared.refusal.Refusal.TheVariants.{Bad, Unsupported, Pattern, OutOfMemory}
 use Rattle.rec_check.specs.Kinds.{IsKindIn, IsTypeOf}
-use Rattle.rec_check.specs.Types.{FieldType, HasRefusedDefinition, Written, WrittenDefinition, one_of, definition_of, is_item, without_comments, enum_of, kind_of, names_of, type_of_kind, typing_of}
+use Rattle.rec_check.specs.Types.{FieldType, DefinitionMayBeRefused, Written, WrittenDefinition, one_of, definition_of, is_item, without_comments, enum_of, kind_of, names_of, type_of_kind, typing_of}
 use Rattle.rec_check.specs.Words.{words, behind_first_word}
 
 enum_of-items : (items : List (List ℕ)) → 0 < length items → list_all is_item items ≡ true → enum_of items ≡ Some (one_of items)
@@ -67,7 +67,7 @@ module _ (value name behind : List ℕ) (first : words value ≡ name ∷ words 
   definition_of-parts =
       ap definition_by first ∙ ap (λ text. cond (is_plain_name name) (option_map (λ (kind, type_). record { name = name; kind = kind; type_ = type_ }) (kind_of text)) None) (sym behind_is)
 
-  pub refused_definition : (refusal : Refusal) → is_plain_name name ≡ true → IsKindIn behind (Err refusal) → refusal ≡ Pattern → HasRefusedDefinition value
+  pub refused_definition : (refusal : Refusal) → is_plain_name name ≡ true → IsKindIn behind (Err refusal) → refusal ≡ Pattern → DefinitionMayBeRefused value
   refused_definition Pattern plain (kind, pattern, written, refused) is = (
     name,
     kind,

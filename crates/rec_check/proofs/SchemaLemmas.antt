@@ -19,13 +19,13 @@ use Rattle.rec_text.proofs.RecordLemmas.{length-records}
 use Rattle.rec_check.specs.declared.set.Set_.{Set_}
 use Rattle.rec_text.specs.Records.{elements_in, record_at}
 use Rattle.rec_check.specs.Descriptors.{Flaw, bad, unsupported, flaw_at, own_flaw, type_of, types_of}
-use Rattle.rec_check.specs.Reading.{AddsRecord, AddsRecordAs, HasFieldFlaw, HasRefusedField, IsRefusedRecord, field_flaw, untyped}
+use Rattle.rec_check.specs.Reading.{AddsRecord, AddsRecordAs, HasFieldFlaw, DescriptorMayBeRefused, IsRefusedRecord, field_flaw, untyped}
 use Rattle.rec_check.specs.Rules.{Rules, AreRules}
-use Rattle.rec_check.specs.Schemas.{Described, IsDescribed, IsRuled, IsSchema, HasFlaw, HasRefused}
+use Rattle.rec_check.specs.Schemas.{Described, IsDescribed, IsRuled, IsSchema, HasFlaw, SchemaMayBeRefused}
 use Rattle.rec_check.specs.Sets.{AreSets}
 use Rattle.rec_check.specs.Steps.{kinds, with_member, with_record}
 use Rattle.rec_check.proofs.DescriptorLemmas.{AllZip-push}
-use Rattle.rec_check.proofs.FlawLemmas.{flaw_at-outside, sound-behind, HasFlaw-own, HasRefused-own}
+use Rattle.rec_check.proofs.FlawLemmas.{flaw_at-outside, sound-behind, HasFlaw-own, SchemaMayBeRefused-own}
 use Rattle.rec_check.proofs.PlaceLemmas.{own_are, own_within, text_before}
 use Rattle.rec_check.proofs.SetLemmas.{set_of, AreSets-none, AreSets-with_record, kinds-AreSets, types_among}
 
@@ -170,9 +170,9 @@ module _ (pieces : List Piece) (count : ℕ) (left : List (Range ℕ)) (old : De
           HasFlaw-own pieces here.done fields rest here.are here.sound (descriptor_is descriptor) flaw line has.at (λ k less. field_flaw-is k ∙ has.first k less) (field_flaw-is has.at ∙ has.met)
           (has.number ∙ ap line_after (text_before pieces elements elements_are fields record_within.0 places has.at has.field has.stands))
 
-      schema_refused : is_some (type_of (pieces_of own)) ≡ true → HasRefusedField named (pieces_of own) → HasRefused pieces
+      schema_refused : is_some (type_of (pieces_of own)) ≡ true → DescriptorMayBeRefused named (pieces_of own) → SchemaMayBeRefused pieces
       schema_refused descriptor has =
-          HasRefused-own pieces here.done fields rest here.are here.sound (descriptor_is descriptor) (record {
+          SchemaMayBeRefused-own pieces here.done fields rest here.are here.sound (descriptor_is descriptor) (record {
             at = has.at;
             sound = λ k le. field_flaw-is k ∙ has.sound k le;
             field = has.field;

@@ -2,7 +2,7 @@
 use Rattle.std.specs.Prelude.{◌≡◌, List, ℕ, Option, Some, None, Result, Ok, Err}
 use Rattle.std.specs.declared.rc.Rc.{Rc}
 use Rattle.regex.specs.declared.string.regex.Regex.{Regex}
-use Rattle.rec_sex.specs.Patterns.{IsBuiltFrom, IsRefusedPattern}
+use Rattle.rec_sex.specs.Patterns.{IsBuiltFrom, PatternMayBeRefused}
 use Rattle.rec_check.specs.declared.field_type.FieldType.{FieldType as StoredType}
 use Rattle.rec_check.specs.declared.refusal.Refusal.{Refusal}
 use Rattle.rec_check.specs.declared.refusal.Refusal.TheVariants.{Bad, Unsupported, Pattern, OutOfMemory}
@@ -14,7 +14,7 @@ abbrev pub IsTypeOf : Option (FieldType (List ℕ)) → Result StoredType Refusa
 IsTypeOf written (Ok type_) = (one : FieldType (List ℕ)) × (written ≡ Some one) × IsBuilt one (type_stored type_)
 IsTypeOf written (Err Bad) = written ≡ None
 IsTypeOf written (Err Unsupported) = ⊥
-IsTypeOf written (Err Pattern) = (pattern : List ℕ) × (written ≡ Some (matching pattern)) × IsRefusedPattern pattern
+IsTypeOf written (Err Pattern) = (pattern : List ℕ) × (written ≡ Some (matching pattern)) × PatternMayBeRefused pattern
 IsTypeOf written (Err OutOfMemory) = Unit {0}
 
 -- the kind that is written first, and its type with its pattern built; a refusal where that isn't right, or its pattern refused
@@ -22,7 +22,7 @@ abbrev pub IsKindIn : List ℕ → Result (List ℕ × StoredType) Refusal → T
 IsKindIn text (Ok (kind, type_)) = (one : FieldType (List ℕ)) × (kind_of text ≡ Some (kind, one)) × IsBuilt one (type_stored type_)
 IsKindIn text (Err Bad) = kind_of text ≡ None
 IsKindIn text (Err Unsupported) = ⊥
-IsKindIn text (Err Pattern) = (kind : List ℕ) × (pattern : List ℕ) × (kind_of text ≡ Some (kind, matching pattern)) × IsRefusedPattern pattern
+IsKindIn text (Err Pattern) = (kind : List ℕ) × (pattern : List ℕ) × (kind_of text ≡ Some (kind, matching pattern)) × PatternMayBeRefused pattern
 IsKindIn text (Err OutOfMemory) = Unit {0}
 
 -- the pattern that is built of a text, or a refusal of that
@@ -30,7 +30,7 @@ abbrev pub IsPatternFor : List ℕ → Result Regex Refusal → Type 0
 IsPatternFor text (Ok pattern) = IsBuiltFrom text pattern
 IsPatternFor text (Err Bad) = ⊥
 IsPatternFor text (Err Unsupported) = ⊥
-IsPatternFor text (Err Pattern) = IsRefusedPattern text
+IsPatternFor text (Err Pattern) = PatternMayBeRefused text
 IsPatternFor text (Err OutOfMemory) = Unit {0}
 
 -- the same of a pattern that several types share

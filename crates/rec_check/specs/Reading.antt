@@ -8,7 +8,7 @@ use Rattle.rec_text.specs.Places.{pieces_of}
 use Rattle.rec_text.specs.Reading.{line_after}
 use Rattle.rec_text.specs.Values.{value_of}
 use Rattle.rec_sex.specs.declared.expr.Expr.{Expr}
-use Rattle.rec_sex.specs.Expressions.{IsExpression, HasRefusedPattern, term_of}
+use Rattle.rec_sex.specs.Expressions.{IsExpression, ExpressionMayBeRefused, term_of}
 use Rattle.rec_sex.specs.Grammar.{Term}
 use Rattle.rec_check.specs.declared.definition.Definition.{Definition as StoredDefinition}
 use Rattle.rec_check.specs.declared.descriptor.Descriptor.{Descriptor}
@@ -20,10 +20,10 @@ use Rattle.rec_check.specs.declared.special.Special.{Special}
 use Rattle.rec_check.specs.declared.special.Special.TheVariants.{Rec, Key, Mandatory, Prohibit, Unique, Singular, Allowed, Auto, Type_, Typedef, Size, Constraint, Confidential}
 use Rattle.rec_check.specs.Descriptors.{Flaw, bad, unsupported, element_flaw, first_word, special_flaw, special_of, type_of, bound_in}
 use Rattle.rec_check.specs.Rules.{Rules, no_rules, AreRules}
-use Rattle.rec_check.specs.Schemas.{Described, MayBeRefused}
+use Rattle.rec_check.specs.Schemas.{Described, FieldMayBeRefused}
 use Rattle.rec_check.specs.Steps.{with_record}
 use Rattle.rec_check.specs.Stored.{definition_stored, rules_stored, typing_stored}
-use Rattle.rec_check.specs.Types.{Definition, Typing, IsDefinition, IsTyping, HasRefusedDefinition, HasRefusedType}
+use Rattle.rec_check.specs.Types.{Definition, Typing, IsDefinition, IsTyping, DefinitionMayBeRefused, TypeMayBeRefused}
 use Rattle.rec_check.specs.Words.{words, is_among}
 
 -- ---- one field
@@ -64,11 +64,11 @@ Adds Constraint value old new = (term : Term) × IsExpression value term × (new
 Adds Confidential value old new = ⊥
 
 -- a field of this kind has a pattern that may be refused
-abbrev pub IsRefusedAs : Special → List ℕ → Type 0
-IsRefusedAs Type_ value = HasRefusedType value
-IsRefusedAs Typedef value = HasRefusedDefinition value
-IsRefusedAs Constraint value = HasRefusedPattern value
-IsRefusedAs _ value = ⊥
+abbrev pub MayBeRefusedAs : Special → List ℕ → Type 0
+MayBeRefusedAs Type_ value = TypeMayBeRefused value
+MayBeRefusedAs Typedef value = DefinitionMayBeRefused value
+MayBeRefusedAs Constraint value = ExpressionMayBeRefused value
+MayBeRefusedAs _ value = ⊥
 
 -- What is answered of a field with which this is wrong: what it says is added, its flaw is told, or its pattern is refused.
 abbrev pub Answers : Option Flaw → Type 0 → Type 0 → Result (Unit {0}) Refusal → Type 0
@@ -108,7 +108,7 @@ flaw_behind named so_far piece = option_and_then (λ special. special_flaw speci
 
 -- what is answered of an element behind those that say this, memory aside
 abbrev pub AnswersField : List (List ℕ) → Piece → Said → Said → Result (Unit {0}) Refusal → Type 0
-AnswersField named piece old new answer = Answers (flaw_behind named old piece) (AddsField piece old new) (MayBeRefused piece) answer
+AnswersField named piece old new answer = Answers (flaw_behind named old piece) (AddsField piece old new) (FieldMayBeRefused piece) answer
 
 -- ---- one descriptor
 
@@ -138,19 +138,19 @@ pub record HasFieldFlaw (text : List ℕ) (named : List (List ℕ)) (fields : Li
   pub number : line ≡ line_after (take field.at text)
 
 -- a field has a pattern that may be refused, and nothing is wrong with any up to it
-pub record HasRefusedField (named : List (List ℕ)) (fields : List Piece) : Type 0 where
+pub record DescriptorMayBeRefused (named : List (List ℕ)) (fields : List Piece) : Type 0 where
   pub at : ℕ
   pub sound : (k : ℕ) → k ≤ at → field_flaw named fields k ≡ None
   pub field : Piece
   pub stands : slice_get fields at ≡ Some field
-  pub refused : MayBeRefused field
+  pub refused : FieldMayBeRefused field
 
 -- what is answered of a descriptor with these fields, memory aside
 abbrev pub IsRead : List ℕ → List (List ℕ) → List Element → Result Said Fault → Type 0
 IsRead text named fields (Ok said) = AreSaid named (pieces_of fields) said
 IsRead text named fields (Err (BadDescriptor line)) = HasFieldFlaw text named fields bad line
 IsRead text named fields (Err (Unsupported line)) = HasFieldFlaw text named fields unsupported line
-IsRead text named fields (Err BadPattern) = HasRefusedField named (pieces_of fields)
+IsRead text named fields (Err BadPattern) = DescriptorMayBeRefused named (pieces_of fields)
 IsRead text named fields (Err _) = ⊥
 
 -- ---- one record

@@ -9,14 +9,14 @@ use Rattle.rec_text.specs.Elements.{Piece, text_of, name_of}
 use Rattle.rec_text.specs.Reading.{line_after}
 use Rattle.rec_text.specs.Records.{AreRecords}
 use Rattle.rec_text.specs.Values.{value_of}
-use Rattle.rec_sex.specs.Expressions.{HasRefusedPattern}
+use Rattle.rec_sex.specs.Expressions.{ExpressionMayBeRefused}
 use Rattle.rec_check.specs.declared.set.Set_.{Set_}
 use Rattle.rec_check.specs.declared.special.Special.TheVariants.{Type_, Typedef, Constraint}
 use Rattle.rec_text.specs.Records.{elements_in, record_at}
 use Rattle.rec_check.specs.Descriptors.{Flaw, bad, unsupported, flaw_at, holds_index, special_of, type_of, types_of}
 use Rattle.rec_check.specs.Rules.{Rules, no_rules, AreRules, AreSameRules}
 use Rattle.rec_check.specs.Sets.{AreSets}
-use Rattle.rec_check.specs.Types.{HasRefusedDefinition, HasRefusedType}
+use Rattle.rec_check.specs.Types.{DefinitionMayBeRefused, TypeMayBeRefused}
 
 -- what a schema holds: the record sets, and for each of them its rules
 pub record Described : Type 0 where
@@ -45,16 +45,16 @@ pub record HasFlaw (pieces : List Piece) (flaw : Flaw) (line : ℕ) : Type 0 whe
   pub number : line ≡ line_after (text_of (take at pieces))
 
 -- the type, the definition or the expression that a field gives has a pattern that `regex` may refuse, for another cause than memory
-abbrev pub MayBeRefused : Piece → Type 0
-MayBeRefused field = elim (special_of (name_of field)) [
-  | Some Type_ ↦ HasRefusedType (value_of field)
-  | Some Typedef ↦ HasRefusedDefinition (value_of field)
-  | Some Constraint ↦ HasRefusedPattern (value_of field)
+abbrev pub FieldMayBeRefused : Piece → Type 0
+FieldMayBeRefused field = elim (special_of (name_of field)) [
+  | Some Type_ ↦ TypeMayBeRefused (value_of field)
+  | Some Typedef ↦ DefinitionMayBeRefused (value_of field)
+  | Some Constraint ↦ ExpressionMayBeRefused (value_of field)
   | _ ↦ ⊥
 ]
 
 -- a field of a descriptor has such a pattern, and nothing is wrong with any element up to it
-pub record HasRefused (pieces : List Piece) : Type 0 where
+pub record SchemaMayBeRefused (pieces : List Piece) : Type 0 where
   pub records : List (Range ℕ)
   pub are : AreRecords pieces records
   pub at : ℕ
@@ -62,14 +62,14 @@ pub record HasRefused (pieces : List Piece) : Type 0 where
   pub in_descriptor : option_map_or (λ record_. is_some (type_of (elements_in pieces record_))) (find (holds_index at) records) false ≡ true
   pub field : Piece
   pub stands : slice_get pieces at ≡ Some field
-  pub refused : MayBeRefused field
+  pub refused : FieldMayBeRefused field
 
 -- what may be answered for a text of these elements, memory aside
 abbrev pub IsSchema : List Piece → Result Described Fault → Type 0
 IsSchema pieces (Ok described) = IsDescribed pieces described
 IsSchema pieces (Err (BadDescriptor line)) = HasFlaw pieces bad line
 IsSchema pieces (Err (Unsupported line)) = HasFlaw pieces unsupported line
-IsSchema pieces (Err BadPattern) = HasRefused pieces
+IsSchema pieces (Err BadPattern) = SchemaMayBeRefused pieces
 IsSchema pieces (Err _) = ⊥
 
 -- the same answer, up to patterns that give the same matches

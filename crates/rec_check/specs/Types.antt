@@ -9,7 +9,7 @@ use Rattle.rec_text.specs.Canonical.{is_field_name, is_plain_name}
 use Rattle.rec_sex.specs.Grammar.{IsPatternOf}
 use Rattle.rec_sex.specs.Integers.{int_of, trimmed}
 use Rattle.rec_sex.specs.Meaning.{is_found}
-use Rattle.rec_sex.specs.Patterns.{IsRefusedPattern}
+use Rattle.rec_sex.specs.Patterns.{PatternMayBeRefused}
 use Rattle.rec_check.specs.Words.{words, stripped, behind_first_word, is_among}
 
 -- ---- types
@@ -195,9 +195,9 @@ type_for (typing ∷ later) name = elim (type_for later name) [
 ]
 
 -- the type that a `%type` field gives has a pattern that `regex` may refuse, for another cause than memory
-abbrev pub HasRefusedType : List ℕ → Type 0
-HasRefusedType value = (names : List (List ℕ)) × (kind : List ℕ) × (pattern : List ℕ) × (typing_of value ≡ Some (record { names = names; kind = kind; type_ = matching pattern }))
-    × IsRefusedPattern pattern
+abbrev pub TypeMayBeRefused : List ℕ → Type 0
+TypeMayBeRefused value = (names : List (List ℕ)) × (kind : List ℕ) × (pattern : List ℕ) × (typing_of value ≡ Some (record { names = names; kind = kind; type_ = matching pattern }))
+    × PatternMayBeRefused pattern
 
 -- ---- kinds that are defined
 
@@ -220,6 +220,6 @@ IsDefinition value definition = (written : FieldType (List ℕ))
     × (definition_of value ≡ Some (record { name = definition.name; kind = definition.kind; type_ = written })) × IsBuilt written definition.type_
 
 -- the type that a `%typedef` field gives has a pattern that `regex` may refuse, for another cause than memory
-abbrev pub HasRefusedDefinition : List ℕ → Type 0
-HasRefusedDefinition value = (name : List ℕ) × (kind : List ℕ) × (pattern : List ℕ) × (definition_of value ≡ Some (record { name = name; kind = kind; type_ = matching pattern }))
-    × IsRefusedPattern pattern
+abbrev pub DefinitionMayBeRefused : List ℕ → Type 0
+DefinitionMayBeRefused value = (name : List ℕ) × (kind : List ℕ) × (pattern : List ℕ) × (definition_of value ≡ Some (record { name = name; kind = kind; type_ = matching pattern }))
+    × PatternMayBeRefused pattern

@@ -4,11 +4,11 @@ ghost use Rattle.std.specs.List.{list_all};
 ghost use Rattle.std.specs.Option.{is_some};
 ghost use Rattle.rec_text.specs.Canonical.{is_field_name as may_name_a_field};
 ghost use Rattle.rec_text.specs.Places.{piece_of, pieces_of};
-ghost use Rattle.rec_sex.specs.Expressions.{HasRefusedPattern};
+ghost use Rattle.rec_sex.specs.Expressions.{ExpressionMayBeRefused};
 ghost use Rattle.rec_text.specs.Elements.{has_name};
 ghost use Rattle.rec_check.specs.Descriptors.{bad_unless, rec_flaw, first_word, rec_name, type_of, bound_in, special_flaw};
 ghost use Rattle.rec_check.specs.Reading.{Answers, AddsDefinition, AddsTyping, AddsConstraint, refusal_for};
-ghost use Rattle.rec_check.specs.Types.{HasRefusedDefinition, HasRefusedType};
+ghost use Rattle.rec_check.specs.Types.{DefinitionMayBeRefused, TypeMayBeRefused};
 ghost use Rattle.rec_check.specs.Words.{words};
 
 use crate::definition::Definition;
@@ -118,7 +118,7 @@ fn add_typing(
     types: &mut Vec<Typing>,
     value: &[u8],
 ) -> Result<(), Refusal>
-    ensures { Answers (special_flaw Special.Type_ false [] value.now) (AddsTyping value.now types.old.items types.new.items) (HasRefusedType value.now) result }
+    ensures { Answers (special_flaw Special.Type_ false [] value.now) (AddsTyping value.now types.old.items types.new.items) (TypeMayBeRefused value.now) result }
 {
     types.push(typing_in(alloc, patterns, value)?)?;
     Ok(())
@@ -131,7 +131,7 @@ fn add_definition(
     definitions: &mut Vec<Definition>,
     value: &[u8],
 ) -> Result<(), Refusal>
-    ensures { Answers (special_flaw Special.Typedef false [] value.now) (AddsDefinition value.now definitions.old.items definitions.new.items) (HasRefusedDefinition value.now) result }
+    ensures { Answers (special_flaw Special.Typedef false [] value.now) (AddsDefinition value.now definitions.old.items definitions.new.items) (DefinitionMayBeRefused value.now) result }
 {
     definitions.push(definition_in(alloc, patterns, value)?)?;
     Ok(())
@@ -164,7 +164,7 @@ fn refusal_of(fault: Fault) -> Refusal
 
 /// Takes the expression of a `%constraint` field.
 fn add_constraint(alloc: Global, constraints: &mut Vec<Expr>, value: &[u8]) -> Result<(), Refusal>
-    ensures { Answers (special_flaw Special.Constraint false [] value.now) (AddsConstraint value.now constraints.old.items constraints.new.items) (HasRefusedPattern value.now) result }
+    ensures { Answers (special_flaw Special.Constraint false [] value.now) (AddsConstraint value.now constraints.old.items constraints.new.items) (ExpressionMayBeRefused value.now) result }
 {
     match Expr::parse(alloc, value) {
         Ok(constraint) => {
@@ -181,7 +181,7 @@ impl Descriptor {
     ghost use Rattle.rec_text.specs.Faults.{IsMemoryOr};
     ghost use Rattle.rec_text.specs.Places.{piece_of};
     ghost use Rattle.rec_check.specs.Descriptors.{special_flaw};
-    ghost use Rattle.rec_check.specs.Reading.{Adds, Answers, AnswersField, IsRead, IsRefusedAs, bare, is_repeated, said};
+    ghost use Rattle.rec_check.specs.Reading.{Adds, Answers, AnswersField, IsRead, MayBeRefusedAs, bare, is_repeated, said};
 
     fn new(alloc: Global) -> Descriptor
         ensures { said result ≡ bare }
@@ -201,7 +201,7 @@ impl Descriptor {
         special: Special,
         value: &[u8],
     ) -> Result<(), Refusal>
-        ensures { Answers (special_flaw special (is_repeated special (said self.old)) types.now value.now) (Adds special value.now (said self.old) (said self.new)) (IsRefusedAs special value.now) result }
+        ensures { Answers (special_flaw special (is_repeated special (said self.old)) types.now value.now) (Adds special value.now (said self.old) (said self.new)) (MayBeRefusedAs special value.now) result }
     {
         let patterns = &mut self.patterns;
         match special {

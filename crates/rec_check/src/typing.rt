@@ -4,7 +4,7 @@ ghost use Rattle.std.specs.List.{list_all, slice_split};
 ghost use Rattle.rec_text.specs.Canonical.{is_field_name as may_name_a_field};
 ghost use Rattle.rec_check.specs.Kinds.{IsKindIn};
 ghost use Rattle.rec_check.specs.Stored.{definition_stored, typing_stored};
-ghost use Rattle.rec_check.specs.Types.{IsDefinition, IsTyping, HasRefusedDefinition, HasRefusedType, definition_of, typing_of};
+ghost use Rattle.rec_check.specs.Types.{IsDefinition, IsTyping, DefinitionMayBeRefused, TypeMayBeRefused, definition_of, typing_of};
 
 use crate::definition::Definition;
 use crate::field_type::{FieldType, Typing};
@@ -55,7 +55,7 @@ pub(crate) fn typing_in(
 ) -> Result<Typing, Refusal>
     ensures found { IfOk result (λ typing. IsTyping value.now (typing_stored typing)) }
     ensures bad { IsErrOf result Refusal.Bad → typing_of value.now ≡ None }
-    ensures pattern { IsErrOf result Refusal.Pattern → HasRefusedType value.now }
+    ensures pattern { IsErrOf result Refusal.Pattern → TypeMayBeRefused value.now }
     ensures refusals { IfErr result (λ refusal. (refusal ≡ Refusal.Bad) ⊎ ((refusal ≡ Refusal.Pattern) ⊎ (refusal ≡ Refusal.OutOfMemory))) }
 {
     let Some((joined, behind)) = split_word(value) else {
@@ -77,7 +77,7 @@ pub(crate) fn definition_in(
 ) -> Result<Definition, Refusal>
     ensures found { IfOk result (λ definition. IsDefinition value.now (definition_stored definition)) }
     ensures bad { IsErrOf result Refusal.Bad → definition_of value.now ≡ None }
-    ensures pattern { IsErrOf result Refusal.Pattern → HasRefusedDefinition value.now }
+    ensures pattern { IsErrOf result Refusal.Pattern → DefinitionMayBeRefused value.now }
     ensures refusals { IfErr result (λ refusal. (refusal ≡ Refusal.Bad) ⊎ ((refusal ≡ Refusal.Pattern) ⊎ (refusal ≡ Refusal.OutOfMemory))) }
 {
     let Some((name, behind)) = split_word(value) else {

@@ -12,7 +12,7 @@ use Rattle.rec_sex.specs.declared.token.Token.TheVariants.{Literal, Found}
 use Rattle.rec_sex.specs.declared.tree.Tree.{Tree, Integer, Literal as LiteralTree, Name, Occurrence, Count, Not', Negate', Binary', Found', Choice'}
 use Rattle.rec_sex.specs.declared.expr.Expr.{Expr}
 use Rattle.rec_sex.specs.Tokens.{lexemes}
-use Rattle.rec_sex.specs.Patterns.{IsRefusedPattern}
+use Rattle.rec_sex.specs.Patterns.{PatternMayBeRefused}
 use Rattle.rec_sex.specs.Meaning.{Selects}
 use Rattle.rec_sex.specs.Grammar.{Term, Derives, AreTokens, fault_of, number, literal, field, occurrence, count, inverse, negated, binary, found, choice}
 
@@ -59,14 +59,14 @@ pub record OneExpression : Type 0 where
   pub faultless : (text : List ℕ) (term : Term) → IsExpression text term → fault_of text ≡ None
 
 -- the text behind some `~` is one that `regex` may refuse as a pattern, for another cause than memory
-pub record HasRefusedPattern (text : List ℕ) : Type 0 where
+pub record ExpressionMayBeRefused (text : List ℕ) : Type 0 where
   pub tokens : List Token
   pub are : AreTokens (lexemes text) tokens
   pub front : List Token
   pub pattern : List ℕ
   pub rest : List Token
   pub parts : tokens ≡ front ++ Found ∷ (Literal pattern ∷ rest)
-  pub refused : IsRefusedPattern pattern
+  pub refused : PatternMayBeRefused pattern
 
 -- the patterns are built from these texts, one by one
 abbrev pub AreBuiltFrom : List (List ℕ) → List Regex → Type 0

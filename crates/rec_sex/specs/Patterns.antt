@@ -15,7 +15,7 @@ IsBuiltFrom text pattern = (regex_source pattern ≡ text) × (regex_config patt
 -- As far as its contract says, `regex` may refuse the text, for another cause than memory: its grammar refuses the text,
 -- or reads it. For a text that is read it may answer that the pattern is too big, and no clause says of any pattern that
 -- it isn't. So this holds of good patterns too; that they are accepted is tested.
-pub record IsRefusedPattern (text : List ℕ) : Type 0 where
+pub record PatternMayBeRefused (text : List ℕ) : Type 0 where
   pub error : Error
   pub refused : IsRefusal default_config text error
   pub kind : IsRightKind default_config text error

@@ -21,14 +21,14 @@ impl Expr {
     ghost use Rattle.rec_text.specs.Places.{pieces_of};
     ghost use Rattle.rec_sex.specs.Grammar.{Derives, fault_of};
     ghost use Rattle.rec_sex.specs.Meaning.{Selects};
-    ghost use Rattle.rec_sex.specs.Expressions.{term_of, IsExpression, HasRefusedPattern};
+    ghost use Rattle.rec_sex.specs.Expressions.{term_of, IsExpression, ExpressionMayBeRefused};
 
     /// Reads an expression. The leftmost fault is refused with its place; without one, a pattern that `regex` does not build.
     pub fn parse(alloc: Global, text: &[u8]) -> Result<Expr, Fault>
         ensures expression { IfOk result (λ e. IsExpression text.now (term_of e)) }
         ensures bad_expression { (place : ℕ) → IsErrOf result (Fault.BadExpression place) → fault_of text.now ≡ Some place }
         ensures first_fault { (place : ℕ) → fault_of text.now ≡ Some place → IsErrOf result (Fault.BadExpression place) ⊎ IsErrOf result Fault.OutOfMemory }
-        ensures bad_pattern { IsErrOf result Fault.BadPattern → (fault_of text.now ≡ None) × HasRefusedPattern text.now }
+        ensures bad_pattern { IsErrOf result Fault.BadPattern → (fault_of text.now ≡ None) × ExpressionMayBeRefused text.now }
         ensures refusals { IfErr result (λ fault. (fault ≡ Fault.OutOfMemory) ⊎ (fault ≡ Fault.BadPattern) ⊎ ((place : ℕ) × (fault ≡ Fault.BadExpression place))) }
     {
         let tokens = tokens_of(alloc, text)?;

@@ -1,7 +1,7 @@
 //! Builds patterns from their texts, and finds them in others.
 ghost use Rattle.std.specs.Prelude.{◌≡◌, ◌⊎◌, All, Any, true, IfOk, IfErr, IsErrOf};
 ghost use Rattle.std.specs.Str.{is_utf8};
-ghost use Rattle.rec_sex.specs.Patterns.{IsBuiltFrom, IsRefusedPattern};
+ghost use Rattle.rec_sex.specs.Patterns.{IsBuiltFrom, PatternMayBeRefused};
 ghost use Rattle.regex.specs.Strings.{matcher_pattern};
 ghost use Rattle.rec_sex.specs.Expressions.{AreBuiltFrom};
 ghost use Rattle.rec_sex.specs.Meaning.{is_found as is_found_in_text};
@@ -13,7 +13,7 @@ use std::alloc::Global;
 /// The pattern of a text.
 pub fn pattern_of(alloc: Global, text: &str) -> Result<Regex, Fault>
     ensures built { IfOk result (IsBuiltFrom text.now) }
-    ensures refused { IsErrOf result Fault.BadPattern → IsRefusedPattern text.now }
+    ensures refused { IsErrOf result Fault.BadPattern → PatternMayBeRefused text.now }
     ensures refusals { IfErr result (λ fault. (fault ≡ Fault.OutOfMemory) ⊎ (fault ≡ Fault.BadPattern)) }
 {
     match Regex::new(alloc, text) {
@@ -27,7 +27,7 @@ pub fn pattern_of(alloc: Global, text: &str) -> Result<Regex, Fault>
 pub(crate) fn patterns_of(alloc: Global, texts: &[Bytes]) -> Result<Vec<Regex>, Fault>
     requires { All (λ text. is_utf8 text ≡ true) texts.now }
     ensures built { IfOk result (λ patterns. AreBuiltFrom texts.now patterns.items) }
-    ensures refused { IsErrOf result Fault.BadPattern → Any IsRefusedPattern texts.now }
+    ensures refused { IsErrOf result Fault.BadPattern → Any PatternMayBeRefused texts.now }
     ensures refusals { IfErr result (λ fault. (fault ≡ Fault.OutOfMemory) ⊎ (fault ≡ Fault.BadPattern)) }
 {
     let mut patterns = Vec::new(alloc);

@@ -6,7 +6,7 @@ use Rattle.rec_text.specs.Elements.{Piece}
 use Rattle.rec_text.specs.Reading.{IsReading}
 use Rattle.rec_sex.specs.declared.field_list.Item.{Item}
 use Rattle.rec_sex.specs.declared.index_list.Span.{Span}
-use Rattle.rec_sex.specs.Expressions.{IsExpression, HasRefusedPattern}
+use Rattle.rec_sex.specs.Expressions.{IsExpression, ExpressionMayBeRefused}
 use Rattle.rec_sex.specs.Grammar.{Term, fault_of}
 use Rattle.rec_sex.specs.IndexList.{IsIndexList}
 use Rattle.rec_sex.specs.Lists.{IsFieldList}
@@ -26,7 +26,7 @@ use Rattle.rec_tools.specs.Steps.{Then}
 abbrev pub IsExpressionFilter : List ℕ → Result Filter Fault → Type 0
 IsExpressionFilter text (Ok wanted) = (term : Term) × IsExpression text term × (wanted ≡ by_expression term)
 IsExpressionFilter text (Err (BadExpression place)) = fault_of text ≡ Some place
-IsExpressionFilter text (Err BadPattern) = (fault_of text ≡ None) × HasRefusedPattern text
+IsExpressionFilter text (Err BadPattern) = (fault_of text ≡ None) × ExpressionMayBeRefused text
 IsExpressionFilter text (Err _) = ⊥
 
 abbrev pub IsIndexFilter : List ℕ → Result Filter Fault → Type 0

@@ -1,8 +1,10 @@
 #!/usr/bin/env bash
 # All tests, one part of them, or one case of a part. The last line is 'N passed, M failed'.
 #     bash test.sh                         all parts
-#     bash test.sh proofs                  every proof from nothing, the must-fail edits, the tests in the crates
-#     bash test.sh edits [CRATE|EDIT]      the must-fail edits alone: all, those of a crate, or one
+#     bash test.sh proofs                  every proof from nothing, the wrong bodies of the gate, the tests in the crates
+#     bash test.sh edits [--gate] [CRATE|EDIT]
+#                                          wrong bodies, which the proofs must refuse: all, those of a crate, or one;
+#                                          with --gate those that all parts try too
 #     bash test.sh program [CASE]          runs of the built program, and the sessions of the documents
 #     bash test.sh memory [CASE]           runs of the built program with each of their allocations failing in turn
 #     bash test.sh growth [CASE]           calls of the crates with each of their allocations failing in turn
@@ -15,7 +17,7 @@ passed=0
 failed=0
 
 usage() {
-    sed -n '2,9s/^# \{0,1\}//p' test.sh >&2
+    sed -n '2,/^[^#]/s/^# \{0,1\}//p' test.sh >&2
     exit 2
 }
 
@@ -27,6 +29,7 @@ proofs() {
     if [ "$(awk '/^MemAvailable/ { print int($2 / 5000000) }' /proc/meminfo)" -ge "$(nproc)" ]; then
         export RT_JOBS="${RT_JOBS:-$(nproc)}"
     fi
+    bodies
     rt ci | tee "$folder/log"
     status=${PIPESTATUS[0]}
     if [[ $(tail -n 1 "$folder/log") =~ ^([0-9]+)\ passed,\ ([0-9]+)\ failed$ ]]; then
@@ -38,15 +41,30 @@ proofs() {
     fi
 }
 
-# edits [CRATE|EDIT]: one edit is tried in a copy of the crates that holds no other one
+# Says, in seconds, which wrong body doesn't apply any more, and which public function has none.
+bodies() {
+    local look
+    for look in applied covered; do
+        if python3 tests/wrong-bodies.py "$look"; then passed=$((passed + 1)); else failed=$((failed + 1)); fi
+    done
+}
+
+# edits [--gate] [CRATE|EDIT]: wrong bodies of both places, in a copy of the crates; with --gate those of the gate alone
 edits() {
-    local top=$PWD status wrong
+    local top=$folder/copy second='tests/wrong-bodies/*' crate status wrong
+    if [ "${1-}" = --gate ]; then
+        second=
+        shift
+    fi
+    mkdir "$top"
+    tar -c --exclude=incremental crates.txt HANDLES crates | tar -x -C "$top"
+    for crate in $second; do
+        mkdir -p "$top/crates/${crate##*/}/must-fail"
+        cp "$crate"/*.edit "$top/crates/${crate##*/}/must-fail"
+    done
     if [ $# = 1 ] && [ ! -d "crates/$1" ]; then
-        compgen -G "crates/*/must-fail/${1%.edit}.edit" > "$folder/edits" || usage
-        top=$folder/copy
-        mkdir "$top"
-        tar -c --exclude=incremental --exclude='*.edit' crates.txt HANDLES crates | tar -x -C "$top"
-        xargs cp --parents -t "$top" < "$folder/edits"
+        find "$top"/crates/*/must-fail -name '*.edit' ! -name "${1%.edit}.edit" -delete
+        compgen -G "$top/crates/*/must-fail/*.edit" > /dev/null || usage
         shift
     fi
     (cd "$top" && rt must-fail "$@") | tee "$folder/log"
@@ -95,7 +113,8 @@ all() {
 
 case ${1-all} in
     all | proofs) [ $# -le 1 ] || usage ;;
-    edits | program | memory | growth) [ $# -le 2 ] || usage ;;
+    edits) [ $# -le 2 ] || [ "$#$2" = 3--gate ] || usage ;;
+    program | memory | growth) [ $# -le 2 ] || usage ;;
     *) usage ;;
 esac
 if bash tests/needs.sh; then "${@:-all}"; else failed=1; fi

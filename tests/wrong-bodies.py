@@ -1,0 +1,142 @@
+#!/usr/bin/env python3
+"""Looks through the wrong bodies, crates/NAME/must-fail/*.edit and tests/wrong-bodies/NAME/*.edit, in seconds.
+    python3 tests/wrong-bodies.py applied     says which of them can't be tried any more
+    python3 tests/wrong-bodies.py covered     says which public function has none
+Where it says something it ends with 1. tests/README.md says how one is written."""
+import collections
+import glob
+import os
+import re
+import sys
+
+MOST_IN_THE_GATE = 14
+Function = collections.namedtuple("Function", "path name first last is_public")
+
+
+def read(path):
+    with open(path, encoding="utf-8") as file:
+        return file.read()
+
+
+def edits_of(crate):
+    return sorted(glob.glob(f"crates/{crate}/must-fail/*.edit") + glob.glob(f"tests/wrong-bodies/{crate}/*.edit"))
+
+
+def pairs_of(edit):
+    """The path of the file, the old text and the new one, for each pair."""
+    file = old = ""
+    for line in read(edit).split("\n"):
+        key, _, text = line.partition(":")
+        text = text.removeprefix(" ")
+        if key == "file":
+            file = text.strip()
+        elif key == "old":
+            old = text
+        elif key == "new":
+            yield file, old, text
+
+
+def why_not_applied(crate, edit):
+    texts = {}
+    for file, old, new in pairs_of(edit):
+        path = f"crates/{crate}/{file}"
+        if not os.path.isfile(path):
+            return f"there is no file {path}"
+        text = texts.get(path) or read(path)
+        if not old or text.count(old) != 1:
+            return f"its old text stands {text.count(old)} times in {path}: {old}"
+        texts[path] = text.replace(old, new)
+    return None if texts else "it has no pair of an old text and a new one"
+
+
+def applied(crate):
+    of_gate = glob.glob(f"crates/{crate}/must-fail/*.edit")
+    if len(of_gate) > MOST_IN_THE_GATE:
+        yield f"crates/{crate}/must-fail: {len(of_gate)} wrong bodies, and {MOST_IN_THE_GATE} are the most"
+    for edit in of_gate:
+        if not read(edit).startswith("# ") or read(edit).startswith("# turns:"):
+            yield f"{edit}: its first line doesn't say which promise it breaks"
+        if os.path.exists(f"tests/wrong-bodies/{crate}/{os.path.basename(edit)}"):
+            yield f"{edit}: one of the same name stands in tests/wrong-bodies/{crate}"
+    for edit in edits_of(crate):
+        why = why_not_applied(crate, edit)
+        if why:
+            yield f"{edit}: {why}"
+
+
+def exports_of(crate):
+    """What lib.rt exports of the crate's own modules, by name."""
+    lib = f"crates/{crate}/src/lib.rt"
+    text = read(lib) if os.path.isfile(lib) else ""
+    modules = re.findall(r"^mod (\w+);", text, re.M)
+    used = re.findall(r"^pub use (\w+)::([^;]*);", text, re.M)
+    return {name for module, names in used if module in modules for name in re.findall(r"\w+", names)}
+
+
+def functions_of(path, exported, own_traits):
+    """The functions with a body, as rt fmt writes them: it ends at a brace right below the function's first letter.
+
+    Public are an exported function, a function of an exported trait, and of an exported type what is `pub` or of a
+    trait. The others are no concern of callers. A law has the body {}, and a function outside of traits that has no
+    `ensures` promises nothing: no body of these is wrong.
+    """
+    trait = owner = ""
+    name = None
+    for at, line in enumerate(read(path).split("\n")):
+        block = re.match(r"(?:pub |pub\(crate\) )?(impl|trait)\b", line)
+        if block:
+            plain = re.sub(r"<[^<>]*>", "", re.sub(r"<[^<>]*>", "", line))
+            kind, trait, owner = re.search(r"(impl|trait) (?:([\w:]+) for )?([\w:]+)", plain).groups()
+            trait = owner if kind == "trait" else trait
+        begin = re.match(r"( *)(pub |pub\(crate\) )?(?:const )?fn (\w+)", line)
+        if begin:
+            indent, mark, name = begin.groups()
+            first, has_begun, promises = at, False, bool(indent and trait)
+        if name is None:
+            continue
+        promises = promises or not has_begun and line.lstrip().startswith("ensures ")
+        has_begun = has_begun or re.match(rf"{indent}(\S.*)?{{$", line) is not None
+        if line == f"{indent}{{}}" or not has_begun and line.endswith(";"):
+            name = None
+        elif line == f"{indent}}}":
+            if not indent:
+                is_public = mark == "pub " and name in exported
+            elif trait:
+                is_public = trait in exported or owner in exported and trait not in own_traits
+            else:
+                is_public = mark == "pub " and owner in exported
+            yield Function(path, f"{owner}::{name}" if indent else name, first, at, is_public and promises)
+            name = None
+
+
+def covered(crate):
+    """An edit is one of the function in which its first old text stands, and of those that its line `turns` names."""
+    exported, sources = exports_of(crate), glob.glob(f"crates/{crate}/src/*.rt")
+    own_traits = re.findall(r"^(?:pub |pub\(crate\) )?trait (\w+)", "\n".join(read(path) for path in sources), re.M)
+    functions = [one for path in sources for one in functions_of(path, exported, own_traits)]
+    public = [one for one in functions if one.is_public]
+    turned = set()
+    for edit in edits_of(crate):
+        for name in re.findall(r"[\w:]+", " ".join(re.findall(r"^# turns: (.*)", read(edit), re.M))):
+            named = [one for one in public if one.name == name]
+            if not named:
+                yield f"{edit}: {name} is no public function of {crate}"
+            turned.update(named)
+        file, old, _ = next(pairs_of(edit), ("src/lib.rt", "", ""))
+        path = f"crates/{crate}/{file}"
+        line = read(path).partition(old)[0].count("\n") if os.path.isfile(path) else -1
+        turned.update(one for one in functions if one.path == path and one.first <= line <= one.last)
+    yield from sorted(f"{one.path}: no wrong body of {one.name}" for one in public if one not in turned)
+
+
+def main(words):
+    looks = {"applied": applied, "covered": covered}
+    if len(words) != 1 or words[0] not in looks:
+        sys.exit(__doc__)
+    said = [line for crate in sorted(os.listdir("crates")) for line in looks[words[0]](crate)]
+    for line in said:
+        print(f"tests/wrong-bodies.py: {line}")
+    sys.exit(1 if said else 0)
+
+
+main(sys.argv[1:])

@@ -1,7 +1,7 @@
 #!/usr/bin/env bash
 # All tests, one part of them, or one case of a part. The last line is 'N passed, M failed'.
 #     bash test.sh                         all parts
-#     bash test.sh proofs                  every proof from nothing, the wrong bodies of the gate, the tests in the crates
+#     bash test.sh proofs                  every proof from nothing, the gate's wrong bodies, the tests in the crates
 #     bash test.sh edits [--gate] [CRATE|EDIT]
 #                                          wrong bodies, which the proofs must refuse: all, those of a crate, or one;
 #                                          with --gate those that all parts try too

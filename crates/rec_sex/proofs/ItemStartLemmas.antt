@@ -24,7 +24,7 @@ use Rattle.rec_text.specs.Elements.{Piece, name_of}
 use Rattle.rec_text.specs.Places.{piece_of, pieces_of}
 use Rattle.rec_sex.specs.declared.field_list.Item.{Item}
 use Rattle.rec_sex.specs.declared.index_list.Span.{Span}
-use Rattle.rec_sex.specs.ItemStarts.{has_index, first_of, indexes_at, starts_in, indexes_in, AreWanted, Covers, HasPlacesOf}
+use Rattle.rec_sex.specs.ItemStarts.{has_index, first_of, indexes_at, starts_in, indexes_in, AreWanted, Covers, HasPlacesOf, picked_at, meant_of}
 use Rattle.rec_sex.specs.Lists.{occurrences, picks, places_from}
 use Rattle.rec_sex.specs.NamePlaces.{places_in}
 use Rattle.rec_sex.proofs.NamePlaceLemmas.{kept, places_from-more, same_places}
@@ -294,9 +294,6 @@ wanted_all table (field ∷ fields) below wanted past so_far = λ name occurrenc
 -- ---- what items at some indexes pick
 
 module _ (pick : Item → List ℕ) where
-  abbrev pub picked_at : List Item → ℕ → List ℕ
-  picked_at items i = option_map_or pick (slice_get items i) []
-
   module _ (all : List Item) where
     -- the items from an index on
     abbrev StandFrom : ℕ → List Item → Type 0
@@ -322,7 +319,7 @@ module _ (pick : Item → List ℕ) where
     from_above low [] at within above = tt
     from_above low (k ∷ keys) at within above = (omega (arith, less low k above.0), from_above low keys at within above.1)
 
-    nothing_past : (at : ℕ) (keys : List ℕ) → StandFrom at [] → AreFrom at keys → flat_map (picked_at all) keys ≡ []
+    nothing_past : (at : ℕ) (keys : List ℕ) → StandFrom at [] → AreFrom at keys → flat_map (picked_at pick all) keys ≡ []
     nothing_past at [] stand from = refl
     nothing_past at (k ∷ keys) stand from =
         let there : k ≡ at + (k - at) = omega (arith, from.0) in
@@ -355,7 +352,7 @@ module _ (pick : Item → List ℕ) where
     ]
 
     picked_from : (at : ℕ) (items : List Item) (keys : List ℕ) → StandFrom at items → IsStrictlySortedBy nat_cmp keys → AreFrom at keys → AreFound at items keys
-        → flat_map (picked_at all) keys ≡ flat_map pick items
+        → flat_map (picked_at pick all) keys ≡ flat_map pick items
     unfolding IsStrictlySortedBy
     picked_from at [] keys stand sorted from found = nothing_past at keys stand from
     picked_from at (item ∷ items) [] stand sorted from found =
@@ -382,12 +379,8 @@ module _ (pick : Item → List ℕ) where
     all_from [] = tt
     all_from (k ∷ keys) = (omega arith, all_from keys)
 
-    pub picked_all : (keys : List ℕ) → IsStrictlySortedBy nat_cmp keys → AreFound 0 all keys → flat_map (picked_at all) keys ≡ flat_map pick all
+    pub picked_all : (keys : List ℕ) → IsStrictlySortedBy nat_cmp keys → AreFound 0 all keys → flat_map (picked_at pick all) keys ≡ flat_map pick all
     picked_all keys sorted found = picked_from 0 all keys (λ k. let same : 0 + k ≡ k = omega arith in ap (slice_get all) same) sorted (all_from keys) found
-
--- what an item picks, by the table
-abbrev pub meant_of : {S : Type 0} → HashMap (Bor (List ℕ)) (Vec ℕ) S → Item → List ℕ
-meant_of table item = occurrences item.occurrences (places_in table item.name)
 
 -- items that pick the same
 same_picked : (pick other : Item → List ℕ) (items : List Item) → ((i : ℕ) (item : Item) → slice_get items i ≡ Some item → pick item ≡ other item)

@@ -1,8 +1,8 @@
 -- Items joined by commas, read one by one.
-use Rattle.std.proofs.Common.{◌≡◌, ◌∙◌, ℕ, List, [], ◌∷◌, ◌++◌, length, refl, ap, sym, subst}
+use Rattle.std.proofs.Common.{◌≡◌, ◌∙◌, ℕ, ◌+◌, ◌-◌, ◌<◌, ◌≤◌, List, [], ◌∷◌, ◌++◌, length, length-append, refl, ap, sym, subst, arith}
 use Rattle.std.proofs.lemmas.List.{append_assoc, append-nil, nil_from_length}
 use Rattle.std.proofs.lemmas.Bool.{eqb-true}
-use Rattle.rec_sex.specs.Joined.{AreJoined, AreWithCommas, BeginsWhole, ends_item}
+use Rattle.rec_sex.specs.Joined.{AreJoined, AreWithCommas, BeginsWhole, HasFaultyItem, ends_item}
 
 -- one more item, with its comma
 pub AreWithCommas-push : {I : Type 0} (IsItem : List ℕ → I → Type 0) (before : List ℕ) (items : List I) (front : List ℕ) (item : I) → AreWithCommas IsItem before items → IsItem front item
@@ -47,3 +47,25 @@ read_more IsItem text rest items item behind b next more (before, parts, whole) 
       parts ∙ ap (λ r. before ++ r) (halves ∙ ap (λ r. front ++ r) (follows ∙ ap (λ c. c ∷ next) comma) ∙ sym (append_assoc front (44 ∷ []) next)) ∙ sym (append_assoc before (front ++ 44 ∷ []) next),
       subst P (sym pushed) (AreWithCommas-push IsItem before items front item whole is),
     )
+
+-- how much is left to read
+pub read_within : {I : Type 0} (IsItem : List ℕ → I → Type 0) (text rest : List ℕ) (items : List I) → ReadUpTo IsItem text rest items → length rest ≤ length text
+read_within IsItem text rest items (before, parts, whole) = omega (arith, ap length parts, length-append before rest)
+
+pub less_is_left : {I : Type 0} (IsItem : List ℕ → I → Type 0) (rest : List ℕ) (item : I) (behind : List ℕ) (b : ℕ) (next : List ℕ) → BeginsWhole IsItem rest item behind
+    → behind ≡ b ∷ next → length next < length rest
+less_is_left IsItem rest item behind b next (front, halves, is, ended) follows = omega (arith, ap length halves, length-append front behind, ap length follows)
+
+-- what is left has a fault
+pub read_faulty : {I : Type 0} (IsItem : List ℕ → I → Type 0) (IsFault : List ℕ → ℕ → Type 0) (text rest : List ℕ) (items : List I) (at place : ℕ) → ReadUpTo IsItem text rest items
+    → IsFault rest at → place ≡ length text - length rest + at → HasFaultyItem IsItem IsFault text place
+read_faulty IsItem IsFault text rest items at place (before, parts, whole) bad there = record {
+  before = before;
+  items = items;
+  rest = rest;
+  at = at;
+  parts = parts;
+  whole = whole;
+  bad = bad;
+  behind = omega (arith, ap length parts, length-append before rest);
+}

@@ -1,15 +1,19 @@
 -- Indexes and text literals, byte by byte.
-use Rattle.std.proofs.Common.{◌≡◌, ◌≢◌, ℕ, ◌+◌, ◌-◌, ◌*◌, ◌^◌, ◌<◌, ◌≤◌, Bool, true, false, ◌==◌, ◌||◌, ◌&&◌, List, [], ◌∷◌, ◌++◌, Option, Some, None, length, drop, get_or, refl, ap, sym, ◌∙◌, subst, arith, cond, add-zero}
+use Rattle.std.proofs.Common.{◌≡◌, ◌≢◌, inl, inr, ℕ, pos, ◌+◌, ◌-◌, ◌*◌, ◌^◌, ◌<◌, ◌≤◌, Bool, true, false, ◌==◌, ◌||◌, ◌&&◌, List, [], ◌∷◌, ◌++◌, Option, Some, None, length, drop, get_or, refl, ap, sym, ◌∙◌, subst, arith, cond, add-zero, drop_of_length-le}
 use Rattle.std.specs.Prelude.{if◌then◌else◌, nat_lt, take_while}
 use Rattle.std.specs.Char.{is_ascii_digit}
 use Rattle.std.specs.Option.{option_map}
 use Rattle.std.specs.List.{fold}
-use Rattle.std.proofs.lemmas.List.{append_assoc, drop_more, drop-drop, length-drop, get_or-drop}
+use Rattle.std.proofs.lemmas.List.{append_assoc, append-nil, drop_more, drop-drop, length-drop, get_or-drop}
 use Rattle.std.proofs.lemmas.List.Sums.{take_while-cons}
+use Rattle.std.proofs.lemmas.Bool.{cases_lt, eq-eqb, le-ltb, lt-ltb}
 use Rattle.std.proofs.lemmas.Bool.Decides.{nat_tests}
-use Rattle.rec_sex.specs.declared.token.Token.TheVariants.{Literal}
+use Rattle.rec_sex.specs.declared.token.Token.TheVariants.{Integer, Literal}
+use Rattle.rec_text.specs.Bytes.{continues_name}
 use Rattle.rec_sex.specs.IndexList.{greatest}
-use Rattle.rec_sex.specs.Tokens.{Lexeme, Whole, Broken, with_byte, literal_from, literal_at}
+use Rattle.rec_sex.specs.Integers.{magnitude_of}
+use Rattle.rec_sex.specs.Magnitudes.{in_64_bits}
+use Rattle.rec_sex.specs.Tokens.{Lexeme, Whole, Broken, with_byte, literal_from, literal_at, integer_at}
 use Rattle.rec_sex.specs.Lexing.{literal_byte}
 
 -- ---- indexes
@@ -52,6 +56,33 @@ pub index_from-large : (n len : ℕ) (s : List ℕ) (i : ℕ) → i < length s �
     → index_from n len (take_while is_ascii_digit (drop i s)) ≡ None
 index_from-large n len s i less digit large =
     index_from-more n len s i less digit ∙ index_from-past (n * 10 + (get_or s i 0 - 48)) (len + 1) (take_while is_ascii_digit (drop (i + 1) s)) large
+
+-- ---- integers
+
+-- the integer of a number and so many bytes, if it has 63 bits
+abbrev of_magnitude : Option ℕ → ℕ → Lexeme
+of_magnitude found len = elim found [ None ↦ Broken 0 | Some n ↦ if nat_lt n (2 ^ 63) then Whole (Integer (pos n)) len else Broken 0 ]
+
+-- 64 bits are enough
+of_magnitude-bits : (found : Option ℕ) (len : ℕ) → of_magnitude found len ≡ of_magnitude (in_64_bits found) len
+of_magnitude-bits None len = refl
+of_magnitude-bits (Some n) len = elim (cases_lt n (2 ^ 64)) [
+  | inl below ↦ ap (λ t. of_magnitude (if t then Some n else None) len) (sym (lt-ltb n (2 ^ 64) below))
+  | inr above ↦
+      ap (λ t. if t then Whole (Integer (pos n)) len else Broken 0) (le-ltb n (2 ^ 63) (omega arith))
+      ∙ ap (λ t. of_magnitude (if t then Some n else None) len) (sym (le-ltb n (2 ^ 64) above))
+]
+
+-- the word that comes first, and the number that it writes
+pub integer_of_word : (text word : List ℕ) (found : Option ℕ) → word ≡ take_while continues_name text → found ≡ in_64_bits (magnitude_of word) → integer_at text ≡ of_magnitude found (length word)
+integer_of_word text word found is reads =
+    ap (λ w. of_magnitude (magnitude_of w) (length w)) (sym is) ∙ of_magnitude-bits (magnitude_of word) (length word) ∙ ap (λ o. of_magnitude o (length word)) (sym reads)
+
+pub of_magnitude-small : (n len : ℕ) → n < 2 ^ 63 → of_magnitude (Some n) len ≡ Whole (Integer (pos n)) len
+of_magnitude-small n len below = ap (λ t. if t then Whole (Integer (pos n)) len else Broken 0) (lt-ltb n (2 ^ 63) below)
+
+pub of_magnitude-large : (n len : ℕ) → 2 ^ 63 ≤ n → of_magnitude (Some n) len ≡ Broken 0
+of_magnitude-large n len above = ap (λ t. if t then Whole (Integer (pos n)) len else Broken 0) (le-ltb n (2 ^ 63) above)
 
 -- ---- text literals
 
@@ -140,3 +171,21 @@ IsInLiteral-more text quote front at byte len is less ne e =
       some = omega (arith, is.some);
       fits = omega (arith, within.1, is.fits);
     }
+
+-- the quote comes again
+literal_from-quote : (quote : ℕ) (bs : List ℕ) → literal_from quote (quote ∷ bs) ≡ Some ([], 1)
+literal_from-quote quote [] = ap (λ t. if t then Some ([], 1) else None) (eq-eqb quote quote refl)
+literal_from-quote quote (c ∷ cs) =
+    let more = if quote == 92 && (c == 39 || c == 34) then option_map (λ x. (c ∷ x.0, x.1 + 2)) (literal_from quote cs) else with_byte quote (literal_from quote (c ∷ cs)) in
+    ap (λ t. if t then Some ([], 1) else more) (eq-eqb quote quote refl)
+
+pub literal_closed : (text : List ℕ) (quote : ℕ) (front : List ℕ) (at : ℕ) → IsInLiteral text quote front at → at < length text → get_or text at 0 ≡ quote
+    → literal_at text ≡ Whole (Literal front) (at + 1)
+literal_closed text quote front at is less same =
+    is.same
+    ∙ ap (λ s. with_front front at (literal_from quote s)) (drop_more text at 0 less ∙ ap (λ b. b ∷ drop (at + 1) text) same)
+    ∙ ap (with_front front at) (literal_from-quote quote (drop (at + 1) text))
+    ∙ ap (λ t. Whole (Literal t) (at + 1)) (append-nil front)
+
+pub literal_open : (text : List ℕ) (quote : ℕ) (front : List ℕ) (at : ℕ) → IsInLiteral text quote front at → length text ≤ at → literal_at text ≡ Broken 0
+literal_open text quote front at is past = is.same ∙ ap (λ s. with_front front at (literal_from quote s)) (drop_of_length-le text past)

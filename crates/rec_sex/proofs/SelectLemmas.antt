@@ -1,7 +1,8 @@
 -- The walk over the choices finds one that makes the expression true exactly where there is one.
-use Rattle.std.proofs.Common.{◌≡◌, ℕ, Bool, List, [], map, Option, Some, None, refl, ap, subst, sym, ◌∙◌}
+use Rattle.std.proofs.Common.{◌≡◌, ℕ, ◌+◌, ◌<◌, Bool, List, [], ◌∷◌, ◌++◌, length, take, get_or, map, Option, Some, None, refl, ap, subst, sym, ◌∙◌}
 use Rattle.std.specs.Option.{option_map, option_and_then}
 use Rattle.std.specs.Prelude.{if◌then◌else◌, neg_ℤ, unwrap_or, IsTrue, ◌↔◌}
+use Rattle.std.proofs.lemmas.List.{map_push, take_more}
 use Rattle.std.proofs.lemmas.Option.{slice_get-map}
 use Rattle.regex.specs.Patterns.{Re, empty}
 use Rattle.regex.specs.Strings.{regex_pattern}
@@ -86,3 +87,12 @@ module _ (tree : Tree) (patterns : List Regex) (alike : List Re) (finds : FindAl
   selects_with answer used same is =
       let moved : IsTrue answer ↔ Selects (term_under alike tree) pieces = subst (λ ps. IsTrue answer ↔ Selects (term_under ps tree) pieces) same is in
       (λ true_. with_patterns_selects (moved.0 true_), λ selects. moved.1 (with_alike_selects selects))
+
+-- one more of both, as a loop takes them
+pub map_more : {M R P : Type 0} (f : M → P) (g : R → P) (made new : List M) (m : M) (items : List R) (i : ℕ) (item : R) → new ≡ made ++ m ∷ [] → f m ≡ g item
+    → i < length items → item ≡ get_or items i item → map f made ≡ map g (take i items) → map f new ≡ map g (take (i + 1) items)
+map_more f g made new m items i item pushed alike less is so_far =
+    ap (map f) pushed ∙ map_push f made m ∙ ap (λ l. l ++ f m ∷ []) so_far ∙ ap (λ p. map g (take i items) ++ p ∷ []) alike
+    ∙ sym (map_push g (take i items) item)
+    ∙ ap (λ r. map g (take i items ++ r ∷ [])) is
+    ∙ ap (map g) (sym (take_more items i item less))

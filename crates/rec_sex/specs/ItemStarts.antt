@@ -12,7 +12,7 @@ use Rattle.std.specs.Str.{bytes_eq}
 use Rattle.rec_text.specs.Elements.{Piece}
 use Rattle.rec_sex.specs.declared.field_list.Item.{Item}
 use Rattle.rec_sex.specs.declared.index_list.Span.{Span}
-use Rattle.rec_sex.specs.Lists.{places_from}
+use Rattle.rec_sex.specs.Lists.{occurrences, places_from}
 use Rattle.rec_sex.specs.NamePlaces.{places_in}
 
 -- an index is among these
@@ -50,3 +50,11 @@ module _ {S T : Type 0} where
   abbrev pub HasPlacesOf : {R : Type 0} → HashMap (Vec ℕ) (HashMap ℕ (Vec ℕ) T) S → HashMap (Bor (List ℕ)) (Vec ℕ) R → List Piece → Type 0
   HasPlacesOf table places fields =
       (name : List ℕ) (starts : HashMap ℕ (Vec ℕ) T) → starts_in table name ≡ Some starts → places_in places name ≡ places_from 0 name fields
+
+-- what the item at an index picks; nothing, where there is none
+abbrev pub picked_at : (Item → List ℕ) → List Item → ℕ → List ℕ
+picked_at pick items i = option_map_or pick (slice_get items i) []
+
+-- what an item picks, by the table of places
+abbrev pub meant_of : {S : Type 0} → HashMap (Bor (List ℕ)) (Vec ℕ) S → Item → List ℕ
+meant_of table item = occurrences item.occurrences (places_in table item.name)

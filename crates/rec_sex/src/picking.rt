@@ -1,7 +1,10 @@
 //! What many items pick of a record: its fields find the items that start at them.
-ghost use Rattle.std.specs.Prelude.{◌≡◌, ◌||◌, ◌++◌, ℕ, IfOk, OnOk, IfErr};
+ghost use Rattle.std.specs.Prelude.{◌≡◌, ◌||◌, ◌++◌, [], ℕ, IfOk, OnOk, IfErr};
+ghost use Rattle.std.specs.List.{flat_map};
+ghost use Rattle.std.specs.List.Sorted.{IsStrictlySortedBy};
+ghost use Rattle.std.specs.Ordering.{nat_cmp};
 ghost use Rattle.rec_text.specs.Places.{pieces_of};
-ghost use Rattle.rec_sex.specs.ItemStarts.{has_index, AreWanted, Covers, HasPlacesOf};
+ghost use Rattle.rec_sex.specs.ItemStarts.{has_index, AreWanted, Covers, HasPlacesOf, meant_of, picked_at};
 ghost use Rattle.rec_sex.specs.Lists.{occurrences, picks};
 ghost use Rattle.rec_sex.specs.NamePlaces.{places_in};
 
@@ -56,6 +59,30 @@ fn add_indexes(wanted: &mut BTreeSet<usize>, indexes: &[usize]) -> Result<(), Fa
     Ok(())
 }
 
+/// Adds the indexes of the items that start at one of the fields, and the places of the names that items have.
+fn add_found<'t>(
+    alloc: Global,
+    starts: &HashMap<Vec<u8>, HashMap<usize, Vec<usize>>>,
+    fields: &[Element<'t>],
+    wanted: &mut BTreeSet<usize>,
+    table: &mut HashMap<&'t [u8], Vec<usize>>,
+) -> Result<(), Fault>
+    requires { HasPlacesOf starts.now table.old [] }
+    ensures wanted { OnOk result (AreWanted starts.now (pieces_of fields.now) wanted.new.keys) }
+    ensures places { OnOk result (HasPlacesOf starts.now table.new (pieces_of fields.now)) }
+    ensures refusals { IfErr result (λ fault. fault ≡ Fault.OutOfMemory) }
+{
+    for (place, field) in fields.iter().enumerate() {
+        let name = field.name();
+        if let Some(of_name) = starts.get(name) {
+            let occurrence = places_of(table, name).len();
+            add_indexes(wanted, indexes_at(of_name, occurrence))?;
+            add_place(alloc, table, name, place)?;
+        }
+    }
+    Ok(())
+}
+
 /// The indexes of the items that start at one of the fields, and the places of the names that items have.
 fn found<'t>(
     alloc: Global,
@@ -68,15 +95,28 @@ fn found<'t>(
 {
     let mut wanted = BTreeSet::new(alloc);
     let mut table = HashMap::new(alloc);
-    for (place, field) in fields.iter().enumerate() {
-        let name = field.name();
-        if let Some(of_name) = starts.get(name) {
-            let occurrence = places_of(&table, name).len();
-            add_indexes(&mut wanted, indexes_at(of_name, occurrence))?;
-            add_place(alloc, &mut table, name, place)?;
-        }
-    }
+    add_found(alloc, starts, fields, &mut wanted, &mut table)?;
     Ok((wanted, table))
+}
+
+/// Adds what the items at the indexes pick, by the table of places.
+fn add_picked(
+    items: &[Item],
+    wanted: &BTreeSet<usize>,
+    table: &HashMap<&[u8], Vec<usize>>,
+    places: &mut Vec<usize>,
+) -> Result<(), Fault>
+    ensures added { OnOk result (places.new.items ≡ places.old.items ++ flat_map (picked_at (meant_of table.now) items.now) wanted.now.keys) }
+    ensures rising { OnOk result (IsStrictlySortedBy nat_cmp wanted.now.keys) }
+    ensures refusals { IfErr result (λ fault. fault ≡ Fault.OutOfMemory) }
+{
+    for index in wanted {
+        let Some(item) = items.get(*index) else {
+            continue;
+        };
+        add_meant(table, item, places)?;
+    }
+    Ok(())
 }
 
 /// What the items pick, by one pass over the fields and one over the items that start at one of them.
@@ -92,11 +132,6 @@ pub(crate) fn picked_by_name(
 {
     let (wanted, table) = found(alloc, starts, fields)?;
     let mut places = Vec::new(alloc);
-    for index in &wanted {
-        let Some(item) = items.get(*index) else {
-            continue;
-        };
-        add_meant(&table, item, &mut places)?;
-    }
+    add_picked(items, &wanted, &table, &mut places)?;
     Ok(places)
 }

@@ -1,8 +1,8 @@
 use Rattle.std.proofs.Common.{◌∙◌, ◌||◌, length, ap, sym}
 use Rattle.rec_sex.specs.ItemStarts.{has_index, indexes_at}
 use Rattle.rec_sex.proofs.ItemStartLemmas.{places_all, places_as_before, places_more, wanted_all, wanted_as_before, wanted_more}
-use Rattle.rec_sex.proofs.picking.found.Goals as goal
-use Rattle.rec_sex.proofs.picking.found.Goals.{in-Some+in_ok-add_indexes+in_ok-add_place, in_default}
+use Rattle.rec_sex.proofs.picking.add_found.Goals as goal
+use Rattle.rec_sex.proofs.picking.add_found.Goals.{in-Some+in_ok-add_indexes+in_ok-add_place, in_default}
 
 pub loop-place-preserved : goal.loop-place-preserved
 loop-place-preserved c =

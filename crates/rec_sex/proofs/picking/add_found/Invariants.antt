@@ -2,7 +2,7 @@ use Rattle.std.proofs.Common.{take}
 use Rattle.rec_text.specs.Places.{pieces_of}
 use Rattle.rec_sex.specs.ItemStarts.{HasPlacesOf}
 use Rattle.rec_sex.proofs.ItemStartLemmas.{AreWantedBelow}
-use Rattle.rec_sex.proofs.picking.found.Given as goal
+use Rattle.rec_sex.proofs.picking.add_found.Given as goal
 
 -- the fields so far have what they want, and their places
 abbrev pub invariant-loop-place : goal.invariant-loop-place

@@ -6,8 +6,8 @@ use Rattle.std.proofs.lemmas.List.Concat.{flat_map-append}
 use Rattle.std.proofs.lemmas.Option.{slice_get-get_or, slice_get_past, slice_get_within, get_or_from_slice_get, slice_get-map}
 use Rattle.std.proofs.lemmas.Slice.Eq.{bytes_eq-Decides}
 use Rattle.std.specs.Prelude.{codes}
-use Rattle.std.specs.List.{AllZip, list_any, flat_map, slice_get}
-use Rattle.std.specs.Option.{is_some, option_map, option_and_then}
+use Rattle.std.specs.List.{AllByRecursion, AllZip, list_any, flat_map, slice_get}
+use Rattle.std.specs.Option.{IfSome, is_some, option_map, option_and_then}
 use Rattle.std.specs.Str.{bytes_eq}
 use Rattle.rec_text.specs.declared.element.Element.{Element}
 use Rattle.rec_text.specs.declared.fault.Fault.{Fault}
@@ -17,6 +17,7 @@ use Rattle.rec_text.specs.Places.{piece_of, pieces_of}
 use Rattle.rec_text.specs.Faults.{IsMemoryOr}
 use Rattle.rec_text.specs.Reading.{line_after}
 use Rattle.rec_text.specs.Values.{value_of}
+use Rattle.rec_text.proofs.ListLemmas.{AllByRecursion-slice_get, slice_get-take}
 use Rattle.rec_sex.specs.Expressions.{IsExpression}
 use Rattle.rec_sex.specs.Grammar.{Term}
 use Rattle.rec_sex.specs.Meaning.{values_of}
@@ -26,9 +27,10 @@ use Rattle.rec_check.specs.declared.special.Bound.{Bound}
 use Rattle.rec_check.specs.declared.special.Special.{Special}
 use Rattle.rec_check.specs.declared.special.Special.TheVariants.{Rec, Key, Mandatory, Prohibit, Unique, Singular, Allowed, Auto, Type_, Typedef, Size, Constraint, Confidential}
 use Rattle.rec_text.specs.Elements.{has_name}
-use Rattle.rec_check.specs.Descriptors.{Flaw, bad, unsupported, bad_unless, bound_in, element_flaw, first_word, is_one_name, rec_flaw, rec_name, special_flaw, special_of, type_of}
-use Rattle.rec_check.specs.Reading.{Said, Adds, AddsOf, AddsField, AnswersField, AreSaid, HasFieldFlaw, IsFresh, IsRead, bare, field_flaw, flaw_behind, is_repeated}
-use Rattle.rec_check.specs.Rules.{AreRules, names_in}
+use Rattle.rec_check.specs.Descriptors.{Flaw, bad, unsupported, bad_unless, bound_in, element_flaw, field_flaw, first_word, is_one_name, rec_flaw, rec_name, special_flaw, special_of, type_of}
+use Rattle.rec_check.specs.Reading.{Said, Adds, AddsOf, AddsField, AnswersField, AreSaid, HasFieldFlaw, IsFresh, IsRead, bare, flaw_behind, is_repeated}
+use Rattle.rec_check.specs.Rules.{Rules, AreRules, names_in}
+use Rattle.rec_check.specs.Schemas.{FieldIsBuilt, FieldIsRead}
 use Rattle.rec_check.specs.Stored.{fault_of}
 use Rattle.rec_check.specs.Types.{Definition, Typing, IsDefinition, IsTyping}
 use Rattle.rec_check.specs.Words.{words, is_among}
@@ -395,6 +397,67 @@ module _ (named : List (List ℕ)) (fields : List Piece) (said : Said) (are : Ar
     constraints = are.part Constraint;
   }
 
+-- ---- each field by itself is built, where all are
+
+module _ {Y : Type 0} (R : List ℕ → Y → Type 0) (name : List ℕ) where
+  -- what the values of the name give in a field alone
+  abbrev IsGiven : Piece → Type 0
+  IsGiven piece = (ys : List Y) × AllZip R (values_of name (piece ∷ [])) ys
+
+  gives : (piece : Piece) (fields : List Piece) (ys : List Y) (here : Bool) → AllZip R (cond here (value_of piece ∷ values_of name fields) (values_of name fields)) ys
+      → ((own : List Y) × AllZip R (cond here (value_of piece ∷ []) []) own) × ((rest : List Y) × AllZip R (values_of name fields) rest)
+  gives piece fields ys false all = (([], tt), (ys, all))
+  gives piece fields [] true all = absurd all
+  gives piece fields (y ∷ ys) true all = ((y ∷ [], (all.0, tt)), (ys, all.1))
+
+  each_gives : (fields : List Piece) (ys : List Y) → AllZip R (values_of name fields) ys → AllByRecursion IsGiven fields
+  each_gives [] ys all = tt
+  each_gives (piece ∷ fields) ys all =
+      let both = gives piece fields ys (has_name name piece) all in
+      (both.0, each_gives fields both.1.0 both.1.1)
+
+module _ (fields : List Piece) (rules : Rules) (are : AreRules fields rules) where
+  built_alone : (piece : Piece) → IsGiven IsTyping (codes "%type") piece → IsGiven IsDefinition (codes "%typedef") piece → IsGiven IsExpression (codes "%constraint") piece
+      → FieldIsBuilt piece
+  built_alone piece types definitions constraints = (
+    record {
+      key = slice_get (names_in (codes "%key") (piece ∷ [])) 0;
+      mandatory = names_in (codes "%mandatory") (piece ∷ []);
+      prohibited = names_in (codes "%prohibit") (piece ∷ []);
+      unique = names_in (codes "%unique") (piece ∷ []);
+      singular = names_in (codes "%singular") (piece ∷ []);
+      allowed = cond (list_any (has_name (codes "%allowed")) (piece ∷ [])) (Some (names_in (codes "%allowed") (piece ∷ []))) None;
+      automatic = names_in (codes "%auto") (piece ∷ []);
+      types = types.0;
+      definitions = definitions.0;
+      size = option_and_then bound_in (slice_get (values_of (codes "%size") (piece ∷ [])) 0);
+      constraints = constraints.0;
+    },
+    record {
+      key = refl;
+      mandatory = refl;
+      prohibited = refl;
+      unique = refl;
+      singular = refl;
+      allowed = refl;
+      automatic = refl;
+      types = types.1;
+      definitions = definitions.1;
+      size = refl;
+      constraints = constraints.1;
+    },
+  )
+
+  IfSome-by : {X : Type 0} (P : X → Type 0) (o : Option X) → ((x : X) → o ≡ Some x → P x) → IfSome o P
+  IfSome-by P None holds = tt
+  IfSome-by P (Some x) holds = holds x refl
+
+  pub each_built : (k : ℕ) → IfSome (slice_get fields k) FieldIsBuilt
+  each_built k = IfSome-by FieldIsBuilt (slice_get fields k) (λ piece at. built_alone piece
+      (AllByRecursion-slice_get (IsGiven IsTyping (codes "%type")) fields k piece (each_gives IsTyping (codes "%type") fields rules.types are.types) at)
+      (AllByRecursion-slice_get (IsGiven IsDefinition (codes "%typedef")) fields k piece (each_gives IsDefinition (codes "%typedef") fields rules.definitions are.definitions) at)
+      (AllByRecursion-slice_get (IsGiven IsExpression (codes "%constraint")) fields k piece (each_gives IsExpression (codes "%constraint") fields rules.constraints are.constraints) at))
+
 module _ (fields : List Piece) (piece : Piece) (named : List (List ℕ)) (old new : Said) where
   parts_by : (kind : Option Special) → special_of (name_of piece) ≡ kind → AreParts fields old
       → option_and_then (λ special. special_flaw special (is_repeated special old) named (value_of piece)) kind ≡ None
@@ -470,13 +533,19 @@ module _ (named : List (List ℕ)) (fields : List Piece) (i : ℕ) (said : Said)
           fresh = fresh_by named (value_of piece) said more so_far.fresh (special_of (name_of piece)) sound adds;
         }
 
+    read_before : (k : ℕ) → k < i → FieldIsRead named fields k
+    read_before k less = record {
+      sound = so_far.sound k less;
+      built = subst (λ o. IfSome o FieldIsBuilt) (slice_get-take i k fields less) (each_built (take i fields) said.rules (rules_of_parts named (take i fields) said so_far.are) k);
+    }
+
     -- the fault of the field, which is one of these elements
     module _ (text : List ℕ) (elements : List Element) (field : Element) (elements_are : fields ≡ pieces_of elements) (stands : slice_get elements i ≡ Some field) (line : ℕ)
         (line_is : line ≡ line_after (take field.at text)) (more : Said) where
       has_flaw : (flaw : Flaw) → flaw_behind named said piece ≡ Some flaw → HasFieldFlaw text named elements flaw line
       has_flaw flaw is = record {
         at = i;
-        first = λ k less. ap (λ fs. field_flaw named fs k) (sym elements_are) ∙ so_far.sound k less;
+        first = λ k less. subst (λ fs. FieldIsRead named fs k) elements_are (read_before k less);
         met = ap (λ fs. field_flaw named fs i) (sym elements_are) ∙ field_flaw-met ∙ is;
         field = field;
         stands = stands;
@@ -488,7 +557,8 @@ module _ (named : List (List ℕ)) (fields : List Piece) (i : ℕ) (said : Said)
       is_read_fault NotSupported told = has_flaw unsupported told
       is_read_fault Pattern told = record {
         at = i;
-        sound = λ k less. ap (λ fs. field_flaw named fs k) (sym elements_are) ∙ sound_here told.0 k less;
+        first = λ k less. subst (λ fs. FieldIsRead named fs k) elements_are (read_before k less);
+        sound = ap (λ fs. field_flaw named fs i) (sym elements_are) ∙ field_flaw-met ∙ told.0;
         field = piece;
         stands = ap (λ fs. slice_get fs i) (sym elements_are) ∙ met;
         refused = told.1;

@@ -1,10 +1,10 @@
 -- The flaws of a text are those of its records.
-use Rattle.std.proofs.Common.{◌≡◌, ◌∙◌, ℕ, ◌+◌, ◌-◌, ◌<◌, ◌≤◌, inl, inr, true, false, cond, List, [], ◌∷◌, ◌++◌, length, take, Option, Some, None, leb, ltb, refl, ap, sym, arith}
+use Rattle.std.proofs.Common.{◌≡◌, ◌∙◌, ℕ, ◌+◌, ◌-◌, ◌<◌, ◌≤◌, inl, inr, Bool, true, false, ◌&&◌, cond, List, [], ◌∷◌, ◌++◌, length, take, Option, Some, None, leb, ltb, refl, ap, sym, subst, arith}
 use Rattle.std.proofs.lemmas.Bool.{cases_Bool, cases_lt, false≢true, lt-leb, le-leb, lt-ltb, le-ltb, and_left, and_right}
 use Rattle.std.proofs.lemmas.List.{append-nil, length-drop, length-take}
 use Rattle.std.proofs.lemmas.Option.{slice_get_past, slice_get_within}
 use Rattle.std.specs.List.{AllByRecursion, find, filter_map, cons_option, slice_get}
-use Rattle.std.specs.Option.{is_some, option_and_then, option_map_or}
+use Rattle.std.specs.Option.{IfSome, is_some, option_and_then}
 use Rattle.std.specs.declared.ops.Range.{Range}
 use Rattle.rec_text.specs.Elements.{Piece, text_of}
 use Rattle.rec_text.specs.Reading.{line_after}
@@ -12,9 +12,9 @@ use Rattle.rec_text.specs.Records.{IsRecord, AreRecords, AreAscending, LiesIn}
 use Rattle.rec_text.proofs.ListLemmas.{AllByRecursion-behind, slice_get-drop, slice_get-take}
 use Rattle.rec_text.proofs.RangeLemmas.{LiesIn-cases, LiesIn-here, LiesIn-low, LiesIn-there}
 use Rattle.rec_text.specs.Records.{elements_in}
-use Rattle.rec_check.specs.Descriptors.{Flaw, element_flaw, flaw_at, holds_index, own_flaw, type_of, types_before, types_of}
-use Rattle.rec_check.specs.Reading.{field_flaw, DescriptorMayBeRefused}
-use Rattle.rec_check.specs.Schemas.{HasFlaw, SchemaMayBeRefused}
+use Rattle.rec_check.specs.Descriptors.{Flaw, descriptor_at, element_flaw, field_flaw, flaw_at, holds_index, type_of, types_before, types_of}
+use Rattle.rec_check.specs.Reading.{DescriptorMayBeRefused}
+use Rattle.rec_check.specs.Schemas.{ElementIsRead, FieldIsRead, HasFlaw, SchemaMayBeRefused}
 use Rattle.rec_check.proofs.SetLemmas.{types_among, filter_map-append}
 
 -- ---- the record that holds an index
@@ -31,16 +31,41 @@ held_within i r holds = elim (cases_lt i r.start) [
   ]
 ]
 
-find-outside : (i : ℕ) (records : List (Range ℕ)) → (LiesIn records i → ⊥) → find (holds_index i) records ≡ None
-find-outside i [] outside = refl
-find-outside i (r ∷ records) outside = elim (cases_Bool (holds_index i r)) [
+find-outside : (test : Range ℕ → Bool) (i : ℕ) (records : List (Range ℕ)) → (LiesIn records i → ⊥) → find (λ r. holds_index i r && test r) records ≡ None
+find-outside test i [] outside = refl
+find-outside test i (r ∷ records) outside = elim (cases_Bool (holds_index i r)) [
   | inl holds ↦ let within = held_within i r holds in absurd (outside (LiesIn-here r records i within.0 within.1))
-  | inr past ↦ rw past (find-outside i records (λ lies. outside (LiesIn-there r records i lies)))
+  | inr past ↦ ap (λ b. cond (b && test r) (Some r) (find (λ q. holds_index i q && test q) records)) past
+      ∙ find-outside test i records (λ lies. outside (LiesIn-there r records i lies))
 ]
 
-pub flaw_at-outside : (pieces : List Piece) (records : List (Range ℕ)) (i : ℕ) → (LiesIn records i → ⊥) → flaw_at pieces records i ≡ None
-flaw_at-outside pieces records i outside =
-    ap (option_and_then (λ record_. own_flaw (types_before pieces records record_.start) (elements_in pieces record_) (i - record_.start))) (find-outside i records outside)
+module _ (pieces : List Piece) (records : List (Range ℕ)) (i : ℕ) where
+  abbrev is_descriptor : Range ℕ → Bool
+  is_descriptor r = is_some (type_of (elements_in pieces r))
+
+  abbrev flaw_in : Range ℕ → Option Flaw
+  flaw_in r = field_flaw (types_before pieces records r.start) (elements_in pieces r) (i - r.start)
+
+  abbrev IsReadIn : Range ℕ → Type 0
+  IsReadIn r = FieldIsRead (types_before pieces records r.start) (elements_in pieces r) (i - r.start)
+
+  pub flaw_at-outside : (LiesIn records i → ⊥) → flaw_at pieces records i ≡ None
+  flaw_at-outside outside = ap (option_and_then flaw_in) (find-outside is_descriptor i records outside)
+
+  pub read-outside : (LiesIn records i → ⊥) → ElementIsRead pieces records i
+  read-outside outside = subst (λ o. IfSome o IsReadIn) (sym (find-outside is_descriptor i records outside)) tt
+
+  no_flaw_in : (found : Option (Range ℕ)) → IfSome found IsReadIn → option_and_then flaw_in found ≡ None
+  no_flaw_in None read = refl
+  no_flaw_in (Some r) read = read.sound
+
+  -- nothing is wrong with an element that is read
+  pub flaw_at-read : ElementIsRead pieces records i → flaw_at pieces records i ≡ None
+  flaw_at-read read = no_flaw_in (descriptor_at pieces records i) read
+
+-- what is wrong with the element of this index among a record's own, if the record is a descriptor and anything is
+abbrev pub own_flaw : List (List ℕ) → List Piece → ℕ → Option Flaw
+own_flaw named own k = cond (is_some (type_of own)) (field_flaw named own k) None
 
 -- ---- elements of a record and of the text
 
@@ -65,12 +90,24 @@ ascending_rest : (least : ℕ) (done : List (Range ℕ)) (fields : Range ℕ) (r
 ascending_rest least [] fields rest ascending = ascending.1
 ascending_rest least (r ∷ done) fields rest ascending = ascending_rest r.end done fields rest ascending.1
 
-find-own : (i least : ℕ) (done : List (Range ℕ)) (fields : Range ℕ) (rest : List (Range ℕ)) → AreAscending least (done ++ fields ∷ rest) → AreSome (done ++ fields ∷ rest)
-    → fields.start ≤ i → i < fields.end → find (holds_index i) (done ++ fields ∷ rest) ≡ Some fields
-find-own i least [] fields rest ascending some low high = rw (holds_within i fields low high) refl
-find-own i least (r ∷ done) fields rest ascending some low high =
+find-own : (test : Range ℕ → Bool) (i least : ℕ) (done : List (Range ℕ)) (fields : Range ℕ) (rest : List (Range ℕ)) → AreAscending least (done ++ fields ∷ rest) → AreSome (done ++ fields ∷ rest)
+    → fields.start ≤ i → i < fields.end → find (λ r. holds_index i r && test r) (done ++ fields ∷ rest) ≡ cond (test fields) (Some fields) None
+find-own test i least [] fields rest ascending some low high =
+    ap (λ b. cond (b && test fields) (Some fields) (find (λ r. holds_index i r && test r) rest)) (holds_within i fields low high)
+    ∙ ap (cond (test fields) (Some fields)) (find-outside test i rest (λ lies. omega (arith, LiesIn-low fields.end rest i some.1 ascending.1 lies)))
+find-own test i least (r ∷ done) fields rest ascending some low high =
     let ended : r.end ≤ i = omega (arith, least-le r.end done fields rest ascending.1 some.1) in
-    rw (and_right (leb r.start i) (ltb i r.end) (le-ltb i r.end ended)) (find-own i r.end done fields rest ascending.1 some.1 low high)
+    ap (λ b. cond (b && test r) (Some r) (find (λ q. holds_index i q && test q) (done ++ fields ∷ rest))) (and_right (leb r.start i) (ltb i r.end) (le-ltb i r.end ended))
+    ∙ find-own test i r.end done fields rest ascending.1 some.1 low high
+
+-- a value that is there under a condition, and what follows from it
+then-cond : {X Y : Type 0} (b : Bool) (x : X) (f : X → Option Y) → option_and_then f (cond b (Some x) None) ≡ cond b (f x) None
+then-cond true x f = refl
+then-cond false x f = refl
+
+IfSome-cond : {X : Type 0} (b : Bool) (x : X) (P : X → Type 0) → (b ≡ true → P x) → IfSome (cond b (Some x) None) P
+IfSome-cond true x P holds = holds refl
+IfSome-cond false x P holds = tt
 
 module _ (pieces : List Piece) (i : ℕ) where
   -- the type of a record that ends before the index
@@ -118,34 +155,44 @@ module _ (pieces : List Piece) (done : List (Range ℕ)) (fields : Range ℕ) (r
       ∙ ap (λ ts. named ++ ts) (filter_map-behind pieces fields.start fields.end rest (ascending_rest 0 done fields rest are.ascending) some_left.1 some_left.0)
       ∙ append-nil named
 
+  descriptor_at-own : (i : ℕ) → fields.start ≤ i → i < fields.end → descriptor_at pieces all i ≡ cond (is_some (type_of own)) (Some fields) None
+  descriptor_at-own i low high = find-own (is_descriptor pieces all i) i 0 done fields rest are.ascending some low high
+
   pub flaw_at-own : (i : ℕ) → fields.start ≤ i → i < fields.end → flaw_at pieces all i ≡ own_flaw named own (i - fields.start)
   flaw_at-own i low high =
-      ap (option_and_then (λ record_. own_flaw (types_before pieces all record_.start) (elements_in pieces record_) (i - record_.start))) (find-own i 0 done fields rest are.ascending some low high)
+      ap (option_and_then (flaw_in pieces all i)) (descriptor_at-own i low high) ∙ then-cond (is_some (type_of own)) fields (flaw_in pieces all i)
       ∙ ap (λ ts. own_flaw ts own (i - fields.start)) types_before-own
 
-  module _ (before : (i : ℕ) → (LiesIn (fields ∷ rest) i → ⊥) → flaw_at pieces all i ≡ None) where
-    pub sound-behind : ((k : ℕ) → own_flaw named own k ≡ None) → (i : ℕ) → (LiesIn rest i → ⊥) → flaw_at pieces all i ≡ None
-    sound-behind sound i outside = elim (cases_lt i fields.start) [
+  read-own : (i : ℕ) → fields.start ≤ i → i < fields.end → (is_some (type_of own) ≡ true → FieldIsRead named own (i - fields.start)) → ElementIsRead pieces all i
+  read-own i low high read =
+      subst (λ o. IfSome o (IsReadIn pieces all i)) (sym (descriptor_at-own i low high))
+      (IfSome-cond (is_some (type_of own)) fields (IsReadIn pieces all i) (λ is. subst (λ ts. FieldIsRead ts own (i - fields.start)) (sym types_before-own) (read is)))
+
+  module _ (before : (i : ℕ) → (LiesIn (fields ∷ rest) i → ⊥) → ElementIsRead pieces all i) where
+    pub read-behind : (is_some (type_of own) ≡ true → (k : ℕ) → FieldIsRead named own k) → (i : ℕ) → (LiesIn rest i → ⊥) → ElementIsRead pieces all i
+    read-behind read i outside = elim (cases_lt i fields.start) [
       | inl early ↦ before i (λ lies. elim (LiesIn-cases fields rest i lies) [ inl here ↦ absurd (omega (arith, here.0)) | inr there ↦ outside there ])
       | inr from ↦
           elim (cases_lt i fields.end) [
-            | inl within ↦ flaw_at-own i from within ∙ sound (i - fields.start)
+            | inl within ↦ read-own i from within (λ is. read is (i - fields.start))
             | inr late ↦ before i (λ lies. elim (LiesIn-cases fields rest i lies) [ inl here ↦ absurd (omega (arith, here.1)) | inr there ↦ outside there ])
           ]
     ]
 
-    sound-up_to : (k : ℕ) → fields.start + k ≤ fields.end → ((j : ℕ) → j < k → own_flaw named own j ≡ None) → (i : ℕ) → i < fields.start + k → flaw_at pieces all i ≡ None
-    sound-up_to k within sound i lt = elim (cases_lt i fields.start) [
+    read-up_to : (k : ℕ) → fields.start + k ≤ fields.end → ((j : ℕ) → j < k → FieldIsRead named own j) → (i : ℕ) → i < fields.start + k → ElementIsRead pieces all i
+    read-up_to k within read i lt = elim (cases_lt i fields.start) [
       | inl early ↦
           let ascending : AreAscending fields.start (fields ∷ rest) = (omega arith, ascending_rest 0 done fields rest are.ascending) in
           before i (λ lies. absurd (omega (arith, LiesIn-low fields.start (fields ∷ rest) i some_left ascending lies)))
-      | inr from ↦ flaw_at-own i from (omega arith) ∙ sound (i - fields.start) (omega arith)
+      | inr from ↦ read-own i from (omega arith) (λ is. read (i - fields.start) (omega arith))
     ]
 
     -- the elements of a descriptor
     module _ (descriptor : is_some (type_of own) ≡ true) where
-      pub own_flaw-field : (k : ℕ) → own_flaw named own k ≡ field_flaw named own k
-      own_flaw-field k = ap (λ b. cond b (field_flaw named own k) None) descriptor
+      flaw_at-field : (k : ℕ) → fields.start + k < fields.end → flaw_at pieces all (fields.start + k) ≡ field_flaw named own k
+      flaw_at-field k within =
+          let back : fields.start + k - fields.start ≡ k = omega arith in
+          flaw_at-own (fields.start + k) (omega arith) within ∙ ap (own_flaw named own) back ∙ ap (λ b. cond b (field_flaw named own k) None) descriptor
 
       own_within : (k : ℕ) (piece : Piece) → slice_get own k ≡ Some piece → fields.start + k < fields.end
       own_within k piece stands =
@@ -160,17 +207,16 @@ module _ (pieces : List Piece) (done : List (Range ℕ)) (fields : Range ℕ) (r
             cc
       ]
 
-      pub HasFlaw-own : (flaw : Flaw) (line k : ℕ) → ((j : ℕ) → j < k → field_flaw named own j ≡ None) → field_flaw named own k ≡ Some flaw
+      pub HasFlaw-own : (flaw : Flaw) (line k : ℕ) → ((j : ℕ) → j < k → FieldIsRead named own j) → field_flaw named own k ≡ Some flaw
           → line ≡ line_after (text_of (take (fields.start + k) pieces)) → HasFlaw pieces flaw line
-      HasFlaw-own flaw line k sound met number =
+      HasFlaw-own flaw line k read met number =
           let within : fields.start + k < fields.end = flaw_within k flaw met in
-          let back : fields.start + k - fields.start ≡ k = omega arith in
           record {
             records = all;
             are = are;
             at = fields.start + k;
-            first = sound-up_to k (omega arith) (λ j less. own_flaw-field j ∙ sound j less);
-            met = flaw_at-own (fields.start + k) (omega arith) within ∙ ap (own_flaw named own) back ∙ own_flaw-field k ∙ met;
+            first = read-up_to k (omega arith) read;
+            met = flaw_at-field k within ∙ met;
             number = number;
           }
 
@@ -181,10 +227,9 @@ module _ (pieces : List Piece) (done : List (Range ℕ)) (fields : Range ℕ) (r
             records = all;
             are = are;
             at = fields.start + has.at;
-            sound = λ i le. sound-up_to (has.at + 1) (omega arith) (λ j less. own_flaw-field j ∙ has.sound j (omega arith)) i (omega arith);
-            in_descriptor =
-                ap (λ found. option_map_or (λ record_. is_some (type_of (elements_in pieces record_))) found false) (find-own (fields.start + has.at) 0 done fields rest are.ascending some (omega arith) within)
-                ∙ descriptor;
+            first = read-up_to has.at (omega arith) has.first;
+            sound = flaw_at-field has.at within ∙ has.sound;
+            in_descriptor = ap is_some (descriptor_at-own (fields.start + has.at) (omega arith) within) ∙ ap (λ b. is_some (cond b (Some fields) None)) descriptor;
             field = has.field;
             stands = sym (own_element pieces fields has.at within) ∙ has.stands;
             refused = has.refused;

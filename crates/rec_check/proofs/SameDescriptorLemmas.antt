@@ -12,16 +12,16 @@ use Rattle.rec_text.specs.Records.{AreRecords}
 use Rattle.rec_text.proofs.RecordLemmas.{OneListOfRecords-holds}
 use Rattle.rec_check.specs.declared.set.Set_.{Set_}
 use Rattle.rec_text.specs.Records.{elements_in, record_at}
-use Rattle.rec_check.specs.Descriptors.{element_flaw, flaw_at, own_flaw, rec_name, type_of, types_of}
+use Rattle.rec_check.specs.Descriptors.{element_flaw, field_flaw, flaw_at, rec_name, type_of, types_of}
 use Rattle.rec_check.specs.Rules.{Rules, no_rules, AreRules}
-use Rattle.rec_check.specs.Schemas.{Described, IsDescribed, IsRuled}
+use Rattle.rec_check.specs.Schemas.{Described, FieldIsRead, IsDescribed, IsRuled}
 use Rattle.rec_check.specs.Sets.{named_in, AreFrom, AreSets, BeginsAt}
 use Rattle.rec_check.specs.Soundness.{says, SameDescriptors, NewDescriptor}
 use Rattle.rec_check.specs.Steps.{kinds, with_member, with_record, HaveTypes}
 use Rattle.rec_check.specs.Reading.{untyped}
 use Rattle.rec_check.specs.Words.{is_among}
-use Rattle.rec_check.proofs.DescriptorLemmas.{AllZip-push}
-use Rattle.rec_check.proofs.FlawLemmas.{flaw_at-own}
+use Rattle.rec_check.proofs.DescriptorLemmas.{AllZip-push, each_built}
+use Rattle.rec_check.proofs.FlawLemmas.{flaw_at-own, own_flaw}
 use Rattle.rec_check.proofs.SchemaLemmas.{IsSchemaUpTo, IsRuled-longer, grown, here, none_there, record_at-behind, rules_grow, schema_all, schema_none}
 use Rattle.rec_check.proofs.SetLemmas.{AreTyped, Named, filter_map-append, kinds-AreSets, nothing, set_of, some_named, types_among}
 use Rattle.rec_check.proofs.SoundLemmas.{AreSound, AreSound-alike, AreSound-all, AreSound-heads, AreSound-push, AreRules-alike, heads, heads_no, heads_yes, new_flaw, new_rules, new_type, types_in, types_in-alike, types_in-heads}
@@ -189,6 +189,10 @@ first_rules d ds (asked ∷ more) are = (asked, more, refl, are.0, are.1)
 abbrev Completed : List Piece → Described → List Rules → Type 0
 Completed pieces old rules = (new : Described) × IsDescribed pieces new × (new.rules ≡ old.rules ++ rules)
 
+-- the fields of a sound descriptor with rules are read
+fields_are_read : (named : List (List ℕ)) (own : List Piece) (rules : Rules) → is_some (type_of own) ≡ true → (k : ℕ) → own_flaw named own k ≡ None → AreRules own rules → FieldIsRead named own k
+fields_are_read named own rules descriptor k sound are = record { sound = sym (ap (λ b. cond b (field_flaw named own k) None) descriptor) ∙ sound; built = each_built own rules are k }
+
 module _ (pieces : List Piece) where
   completed : (rest : List (Range ℕ)) (count : ℕ) (old : Described) (rules : List Rules) → IsSchemaUpTo pieces count rest old → AreSound (kinds old.sets) (owns_of pieces rest)
       → AllZip AreRules (heads (owns_of pieces rest)) rules → Completed pieces old rules
@@ -203,14 +207,15 @@ module _ (pieces : List Piece) where
             let first = first_rules own (heads (owns_of pieces rest)) rules (subst (λ hs. AllZip AreRules hs rules) (heads_yes own (owns_of pieces rest) descriptor) asked) in
             let next : Described = record { sets = with_record old.sets count (type_of own); rules = old.rules ++ first.0 ∷ [] } in
             let grows = rules_grow pieces count (r ∷ rest) old r rest refl so_far count next first.0 (type_of own) refl descriptor first.3 refl refl in
-            let more = completed rest (count + 1) next first.1 (grown pieces count (r ∷ rest) old r rest refl so_far count (count + 1) next refl refl sound.0 refl grows) behind first.4 in
+            let read = λ (is : is_some (type_of own) ≡ true) (k : ℕ). fields_are_read (kinds old.sets) own first.0 is k (sound.0 k) first.3 in
+            let more = completed rest (count + 1) next first.1 (grown pieces count (r ∷ rest) old r rest refl so_far count (count + 1) next refl refl read refl grows) behind first.4 in
             (more.0, more.1, more.2 ∙ append_assoc old.rules (first.0 ∷ []) first.1 ∙ ap (λ rs. old.rules ++ rs) (sym first.2))
         | inr member ↦
             let next : Described = record { sets = with_record old.sets count (type_of own); rules = old.rules } in
             let now = here pieces count (r ∷ rest) old r rest refl so_far in
             let stays = subst (λ t. AllZip (IsRuled pieces (now.done ++ r ∷ rest)) (with_record old.sets count t) old.rules) (sym (none_there (type_of own) member))
             (IsRuled-longer pieces (now.done ++ r ∷ rest) count old.sets old.rules now.rules_are) in
-            completed rest (count + 1) next rules (grown pieces count (r ∷ rest) old r rest refl so_far count (count + 1) next refl refl sound.0 refl stays) behind
+            completed rest (count + 1) next rules (grown pieces count (r ∷ rest) old r rest refl so_far count (count + 1) next refl refl (λ is. absurd (false≢true (sym member ∙ is))) refl stays) behind
             (subst (λ hs. AllZip AreRules hs rules) (heads_no own (owns_of pieces rest) member) asked)
       ]
 

@@ -19,6 +19,7 @@ use Rattle.rec_check.specs.Rules.{Rules, no_rules, AreRules, AreSameRules, AreSa
 use Rattle.rec_check.specs.Schemas.{Described, IsDescribed, IsRuled, IsSchema, HasFlaw, AreSameSchemas, OneSchema}
 use Rattle.rec_check.specs.Sets.{AreSets}
 use Rattle.rec_check.specs.Types.{FieldType, integer, range, line as one_line, size, truth, one_of, matching, unchecked, Definition, Typing, Written, WrittenDefinition, IsDefinition, IsTyping, IsBuilt, definition_of, typing_of}
+use Rattle.rec_check.proofs.FlawLemmas.{flaw_at-read}
 use Rattle.rec_check.proofs.SetLemmas.{one_list_of_sets}
 
 -- ---- one list of records and sets
@@ -136,7 +137,7 @@ same_schema pieces one other is too =
 not_before : (pieces : List Piece) (flaw other : Flaw) (line number : ℕ) (has : HasFlaw pieces flaw line) (too : HasFlaw pieces other number) → has.at < too.at → ⊥
 not_before pieces flaw other line number has too before =
     let same = same_records pieces has.records too.records has.are too.are in
-    let none : None ≡ Some flaw = sym (too.first has.at before) ∙ ap (λ rs. flaw_at pieces rs has.at) (sym same) ∙ has.met in
+    let none : None ≡ Some flaw = sym (flaw_at-read pieces too.records has.at (too.first has.at before)) ∙ ap (λ rs. flaw_at pieces rs has.at) (sym same) ∙ has.met in
     cc
 
 same_flaw : (pieces : List Piece) (flaw other : Flaw) (line number : ℕ) → HasFlaw pieces flaw line → HasFlaw pieces other number → refusal flaw line ≡ refusal other number

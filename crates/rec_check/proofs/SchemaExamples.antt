@@ -17,11 +17,11 @@ use Rattle.rec_check.specs.declared.set.Set_.{Set_}
 use Rattle.rec_check.specs.declared.special.Comparison.TheVariants.{Exactly, AtMost, AtLeast}
 use Rattle.rec_check.specs.Automatic.{automatic_names, automatic_of}
 use Rattle.rec_text.specs.Records.{elements_in}
-use Rattle.rec_check.specs.Descriptors.{bad, unsupported, bound_in, type_of, types_of, rec_flaw, own_flaw, flaw_at}
+use Rattle.rec_check.specs.Descriptors.{bad, unsupported, bound_in, field_flaw, type_of, types_of, rec_flaw, flaw_at}
 use Rattle.rec_check.specs.Meanings.{meaning_in}
 use Rattle.rec_check.specs.Resolving.{is_known_kind}
 use Rattle.rec_check.specs.Rules.{Rules, no_rules, AreRules, field_type}
-use Rattle.rec_check.specs.Schemas.{IsSchema}
+use Rattle.rec_check.specs.Schemas.{ElementIsRead, IsSchema}
 use Rattle.rec_check.specs.Sets.{AreSets, is_of_type}
 use Rattle.rec_check.specs.Soundness.{descriptors, says}
 use Rattle.rec_check.specs.Types.{integer, unchecked}
@@ -65,13 +65,13 @@ faulty : List Piece
 faulty = field (codes "%key: A B") ∷ field (codes "%rec: P") ∷ field (codes "%key: A") ∷ field (codes "%unique: A,B") ∷ field (codes "%size: 3 4")
     ∷ field (codes "%confidential: K") ∷ field (codes "%doc: 1") ∷ field (codes "%allowed:") ∷ field (codes "%type: A int") ∷ field (codes "%type: A") ∷ field (codes "%constraint: A =") ∷ []
 
-faults : map (own_flaw [] faulty) (0 ∷ 1 ∷ 2 ∷ 3 ∷ 4 ∷ 5 ∷ 6 ∷ 7 ∷ 8 ∷ 9 ∷ 10 ∷ 11 ∷ [])
+faults : map (field_flaw [] faulty) (0 ∷ 1 ∷ 2 ∷ 3 ∷ 4 ∷ 5 ∷ 6 ∷ 7 ∷ 8 ∷ 9 ∷ 10 ∷ 11 ∷ [])
     ≡ Some bad ∷ None ∷ Some bad ∷ Some bad ∷ Some bad ∷ Some unsupported ∷ None ∷ None ∷ None ∷ Some bad ∷ Some bad ∷ None ∷ []
 unfolding faulty
 faults = refl
 
 -- without a type they are no fields of a descriptor
-no_faults : map (own_flaw [] (field (codes "%key:") ∷ field (codes "%confidential: K") ∷ [])) (0 ∷ 1 ∷ 2 ∷ []) ≡ None ∷ None ∷ None ∷ []
+no_faults : map (flaw_at (field (codes "%key:") ∷ field (codes "%confidential: K") ∷ []) (range 0 2 ∷ [])) (0 ∷ 1 ∷ 2 ∷ []) ≡ None ∷ None ∷ None ∷ []
 no_faults = refl
 
 -- lists add up
@@ -206,13 +206,16 @@ twice_records_are = AreRecords-all_narrowed twice twice_records (AreRuns-runs_to
 twice_flaws : map (flaw_at twice twice_records) (0 ∷ 1 ∷ 2 ∷ 3 ∷ 4 ∷ []) ≡ None ∷ None ∷ Some bad ∷ Some bad ∷ None ∷ []
 twice_flaws = refl
 
-sound_before : (i : ℕ) → i < 2 → flaw_at twice twice_records i ≡ None
-sound_before zero less = refl
-sound_before (suc zero) less = refl
-sound_before (suc (suc i)) less = absurd (omega arith)
+read_before : (i : ℕ) → i < 2 → ElementIsRead twice twice_records i
+read_before zero less = record {
+  sound = refl;
+  built = (no_rules, record { key = refl; mandatory = refl; prohibited = refl; unique = refl; singular = refl; allowed = refl; automatic = refl; types = tt; definitions = tt; size = refl; constraints = tt });
+}
+read_before (suc zero) less = tt
+read_before (suc (suc i)) less = absurd (omega arith)
 
 refused : IsSchema twice (Err (BadDescriptor 3))
-refused = record { records = twice_records; are = twice_records_are; at = 2; first = sound_before; met = refl; number = refl }
+refused = record { records = twice_records; are = twice_records_are; at = 2; first = read_before; met = refl; number = refl }
 
 -- ---- the violations of a text
 

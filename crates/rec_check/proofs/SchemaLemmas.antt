@@ -18,14 +18,14 @@ use Rattle.rec_text.proofs.RangeLemmas.{LiesIn-nil}
 use Rattle.rec_text.proofs.RecordLemmas.{length-records}
 use Rattle.rec_check.specs.declared.set.Set_.{Set_}
 use Rattle.rec_text.specs.Records.{elements_in, record_at}
-use Rattle.rec_check.specs.Descriptors.{Flaw, bad, unsupported, flaw_at, own_flaw, type_of, types_of}
-use Rattle.rec_check.specs.Reading.{AddsRecord, AddsRecordAs, HasFieldFlaw, DescriptorMayBeRefused, IsRefusedRecord, field_flaw, untyped}
+use Rattle.rec_check.specs.Descriptors.{Flaw, bad, unsupported, field_flaw, type_of, types_of}
+use Rattle.rec_check.specs.Reading.{AddsRecord, AddsRecordAs, HasFieldFlaw, DescriptorMayBeRefused, IsRefusedRecord, untyped}
 use Rattle.rec_check.specs.Rules.{Rules, AreRules}
-use Rattle.rec_check.specs.Schemas.{Described, IsDescribed, IsRuled, IsSchema, HasFlaw, SchemaMayBeRefused}
+use Rattle.rec_check.specs.Schemas.{Described, ElementIsRead, FieldIsRead, IsDescribed, IsRuled, IsSchema, HasFlaw, SchemaMayBeRefused}
 use Rattle.rec_check.specs.Sets.{AreSets}
 use Rattle.rec_check.specs.Steps.{kinds, with_member, with_record}
-use Rattle.rec_check.proofs.DescriptorLemmas.{AllZip-push}
-use Rattle.rec_check.proofs.FlawLemmas.{flaw_at-outside, sound-behind, HasFlaw-own, SchemaMayBeRefused-own}
+use Rattle.rec_check.proofs.DescriptorLemmas.{AllZip-push, each_built}
+use Rattle.rec_check.proofs.FlawLemmas.{flaw_at-read, read-behind, read-outside, HasFlaw-own, SchemaMayBeRefused-own}
 use Rattle.rec_check.proofs.PlaceLemmas.{own_are, own_within, text_before}
 use Rattle.rec_check.proofs.SetLemmas.{set_of, AreSets-none, AreSets-with_record, kinds-AreSets, types_among}
 
@@ -54,7 +54,7 @@ pub record IsSchemaUpTo (pieces : List Piece) (count : ℕ) (rest : List (Range 
   pub done : List (Range ℕ)
   pub are : AreRecords pieces (done ++ rest)
   pub counted : count ≡ length done
-  pub sound : (i : ℕ) → (LiesIn rest i → ⊥) → flaw_at pieces (done ++ rest) i ≡ None
+  pub read : (i : ℕ) → (LiesIn rest i → ⊥) → ElementIsRead pieces (done ++ rest) i
   pub sets_are : AreSets (types_of pieces done) described.sets
   pub rules_are : AllZip (IsRuled pieces (done ++ rest)) described.sets described.rules
 
@@ -63,7 +63,7 @@ schema_none pieces records are = record {
   done = [];
   are = are;
   counted = refl;
-  sound = λ i outside. flaw_at-outside pieces records i outside;
+  read = λ i outside. read-outside pieces records i outside;
   sets_are = AreSets-none;
   rules_are = (refl, tt);
 }
@@ -97,9 +97,9 @@ module _ (pieces : List Piece) (count : ℕ) (left : List (Range ℕ)) (old : De
   parts = append_assoc here.done (fields ∷ []) rest
 
   -- the schema with the record, whose elements name this type
-  pub grown : (index next : ℕ) (new : Described) → index ≡ count → next ≡ count + 1 → ((k : ℕ) → own_flaw (kinds old.sets) (elements_in pieces fields) k ≡ None)
+  pub grown : (index next : ℕ) (new : Described) → index ≡ count → next ≡ count + 1 → (is_some (type_of (elements_in pieces fields)) ≡ true → (k : ℕ) → FieldIsRead (kinds old.sets) (elements_in pieces fields) k)
       → new.sets ≡ with_record old.sets index (type_of (elements_in pieces fields)) → AllZip (IsRuled pieces (here.done ++ fields ∷ rest)) new.sets new.rules → IsSchemaUpTo pieces next rest new
-  grown index next new here_is then sound sets_grow rules_are =
+  grown index next new here_is then read sets_grow rules_are =
       let kind : Option (List ℕ) = type_of (elements_in pieces fields) in
       let types_are : types_of pieces here.done ++ kind ∷ [] ≡ types_of pieces (here.done ++ fields ∷ []) = sym (map-append (λ r. type_of (elements_in pieces r)) here.done (fields ∷ [])) in
       let sets_are : AreSets (types_of pieces here.done ++ kind ∷ []) (with_record old.sets index kind) =
@@ -112,8 +112,8 @@ module _ (pieces : List Piece) (count : ℕ) (left : List (Range ℕ)) (old : De
         done = here.done ++ fields ∷ [];
         are = subst P (sym parts) here.are;
         counted = then ∙ ap (λ n. n + 1) here.counted ∙ sym (length_push here.done fields);
-        sound = λ i outside. ap (λ rs. flaw_at pieces rs i) parts
-            ∙ sound-behind pieces here.done fields rest here.are here.sound (λ k. ap (λ ts. own_flaw ts (elements_in pieces fields) k) (sym kinds-before) ∙ sound k) i outside;
+        read = λ i outside. subst (λ rs. ElementIsRead pieces rs i) (sym parts)
+            (read-behind pieces here.done fields rest here.are here.read (λ is k. subst (λ ts. FieldIsRead ts (elements_in pieces fields) k) kinds-before (read is k)) i outside);
         sets_are = subst Q types_are (subst R (sym sets_grow) sets_are);
         rules_are = subst S (sym parts) rules_are;
       }
@@ -134,12 +134,12 @@ module _ (pieces : List Piece) (count : ℕ) (left : List (Range ℕ)) (old : De
   more_as index next new false here_is then kind_is told =
       let P : List Set_ → Type 0 = λ sets. AllZip (IsRuled pieces (here.done ++ fields ∷ rest)) sets new.rules in
       let Q : List Rules → Type 0 = λ rules. AllZip (IsRuled pieces (here.done ++ fields ∷ rest)) (with_member old.sets index) rules in
-      grown index next new here_is then (λ k. ap (λ b. cond b (field_flaw (kinds old.sets) (elements_in pieces fields) k) None) kind_is)
+      grown index next new here_is then (λ is. absurd (false≢true (sym kind_is ∙ is)))
       (told.0 ∙ ap (with_record old.sets index) (sym (none_there (type_of (elements_in pieces fields)) kind_is)))
       (subst P (sym told.0) (subst Q (sym told.1) (IsRuled-longer pieces (here.done ++ fields ∷ rest) index old.sets old.rules here.rules_are)))
   more_as index next new true here_is then kind_is (said, are_said, sets_grow, rules_are) =
       let sets_are : new.sets ≡ with_record old.sets index (type_of (elements_in pieces fields)) = sets_grow ∙ ap (with_record old.sets index) are_said.kind in
-      grown index next new here_is then (λ k. ap (λ b. cond b (field_flaw (kinds old.sets) (elements_in pieces fields) k) None) kind_is ∙ are_said.sound k)
+      grown index next new here_is then (λ is k. record { sound = are_said.sound k; built = each_built (elements_in pieces fields) said.rules are_said.rules k })
       sets_are (rules_grow index new said.rules (type_of (elements_in pieces fields)) here_is kind_is are_said.rules sets_are rules_are)
 
   -- the record's elements are taken from all elements
@@ -162,19 +162,23 @@ module _ (pieces : List Piece) (count : ℕ) (left : List (Range ℕ)) (old : De
       descriptor_is : is_some (type_of (pieces_of own)) ≡ true → is_some (type_of (elements_in pieces fields)) ≡ true
       descriptor_is descriptor = ap (λ fs. is_some (type_of fs)) (sym own_is) ∙ descriptor
 
+      field_is_read : (k : ℕ) → FieldIsRead named (pieces_of own) k → FieldIsRead (types_among (types_of pieces here.done)) (elements_in pieces fields) k
+      field_is_read k read = subst (λ ts. FieldIsRead ts (elements_in pieces fields) k) (sym named_is ∙ kinds-before) (subst (λ fs. FieldIsRead named fs k) own_is read)
+
       field_flaw-is : (k : ℕ) → field_flaw (types_among (types_of pieces here.done)) (elements_in pieces fields) k ≡ field_flaw named (pieces_of own) k
       field_flaw-is k = ap (λ ts. field_flaw ts (elements_in pieces fields) k) (sym kinds-before ∙ named_is) ∙ ap (λ fs. field_flaw named fs k) (sym own_is)
 
       schema_flaw : (flaw : Flaw) (line : ℕ) → is_some (type_of (pieces_of own)) ≡ true → HasFieldFlaw (text_of pieces) named own flaw line → HasFlaw pieces flaw line
       schema_flaw flaw line descriptor has =
-          HasFlaw-own pieces here.done fields rest here.are here.sound (descriptor_is descriptor) flaw line has.at (λ k less. field_flaw-is k ∙ has.first k less) (field_flaw-is has.at ∙ has.met)
+          HasFlaw-own pieces here.done fields rest here.are here.read (descriptor_is descriptor) flaw line has.at (λ k less. field_is_read k (has.first k less)) (field_flaw-is has.at ∙ has.met)
           (has.number ∙ ap line_after (text_before pieces elements elements_are fields record_within.0 places has.at has.field has.stands))
 
       schema_refused : is_some (type_of (pieces_of own)) ≡ true → DescriptorMayBeRefused named (pieces_of own) → SchemaMayBeRefused pieces
       schema_refused descriptor has =
-          SchemaMayBeRefused-own pieces here.done fields rest here.are here.sound (descriptor_is descriptor) (record {
+          SchemaMayBeRefused-own pieces here.done fields rest here.are here.read (descriptor_is descriptor) (record {
             at = has.at;
-            sound = λ k le. field_flaw-is k ∙ has.sound k le;
+            first = λ k less. field_is_read k (has.first k less);
+            sound = field_flaw-is has.at ∙ has.sound;
             field = has.field;
             stands = ap (λ fs. slice_get fs has.at) (sym own_is) ∙ has.stands;
             refused = has.refused;
@@ -193,7 +197,7 @@ schema_all pieces count rest described none so_far =
     record {
       records = end.done ++ [];
       are = end.are;
-      sound = λ i. end.sound i (LiesIn-nil i);
+      sound = λ i. flaw_at-read pieces (end.done ++ []) i (end.read i (LiesIn-nil i));
       sets = subst (λ rs. AreSets (types_of pieces rs) described.sets) (sym (append-nil end.done)) end.sets_are;
       rules = end.rules_are;
     }

@@ -16,13 +16,13 @@ use Rattle.rec_text.specs.Values.{value_of}
 use Rattle.rec_sex.specs.Expressions.{IsExpression}
 use Rattle.rec_sex.specs.Meaning.{values_of}
 use Rattle.rec_text.specs.Elements.{has_name}
-use Rattle.rec_check.specs.Descriptors.{Flaw, bad, bound_in, element_flaw, first_word, own_flaw, rec_flaw, rec_name, special_flaw, special_of, type_of}
-use Rattle.rec_check.specs.Reading.{field_flaw}
+use Rattle.rec_check.specs.Descriptors.{Flaw, bad, bound_in, element_flaw, field_flaw, first_word, rec_flaw, rec_name, special_flaw, special_of, type_of}
 use Rattle.rec_check.specs.Rules.{Rules, no_rules, AreRules}
 use Rattle.rec_check.specs.Soundness.{says}
 use Rattle.rec_check.specs.Types.{IsDefinition, IsTyping}
 use Rattle.rec_check.specs.Words.{words, is_among}
 use Rattle.rec_check.proofs.DescriptorLemmas.{is_met, list_any-values_of, type_in, type_in-values_of}
+use Rattle.rec_check.proofs.FlawLemmas.{own_flaw}
 use Rattle.rec_check.proofs.TypeLemmas.{list_any-map}
 
 -- what an element says

@@ -132,9 +132,9 @@ element_flaw named before piece = option_and_then
     (λ special. special_flaw special (list_any (has_name (name_of piece)) before) named (value_of piece))
     (special_of (name_of piece))
 
--- what is wrong with the element of this index among a record's own, if the record is a descriptor and anything is
-abbrev pub own_flaw : List (List ℕ) → List Piece → ℕ → Option Flaw
-own_flaw named fields k = if is_some (type_of fields) then option_and_then (element_flaw named (take k fields)) (slice_get fields k) else None
+-- what is wrong with the field of this index among those of a descriptor, if anything is
+abbrev pub field_flaw : List (List ℕ) → List Piece → ℕ → Option Flaw
+field_flaw named fields k = option_and_then (element_flaw named (take k fields)) (slice_get fields k)
 
 -- the types that the records before an index name
 abbrev pub types_before : List Piece → List (Range ℕ) → ℕ → List (List ℕ)
@@ -144,8 +144,12 @@ types_before pieces records i = filter_map (λ record_. if nat_le record_.end i 
 abbrev pub holds_index : ℕ → Range ℕ → Bool
 holds_index i record_ = nat_le record_.start i && nat_lt i record_.end
 
+-- the descriptor that has the element of this index, if one has
+abbrev pub descriptor_at : List Piece → List (Range ℕ) → ℕ → Option (Range ℕ)
+descriptor_at pieces records i = find (λ record_. holds_index i record_ && is_some (type_of (elements_in pieces record_))) records
+
 -- what is wrong with the element of this index, if anything is
 abbrev pub flaw_at : List Piece → List (Range ℕ) → ℕ → Option Flaw
 flaw_at pieces records i = option_and_then
-    (λ record_. own_flaw (types_before pieces records record_.start) (elements_in pieces record_) (i - record_.start))
-    (find (holds_index i) records)
+    (λ record_. field_flaw (types_before pieces records record_.start) (elements_in pieces record_) (i - record_.start))
+    (descriptor_at pieces records i)

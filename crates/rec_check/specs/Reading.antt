@@ -1,5 +1,5 @@
 -- How a record is read: what the fields of a descriptor say so far, what one more adds, and what is answered of the whole.
-use Rattle.std.specs.Prelude.{◌≡◌, ℕ, ◌<◌, ◌≤◌, Bool, true, false, List, [], ◌∷◌, ◌++◌, take, map, is_some, slice_get, unwrap_or, Option, Some, None, option_and_then, Result, Ok, Err}
+use Rattle.std.specs.Prelude.{◌≡◌, ℕ, ◌<◌, Bool, true, false, List, [], ◌∷◌, ◌++◌, take, map, is_some, slice_get, unwrap_or, Option, Some, None, option_and_then, Result, Ok, Err}
 use Rattle.rec_text.specs.declared.element.Element.{Element}
 use Rattle.rec_text.specs.declared.fault.Fault.{Fault}
 use Rattle.rec_text.specs.declared.fault.Fault.TheVariants.{BadDescriptor, Unsupported, BadExpression, BadPattern}
@@ -18,9 +18,9 @@ use Rattle.rec_check.specs.declared.refusal.Refusal.{Refusal}
 use Rattle.rec_check.specs.declared.refusal.Refusal.TheVariants.{Bad, Unsupported as NotSupported, Pattern, OutOfMemory}
 use Rattle.rec_check.specs.declared.special.Special.{Special}
 use Rattle.rec_check.specs.declared.special.Special.TheVariants.{Rec, Key, Mandatory, Prohibit, Unique, Singular, Allowed, Auto, Type_, Typedef, Size, Constraint, Confidential}
-use Rattle.rec_check.specs.Descriptors.{Flaw, bad, unsupported, element_flaw, first_word, special_flaw, special_of, type_of, bound_in}
+use Rattle.rec_check.specs.Descriptors.{Flaw, bad, unsupported, field_flaw, first_word, special_flaw, special_of, type_of, bound_in}
 use Rattle.rec_check.specs.Rules.{Rules, no_rules, AreRules}
-use Rattle.rec_check.specs.Schemas.{Described, FieldMayBeRefused}
+use Rattle.rec_check.specs.Schemas.{Described, FieldIsRead, FieldMayBeRefused}
 use Rattle.rec_check.specs.Steps.{with_record}
 use Rattle.rec_check.specs.Stored.{definition_stored, rules_stored, typing_stored}
 use Rattle.rec_check.specs.Types.{Definition, Typing, IsDefinition, IsTyping, DefinitionMayBeRefused, TypeMayBeRefused}
@@ -112,10 +112,6 @@ AnswersField named piece old new answer = Answers (flaw_behind named old piece) 
 
 -- ---- one descriptor
 
--- what is wrong with the field of this index among those of a descriptor
-abbrev pub field_flaw : List (List ℕ) → List Piece → ℕ → Option Flaw
-field_flaw named fields k = option_and_then (element_flaw named (take k fields)) (slice_get fields k)
-
 -- the type is none of these, where there is one
 abbrev pub IsFresh : List (List ℕ) → Option (List ℕ) → Type 0
 IsFresh named None = Unit {0}
@@ -128,19 +124,20 @@ pub record AreSaid (named : List (List ℕ)) (fields : List Piece) (said : Said)
   pub fresh : IsFresh named said.kind
   pub rules : AreRules fields said.rules
 
--- the first of the fields with which anything is wrong; it begins at this line
+-- the first of the fields with which anything is wrong; it begins at this line, and those before it are read
 pub record HasFieldFlaw (text : List ℕ) (named : List (List ℕ)) (fields : List Element) (flaw : Flaw) (line : ℕ) : Type 0 where
   pub at : ℕ
-  pub first : (k : ℕ) → k < at → field_flaw named (pieces_of fields) k ≡ None
+  pub first : (k : ℕ) → k < at → FieldIsRead named (pieces_of fields) k
   pub met : field_flaw named (pieces_of fields) at ≡ Some flaw
   pub field : Element
   pub stands : slice_get fields at ≡ Some field
   pub number : line ≡ line_after (take field.at text)
 
--- a field has a pattern that may be refused, and nothing is wrong with any up to it
+-- a field has a pattern that may be refused, nothing is wrong with it, and those before it are read
 pub record DescriptorMayBeRefused (named : List (List ℕ)) (fields : List Piece) : Type 0 where
   pub at : ℕ
-  pub sound : (k : ℕ) → k ≤ at → field_flaw named fields k ≡ None
+  pub first : (k : ℕ) → k < at → FieldIsRead named fields k
+  pub sound : field_flaw named fields at ≡ None
   pub field : Piece
   pub stands : slice_get fields at ≡ Some field
   pub refused : FieldMayBeRefused field

@@ -1,7 +1,6 @@
 -- What the descriptors of a text say, or the first of their fields that is faulty.
-use Rattle.std.specs.Prelude.{◌≡◌, ◌≢◌, ℕ, ◌<◌, ◌≤◌, true, false, List, take, find, is_some, slice_get, Some, None, Result, Ok, Err}
+use Rattle.std.specs.Prelude.{◌≡◌, ◌≢◌, ℕ, ◌<◌, ◌-◌, true, List, [], ◌∷◌, take, IfSome, is_some, slice_get, Some, None, Result, Ok, Err}
 use Rattle.std.specs.List.{AllZip}
-use Rattle.std.specs.Option.{option_map_or}
 use Rattle.std.specs.declared.ops.Range.{Range}
 use Rattle.rec_text.specs.declared.fault.Fault.{Fault}
 use Rattle.rec_text.specs.declared.fault.Fault.TheVariants.{BadDescriptor, Unsupported, BadPattern}
@@ -13,7 +12,7 @@ use Rattle.rec_sex.specs.Expressions.{ExpressionMayBeRefused}
 use Rattle.rec_check.specs.declared.set.Set_.{Set_}
 use Rattle.rec_check.specs.declared.special.Special.TheVariants.{Type_, Typedef, Constraint}
 use Rattle.rec_text.specs.Records.{elements_in, record_at}
-use Rattle.rec_check.specs.Descriptors.{Flaw, bad, unsupported, flaw_at, holds_index, special_of, type_of, types_of}
+use Rattle.rec_check.specs.Descriptors.{Flaw, bad, unsupported, descriptor_at, field_flaw, flaw_at, special_of, types_before, types_of}
 use Rattle.rec_check.specs.Rules.{Rules, no_rules, AreRules, AreSameRules}
 use Rattle.rec_check.specs.Sets.{AreSets}
 use Rattle.rec_check.specs.Types.{DefinitionMayBeRefused, TypeMayBeRefused}
@@ -35,12 +34,26 @@ pub record IsDescribed (pieces : List Piece) (described : Described) : Type 0 wh
   pub sets : AreSets (types_of pieces records) described.sets
   pub rules : AllZip (IsRuled pieces records) described.sets described.rules
 
--- the first element with which anything is wrong; it begins at this line
+-- what a field says is built: by itself it gives rules, with its type, its definition or its expression, where it has one
+abbrev pub FieldIsBuilt : Piece → Type 0
+FieldIsBuilt field = (rules : Rules) × AreRules (field ∷ []) rules
+
+-- nothing is wrong with the field of this index among those of a descriptor, and what it says is built
+pub record FieldIsRead (named : List (List ℕ)) (fields : List Piece) (k : ℕ) : Type 0 where
+  pub sound : field_flaw named fields k ≡ None
+  pub built : IfSome (slice_get fields k) FieldIsBuilt
+
+-- the same of the element of this index, if a descriptor has it
+abbrev pub ElementIsRead : List Piece → List (Range ℕ) → ℕ → Type 0
+ElementIsRead pieces records i = IfSome (descriptor_at pieces records i)
+    (λ record_. FieldIsRead (types_before pieces records record_.start) (elements_in pieces record_) (i - record_.start))
+
+-- the first element with which anything is wrong; it begins at this line, and those before it are read
 pub record HasFlaw (pieces : List Piece) (flaw : Flaw) (line : ℕ) : Type 0 where
   pub records : List (Range ℕ)
   pub are : AreRecords pieces records
   pub at : ℕ
-  pub first : (i : ℕ) → i < at → flaw_at pieces records i ≡ None
+  pub first : (i : ℕ) → i < at → ElementIsRead pieces records i
   pub met : flaw_at pieces records at ≡ Some flaw
   pub number : line ≡ line_after (text_of (take at pieces))
 
@@ -53,13 +66,14 @@ FieldMayBeRefused field = elim (special_of (name_of field)) [
   | _ ↦ ⊥
 ]
 
--- a field of a descriptor has such a pattern, and nothing is wrong with any element up to it
+-- a field of a descriptor has such a pattern, nothing is wrong with it, and the elements before it are read
 pub record SchemaMayBeRefused (pieces : List Piece) : Type 0 where
   pub records : List (Range ℕ)
   pub are : AreRecords pieces records
   pub at : ℕ
-  pub sound : (i : ℕ) → i ≤ at → flaw_at pieces records i ≡ None
-  pub in_descriptor : option_map_or (λ record_. is_some (type_of (elements_in pieces record_))) (find (holds_index at) records) false ≡ true
+  pub first : (i : ℕ) → i < at → ElementIsRead pieces records i
+  pub sound : flaw_at pieces records at ≡ None
+  pub in_descriptor : is_some (descriptor_at pieces records at) ≡ true
   pub field : Piece
   pub stands : slice_get pieces at ≡ Some field
   pub refused : FieldMayBeRefused field

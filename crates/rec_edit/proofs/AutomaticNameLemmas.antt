@@ -16,11 +16,12 @@ use Rattle.rec_text.specs.Values.{value_of}
 use Rattle.rec_text.proofs.ListLemmas.{AllByRecursion-weaker, AllByRecursion-slice_get, same_bytes}
 use Rattle.rec_sex.specs.Meaning.{values_of}
 use Rattle.rec_check.specs.Automatic.{automatic_names, automatic_of, is_counter, may_count, IsAutomatic}
-use Rattle.rec_check.specs.Descriptors.{bad_unless, own_flaw, type_of}
+use Rattle.rec_check.specs.Descriptors.{bad_unless, type_of}
 use Rattle.rec_check.specs.Rules.{Rules, AreRules, field_type}
 use Rattle.rec_check.specs.Schemas.{Described, IsSchema}
 use Rattle.rec_check.specs.Sets.{is_of_type}
 use Rattle.rec_check.specs.Words.{words, distinct, is_among}
+use Rattle.rec_check.proofs.FlawLemmas.{own_flaw}
 use Rattle.rec_check.proofs.SameDescriptorLemmas.{schema_apart}
 use Rattle.rec_check.proofs.SoundLemmas.{AreSound, AreSound-heads, heads}
 use Rattle.rec_edit.specs.Rules.{canonical}

@@ -29,7 +29,7 @@ pub struct Counter<'r> {
 }
 
 impl<'r> Counter<'r> {
-    ghost use Rattle.std.specs.Prelude.{◌≡◌, ◌∷◌, ℤ, List, IfOk};
+    ghost use Rattle.std.specs.Prelude.{◌≡◌, ◌∷◌, ℤ, List, IfOk, IfErr};
     ghost use Rattle.rec_check.specs.Automatic.{IsNext};
     ghost use Rattle.rec_check.specs.Counters.{IsCounterOf};
     ghost use Rattle.rec_check.specs.Rules.{Rules as Asked};
@@ -41,11 +41,14 @@ impl<'r> Counter<'r> {
         self.name
     }
 
-    /// The next number, which counts from then on: one more than the greatest, and 0 where there is none.
+    /// The next number, which counts from then on: one more than the greatest, and 0 where there is none. Where that is
+    /// refused, the counter stays as it is.
     pub fn next_number(&mut self) -> Result<i64, Fault>
         ensures next { (rules : Asked) (numbers : List ℤ) → IsCounterOf rules numbers self.old → IsNext rules self.old.name.now numbers result }
         ensures counted { (rules : Asked) (numbers : List ℤ) → IsCounterOf rules numbers self.old → IfOk result (λ number. IsCounterOf rules (number ∷ numbers) self.new) }
         ensures name { self.new.name ≡ self.old.name }
+        ensures refusals { IfErr result (λ fault. fault ≡ Fault.AutoImpossible) }
+        ensures unchanged { IfErr result (λ _. self.new ≡ self.old) }
     {
         if !self.counts {
             return Err(Fault::AutoImpossible);

@@ -1,8 +1,9 @@
 -- How a home goes through calls: what it holds afterwards, and how often it failed.
 use Rattle.std.proofs.Common.{◌≡◌, ◌⊎◌, inl, inr, ℕ, ◌≤◌, ◌^◌, ◌-◌, List, [], ◌∷◌, ◌++◌, Option, Some, None, ap, subst, refl, ◌∙◌, arith}
 use Rattle.std.specs.Prelude.{IfSome}
+use Rattle.std.proofs.lemmas.Bool.{cases_lt}
 use Rattle.rec_text.specs.Sink.{HasRisen}
-use Rattle.rec_tools.specs.Home.{Contents, Call, got, lacked, unread, was_put, left_old, left_new, left_by, left_by_all, Tells, TellAll, Fails, HasFailed, Counts, Went}
+use Rattle.rec_tools.specs.Home.{Contents, Call, got, lacked, unread, was_put, left_old, left_new, left_by, left_by_all, Tells, TellAll, Fails, HasFailed, CountsOne, Counts, Went}
 
 -- ---- calls after calls
 
@@ -66,13 +67,20 @@ never_falls n (was_put which bytes) m counted = omega arith
 never_falls n (left_old which bytes) m counted = counted.0
 never_falls n (left_new which bytes) m counted = counted.0
 
+one_rises : (n m : ℕ) → CountsOne n m → HasRisen n m
+one_rises n m counted =
+    elim (cases_lt n (2 ^ 64 - 1)) [
+      | inl less ↦ inl (omega (arith, counted.1))
+      | inr most ↦ inr (omega (arith, counted.1))
+    ]
+
 rises : (n : ℕ) (call : Call) (m : ℕ) → Counts n call m → Fails call → HasRisen n m
 rises n (got which bytes) m counted failed = absurd failed
 rises n (lacked which) m counted failed = absurd failed
-rises n (unread which) m counted failed = counted.1
+rises n (unread which) m counted failed = one_rises n m counted
 rises n (was_put which bytes) m counted failed = absurd failed
-rises n (left_old which bytes) m counted failed = counted.1
-rises n (left_new which bytes) m counted failed = counted.1
+rises n (left_old which bytes) m counted failed = one_rises n m counted
+rises n (left_new which bytes) m counted failed = one_rises n m counted
 
 stays : (n : ℕ) (call : Call) (m : ℕ) → Counts n call m → (Fails call → ⊥) → m ≡ n
 stays n (got which bytes) m counted held = counted

@@ -1,29 +1,29 @@
 -- What a request does at each of its exits, from the calls that were made and what went out.
-use Rattle.std.proofs.Common.{◌≡◌, inl, inr, ℕ, List, [], ◌∷◌, ◌++◌, take, Option, Result, Ok, Err, ap, ap₂, sym, subst, refl, ◌∙◌, append-nil}
+use Rattle.std.proofs.Common.{◌≡◌, ◌⊎◌, inl, inr, ℕ, List, [], ◌∷◌, ◌++◌, take, Option, Result, Ok, Err, ap, ap₂, sym, subst, refl, ◌∙◌, append-nil}
 use Rattle.std.specs.Io.KnownBytes.{Appends}
 use Rattle.std.proofs.KnownBytes.{Appends-nil, Appends-kept}
 use Rattle.rec_text.specs.declared.fault.Fault.{Fault}
 use Rattle.rec_text.specs.declared.fault.Fault.TheVariants.{OutOfMemory, StoreFailed}
 use Rattle.rec_text.specs.Faults.{IsMemoryOr}
-use Rattle.rec_text.specs.Sink.{KeptAtSuccess, RisenAtStoreFailed}
+use Rattle.rec_text.specs.Sink.{RisenAtStoreFailed}
+use Rattle.rec_select.specs.Taken.{SaysFailures}
 use Rattle.rec_tools.specs.declared.decision.Decision.{Decision}
 use Rattle.rec_tools.specs.declared.decision.Decision.TheVariants.{Stay, Put}
 use Rattle.rec_tools.specs.declared.home.Which.TheVariants.{Base as TheFile, Journal as TheJournal}
 use Rattle.rec_tools.specs.Home.{Contents, Call, got, with_content, TellAll, Went}
-use Rattle.rec_tools.specs.Printouts.{Printout, Printed, PutsPrintout, WentOut, IsShownText, IsHistory, printed_history}
+use Rattle.rec_tools.specs.Printouts.{Printout, Printed, PutsPrintout, WentOut, IsSilence, IsShownText, IsHistory, printed_history}
 use Rattle.rec_tools.specs.Requests.{Asked, looking, listing, editing, moving, reads_of}
 use Rattle.rec_tools.specs.Outcomes.{Write, Outcome, printing, outcome_of, IsPrinting, IsOutcome}
 use Rattle.rec_tools.specs.Silently.{DoesSilently}
-use Rattle.rec_tools.specs.Attempts.{Answer, gots, puts, IsFront, StopsReading, StopsWriting, IsAnswered, Does}
+use Rattle.rec_tools.specs.Attempts.{Answer, gots, puts, IsFront, StopsReading, StopsWriting, IsAnswered, Does, Attempts}
 use Rattle.rec_tools.proofs.FaultLemmas.{ok_is_no_err, same_fault, same_value}
 use Rattle.rec_tools.proofs.CallLemmas.{one_call, went_on}
 use Rattle.rec_tools.proofs.AttemptLemmas.{ByCalls}
 
--- Calls of the home, and what went out of the sink: for whatever contents the calls tell of, this was done.
+-- this was done by some calls of the home, and this went out of the sink
 abbrev pub Attempted : {H S : Type 0} → (H → Call → H → Type 0) → (S → Option (List ℕ)) → (S → ℕ) → H → H → S → S → Asked → Answer → Type 0
 Attempted goes told failures old new out out_new asked answer =
-    (calls : List Call) × (p : Printed) × Went goes old calls new × WentOut told failures out out_new p
-    × ((c : Contents) × TellAll c calls) × ((c : Contents) → TellAll c calls → Does c asked answer calls p)
+    (calls : List Call) × (p : Printed) × WentOut told failures out out_new p × Attempts goes old new asked answer calls p
 
 -- nothing went out to a sink that failed so often
 abbrev pub silence : ℕ → Printed
@@ -73,26 +73,24 @@ module _ {H : Type 0} (goes : H → Call → H → Type 0) where
   pub silently-unread : (old new : H) (asked : Asked) (fault : Fault) → ByCalls goes old new (λ calls. StopsReading (reads_of asked) calls fault)
       → DoesSilently goes old new asked (Err fault)
   silently-unread old new asked fault read =
-      (read.0, read.1, stopped-tells asked read.0 fault read.2, λ c p tells silent. inl (record { fault = fault; stops = read.2; answered = refl; silent = silent.0 }))
+      (read.0, λ p silent. (read.1, stopped-tells asked read.0 fault read.2, λ c tells. inl (record { fault = fault; stops = read.2; answered = refl; silent = silent })))
 
 module _ {H S : Type 0} (goes : H → Call → H → Type 0) (told : S → Option (List ℕ)) (failures : S → ℕ) where
   -- the sink was left alone
   pub attempted-silently : (old new : H) (out : S) (asked : Asked) (answer : Answer) → DoesSilently goes old new asked answer
       → Attempted goes told failures old new out out asked answer
-  attempted-silently old new out asked answer done = (
-    done.0,
-    silence (failures out),
-    done.1,
-    went_silently told failures out,
-    done.2,
-    λ c tells. done.3 c (silence (failures out)) tells (refl, refl),
-  )
+  attempted-silently old new out asked answer done =
+      (done.0, silence (failures out), went_silently told failures out, done.1 (silence (failures out)) (refl, refl))
 
   pub attempted-unread : (old new : H) (out : S) (asked : Asked) (fault : Fault) → ByCalls goes old new (λ calls. StopsReading (reads_of asked) calls fault)
       → Attempted goes told failures old new out out asked (Err fault)
   attempted-unread old new out asked fault read = attempted-silently old new out asked (Err fault) (silently-unread goes old new asked fault read)
 
 -- ---- a request that prints
+
+no_failure : {A : Type 0} {answer : A} {n m : ℕ} {failed : A} → (answer ≡ failed) ⊎ (m ≡ n) → (answer ≡ failed → ⊥) → m ≡ n
+no_failure (inl e) never = absurd (never e)
+no_failure (inr kept) never = kept
 
 file_got : (bytes : List ℕ) (c : Contents) → bytes ≡ c.file → ◌≡◌ {A = List Call} (got TheFile bytes ∷ []) (got TheFile c.file ∷ [])
 file_got bytes c e = ap (λ b. got TheFile b ∷ []) e
@@ -105,9 +103,9 @@ module _ (asked : Asked) (calls : List Call) (Tells : Contents → Type 0) (IsTe
   front_of x n text c tells = (printing x.text x.reply, n, is c tells (Ok (printing x.text x.reply)) (x, text, refl), refl)
 
   -- what went out of a printing call, and what was done
-  printed_of : (old new : Option (List ℕ)) (n m : ℕ) (answer : Answer) → PutsPrintout IsText old new answer → KeptAtSuccess n m answer → RisenAtStoreFailed n m answer
+  printed_of : (old new : Option (List ℕ)) (n m : ℕ) (answer : Answer) → PutsPrintout IsText old new answer → SaysFailures n m answer → RisenAtStoreFailed n m answer
       → (text : List ℕ) × Appends old new text × ((c : Contents) → Tells c → Does c asked answer calls (record { text = text; before = n; after = m }))
-  printed_of old new n m (Ok reply) put kept risen = (
+  printed_of old new n m (Ok reply) put says risen = (
     put.0,
     put.2,
     λ c tells. inr (inr (inr (inr (record {
@@ -117,17 +115,21 @@ module _ (asked : Asked) (calls : List Call) (Tells : Contents → Type 0) (IsTe
       calls_are = read c tells ∙ sym (append-nil (gots c (reads_of asked)));
       answered = inl (refl, refl);
       printed = refl;
-      kept = kept;
+      kept = no_failure says (λ e. cc);
     })))),
   )
-  printed_of old new n m (Err OutOfMemory) (inl same) kept risen =
-      ([], Appends-kept old old new [] (Appends-nil old) same, λ c tells. inr (inl (record { read = read c tells; answered = refl; printed = inl refl })))
-  printed_of old new n m (Err OutOfMemory) (inr front) kept risen = (
+  printed_of old new n m (Err OutOfMemory) (inl same) says risen = (
+    [],
+    Appends-kept old old new [] (Appends-nil old) same,
+    λ c tells. inr (inl (record { read = read c tells; answered = refl; printed = inl refl; kept = no_failure says (λ e. cc) })),
+  )
+  printed_of old new n m (Err OutOfMemory) (inr front) says risen = (
     take front.2.0 front.0.text,
     front.2.2,
-    λ c tells. inr (inl (record { read = read c tells; answered = refl; printed = inr (front_of front.0 front.2.0 front.1 c tells) })),
+    λ c tells.
+        inr (inl (record { read = read c tells; answered = refl; printed = inr (front_of front.0 front.2.0 front.1 c tells); kept = no_failure says (λ e. cc) })),
   )
-  printed_of old new n m (Err StoreFailed) front kept risen = (
+  printed_of old new n m (Err StoreFailed) front says risen = (
     take front.2.0 front.0.text,
     front.2.2,
     λ c tells. inr (inr (inr (inl (record {
@@ -137,10 +139,17 @@ module _ (asked : Asked) (calls : List Call) (Tells : Contents → Type 0) (IsTe
       risen = risen refl;
     })))),
   )
-  printed_of old new n m (Err fault) put kept risen = (
+  printed_of old new n m (Err fault) put says risen = (
     [],
     Appends-kept old old new [] (Appends-nil old) put.1,
-    λ c tells. inr (inr (inl (record { read = read c tells; fault = fault; outcome = is c tells (Err fault) put.0; answered = refl; silent = refl }))),
+    λ c tells.
+        inr (inr (inl (record {
+          read = read c tells;
+          fault = fault;
+          outcome = is c tells (Err fault) put.0;
+          answered = refl;
+          silent = (refl, no_failure says (λ e. cc));
+        }))),
   )
 
 -- the history that is printed of a file and its journal is the outcome that is asked for
@@ -164,10 +173,10 @@ both_got file journal later c tells =
 abbrev pub ReadsBoth : Asked → Type 0
 ReadsBoth asked = reads_of asked ≡ TheFile ∷ TheJournal ∷ []
 
-does-refused : (asked : Asked) (c : Contents) (fault : Fault) (p : Printed) → ReadsBoth asked → IsMemoryOr fault (IsOutcome c asked (Err fault)) → p.text ≡ []
+does-refused : (asked : Asked) (c : Contents) (fault : Fault) (p : Printed) → ReadsBoth asked → IsMemoryOr fault (IsOutcome c asked (Err fault)) → IsSilence p
     → Does c asked (Err fault) (got TheFile c.file ∷ got TheJournal c.journal ∷ []) p
 does-refused asked c OutOfMemory p both found silent =
-    inr (inl (record { read = sym (ap (gots c) both); answered = refl; printed = inl silent }))
+    inr (inl (record { read = sym (ap (gots c) both); answered = refl; printed = inl silent.0; kept = silent.1 }))
 does-refused asked c fault p both found silent =
     inr (inr (inl (record { read = sym (ap (gots c) both); fault = fault; outcome = found; answered = refl; silent = silent })))
 
@@ -213,26 +222,24 @@ TellAll-answered c o answer calls (inr stopped) = TellAll-stopped c o.writes cal
 module _ {H S : Type 0} (goes : H → Call → H → Type 0) (told : S → Option (List ℕ)) (failures : S → ℕ) where
   pub attempted-printed : (old new : H) (out out_new : S) (IsText : List ℕ → Result Printout Fault → Type 0) (bytes file : List ℕ) (answer : Answer)
       → goes old (got TheFile bytes) new → file ≡ bytes → PutsPrintout (IsText file) (told out) (told out_new) answer
-      → KeptAtSuccess (failures out) (failures out_new) answer → RisenAtStoreFailed (failures out) (failures out_new) answer
+      → SaysFailures (failures out) (failures out_new) answer → RisenAtStoreFailed (failures out) (failures out_new) answer
       → Attempted goes told failures old new out out_new (looking IsText) answer
-  attempted-printed old new out out_new IsText bytes file answer step same put kept risen =
+  attempted-printed old new out out_new IsText bytes file answer step same put says risen =
       let on : PutsPrintout (IsText bytes) (told out) (told out_new) answer = subst (λ f. PutsPrintout (IsText f) (told out) (told out_new) answer) same put in
       let done = printed_of (looking IsText) (got TheFile bytes ∷ []) (λ c. bytes ≡ c.file) (IsText bytes) (λ c e. file_got bytes c e)
-      (λ c e r h. subst (λ b. IsPrinting (IsText b) r) e h) (told out) (told out_new) (failures out) (failures out_new) answer on kept risen in (
+      (λ c e r h. subst (λ b. IsPrinting (IsText b) r) e h) (told out) (told out_new) (failures out) (failures out_new) answer on says risen in (
         got TheFile bytes ∷ [],
         record { text = done.0; before = failures out; after = failures out_new },
-        one_call goes old new _ step,
         (done.1, refl, refl),
-        (file_alone bytes, (refl, tt)),
-        λ c tells. done.2 c tells.0,
+        (one_call goes old new _ step, (file_alone bytes, (refl, tt)), λ c tells. done.2 c tells.0),
       )
 
   pub attempted-listed : (old new : H) (out out_new : S) (file journal f j : List ℕ) (answer : Answer)
       → ByCalls goes old new (λ calls. calls ≡ got TheFile file ∷ got TheJournal journal ∷ []) → f ≡ file → j ≡ journal
       → PutsPrintout (IsShownText (IsHistory f j)) (told out) (told out_new) answer
-      → KeptAtSuccess (failures out) (failures out_new) answer → RisenAtStoreFailed (failures out) (failures out_new) answer
+      → SaysFailures (failures out) (failures out_new) answer → RisenAtStoreFailed (failures out) (failures out_new) answer
       → Attempted goes told failures old new out out_new listing answer
-  attempted-listed old new out out_new file journal f j answer read e h put kept risen =
+  attempted-listed old new out out_new file journal f j answer read e h put says risen =
       let calls : List Call = got TheFile file ∷ got TheJournal journal ∷ [] in
       let both : Contents = record { file = file; journal = journal } in
       let on : PutsPrintout (IsShownText (IsHistory file journal)) (told out) (told out_new) answer =
@@ -240,13 +247,11 @@ module _ {H S : Type 0} (goes : H → Call → H → Type 0) (told : S → Optio
       (subst (λ b. PutsPrintout (IsShownText (IsHistory b j)) (told out) (told out_new) answer) e put) in
       let done = printed_of listing calls (λ c. both ≡ c) (IsShownText (IsHistory file journal))
       (λ c same. ap (λ (d : Contents). gots d (reads_of listing)) same) (λ c same r is. subst (λ d. IsOutcome d listing r) same (listed-outcome file journal r is))
-      (told out) (told out_new) (failures out) (failures out_new) answer on kept risen in (
+      (told out) (told out_new) (failures out) (failures out_new) answer on says risen in (
         calls,
         record { text = done.0; before = failures out; after = failures out_new },
-        subst (λ calls. Went goes old calls new) read.2 read.1,
         (done.1, refl, refl),
-        (both, (refl, (refl, tt))),
-        λ c tells. done.2 c (both_got file journal [] c tells),
+        (subst (λ calls. Went goes old calls new) read.2 read.1, (both, (refl, (refl, tt))), λ c tells. done.2 c (both_got file journal [] c tells)),
       )
 
 module _ {H : Type 0} (goes : H → Call → H → Type 0) where
@@ -260,10 +265,11 @@ module _ {H : Type 0} (goes : H → Call → H → Type 0) where
       subst (λ b. IsMemoryOr fault (IsOutcome (record { file = file; journal = b }) asked (Err fault))) h
       (subst (λ b. IsMemoryOr fault (IsOutcome (record { file = b; journal = j }) asked (Err fault))) e found) in (
         got TheFile file ∷ got TheJournal journal ∷ [],
-        subst (λ calls. Went goes old calls new) read.2 read.1,
-        (record { file = file; journal = journal }, (refl, (refl, tt))),
-        λ c p tells silent. of_told file journal [] (λ c calls. Does c asked (Err fault) calls p)
-            (does-refused asked (record { file = file; journal = journal }) fault p both on silent.0) c tells,
+        λ p silent. (
+          subst (λ calls. Went goes old calls new) read.2 read.1,
+          (record { file = file; journal = journal }, (refl, (refl, tt))),
+          of_told file journal [] (λ c calls. Does c asked (Err fault) calls p) (does-refused asked (record { file = file; journal = journal }) fault p both on silent),
+        ),
       )
 
   -- a decision on the bytes that were read was carried out
@@ -279,8 +285,10 @@ module _ {H : Type 0} (goes : H → Call → H → Type 0) where
       (subst (λ b. IsOutcome (record { file = b; journal = j }) asked (Ok o)) e found) in
       let went : Went goes old (got TheFile file ∷ got TheJournal journal ∷ []) mid = subst (λ calls. Went goes old calls mid) read.2 read.1 in (
         got TheFile file ∷ got TheJournal journal ∷ carried.0,
-        went_on goes old mid new (got TheFile file ∷ got TheJournal journal ∷ []) carried.0 went carried.1,
-        (record { file = file; journal = journal }, (refl, (refl, TellAll-answered _ o answer carried.0 carried.2))),
-        λ c p tells silent. of_told file journal carried.0 (λ c calls. Does c asked answer calls p)
-            (does-carried asked (record { file = file; journal = journal }) o answer carried.0 p both on carried.2 (silent.0 ∙ sym (outcome_of-silent decision)) silent.1) c tells,
+        λ p silent. (
+          went_on goes old mid new (got TheFile file ∷ got TheJournal journal ∷ []) carried.0 went carried.1,
+          (record { file = file; journal = journal }, (refl, (refl, TellAll-answered _ o answer carried.0 carried.2))),
+          of_told file journal carried.0 (λ c calls. Does c asked answer calls p)
+              (does-carried asked (record { file = file; journal = journal }) o answer carried.0 p both on carried.2 (silent.0 ∙ sym (outcome_of-silent decision)) silent.1),
+        ),
       )

@@ -2,14 +2,14 @@
 use Rattle.std.proofs.Common.{◌≡◌, inl, inr, ℕ, List, [], ◌∷◌, ◌++◌, length, take, Ok, Err, ap, sym, subst, refl, ◌∙◌, arith}
 use Rattle.std.proofs.lemmas.List.{take_all}
 use Rattle.rec_tools.specs.declared.request.Request.{Request}
-use Rattle.rec_tools.specs.Home.{Contents, Call, left_by_all, HasFailed}
+use Rattle.rec_tools.specs.Home.{Contents, Call, left_by_all, TellAll, HasFailed}
 use Rattle.rec_tools.specs.Printouts.{Printed}
 use Rattle.rec_tools.specs.Requests.{Asked, asked_of, reads_of}
 use Rattle.rec_tools.specs.Outcomes.{Outcome, IsOutcome}
-use Rattle.rec_tools.specs.Attempts.{Answer, gots, puts, StopsWriting, IsAnswered, IsFront, IsUnread, RanShort, IsRefused, StopsPrinting, IsCarriedOut, Does, DoesAll}
+use Rattle.rec_tools.specs.Attempts.{Answer, gots, puts, StopsWriting, IsAnswered, IsFront, IsUnread, RanShort, IsRefused, StopsPrinting, IsCarriedOut, Does, AttemptsAll}
 use Rattle.rec_tools.specs.Machine.{State, IsStep, IsMachineFront, IsOldOrNext, IsAnswer, Stands}
 use Rattle.rec_tools.specs.Guarantee.{RunsAsMachine, StepsAsMachine}
-use Rattle.rec_tools.proofs.CallLemmas.{HasFailed-front, HasFailed-rest}
+use Rattle.rec_tools.proofs.CallLemmas.{HasFailed-front, HasFailed-rest, TellAll-front, TellAll-rest}
 use Rattle.rec_tools.proofs.RunLemmas.{left-gots, stopped-failed, left-stopped, cut-failed, left-carried}
 use Rattle.rec_tools.proofs.StepLemmas.{outcomes_are_steps}
 
@@ -43,8 +43,8 @@ module _ (c : Contents) (s : State) (asked : Asked) (stands : Stands c s) where
   unread-steps answer calls p done =
       let same = left-stopped c (reads_of asked) calls done.fault done.stops in
       elim (stopped-failed (reads_of asked) calls done.fault done.stops) [
-        | inl short ↦ (s, inr (inl (inl (done.answered ∙ ap Err short, refl), inl done.silent)), stands-same calls same)
-        | inr failed ↦ (s, inr (inl (inr (inr (done.answered ∙ ap Err failed.0, failed.1, inl refl)), inl done.silent)), stands-same calls same)
+        | inl short ↦ (s, inr (inl (inl (done.answered ∙ ap Err short, refl), inl done.silent.0)), stands-same calls same)
+        | inr failed ↦ (s, inr (inl (inr (inr (done.answered ∙ ap Err failed.0, failed.1, inl refl)), inl done.silent.0)), stands-same calls same)
       ]
 
   read-same : (calls : List Call) → calls ≡ gots c (reads_of asked) → left_by_all c calls ≡ c
@@ -60,8 +60,8 @@ module _ (c : Contents) (s : State) (asked : Asked) (stands : Stands c s) where
       let step : StepsAsMachine c s asked (Err done.fault) = outcomes_are_steps c s asked (Err done.fault) stands done.outcome in
       let same = stands-same calls (read-same calls done.read) in
       elim step [
-        | inl is ↦ (s, inl (subst (λ a. IsStep s asked a p.text s) (sym done.answered) (subst (λ text. IsStep s asked (Err done.fault) text s) (sym done.silent) is)), same)
-        | inr clash ↦ (s, inr (inr (done.answered ∙ ap Err clash.0, refl, done.silent, clash.1)), same)
+        | inl is ↦ (s, inl (subst (λ a. IsStep s asked a p.text s) (sym done.answered) (subst (λ text. IsStep s asked (Err done.fault) text s) (sym done.silent.0) is)), same)
+        | inr clash ↦ (s, inr (inr (done.answered ∙ ap Err clash.0, refl, done.silent.0, clash.1)), same)
       ]
 
   stopped-steps : (answer : Answer) (calls : List Call) (p : Printed) → StopsPrinting c asked answer calls p → Steps c s asked answer calls p
@@ -97,14 +97,15 @@ module _ (c : Contents) (s : State) (asked : Asked) (stands : Stands c s) where
 
 -- ---- many requests
 
-pub does_all-runs : (c : Contents) (s : State) (requests : List Request) (answers : List Answer) (calls : List Call) (p : Printed)
-    → Stands c s → (HasFailed calls → ⊥) → DoesAll c requests answers calls p → (t : State) × RunsAsMachine c s requests answers calls p t
-does_all-runs c s [] [] calls p stands held done = (s, (done.0, done.1, refl))
-does_all-runs c s [] (answer ∷ answers) calls p stands held done = absurd done
-does_all-runs c s (request ∷ requests) [] calls p stands held done = absurd done
-does_all-runs c s (request ∷ requests) (answer ∷ answers) calls p stands held done =
-    let held_now : HasFailed done.0 → ⊥ = λ failed. held (subst HasFailed (sym done.4) (HasFailed-front done.0 done.1 failed)) in
-    let held_later : HasFailed done.1 → ⊥ = λ failed. held (subst HasFailed (sym done.4) (HasFailed-rest done.0 done.1 failed)) in
-    let step = does-steps c s (asked_of request) stands answer done.0 done.2 (no_stops c s (asked_of request) done.0 held_now) done.6 in
-    let rest = does_all-runs (left_by_all c done.0) step.0 requests answers done.1 done.3 step.2 held_later done.7 in
-    (rest.0, (done.0, done.1, done.2, done.3, step.0, done.4, done.5, step.1, step.2, rest.1))
+pub attempts_all-runs : {H : Type 0} (goes : H → Call → H → Type 0) (old new : H) (c : Contents) (s : State) (requests : List Request) (answers : List Answer) (calls : List Call) (p : Printed)
+    → Stands c s → (HasFailed calls → ⊥) → TellAll c calls → AttemptsAll goes old new requests answers calls p → (t : State) × RunsAsMachine c s requests answers calls p t
+attempts_all-runs goes old new c s [] [] calls p stands held tells done = (s, (done.1, done.2, refl))
+attempts_all-runs goes old new c s [] (answer ∷ answers) calls p stands held tells done = absurd done
+attempts_all-runs goes old new c s (request ∷ requests) [] calls p stands held tells done = absurd done
+attempts_all-runs goes old new c s (request ∷ requests) (answer ∷ answers) calls p stands held tells (mid, now, later, first, rest, are, both, tried, tried_later) =
+    let held_now : HasFailed now → ⊥ = λ failed. held (subst HasFailed (sym are) (HasFailed-front now later failed)) in
+    let held_later : HasFailed later → ⊥ = λ failed. held (subst HasFailed (sym are) (HasFailed-rest now later failed)) in
+    let told : TellAll c (now ++ later) = subst (TellAll c) are tells in
+    let step = does-steps c s (asked_of request) stands answer now first (no_stops c s (asked_of request) now held_now) (tried.2 c (TellAll-front c now later told)) in
+    let steps = attempts_all-runs goes mid new (left_by_all c now) step.0 requests answers later rest step.2 held_later (TellAll-rest c now later told) tried_later in
+    (steps.0, (now, later, first, rest, step.0, are, both, step.1, step.2, steps.1))

@@ -5,17 +5,16 @@ use Rattle.std.specs.List.{AllByRecursion}
 use Rattle.std.proofs.KnownBytes.{Appends-trans}
 use Rattle.std.proofs.lemmas.List.{take_more, take_all}
 use Rattle.std.proofs.lemmas.List.Elements.{All-from_recursion}
-use Rattle.rec_text.specs.Sink.{HasRisen}
 use Rattle.rec_tools.specs.declared.request.Request.{Request}
-use Rattle.rec_tools.specs.Home.{Contents, Call, left_by, left_by_all, Tells, TellAll, HasFailed, Counts, Went}
+use Rattle.rec_tools.specs.Home.{Contents, Call, left_by, left_by_all, Tells, HasFailed, Went}
 use Rattle.rec_tools.specs.Printouts.{Printed, WentOut, IsBoth, IsSilence}
 use Rattle.rec_tools.specs.Requests.{asked_of, IsSilent}
-use Rattle.rec_tools.specs.Attempts.{Answer, Does, DoesAll}
+use Rattle.rec_tools.specs.Attempts.{Answer, Attempts, AttemptsAll}
 use Rattle.rec_tools.specs.Machine.{State, Stands}
 use Rattle.rec_tools.specs.Guarantee.{RunsAsMachine}
-use Rattle.rec_tools.proofs.CallLemmas.{Follows, went_on, left_by_all-append, TellAll-front, TellAll-rest, failures_rise, contents_follow}
+use Rattle.rec_tools.proofs.CallLemmas.{Follows, went_on, contents_follow}
 use Rattle.rec_tools.proofs.ExitLemmas.{Attempted, silence, went_silently}
-use Rattle.rec_tools.proofs.GuaranteeLemmas.{does_all-runs}
+use Rattle.rec_tools.proofs.GuaranteeLemmas.{attempts_all-runs}
 
 -- ---- what went out, one after another
 
@@ -35,53 +34,59 @@ IsBoth-regrouped : (p so_far next some most : Printed) → IsBoth p so_far next 
 IsBoth-regrouped p so_far next some most h parts =
     (h.0 ∙ ap (λ t. t ++ next.text) parts.0 ∙ append_assoc some.text most.text next.text, parts.1 ∙ h.1, parts.2, h.3, parts.4)
 
-DoesAll-counted : (c : Contents) (requests : List Request) (answers : List Answer) (calls : List Call) (p : Printed) → DoesAll c requests answers calls p → p.before ≤ p.after
-DoesAll-counted c [] [] calls p done = omega (arith, done.1.1)
-DoesAll-counted c (request ∷ requests) (answer ∷ answers) calls p done =
-    let le = DoesAll-counted (left_by_all c done.0) requests answers done.1 done.3 done.7 in
-    let parts = done.5 in
-    omega (arith, le, parts.1, parts.2, parts.3, parts.4)
-DoesAll-counted c [] (answer ∷ answers) calls p done = absurd done
-DoesAll-counted c (request ∷ requests) [] calls p done = absurd done
+module _ {H : Type 0} (goes : H → Call → H → Type 0) where
+  AttemptsAll-counted : (old new : H) (requests : List Request) (answers : List Answer) (calls : List Call) (p : Printed) → AttemptsAll goes old new requests answers calls p → p.before ≤ p.after
+  AttemptsAll-counted old new [] [] calls p done = omega (arith, done.2.1)
+  AttemptsAll-counted old new (request ∷ requests) (answer ∷ answers) calls p (mid, now, later, first, rest, are, parts, tried, tried_later) =
+      let le = AttemptsAll-counted mid new requests answers later rest tried_later in
+      omega (arith, le, parts.1, parts.2, parts.3, parts.4)
+  AttemptsAll-counted old new [] (answer ∷ answers) calls p done = absurd done
+  AttemptsAll-counted old new (request ∷ requests) [] calls p done = absurd done
 
--- ---- one more request
+  -- the calls of all
+  AttemptsAll-went : (old new : H) (requests : List Request) (answers : List Answer) (calls : List Call) (p : Printed) → AttemptsAll goes old new requests answers calls p → Went goes old calls new
+  AttemptsAll-went old new [] [] calls p done = subst (λ made. Went goes old made new) (sym done.1) done.0
+  AttemptsAll-went old new (request ∷ requests) (answer ∷ answers) calls p (mid, now, later, first, rest, are, parts, tried, tried_later) =
+      subst (λ made. Went goes old made new) (sym are) (went_on goes old mid new now later tried.0 (AttemptsAll-went mid new requests answers later rest tried_later))
+  AttemptsAll-went old new [] (answer ∷ answers) calls p done = absurd done
+  AttemptsAll-went old new (request ∷ requests) [] calls p done = absurd done
 
-DoesAll-more : (c : Contents) (requests : List Request) (answers : List Answer) (calls : List Call) (request : Request) (answer : Answer) (now : List Call) (p so_far next : Printed)
-    → IsBoth p so_far next → next.before ≤ next.after → DoesAll c requests answers calls so_far → Does (left_by_all c calls) (asked_of request) answer now next
-    → DoesAll c (requests ++ request ∷ []) (answers ++ answer ∷ []) (calls ++ now) p
-DoesAll-more c [] [] calls request answer now p so_far next parts le done does =
-    let here : Does c (asked_of request) answer now next = subst (λ made. Does (left_by_all c made) (asked_of request) answer now next) done.0 does in
-    let whole : calls ++ now ≡ now ++ [] = ap (λ made. made ++ now) done.0 ∙ sym (append-nil now) in
-    (now, [], next, silence next.after, whole, IsBoth-silence_first p so_far next parts done.1 le, here, (refl, (refl, refl)))
-DoesAll-more c (r ∷ requests) (a ∷ answers) calls request answer now p so_far next parts le done does =
-    let counted : done.3.before ≤ done.3.after = DoesAll-counted (left_by_all c done.0) requests answers done.1 done.3 done.7 in
-    let meet : next.before ≡ done.3.after = parts.2 ∙ sym done.5.3 in
-    let left : left_by_all c calls ≡ left_by_all (left_by_all c done.0) done.1 = ap (left_by_all c) done.4 ∙ left_by_all-append c done.0 done.1 in
-    let whole : calls ++ now ≡ done.0 ++ (done.1 ++ now) = ap (λ made. made ++ now) done.4 ∙ append_assoc done.0 done.1 now in (
-      done.0,
-      done.1 ++ now,
-      done.2,
-      both done.3 next,
-      whole,
-      IsBoth-regrouped p so_far next done.2 done.3 parts done.5,
-      done.6,
-      DoesAll-more (left_by_all c done.0) requests answers done.1 request answer now (both done.3 next) done.3 next (both-is done.3 next counted meet) le done.7
-          (subst (λ d. Does d (asked_of request) answer now next) left does),
-    )
-DoesAll-more c [] (a ∷ answers) calls request answer now p so_far next parts le done does = absurd done
-DoesAll-more c (r ∷ requests) [] calls request answer now p so_far next parts le done does = absurd done
+  -- ---- one more request
+
+  AttemptsAll-more : (old home new : H) (requests : List Request) (answers : List Answer) (calls : List Call) (request : Request) (answer : Answer) (now : List Call) (p so_far next : Printed)
+      → IsBoth p so_far next → next.before ≤ next.after → AttemptsAll goes old home requests answers calls so_far → Attempts goes home new (asked_of request) answer now next
+      → AttemptsAll goes old new (requests ++ request ∷ []) (answers ++ answer ∷ []) (calls ++ now) p
+  AttemptsAll-more old home new [] [] calls request answer now p so_far next parts le done tried =
+      let here : Attempts goes old new (asked_of request) answer now next = subst (λ h. Attempts goes h new (asked_of request) answer now next) done.0 tried in
+      let whole : calls ++ now ≡ now ++ [] = ap (λ made. made ++ now) done.1 ∙ sym (append-nil now) in
+      (new, now, [], next, silence next.after, whole, IsBoth-silence_first p so_far next parts done.2 le, here, (refl, refl, (refl, refl)))
+  AttemptsAll-more old home new (r ∷ requests) (a ∷ answers) calls request answer now p so_far next parts le (mid, made, later, first, rest, are, first_parts, tried_first, tried_later) tried =
+      let counted : rest.before ≤ rest.after = AttemptsAll-counted mid home requests answers later rest tried_later in
+      let meet : next.before ≡ rest.after = parts.2 ∙ sym first_parts.3 in
+      let whole : calls ++ now ≡ made ++ (later ++ now) = ap (λ all. all ++ now) are ∙ append_assoc made later now in (
+        mid,
+        made,
+        later ++ now,
+        first,
+        both rest next,
+        whole,
+        IsBoth-regrouped p so_far next first rest parts first_parts,
+        tried_first,
+        AttemptsAll-more mid home new requests answers later request answer now (both rest next) rest next (both-is rest next counted meet) le tried_later tried,
+      )
+  AttemptsAll-more old home new [] (a ∷ answers) calls request answer now p so_far next parts le done tried = absurd done
+  AttemptsAll-more old home new (r ∷ requests) [] calls request answer now p so_far next parts le done tried = absurd done
 
 -- ---- on a home and a sink
 
--- Calls of the home, and what went out of the sink: for whatever contents the calls tell of, the requests were done, each with its answer.
+-- by some calls of the home the requests were done, each with its answer, and this went out of the sink
 abbrev pub AttemptedAll : {H S : Type 0} → (H → Call → H → Type 0) → (S → Option (List ℕ)) → (S → ℕ) → H → H → S → S → List Request → List Answer → Type 0
 AttemptedAll goes told failures old new out out_new requests answers =
-    (calls : List Call) × (p : Printed) × Went goes old calls new × WentOut told failures out out_new p
-    × ((c : Contents) → TellAll c calls → DoesAll c requests answers calls p)
+    (calls : List Call) × (p : Printed) × WentOut told failures out out_new p × AttemptsAll goes old new requests answers calls p
 
 module _ {H S : Type 0} (goes : H → Call → H → Type 0) (told : S → Option (List ℕ)) (sink_failures : S → ℕ) where
   pub attempted_all-none : (home : H) (out : S) → AttemptedAll goes told sink_failures home home out out [] []
-  attempted_all-none home out = ([], silence (sink_failures out), refl, went_silently told sink_failures out, λ c tells. (refl, (refl, refl)))
+  attempted_all-none home out = ([], silence (sink_failures out), went_silently told sink_failures out, (refl, refl, (refl, refl)))
 
   -- the counts of the sink never fell
   module _ (out mid out_new : S) (first_counted : sink_failures out ≤ sink_failures mid) (then_counted : sink_failures mid ≤ sink_failures out_new) where
@@ -97,43 +102,36 @@ module _ {H S : Type 0} (goes : H → Call → H → Type 0) (told : S → Optio
     pub attempted_all-more : (old home new : H) (requests : List Request) (answers : List Answer) (request : Request) (answer : Answer)
         → AttemptedAll goes told sink_failures old home out mid requests answers → Attempted goes told sink_failures home new mid out_new (asked_of request) answer
         → AttemptedAll goes told sink_failures old new out out_new (requests ++ request ∷ []) (answers ++ answer ∷ [])
-    attempted_all-more old home new requests answers request answer done next = (
-      done.0 ++ next.0,
-      both done.1 next.1,
-      went_on goes old home new done.0 next.0 done.2 next.2,
-      went_out-both done.1 next.1 done.3 next.3,
-      λ c tells.
-          DoesAll-more c requests answers done.0 request answer next.0 (both done.1 next.1) done.1 next.1 (are_both done.1 next.1 done.3 next.3) (rest_counted next.1 next.3)
-          (done.4 c (TellAll-front c done.0 next.0 tells)) (next.5 (left_by_all c done.0) (TellAll-rest c done.0 next.0 tells)),
+    attempted_all-more old home new requests answers request answer (calls, p, went_out, done) (now, next, next_out, tried) = (
+      calls ++ now,
+      both p next,
+      went_out-both p next went_out next_out,
+      AttemptsAll-more goes old home new requests answers calls request answer now (both p next) p next (are_both p next went_out next_out) (rest_counted next next_out) done tried,
     )
 
   -- ---- the machine
 
-  -- from contents that stand for a state, while the home tells them and doesn't fail, the requests ran as the machine
-  abbrev pub RanAsMachine : (H → Option Contents) → (H → ℕ) → H → H → S → S → List Request → List Answer → Type 0
-  RanAsMachine contents failures old new out out_new requests answers = IfSome (contents old) (λ c. (s : State) → Stands c s →
-      (HasRisen (failures old) (failures new) → ⊥) →
-      (calls : List Call) × (p : Printed) × (t : State) × Went goes old calls new × (contents new ≡ Some (left_by_all c calls))
-      × WentOut told sink_failures out out_new p × RunsAsMachine c s requests answers calls p t)
+  -- from contents that stand for a state, while the home tells them, the requests ran as the machine where none of their calls failed
+  abbrev pub RanAsMachine : Option Contents → Option Contents → H → H → S → S → List Request → List Answer → Type 0
+  RanAsMachine known known_new old new out out_new requests answers = IfSome known (λ c. (s : State) → Stands c s →
+      (calls : List Call) × (p : Printed) × WentOut told sink_failures out out_new p × AttemptsAll goes old new requests answers calls p
+      × (known_new ≡ Some (left_by_all c calls))
+      × ((HasFailed calls → ⊥) → (t : State) × RunsAsMachine c s requests answers calls p t))
 
-  module _ (contents : H → Option Contents) (failures : H → ℕ)
-      (follows : (old new : H) (call : Call) → goes old call new → IfSome (contents old) (λ c. Tells c call × (contents new ≡ Some (left_by c call))))
-      (counts : (old new : H) (call : Call) → goes old call new → Counts (failures old) call (failures new)) where
-    ran_told : (known : Option Contents) (old new : H) (out out_new : S) (requests : List Request) (answers : List Answer)
-        → (done : AttemptedAll goes told sink_failures old new out out_new requests answers) → Follows known done.0 (contents new)
-        → IfSome known (λ c. (s : State) → Stands c s → (HasRisen (failures old) (failures new) → ⊥) →
-        (calls : List Call) × (p : Printed) × (t : State) × Went goes old calls new × (contents new ≡ Some (left_by_all c calls))
-        × WentOut told sink_failures out out_new p × RunsAsMachine c s requests answers calls p t)
-    ran_told None old new out out_new requests answers done follow = tt
-    ran_told (Some c) old new out out_new requests answers done follow = λ s stands held.
-        let held_all : HasFailed done.0 → ⊥ = λ failed. held (failures_rise goes failures counts old new done.0 done.2 failed) in
-        let runs = does_all-runs c s requests answers done.0 done.1 stands held_all (done.4 c follow.0) in
-        (done.0, done.1, runs.0, done.2, follow.1, done.3, runs.1)
+  ran_told : (known known_new : Option Contents) (old new : H) (out out_new : S) (requests : List Request) (answers : List Answer)
+      → (done : AttemptedAll goes told sink_failures old new out out_new requests answers) → Follows known done.0 known_new
+      → RanAsMachine known known_new old new out out_new requests answers
+  ran_told None known_new old new out out_new requests answers done follow = tt
+  ran_told (Some c) known_new old new out out_new requests answers (calls, p, went_out, done) follow = λ s stands.
+      (calls, p, went_out, done, follow.1, λ held. attempts_all-runs goes old new c s requests answers calls p stands held follow.0 done)
 
-    pub attempted_all-runs : (old new : H) (out out_new : S) (requests : List Request) (answers : List Answer)
-        → AttemptedAll goes told sink_failures old new out out_new requests answers → RanAsMachine contents failures old new out out_new requests answers
-    attempted_all-runs old new out out_new requests answers done =
-        ran_told (contents old) old new out out_new requests answers done (contents_follow goes contents follows old new done.0 done.2)
+  pub attempted_all-runs : (contents : H → Option Contents)
+      → ((old new : H) (call : Call) → goes old call new → IfSome (contents old) (λ c. Tells c call × (contents new ≡ Some (left_by c call))))
+      → (old new : H) (out out_new : S) (requests : List Request) (answers : List Answer)
+      → AttemptedAll goes told sink_failures old new out out_new requests answers → RanAsMachine (contents old) (contents new) old new out out_new requests answers
+  attempted_all-runs contents follows old new out out_new requests answers done =
+      ran_told (contents old) (contents new) old new out out_new requests answers done
+      (contents_follow goes contents follows old new done.0 (AttemptsAll-went goes old new requests answers done.0 done.1 done.3))
 
 -- ---- a request prints nothing
 

@@ -1,13 +1,13 @@
 -- What `run` ensures besides, from what the request did.
 use Rattle.std.proofs.Common.{◌≡◌, ◌⊎◌, inl, inr, ℕ, List, [], ◌∷◌, ◌++◌, Option, Some, None, Ok, Err, ap, sym, subst, refl, ◌∙◌}
-use Rattle.std.specs.Prelude.{IfSome, IfErr, OnOk}
+use Rattle.std.specs.Prelude.{IfSome, IfErr}
 use Rattle.rec_text.specs.declared.fault.Fault.{Fault}
 use Rattle.rec_text.specs.declared.fault.Fault.TheVariants.{OutOfMemory, StoreFailed}
 use Rattle.rec_text.specs.Sink.{HasRisen}
 use Rattle.rec_tools.specs.declared.home.Which.{Which}
 use Rattle.rec_tools.specs.declared.request.Reply.{Reply}
 use Rattle.rec_tools.specs.declared.request.Request.{Request}
-use Rattle.rec_tools.specs.Home.{Contents, Call, left_by, left_by_all, Tells, TellAll, HasFailed, Counts}
+use Rattle.rec_tools.specs.Home.{Contents, Call, got, lacked, left_by, left_by_all, Tells, TellAll, HasFailed, Counts}
 use Rattle.rec_tools.specs.Printouts.{Printed}
 use Rattle.rec_tools.specs.Requests.{Asked, looking, listing, editing, moving, asked_of, reads_of, WritesNothing}
 use Rattle.rec_tools.specs.Outcomes.{Write, Outcome, IsOutcome}
@@ -47,6 +47,24 @@ stopped-failed (which ∷ rest) (call ∷ calls) fault (inr (inl stops)) = inr (
 stopped-failed (which ∷ rest) (call ∷ calls) fault (inr (inr stops)) =
     elim (stopped-failed rest calls fault stops.2) [ inl short ↦ inl short | inr failed ↦ inr (failed.0, inr failed.1) ]
 
+held-lacked : (which : Which) → HasFailed (lacked which ∷ []) → ⊥
+held-lacked which (inl failed) = failed
+held-lacked which (inr failed) = failed
+
+held-got : (which : Which) (bytes : List ℕ) (calls : List Call) → (HasFailed calls → ⊥) → HasFailed (got which bytes ∷ calls) → ⊥
+held-got which bytes calls held (inl failed) = failed
+held-got which bytes calls held (inr failed) = held failed
+
+-- reads that stop for another fault than a failed store's didn't fail
+stopped-held : (whiches : List Which) (calls : List Call) (fault : Fault) → StopsReading whiches calls fault → (fault ≡ StoreFailed) ⊎ (HasFailed calls → ⊥)
+stopped-held [] [] fault stops = absurd stops
+stopped-held [] (call ∷ calls) fault stops = absurd stops
+stopped-held (which ∷ rest) [] fault stops = absurd stops
+stopped-held (which ∷ rest) (call ∷ calls) fault (inl stops) = inr (rw (stops.0, stops.1) (held-lacked which))
+stopped-held (which ∷ rest) (call ∷ calls) fault (inr (inl stops)) = inl stops.2
+stopped-held (which ∷ rest) (call ∷ calls) fault (inr (inr stops)) =
+    elim (stopped-held rest calls fault stops.2) [ inl failed ↦ inl failed | inr held ↦ inr (rw stops.1 (held-got which stops.0 calls held)) ]
+
 pub left-stopped : (c : Contents) (whiches : List Which) (calls : List Call) (fault : Fault) → StopsReading whiches calls fault → left_by_all c calls ≡ c
 left-stopped c [] [] fault stops = refl
 left-stopped c [] (call ∷ calls) fault stops = absurd stops
@@ -82,24 +100,37 @@ none-written o answer calls none (inr stopped) = absurd (no_cut calls (subst (λ
 -- ---- from what was done on contents
 
 module _ (c : Contents) (asked : Asked) (calls : List Call) (p : Printed) where
-  no_failure-answered : (o : Outcome) (reply : Reply) (later : List Call) → IsAnswered o (Ok reply) later → HasFailed later → ⊥
-  no_failure-answered o reply later (inl put) failed = no_failure-puts o.writes (subst HasFailed put.1 failed)
-  no_failure-answered o reply later (inr stopped) failed = let e = stopped.0 in cc
+  -- the answer is that a store failed, or no failure was met
+  abbrev pub Kept : Answer → Type 0
+  Kept answer = (answer ≡ Err StoreFailed) ⊎ ((HasFailed calls → ⊥) × (p.after ≡ p.before))
 
-  carried-kept : (reply : Reply) → IsCarriedOut c asked (Ok reply) calls p → HasFailed calls → ⊥
-  carried-kept reply done failed =
-      elim (HasFailed-parts (gots c (reads_of asked)) done.behind (subst HasFailed done.calls_are failed)) [
-        | inl first ↦ no_failure-gots c (reads_of asked) first
-        | inr rest ↦ no_failure-answered done.o reply done.behind done.answered rest
+  gots-held : calls ≡ gots c (reads_of asked) → HasFailed calls → ⊥
+  gots-held read failed = no_failure-gots c (reads_of asked) (subst HasFailed read failed)
+
+  unread-kept : (answer : Answer) → IsUnread c asked answer calls p → Kept answer
+  unread-kept answer done =
+      elim (stopped-held (reads_of asked) calls done.fault done.stops) [
+        | inl failed ↦ inl (done.answered ∙ ap Err failed)
+        | inr held ↦ inr (held, done.silent.1)
       ]
 
-  -- a success met no failure
-  pub does-kept : (reply : Reply) → Does c asked (Ok reply) calls p → (HasFailed calls → ⊥) × (p.after ≡ p.before)
-  does-kept reply (inl done) = let e = done.answered in cc
-  does-kept reply (inr (inl done)) = let e = done.answered in cc
-  does-kept reply (inr (inr (inl done))) = let e = done.answered in cc
-  does-kept reply (inr (inr (inr (inl done)))) = let e = done.answered in cc
-  does-kept reply (inr (inr (inr (inr done)))) = (carried-kept reply done, done.kept)
+  carried-kept : (answer : Answer) → (done : IsCarriedOut c asked answer calls p) → IsAnswered done.o answer done.behind → Kept answer
+  carried-kept answer done (inl put) = inr (
+    λ failed.
+        elim (HasFailed-parts (gots c (reads_of asked)) done.behind (subst HasFailed done.calls_are failed)) [
+          | inl first ↦ no_failure-gots c (reads_of asked) first
+          | inr rest ↦ no_failure-puts done.o.writes (subst HasFailed put.1 rest)
+        ],
+    done.kept,
+  )
+  carried-kept answer done (inr stopped) = inl stopped.0
+
+  pub does-kept : (answer : Answer) → Does c asked answer calls p → Kept answer
+  does-kept answer (inl done) = unread-kept answer done
+  does-kept answer (inr (inl done)) = inr (gots-held done.read, done.kept)
+  does-kept answer (inr (inr (inl done))) = inr (gots-held done.read, done.silent.1)
+  does-kept answer (inr (inr (inr (inl done)))) = inl done.answered
+  does-kept answer (inr (inr (inr (inr done)))) = carried-kept answer done done.answered
 
   failed-answered : (o : Outcome) (fault : Fault) (later : List Call) → IsAnswered o (Err fault) later → (fault ≡ StoreFailed) × HasFailed later
   failed-answered o fault later (inl put) = let e = put.0 in cc
@@ -170,31 +201,32 @@ looks-told (Some c) new asked answer calls p follow does =
 module _ {H S : Type 0} (goes : H → Call → H → Type 0) (told : S → Option (List ℕ)) (sink_failures : S → ℕ) where
   module _ (failures : H → ℕ) (counts : (old new : H) (call : Call) → goes old call new → Counts (failures old) call (failures new)) where
     pub attempted-kept : (old new : H) (out out_new : S) (asked : Asked) (answer : Answer) → Attempted goes told sink_failures old new out out_new asked answer
-        → OnOk answer ((failures new ≡ failures old) × (sink_failures out_new ≡ sink_failures out))
-    attempted-kept old new out out_new asked (Err fault) done = tt
-    attempted-kept old new out out_new asked (Ok reply) done =
-        let kept = does-kept done.4.0 asked done.0 done.1 reply (done.5 done.4.0 done.4.1) in
-        (failures_stay goes failures counts old new done.0 done.2 kept.0, sym done.3.2 ∙ kept.1 ∙ done.3.1)
+        → (answer ≡ Err StoreFailed) ⊎ ((failures new ≡ failures old) × (sink_failures out_new ≡ sink_failures out))
+    attempted-kept old new out out_new asked answer (calls, p, went_out, (went, tells, does)) =
+        elim (does-kept tells.0 asked calls p answer (does tells.0 tells.1)) [
+          | inl failed ↦ inl failed
+          | inr kept ↦ inr (failures_stay goes failures counts old new calls went kept.0, sym went_out.2 ∙ kept.1 ∙ went_out.1)
+        ]
 
     pub attempted-store_failed : (old new : H) (out out_new : S) (request : Request) (answer : Answer)
         → Attempted goes told sink_failures old new out out_new (asked_of request) answer → answer ≡ Err StoreFailed
         → HasRisen (failures old) (failures new) ⊎ HasRisen (sink_failures out) (sink_failures out_new)
-    attempted-store_failed old new out out_new request answer done e =
-        let does : Does done.4.0 (asked_of request) (Err StoreFailed) done.0 done.1 =
-        subst (λ a. Does done.4.0 (asked_of request) a done.0 done.1) e (done.5 done.4.0 done.4.1) in
-        elim (does-store_failed done.4.0 (asked_of request) done.0 done.1 (never_store request done.4.0) does) [
-          | inl failed ↦ inl (failures_rise goes failures counts old new done.0 done.2 failed)
-          | inr risen ↦ inr (subst (λ n. HasRisen n (sink_failures out_new)) done.3.1 (subst (λ m. HasRisen done.1.before m) done.3.2 risen))
+    attempted-store_failed old new out out_new request answer (calls, p, went_out, (went, tells, does)) e =
+        let failed : Does tells.0 (asked_of request) (Err StoreFailed) calls p =
+        subst (λ a. Does tells.0 (asked_of request) a calls p) e (does tells.0 tells.1) in
+        elim (does-store_failed tells.0 (asked_of request) calls p (never_store request tells.0) failed) [
+          | inl home ↦ inl (failures_rise goes failures counts old new calls went home)
+          | inr sink ↦ inr (subst (λ n. HasRisen n (sink_failures out_new)) went_out.1 (subst (λ m. HasRisen p.before m) went_out.2 sink))
         ]
 
   module _ (contents : H → Option Contents)
       (follows : (old new : H) (call : Call) → goes old call new → IfSome (contents old) (λ c. Tells c call × (contents new ≡ Some (left_by c call)))) where
     pub attempted-unchanged : (old new : H) (out out_new : S) (asked : Asked) (answer : Answer) → Attempted goes told sink_failures old new out out_new asked answer
         → IfSome (contents old) (λ c. IfErr answer (λ fault. (fault ≡ StoreFailed) ⊎ (contents new ≡ Some c)))
-    attempted-unchanged old new out out_new asked answer done =
-        unchanged-told (contents old) (contents new) asked answer done.0 done.1 (contents_follow goes contents follows old new done.0 done.2) done.5
+    attempted-unchanged old new out out_new asked answer (calls, p, went_out, (went, tells, does)) =
+        unchanged-told (contents old) (contents new) asked answer calls p (contents_follow goes contents follows old new calls went) does
 
     pub attempted-looks : (old new : H) (out out_new : S) (asked : Asked) (answer : Answer) → Attempted goes told sink_failures old new out out_new asked answer
         → IfSome (contents old) (λ c. WritesNothing asked → contents new ≡ Some c)
-    attempted-looks old new out out_new asked answer done =
-        looks-told (contents old) (contents new) asked answer done.0 done.1 (contents_follow goes contents follows old new done.0 done.2) done.5
+    attempted-looks old new out out_new asked answer (calls, p, went_out, (went, tells, does)) =
+        looks-told (contents old) (contents new) asked answer calls p (contents_follow goes contents follows old new calls went) does

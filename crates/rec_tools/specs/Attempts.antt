@@ -7,7 +7,7 @@ use Rattle.rec_tools.specs.declared.home.Which.{Which}
 use Rattle.rec_tools.specs.declared.home.Which.TheVariants.{Base as TheFile, Journal as TheJournal}
 use Rattle.rec_tools.specs.declared.request.Request.{Request}
 use Rattle.rec_tools.specs.declared.request.Reply.{Reply}
-use Rattle.rec_tools.specs.Home.{Contents, content_of, Call, got, lacked, unread, was_put, left_old, left_new, left_by_all}
+use Rattle.rec_tools.specs.Home.{Contents, content_of, Call, got, lacked, unread, was_put, left_old, left_new, left_by_all, TellAll, Went}
 use Rattle.rec_tools.specs.Printouts.{Printed, IsBoth, IsSilence}
 use Rattle.rec_tools.specs.Requests.{Asked, asked_of, reads_of}
 use Rattle.rec_tools.specs.Outcomes.{Write, Outcome, IsOutcome}
@@ -76,13 +76,14 @@ module _ (c : Contents) (asked : Asked) (answer : Answer) (calls : List Call) (p
     pub fault : Fault
     pub stops : StopsReading (reads_of asked) calls fault
     pub answered : answer ≡ Err fault
-    pub silent : p.text ≡ []
+    pub silent : IsSilence p
 
-  -- memory ran out after the reads, before anything was written
+  -- memory ran out after the reads, before anything was written; the sink didn't fail
   pub record RanShort : Type 0 where
     pub read : calls ≡ gots c (reads_of asked)
     pub answered : answer ≡ Err OutOfMemory
     pub printed : (p.text ≡ []) ⊎ IsFront c asked p.text
+    pub kept : p.after ≡ p.before
 
   -- it was refused
   pub record IsRefused : Type 0 where
@@ -90,7 +91,7 @@ module _ (c : Contents) (asked : Asked) (answer : Answer) (calls : List Call) (p
     pub fault : Fault
     pub outcome : IsOutcome c asked (Err fault)
     pub answered : answer ≡ Err fault
-    pub silent : p.text ≡ []
+    pub silent : IsSilence p
 
   -- the sink failed, before anything was written
   pub record StopsPrinting : Type 0 where
@@ -112,13 +113,19 @@ module _ (c : Contents) (asked : Asked) (answer : Answer) (calls : List Call) (p
   abbrev pub Does : Type 0
   Does = IsUnread ⊎ (RanShort ⊎ (IsRefused ⊎ (StopsPrinting ⊎ IsCarriedOut)))
 
--- ---- many requests
+-- ---- on a home
 
--- One answer for each request, each request going on from the contents that the calls before it left; what is printed is
--- what each of them prints, one after another.
-abbrev pub DoesAll : Contents → List Request → List Answer → List Call → Printed → Type 0
-DoesAll c [] [] calls p = (calls ≡ []) × IsSilence p
-DoesAll c [] (answer ∷ answers) calls p = ⊥
-DoesAll c (request ∷ requests) [] calls p = ⊥
-DoesAll c (request ∷ requests) (answer ∷ answers) calls p = (now later : List Call) × (first rest : Printed) × (calls ≡ now ++ later)
-    × IsBoth p first rest × Does c (asked_of request) answer now first × DoesAll (left_by_all c now) requests answers later rest
+-- By these calls the one home became the other. They tell of some contents, and whatever contents they tell of, this was done.
+abbrev pub Attempts : {H : Type 0} → (H → Call → H → Type 0) → H → H → Asked → Answer → List Call → Printed → Type 0
+Attempts goes old new asked answer calls p = Went goes old calls new
+    × ((c : Contents) × TellAll c calls) × ((c : Contents) → TellAll c calls → Does c asked answer calls p)
+
+-- One answer for each request, by calls of its own on the home that the request before it left; what is printed is what each
+-- of them prints, one after another.
+abbrev pub AttemptsAll : {H : Type 0} → (H → Call → H → Type 0) → H → H → List Request → List Answer → List Call → Printed → Type 0
+AttemptsAll goes old new [] [] calls p = (new ≡ old) × (calls ≡ []) × IsSilence p
+AttemptsAll goes old new [] (answer ∷ answers) calls p = ⊥
+AttemptsAll goes old new (request ∷ requests) [] calls p = ⊥
+AttemptsAll {H} goes old new (request ∷ requests) (answer ∷ answers) calls p =
+    (mid : H) × (now later : List Call) × (first rest : Printed) × (calls ≡ now ++ later) × IsBoth p first rest
+    × Attempts goes old mid (asked_of request) answer now first × AttemptsAll goes mid new requests answers later rest

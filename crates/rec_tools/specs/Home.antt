@@ -2,7 +2,7 @@
 use Rattle.std.specs.Prelude.{◌≡◌, ◌⊎◌, ℕ, ◌≤◌, List, [], ◌∷◌, Result, Ok, Err}
 use Rattle.rec_text.specs.declared.fault.Fault.{Fault}
 use Rattle.rec_text.specs.declared.fault.Fault.TheVariants.{OutOfMemory}
-use Rattle.rec_text.specs.Sink.{HasRisen}
+use Rattle.rec_text.specs.Sink.{HasRisen, one_more}
 use Rattle.rec_tools.specs.declared.home.Which.{Which}
 use Rattle.rec_tools.specs.declared.home.Which.TheVariants.{Base, Journal}
 
@@ -81,14 +81,18 @@ abbrev pub HasFailed : List Call → Type 0
 HasFailed [] = ⊥
 HasFailed (call ∷ calls) = Fails call ⊎ HasFailed calls
 
--- a count of failures rises at a failure, and stays at any other call
+-- one more failure was counted; at its greatest value a count stays
+abbrev pub CountsOne : ℕ → ℕ → Type 0
+CountsOne old new = (old ≤ new) × (new ≡ one_more old)
+
+-- a failure counts one, and any other call none
 abbrev pub Counts : ℕ → Call → ℕ → Type 0
 Counts old (got which bytes) new = new ≡ old
 Counts old (lacked which) new = new ≡ old
-Counts old (unread which) new = (old ≤ new) × HasRisen old new
+Counts old (unread which) new = CountsOne old new
 Counts old (was_put which bytes) new = new ≡ old
-Counts old (left_old which bytes) new = (old ≤ new) × HasRisen old new
-Counts old (left_new which bytes) new = (old ≤ new) × HasRisen old new
+Counts old (left_old which bytes) new = CountsOne old new
+Counts old (left_new which bytes) new = CountsOne old new
 
 -- a count of failures rose from the one to the other
 abbrev pub Rose : {H : Type 0} → (H → ℕ) → H → H → Type 0

@@ -1,12 +1,11 @@
 -- What a request does that prints nothing.
 use Rattle.std.specs.Prelude.{List}
-use Rattle.rec_tools.specs.Home.{Contents, Call, Went, TellAll}
+use Rattle.rec_tools.specs.Home.{Call}
 use Rattle.rec_tools.specs.Printouts.{Printed, IsSilence}
 use Rattle.rec_tools.specs.Requests.{Asked}
-use Rattle.rec_tools.specs.Attempts.{Answer, Does}
+use Rattle.rec_tools.specs.Attempts.{Answer, Attempts}
 
--- calls of the home: for whatever contents they tell of, this was done, while nothing went out
+-- this was done by some calls, while nothing went out
 abbrev pub DoesSilently : {H : Type 0} → (H → Call → H → Type 0) → H → H → Asked → Answer → Type 0
-DoesSilently {H} goes old new asked answer = (calls : List Call) × Went goes old calls new
-    × ((c : Contents) × TellAll c calls)
-    × ((c : Contents) (p : Printed) → TellAll c calls → IsSilence p → Does c asked answer calls p)
+DoesSilently goes old new asked answer =
+    (calls : List Call) × ((p : Printed) → IsSilence p → Attempts goes old new asked answer calls p)

@@ -1,8 +1,8 @@
 //! Prints the history of a file.
 ghost use Rattle.std.specs.Prelude.{◌≤◌, codes, flat_map, Ok, IfErr, if◌then◌else◌};
 ghost use Rattle.rec_text.specs.Faults.{UnlessMemory};
-ghost use Rattle.rec_text.specs.Sink.{KeptAtSuccess, RisenAtStoreFailed, UnlessStoreFailed};
-ghost use Rattle.rec_select.specs.Taken.{Prints};
+ghost use Rattle.rec_text.specs.Sink.{RisenAtStoreFailed, UnlessStoreFailed};
+ghost use Rattle.rec_select.specs.Taken.{Prints, SaysFailures};
 ghost use Rattle.rec_journal.specs.History.{IsOpening};
 ghost use Rattle.rec_tools.specs.Steps.{IsRefusal};
 ghost use Rattle.rec_tools.specs.Printouts.{IsHistory, IsShownText, PutsPrintout, printed_history};
@@ -63,7 +63,7 @@ pub fn print_history<S: Sink>(
 ) -> Result<Reply, Fault>
     ensures printed { PutsPrintout (IsShownText (IsHistory file.now journal.now)) (S.contents out.old) (S.contents out.new) result }
     ensures counted { S.failure_count out.old ≤ S.failure_count out.new }
-    ensures kept { KeptAtSuccess (S.failure_count out.old) (S.failure_count out.new) result }
+    ensures told { SaysFailures (S.failure_count out.old) (S.failure_count out.new) result }
     ensures store_failed { RisenAtStoreFailed (S.failure_count out.old) (S.failure_count out.new) result }
     ensures refusals { IfErr result IsRefusal }
 {

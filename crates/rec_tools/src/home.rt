@@ -44,6 +44,6 @@ pub trait Home {
     ghost follows: { (old new : Self) (call : Call) → goes old call new
         → IfSome (contents old) (λ c. Tells c call × (contents new ≡ Some (left_by c call))) };
 
-    /// The count rises at a failure, and stays at any other call.
+    /// A failure counts one, and any other call none.
     ghost counts: { (old new : Self) (call : Call) → goes old call new → Counts (failure_count old) call (failure_count new) };
 }

@@ -1,8 +1,7 @@
 //! A home in memory, some of whose calls fail.
-ghost use Rattle.std.specs.Prelude.{◌≡◌, ◌≤◌, ◌+◌, ◌-◌, ◌^◌, min, [], ◌∷◌, ◌++◌, Some, IfSome, OnOk, OnErr, MatchOption, is_some};
+ghost use Rattle.std.specs.Prelude.{◌≡◌, ◌+◌, ◌-◌, ◌^◌, min, [], ◌∷◌, ◌++◌, Some, IfSome, OnOk, OnErr, MatchOption, is_some};
 ghost use Rattle.std.proofs.Common.{ap};
-ghost use Rattle.rec_text.specs.Sink.{HasRisen, UnlessStoreFailed};
-ghost use Rattle.rec_tools.specs.Home.{Contents, content_of, with_content};
+ghost use Rattle.rec_tools.specs.Home.{CountsOne, content_of, with_content};
 ghost use Rattle.rec_tools.specs.Memory.{fault_of, held, IsCall};
 
 use crate::home::{Home, Which};
@@ -107,7 +106,7 @@ impl MemoryHome {
         ensures contents { held self.new ≡ held self.old }
         ensures numbered { self.new.calls ≡ min (self.old.calls + 1) (2 ^ 64 - 1) }
         ensures faults { self.new.faults.items ≡ self.old.faults.items }
-        ensures counted { MatchOption result (self.new.failed ≡ self.old.failed) (λ _. (self.old.failed ≤ self.new.failed) × HasRisen self.old.failed self.new.failed) }
+        ensures counted { MatchOption result (self.new.failed ≡ self.old.failed) (λ _. CountsOne self.old.failed self.new.failed) }
     {
         let fault = fault_at(&self.faults, self.calls);
         self.calls = self.calls.saturating_add(1);
@@ -117,21 +116,15 @@ impl MemoryHome {
         fault
     }
 
-    /// Puts a copy of these bytes in the place of a content. Where memory is refused, the old content stays, and the
-    /// home has failed.
-    fn put(&mut self, which: Which, bytes: &[u8]) -> Result<(), Fault>
+    /// Puts a copy of these bytes in place of a content. Where memory is refused, the old content stays.
+    fn put(&mut self, which: Which, bytes: &[u8]) -> Result<(), AllocError>
         ensures put { OnOk result (held self.new ≡ with_content (held self.old) which bytes.now) }
         ensures old { OnErr result (held self.new ≡ held self.old) }
         ensures numbered { self.new.calls ≡ self.old.calls }
         ensures faults { self.new.faults.items ≡ self.old.faults.items }
-        ensures kept { OnOk result (self.new.failed ≡ self.old.failed) }
-        ensures failed { OnErr result ((self.old.failed ≤ self.new.failed) × HasRisen self.old.failed self.new.failed) }
-        ensures refusals { UnlessStoreFailed result }
+        ensures failed { self.new.failed ≡ self.old.failed }
     {
-        let Ok(copy) = Bytes::copy_of(self.alloc, bytes) else {
-            self.failed = self.failed.saturating_add(1);
-            return Err(Fault::StoreFailed);
-        };
+        let copy = Bytes::copy_of(self.alloc, bytes)?;
         match which {
             Which::Base => self.file = copy,
             Which::Journal => self.journal = copy,
@@ -162,10 +155,16 @@ impl Home for MemoryHome {
         match self.next_fault() {
             Some(StoreFault::LeavesOld) => Err(Fault::StoreFailed),
             Some(StoreFault::LeavesNew) => {
-                self.put(which, bytes)?;
+                let _ = self.put(which, bytes);
                 Err(Fault::StoreFailed)
             }
-            None => self.put(which, bytes),
+            None => match self.put(which, bytes) {
+                Ok(()) => Ok(()),
+                Err(_) => {
+                    self.failed = self.failed.saturating_add(1);
+                    Err(Fault::StoreFailed)
+                }
+            },
         }
     }
 

@@ -2,7 +2,8 @@
 ghost use Rattle.std.specs.Prelude.{◌≡◌, ◌≤◌, option_map, IfErr};
 ghost use Rattle.rec_check.specs.Violations.{AreViolationsOf};
 ghost use Rattle.rec_select.specs.Selection.{filter_of};
-ghost use Rattle.rec_text.specs.Sink.{KeptAtSuccess, RisenAtStoreFailed};
+ghost use Rattle.rec_select.specs.Taken.{SaysFailures};
+ghost use Rattle.rec_text.specs.Sink.{RisenAtStoreFailed};
 ghost use Rattle.rec_tools.specs.Steps.{Then, IsRefusal};
 ghost use Rattle.rec_tools.specs.Asking.{IsBaseOf};
 ghost use Rattle.rec_tools.specs.Printouts.{IsShowOf, IsShow, IsInfoOf, IsShownText, IsReportText, PutsPrintout, verdict};
@@ -24,7 +25,7 @@ fn print_wanted<S: Sink>(
 ) -> Result<Reply, Fault>
     ensures printed { PutsPrintout (IsShownText (Then (IsBaseOf base.now) (λ base. IsShowOf base wanted.now.selection.kind (filter_of wanted.now.selection.by) wanted.now.shape collapse))) (S.contents out.old) (S.contents out.new) result }
     ensures counted { S.failure_count out.old ≤ S.failure_count out.new }
-    ensures kept { KeptAtSuccess (S.failure_count out.old) (S.failure_count out.new) result }
+    ensures told { SaysFailures (S.failure_count out.old) (S.failure_count out.new) result }
     ensures store_failed { RisenAtStoreFailed (S.failure_count out.old) (S.failure_count out.new) result }
     ensures refusals { IfErr result IsRefusal }
 {
@@ -45,7 +46,7 @@ pub fn show<S: Sink>(
 ) -> Result<Reply, Fault>
     ensures printed { PutsPrintout (IsShownText (IsShow file.now pick.now form.now collapse)) (S.contents out.old) (S.contents out.new) result }
     ensures counted { S.failure_count out.old ≤ S.failure_count out.new }
-    ensures kept { KeptAtSuccess (S.failure_count out.old) (S.failure_count out.new) result }
+    ensures told { SaysFailures (S.failure_count out.old) (S.failure_count out.new) result }
     ensures store_failed { RisenAtStoreFailed (S.failure_count out.old) (S.failure_count out.new) result }
     ensures refusals { IfErr result IsRefusal }
 {
@@ -74,7 +75,7 @@ pub fn inform<S: Sink>(
 ) -> Result<Reply, Fault>
     ensures printed { PutsPrintout (IsShownText (IsInfoOf file.now kind.now form)) (S.contents out.old) (S.contents out.new) result }
     ensures counted { S.failure_count out.old ≤ S.failure_count out.new }
-    ensures kept { KeptAtSuccess (S.failure_count out.old) (S.failure_count out.new) result }
+    ensures told { SaysFailures (S.failure_count out.old) (S.failure_count out.new) result }
     ensures store_failed { RisenAtStoreFailed (S.failure_count out.old) (S.failure_count out.new) result }
     ensures refusals { IfErr result IsRefusal }
 {
@@ -97,7 +98,7 @@ fn verdict_on(found: &[Violation]) -> Reply
 pub fn check<S: Sink>(alloc: Global, file: &[u8], out: &mut S) -> Result<Reply, Fault>
     ensures printed { PutsPrintout (IsReportText (AreViolationsOf file.now)) (S.contents out.old) (S.contents out.new) result }
     ensures counted { S.failure_count out.old ≤ S.failure_count out.new }
-    ensures kept { KeptAtSuccess (S.failure_count out.old) (S.failure_count out.new) result }
+    ensures told { SaysFailures (S.failure_count out.old) (S.failure_count out.new) result }
     ensures store_failed { RisenAtStoreFailed (S.failure_count out.old) (S.failure_count out.new) result }
     ensures refusals { IfErr result IsRefusal }
 {

@@ -1,13 +1,13 @@
 //! Runs requests on a home.
-ghost use Rattle.std.specs.Prelude.{◌≡◌, ◌⊎◌, ◌≤◌, ℕ, List, Option, Some, IfOk, IfErr, IfSome, OnOk, IsErrOf};
+ghost use Rattle.std.specs.Prelude.{◌≡◌, ◌⊎◌, ◌≤◌, ℕ, List, Option, Some, IfOk, IfErr, IfSome, IsErrOf};
 ghost use Rattle.std.specs.List.{AllByRecursion};
 ghost use Rattle.rec_text.specs.Sink.{UnlessStoreFailed};
-ghost use Rattle.rec_tools.specs.Home.{Contents, Call, Went, TellAll, left_by_all, Rose};
+ghost use Rattle.rec_tools.specs.Home.{Call, Went, HasFailed, left_by_all, Rose};
 ghost use Rattle.rec_tools.specs.Steps.{IsRefusal};
 ghost use Rattle.rec_tools.specs.Printouts.{Printed, WentOut};
 ghost use Rattle.rec_tools.specs.Requests.{listing, moving, asked_of, IsSilent, WritesNothing};
 ghost use Rattle.rec_tools.specs.Outcomes.{outcome_of, writes_of};
-ghost use Rattle.rec_tools.specs.Attempts.{AreRead, AreWritten, IsAnswered, Does, DoesAll};
+ghost use Rattle.rec_tools.specs.Attempts.{AreRead, AreWritten, IsAnswered, Attempts, AttemptsAll};
 ghost use Rattle.rec_tools.specs.Machine.{State, Stands};
 ghost use Rattle.rec_tools.specs.Guarantee.{RunsAsMachine};
 ghost use Rattle.rec_tools.specs.Changes.{asked_by};
@@ -79,10 +79,8 @@ fn make_move<H: Home>(alloc: Global, home: &mut H, direction: Direction) -> Resu
 
 /// Reads both contents, and prints the history.
 fn tell_history<H: Home, S: Sink>(alloc: Global, home: &mut H, out: &mut S) -> Result<Reply, Fault>
-    ensures attempts { (calls : List Call) × (p : Printed) × Went H.goes home.old calls home.new
-        × WentOut S.contents S.failure_count out.old out.new p
-        × ((c : Contents) × TellAll c calls)
-        × ((c : Contents) → TellAll c calls → Does c listing result calls p) }
+    ensures attempts { (calls : List Call) × (p : Printed) × WentOut S.contents S.failure_count out.old out.new p
+        × Attempts H.goes home.old home.new listing result calls p }
     ensures counted { S.failure_count out.old ≤ S.failure_count out.new }
     ensures refusals { IfErr result IsRefusal }
 {
@@ -97,10 +95,8 @@ fn attempt<H: Home, S: Sink>(
     out: &mut S,
     request: &Request,
 ) -> Result<Reply, Fault>
-    ensures attempts { (calls : List Call) × (p : Printed) × Went H.goes home.old calls home.new
-        × WentOut S.contents S.failure_count out.old out.new p
-        × ((c : Contents) × TellAll c calls)
-        × ((c : Contents) → TellAll c calls → Does c (asked_of request.now) result calls p) }
+    ensures attempts { (calls : List Call) × (p : Printed) × WentOut S.contents S.failure_count out.old out.new p
+        × Attempts H.goes home.old home.new (asked_of request.now) result calls p }
     ensures counted { S.failure_count out.old ≤ S.failure_count out.new }
     ensures refusals { IfErr result IsRefusal }
     ensures silent { IsSilent (asked_of request.now) → out.new ≡ out.old }
@@ -160,16 +156,15 @@ pub fn run<H: Home, S: Sink>(
 ) -> Result<Reply, Fault>
     // The calls of the home, one by one; what went out; and, for whatever contents the reads tell of, that both and the
     // answer are what the request comes to there.
-    ensures attempts { (calls : List Call) × (p : Printed) × Went H.goes home.old calls home.new
-        × WentOut S.contents S.failure_count out.old out.new p
-        × ((c : Contents) × TellAll c calls)
-        × ((c : Contents) → TellAll c calls → Does c (asked_of request.now) result calls p) }
+    ensures attempts { (calls : List Call) × (p : Printed) × WentOut S.contents S.failure_count out.old out.new p
+        × Attempts H.goes home.old home.new (asked_of request.now) result calls p }
     ensures counted { S.failure_count out.old ≤ S.failure_count out.new }
     ensures refusals { IfErr result IsRefusal }
     ensures silent { IsSilent (asked_of request.now) → out.new ≡ out.old }
 
-    // A success keeps the counts of failures.
-    ensures kept { OnOk result ((H.failure_count home.new ≡ H.failure_count home.old) × (S.failure_count out.new ≡ S.failure_count out.old)) }
+    // Any answer but that a store failed keeps the counts of failures.
+    ensures kept { IsErrOf result Fault.StoreFailed
+        ⊎ ((H.failure_count home.new ≡ H.failure_count home.old) × (S.failure_count out.new ≡ S.failure_count out.old)) }
 
     // A store failed only where the failures of the home or of the sink rose.
     ensures store_failed { IsErrOf result Fault.StoreFailed → Rose H.failure_count home.old home.new ⊎ Rose S.failure_count out.old out.new }
@@ -189,19 +184,18 @@ pub fn run_all<H: Home, S: Sink>(
     out: &mut S,
     requests: &[Request],
 ) -> Result<Vec<Result<Reply, Fault>>, Fault>
-    // One answer for each request, whatever fails, by its calls.
-    ensures attempts { IfOk result (λ answers. (calls : List Call) × (p : Printed) × Went H.goes home.old calls home.new
-        × WentOut S.contents S.failure_count out.old out.new p
-        × ((c : Contents) → TellAll c calls → DoesAll c requests.now answers.items calls p)) }
+    // One answer for each request, whatever fails and whoever writes between two requests, by calls of its own.
+    ensures attempts { IfOk result (λ answers.
+        (calls : List Call) × (p : Printed) × WentOut S.contents S.failure_count out.old out.new p
+        × AttemptsAll H.goes home.old home.new requests.now answers.items calls p) }
 
-    // From contents that stand for a state, while the home tells them and doesn't fail, every run of requests is a run of
-    // the history machine: its answers, what it prints, and after each request contents that stand for its state.
+    // From contents that stand for a state, while the home tells them, every run of requests none of whose calls fails is a
+    // run of the history machine: its answers, what it prints, and after each request contents that stand for its state.
     ensures guarantee { IfOk result (λ answers. IfSome (H.contents home.old) (λ c. (s : State) → Stands c s →
-        ¬ Rose H.failure_count home.old home.new →
-        (calls : List Call) × (p : Printed) × (t : State) × Went H.goes home.old calls home.new
+        (calls : List Call) × (p : Printed) × WentOut S.contents S.failure_count out.old out.new p
+        × AttemptsAll H.goes home.old home.new requests.now answers.items calls p
         × (H.contents home.new ≡ Some (left_by_all c calls))
-        × WentOut S.contents S.failure_count out.old out.new p
-        × RunsAsMachine c s requests.now answers.items calls p t)) }
+        × (¬ HasFailed calls → (t : State) × RunsAsMachine c s requests.now answers.items calls p t))) }
 
     ensures unreserved { IfErr result (λ fault. (fault ≡ Fault.OutOfMemory) × (home.new ≡ home.old) × (out.new ≡ out.old)) }
     ensures counted { S.failure_count out.old ≤ S.failure_count out.new }

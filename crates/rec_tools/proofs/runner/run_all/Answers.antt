@@ -32,7 +32,7 @@ returns-clause-attempts g c =
 
 pub returns-clause-guarantee : goal.returns-clause-guarantee
 returns-clause-guarantee g c =
-    attempted_all-runs g.H.Home.goes g.S.Sink.contents g.S.Sink.failure_count g.H.Home.contents g.H.Home.failure_count g.met.H.Home.follows g.met.H.Home.counts
+    attempted_all-runs g.H.Home.goes g.S.Sink.contents g.S.Sink.failure_count g.H.Home.contents g.met.H.Home.follows
     c.args.home.now c.loop-request.home c.args.out.now c.loop-request.out c.args.requests.now c.loop-request.answers.items
     (take_them_all c.args.requests.now c.loop-request.request-index
     (λ requests. AttemptedAll g.H.Home.goes g.S.Sink.contents g.S.Sink.failure_count c.args.home.now c.loop-request.home c.args.out.now c.loop-request.out requests c.loop-request.answers.items)

@@ -1,11 +1,14 @@
 -- The records that are filled: members of sets, each with automatic fields that it lacks.
-use Rattle.std.proofs.Common.{◌≡◌, ◌∙◌, ℕ, ℤ, suc, ◌+◌, ◌-◌, ◌<◌, true, false, not, List, [], ◌∷◌, ◌++◌, length, drop, Option, Some, None, Ok, refl, ap, sym, subst, inl, inr, arith}
-use Rattle.std.specs.Prelude.{option_map, slice_get}
-use Rattle.std.specs.List.{AllByRecursion}
+use Rattle.std.proofs.Common.{◌≡◌, ◌∙◌, ℕ, ℤ, suc, ◌+◌, ◌-◌, ◌<◌, ◌≤◌, ◌==◌, min, true, false, not, List, [], ◌∷◌, ◌++◌, length, length-drop, map, drop, Option, Some, None, Result, Ok, refl, ap, ap₂, sym, subst, inl, inr, arith}
+use Rattle.std.specs.Prelude.{◌&&◌, find, flat_map, is_some, nat_le, nat_lt, option_map, slice_get, zip, if◌then◌else◌}
+use Rattle.std.specs.List.{AllByRecursion, AllZip}
+use Rattle.std.specs.Option.{option_map_or}
 use Rattle.std.specs.declared.ops.Range.{Range}
-use Rattle.std.proofs.lemmas.Bool.{cond_both, not-true}
-use Rattle.std.proofs.lemmas.List.{length-take}
+use Rattle.std.proofs.lemmas.Bool.{and_cases, and_left, and_parts, and_right, cases_Bool, cond_both, eq-eqb, eqb-true, false≢true, leb-false, leb-true, lt-leb, ltb-false, ltb-true, ne_eqb, not-true}
+use Rattle.std.proofs.lemmas.List.{append-nil, length-take, map-append}
+use Rattle.std.proofs.lemmas.List.Concat.{flat_map-append}
 use Rattle.std.proofs.lemmas.Option.{slice_get-map, slice_get_within}
+use Rattle.rec_text.specs.declared.fault.Fault.{Fault}
 use Rattle.rec_text.specs.Canonical.{is_plain_name, is_field_name}
 use Rattle.rec_text.specs.Elements.{Piece}
 use Rattle.rec_text.specs.Records.{AreRecords, elements_in}
@@ -13,17 +16,20 @@ use Rattle.rec_text.proofs.ListLemmas.{AllByRecursion-weaker, slice_get-drop, sl
 use Rattle.rec_text.proofs.RecordLemmas.{one_list_of_records}
 use Rattle.rec_check.specs.declared.set.Set_.{Set_}
 use Rattle.rec_check.specs.Automatic.{automatic_names, readings, IsNext}
-use Rattle.rec_check.specs.Descriptors.{type_of, types_of}
+use Rattle.rec_check.specs.Descriptors.{holds_index, type_of, types_of}
 use Rattle.rec_check.specs.Rules.{Rules}
-use Rattle.rec_check.specs.Schemas.{Described, IsSchema}
+use Rattle.rec_check.specs.Schemas.{Described, IsRuled, IsSchema}
+use Rattle.rec_check.specs.Sets.{AreFrom, BeginsAt}
 use Rattle.rec_check.specs.Violations.{members, names_of}
 use Rattle.rec_check.specs.Words.{is_among}
 use Rattle.rec_edit.specs.Insertions.{Numbered, Filled}
-use Rattle.rec_edit.specs.Automatic.{AreFilled, AreFilledSets, lacking, numbers_in}
+use Rattle.rec_edit.specs.Automatic.{AreFilled, AreFilledSets, AreNumbered, lacking, numbers_in}
+use Rattle.rec_edit.specs.Effect.{automatic_at}
 use Rattle.rec_edit.proofs.AutomaticNameLemmas.{GivesFields, IsFieldName, automatic_are_fields, counter_is_plain, numbered_all}
 use Rattle.rec_edit.proofs.EffectLemmas.{ok_same}
 use Rattle.rec_edit.proofs.LaidLemmas.{all_append}
-use Rattle.rec_edit.proofs.MemberLemmas.{NameNothing, all_plain}
+use Rattle.rec_edit.proofs.MemberLemmas.{Named, NameNothing, all_plain}
+use Rattle.rec_edit.proofs.SetPlaceLemmas.{set_with}
 
 -- ---- lists
 
@@ -33,6 +39,9 @@ all_from P (x ∷ xs) each = (each 0 x refl, all_from P xs (λ i y at. each (suc
 
 some_same : {X : Type 0} (x y : X) → ◌≡◌ {A = Option X} (Some x) (Some y) → x ≡ y
 some_same x y e = cc
+
+abbrev some_range : (q r : Range ℕ) → ◌≡◌ {A = Option (Range ℕ)} (Some q) (Some r) → q ≡ r
+some_range q r e = some_same q r e
 
 -- ---- names that a record lacks
 
@@ -112,3 +121,158 @@ auto_fill_fills pieces schema records filled is are found =
     let all = AllByRecursion-weaker (λ s. NameNothing (types_of pieces records) s.members) (λ s. AllByRecursion (IsMember pieces records) (members records s)) (all_members pieces records) schema.sets
     (subst (λ rs. AllByRecursion (λ s. NameNothing (types_of pieces rs) s.members) schema.sets) same plain) in
     are_filled_sets pieces records schema.sets schema.rules filled all (automatic_are_fields pieces schema is) found
+
+-- ---- what the record that begins at an element is given
+
+abbrev pub given_at : List Filled → ℕ → List Numbered
+given_at filled i = flat_map (λ one. if one.range.start == i then one.given else []) filled
+
+names-numbered : (next : List ℕ → Result ℤ Fault → Type 0) (names : List (List ℕ)) (given : List Numbered) → AreNumbered next names (Ok given) → map (λ one. one.name) given ≡ names
+names-numbered next [] given are = ap (λ (g : List Numbered). map (λ one. one.name) g) (ok_same given [] are)
+names-numbered next (name ∷ names) given (inl (fault, refused, e)) = absurd (cc)
+names-numbered next (name ∷ names) given (inr (number, found, inl (fault, refused, e))) = absurd (cc)
+names-numbered next (name ∷ names) given (inr (number, found, inr (more, are, same))) =
+    ap (λ (g : List Numbered). map (λ one. one.name) g) (ok_same given (record { name = name; number = number } ∷ more) same)
+    ∙ ap (λ rest. name ∷ rest) (names-numbered next names more are)
+
+-- the automatic names of the record of this index, by its typed set
+abbrev named_at : List Set_ → List Rules → ℕ → List (List ℕ)
+named_at sets rules i = option_map_or (λ (s, rules). automatic_names rules) (find (λ (s, rules). is_some s.kind && holds_index i s.members) (zip sets rules)) []
+
+begins_low : (at : ℕ) (kind : Named) (head : Option ℕ) (members : Range ℕ) → BeginsAt at (set_with kind head members) → at ≤ members.start
+begins_low at None head members begins = omega (arith, begins.1.1)
+begins_low at (Some kind) head members begins = omega (arith, begins.1.1)
+
+-- the sets from an index on have no record before it
+named_at-before : (j at : ℕ) (sets : List Set_) (rules : List Rules) → AreFrom at sets → j < at → named_at sets rules j ≡ []
+named_at-before j at [] rules from below = refl
+named_at-before j at (s ∷ sets) [] from below = refl
+named_at-before j at (s ∷ sets) (asked ∷ rules) from below =
+    let low : at ≤ s.members.start = begins_low at s.kind s.head s.members from.0 in
+    let starts : nat_le s.members.start j ≡ false = lt-leb s.members.start j (omega arith) in
+    let outside : (is_some s.kind && holds_index j s.members) ≡ false =
+    and_right (is_some s.kind) (holds_index j s.members) (and_left (nat_le s.members.start j) (nat_lt j s.members.end) starts) in
+    rw outside (named_at-before j s.members.end sets rules from.1 (omega (arith, from.0.0)))
+
+module _ (pieces : List Piece) (records : List (Range ℕ)) where
+  -- of a member of the set; the untyped set has no automatic name
+  named_at-member : (j at : ℕ) (kind : Named) (head : Option ℕ) (members : Range ℕ) (sets : List Set_) (asked : Rules) (rules : List Rules) → BeginsAt at (set_with kind head members)
+      → AreFrom members.end sets → IsRuled pieces records (set_with kind head members) asked → holds_index j members ≡ true
+      → named_at (set_with kind head members ∷ sets) (asked ∷ rules) j ≡ automatic_names asked
+  named_at-member j at None None members sets asked rules begins from ruled holds =
+      let below : j < members.end = ltb-true j members.end (and_parts (nat_le members.start j) (nat_lt j members.end) holds).1 in
+      named_at-before j members.end sets rules from below ∙ sym (ap automatic_names ruled)
+  named_at-member j at None (Some head) members sets asked rules begins from ruled holds = let none = begins.1.0 in absurd (cc)
+  named_at-member j at (Some kind) head members sets asked rules begins from ruled holds = rw holds refl
+
+  module _ (once : (i j : ℕ) (q r : Range ℕ) → slice_get records i ≡ Some q → slice_get records j ≡ Some r → q.start ≡ r.start → i ≡ j)
+      (j : ℕ) (r : Range ℕ) (there : slice_get records j ≡ Some r) where
+    -- these are the records from an index on
+    abbrev StandFrom : ℕ → List (Range ℕ) → Type 0
+    StandFrom b ranges = (k : ℕ) (q : Range ℕ) → slice_get ranges k ≡ Some q → slice_get records (b + k) ≡ Some q
+
+    stand_later : (b : ℕ) (q : Range ℕ) (ranges : List (Range ℕ)) → StandFrom b (q ∷ ranges) → StandFrom (b + 1) ranges
+    stand_later b q ranges stand k p at = let next : b + 1 + k ≡ b + suc k = omega arith in ap (slice_get records) next ∙ stand (suc k) p at
+
+    stand_first : (b : ℕ) (q : Range ℕ) (ranges : List (Range ℕ)) → StandFrom b (q ∷ ranges) → slice_get records b ≡ Some q
+    stand_first b q ranges stand = let first : b ≡ b + 0 = omega arith in ap (slice_get records) first ∙ stand 0 q refl
+
+    range_is : (b : ℕ) (q : Range ℕ) → slice_get records b ≡ Some q → b ≡ j → q ≡ r
+    range_is b q at same = some_range q r (sym at ∙ ap (slice_get records) same ∙ there)
+
+    -- the record isn't one of these
+    given_at-others : (rules : Rules) (numbers : List ℕ → List ℤ) (b : ℕ) (ranges : List (Range ℕ)) (filled : List Filled) → StandFrom b ranges
+        → AreFilled pieces rules numbers ranges (Ok filled) → ((k : ℕ) → b ≤ k → k < b + length ranges → k ≡ j → ⊥) → given_at filled r.start ≡ []
+    given_at-others rules numbers b [] filled stand are outside = ap (λ f. given_at f r.start) (ok_same filled [] are)
+    given_at-others rules numbers b (q ∷ ranges) filled stand (inl (fault, refused, e)) outside = absurd (cc)
+    given_at-others rules numbers b (q ∷ ranges) filled stand (inr (given, found, inl (fault, refused, e))) outside = absurd (cc)
+    given_at-others rules numbers b (q ∷ ranges) filled stand (inr (given, found, inr (more, are, same))) outside =
+        let other : (q.start == r.start) ≡ false = ne_eqb q.start r.start (λ e. outside b (omega arith) (omega arith) (once b j q r (stand_first b q ranges stand) there e)) in
+        ap (λ f. given_at f r.start) (ok_same filled (record { range = q; given = given } ∷ more) same)
+        ∙ rw other (given_at-others rules (λ name. numbers_in given name ++ numbers name) (b + 1) ranges more (stand_later b q ranges stand) are
+        (λ k low high. outside k (omega arith) (omega arith)))
+
+    -- the record is one of these
+    names-given_at : (rules : Rules) (numbers : List ℕ → List ℤ) (b : ℕ) (ranges : List (Range ℕ)) (filled : List Filled) → StandFrom b ranges
+        → AreFilled pieces rules numbers ranges (Ok filled) → b ≤ j → j < b + length ranges
+        → map (λ one. one.name) (given_at filled r.start) ≡ lacking (automatic_names rules) (names_of (elements_in pieces r))
+    names-given_at rules numbers b [] filled stand are low high = absurd (omega arith)
+    names-given_at rules numbers b (q ∷ ranges) filled stand (inl (fault, refused, e)) low high = absurd (cc)
+    names-given_at rules numbers b (q ∷ ranges) filled stand (inr (given, found, inl (fault, refused, e))) low high = absurd (cc)
+    names-given_at rules numbers b (q ∷ ranges) filled stand (inr (given, found, inr (more, are, same))) low high =
+        let at : slice_get records b ≡ Some q = stand_first b q ranges stand in
+        let later : List ℕ → List ℤ = λ name. numbers_in given name ++ numbers name in
+        let names : List Numbered → List (List ℕ) = λ given. map (λ one. one.name) given in
+        let lacks : Range ℕ → List (List ℕ) = λ range. lacking (automatic_names rules) (names_of (elements_in pieces range)) in
+        ap (λ f. names (given_at f r.start)) (ok_same filled (record { range = q; given = given } ∷ more) same)
+        ∙ elim (cases_Bool (q.start == r.start)) [
+          | inl here ↦
+              let place : b ≡ j = once b j q r at there (eqb-true q.start r.start here) in
+              let none : given_at more r.start ≡ [] =
+              given_at-others rules later (b + 1) ranges more (stand_later b q ranges stand) are (λ k low high same. omega arith) in
+              rw here (ap (λ l. names (given ++ l)) none ∙ ap names (append-nil given)
+              ∙ names-numbered (λ name. IsNext rules name (numbers name)) (lacks q) given found ∙ ap lacks (range_is b q at place))
+          | inr other ↦
+              let past : b ≡ j → ⊥ = λ place. false≢true (sym other ∙ eq-eqb q.start r.start (ap (λ (range : Range ℕ). range.start) (range_is b q at place))) in
+              rw other (names-given_at rules later (b + 1) ranges more (stand_later b q ranges stand) are (omega (arith, past)) (omega arith))
+        ]
+
+    members_stand : (s : Set_) → StandFrom s.members.start (members records s)
+    members_stand s k q at =
+        let start : ℕ = s.members.start in
+        let count : ℕ = s.members.end - start in
+        let below : k < length (members records s) = slice_get_within (members records s) k q at in
+        let within : k < count = omega (arith, length-take count (drop start records)) in
+        sym (slice_get-drop start k records) ∙ sym (slice_get-take count k (drop start records) within) ∙ at
+
+    -- the record is given a field of each automatic name of its set that it lacks
+    names-given_in_sets : (at : ℕ) (sets : List Set_) (rules : List Rules) (filled : List Filled) → AreFrom at sets → AllZip (IsRuled pieces records) sets rules
+        → AreFilledSets pieces records sets rules (Ok filled)
+        → map (λ one. one.name) (given_at filled r.start) ≡ lacking (named_at sets rules j) (names_of (elements_in pieces r))
+    names-given_in_sets at [] [] filled from ruled are = ap (λ f. map (λ (one : Numbered). one.name) (given_at f r.start)) (ok_same filled [] are)
+    names-given_in_sets at [] (asked ∷ rules) filled from ruled are = absurd are
+    names-given_in_sets at (s ∷ sets) [] filled from ruled are = absurd are
+    names-given_in_sets at (s ∷ sets) (asked ∷ rules) filled from ruled (inl (fault, refused, e)) = absurd (cc)
+    names-given_in_sets at (s ∷ sets) (asked ∷ rules) filled from ruled (inr (own, found, inl (fault, refused, e))) = absurd (cc)
+    names-given_in_sets at (s ∷ sets) (asked ∷ rules) filled from ruled (inr (own, found, inr (more, are, same))) =
+        let names : List Numbered → List (List ℕ) = λ given. map (λ one. one.name) given in
+        let lacks : List (List ℕ) → List (List ℕ) = λ automatic. lacking automatic (names_of (elements_in pieces r)) in
+        let count : ℕ = s.members.end - s.members.start in
+        let size : length (members records s) ≡ min count (length (drop s.members.start records)) = length-take count (drop s.members.start records) in
+        let left : length (drop s.members.start records) ≡ length records - s.members.start = length-drop s.members.start records in
+        let within : j < length records = slice_get_within records j r there in
+        let rest : names (given_at more r.start) ≡ lacks (named_at sets rules j) = names-given_in_sets s.members.end sets rules more from.1 ruled.1 are in
+        let stand = members_stand s in
+        let numbers = readings pieces (members records s) in
+        ap (λ f. names (given_at f r.start)) (ok_same filled (own ++ more) same)
+        ∙ ap names (flat_map-append (λ (one : Filled). if one.range.start == r.start then one.given else []) own more)
+        ∙ map-append (λ (one : Numbered). one.name) (given_at own r.start) (given_at more r.start)
+        ∙ elim (cases_Bool (holds_index j s.members)) [
+          | inl holds ↦
+              let parts = and_parts (nat_le s.members.start j) (nat_lt j s.members.end) holds in
+              let low : s.members.start ≤ j = leb-true s.members.start j parts.0 in
+              let high : j < s.members.end = ltb-true j s.members.end parts.1 in
+              ap₂ (λ a b. a ++ b) (names-given_at asked numbers s.members.start (members records s) own stand found low (omega arith))
+              (rest ∙ ap lacks (named_at-before j s.members.end sets rules from.1 high))
+              ∙ append-nil (lacks (automatic_names asked))
+              ∙ sym (ap lacks (named_at-member j at s.kind s.head s.members sets asked rules from.0 from.1 ruled.0 holds))
+          | inr outside ↦
+              let not_there : (k : ℕ) → s.members.start ≤ k → k < s.members.start + length (members records s) → k ≡ j → ⊥ =
+              λ k low high same. elim (and_cases (nat_le s.members.start j) (nat_lt j s.members.end) outside) [
+                | inl below ↦ let early : j < s.members.start = leb-false s.members.start j below in omega arith
+                | inr past ↦ let late : s.members.end ≤ j = ltb-false j s.members.end past in omega (arith, from.0.0)
+              ] in
+              let other : (is_some s.kind && holds_index j s.members) ≡ false = and_right (is_some s.kind) (holds_index j s.members) outside in
+              let none = given_at-others asked numbers s.members.start (members records s) own stand found not_there in
+              ap (λ l. names l ++ names (given_at more r.start)) none ∙ rest ∙ (rw other refl)
+        ]
+
+-- each record is given a field of each automatic name of its set that it lacks, and of no other name
+pub names-given : (pieces : List Piece) (schema : Described) (records : List (Range ℕ)) (filled : List Filled) → IsSchema pieces (Ok schema) → AreRecords pieces records
+    → ((i j : ℕ) (q r : Range ℕ) → slice_get records i ≡ Some q → slice_get records j ≡ Some r → q.start ≡ r.start → i ≡ j)
+    → AreFilledSets pieces records schema.sets schema.rules (Ok filled) → (j : ℕ) (r : Range ℕ) → slice_get records j ≡ Some r
+    → map (λ one. one.name) (given_at filled r.start) ≡ lacking (automatic_at schema j) (names_of (elements_in pieces r))
+names-given pieces schema records filled is are once found j r there =
+    let same : is.records ≡ records = one_list_of_records pieces is.records records is.are are in
+    let ruled = subst (λ rs. AllZip (IsRuled pieces rs) schema.sets schema.rules) same is.rules in
+    names-given_in_sets pieces records once j r there 0 schema.sets schema.rules filled is.sets.places ruled found

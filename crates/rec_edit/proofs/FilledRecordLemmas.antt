@@ -1,22 +1,21 @@
 -- Fields are put before records: the records of the new elements are those of the old ones, each behind what is put before it.
 use Rattle.std.proofs.Common.{◌≡◌, ◌∙◌, ◌⊎◌, ℕ, suc, ◌+◌, ◌<◌, ◌≤◌, Bool, true, false, List, [], ◌∷◌, ◌++◌, length, map, take, drop, filter, Option, Some, None, refl, ap, ap₂, sym, subst, inl, inr, arith}
-use Rattle.std.specs.Prelude.{is_some, if◌then◌else◌}
-use Rattle.std.specs.List.{AllByRecursion, AllZip, list_any}
+use Rattle.std.specs.Prelude.{is_some, slice_get, if◌then◌else◌}
+use Rattle.std.specs.List.{AllByRecursion, AllZip, enumerate_from, list_any}
 use Rattle.std.specs.declared.ops.Range.{Range}
 use Rattle.std.proofs.lemmas.Bool.{cases_Bool, false≢true, or_from}
 use Rattle.std.proofs.lemmas.List.{append_assoc, append-nil}
-use Rattle.std.proofs.lemmas.List.Elements.{All-from_recursion}
 use Rattle.rec_text.specs.declared.element.Kind.{Kind}
 use Rattle.rec_text.specs.declared.element.Kind.TheVariants.{Blank, Comment, Field}
-use Rattle.rec_text.specs.Elements.{Piece, IsElement, name_of}
+use Rattle.rec_text.specs.Elements.{Piece, IsElement}
 use Rattle.rec_text.specs.Records.{AreRecords, elements_in, is_blank_piece, is_field_piece}
 use Rattle.rec_text.proofs.ListLemmas.{AllByRecursion-weaker}
 use Rattle.rec_check.specs.Descriptors.{type_of}
 use Rattle.rec_check.specs.Violations.{names_of}
-use Rattle.rec_check.specs.Words.{is_among}
-use Rattle.rec_edit.specs.Effect.{IsFilledUp, entries_from, kind_behind}
+use Rattle.rec_edit.specs.Automatic.{lacking}
+use Rattle.rec_edit.specs.Effect.{Entry, IsFilledUp, entries_from, kind_behind}
 use Rattle.rec_edit.specs.Script.{closed, new_pieces, parts_from, script_of}
-use Rattle.rec_edit.specs.Insertions.{Filled, filling}
+use Rattle.rec_edit.specs.Insertions.{Filled, Numbered, filling, numbered_fields}
 use Rattle.rec_edit.proofs.ClosedLemmas.{name_of-closed}
 use Rattle.rec_edit.proofs.EffectLemmas.{closed_owns, elements_part, type_of-closed}
 use Rattle.rec_edit.proofs.FieldsLaidLemmas.{IsOther}
@@ -192,30 +191,42 @@ module _ (pieces : List Piece) (put : ℕ → List Piece) (all : AllByRecursion 
   same_type r are =
       type_of-behind (put r.start) (map closed (elements_in pieces r)) (AllByRecursion-weaker (IsPut pieces r) IsOther (λ piece is. is.other) (put r.start) are)
 
-  filled_up : (kind : Option (List ℕ)) (r : Range ℕ) → IsPutBefore pieces put r
-      → IsFilledUp (record { kind = kind_behind kind (map closed (elements_in pieces r)); own = map closed (elements_in pieces r) }) (record { kind = kind_behind kind (filled_own pieces put r); own = filled_own pieces put r })
-  filled_up kind r are =
-      let own : List Piece = map closed (elements_in pieces r) in
-      let names : names_of own ≡ names_of (elements_in pieces r) = names_of-closed (elements_in pieces r) (elements_part pieces r all) in
-      let Lacked : Piece → Type 0 = λ piece. (is_field_piece piece ≡ true) × (is_among (names_of own) (name_of piece) ≡ false) in
-      record {
-        same_kind = ap (λ o. elim o as (λ x. Option (List ℕ)) [ None ↦ kind | Some named ↦ Some named ]) (same_type r are);
-        front = put r.start;
-        own = refl;
-        lacked = All-from_recursion Lacked (put r.start)
-            (AllByRecursion-weaker (IsPut pieces r) Lacked (λ piece is. (is.field, ap (λ ns. is_among ns (name_of piece)) names ∙ is.lacked)) (put r.start) are);
-      }
+  kind_is : (kind : Option (List ℕ)) (r : Range ℕ) → IsPutBefore pieces put r → kind_behind kind (filled_own pieces put r) ≡ kind_behind kind (map closed (elements_in pieces r))
+  kind_is kind r are = ap (λ o. elim o as (λ x. Option (List ℕ)) [ None ↦ kind | Some named ↦ Some named ]) (same_type r are)
 
-  pub filled_entries : (kind : Option (List ℕ)) (ranges : List (Range ℕ)) → AllByRecursion (IsPutBefore pieces put) ranges
-      → AllZip IsFilledUp (entries_from kind (closed_owns pieces ranges)) (entries_from kind (map (filled_own pieces put) ranges))
-  filled_entries kind [] are = tt
-  filled_entries kind (r ∷ ranges) are =
-      let own : List Piece = map closed (elements_in pieces r) in
-      let first = filled_up kind r are.0 in (
-        first,
-        subst (λ k. AllZip IsFilledUp (entries_from (kind_behind kind own) (closed_owns pieces ranges)) (entries_from k (map (filled_own pieces put) ranges))) (sym first.same_kind)
-            (filled_entries (kind_behind kind own) ranges are.1),
-      )
+  module _ (automatic : ℕ → List (List ℕ)) where
+    -- before the record of an index stand fields of the automatic names that it lacks
+    pub record IsGivenTo (i : ℕ) (r : Range ℕ) : Type 0 where
+      pub given : List Numbered
+      pub are_put : put r.start ≡ numbered_fields given
+      pub names : map (λ one. one.name) given ≡ lacking (automatic i) (names_of (elements_in pieces r))
+
+    filled_up : (kind : Option (List ℕ)) (i : ℕ) (r : Range ℕ) → IsPutBefore pieces put r → IsGivenTo i r
+        → IsFilledUp (automatic i) (record { kind = kind_behind kind (map closed (elements_in pieces r)); own = map closed (elements_in pieces r) })
+        (record { kind = kind_behind kind (filled_own pieces put r); own = filled_own pieces put r })
+    filled_up kind i r are gives =
+        let own : List Piece = map closed (elements_in pieces r) in
+        let entry : Option (List ℕ) → List Piece → Entry = λ k front. record { kind = k; own = front ++ own } in
+        record {
+          given = gives.given;
+          names = gives.names ∙ ap (lacking (automatic i)) (sym (names_of-closed (elements_in pieces r) (elements_part pieces r all)));
+          is = ap₂ entry (kind_is kind r are) gives.are_put;
+        }
+
+    pub filled_entries : (kind : Option (List ℕ)) (i : ℕ) (ranges : List (Range ℕ)) → AllByRecursion (IsPutBefore pieces put) ranges
+        → ((k : ℕ) (r : Range ℕ) → slice_get ranges k ≡ Some r → IsGivenTo (i + k) r)
+        → AllZip (λ (i, entry) filled. IsFilledUp (automatic i) entry filled) (enumerate_from i (entries_from kind (closed_owns pieces ranges)))
+        (entries_from kind (map (filled_own pieces put) ranges))
+    filled_entries kind i [] are gives = tt
+    filled_entries kind i (r ∷ ranges) are gives =
+        let own : List Piece = map closed (elements_in pieces r) in
+        let zeroth : i + 0 ≡ i = omega arith in (
+          filled_up kind i r are.0 (subst (λ n. IsGivenTo n r) zeroth (gives 0 r refl)),
+          subst (λ k. AllZip (λ (i, entry) filled. IsFilledUp (automatic i) entry filled) (enumerate_from (i + 1) (entries_from (kind_behind kind own) (closed_owns pieces ranges)))
+              (entries_from k (map (filled_own pieces put) ranges))) (sym (kind_is kind r are.0))
+              (filled_entries (kind_behind kind own) (i + 1) ranges are.1
+              (λ k q at. let next : i + suc k ≡ i + 1 + k = omega arith in subst (λ n. IsGivenTo n q) next (gives (suc k) q at))),
+        )
 
   -- the descriptors stay
   abbrev pub typed : List (List Piece) → List (List Piece)

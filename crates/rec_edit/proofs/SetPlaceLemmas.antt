@@ -35,7 +35,7 @@ pub record IsSetOf (kind : Named) (at : ℕ) (first : Named) (types : List Named
   pub last : last_of s ≡ Some (s.members.end - 1)
   pub behind : type_behind first (take (s.members.end - at) types) ≡ kind
 
-abbrev set_with : Named → Option ℕ → Range ℕ → Set_
+abbrev pub set_with : Named → Option ℕ → Range ℕ → Set_
 set_with kind head members = record { kind = kind; head = head; members = members }
 
 -- the types up to the end of the set

@@ -1,5 +1,5 @@
 -- Records of no type: they are all of those of a text with one set, and an edit that puts no descriptor in leaves none else.
-use Rattle.std.proofs.Common.{◌≡◌, ◌∙◌, ℕ, zero, suc, ◌+◌, ◌-◌, Bool, true, false, ◌==◌, List, [], ◌∷◌, ◌++◌, Option, Some, None, length, map, take, drop, refl, sym, subst, arith}
+use Rattle.std.proofs.Common.{◌≡◌, ◌∙◌, ℕ, zero, suc, ◌+◌, ◌-◌, Bool, true, false, ◌==◌, List, [], ◌∷◌, ◌++◌, Option, Some, None, length, map, take, drop, refl, ap, sym, subst, arith}
 use Rattle.std.specs.Prelude.{filter_map, flat_map, replicate, is_some, slice_get, if◌then◌else◌}
 use Rattle.std.specs.List.{AllByRecursion, AllZip, list_any, enumerate_from, cons_option}
 use Rattle.std.specs.Option.{option_map_or}
@@ -15,7 +15,7 @@ use Rattle.rec_check.specs.Schemas.{Described, IsDescribed}
 use Rattle.rec_check.specs.Sets.{AreSets, IsUntypedFirst, named_in}
 use Rattle.rec_edit.specs.Task.{Task, insert, replace, delete, comment_out, set, auto_fill}
 use Rattle.rec_edit.specs.Script.{closed}
-use Rattle.rec_edit.specs.Effect.{AreEntries, Entry, IsFilledUp, Leads, between_fields, entries_from, entry_of, kind_behind, put_at, remade, with_fields}
+use Rattle.rec_edit.specs.Effect.{AreEntries, Entry, IsFilledUp, Leads, automatic_at, between_fields, entries_from, entry_of, kind_behind, put_at, remade, with_fields}
 use Rattle.rec_edit.specs.Insertions.{numbered_fields}
 use Rattle.rec_edit.specs.Outcome.{PutsNoDescriptorIn}
 use Rattle.rec_edit.specs.Rules.{fields_of}
@@ -143,11 +143,13 @@ put_in_set_untyped : (found : Option Set_) (own : List Piece) (entries : List En
 put_in_set_untyped None own entries untyped = untyped
 put_in_set_untyped (Some s) own entries untyped = put_at_untyped s.members.end own entries untyped
 
-filled_untyped : (before after : List Entry) → AllZip IsFilledUp before after → AreUntyped before → AreUntyped after
-filled_untyped [] [] filled untyped = tt
-filled_untyped [] (after ∷ afters) filled untyped = absurd filled
-filled_untyped (before ∷ befores) [] filled untyped = absurd filled
-filled_untyped (before ∷ befores) (after ∷ afters) filled untyped = (filled.0.same_kind ∙ untyped.0, filled_untyped befores afters filled.1 untyped.1)
+filled_untyped : (automatic : ℕ → List (List ℕ)) (i : ℕ) (before after : List Entry)
+    → AllZip (λ (i, entry) filled. IsFilledUp (automatic i) entry filled) (enumerate_from i before) after → AreUntyped before → AreUntyped after
+filled_untyped automatic i [] [] filled untyped = tt
+filled_untyped automatic i [] (after ∷ afters) filled untyped = absurd filled
+filled_untyped automatic i (before ∷ befores) [] filled untyped = absurd filled
+filled_untyped automatic i (before ∷ befores) (after ∷ afters) filled untyped =
+    (ap (λ (entry : Entry). entry.kind) filled.0.is ∙ untyped.0, filled_untyped automatic (i + 1) befores afters filled.1 untyped.1)
 
 -- records of no type stay such, and a new one is one of them
 pub leads_untyped : (pieces : List Piece) (schema : Described) (task : Task) (before after : List Entry) → PutsNoDescriptorIn task → Leads pieces schema task before after
@@ -159,4 +161,4 @@ leads_untyped pieces schema (replace wanted fresh) before after puts (selected, 
 leads_untyped pieces schema (delete wanted) before after puts (selected, are, same) untyped = remade_untyped selected (λ own. []) before after same untyped
 leads_untyped pieces schema (comment_out wanted) before after puts (selected, are, same) untyped = remade_untyped selected (λ own. []) before after same untyped
 leads_untyped pieces schema (set wanted list action) before after puts (selected, items, are, are_items, same) untyped = remade_untyped selected (with_fields action items) before after same untyped
-leads_untyped pieces schema auto_fill before after puts leads untyped = filled_untyped before after leads untyped
+leads_untyped pieces schema auto_fill before after puts leads untyped = filled_untyped (automatic_at schema) 0 before after leads untyped

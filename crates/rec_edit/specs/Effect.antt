@@ -1,18 +1,18 @@
 -- What an edit means for the records of a text, whatever stands between them.
-use Rattle.std.specs.Prelude.{◌≡◌, ◌==◌, ℕ, true, false, List, [], ◌∷◌, ◌++◌, All, map, take, drop, reverse, flat_map, filter_map, find, slice_get, Option, Some, None, Ok, if◌then◌else◌}
+use Rattle.std.specs.Prelude.{◌≡◌, ◌==◌, ◌&&◌, ℕ, List, [], ◌∷◌, ◌++◌, map, take, drop, reverse, flat_map, filter_map, find, is_some, slice_get, zip, Option, Some, None, Ok, if◌then◌else◌}
 use Rattle.std.specs.List.{AllZip, list_any, enumerate_from}
 use Rattle.std.specs.Option.{option_map_or}
 use Rattle.std.specs.declared.ops.Range.{Range}
-use Rattle.rec_text.specs.Elements.{Piece, AreElementsOf, name_of}
+use Rattle.rec_text.specs.Elements.{Piece, AreElementsOf}
 use Rattle.rec_text.specs.Records.{AreRecords, elements_in, is_field_piece}
 use Rattle.rec_sex.specs.declared.field_list.Item.{Item}
 use Rattle.rec_sex.specs.Lists.{picks}
 use Rattle.rec_check.specs.declared.set.Set_.{Set_}
-use Rattle.rec_check.specs.Descriptors.{rec_name, type_of}
+use Rattle.rec_check.specs.Automatic.{automatic_names}
+use Rattle.rec_check.specs.Descriptors.{rec_name, holds_index, type_of}
 use Rattle.rec_check.specs.Schemas.{Described}
 use Rattle.rec_check.specs.Sets.{is_of_type}
 use Rattle.rec_check.specs.Violations.{names_of}
-use Rattle.rec_check.specs.Words.{is_among}
 use Rattle.rec_select.specs.Selection.{IsSelection}
 use Rattle.rec_edit.specs.declared.request.Action.{Action}
 use Rattle.rec_edit.specs.Task.{Pair, Wanted, Task, insert, replace, delete, comment_out, set, auto_fill}
@@ -20,7 +20,7 @@ use Rattle.rec_edit.specs.Script.{closed}
 use Rattle.rec_edit.specs.Rules.{canonical, fields_of, picked_becomes, added}
 use Rattle.rec_edit.specs.Insertions.{Numbered, numbered_fields}
 use Rattle.rec_edit.specs.Wording.{AreItemsFor, IsNewRecord}
-use Rattle.rec_edit.specs.Automatic.{AreAutomatic}
+use Rattle.rec_edit.specs.Automatic.{AreAutomatic, lacking}
 
 -- ---- the records of a text
 
@@ -81,12 +81,19 @@ with_new sets (Some kind) own entries = option_map_or
     (find (is_of_type kind) sets)
     (entries ++ record { kind = Some kind; own = canonical rec_name kind ∷ [] } ∷ record { kind = Some kind; own = own } ∷ [])
 
--- fields stand in front of the record's own, none of a name that it has
-pub record IsFilledUp (entry filled : Entry) : Type 0 where
-  pub same_kind : filled.kind ≡ entry.kind
-  pub front : List Piece
-  pub own : filled.own ≡ front ++ entry.own
-  pub lacked : All (λ piece. (is_field_piece piece ≡ true) × (is_among (names_of entry.own) (name_of piece) ≡ false)) front
+-- ---- automatic filling
+
+-- the automatic names of the typed set of which the record of this index is a member; a descriptor, and a record of no
+-- type, have none
+abbrev pub automatic_at : Described → ℕ → List (List ℕ)
+automatic_at schema i = option_map_or (λ (s, rules). automatic_names rules)
+    (find (λ (s, rules). is_some s.kind && holds_index i s.members) (zip schema.sets schema.rules)) []
+
+-- first in the record stands a field for each of these names that it lacks, in their order; it stays as it is in all else
+pub record IsFilledUp (automatic : List (List ℕ)) (entry filled : Entry) : Type 0 where
+  pub given : List Numbered
+  pub names : map (λ one. one.name) given ≡ lacking automatic (names_of entry.own)
+  pub is : filled ≡ record entry { own = numbered_fields given ++ entry.own }
 
 -- ---- the effect
 
@@ -107,7 +114,8 @@ Leads pieces schema (comment_out wanted) before after = (selected : List ℕ) ×
     × (after ≡ remade selected (λ own. []) before)
 Leads pieces schema (set wanted list action) before after = (selected : List ℕ) × (items : List Item) × AreIndexesOf pieces schema wanted selected
     × AreItemsFor action list (Ok items) × (after ≡ remade selected (with_fields action items) before)
-Leads pieces schema auto_fill before after = AllZip IsFilledUp before after
+Leads pieces schema auto_fill before after =
+    AllZip (λ (i, entry) filled. IsFilledUp (automatic_at schema i) entry filled) (enumerate_from 0 before) after
 
 -- the records of the two texts
 pub record HasEffect (pieces : List Piece) (schema : Described) (task : Task) (text : List ℕ) : Type 0 where

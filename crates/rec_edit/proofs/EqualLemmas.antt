@@ -103,13 +103,13 @@ pub record PutsFew (layout : Layout) : Type 0 where
   pub put : (k : ℕ) → layout.put k ≡ []
   pub becomes : (k : ℕ) (piece : Piece) → length (layout.becomes k piece) ≤ 1
 
-length-opened : (pieces : List Piece) → length (opened pieces) ≡ length pieces
+pub length-opened : (pieces : List Piece) → length (opened pieces) ≡ length pieces
 length-opened [] = refl
 length-opened (piece ∷ []) = refl
 length-opened (piece ∷ next ∷ pieces) = ap suc (length-opened (next ∷ pieces))
 
 -- what holds of the sizes of each part holds of them without a newline too
-settled-all : (P : Part → Type 0) → ((part : Part) → P part → P (record { old = part.old; new = opened part.new }))
+pub settled-all : (P : Part → Type 0) → ((part : Part) → P part → P (record { old = part.old; new = opened part.new }))
     → (parts : List Part) → AllByRecursion P parts → AllByRecursion P (settled parts)
 settled-all P without [] all = tt
 settled-all P without (part ∷ []) all =

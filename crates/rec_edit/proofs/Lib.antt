@@ -59,6 +59,7 @@ pub mod FillingLemmas
 pub mod FilledRecordLemmas
 pub mod AutoFillLemmas
 pub mod EveryKindLemmas
+pub mod HunkLemmas
 pub mod UntypedLemmas
 pub mod UnruledLemmas
 pub mod TieLemmas

@@ -1,5 +1,5 @@
 -- The outcome of an edit: its first refusal in their order, or its script and how many records it changes.
-use Rattle.std.specs.Prelude.{◌≡◌, ◌≢◌, ℕ, Bool, true, false, not, List, [], ◌∷◌, ◌++◌, length, map, flat_map, filter_map, count_by, slice_get, Option, None, Result, Ok, Err, if◌then◌else◌}
+use Rattle.std.specs.Prelude.{◌≡◌, ◌≢◌, ◌≤◌, ℕ, Bool, true, false, not, List, [], ◌∷◌, ◌++◌, length, map, flat_map, filter_map, count_by, slice_get, Option, None, Result, Ok, Err, if◌then◌else◌}
 use Rattle.std.specs.List.{enumerate_from}
 use Rattle.std.specs.Str.{bytes_eq}
 use Rattle.std.specs.declared.ops.Range.{Range}
@@ -12,10 +12,15 @@ use Rattle.rec_text.specs.Steps.{Then}
 use Rattle.rec_check.specs.declared.set.Set_.{Set_}
 use Rattle.rec_check.specs.Schemas.{Described, IsSchema}
 use Rattle.rec_check.specs.Violations.{AreViolationsOf}
+use Rattle.rec_journal.specs.declared.event.Event.TheVariants.{Edited as Revised}
+use Rattle.rec_journal.specs.declared.event.Revision.{Revision}
+use Rattle.rec_journal.specs.Bound.{most_bytes}
+use Rattle.rec_journal.specs.Event.{IsEditInRange, spelling}
+use Rattle.rec_journal.specs.Revisions.{hunks_of as hunks_in}
 use Rattle.rec_select.specs.Selection.{Filter, all, by_expression, at_places, with_text, IsSelection}
 use Rattle.rec_edit.specs.declared.outcome.Edited.{Edited}
 use Rattle.rec_edit.specs.Task.{Wanted, Task, insert, replace, delete, comment_out, set, auto_fill}
-use Rattle.rec_edit.specs.Script.{Part, Layout, closed, script_of, edited_text, hunks_of}
+use Rattle.rec_edit.specs.Script.{Part, Layout, closed, script_of, old_pieces, new_pieces, edited_text, hunks_of, AreChangesOf}
 use Rattle.rec_edit.specs.Rules.{fields_of, deletion, commenting, replacement, setting}
 use Rattle.rec_edit.specs.Insertions.{inserting, insertion_for, numbered_fields, filling}
 use Rattle.rec_edit.specs.Wording.{AreItemsFor, IsNewRecord}
@@ -148,3 +153,18 @@ PutsNoDescriptorIn _ = Unit {0}
 abbrev pub UnruledEditsAreSound : Type 0
 UnruledEditsAreSound = (pieces : List Piece) (schema : Described) (force : Bool) (task : Task) (step : Step) → AreElementsOf pieces (text_of pieces) → PutsNoDescriptorIn task
     → IsSchema pieces (Ok schema) → length schema.sets ≡ 1 → IsStep pieces schema force task (Ok step) → IsSound (edited_text step.script) (Ok tt)
+
+-- The script has the elements of the text and those of the edited one, and the hunks are its changes; an event with these
+-- hunks has at most 512 bytes, 64 for each hunk, and 4 for each byte that they take out or put in.
+pub record IsToldByHunks (pieces : List Piece) (script : List Part) : Type 0 where
+  pub old : old_pieces script ≡ pieces
+  pub new : AreElementsOf (new_pieces script) (edited_text script)
+  pub changes : AreChangesOf script (hunks_of script)
+  pub bounded : (event : Revision) → IsEditInRange event → hunks_in event.steps ≡ hunks_of script
+      → length (spelling (Revised event)) ≤ most_bytes (hunks_of script)
+
+-- the script of each edit is told so
+abbrev pub HunksAreChanges : Type 0
+HunksAreChanges = (pieces : List Piece) (schema : Described) (force : Bool) (task : Task) (step : Step)
+    → AreElementsOf pieces (text_of pieces) → IsSchema pieces (Ok schema) → IsStep pieces schema force task (Ok step)
+    → IsToldByHunks pieces step.script

@@ -1,7 +1,7 @@
 -- The script of an edit: parts in order, in each of which some elements give way to others. Joined, the old ones are the
 -- elements of the text, and the new ones those of the edited text.
-use Rattle.std.specs.Prelude.{◌≡◌, ℕ, ◌+◌, ◌==◌, Bool, false, ◌&&◌, not, List, [], ◌∷◌, ◌++◌, length, flat_map, filter, if◌then◌else◌}
-use Rattle.std.specs.List.{sum_by}
+use Rattle.std.specs.Prelude.{◌≡◌, ◌≢◌, ℕ, ◌+◌, ◌==◌, Bool, false, ◌&&◌, not, List, [], ◌∷◌, ◌++◌, length, map, flat_map, filter, if◌then◌else◌}
+use Rattle.std.specs.List.{AllByRecursion}
 use Rattle.std.specs.Str.{bytes_eq}
 use Rattle.rec_text.specs.Bytes.{is_nil, ends_newline}
 use Rattle.rec_text.specs.Elements.{Piece, text_of}
@@ -108,6 +108,30 @@ changes_from at (part ∷ parts) =
     then changes_from (at + length (text_of part.old)) parts
     else record { at = at; old = text_of part.old; new = text_of part.new } ∷ changes_from (at + length (text_of part.old)) parts
 
+-- some parts as one
+abbrev pub as_one : List Part → Part
+as_one run = record { old = old_pieces run; new = new_pieces run }
+
+-- runs of kept parts and of changed ones in turn, each as long as it can be; the first is of kept parts, or of changed ones
+abbrev pub AreInTurn : Bool → List (List Part) → Type 0
+AreInTurn kept [] = Unit {0}
+AreInTurn kept (run ∷ runs) = (run ≢ []) × AllByRecursion (λ part. is_kept part ≡ kept) run × AreInTurn (not kept) runs
+
+-- the script is cut into such runs, and a hunk stands for each of them whose two texts differ
+pub record AreChangesOf (script : List Part) (hunks : List Hunk) : Type 0 where
+  pub runs : List (List Part)
+  pub joined : flat_map (λ run. run) runs ≡ script
+  pub first : Bool
+  pub in_turn : AreInTurn first runs
+  pub changes : hunks ≡ changes_from 0 (map as_one runs)
+
+-- a hunk takes out whole elements, at the place where they stand
+abbrev pub TakesWhole : List Piece → Hunk → Type 0
+TakesWhole pieces hunk = (front old behind : List Piece) × (pieces ≡ front ++ (old ++ behind))
+    × (hunk.at ≡ length (text_of front)) × (hunk.old ≡ text_of old)
+
+-- ---- the changes, found part by part
+
 -- a hunk before others: one with the first of these where that begins at its end
 abbrev pub joining : Hunk → List Hunk → List Hunk
 joining hunk [] = hunk ∷ []
@@ -128,17 +152,3 @@ real_changes hunks = filter (λ hunk. not (bytes_eq hunk.old hunk.new)) hunks
 -- a hunk for each run of changes
 abbrev pub hunks_of : List Part → List Hunk
 hunks_of script = real_changes (joined (changes_from 0 script))
-
--- a hunk takes out whole elements, at the place where they stand
-abbrev pub TakesWhole : List Piece → Hunk → Type 0
-TakesWhole pieces hunk = (front old behind : List Piece) × (pieces ≡ front ++ (old ++ behind)) × (hunk.at ≡ length (text_of front)) × (hunk.old ≡ text_of old)
-
--- how many runs there are, and how many bytes they take out and put in
-abbrev pub runs : List Part → ℕ
-runs script = length (hunks_of script)
-
-abbrev pub bytes_out : List Part → ℕ
-bytes_out script = sum_by (λ hunk. length hunk.old) (hunks_of script)
-
-abbrev pub bytes_in : List Part → ℕ
-bytes_in script = sum_by (λ hunk. length hunk.new) (hunks_of script)

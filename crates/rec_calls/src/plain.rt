@@ -4,23 +4,33 @@ use rec_check::Schema;
 use rec_sex::{Expr, int_of};
 use rec_text::{Bytes, Database, Element, Fault, Kind, Rule, Violation, read};
 use std::alloc::{AllocError, Global};
+use std::str;
 
 /// The elements of a record.
 type Record<'d, 't> = &'d [Element<'t>];
 
 fn is_listed(names: &[Bytes], name: &[u8]) -> bool {
-    names.iter().any(|one| one.as_slice() == name)
-}
-
-fn is_descriptor(record: &[Element]) -> bool {
-    record
-        .iter()
-        .any(|field| field.name() == b"%rec".as_slice())
+    for one in names {
+        if one.as_slice() == name {
+            return true;
+        }
+    }
+    false
 }
 
 /// How many fields of a record have a name.
-fn count(record: &[Element], name: &[u8]) -> usize {
-    record.iter().filter(|field| field.name() == name).count()
+pub fn count(record: &[Element], name: &[u8]) -> usize {
+    let mut count = 0_usize;
+    for field in record {
+        if field.name() == name {
+            count = count.saturating_add(1);
+        }
+    }
+    count
+}
+
+fn is_descriptor(record: &[Element]) -> bool {
+    count(record, b"%rec") > 0
 }
 
 /// The values of the fields of a name.
@@ -52,24 +62,27 @@ fn words(alloc: Global, record: &[Element], name: &[u8]) -> Result<Vec<Bytes>, F
     Ok(words)
 }
 
+fn number_in(text: &[u8]) -> u64 {
+    int_of(text).unwrap_or(0).unsigned_abs()
+}
+
 /// Whether there are as many records as a `%size` field asks.
 fn is_met(asked: &[u8], records: usize) -> bool {
     let have = records as u64;
-    let number = |text: &[u8]| int_of(text).unwrap_or(0).unsigned_abs();
     if let Some(text) = asked.strip_prefix(b"<=") {
-        have <= number(text)
+        have <= number_in(text)
     } else if let Some(text) = asked.strip_prefix(b"<") {
-        have < number(text)
+        have < number_in(text)
     } else if let Some(text) = asked.strip_prefix(b">=") {
-        have >= number(text)
+        have >= number_in(text)
     } else if let Some(text) = asked.strip_prefix(b">") {
-        have > number(text)
+        have > number_in(text)
     } else {
-        have == number(asked)
+        have == number_in(asked)
     }
 }
 
-/// Whether so many fields of a name break a rule.
+/// Whether this number of fields of a name breaks a rule.
 fn is_broken(rule: Rule, count: usize) -> bool {
     match rule {
         Rule::Mandatory => count == 0,
@@ -96,15 +109,16 @@ fn is_taken(alloc: Global, records: &[Record], name: &[u8], key: &[u8]) -> Resul
     Ok(false)
 }
 
-/// The names that a `%type` field gives a type.
-fn names_of(type_: &[u8]) -> &[u8] {
-    match type_
-        .iter()
-        .position(|byte| matches!(byte, b' ' | b'\t' | b'\n'))
-    {
-        Some(end) => &type_[..end],
-        None => type_,
+/// Whether a `%type` field gives the fields of a name a type.
+fn is_for(type_: &[u8], name: &[u8]) -> bool {
+    let text = str::from_utf8(type_).unwrap_or("");
+    let (names, _) = text.split_once(' ').unwrap_or((text, ""));
+    for one in names.split(',') {
+        if one.as_bytes() == name {
+            return true;
+        }
     }
+    false
 }
 
 /// Adds a field with a value, whose lines are plus lines from the second on.
@@ -121,18 +135,12 @@ fn add_field(text: &mut Vec<u8>, name: &[u8], value: &[u8]) -> Result<(), AllocE
     Ok(())
 }
 
-/// A text of one field under one type.
-fn text_of_one(alloc: Global, type_: &[u8], name: &[u8], value: &[u8]) -> Result<Vec<u8>, Fault> {
+/// Whether a schema finds a violation in a text of one field under one type.
+fn breaks(alloc: Global, type_: &[u8], name: &[u8], value: &[u8]) -> Result<bool, Fault> {
     let mut text = Vec::from_slice(alloc, b"%rec: P\n")?;
     add_field(&mut text, b"%type", type_)?;
     text.push(b'\n')?;
     add_field(&mut text, name, value)?;
-    Ok(text)
-}
-
-/// Whether a schema finds a violation in a text of one field under one type.
-fn breaks(alloc: Global, type_: &[u8], name: &[u8], value: &[u8]) -> Result<bool, Fault> {
-    let text = text_of_one(alloc, type_, name, value)?;
     let database = read(alloc, &text)?;
     let found = Schema::read(alloc, &database)?.violations(alloc, &database)?;
     Ok(!found.is_empty())
@@ -143,8 +151,7 @@ fn breaks(alloc: Global, type_: &[u8], name: &[u8], value: &[u8]) -> Result<bool
 fn is_misfit(alloc: Global, head: &[Element], name: &[u8], value: &[u8]) -> Result<bool, Fault> {
     let mut misfit = false;
     for type_ in &values(alloc, head, b"%type")? {
-        let mut names = names_of(type_.as_slice()).split(|byte| *byte == b',');
-        if names.any(|one| one == name) {
+        if is_for(type_.as_slice(), name) {
             misfit = breaks(alloc, type_.as_slice(), name, value)?;
         }
     }
@@ -216,8 +223,8 @@ impl<'d, 't> Plain<'d, 't> {
         let names = words(self.alloc, head, list)?;
         for (i, name) in names.iter().enumerate() {
             let name = name.as_slice();
-            let is_named_before = names.iter().take(i).any(|before| before.as_slice() == name);
-            if !is_named_before && is_broken(rule, count(record, name)) {
+            let before = names.get(..i).unwrap_or(&[]);
+            if !is_listed(before, name) && is_broken(rule, count(record, name)) {
                 self.add(at, rule, name)?;
             }
         }
@@ -234,7 +241,7 @@ impl<'d, 't> Plain<'d, 't> {
         for (i, field) in record.iter().enumerate() {
             let name = field.name();
             if field.kind == Kind::Field
-                && !record.iter().take(i).any(|before| before.name() == name)
+                && count(record.get(..i).unwrap_or(&[]), name) == 0
                 && !is_listed(&allowed, name)
                 && !is_listed(&mandatory, name)
                 && !is_listed(&key, name)
@@ -270,32 +277,21 @@ impl<'d, 't> Plain<'d, 't> {
         Ok(())
     }
 
-    /// A record of the set of a descriptor, behind others.
-    fn record(
-        &mut self,
-        head: &[Element],
-        earlier: &[Record],
-        record: &[Element],
-    ) -> Result<(), Fault> {
-        let Some(first) = record.first() else {
-            return Ok(());
-        };
-        let at = first.at;
-        self.key(head, earlier, record, at)?;
-        self.counts(head, b"%mandatory", Rule::Mandatory, record, at)?;
-        self.counts(head, b"%prohibit", Rule::Prohibit, record, at)?;
-        self.counts(head, b"%unique", Rule::Unique, record, at)?;
-        self.allowed(head, record, at)?;
-        self.types(head, record)?;
-        self.constraints(head, record, at)
-    }
-
     /// The set of a descriptor, with these records.
     fn set(&mut self, head: &[Element], records: &[Record]) -> Result<(), Fault> {
         self.size(head, records.len())?;
         for (i, record) in records.iter().enumerate() {
             let earlier = records.get(..i).unwrap_or(&[]);
-            self.record(head, earlier, record)?;
+            if let Some(first) = record.first() {
+                let at = first.at;
+                self.key(head, earlier, record, at)?;
+                self.counts(head, b"%mandatory", Rule::Mandatory, record, at)?;
+                self.counts(head, b"%prohibit", Rule::Prohibit, record, at)?;
+                self.counts(head, b"%unique", Rule::Unique, record, at)?;
+                self.allowed(head, record, at)?;
+                self.types(head, record)?;
+                self.constraints(head, record, at)?;
+            }
         }
         Ok(())
     }
@@ -316,19 +312,31 @@ fn records<'d, 't>(
     Ok(records)
 }
 
-/// The violations of a text that has a schema.
-pub(crate) fn plain_report(alloc: Global, database: &Database) -> Result<Vec<Violation>, Fault> {
+/// How many records stand before the next descriptor.
+fn set_len(records: &[Record]) -> usize {
+    let mut len = 0_usize;
+    for record in records {
+        if is_descriptor(record) {
+            return len;
+        }
+        len = len.saturating_add(1);
+    }
+    len
+}
+
+/// The violations of a text that has a schema. The records before the first descriptor have no rules.
+pub fn plain_report(alloc: Global, database: &Database) -> Result<Vec<Violation>, Fault> {
     let records = records(alloc, database)?;
     let mut plain = Plain {
         alloc,
         database,
         found: Vec::new(alloc),
     };
-    let heads = records.iter().filter(|record| is_descriptor(record));
-    // The records before the first descriptor have no rules.
-    let sets = records.split(|record| is_descriptor(record)).skip(1);
-    for (head, set) in heads.zip(sets) {
-        plain.set(head, set)?;
+    for (i, head) in records.iter().enumerate() {
+        if is_descriptor(head) {
+            let rest = records.get(i.saturating_add(1)..).unwrap_or(&[]);
+            plain.set(head, rest.get(..set_len(rest)).unwrap_or(&[]))?;
+        }
     }
     Ok(plain.found)
 }

@@ -1,11 +1,12 @@
 //! A plain, slow program beside `edit`: it lists what each element of a text gives way to. Both are tried on the same files.
+use crate::plain::count;
 use rec_edit::Action;
 use rec_text::{Database, Element, Fault};
 use std::alloc::{AllocError, Global};
 
 /// Fields of a name, by their occurrences in a record from the first to the last.
 #[derive(Drop)]
-pub(crate) struct Item<'a> {
+pub struct Item<'a> {
     pub name: &'a [u8],
     pub first: usize,
     pub last: usize,
@@ -13,46 +14,35 @@ pub(crate) struct Item<'a> {
 
 /// What is done to the chosen records, or to the fields that a list picks of them.
 #[derive(Drop)]
-pub(crate) enum Change<'a> {
+pub enum Change<'a> {
     Delete,
     CommentOut,
     Set(&'a [Item<'a>], &'a Action),
 }
 
-/// Some bytes of a text, and those that stand in their place.
+/// Some bytes of a text, and those that replace them.
 #[derive(Drop)]
-pub(crate) struct Part {
+pub struct Part {
     pub old: Vec<u8>,
     pub new: Vec<u8>,
 }
 
 /// A run of changes, at its place in the text before.
 #[derive(Drop)]
-pub(crate) struct Run {
+pub struct Run {
     pub at: usize,
     pub old: Vec<u8>,
     pub new: Vec<u8>,
 }
 
-fn is_picked(items: &[Item], record: &[Element], place: usize) -> bool {
-    let Some(field) = record.get(place) else {
-        return false;
-    };
-    let name = field.name();
-    let before = record
-        .iter()
-        .take(place)
-        .filter(|other| other.name() == name)
-        .count();
-    items.iter().any(|item| item.name == name && item.first <= before && before <= item.last)
-}
-
-fn picks_none(item: &Item, record: &[Element]) -> bool {
-    record
-        .iter()
-        .filter(|field| field.name() == item.name)
-        .count()
-        <= item.first
+fn is_picked(items: &[Item], record: &[Element], place: usize, name: &[u8]) -> bool {
+    let before = count(record.get(..place).unwrap_or(&[]), name);
+    for item in items {
+        if item.name == name && item.first <= before && before <= item.last {
+            return true;
+        }
+    }
+    false
 }
 
 fn add_field(out: &mut Vec<u8>, name: &[u8], value: &[u8]) -> Result<(), AllocError> {
@@ -110,8 +100,11 @@ fn add_own(
         Change::Delete => Ok(()),
         Change::CommentOut => add_comment(out, raw),
         Change::Set(items, action) => {
-            if is_picked(items, record, place) {
-                let name = record.get(place).map(|field| field.name()).unwrap_or(b"");
+            let name = match record.get(place) {
+                Some(field) => field.name(),
+                None => b"",
+            };
+            if is_picked(items, record, place, name) {
                 add_edited(out, action, name, raw)
             } else {
                 out.extend_from_slice(raw)
@@ -120,15 +113,15 @@ fn add_own(
     }
 }
 
-/// Adds the fields that a chosen record gets behind its last one.
-fn add_behind(out: &mut Vec<u8>, change: &Change, record: &[Element]) -> Result<(), AllocError> {
+/// Adds the fields that a chosen record gets after its last one.
+fn add_after(out: &mut Vec<u8>, change: &Change, record: &[Element]) -> Result<(), AllocError> {
     let Change::Set(items, action) = change else {
         return Ok(());
     };
     for item in *items {
         match action {
             Action::Add(value) => add_field(out, item.name, value.as_slice())?,
-            Action::SetAdd(value) if picks_none(item, record) => {
+            Action::SetAdd(value) if count(record, item.name) <= item.first => {
                 add_field(out, item.name, value.as_slice())?
             }
             _ => {}
@@ -137,12 +130,17 @@ fn add_behind(out: &mut Vec<u8>, change: &Change, record: &[Element]) -> Result<
     Ok(())
 }
 
-/// Whether the element of an index is one of the blank ones directly behind a record that ends at another.
-fn is_blank_behind(elements: &[Element], end: usize, index: usize) -> bool {
-    index >= end
-        && elements.iter().enumerate().all(|(other, element)| other < end
-            || other > index
-            || element.is_blank())
+/// Whether the element of an index is one of the blank ones directly after a record that ends at another.
+fn is_blank_after(elements: &[Element], end: usize, index: usize) -> bool {
+    let Some(after) = elements.get(end..index.saturating_add(1)) else {
+        return false;
+    };
+    for element in after {
+        if !element.is_blank() {
+            return false;
+        }
+    }
+    !after.is_empty()
 }
 
 /// What the element of an index gives way to, with a newline at its end.
@@ -166,7 +164,7 @@ fn new_text(
             add_own(&mut out, change, own, place, raw)?;
             return Ok(out);
         }
-        if matches!(change, Change::Delete) && is_blank_behind(elements, record.end, index) {
+        if matches!(change, Change::Delete) && is_blank_after(elements, record.end, index) {
             return Ok(Vec::new(alloc));
         }
     }
@@ -188,7 +186,7 @@ fn added_before(
                 .elements()
                 .get(record.start..record.end)
                 .unwrap_or(&[]);
-            add_behind(&mut out, change, own)?;
+            add_after(&mut out, change, own)?;
         }
     }
     Ok(out)
@@ -203,14 +201,14 @@ fn closed(alloc: Global, raw: &[u8]) -> Result<Vec<u8>, AllocError> {
 }
 
 /// What an edit makes of a text, part by part.
-pub(crate) fn plain_parts(
+pub fn plain_parts(
     alloc: Global,
     database: &Database,
     chosen: &[usize],
     change: &Change,
 ) -> Result<Vec<Part>, Fault> {
     let elements = database.elements();
-    let behind = added_before(alloc, database, chosen, change, elements.len())?;
+    let last = added_before(alloc, database, chosen, change, elements.len())?;
     let mut parts = Vec::new(alloc);
     for (index, element) in elements.iter().enumerate() {
         let added = added_before(alloc, database, chosen, change, index)?;
@@ -220,7 +218,7 @@ pub(crate) fn plain_parts(
         })?;
         let raw = closed(alloc, element.raw)?;
         let mut new = new_text(alloc, database, chosen, change, index, &raw)?;
-        if raw.as_slice() != element.raw && behind.is_empty() {
+        if raw.as_slice() != element.raw && last.is_empty() {
             new.pop();
         }
         parts.push(Part {
@@ -230,13 +228,13 @@ pub(crate) fn plain_parts(
     }
     parts.push(Part {
         old: Vec::new(alloc),
-        new: behind,
+        new: last,
     })?;
     Ok(parts)
 }
 
 /// The text after an edit.
-pub(crate) fn plain_text(alloc: Global, parts: &[Part]) -> Result<Vec<u8>, AllocError> {
+pub fn plain_text(alloc: Global, parts: &[Part]) -> Result<Vec<u8>, AllocError> {
     let mut text = Vec::new(alloc);
     for part in parts {
         text.extend_from_slice(&part.new)?;
@@ -245,7 +243,7 @@ pub(crate) fn plain_text(alloc: Global, parts: &[Part]) -> Result<Vec<u8>, Alloc
 }
 
 /// The runs of changes next to each other.
-pub(crate) fn plain_runs(alloc: Global, parts: &[Part]) -> Result<Vec<Run>, AllocError> {
+pub fn plain_runs(alloc: Global, parts: &[Part]) -> Result<Vec<Run>, AllocError> {
     let mut runs: Vec<Run> = Vec::new(alloc);
     let mut at: usize = 0;
     let mut goes_on = false;

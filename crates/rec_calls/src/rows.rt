@@ -3,12 +3,12 @@
 use std::alloc::{AllocError, Global};
 
 /// The first cell of a row, and what stands behind it.
-pub(crate) fn split_cell(row: &str) -> (&str, &str) {
+pub fn split_cell(row: &str) -> (&str, &str) {
     row.split_once(" ; ").unwrap_or((row, ""))
 }
 
 /// The first cell of a line, and what stands behind it, if the line is a row.
-pub(crate) fn cells(line: &str) -> Option<(&str, &str)> {
+pub fn cells(line: &str) -> Option<(&str, &str)> {
     if line.starts_with("//") {
         return None;
     }
@@ -16,7 +16,7 @@ pub(crate) fn cells(line: &str) -> Option<(&str, &str)> {
 }
 
 /// The text of a cell, in which `|` stands for a newline.
-pub(crate) fn text_in(alloc: Global, row: &str) -> Result<Vec<u8>, AllocError> {
+pub fn text_in(alloc: Global, row: &str) -> Result<Vec<u8>, AllocError> {
     let mut text = Vec::new(alloc);
     for byte in row.bytes() {
         text.push(if byte == b'|' { b'\n' } else { byte })?;

@@ -2,10 +2,16 @@
 //! `sha256sum` prints.
 ghost use Rattle.std.specs.Prelude.{◌≢◌, [], IfOk};
 
+use crate::log::Log;
 use rec_journal::{Hashed, History, Hunk, Patch, Tool, plan_edit};
-use rec_text::Bytes;
+use rec_text::{Bytes, Fault};
 use std::alloc::{AllocError, Global};
-use std::test::Fail;
+
+pub fn run(alloc: Global, log: &mut Log) {
+    cases!(alloc, log:
+        the_digest_of_the_edited_text_goes_on_from_a_mark,
+        growth_of_hashed);
+}
 
 /// A text of 200,000 bytes.
 fn long_text(alloc: Global) -> Result<Vec<u8>, AllocError> {
@@ -16,8 +22,8 @@ fn long_text(alloc: Global) -> Result<Vec<u8>, AllocError> {
     Ok(text)
 }
 
-/// The patch that puts a new text in the place of an old one.
-fn patch_at(alloc: Global, at: usize, old: &[u8], new: &[u8]) -> Result<Patch, Fail>
+/// The patch that replaces an old text by a new one.
+fn patch_at(alloc: Global, at: usize, old: &[u8], new: &[u8]) -> Result<Patch, Fault>
     ensures { IfOk result (λ patch. patch ≢ []) }
 {
     let mut hunks = Vec::new(alloc);
@@ -26,11 +32,11 @@ fn patch_at(alloc: Global, at: usize, old: &[u8], new: &[u8]) -> Result<Patch, F
         old: Bytes::copy_of(alloc, old)?,
         new: Bytes::copy_of(alloc, new)?,
     })?;
-    Ok(Patch::new(hunks).ok_or("no patch")?)
+    Patch::new(hunks).ok_or(Fault::BadUsage)
 }
 
 /// The journal of an edit by a patch.
-fn journal_of(alloc: Global, text: &[u8], patch: &Patch) -> Result<Bytes, Fail>
+fn journal_of(alloc: Global, text: &[u8], patch: &Patch) -> Result<Bytes, Fault>
     requires { patch.now ≢ [] }
 {
     let hashed = Hashed::of(alloc, text)?;
@@ -40,12 +46,12 @@ fn journal_of(alloc: Global, text: &[u8], patch: &Patch) -> Result<Bytes, Fail>
     Ok(plan.journal)
 }
 
-/// What stands behind the header, the number, the kind and the tool of a first edit by recset.
+/// What stands after the header, the number, the kind and the tool of a first edit by recset.
 fn digests_in(journal: &[u8]) -> Option<&[u8]> {
     journal.get(91..236)
 }
 
-/// A place, the bytes that stand there, what stands in their place after the edit, and the digests.
+/// A place, the bytes that stand there, those that replace them, and the digests.
 const EDITS: [(usize, &[u8], &[u8], &[u8]); 5] = [
     (
         3,
@@ -55,7 +61,7 @@ const EDITS: [(usize, &[u8], &[u8], &[u8]); 5] = [
 After: d7018fcc0b854103e95100a4c344f4a73f918aa8a1fa3a0ddcff69dde53a39a9
 ",
     ),
-    // At the first mark, behind it, at the last one, and at the end.
+    // At the first mark, after it, at the last one, and at the end.
     (
         65_536,
         b"",
@@ -90,13 +96,17 @@ After: 914433287b893f4d733017848cb10905a88af9070196b1f4edb8ca26d35630e6
     ),
 ];
 
-#[test]
-fn the_digest_of_the_edited_text_goes_on_from_a_mark(rt: HostRuntime) -> Result<(), Fail> {
-    let text = long_text(rt.alloc())?;
+fn the_digest_of_the_edited_text_goes_on_from_a_mark(
+    alloc: Global,
+    log: &mut Log,
+) -> Result<(), Fault> {
+    let text = long_text(alloc)?;
     for (at, old, new, digests) in EDITS {
-        let patch = patch_at(rt.alloc(), at, old, new)?;
-        let journal = journal_of(rt.alloc(), &text, &patch)?;
-        assert_eq!(rt; digests_in(journal.as_slice()), Some(digests), "at {at}");
+        let patch = patch_at(alloc, at, old, new)?;
+        let journal = journal_of(alloc, &text, &patch)?;
+        let found = digests_in(journal.as_slice()).unwrap_or(b"");
+        log.at_number(at);
+        log.same("the digests", found, digests);
     }
     Ok(())
 }
@@ -106,15 +116,14 @@ fn is_kept(alloc: Global, text: &[u8]) -> Result<bool, AllocError> {
     Ok(Hashed::of(alloc, text)?.text() == text)
 }
 
-#[test]
-fn growth_of_hashed(rt: HostRuntime) -> Result<(), Fail> {
-    let Ok(text) = long_text(rt.alloc()) else {
+fn growth_of_hashed(alloc: Global, log: &mut Log) -> Result<(), Fault> {
+    let Ok(text) = long_text(alloc) else {
         return Ok(());
     };
-    let kept = match is_kept(rt.alloc(), &text) {
-        Err(AllocError) => is_kept(rt.alloc(), &text)?,
+    let kept = match is_kept(alloc, &text) {
+        Err(AllocError) => is_kept(alloc, &text)?,
         Ok(kept) => kept,
     };
-    assert!(rt; kept);
+    log.holds("the text is kept", kept);
     Ok(())
 }

@@ -1,9 +1,13 @@
 //! The elements of worked examples. `crates/rec_rows` has texts that are refused.
 
+use crate::log::Log;
 use rec_text::Kind::{self, Blank, Comment, Field};
-use rec_text::{Database, read};
+use rec_text::{Database, Fault, read};
 use std::alloc::{AllocError, Global};
-use std::test::Fail;
+
+pub fn run(alloc: Global, log: &mut Log) {
+    cases!(alloc, log: reads_worked_examples);
+}
 
 /// The elements of a text, which is these joined.
 type Row = &'static [(Kind, &'static [u8])];
@@ -44,19 +48,21 @@ fn joined(alloc: Global, row: Row) -> Result<Vec<u8>, AllocError> {
     Ok(text)
 }
 
-fn has_elements(database: &Database, row: Row) -> bool {
+fn check_elements(log: &mut Log, database: &Database, row: Row) {
     let elements = database.elements();
-    elements.len() == row.len()
-        && elements.iter().zip(row.iter()).all(|(element, (kind, raw))| element.kind == *kind
-            && element.raw == *raw)
+    log.equal("elements", elements.len(), row.len());
+    for (element, (kind, raw)) in elements.iter().zip(row) {
+        log.holds("the kind of an element", element.kind == *kind);
+        log.same("an element", element.raw, raw);
+    }
 }
 
-#[test]
-fn reads_worked_examples(rt: HostRuntime) -> Result<(), Fail> {
+fn reads_worked_examples(alloc: Global, log: &mut Log) -> Result<(), Fault> {
     for row in &ROWS {
-        let text = joined(rt.alloc(), row)?;
-        let database = read(rt.alloc(), &text)?;
-        assert!(rt; has_elements(&database, row), "at {text:?}");
+        let text = joined(alloc, row)?;
+        let database = read(alloc, &text)?;
+        log.at_bytes(&text);
+        check_elements(log, &database, row);
     }
     Ok(())
 }

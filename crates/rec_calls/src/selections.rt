@@ -1,11 +1,12 @@
 //! Calls that are made again where a growth was refused, as `tests/growth.bats` has it of each growth in turn: the first
-//! answer is the row's or that memory ran out, what went out before is a front of the row's text, and the second answer
+//! answer is the row's or that memory ran out, what went out before is a prefix of the row's text, and the second answer
 //! is the row's.
 ghost use Rattle.std.specs.Prelude.{Ok, IfOk};
 ghost use Rattle.rec_check.specs.Schemas.{IsSchema};
 ghost use Rattle.rec_check.specs.Stored.{described};
 ghost use Rattle.rec_select.specs.Printing.{AreIndexes};
 
+use crate::log::Log;
 use rec_check::Schema;
 use rec_select::{
     By, InfoForm, Selection, Shape, choose, put_parts, write_info, write_records, write_report,
@@ -13,8 +14,15 @@ use rec_select::{
 use rec_sex::{Expr, FieldList, IndexList};
 use rec_text::{Bytes, Database, Fault, Output, Rule, Violation, read};
 use std::alloc::Global;
-use std::process::Abort;
-use std::test::Fail;
+
+pub fn run(alloc: Global, log: &mut Log) {
+    cases!(alloc, log:
+        growth_of_choose,
+        growth_of_write_records,
+        growth_of_write_info,
+        growth_of_write_report,
+        growth_of_put_parts);
+}
 
 /// A set of three records.
 const PEOPLE: &[u8] = b"%rec: P
@@ -32,10 +40,24 @@ N: c
 M: xyz
 ";
 
+fn choose_again(
+    alloc: Global,
+    database: &Database,
+    schema: &Schema,
+    selection: &Selection,
+) -> Result<Vec<usize>, Fault>
+    requires { IsSchema database.now (Ok (described schema.now)) }
+{
+    match choose(alloc, database, schema, selection) {
+        Err(Fault::OutOfMemory) => choose(alloc, database, schema, selection),
+        answer => answer,
+    }
+}
+
 /// The records that are taken are these.
 fn check_choice(
-    rt: &impl Abort,
     alloc: Global,
+    log: &mut Log,
     database: &Database,
     schema: &Schema,
     by: By,
@@ -44,79 +66,75 @@ fn check_choice(
     requires { IsSchema database.now (Ok (described schema.now)) }
 {
     let selection = Selection { kind: None, by };
-    let taken = match choose(alloc, database, schema, &selection) {
-        Err(Fault::OutOfMemory) => choose(alloc, database, schema, &selection)?,
-        answer => answer?,
-    };
-    assert_eq!(rt; taken.as_slice(), wanted);
+    let taken = choose_again(alloc, database, schema, &selection)?;
+    log.holds("the records", taken.as_slice() == wanted);
     Ok(())
 }
 
 fn check_expression(
-    rt: &impl Abort,
     alloc: Global,
+    log: &mut Log,
     database: &Database,
     schema: &Schema,
 ) -> Result<(), Fault>
     requires { IsSchema database.now (Ok (described schema.now)) }
 {
     match Expr::parse(alloc, b"M ~ '^x' && N != 'b'") {
-        Ok(expr) => check_choice(rt, alloc, database, schema, By::Expr(expr), &[1, 3]),
+        Ok(expr) => check_choice(alloc, log, database, schema, By::Expr(expr), &[1, 3]),
         Err(_) => Ok(()),
     }
 }
 
 fn check_places(
-    rt: &impl Abort,
     alloc: Global,
+    log: &mut Log,
     database: &Database,
     schema: &Schema,
 ) -> Result<(), Fault>
     requires { IsSchema database.now (Ok (described schema.now)) }
 {
     match IndexList::parse(alloc, b"2,0") {
-        Ok(list) => check_choice(rt, alloc, database, schema, By::Index(list), &[1, 3]),
+        Ok(list) => check_choice(alloc, log, database, schema, By::Index(list), &[1, 3]),
         Err(_) => Ok(()),
     }
 }
 
 fn check_text(
-    rt: &impl Abort,
     alloc: Global,
+    log: &mut Log,
     database: &Database,
     schema: &Schema,
 ) -> Result<(), Fault>
     requires { IsSchema database.now (Ok (described schema.now)) }
 {
     match Bytes::copy_of(alloc, b"xy") {
-        Ok(text) => check_choice(rt, alloc, database, schema, By::Quick(text), &[1, 3]),
+        Ok(text) => check_choice(alloc, log, database, schema, By::Quick(text), &[1, 3]),
         Err(_) => Ok(()),
     }
 }
 
 fn check_choices(
-    rt: &impl Abort,
     alloc: Global,
+    log: &mut Log,
     database: &Database,
     schema: &Schema,
 ) -> Result<(), Fault>
     requires { IsSchema database.now (Ok (described schema.now)) }
 {
-    check_choice(rt, alloc, database, schema, By::All, &[1, 2, 3])?;
-    check_expression(rt, alloc, database, schema)?;
-    check_places(rt, alloc, database, schema)?;
-    check_text(rt, alloc, database, schema)
+    check_choice(alloc, log, database, schema, By::All, &[1, 2, 3])?;
+    check_expression(alloc, log, database, schema)?;
+    check_places(alloc, log, database, schema)?;
+    check_text(alloc, log, database, schema)
 }
 
-#[test]
-fn growth_of_choose(rt: HostRuntime) -> Result<(), Fail> {
-    let Ok(database) = read(rt.alloc(), PEOPLE) else {
+fn growth_of_choose(alloc: Global, log: &mut Log) -> Result<(), Fault> {
+    let Ok(database) = read(alloc, PEOPLE) else {
         return Ok(());
     };
-    let Ok(schema) = Schema::read(rt.alloc(), &database) else {
+    let Ok(schema) = Schema::read(alloc, &database) else {
         return Ok(());
     };
-    check_choices(&rt, rt.alloc(), &database, &schema)?;
+    check_choices(alloc, log, &database, &schema)?;
     Ok(())
 }
 
@@ -129,17 +147,17 @@ fn no_output(alloc: Global) -> Printed {
     }
 }
 
-/// Memory ran out, or the output's did, and what went out is a front of the text. It is taken back.
-fn check_refusal(rt: &impl Abort, fault: Fault, out: &mut Printed, text: &[u8]) {
+/// Memory ran out, or the output's did, and what went out is a prefix of the text. It is taken back.
+fn check_refusal(log: &mut Log, fault: Fault, out: &mut Printed, text: &[u8]) {
     let number = if out.failed == 0 { 1 } else { 23 };
-    assert_eq!(rt; fault.number(), number);
-    assert!(rt; text.starts_with(out.writer.as_slice()));
+    log.holds("the refusal", fault.number() == number);
+    log.holds("a prefix went out", text.starts_with(out.writer.as_slice()));
     out.writer.clear();
 }
 
 fn check_records(
-    rt: &impl Abort,
     alloc: Global,
+    log: &mut Log,
     database: &Database,
     selected: &[usize],
     shape: &Shape,
@@ -149,10 +167,10 @@ fn check_records(
 {
     let mut out = no_output(alloc);
     if let Err(fault) = write_records(alloc, database, selected, shape, false, &mut out) {
-        check_refusal(rt, fault, &mut out, text);
+        check_refusal(log, fault, &mut out, text);
         write_records(alloc, database, selected, shape, false, &mut out)?;
     }
-    assert_eq!(rt; out.writer.as_slice(), text);
+    log.same("what is printed", out.writer.as_slice(), text);
     Ok(())
 }
 
@@ -165,8 +183,8 @@ enum Form {
 }
 
 fn check_fields(
-    rt: &impl Abort,
     alloc: Global,
+    log: &mut Log,
     database: &Database,
     selected: &[usize],
     form: Form,
@@ -183,24 +201,24 @@ fn check_fields(
         Form::Values => Shape::Values(list),
         Form::Row => Shape::Row(list),
     };
-    check_records(rt, alloc, database, selected, &shape, text)
+    check_records(alloc, log, database, selected, &shape, text)
 }
 
 fn check_forms(
-    rt: &impl Abort,
     alloc: Global,
+    log: &mut Log,
     database: &Database,
     selected: &[usize],
 ) -> Result<(), Fault>
     requires { AreIndexes database.now selected.now }
 {
     let blocks = b"N: a\nM: x\\\ny\nM: 2\n\nN: b\nM: 3\n\nN: c\nM: xyz\n";
-    check_records(rt, alloc, database, selected, &Shape::Blocks, blocks)?;
-    check_records(rt, alloc, database, selected, &Shape::Count, b"3\n")?;
+    check_records(alloc, log, database, selected, &Shape::Blocks, blocks)?;
+    check_records(alloc, log, database, selected, &Shape::Count, b"3\n")?;
     let fields = b"M: 2\nN: a\n\nN: b\n\nN: c\n";
     check_fields(
-        rt,
         alloc,
+        log,
         database,
         selected,
         Form::Print,
@@ -208,9 +226,9 @@ fn check_forms(
         fields,
     )?;
     let values = b"xy\n2\n\n3\n\nxyz\n";
-    check_fields(rt, alloc, database, selected, Form::Values, b"M", values)?;
+    check_fields(alloc, log, database, selected, Form::Values, b"M", values)?;
     let rows = b"a xy 2\n\nb 3\n\nc xyz\n";
-    check_fields(rt, alloc, database, selected, Form::Row, b"N,M", rows)
+    check_fields(alloc, log, database, selected, Form::Row, b"N,M", rows)
 }
 
 /// The indexes of all records.
@@ -226,34 +244,33 @@ fn all_of(alloc: Global, database: &Database, schema: &Schema) -> Result<Vec<usi
 }
 
 fn check_printed(
-    rt: &impl Abort,
     alloc: Global,
+    log: &mut Log,
     database: &Database,
     schema: &Schema,
 ) -> Result<(), Fault>
     requires { IsSchema database.now (Ok (described schema.now)) }
 {
     match all_of(alloc, database, schema) {
-        Ok(selected) => check_forms(rt, alloc, database, &selected),
+        Ok(selected) => check_forms(alloc, log, database, &selected),
         Err(_) => Ok(()),
     }
 }
 
-#[test]
-fn growth_of_write_records(rt: HostRuntime) -> Result<(), Fail> {
-    let Ok(database) = read(rt.alloc(), PEOPLE) else {
+fn growth_of_write_records(alloc: Global, log: &mut Log) -> Result<(), Fault> {
+    let Ok(database) = read(alloc, PEOPLE) else {
         return Ok(());
     };
-    let Ok(schema) = Schema::read(rt.alloc(), &database) else {
+    let Ok(schema) = Schema::read(alloc, &database) else {
         return Ok(());
     };
-    check_printed(&rt, rt.alloc(), &database, &schema)?;
+    check_printed(alloc, log, &database, &schema)?;
     Ok(())
 }
 
 fn check_info(
-    rt: &impl Abort,
     alloc: Global,
+    log: &mut Log,
     database: &Database,
     schema: &Schema,
     form: InfoForm,
@@ -263,36 +280,35 @@ fn check_info(
 {
     let mut out = no_output(alloc);
     if let Err(fault) = write_info(database, schema, None, form, &mut out) {
-        check_refusal(rt, fault, &mut out, text);
+        check_refusal(log, fault, &mut out, text);
         write_info(database, schema, None, form, &mut out)?;
     }
-    assert_eq!(rt; out.writer.as_slice(), text);
+    log.same("what is printed", out.writer.as_slice(), text);
     Ok(())
 }
 
 fn check_infos(
-    rt: &impl Abort,
     alloc: Global,
+    log: &mut Log,
     database: &Database,
     schema: &Schema,
 ) -> Result<(), Fault>
     requires { IsSchema database.now (Ok (described schema.now)) }
 {
-    check_info(rt, alloc, database, schema, InfoForm::Counts, b"3 P\n")?;
-    check_info(rt, alloc, database, schema, InfoForm::Names, b"P\n")?;
+    check_info(alloc, log, database, schema, InfoForm::Counts, b"3 P\n")?;
+    check_info(alloc, log, database, schema, InfoForm::Names, b"P\n")?;
     let head = b"%rec: P\n%doc: people\n";
-    check_info(rt, alloc, database, schema, InfoForm::Descriptors, head)
+    check_info(alloc, log, database, schema, InfoForm::Descriptors, head)
 }
 
-#[test]
-fn growth_of_write_info(rt: HostRuntime) -> Result<(), Fail> {
-    let Ok(database) = read(rt.alloc(), PEOPLE) else {
+fn growth_of_write_info(alloc: Global, log: &mut Log) -> Result<(), Fault> {
+    let Ok(database) = read(alloc, PEOPLE) else {
         return Ok(());
     };
-    let Ok(schema) = Schema::read(rt.alloc(), &database) else {
+    let Ok(schema) = Schema::read(alloc, &database) else {
         return Ok(());
     };
-    check_infos(&rt, rt.alloc(), &database, &schema)?;
+    check_infos(alloc, log, &database, &schema)?;
     Ok(())
 }
 
@@ -301,34 +317,32 @@ fn violation(alloc: Global, line: usize, rule: Rule) -> Result<Violation, Fault>
     Ok(Violation { line, rule, name })
 }
 
-#[test]
-fn growth_of_write_report(rt: HostRuntime) -> Result<(), Fail> {
-    let Ok(key) = violation(rt.alloc(), 20, Rule::Key) else {
+fn growth_of_write_report(alloc: Global, log: &mut Log) -> Result<(), Fault> {
+    let Ok(key) = violation(alloc, 20, Rule::Key) else {
         return Ok(());
     };
-    let Ok(fit) = violation(rt.alloc(), 123, Rule::Fit) else {
+    let Ok(fit) = violation(alloc, 123, Rule::Fit) else {
         return Ok(());
     };
     let report = [key, fit];
     let text = b"20: key Id\n123: type Id\n";
-    let mut out = no_output(rt.alloc());
+    let mut out = no_output(alloc);
     if let Err(fault) = write_report(&report, &mut out) {
-        check_refusal(&rt, fault, &mut out, text);
+        check_refusal(log, fault, &mut out, text);
         write_report(&report, &mut out)?;
     }
-    assert_eq!(rt; out.writer.as_slice(), text.as_slice());
+    log.same("what is printed", out.writer.as_slice(), text);
     Ok(())
 }
 
-#[test]
-fn growth_of_put_parts(rt: HostRuntime) -> Result<(), Fail> {
+fn growth_of_put_parts(alloc: Global, log: &mut Log) -> Result<(), Fault> {
     let parts = [b"Id".as_slice(), b": ".as_slice(), b"1\n".as_slice()];
     let text = b"Id: 1\n";
-    let mut out = no_output(rt.alloc());
+    let mut out = no_output(alloc);
     if let Err(fault) = put_parts(&mut out, &parts) {
-        check_refusal(&rt, fault, &mut out, text);
+        check_refusal(log, fault, &mut out, text);
         put_parts(&mut out, &parts)?;
     }
-    assert_eq!(rt; out.writer.as_slice(), text.as_slice());
+    log.same("what is printed", out.writer.as_slice(), text);
     Ok(())
 }

@@ -1,9 +1,15 @@
 //! Patches on small texts, with expected texts written by hand. In a table a newline is written `|`.
+use crate::log::Log;
 use crate::rows::{cells, split_cell, text_in};
 use rec_journal::{Hunk, Patch};
 use rec_text::{Bytes, Fault};
 use std::alloc::{AllocError, Global};
-use std::test::Fail;
+
+pub fn run(alloc: Global, log: &mut Log) {
+    cases!(alloc, log:
+        hunks_of_a_patch_are_apart_and_change_something,
+        patches_lead_to_texts_and_back);
+}
 
 /// Hunks, each its place, its old text, `>` and its new text; and how many the patch has, if they are those of one.
 const PATCHES: &str = "// Apart, touching, out of order, and one that changes nothing.
@@ -19,7 +25,7 @@ const STEPS: &str = "// Two deletions are taken back.
 apply ; 0 A: 1||>, 12 C: 3|> ; A: 1||B: 2||C: 3| ; B: 2||
 unapply ; 0 A: 1||>, 12 C: 3|> ; B: 2|| ; A: 1||B: 2||C: 3|
 apply ; 0 A: 1||>, 12 C: 3|> ; B: 2|| ; drifted
-// An insertion shifts the hunk behind it.
+// An insertion shifts the hunk after it.
 apply ; 1 >xyz, 3 d>D ; abcde ; axyzbcDe
 unapply ; 1 >xyz, 3 d>D ; axyzbcDe ; abcde
 unapply ; 1 >xyz, 3 d>D ; axyzbcde ; drifted
@@ -52,15 +58,22 @@ fn hunks_in(alloc: Global, cell: &str) -> Result<Vec<Hunk>, AllocError> {
 
 /// The number of a patch's hunks.
 fn count(alloc: Global, cell: &str) -> Result<Option<usize>, AllocError> {
-    let patch = Patch::new(hunks_in(alloc, cell)?);
-    Ok(patch.map(|patch| patch.hunks().len()))
+    match Patch::new(hunks_in(alloc, cell)?) {
+        Some(patch) => Ok(Some(patch.hunks().len())),
+        None => Ok(None),
+    }
 }
 
-#[test]
-fn hunks_of_a_patch_are_apart_and_change_something(rt: HostRuntime) -> Result<(), Fail> {
-    for (hunks, wanted) in PATCHES.lines().filter_map(cells) {
-        let found = count(rt.alloc(), hunks)?;
-        assert_eq!(rt; found, wanted.parse::<usize>().ok(), "at {hunks}");
+fn hunks_of_a_patch_are_apart_and_change_something(
+    alloc: Global,
+    log: &mut Log,
+) -> Result<(), Fault> {
+    for row in PATCHES.lines() {
+        if let Some((hunks, wanted)) = cells(row) {
+            let found = count(alloc, hunks)?;
+            log.at(row);
+            log.holds("the number of hunks", found == wanted.parse::<usize>().ok());
+        }
     }
     Ok(())
 }
@@ -85,15 +98,14 @@ fn is_led(alloc: Global, way: &str, hunks: &str, text: &str, wanted: &str) -> Re
     }
 }
 
-#[test]
-fn patches_lead_to_texts_and_back(rt: HostRuntime) -> Result<(), Fail> {
-    for (way, rest) in STEPS.lines().filter_map(cells) {
-        let (hunks, rest) = split_cell(rest);
-        let (text, wanted) = split_cell(rest);
-        assert!(rt;
-            is_led(rt.alloc(), way, hunks, text, wanted)?,
-            "{way} {hunks} at {text}"
-        );
+fn patches_lead_to_texts_and_back(alloc: Global, log: &mut Log) -> Result<(), Fault> {
+    for row in STEPS.lines() {
+        if let Some((way, rest)) = cells(row) {
+            let (hunks, rest) = split_cell(rest);
+            let (text, wanted) = split_cell(rest);
+            log.at(row);
+            log.holds("the text", is_led(alloc, way, hunks, text, wanted)?);
+        }
     }
     Ok(())
 }

@@ -3,12 +3,15 @@ ghost use Rattle.std.specs.Prelude.{Ok};
 ghost use Rattle.rec_check.specs.Schemas.{IsSchema};
 ghost use Rattle.rec_check.specs.Stored.{described};
 
+use crate::log::Log;
 use crate::rows::{cells, split_cell, text_in};
 use rec_check::{Counter, Schema};
 use rec_text::{Database, Fault, read};
 use std::alloc::Global;
-use std::process::Abort;
-use std::test::Fail;
+
+pub fn run(alloc: Global, log: &mut Log) {
+    cases!(alloc, log: counters_go_on, counters_are_named_once, counters_of_a_set);
+}
 
 /// A text, in which `|` stands for a newline, the name of a field in its last set, and the next value.
 const COUNTERS: &str = "%rec: P|%auto: Id|%type: Id int||Id: 9223372036854775807| ; Id ; none
@@ -47,24 +50,25 @@ fn is_next(alloc: Global, text: &str, name: &str, wanted: &str) -> Result<bool, 
     }
 }
 
-#[test]
-fn counters_go_on(rt: HostRuntime) -> Result<(), Fail> {
-    for (text, rest) in COUNTERS.lines().filter_map(cells) {
-        let (name, wanted) = split_cell(rest);
-        assert!(rt; is_next(rt.alloc(), text, name, wanted)?, "at {text}");
+fn counters_go_on(alloc: Global, log: &mut Log) -> Result<(), Fault> {
+    for row in COUNTERS.lines() {
+        if let Some((text, rest)) = cells(row) {
+            let (name, wanted) = split_cell(rest);
+            log.at(row);
+            log.holds("the next value", is_next(alloc, text, name, wanted)?);
+        }
     }
     Ok(())
 }
 
-#[test]
-fn counters_are_named_once(rt: HostRuntime) -> Result<(), Fail> {
-    let text = b"%rec: P\n%auto: A B\n%auto: C A\n".as_slice();
-    let schema = Schema::read(rt.alloc(), &read(rt.alloc(), text)?)?;
-    let names = schema.automatic_names(rt.alloc(), 1)?;
-    assert_eq!(rt;
-        names.as_slice(),
-        [b"A".as_slice(), b"B".as_slice(), b"C".as_slice()].as_slice()
-    );
+fn counters_are_named_once(alloc: Global, log: &mut Log) -> Result<(), Fault> {
+    let database = read(alloc, b"%rec: P\n%auto: A B\n%auto: C A\n")?;
+    let schema = Schema::read(alloc, &database)?;
+    let names = schema.automatic_names(alloc, 1)?;
+    log.equal("names", names.len(), 3);
+    for (name, wanted) in names.as_slice().iter().zip(["A", "B", "C"]) {
+        log.same("a name", name, wanted.as_bytes());
+    }
     Ok(())
 }
 
@@ -92,38 +96,39 @@ fn counters_in<'r>(
     }
 }
 
-/// A counter of a name goes on with this number and the one behind it.
+/// A counter of a name goes on with this number and the one after it.
 fn check_counter(
-    rt: &impl Abort,
+    log: &mut Log,
     counter: &mut Counter,
     name: &[u8],
     next: i64,
 ) -> Result<(), Fault> {
-    assert_eq!(rt; counter.name(), name);
-    assert_eq!(rt; counter.next_number()?, next);
-    assert_eq!(rt; counter.next_number()?, next.saturating_add(1));
+    log.same("the name", counter.name(), name);
+    log.holds("the next number", counter.next_number()? == next);
+    log.holds(
+        "the one after it",
+        counter.next_number()? == next.saturating_add(1),
+    );
     Ok(())
 }
 
-fn check_counters(rt: &impl Abort, counters: &mut [Counter]) -> Result<(), Fault> {
-    assert_eq!(rt; counters.len(), 2);
+fn check_counters(log: &mut Log, counters: &mut [Counter]) -> Result<(), Fault> {
+    log.equal("counters", counters.len(), 2);
     for (i, counter) in counters.iter_mut().enumerate() {
         if i == 0 {
-            check_counter(rt, counter, b"A", 4)?;
+            check_counter(log, counter, b"A", 4)?;
         } else {
-            check_counter(rt, counter, b"B", -6)?;
+            check_counter(log, counter, b"B", -6)?;
         }
     }
     Ok(())
 }
 
-#[test]
-fn counters_of_a_set(rt: HostRuntime) -> Result<(), Fail> {
+fn counters_of_a_set(alloc: Global, log: &mut Log) -> Result<(), Fault> {
     let text = b"A: 9\n\n%rec: P\n%auto: A B A\n\nA: 3\n\nB: -7\nA: x\n".as_slice();
-    let database = read(rt.alloc(), text)?;
-    let schema = Schema::read(rt.alloc(), &database)?;
-    assert_eq!(rt; records_in(&database, &schema), 2);
-    let mut counters = counters_in(rt.alloc(), &database, &schema)?;
-    check_counters(&rt, &mut counters)?;
-    Ok(())
+    let database = read(alloc, text)?;
+    let schema = Schema::read(alloc, &database)?;
+    log.equal("records", records_in(&database, &schema), 2);
+    let mut counters = counters_in(alloc, &database, &schema)?;
+    check_counters(log, &mut counters)
 }

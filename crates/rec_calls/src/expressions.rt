@@ -1,9 +1,20 @@
 //! Calls that are made again where a growth was refused, as `tests/growth.bats` has it of each growth in turn: the first
 //! answer is the row's or that memory ran out, and the second is the row's.
+use crate::log::Log;
 use rec_sex::{Expr, FieldList, IndexList, Search};
 use rec_text::{Element, Fault, Kind};
 use std::alloc::Global;
-use std::test::Fail;
+
+pub fn run(alloc: Global, log: &mut Log) {
+    cases!(alloc, log:
+        growth_of_selects,
+        growth_of_search,
+        growth_of_refused_expressions,
+        growth_of_picks,
+        growth_of_refused_field_lists,
+        growth_of_index_lists,
+        growth_of_refused_index_lists);
+}
 
 fn field(raw: &[u8]) -> Element<'_> {
     Element {
@@ -30,18 +41,17 @@ fn selects_again(alloc: Global, expr: &Expr, fields: &[Element]) -> Result<bool,
     }
 }
 
-#[test]
-fn growth_of_selects(rt: HostRuntime) -> Result<(), Fail> {
-    let expr = parse_again(rt.alloc(), EXPRESSION)?;
+fn growth_of_selects(alloc: Global, log: &mut Log) -> Result<(), Fault> {
+    let expr = parse_again(alloc, EXPRESSION)?;
     let selected = [
         field(b"A: w\n"),
         field(b"A: x\n"),
         field(b"B: 1\n"),
         field(b"B: y\\\nz\n"),
     ];
-    assert!(rt; selects_again(rt.alloc(), &expr, &selected)?);
+    log.holds("it is selected", selects_again(alloc, &expr, &selected)?);
     let other = [field(b"A: w\n"), field(b"B: 1\n"), field(b"B: y\\\nz\n")];
-    assert!(rt; !selects_again(rt.alloc(), &expr, &other)?);
+    log.holds("it is not selected", !selects_again(alloc, &expr, &other)?);
     Ok(())
 }
 
@@ -60,28 +70,26 @@ fn finds_again(alloc: Global, search: &mut Search, fields: &[Element]) -> Result
     }
 }
 
-#[test]
-fn growth_of_search(rt: HostRuntime) -> Result<(), Fail> {
-    let Ok(expr) = Expr::parse(rt.alloc(), EXPRESSION) else {
+fn growth_of_search(alloc: Global, log: &mut Log) -> Result<(), Fault> {
+    let Ok(expr) = Expr::parse(alloc, EXPRESSION) else {
         return Ok(());
     };
-    let mut search = search_again(rt.alloc(), &expr)?;
+    let mut search = search_again(alloc, &expr)?;
     let other = [field(b"A: x\n"), field(b"B: y\\\nz\n")];
-    assert!(rt; !finds_again(rt.alloc(), &mut search, &other)?);
+    log.holds("it is not found", !finds_again(alloc, &mut search, &other)?);
     let selected = [field(b"A: xy\n"), field(b"B:\n"), field(b"B: yz\n")];
-    assert!(rt; finds_again(rt.alloc(), &mut search, &selected)?);
+    log.holds("it is found", finds_again(alloc, &mut search, &selected)?);
     Ok(())
 }
 
-#[test]
-fn growth_of_refused_expressions(rt: HostRuntime) -> Result<(), Fail> {
-    match parse_again(rt.alloc(), b"A ~ 'x' || (B) ~ '('") {
-        Err(fault) => assert_eq!(rt; fault.number(), 7),
-        Ok(_) => assert!(rt; false, "no fault"),
+fn growth_of_refused_expressions(alloc: Global, log: &mut Log) -> Result<(), Fault> {
+    match parse_again(alloc, b"A ~ 'x' || (B) ~ '('") {
+        Err(fault) => log.holds("the pattern is refused", fault.number() == 7),
+        Ok(_) => log.holds("it is refused", false),
     }
-    match parse_again(rt.alloc(), b"A ~ 'x' || (B) = ") {
-        Err(Fault::BadExpression { at }) => assert_eq!(rt; at, 17),
-        _ => assert!(rt; false, "another answer"),
+    match parse_again(alloc, b"A ~ 'x' || (B) = ") {
+        Err(Fault::BadExpression { at }) => log.equal("the place", at, 17),
+        _ => log.holds("a place is refused", false),
     }
     Ok(())
 }
@@ -100,9 +108,8 @@ fn picks_again(alloc: Global, list: &FieldList, fields: &[Element]) -> Result<Ve
     }
 }
 
-#[test]
-fn growth_of_picks(rt: HostRuntime) -> Result<(), Fail> {
-    let list = fields_again(rt.alloc(), b"A,B[0-1],A[1],C,A")?;
+fn growth_of_picks(alloc: Global, log: &mut Log) -> Result<(), Fault> {
+    let list = fields_again(alloc, b"A,B[0-1],A[1],C,A")?;
     let fields = [
         field(b"A: 1\n"),
         field(b"B: 2\n"),
@@ -110,11 +117,16 @@ fn growth_of_picks(rt: HostRuntime) -> Result<(), Fail> {
         field(b"A: 4\n"),
         field(b"B: 5\n"),
     ];
-    let places = picks_again(rt.alloc(), &list, &fields)?;
-    assert_eq!(rt; places.as_slice(), [0, 3, 1, 2, 3, 0, 3].as_slice());
-    match fields_again(rt.alloc(), b"A,B,C,D,E,1") {
-        Err(Fault::BadFieldList { at }) => assert_eq!(rt; at, 10),
-        _ => assert!(rt; false, "another answer"),
+    let places = picks_again(alloc, &list, &fields)?;
+    let wanted = [0, 3, 1, 2, 3, 0, 3];
+    log.holds("the places", places.as_slice() == wanted.as_slice());
+    Ok(())
+}
+
+fn growth_of_refused_field_lists(alloc: Global, log: &mut Log) -> Result<(), Fault> {
+    match fields_again(alloc, b"A,B,C,D,E,1") {
+        Err(Fault::BadFieldList { at }) => log.equal("the place", at, 10),
+        _ => log.holds("a place is refused", false),
     }
     Ok(())
 }
@@ -126,18 +138,23 @@ fn indexes_again(alloc: Global, text: &[u8]) -> Result<IndexList, Fault> {
     }
 }
 
-#[test]
-fn growth_of_index_lists(rt: HostRuntime) -> Result<(), Fail> {
-    let list = indexes_again(rt.alloc(), b"9,4-7,2,12,0")?;
+fn growth_of_index_lists(alloc: Global, log: &mut Log) -> Result<(), Fault> {
+    let list = indexes_again(alloc, b"9,4-7,2,12,0")?;
     for index in [0, 2, 4, 5, 6, 7, 9, 12] {
-        assert!(rt; list.has(index), "{index}");
+        log.at_number(index);
+        log.holds("the list has it", list.has(index));
     }
     for index in [1, 3, 8, 10, 11, 13] {
-        assert!(rt; !list.has(index), "{index}");
+        log.at_number(index);
+        log.holds("the list doesn't have it", !list.has(index));
     }
-    match indexes_again(rt.alloc(), b"9,4-7,2,12,x") {
-        Err(Fault::BadIndexList { at }) => assert_eq!(rt; at, 11),
-        _ => assert!(rt; false, "another answer"),
+    Ok(())
+}
+
+fn growth_of_refused_index_lists(alloc: Global, log: &mut Log) -> Result<(), Fault> {
+    match indexes_again(alloc, b"9,4-7,2,12,x") {
+        Err(Fault::BadIndexList { at }) => log.equal("the place", at, 11),
+        _ => log.holds("a place is refused", false),
     }
     Ok(())
 }

@@ -1,10 +1,19 @@
 //! Faults, outputs, paragraphs, records, names and lines.
-use rec_text::{
-    Bytes, Database, Element, Fault, Output, Rule, Sink, Violation, Violations, put_all, read,
-};
+use crate::log::Log;
+use rec_text::{Bytes, Database, Fault, Output, Rule, Sink, Violation, Violations, put_all, read};
 use std::alloc::{AllocError, Global};
 use std::io::Write;
-use std::test::Fail;
+
+pub fn run(alloc: Global, log: &mut Log) {
+    cases!(alloc, log:
+        faults_have_numbers_and_texts,
+        output_takes_what_its_writer_takes,
+        full_writer_is_a_failure,
+        paragraphs_end_at_blanks_and_records_at_fields,
+        a_text_has_names_records_and_lines,
+        bytes_are_taken_over,
+        words_of_rules);
+}
 
 /// Two violations.
 fn two_violations(alloc: Global) -> Result<Violations, Fault> {
@@ -93,12 +102,17 @@ fn is_told(alloc: Global, number: usize, text: Option<&str>) -> Result<bool, Fau
     Ok(Some(rest) == text && shown.parse::<usize>().ok() == Some(number))
 }
 
-#[test]
-fn faults_have_numbers_and_texts(rt: HostRuntime) -> Result<(), Fail> {
-    for (i, text) in TEXTS.lines().enumerate() {
-        assert!(rt; is_told(rt.alloc(), i + 1, Some(text))?, "{text}");
+fn faults_have_numbers_and_texts(alloc: Global, log: &mut Log) -> Result<(), Fault> {
+    let mut number = 1;
+    for text in TEXTS.lines() {
+        log.at(text);
+        log.holds(
+            "the fault's number and text",
+            is_told(alloc, number, Some(text))?,
+        );
+        number = number.saturating_add(1);
     }
-    assert!(rt; is_told(rt.alloc(), TEXTS.lines().count() + 1, None)?);
+    log.holds("there are no more faults", is_told(alloc, number, None)?);
     Ok(())
 }
 
@@ -112,36 +126,35 @@ fn taken<W: Write>(output: &mut Output<W>, bytes: &[u8]) -> Option<usize> {
     output.write(bytes).ok()
 }
 
-#[test]
-fn output_takes_what_its_writer_takes(rt: HostRuntime) {
+fn output_takes_what_its_writer_takes(alloc: Global, log: &mut Log) -> Result<(), Fault> {
     let mut output = Output {
-        writer: Vec::new(rt.alloc()),
+        writer: Vec::new(alloc),
         failed: 0,
     };
-    assert!(rt; takes(&mut output, b"A: 1\n"));
-    assert!(rt; takes(&mut output, b""));
-    assert!(rt; takes(&mut output, b"B: 2\n"));
-    assert_eq!(rt; output.writer.as_slice(), b"A: 1\nB: 2\n".as_slice());
-    assert_eq!(rt; output.failures(), 0);
+    log.holds("it takes a field", takes(&mut output, b"A: 1\n"));
+    log.holds("it takes nothing", takes(&mut output, b""));
+    log.holds("it takes another field", takes(&mut output, b"B: 2\n"));
+    log.same("the output", output.writer.as_slice(), b"A: 1\nB: 2\n");
+    log.holds("the failures", output.failures() == 0);
+    Ok(())
 }
 
-#[test]
-fn full_writer_is_a_failure(rt: HostRuntime) {
+fn full_writer_is_a_failure(_: Global, log: &mut Log) -> Result<(), Fault> {
     let mut room = [0; 4];
     let mut output = Output {
         writer: room.as_mut_slice(),
         failed: 0,
     };
-    assert!(rt; !takes(&mut output, b"A: 1\n"));
-    assert_eq!(rt; output.failures(), 1);
-    assert_eq!(rt;
-        taken(&mut output, b""),
-        Some(0),
-        "nothing to take is no failure"
+    log.holds("it doesn't take a field", !takes(&mut output, b"A: 1\n"));
+    log.holds("that is a failure", output.failures() == 1);
+    log.holds(
+        "nothing to take is no failure",
+        taken(&mut output, b"") == Some(0),
     );
-    assert_eq!(rt; taken(&mut output, b"B"), None);
-    assert_eq!(rt; output.failures(), 2);
-    assert_eq!(rt; room.as_slice(), b"A: 1".as_slice(), "a front went out");
+    log.holds("it takes no more", taken(&mut output, b"B").is_none());
+    log.holds("that is one too", output.failures() == 2);
+    log.same("a prefix that went out", room.as_slice(), b"A: 1");
+    Ok(())
 }
 
 /// A text of an element for each letter: b blank, c comment, f field.
@@ -178,9 +191,10 @@ fn has_ranges(
     found.next().is_none() && listed.next().is_none()
 }
 
-#[test]
-fn paragraphs_end_at_blanks_and_records_at_fields(rt: HostRuntime) -> Result<(), Fail> {
-    let alloc = rt.alloc();
+fn paragraphs_end_at_blanks_and_records_at_fields(
+    alloc: Global,
+    log: &mut Log,
+) -> Result<(), Fault> {
     let cases: [(&str, &[(usize, usize)], &[(usize, usize)]); 7] = [
         ("", &[], &[]),
         ("bbb", &[], &[]),
@@ -201,52 +215,69 @@ fn paragraphs_end_at_blanks_and_records_at_fields(rt: HostRuntime) -> Result<(),
     for (letters, paragraphs, records) in cases {
         let text = text_of(alloc, letters)?;
         let database = read(alloc, &text)?;
-        assert!(rt; has_ranges(&database, paragraphs, records), "{letters}");
+        log.at(letters);
+        log.holds(
+            "the paragraphs and records",
+            has_ranges(&database, paragraphs, records),
+        );
     }
     Ok(())
 }
 
-fn is_named(element: &Element<'_>, name: &str) -> bool {
-    element.name() == name.as_bytes() && element.has_name(name.as_bytes())
-}
-
-#[test]
-fn a_text_has_names_records_and_lines(rt: HostRuntime) -> Result<(), Fail> {
-    let text = b"# contacts\n\n%rec: Person\n# note\n%key: Name\n\nName: A\\\nB\n+ C\n\n#end";
-    let database = read(rt.alloc(), text)?;
-    assert_eq!(rt; database.text(), text.as_slice());
+fn check_paragraphs(log: &mut Log, database: &Database) {
     let mut paragraphs = database.paragraphs();
-    assert_eq!(rt; paragraphs.next(), Some(0..1));
-    assert_eq!(rt; paragraphs.next(), Some(2..5));
-    assert_eq!(rt; paragraphs.next(), Some(6..7));
-    assert_eq!(rt; paragraphs.next(), Some(8..9));
-    assert_eq!(rt; paragraphs.next(), None);
+    log.holds("the first paragraph", paragraphs.next() == Some(0..1));
+    log.holds("the second paragraph", paragraphs.next() == Some(2..5));
+    log.holds("the third paragraph", paragraphs.next() == Some(6..7));
+    log.holds("the last paragraph", paragraphs.next() == Some(8..9));
+    log.holds("there are no more", paragraphs.next().is_none());
+}
+
+fn check_records(log: &mut Log, database: &Database) {
     let mut records = database.records();
-    assert_eq!(rt; records.next(), Some(2..5));
-    assert_eq!(rt; records.as_slice(), [6..7].as_slice());
-    assert_eq!(rt; records.next(), Some(6..7));
-    assert_eq!(rt; records.next(), None);
+    log.holds("the descriptor", records.next() == Some(2..5));
+    log.holds("what is left", records.as_slice() == [6..7].as_slice());
+    log.holds("the record", records.next() == Some(6..7));
+    log.holds("there are no more records", records.next().is_none());
+}
+
+fn check_names(log: &mut Log, database: &Database) {
     let names = ["", "", "%rec", "", "%key", "", "Name", "", ""];
-    assert_eq!(rt; database.elements().len(), names.len());
-    for (element, name) in database.elements().iter().zip(&names) {
-        assert!(rt; is_named(element, name), "{name}");
+    log.equal("elements", database.elements().len(), names.len());
+    for (element, name) in database.elements().iter().zip(names) {
+        let name = name.as_bytes();
+        log.same("the name of an element", element.name(), name);
+        log.holds("it has its name", element.has_name(name));
     }
-    assert!(rt; 64 <= database.text().len());
+}
+
+fn check_lines(log: &mut Log, database: &Database) {
+    log.holds("the text is long", 64 <= database.text().len());
     for (at, line) in [(0, 1), (10, 1), (11, 2), (44, 7), (53, 8), (64, 11)] {
-        assert_eq!(rt; database.line_of(at), line, "at {at}");
+        if at <= database.text().len() {
+            log.equal("the line of a place", database.line_of(at), line);
+        }
     }
+}
+
+fn a_text_has_names_records_and_lines(alloc: Global, log: &mut Log) -> Result<(), Fault> {
+    let text = b"# contacts\n\n%rec: Person\n# note\n%key: Name\n\nName: A\\\nB\n+ C\n\n#end";
+    let database = read(alloc, text)?;
+    log.same("the text", database.text(), text);
+    check_paragraphs(log, &database);
+    check_records(log, &database);
+    check_names(log, &database);
+    check_lines(log, &database);
     Ok(())
 }
 
-#[test]
-fn bytes_are_taken_over(rt: HostRuntime) -> Result<(), Fail> {
-    let bytes = Bytes::copy_of(rt.alloc(), b"a\xff")?;
-    assert_eq!(rt; bytes.into_vec().as_slice(), b"a\xff".as_slice());
+fn bytes_are_taken_over(alloc: Global, log: &mut Log) -> Result<(), Fault> {
+    let bytes = Bytes::copy_of(alloc, b"a\xff")?;
+    log.same("the bytes", bytes.into_vec().as_slice(), b"a\xff");
     Ok(())
 }
 
-#[test]
-fn words_of_rules(rt: HostRuntime) {
+fn words_of_rules(_: Global, log: &mut Log) -> Result<(), Fault> {
     let words = [
         (Rule::Size, "size"),
         (Rule::Typedef, "typedef"),
@@ -260,6 +291,7 @@ fn words_of_rules(rt: HostRuntime) {
         (Rule::Constraint, "constraint"),
     ];
     for (rule, word) in words {
-        assert_eq!(rt; rule.word(), word);
+        log.same("a word", rule.word().as_bytes(), word.as_bytes());
     }
+    Ok(())
 }

@@ -3,13 +3,24 @@
 ghost use Rattle.std.specs.Prelude.{◌≢◌, [], Ok, IfOk};
 ghost use Rattle.rec_journal.specs.History.{IsOpening};
 
+use crate::log::Log;
 use rec_journal::{
     Direction, Hashed, History, Hunk, Patch, Plan, Step, Tool, plan_edit, plan_redo, plan_undo,
 };
 use rec_text::{Bytes, Fault};
 use std::alloc::Global;
-use std::process::Abort;
-use std::test::Fail;
+
+pub fn run(alloc: Global, log: &mut Log) {
+    cases!(alloc, log:
+        histories_are_told,
+        a_stop_leaves_the_old_history,
+        edits_are_next_to_the_text,
+        edits_are_planned,
+        undo_brings_back_the_old_text,
+        redo_brings_back_the_nearest,
+        steps_go_from_the_oldest_to_the_farthest,
+        an_edit_names_its_tool);
+}
 
 /// The file `A: 1` becomes `A: 2` and `A: 3`, both edits are undone, and then it becomes `A: 4`. The header has 57 bytes,
 /// and the events end at 259, 461, 634, 807 and 1009. The digests are those that `sha256sum` prints.
@@ -58,13 +69,9 @@ New: 4$
 
 ";
 
-fn whole() -> &'static [u8] {
-    JOURNAL
-}
-
 /// The first bytes of the journal.
 fn front(len: usize) -> &'static [u8] {
-    whole().get(..len).unwrap_or(b"")
+    JOURNAL.get(..len).unwrap_or(b"")
 }
 
 fn file_of(digit: u8) -> [u8; 5] {
@@ -106,26 +113,35 @@ const HISTORIES: [(u8, usize, &str); 9] = [
     (b'4', 1009, "1 0 1009 false"),
 ];
 
-#[test]
-fn histories_are_told(rt: HostRuntime) -> Result<(), Fail> {
+/// This is told of a file and of so much of the journal.
+fn check_told(
+    alloc: Global,
+    log: &mut Log,
+    digit: u8,
+    len: usize,
+    wanted: &str,
+) -> Result<(), Fault> {
+    let told = told(alloc, &file_of(digit), front(len))?;
+    log.at_number(len);
+    log.same("the history", told.as_str().as_bytes(), wanted.as_bytes());
+    Ok(())
+}
+
+fn histories_are_told(alloc: Global, log: &mut Log) -> Result<(), Fault> {
     for (digit, len, wanted) in &HISTORIES {
-        let told = told(rt.alloc(), &file_of(*digit), front(*len))?;
-        assert_eq!(rt; told.as_str(), *wanted, "at {len}");
+        check_told(alloc, log, *digit, *len, wanted)?;
     }
     Ok(())
 }
 
-#[test]
-fn a_stop_leaves_the_old_history(rt: HostRuntime) -> Result<(), Fail> {
+fn a_stop_leaves_the_old_history(alloc: Global, log: &mut Log) -> Result<(), Fault> {
     for len in 57..260 {
-        let told = told(rt.alloc(), &file_of(b'1'), front(len))?;
-        assert_eq!(rt; told.as_str(), "0 0 57 false", "at {len}");
+        check_told(alloc, log, b'1', len, "0 0 57 false")?;
     }
     Ok(())
 }
 
-#[test]
-fn edits_are_next_to_the_text(rt: HostRuntime) -> Result<(), Fail> {
+fn edits_are_next_to_the_text(alloc: Global, log: &mut Log) -> Result<(), Fault> {
     for (digit, len, backward, forward) in [
         (b'1', 57, None, None),
         (b'3', 461, Some(2), None),
@@ -133,15 +149,18 @@ fn edits_are_next_to_the_text(rt: HostRuntime) -> Result<(), Fail> {
         (b'1', 807, None, Some(1)),
         (b'4', 1009, Some(5), None),
     ] {
-        let history = loaded(rt.alloc(), &file_of(digit), front(len))?;
-        assert_eq!(rt; history.nearest_number(Direction::Backward), backward);
-        assert_eq!(rt; history.nearest_number(Direction::Forward), forward);
+        let history = loaded(alloc, &file_of(digit), front(len))?;
+        let before = history.nearest_number(Direction::Backward);
+        let after = history.nearest_number(Direction::Forward);
+        log.at_number(len);
+        log.holds("the edit before", before == backward);
+        log.holds("the edit after", after == forward);
     }
     Ok(())
 }
 
-/// Puts another byte in the place of the fourth.
-fn patch_to(alloc: Global, old: u8, new: u8) -> Result<Patch, Fail>
+/// Replaces the fourth byte.
+fn patch_to(alloc: Global, old: u8, new: u8) -> Result<Patch, Fault>
     ensures { IfOk result (λ patch. patch ≢ []) }
 {
     let mut hunks = Vec::new(alloc);
@@ -150,10 +169,10 @@ fn patch_to(alloc: Global, old: u8, new: u8) -> Result<Patch, Fail>
         old: Bytes::copy_of(alloc, &[old])?,
         new: Bytes::copy_of(alloc, &[new])?,
     })?;
-    Ok(Patch::new(hunks).ok_or("no patch")?)
+    Patch::new(hunks).ok_or(Fault::BadUsage)
 }
 
-/// The plan of the edit that puts one byte in the place of another.
+/// The plan of the edit that replaces one byte by another.
 fn planned(
     alloc: Global,
     file: &[u8],
@@ -161,30 +180,29 @@ fn planned(
     tool: Tool,
     old: u8,
     new: u8,
-) -> Result<Plan, Fail> {
+) -> Result<Plan, Fault> {
     let hashed = Hashed::of(alloc, file)?;
     let history = History::load(alloc, &hashed, journal)?;
     let patch = patch_to(alloc, old, new)?;
     let text = patch.apply(alloc, file)?;
-    Ok(plan_edit(alloc, &history, &hashed, journal, tool, &patch, text)?)
+    plan_edit(alloc, &history, &hashed, journal, tool, &patch, text)
 }
 
 /// A plan leads to the file of a digit, and to so much of the journal.
-fn check_plan(rt: &impl Abort, plan: &Plan, digit: u8, len: usize) {
-    assert_eq!(rt; plan.file.as_slice(), file_of(digit).as_slice());
-    assert_eq!(rt; plan.journal.as_slice(), front(len), "at {len}");
+fn check_plan(log: &mut Log, plan: &Plan, digit: u8, len: usize) {
+    log.at_number(len);
+    log.same("the file", plan.file.as_slice(), &file_of(digit));
+    log.same("the journal", plan.journal.as_slice(), front(len));
 }
 
-#[test]
-fn edits_are_planned(rt: HostRuntime) -> Result<(), Fail> {
+fn edits_are_planned(alloc: Global, log: &mut Log) -> Result<(), Fault> {
     for (old, len, new, end) in [
         (b'1', 0, b'2', 259),
         (b'2', 259, b'3', 461),
         (b'1', 807, b'4', 1009),
     ] {
-        let file = file_of(old);
-        let plan = planned(rt.alloc(), &file, front(len), Tool::RecSet, old, new)?;
-        check_plan(&rt, &plan, new, end);
+        let plan = planned(alloc, &file_of(old), front(len), Tool::RecSet, old, new)?;
+        check_plan(log, &plan, new, end);
     }
     Ok(())
 }
@@ -194,11 +212,10 @@ fn undone(alloc: Global, file: &[u8], journal: &[u8]) -> Result<Plan, Fault> {
     plan_undo(alloc, &history, file, journal)
 }
 
-#[test]
-fn undo_brings_back_the_old_text(rt: HostRuntime) -> Result<(), Fail> {
+fn undo_brings_back_the_old_text(alloc: Global, log: &mut Log) -> Result<(), Fault> {
     for (digit, len, old, end) in [(b'3', 461, b'2', 634), (b'2', 634, b'1', 807)] {
-        let plan = undone(rt.alloc(), &file_of(digit), front(len))?;
-        check_plan(&rt, &plan, old, end);
+        let plan = undone(alloc, &file_of(digit), front(len))?;
+        check_plan(log, &plan, old, end);
     }
     Ok(())
 }
@@ -208,35 +225,35 @@ fn redone(alloc: Global, file: &[u8], journal: &[u8]) -> Result<Plan, Fault> {
     plan_redo(alloc, &history, file, journal)
 }
 
-#[test]
-fn redo_brings_back_the_nearest(rt: HostRuntime) -> Result<(), Fail> {
+fn redo_brings_back_the_nearest(alloc: Global, log: &mut Log) -> Result<(), Fault> {
     for (digit, len, new) in [(b'2', 634, b'3'), (b'1', 807, b'2')] {
-        let plan = redone(rt.alloc(), &file_of(digit), front(len))?;
-        assert_eq!(rt; plan.file.as_slice(), file_of(new).as_slice(), "at {len}");
+        let plan = redone(alloc, &file_of(digit), front(len))?;
+        log.at_number(len);
+        log.same("the file", plan.file.as_slice(), &file_of(new));
     }
     Ok(())
 }
 
-fn step(number: usize, done: bool) -> Option<Step> {
-    Some(Step {
-        number,
-        tool: Tool::RecSet,
-        done,
-    })
+/// Whether a step is that of a number, and done or not.
+fn is_step(step: Option<Step>, number: usize, done: bool) -> bool {
+    match step {
+        Some(step) => step.number == number && step.done == done && step.tool == Tool::RecSet,
+        None => false,
+    }
 }
 
-#[test]
-fn steps_go_from_the_oldest_to_the_farthest(rt: HostRuntime) -> Result<(), Fail> {
+fn steps_go_from_the_oldest_to_the_farthest(alloc: Global, log: &mut Log) -> Result<(), Fault> {
     for (digit, len, first, second) in [
-        (b'3', 461, step(1, true), step(2, true)),
-        (b'2', 634, step(1, true), step(2, false)),
-        (b'1', 807, step(1, false), step(2, false)),
+        (b'3', 461, true, true),
+        (b'2', 634, true, false),
+        (b'1', 807, false, false),
     ] {
-        let history = loaded(rt.alloc(), &file_of(digit), front(len))?;
+        let history = loaded(alloc, &file_of(digit), front(len))?;
         let mut steps = history.steps();
-        assert_eq!(rt; steps.next(), first, "at {len}");
-        assert_eq!(rt; steps.next(), second, "at {len}");
-        assert_eq!(rt; steps.next(), None, "at {len}");
+        log.at_number(len);
+        log.holds("the first step", is_step(steps.next(), 1, first));
+        log.holds("the second step", is_step(steps.next(), 2, second));
+        log.holds("there are no more", steps.next().is_none());
     }
     Ok(())
 }
@@ -244,22 +261,22 @@ fn steps_go_from_the_oldest_to_the_farthest(rt: HostRuntime) -> Result<(), Fail>
 /// Whether a journal is that of the first edit, by another tool.
 fn is_edit_by(journal: &[u8], tool: &str) -> bool {
     match journal.strip_prefix(front(84)) {
-        Some(rest) => rest.strip_prefix(tool.as_bytes()) == whole().get(90..259),
+        Some(rest) => rest.strip_prefix(tool.as_bytes()) == JOURNAL.get(90..259),
         None => false,
     }
 }
 
-#[test]
-fn an_edit_names_its_tool(rt: HostRuntime) -> Result<(), Fail> {
+fn an_edit_names_its_tool(alloc: Global, log: &mut Log) -> Result<(), Fault> {
     for (tool, name) in [
         (Tool::RecIns, "recins"),
         (Tool::RecDel, "recdel"),
         (Tool::RecSet, "recset"),
         (Tool::RecFix, "recfix"),
     ] {
-        let plan = planned(rt.alloc(), &file_of(b'1'), b"", tool, b'1', b'2')?;
-        assert!(rt; is_edit_by(plan.journal.as_slice(), name), "{name}");
-        assert_eq!(rt; tool.name(), name.as_bytes());
+        let plan = planned(alloc, &file_of(b'1'), b"", tool, b'1', b'2')?;
+        log.at(name);
+        log.holds("the journal", is_edit_by(plan.journal.as_slice(), name));
+        log.same("the tool's name", tool.name(), name.as_bytes());
     }
     Ok(())
 }

@@ -2,10 +2,14 @@
 ghost use Rattle.std.specs.Prelude.{◌≡◌, true};
 ghost use Rattle.rec_select.specs.Printing.{AreIndexes};
 
+use crate::log::Log;
 use rec_select::{Shape, write_records};
 use rec_text::{Database, Fault, Output, read};
 use std::alloc::Global;
-use std::test::Fail;
+
+pub fn run(alloc: Global, log: &mut Log) {
+    cases!(alloc, log: the_order_is_that_of_the_indexes);
+}
 
 /// Whether these are indexes of records.
 fn are_indexes(database: &Database, selected: &[usize]) -> bool
@@ -40,11 +44,10 @@ fn printed(alloc: Global, selected: &[usize]) -> Result<Vec<u8>, Fault> {
     Ok(output.writer)
 }
 
-#[test]
-fn the_order_is_that_of_the_indexes(rt: HostRuntime) -> Result<(), Fail> {
-    let both = printed(rt.alloc(), &[1, 0])?;
-    assert_eq!(rt; both.as_slice(), b"B: 2\n\nA: 1\n".as_slice());
-    let twice = printed(rt.alloc(), &[1, 1])?;
-    assert_eq!(rt; twice.as_slice(), b"B: 2\n\nB: 2\n".as_slice());
+fn the_order_is_that_of_the_indexes(alloc: Global, log: &mut Log) -> Result<(), Fault> {
+    let both = printed(alloc, &[1, 0])?;
+    log.same("both", both.as_slice(), b"B: 2\n\nA: 1\n");
+    let twice = printed(alloc, &[1, 1])?;
+    log.same("one twice", twice.as_slice(), b"B: 2\n\nB: 2\n");
     Ok(())
 }

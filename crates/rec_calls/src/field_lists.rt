@@ -1,9 +1,13 @@
 //! What lists of fields pick of elements. `crates/rec_rows` has what they pick of records, and the places of their faults.
+use crate::log::Log;
 use crate::rows::{cells, split_cell};
 use rec_sex::FieldList;
-use rec_text::{Element, Kind};
+use rec_text::{Element, Fault, Kind};
 use std::alloc::Global;
-use std::test::Fail;
+
+pub fn run(alloc: Global, log: &mut Log) {
+    cases!(alloc, log: lists_pick_their_occurrences, lists_tell_their_items);
+}
 
 /// A list, the elements of a record, and the places of those that the list picks.
 const PICKS: &str = "Name,Email[1] ; Name: x, Email: a, Email: b ; [0, 2]
@@ -26,7 +30,7 @@ fn element(line: &str) -> Element {
 }
 
 /// The elements of a cell; none where it is empty.
-fn elements(alloc: Global, record: &str) -> Result<Vec<Element<'_>>, Fail> {
+fn elements(alloc: Global, record: &str) -> Result<Vec<Element<'_>>, Fault> {
     let mut elements = Vec::new(alloc);
     for line in record.split_terminator(", ") {
         elements.push(element(line))?;
@@ -34,25 +38,31 @@ fn elements(alloc: Global, record: &str) -> Result<Vec<Element<'_>>, Fail> {
     Ok(elements)
 }
 
-#[test]
-fn lists_pick_their_occurrences(rt: HostRuntime) -> Result<(), Fail> {
-    for (text, rest) in PICKS.lines().filter_map(cells) {
-        let (record, wanted) = split_cell(rest);
-        let fields = elements(rt.alloc(), record)?;
-        let list = FieldList::parse(rt.alloc(), text.as_bytes())?;
-        let places = list.picks(rt.alloc(), &fields)?;
-        let shown = format!(in rt.alloc(); "{places:?}")?;
-        assert_eq!(rt; shown.as_str(), wanted, "{text} of {record}");
+/// Whether a list picks elements at these places.
+fn picks(alloc: Global, list: &str, record: &str, wanted: &str) -> Result<bool, Fault> {
+    let fields = elements(alloc, record)?;
+    let list = FieldList::parse(alloc, list.as_bytes())?;
+    let places = list.picks(alloc, &fields)?;
+    let shown = format!(in alloc; "{places:?}")?;
+    Ok(shown.as_str() == wanted)
+}
+
+fn lists_pick_their_occurrences(alloc: Global, log: &mut Log) -> Result<(), Fault> {
+    for row in PICKS.lines() {
+        if let Some((list, rest)) = cells(row) {
+            let (record, wanted) = split_cell(rest);
+            log.at(row);
+            log.holds("the places", picks(alloc, list, record, wanted)?);
+        }
     }
     Ok(())
 }
 
-#[test]
-fn lists_tell_their_items(rt: HostRuntime) -> Result<(), Fail> {
-    let list = FieldList::parse(rt.alloc(), b"Name,Email[1-2],Name")?;
-    assert_eq!(rt; list.items().len(), 3);
+fn lists_tell_their_items(alloc: Global, log: &mut Log) -> Result<(), Fault> {
+    let list = FieldList::parse(alloc, b"Name,Email[1-2],Name")?;
+    log.equal("items", list.items().len(), 3);
     for (item, name) in list.items().iter().zip(["Name", "Email", "Name"]) {
-        assert_eq!(rt; item.name.as_slice(), name.as_bytes());
+        log.same("a name", item.name.as_slice(), name.as_bytes());
     }
     Ok(())
 }

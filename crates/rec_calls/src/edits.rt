@@ -1,13 +1,30 @@
-//! The edits of the plain program and of `edit`, on the same made texts.
-use crate::plain_edit::{Change, Item, Part, plain_parts, plain_runs, plain_text};
+//! The edits of the plain program and of `edit`, on the same made texts; and edits that are made again where memory ran
+//! out.
+ghost use Rattle.std.specs.Prelude.{Ok};
+ghost use Rattle.rec_check.specs.Schemas.{IsSchema};
+ghost use Rattle.rec_check.specs.Stored.{described};
+
+use crate::log::Log;
+use crate::plain_edit::{Change, Item, Run, plain_parts, plain_runs, plain_text};
 use rec_check::Schema;
 use rec_edit::{Action, Edit, Edited, NewRecord, Pair, edit};
+use rec_journal::Hunk;
 use rec_select::{By, Selection};
 use rec_sex::IndexList;
 use rec_text::{Bytes, Database, Fault, read};
 use std::alloc::{AllocError, Global};
-use std::process::Abort;
-use std::test::Fail;
+
+pub fn run(alloc: Global, log: &mut Log) {
+    cases!(alloc, log:
+        both_make_the_same_of_records,
+        both_make_the_same_of_fields,
+        growth_of_delete,
+        growth_of_comment_out,
+        growth_of_set,
+        growth_of_insert,
+        growth_of_replace,
+        growth_of_auto_fill);
+}
 
 /// What the made texts consist of.
 const PIECES: [&str; 16] = [
@@ -99,24 +116,26 @@ fn action(alloc: Global, number: usize) -> Result<Action, AllocError> {
     })
 }
 
+fn is_run(hunk: &Hunk, run: &Run) -> bool {
+    hunk.at == run.at
+        && hunk.old.as_slice() == run.old.as_slice()
+        && hunk.new.as_slice() == run.new.as_slice()
+}
+
 /// The hunks of an edit are the runs of the plain program.
-fn are_runs(alloc: Global, edited: &Edited, parts: &[Part]) -> Result<bool, AllocError> {
-    let runs = plain_runs(alloc, parts)?;
-    let hunks = edited.patch.hunks();
-    Ok(
-        hunks.len() == runs.len()
-            && hunks.iter().zip(runs.iter()).all(|(hunk, run)| {
-                hunk.at == run.at
-                    && hunk.old.as_slice() == run.old.as_slice()
-                    && hunk.new.as_slice() == run.new.as_slice()
-            }),
-    )
+fn are_runs(hunks: &[Hunk], runs: &[Run]) -> bool {
+    for (hunk, run) in hunks.iter().zip(runs) {
+        if !is_run(hunk, run) {
+            return false;
+        }
+    }
+    hunks.len() == runs.len()
 }
 
 /// Both programs make the same of a text.
 fn try_both(
-    rt: &impl Abort,
     alloc: Global,
+    log: &mut Log,
     database: &Database,
     request: &Edit,
     chosen: &[usize],
@@ -125,40 +144,45 @@ fn try_both(
     let schema = Schema::read(alloc, database)?;
     let edited = edit(alloc, database, &schema, request, false)?;
     let parts = plain_parts(alloc, database, chosen, change)?;
-    assert_eq!(rt;
-        edited.text.as_slice(),
-        plain_text(alloc, &parts)?.as_slice(),
-        "at {:?}",
-        database.text()
-    );
-    assert!(rt;
-        are_runs(alloc, &edited, &parts)?,
-        "at {:?}",
-        database.text()
-    );
+    let text = plain_text(alloc, &parts)?;
+    log.at_bytes(database.text());
+    log.same("the text", edited.text.as_slice(), &text);
+    let runs = plain_runs(alloc, &parts)?;
+    log.holds("the hunks", are_runs(edited.patch.hunks(), &runs));
     Ok(())
 }
 
+fn edit_again(
+    alloc: Global,
+    database: &Database,
+    schema: &Schema,
+    request: &Edit,
+) -> Result<Edited, Fault>
+    requires { IsSchema database.now (Ok (described schema.now)) }
+{
+    match edit(alloc, database, schema, request, false) {
+        Err(Fault::OutOfMemory) => edit(alloc, database, schema, request, false),
+        answer => answer,
+    }
+}
+
 /// The text after an edit, which is asked for again where memory ran out.
-fn check_edit(rt: &impl Abort, alloc: Global, request: &Edit, wanted: &str) -> Result<(), Fault> {
+fn check_edit(alloc: Global, log: &mut Log, request: &Edit, wanted: &str) -> Result<(), Fault> {
     let Ok(database) = read(alloc, RULED) else {
         return Ok(());
     };
     let Ok(schema) = Schema::read(alloc, &database) else {
         return Ok(());
     };
-    let edited = match edit(alloc, &database, &schema, request, false) {
-        Err(Fault::OutOfMemory) => edit(alloc, &database, &schema, request, false)?,
-        answer => answer?,
-    };
-    assert_eq!(rt; edited.text.as_slice(), wanted.as_bytes());
-    assert_eq!(rt; edited.changed, 1);
+    let edited = edit_again(alloc, &database, &schema, request)?;
+    log.same("the text", edited.text.as_slice(), wanted.as_bytes());
+    log.holds("one record changed", edited.changed == 1);
     Ok(())
 }
 
 fn try_fields(
-    rt: &impl Abort,
     alloc: Global,
+    log: &mut Log,
     database: &Database,
     number: usize,
     listed: &[(&str, usize, usize)],
@@ -180,8 +204,8 @@ fn try_fields(
         };
         let action = action(alloc, number)?;
         try_both(
-            rt,
             alloc,
+            log,
             database,
             &request,
             chosen,
@@ -192,39 +216,39 @@ fn try_fields(
 }
 
 fn try_delete(
-    rt: &impl Abort,
     alloc: Global,
+    log: &mut Log,
     database: &Database,
     places: &str,
     chosen: &[usize],
 ) -> Result<(), Fault> {
     let request = Edit::Delete(selection(alloc, places)?);
-    try_both(rt, alloc, database, &request, chosen, &Change::Delete)
+    try_both(alloc, log, database, &request, chosen, &Change::Delete)
 }
 
 fn try_comment_out(
-    rt: &impl Abort,
     alloc: Global,
+    log: &mut Log,
     database: &Database,
     places: &str,
     chosen: &[usize],
 ) -> Result<(), Fault> {
     let request = Edit::CommentOut(selection(alloc, places)?);
-    try_both(rt, alloc, database, &request, chosen, &Change::CommentOut)
+    try_both(alloc, log, database, &request, chosen, &Change::CommentOut)
 }
 
-fn try_records(rt: &impl Abort, alloc: Global, text: &[u8]) -> Result<(), Fault> {
+fn try_records(alloc: Global, log: &mut Log, text: &[u8]) -> Result<(), Fault> {
     let Ok(database) = read(alloc, text) else {
         return Ok(());
     };
     for (places, chosen) in &CHOSEN {
-        try_delete(rt, alloc, &database, places, chosen)?;
-        try_comment_out(rt, alloc, &database, places, chosen)?;
+        try_delete(alloc, log, &database, places, chosen)?;
+        try_comment_out(alloc, log, &database, places, chosen)?;
     }
     Ok(())
 }
 
-fn try_lists(rt: &impl Abort, alloc: Global, text: &[u8]) -> Result<(), Fault> {
+fn try_lists(alloc: Global, log: &mut Log, text: &[u8]) -> Result<(), Fault> {
     let Ok(database) = read(alloc, text) else {
         return Ok(());
     };
@@ -232,27 +256,25 @@ fn try_lists(rt: &impl Abort, alloc: Global, text: &[u8]) -> Result<(), Fault> {
         for one in 0..6 {
             // A list with subscripts adds nothing.
             if one != 1 || !list.contains('[') {
-                try_fields(rt, alloc, &database, one, listed, list)?;
+                try_fields(alloc, log, &database, one, listed, list)?;
             }
         }
     }
     Ok(())
 }
 
-#[test]
-fn both_make_the_same_of_records(rt: HostRuntime) -> Result<(), Fail> {
+fn both_make_the_same_of_records(alloc: Global, log: &mut Log) -> Result<(), Fault> {
     for number in 0..200 {
-        let text = made(rt.alloc(), number)?;
-        try_records(&rt, rt.alloc(), &text)?;
+        let text = made(alloc, number)?;
+        try_records(alloc, log, &text)?;
     }
     Ok(())
 }
 
-#[test]
-fn both_make_the_same_of_fields(rt: HostRuntime) -> Result<(), Fail> {
+fn both_make_the_same_of_fields(alloc: Global, log: &mut Log) -> Result<(), Fault> {
     for number in 0..60 {
-        let text = made(rt.alloc(), number)?;
-        try_lists(&rt, rt.alloc(), &text)?;
+        let text = made(alloc, number)?;
+        try_lists(alloc, log, &text)?;
     }
     Ok(())
 }
@@ -265,31 +287,28 @@ fn set_or_add(alloc: Global) -> Result<Edit, Fault> {
     })
 }
 
-#[test]
-fn growth_of_delete(rt: HostRuntime) -> Result<(), Fail> {
-    if let Ok(selection) = selection(rt.alloc(), "0") {
+fn growth_of_delete(alloc: Global, log: &mut Log) -> Result<(), Fault> {
+    if let Ok(selection) = selection(alloc, "0") {
         let request = Edit::Delete(selection);
         let wanted = "%rec: P\n%key: Id\n%auto: No\n\nId: 2\nNo: 4\n";
-        check_edit(&rt, rt.alloc(), &request, wanted)?;
+        check_edit(alloc, log, &request, wanted)?;
     }
     Ok(())
 }
 
-#[test]
-fn growth_of_comment_out(rt: HostRuntime) -> Result<(), Fail> {
-    if let Ok(selection) = selection(rt.alloc(), "1") {
+fn growth_of_comment_out(alloc: Global, log: &mut Log) -> Result<(), Fault> {
+    if let Ok(selection) = selection(alloc, "1") {
         let request = Edit::CommentOut(selection);
         let wanted = "%rec: P\n%key: Id\n%auto: No\n\nId: 1\n# c\nN: a\n\n#Id: 2\n#No: 4\n";
-        check_edit(&rt, rt.alloc(), &request, wanted)?;
+        check_edit(alloc, log, &request, wanted)?;
     }
     Ok(())
 }
 
-#[test]
-fn growth_of_set(rt: HostRuntime) -> Result<(), Fail> {
-    if let Ok(request) = set_or_add(rt.alloc()) {
+fn growth_of_set(alloc: Global, log: &mut Log) -> Result<(), Fault> {
+    if let Ok(request) = set_or_add(alloc) {
         let wanted = "%rec: P\n%key: Id\n%auto: No\n\nId: 1\n# c\nN: b\nM: b\n\nId: 2\nNo: 4\n";
-        check_edit(&rt, rt.alloc(), &request, wanted)?;
+        check_edit(alloc, log, &request, wanted)?;
     }
     Ok(())
 }
@@ -313,12 +332,11 @@ fn insertion(alloc: Global) -> Result<Edit, AllocError> {
     })
 }
 
-#[test]
-fn growth_of_insert(rt: HostRuntime) -> Result<(), Fail> {
-    if let Ok(request) = insertion(rt.alloc()) {
+fn growth_of_insert(alloc: Global, log: &mut Log) -> Result<(), Fault> {
+    if let Ok(request) = insertion(alloc) {
         let wanted =
             "%rec: P\n%key: Id\n%auto: No\n\nId: 1\n# c\nN: a\n\nId: 2\nNo: 4\n\nNo: 5\nId: 3\n";
-        check_edit(&rt, rt.alloc(), &request, wanted)?;
+        check_edit(alloc, log, &request, wanted)?;
     }
     Ok(())
 }
@@ -329,18 +347,16 @@ fn replacement(alloc: Global) -> Result<Edit, Fault> {
     Ok(Edit::Replace { selection, fresh })
 }
 
-#[test]
-fn growth_of_replace(rt: HostRuntime) -> Result<(), Fail> {
-    if let Ok(request) = replacement(rt.alloc()) {
+fn growth_of_replace(alloc: Global, log: &mut Log) -> Result<(), Fault> {
+    if let Ok(request) = replacement(alloc) {
         let wanted = "%rec: P\n%key: Id\n%auto: No\n\nId: 3\nN: x\n\nId: 2\nNo: 4\n";
-        check_edit(&rt, rt.alloc(), &request, wanted)?;
+        check_edit(alloc, log, &request, wanted)?;
     }
     Ok(())
 }
 
-#[test]
-fn growth_of_auto_fill(rt: HostRuntime) -> Result<(), Fail> {
+fn growth_of_auto_fill(alloc: Global, log: &mut Log) -> Result<(), Fault> {
     let wanted = "%rec: P\n%key: Id\n%auto: No\n\nNo: 5\nId: 1\n# c\nN: a\n\nId: 2\nNo: 4\n";
-    check_edit(&rt, rt.alloc(), &Edit::AutoFill, wanted)?;
+    check_edit(alloc, log, &Edit::AutoFill, wanted)?;
     Ok(())
 }

@@ -1,12 +1,18 @@
 //! The reports of the plain program and of a schema, on the same texts: some that are told by hand, and longer ones.
 //! `crates/rec_rows` has more reports that are told by hand.
+use crate::log::Log;
 use crate::plain::plain_report;
 use crate::rows::text_in;
 use rec_check::Schema;
 use rec_text::{Fault, Rule, Violation, read};
 use std::alloc::{AllocError, Global};
-use std::process::Abort;
-use std::test::Fail;
+
+pub fn run(alloc: Global, log: &mut Log) {
+    cases!(alloc, log:
+        both_find_what_is_told,
+        both_find_the_same_by_each_rule,
+        both_find_the_same_by_all_rules);
+}
 
 /// A row has a text, `->`, and its report; `|` stands for a newline.
 const TOGETHER: &str = "\
@@ -50,7 +56,7 @@ const FIELDS: [(&str, u64, u64); 12] = [
 ];
 
 /// Which of these a descriptor asks.
-#[derive(Clone, Copy, Debug, PartialEq, Eq)]
+#[derive(Clone, Copy)]
 enum Asked {
     All,
     Only(usize),
@@ -116,63 +122,56 @@ fn printed(alloc: Global, found: &[Violation]) -> Result<String, Fault> {
     Ok(report)
 }
 
-/// Both programs find the same.
-fn try_both(rt: &impl Abort, alloc: Global, text: &[u8]) -> Result<Vec<Violation>, Fault> {
+/// The report of a schema, which the plain program gives too.
+fn try_both(alloc: Global, log: &mut Log, text: &[u8]) -> Result<String, Fault> {
     let database = read(alloc, text)?;
     let found = Schema::read(alloc, &database)?.violations(alloc, &database)?;
+    let report = printed(alloc, &found)?;
     let plain = printed(alloc, &plain_report(alloc, &database)?)?;
-    assert_eq!(rt;
-        printed(alloc, &found)?.as_str(),
-        plain.as_str(),
-        "at {text:?}"
+    log.at_bytes(text);
+    log.same(
+        "the report",
+        report.as_str().as_bytes(),
+        plain.as_str().as_bytes(),
     );
-    Ok(found)
+    Ok(report)
 }
 
-#[test]
-fn both_find_what_is_told(rt: HostRuntime) -> Result<(), Fail> {
+fn both_find_what_is_told(alloc: Global, log: &mut Log) -> Result<(), Fault> {
     for row in TOGETHER.lines() {
         let (text, wanted) = row.split_once("->").unwrap_or((row, "?"));
-        let found = try_both(&rt, rt.alloc(), &text_in(rt.alloc(), text)?)?;
-        let report = printed(rt.alloc(), &found)?;
-        assert_eq!(rt; report.as_str(), wanted.trim_start(), "at {row}");
+        let report = try_both(alloc, log, &text_in(alloc, text)?)?;
+        let wanted = wanted.trim_start().as_bytes();
+        log.same("the report", report.as_str().as_bytes(), wanted);
     }
     Ok(())
 }
 
 /// Both programs find the same in a set with one rule, and in one with all the others.
-fn try_rule(rt: &impl Abort, alloc: Global, i: usize) -> Result<(), Fault> {
-    let text = made(alloc, Asked::Only(i), Asked::AllBut(i))?;
-    try_both(rt, alloc, text.as_bytes())?;
-    Ok(())
-}
-
-#[test]
-fn both_find_the_same_by_each_rule(rt: HostRuntime) -> Result<(), Fail> {
+fn both_find_the_same_by_each_rule(alloc: Global, log: &mut Log) -> Result<(), Fault> {
     for i in 0..ASKED.len() {
-        try_rule(&rt, rt.alloc(), i)?;
+        let text = made(alloc, Asked::Only(i), Asked::AllBut(i))?;
+        try_both(alloc, log, text.as_str().as_bytes())?;
     }
     Ok(())
 }
 
-#[test]
-fn both_find_the_same_by_all_rules(rt: HostRuntime) -> Result<(), Fail> {
-    let text = made(rt.alloc(), Asked::All, Asked::All)?;
-    let found = try_both(&rt, rt.alloc(), text.as_bytes())?;
-    for rule in [
-        Rule::Size,
-        Rule::Key,
-        Rule::Mandatory,
-        Rule::Prohibit,
-        Rule::Unique,
-        Rule::Allowed,
-        Rule::Fit,
-        Rule::Constraint,
-    ] {
-        assert!(rt;
-            found.iter().any(|violation| violation.rule == rule),
-            "{rule:?}"
-        );
+/// Whether a line of a report names a rule.
+fn names_rule(report: &str, rule: &str) -> bool {
+    for line in report.split('|') {
+        if line.split(' ').nth(1) == Some(rule) {
+            return true;
+        }
+    }
+    false
+}
+
+fn both_find_the_same_by_all_rules(alloc: Global, log: &mut Log) -> Result<(), Fault> {
+    let text = made(alloc, Asked::All, Asked::All)?;
+    let report = try_both(alloc, log, text.as_str().as_bytes())?;
+    for rule in "size key mandatory prohibit unique allowed type constraint".split(' ') {
+        log.at(rule);
+        log.holds("the rule is broken", names_rule(report.as_str(), rule));
     }
     Ok(())
 }

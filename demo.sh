@@ -31,15 +31,17 @@ start() {
     process[$1]=$!
 }
 
-# How far a crate is. Once rt has read the sources, it tells how many functions there are, and it keeps a file for each
-# proof: so those that an earlier run proved count too.
+# How many functions of a crate are proved, by earlier runs too: rt keeps a file for each proof, of impls and cycles too.
+proofs() {
+    ls "${home[$1]}"/out/incremental/* 2> /dev/null |
+        grep -vE '\.TheImpl\.|\.\+' | grep -c -- '-proofs\..*\.Proof\.oantt$' || true
+}
+
+# How far a crate is. Once rt has read the sources, it tells how many functions there are.
 state() {
     local all done='at work' seconds=$((SECONDS - began[$1]))
     all=$(sed -n 's/^so far: 0 of \([0-9]*\) functions checked.*/\1/p' "$folder/log_of_$1")
-    if [ -n "$all" ]; then
-        done=$(find "${home[$1]}/out/incremental" -name '*-proofs.*.Proof.oantt' ! -name '*.TheImpl.*' | wc -l)
-        done="$done of $all functions proved"
-    fi
+    [ -z "$all" ] || done="$(proofs "$1") of $all functions proved"
     printf '%-12s %s, %d:%02d minutes\n' "$1" "$done" $((seconds / 60)) $((seconds % 60))
 }
 

@@ -1,5 +1,6 @@
 #!/usr/bin/env bash
 # All tests, one part of them, or one case of a part. The last line is 'N passed, M failed'.
+#     bash test.sh quick                   what needs no proof, in minutes: for a first look, and after a change of the code
 #     bash test.sh                         all parts
 #     bash test.sh proofs                  every proof from nothing, the gate's wrong bodies, the tests in the crates
 #     bash test.sh edits [--gate] [CRATE|EDIT]
@@ -90,6 +91,55 @@ cases() {
     fi
 }
 
+# The sources are in the layout of rt fmt.
+layout() {
+    find crates -path '*/out' -prune -o \( -name '*.rt' -o -name '*.antt' \) -print0 |
+        xargs -0 "$(dirname "$(rt doc)")/bin/rattle" fmt --check
+}
+
+# unproved CRATE: runs the crate's program on what stands beside its src/, as the gate does, but as rt try builds it: with no
+# proof, and with a check of each index, sum and access as it runs. Of each pool of drawn.rec five lists are run.
+unproved() (
+    words=() arguments=() input=/dev/null
+    cd "crates/$1" || exit 1
+    [ ! -f args ] || mapfile -t arguments < args
+    [ ! -f stdin ] || input=stdin
+    if [ -d data ]; then
+        cp -r data "$folder/data"
+        sed -i 's/^Lists: [0-9]*/Lists: 5/' "$folder/data/drawn.rec"
+        for name in "${arguments[@]}"; do words+=(--data "$name=$folder/data/$name"); done
+    fi
+    rt try --seconds 300 "${words[@]}" -- "${arguments[@]}" < "$input" > "$folder/$1.out" 2> "$folder/$1.err"
+    echo $? > "$folder/$1.status"
+)
+
+# compare CRATE: whether its program ended well and printed what it must, save how many requests were run
+compare() {
+    local cases=1
+    sed -i 's/, [0-9]* requests$//' "$folder/$1.out"
+    if sed 's/, [0-9]* requests$//' "crates/$1/stdout" | diff - "$folder/$1.out" && [ "$(< "$folder/$1.status")" = 0 ]; then
+        [[ $(tail -n 1 "$folder/$1.out") =~ ^([0-9]+)\ (cases|passed) ]] && cases=${BASH_REMATCH[1]}
+        echo "test.sh: $1, unproved: $cases passed"
+        passed=$((passed + cases))
+    else
+        cat "$folder/$1.err"
+        echo "test.sh: $1, unproved: FAILED"
+        failed=$((failed + 1))
+    fi
+}
+
+quick() {
+    local crate
+    echo 'test.sh: the quick part takes some 4 minutes on 2 processors'
+    if layout; then passed=$((passed + 1)); else failed=$((failed + 1)); fi
+    bodies
+    unproved rec_rows &
+    (unproved rec_calls; unproved recu) &
+    wait
+    for crate in rec_rows rec_calls recu; do compare "$crate"; done
+    echo 'test.sh: nothing was proved: the sources read and build, and pass these cases. bash test.sh proves what they promise'
+}
+
 program() {
     cases "${1-}" tests/{edits,usage,files,rivals,rights,streams,selecting,rules,sessions}.bats
 }
@@ -112,12 +162,13 @@ all() {
 }
 
 case ${1-all} in
-    all | proofs) [ $# -le 1 ] || usage ;;
+    all | proofs | quick) [ $# -le 1 ] || usage ;;
     edits) [ $# -le 2 ] || [ "$#$2" = 3--gate ] || usage ;;
     program | memory | growth) [ $# -le 2 ] || usage ;;
     *) usage ;;
 esac
-if bash tests/needs.sh; then "${@:-all}"; else failed=1; fi
+# (the quick part calls none of what needs.sh installs)
+if [ "${1-}" = quick ] || bash tests/needs.sh; then "${@:-all}"; else failed=1; fi
 times > "$folder/times"
 awk '{ for (i = 1; i <= 2; i++) { split($i, part, /[ms]/); sum += part[1] + part[2] / 60 } }
     END { printf "test.sh: %.1f processor minutes\n", sum }' "$folder/times"

@@ -1,5 +1,5 @@
 -- What goes out of a request that prints, by the steps of which one may refuse it.
-use Rattle.std.proofs.Common.{◌≡◌, inl, inr, ℕ, List, Option, Some, None, Result, Ok, Err, refl, ap, subst, sym}
+use Rattle.std.proofs.Common.{◌≡◌, inl, inr, ℕ, List, Option, Some, None, Result, Ok, Err, refl, subst, sym}
 use Rattle.std.specs.Io.KnownBytes.{Keeps}
 use Rattle.rec_text.specs.declared.fault.Fault.{Fault}
 use Rattle.rec_text.specs.declared.fault.Fault.TheVariants.{OutOfMemory, NoSuchType, StoreFailed}
@@ -9,7 +9,6 @@ use Rattle.rec_text.specs.Faults.{IsMemoryOr}
 use Rattle.rec_check.specs.declared.set.Set_.{Set_}
 use Rattle.rec_check.specs.Schemas.{IsSchema}
 use Rattle.rec_select.specs.Printing.{Puts}
-use Rattle.rec_select.specs.Taken.{SaysFailures}
 use Rattle.rec_tools.specs.declared.request.Reply.{Reply}
 use Rattle.rec_tools.specs.declared.request.Reply.TheVariants.{Shown}
 use Rattle.rec_tools.specs.Asking.{Base, IsBaseOf, IsBase}
@@ -85,10 +84,3 @@ no_store_base file = no_store_then (IsReading file) IsBaseOf (λ h. h) no_store_
 pub no_store_type : (found : Option Set_) → ◌≡◌ {A = Result Set_ Fault} (elim found [ None ↦ Err NoSuchType | Some s ↦ Ok s ]) (Err StoreFailed) → ⊥
 no_store_type None e = cc
 no_store_type (Some s) e = cc
-
--- ---- failures of the sink
-
--- a refusal that is handed on says as much of them
-pub told-err : {X Y : Type 0} (before after : ℕ) (fault : Fault) → SaysFailures {X = X} before after (Err fault) → SaysFailures {X = Y} before after (Err fault)
-told-err before after fault (inl e) = inl (ap Err (same_fault _ _ e))
-told-err before after fault (inr kept) = inr kept

@@ -1,7 +1,7 @@
 use Rattle.std.proofs.Common.{refl, ◌∙◌, ap, sym, subst, Some, arith}
 use Rattle.rec_text.specs.Sink.{one_more}
 use Rattle.rec_tools.specs.Home.{CountsOne}
-use Rattle.rec_tools.proofs.MemoryLemmas.{put-made, put-short, put-failing, left-failing}
+use Rattle.rec_tools.proofs.MemoryLemmas.{put-short, put-failing, left-failing}
 use Rattle.rec_tools.proofs.memory.MemoryHomeHome.replace.Goals as goal
 
 pub returns-in-Some-LeavesOld-clause-call : goal.returns-in-Some-LeavesOld-clause-call

@@ -32,7 +32,10 @@ fn patch_at(alloc: Global, at: usize, old: &[u8], new: &[u8]) -> Result<Patch, F
         old: Bytes::copy_of(alloc, old)?,
         new: Bytes::copy_of(alloc, new)?,
     })?;
-    Patch::new(hunks).ok_or(Fault::BadUsage)
+    match Patch::new(hunks) {
+        Some(patch) => Ok(patch),
+        None => Err(Fault::BadUsage),
+    }
 }
 
 /// The journal of an edit by a patch.

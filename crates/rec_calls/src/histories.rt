@@ -169,7 +169,10 @@ fn patch_to(alloc: Global, old: u8, new: u8) -> Result<Patch, Fault>
         old: Bytes::copy_of(alloc, &[old])?,
         new: Bytes::copy_of(alloc, &[new])?,
     })?;
-    Patch::new(hunks).ok_or(Fault::BadUsage)
+    match Patch::new(hunks) {
+        Some(patch) => Ok(patch),
+        None => Err(Fault::BadUsage),
+    }
 }
 
 /// The plan of the edit that replaces one byte by another.

@@ -178,7 +178,10 @@ fn growth_of_load(alloc: Global, log: &mut Log) -> Result<(), Fault> {
 fn b_patch(alloc: Global) -> Result<Patch, Fault>
     ensures { IfOk result (λ patch. patch ≢ []) }
 {
-    Patch::new(b_deleted(alloc)?).ok_or(Fault::BadUsage)
+    match Patch::new(b_deleted(alloc)?) {
+        Some(patch) => Ok(patch),
+        None => Err(Fault::BadUsage),
+    }
 }
 
 /// The plan of the deletion, which is asked for again where memory ran out.

@@ -40,9 +40,11 @@ fn check_counts(log: &mut Log, database: &Database) {
     let elements = database.elements();
     log.equal("elements", elements.len(), 5);
     log.equal("fields A", count_of(elements, b"A"), 2);
-    let some = elements_in(elements, &(1..3));
-    log.equal("fields A of some elements", count_of(some, b"A"), 1);
     log.equal("elements without a name", count_of(elements, b""), 2);
+    if elements.len() == 5 {
+        let some = elements_in(elements, &(1..3));
+        log.equal("fields A of some elements", count_of(some, b"A"), 1);
+    }
 }
 
 fn check_kinds(log: &mut Log, database: &Database) {

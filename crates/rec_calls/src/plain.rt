@@ -169,8 +169,7 @@ struct Plain<'d, 't> {
 impl<'d, 't> Plain<'d, 't> {
     /// Adds a violation at the line of a place.
     fn add(&mut self, at: usize, rule: Rule, name: &[u8]) -> Result<(), Fault> {
-        let end = self.database.text().len();
-        let line = self.database.line_of(at.min(end));
+        let line = self.database.line_of(at);
         let name = Bytes::copy_of(self.alloc, name)?;
         self.found.push(Violation { line, rule, name })?;
         Ok(())

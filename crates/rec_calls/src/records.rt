@@ -254,9 +254,7 @@ fn check_names(log: &mut Log, database: &Database) {
 fn check_lines(log: &mut Log, database: &Database) {
     log.holds("the text is long", 64 <= database.text().len());
     for (at, line) in [(0, 1), (10, 1), (11, 2), (44, 7), (53, 8), (64, 11)] {
-        if at <= database.text().len() {
-            log.equal("the line of a place", database.line_of(at), line);
-        }
+        log.equal("the line of a place", database.line_of(at), line);
     }
 }
 

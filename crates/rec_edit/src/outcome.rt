@@ -1,5 +1,5 @@
 //! The outcome of an edit.
-ghost use Rattle.std.specs.Prelude.{◌≡◌, ◌≢◌, ◌↔◌, [], false, IsTrue, Bool, Result, Ok, Err, IfOk, IfErr};
+ghost use Rattle.std.specs.Prelude.{◌≡◌, ◌≢◌, ◌↔◌, [], false, length, IsTrue, Bool, Result, Ok, Err, IfOk, IfErr};
 ghost use Rattle.std.specs.List.{AllByRecursion};
 ghost use Rattle.rec_text.specs.declared.fault.Fault.{Fault};
 ghost use Rattle.rec_text.specs.declared.fault.Fault.TheVariants.{BadPattern};
@@ -9,17 +9,20 @@ ghost use Rattle.rec_check.specs.Schemas.{IsSchema};
 ghost use Rattle.rec_check.specs.Stored.{described};
 ghost use Rattle.rec_journal.specs.Patch.{Splices};
 ghost use Rattle.rec_edit.specs.declared.outcome.Edited.{Edited as EditedOf};
+ghost use Rattle.rec_edit.specs.Drafts.{AreRanges};
 ghost use Rattle.rec_edit.specs.Edits.{IsEditOf};
+ghost use Rattle.rec_edit.specs.Filling.{filled_of, ranges_of};
+ghost use Rattle.rec_edit.specs.Insertions.{filling};
 ghost use Rattle.rec_edit.specs.Task.{task_of, wanted_by, fresh_by, insert as inserting_one, replace as replacing, delete as deleting, comment_out as commenting_out, set as setting_fields, auto_fill as filling_all};
 ghost use Rattle.rec_edit.specs.Script.{TakesWhole};
-ghost use Rattle.rec_edit.specs.Outcome.{IsSound, IsOutcome, IsEditRefusal, PutsNoDescriptorIn};
+ghost use Rattle.rec_edit.specs.Outcome.{IsSound, IsOutcome, IsEditRefusal, PutsNoDescriptorIn, edited_by, step_of};
 ghost use Rattle.rec_edit.specs.Effect.{HasEffect};
 
 use crate::automatic::automatic_fields;
 use crate::chosen::{chosen_records, removable_records};
 use crate::commenting::Commenting;
 use crate::deletion::Deletion;
-use crate::filled::filled_records;
+use crate::filled::{FilledRecord, filled_records};
 use crate::filling::{Filling, record_ranges};
 use crate::fresh::new_record;
 use crate::insertion::Insertion;
@@ -33,7 +36,7 @@ use rec_check::Schema;
 use rec_journal::Patch;
 use rec_select::Selection;
 use rec_text::{Bytes, Database, Fault};
-use std::alloc::Global;
+use std::alloc::{AllocError, Global};
 
 /// What an edit makes of a text: the text after it, the patch that leads there, and how many records it changed.
 #[derive(Drop)]
@@ -78,15 +81,27 @@ fn replace(
     Ok(carried_out(alloc, database, &chosen, &plan)?)
 }
 
+/// Records get these automatic fields.
+fn filled_up(
+    alloc: Global,
+    database: &Database,
+    filled: &[FilledRecord],
+) -> Result<Edited, AllocError>
+    requires { AreRanges (length database.now) (ranges_of (filled_of filled.now)) }
+    ensures { IfOk result (λ edited. edited ≡ edited_by (step_of database.now (ranges_of (filled_of filled.now)) (filling (filled_of filled.now)))) }
+{
+    let ranges = record_ranges(alloc, filled)?;
+    let plan = Filling::of(alloc, filled)?;
+    carried_out(alloc, database, &ranges, &plan)
+}
+
 /// All records of typed sets get the automatic fields that they lack.
 fn auto_fill(alloc: Global, database: &Database, schema: &Schema) -> Result<Edited, Fault>
     requires { IsSchema database.now (Ok (described schema.now)) }
     ensures { (force : Bool) → UnlessMemory result (IsEditOf database.now (described schema.now) force filling_all) }
 {
     let filled = filled_records(alloc, database, schema)?;
-    let ranges = record_ranges(alloc, &filled)?;
-    let plan = Filling::of(alloc, &filled)?;
-    Ok(carried_out(alloc, database, &ranges, &plan)?)
+    Ok(filled_up(alloc, database, &filled)?)
 }
 
 /// The records of a selection are deleted.

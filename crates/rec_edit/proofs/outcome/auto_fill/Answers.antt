@@ -1,10 +1,9 @@
-use Rattle.std.proofs.Common.{◌∙◌, length, ap, sym, subst}
+use Rattle.std.proofs.Common.{length, ap, sym, subst}
 use Rattle.std.proofs.lemmas.Result.{err_from_is_err_and}
 use Rattle.rec_check.specs.Stored.{described}
 use Rattle.rec_edit.specs.Drafts.{AreRanges}
 use Rattle.rec_edit.specs.Filling.{filled_of, ranges_of}
 use Rattle.rec_edit.proofs.FillMadeLemmas.{AreRanges-filled, auto_fill-refused, auto_fill-made}
-use Rattle.rec_edit.proofs.FillPlanLemmas.{LaysLines-filling}
 use Rattle.rec_edit.proofs.outcome.auto_fill.Goals as goal
 
 pub returns-in_err-filled : goal.returns-in_err-filled
@@ -12,22 +11,11 @@ returns-in_err-filled c = λ force.
     let kept = err_from_is_err_and c.from_residual.result c.from_residual.ensures.1 in
     rw (kept.1, kept.2) (auto_fill-refused c.args.database.now (described c.args.schema.now) force c.requires.records c.requires.are c.in_err-filled.field-0.0 (c.in_err-filled.ensures.refused c.requires.records c.requires.are))
 
-pub of-requires : goal.of-requires
-of-requires c = (
-  length c.args.database.now,
-  subst (λ f. AreRanges (length c.args.database.now) (ranges_of (filled_of f))) (sym c.deref-2.ensures.value)
-      (AreRanges-filled c.args.database.now (described c.args.schema.now) c.requires (filled_of c.in_ok-filled.filled.items) (c.in_ok-filled.ensures.filled c.requires.records c.requires.are)),
-)
-
-pub carried_out-requires-clause-chosen : goal.carried_out-requires-clause-chosen
-carried_out-requires-clause-chosen c = subst (AreRanges (length c.args.database.now)) (sym (c.deref-3.ensures.value ∙ c.in_ok-ranges.ensures ∙ ap (λ f. ranges_of (filled_of f)) c.deref.ensures.value))
+pub filled_up-requires : goal.filled_up-requires
+filled_up-requires c = subst (λ f. AreRanges (length c.args.database.now) (ranges_of (filled_of f))) (sym c.deref.ensures.value)
     (AreRanges-filled c.args.database.now (described c.args.schema.now) c.requires (filled_of c.in_ok-filled.filled.items) (c.in_ok-filled.ensures.filled c.requires.records c.requires.are))
-
-pub carried_out-requires-clause-lines : goal.carried_out-requires-clause-lines
-carried_out-requires-clause-lines c = LaysLines-filling c.in_ok-plan.plan
 
 pub returns : goal.returns
 returns c = λ force.
-    auto_fill-made c.args.database.now (described c.args.schema.now) force c.requires.records c.requires.are (filled_of c.in_ok-filled.filled.items) c.in_ok-plan.plan c.deref-3.result.now c.in_ok-carried_out.field-0
-    (c.in_ok-filled.ensures.filled c.requires.records c.requires.are) (c.in_ok-plan.ensures ∙ ap filled_of c.deref-2.ensures.value)
-    (c.deref-3.ensures.value ∙ c.in_ok-ranges.ensures ∙ ap (λ f. ranges_of (filled_of f)) c.deref.ensures.value) c.in_ok-carried_out.ensures
+    auto_fill-made c.args.database.now (described c.args.schema.now) force c.requires.records c.requires.are (filled_of c.in_ok-filled.filled.items) (filled_of c.deref.result.now) (ranges_of (filled_of c.deref.result.now)) c.in_ok-filled_up.field-0
+    (c.in_ok-filled.ensures.filled c.requires.records c.requires.are) (ap filled_of c.deref.ensures.value) (ap (λ f. ranges_of (filled_of f)) c.deref.ensures.value) c.in_ok-filled_up.ensures

@@ -1,0 +1,24 @@
+use Rattle.std.proofs.Common.{◌≡◌, ◌∙◌, length, subst, sym}
+use Rattle.std.specs.Prelude.{IfOk}
+use Rattle.rec_edit.specs.Drafts.{AreRanges}
+use Rattle.rec_edit.specs.Filling.{filled_of, ranges_of}
+use Rattle.rec_edit.specs.Insertions.{filling}
+use Rattle.rec_edit.specs.Outcome.{edited_by, step_of}
+use Rattle.rec_edit.proofs.FillPlanLemmas.{LaysLines-filling}
+use Rattle.rec_edit.proofs.outcome.filled_up.Goals as goal
+
+pub of-requires : goal.of-requires
+of-requires c = (length c.args.database.now, c.requires)
+
+pub carried_out-requires-clause-chosen : goal.carried_out-requires-clause-chosen
+carried_out-requires-clause-chosen c = subst (AreRanges (length c.args.database.now)) (sym (c.deref.ensures.value ∙ c.in_ok-ranges.ensures)) c.requires
+
+pub carried_out-requires-clause-lines : goal.carried_out-requires-clause-lines
+carried_out-requires-clause-lines c = LaysLines-filling c.in_ok-plan.plan
+
+pub returns : goal.returns
+returns c =
+    let pieces = c.args.database.now in
+    let ranges = ranges_of (filled_of c.args.filled.now) in
+    subst (λ plan. IfOk c.carried_out.result (λ edited. edited ≡ edited_by (step_of pieces ranges (filling plan)))) c.in_ok-plan.ensures
+    (subst (λ given. IfOk c.carried_out.result (λ edited. edited ≡ edited_by (step_of pieces given (filling c.in_ok-plan.plan)))) (c.deref.ensures.value ∙ c.in_ok-ranges.ensures) c.carried_out.ensures)

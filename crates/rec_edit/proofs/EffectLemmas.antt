@@ -161,7 +161,7 @@ action_plain (Rename name) plain = (and_parts (is_plain_name name) true plain).0
 action_plain Delete plain = tt
 action_plain CommentFields plain = tt
 
-items_plain : (action : Action) (list : List ℕ) (items : List Item) → AreItemsFor action list (Ok items) → ArePlainItems items × IsPlainAction action
+pub items_plain : (action : Action) (list : List ℕ) (items : List Item) → AreItemsFor action list (Ok items) → ArePlainItems items × IsPlainAction action
 items_plain action list items (inl (fault, refused, e)) = absurd (cc)
 items_plain action list items (inr (found, are, inl (fault, refused, e))) = absurd (cc)
 items_plain action list items (inr (found, are, inr (unnumbered_, is, same))) =

@@ -60,6 +60,8 @@ pub mod FilledRecordLemmas
 pub mod AutoFillLemmas
 pub mod EveryKindLemmas
 pub mod HunkLemmas
+pub mod OwnPartLemmas
+pub mod CountedLemmas
 pub mod UntypedLemmas
 pub mod UnruledLemmas
 pub mod TieLemmas

@@ -35,7 +35,7 @@ record IsReplacement (pieces : List Piece) (schema : Described) (wanted : Wanted
   meant : AreMeant pieces schema.sets wanted chosen
   is : step.script ≡ script_of (replacement (fields_of pairs) chosen) pieces
 
-new_record_can_be_written : (fresh : NewRecord) (pairs : List Pair) → IsNewRecord None fresh (Ok pairs) → AllByRecursion CanBeWritten pairs
+pub new_record_can_be_written : (fresh : NewRecord) (pairs : List Pair) → IsNewRecord None fresh (Ok pairs) → AllByRecursion CanBeWritten pairs
 new_record_can_be_written fresh pairs (inl (fault, refused, e)) = absurd (cc)
 new_record_can_be_written fresh pairs (inr (given, are, same)) =
     let names : List (List ℕ) = map (λ pair. pair.name) given in

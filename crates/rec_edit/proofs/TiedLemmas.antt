@@ -94,7 +94,7 @@ module _ (P Q : Piece → Type 0) where
       (are_parts-changing (layout.tied i) piece (layout.becomes i (closed piece)) (parts_from (i + 1) layout pieces)
       (lays.lines i piece whole.0) (lays.bares i piece whole.0) (are_parts layout (i + 1) pieces lays whole.1))
 
-  lines_of_parts : (parts : List Part) → AllByRecursion IsPartOf parts → AllByRecursion P (new_pieces parts)
+  pub lines_of_parts : (parts : List Part) → AllByRecursion IsPartOf parts → AllByRecursion P (new_pieces parts)
   lines_of_parts [] all = tt
   lines_of_parts (part ∷ parts) all = all_append P part.new (new_pieces parts) all.0.lines (lines_of_parts parts all.1)
 
@@ -117,7 +117,7 @@ tied_pieces_are_read layout pieces lays whole =
 
 -- ---- with their newlines, the new elements of a script are those that are laid
 
-part_reopens : (part : Part) → IsPartOf Ends Neat part → Reopens part
+pub part_reopens : (part : Part) → IsPartOf Ends Neat part → Reopens part
 part_reopens part is lacks = map-closed-opened part.new (is.bares (lacks_newline-ends (text_of part.old) lacks)) ∙ sym (map-closed part.new is.lines)
 
 pub closed-tied : (layout : Layout) (pieces : List Piece) → LaysTied Ends Neat layout → AllByRecursion IsElement pieces → map closed (new_pieces (script_of layout pieces)) ≡ laid_from layout 0 pieces

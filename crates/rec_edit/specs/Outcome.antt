@@ -20,9 +20,9 @@ use Rattle.rec_journal.specs.Revisions.{hunks_of as hunks_in}
 use Rattle.rec_select.specs.Selection.{Filter, all, by_expression, at_places, with_text, IsSelection}
 use Rattle.rec_edit.specs.declared.outcome.Edited.{Edited}
 use Rattle.rec_edit.specs.Task.{Wanted, Task, insert, replace, delete, comment_out, set, auto_fill}
-use Rattle.rec_edit.specs.Script.{Part, Layout, closed, script_of, old_pieces, new_pieces, edited_text, hunks_of, AreChangesOf}
+use Rattle.rec_edit.specs.Script.{Part, Layout, closed, script_of, old_pieces, new_pieces, edited_text, parts_in, hunks_of, AreChangesOf}
 use Rattle.rec_edit.specs.Rules.{fields_of, deletion, commenting, replacement, setting}
-use Rattle.rec_edit.specs.Insertions.{inserting, insertion_for, numbered_fields, filling}
+use Rattle.rec_edit.specs.Insertions.{Filled, inserting, insertion_for, numbered_fields, filling}
 use Rattle.rec_edit.specs.Wording.{AreItemsFor, IsNewRecord}
 use Rattle.rec_edit.specs.Automatic.{AreAutomatic, AreFilledSets}
 
@@ -168,3 +168,33 @@ abbrev pub HunksAreChanges : Type 0
 HunksAreChanges = (pieces : List Piece) (schema : Described) (force : Bool) (task : Task) (step : Step)
     → AreElementsOf pieces (text_of pieces) → IsSchema pieces (Ok schema) → IsStep pieces schema force task (Ok step)
     → IsToldByHunks pieces step.script
+
+-- the script makes something else of a record, the newline at the end of the text aside
+abbrev pub is_changed_by : List Part → Range ℕ → Bool
+is_changed_by script record_ = not (bytes_eq
+    (text_of (map closed (new_pieces (parts_in record_ 0 script))))
+    (text_of (map closed (old_pieces (parts_in record_ 0 script)))))
+
+-- the number of these records of which the script makes something else
+abbrev pub Counts : Step → List (Range ℕ) → Type 0
+Counts step records = step.changed ≡ count_by (is_changed_by step.script) records
+
+-- the chosen records are counted
+abbrev pub CountsChosen : List Piece → Described → Wanted → Step → Type 0
+CountsChosen pieces schema wanted step = (chosen : List (Range ℕ)) × AreChosen pieces schema.sets wanted (Ok chosen) × Counts step chosen
+
+-- the number of changed records, as the script tells it; a record that is put in is one
+abbrev pub CountsChanged : List Piece → Described → Task → Step → Type 0
+CountsChanged pieces schema (insert kind fresh auto) step = step.changed ≡ 1
+CountsChanged pieces schema (replace wanted fresh) step = CountsChosen pieces schema wanted step
+CountsChanged pieces schema (delete wanted) step = CountsChosen pieces schema wanted step
+CountsChanged pieces schema (comment_out wanted) step = CountsChosen pieces schema wanted step
+CountsChanged pieces schema (set wanted list action) step = CountsChosen pieces schema wanted step
+CountsChanged pieces schema auto_fill step = (records : List (Range ℕ)) × (filled : List Filled) × AreRecords pieces records
+    × AreFilledSets pieces records schema.sets schema.rules (Ok filled) × Counts step (map (λ one. one.range) filled)
+
+-- the script of each edit tells it so
+abbrev pub ChangedAreCounted : Type 0
+ChangedAreCounted = (pieces : List Piece) (schema : Described) (force : Bool) (task : Task) (step : Step)
+    → AreElementsOf pieces (text_of pieces) → IsSchema pieces (Ok schema) → IsStep pieces schema force task (Ok step)
+    → CountsChanged pieces schema task step

@@ -1,8 +1,9 @@
 -- The script of an edit: parts in order, in each of which some elements give way to others. Joined, the old ones are the
 -- elements of the text, and the new ones those of the edited text.
-use Rattle.std.specs.Prelude.{◌≡◌, ◌≢◌, ℕ, ◌+◌, ◌==◌, Bool, false, ◌&&◌, not, List, [], ◌∷◌, ◌++◌, length, map, flat_map, filter, if◌then◌else◌}
+use Rattle.std.specs.Prelude.{◌≡◌, ◌≢◌, ℕ, ◌+◌, ◌==◌, Bool, false, leb, ◌&&◌, not, List, [], ◌∷◌, ◌++◌, length, map, flat_map, filter, if◌then◌else◌}
 use Rattle.std.specs.List.{AllByRecursion}
 use Rattle.std.specs.Str.{bytes_eq}
+use Rattle.std.specs.declared.ops.Range.{Range}
 use Rattle.rec_text.specs.Bytes.{is_nil, ends_newline}
 use Rattle.rec_text.specs.Elements.{Piece, text_of}
 use Rattle.rec_journal.specs.declared.patch.Hunk.{Hunk}
@@ -111,6 +112,14 @@ changes_from at (part ∷ parts) =
 -- some parts as one
 abbrev pub as_one : List Part → Part
 as_one run = record { old = old_pieces run; new = new_pieces run }
+
+-- the parts whose old elements lie in a range of indexes, the first part beginning at this index
+abbrev pub parts_in : Range ℕ → ℕ → List Part → List Part
+parts_in range i [] = []
+parts_in range i (part ∷ parts) =
+    if leb range.start i && leb (i + length part.old) range.end
+    then part ∷ parts_in range (i + length part.old) parts
+    else parts_in range (i + length part.old) parts
 
 -- runs of kept parts and of changed ones in turn, each as long as it can be; the first is of kept parts, or of changed ones
 abbrev pub AreInTurn : Bool → List (List Part) → Type 0

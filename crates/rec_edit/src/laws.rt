@@ -1,5 +1,5 @@
 //! Laws of the definitions, which no function computes.
-ghost use Rattle.rec_edit.specs.Outcome.{HunksAreChanges, OneOutcome, UnruledEditsAreSound};
+ghost use Rattle.rec_edit.specs.Outcome.{ChangedAreCounted, HunksAreChanges, OneOutcome, UnruledEditsAreSound};
 
 /// An edit has one outcome, whichever way the patterns of its text were built.
 pub fn one_outcome()
@@ -15,4 +15,9 @@ pub fn unruled_edits_are_sound()
 /// them.
 pub fn hunks_are_changes()
     ensures { HunksAreChanges }
+{}
+
+/// The number of changed records is that of the chosen ones of which the parts of the script make something else.
+pub fn changed_are_counted()
+    ensures { ChangedAreCounted }
 {}

@@ -24,7 +24,7 @@ mod site;
 mod sound;
 mod wording;
 
-pub use laws::{hunks_are_changes, one_outcome, unruled_edits_are_sound};
+pub use laws::{changed_are_counted, hunks_are_changes, one_outcome, unruled_edits_are_sound};
 pub use outcome::{Edited, edit};
 pub use rec_check::Schema;
 pub use rec_journal::Patch;

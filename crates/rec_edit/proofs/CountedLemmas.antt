@@ -1,24 +1,24 @@
 -- The number of changed records, as the script of an edit tells it.
-use Rattle.std.proofs.Common.{◌≡◌, ◌∙◌, ◌⊎◌, ℕ, zero, suc, ◌+◌, ◌<◌, ◌≤◌, Bool, true, false, cond, ◌==◌, ◌&&◌, List, [], ◌∷◌, ◌++◌, length, map, Option, Some, None, Result, Ok, refl, ap, ap₂, sym, subst, inl, inr, arith}
+use Rattle.std.proofs.Common.{◌≡◌, ◌∙◌, ◌⊎◌, ℕ, zero, suc, ◌+◌, ◌<◌, ◌≤◌, Bool, true, false, cond, ◌==◌, List, [], ◌∷◌, ◌++◌, length, map, Some, Result, Ok, refl, ap, ap₂, sym, subst, inl, inr, arith}
 use Rattle.std.specs.Prelude.{count_by, filter_map, flat_map, slice_get, if◌then◌else◌}
-use Rattle.std.specs.List.{AllByRecursion, fold, list_any}
+use Rattle.std.specs.List.{AllByRecursion, fold}
 use Rattle.std.specs.declared.ops.Range.{Range}
 use Rattle.std.proofs.lemmas.Bool.{cases_lt, false≢true, and_left, and_right, ne_eqb, or_from}
 use Rattle.rec_text.specs.declared.fault.Fault.{Fault}
-use Rattle.rec_text.specs.Elements.{Piece, IsElement, AreElementsOf, text_of}
+use Rattle.rec_text.specs.Elements.{Piece, IsElement}
 use Rattle.rec_text.specs.Records.{AreAscending, AreRecords, IsRecord, elements_in, is_field_at, is_full_at}
 use Rattle.rec_text.proofs.ListLemmas.{AllByRecursion-slice_get, AllByRecursion-weaker}
 use Rattle.rec_text.proofs.RecordLemmas.{field_is_full, field_is_there}
 use Rattle.rec_check.specs.declared.set.Set_.{Set_}
 use Rattle.rec_check.specs.Descriptors.{holds_index}
-use Rattle.rec_check.specs.Schemas.{Described, IsSchema}
+use Rattle.rec_check.specs.Schemas.{Described}
 use Rattle.rec_sex.specs.declared.field_list.Item.{Item}
 use Rattle.rec_edit.specs.declared.request.Action.{Action}
-use Rattle.rec_edit.specs.Task.{Pair, Wanted, Task, insert, replace, delete, comment_out, set, auto_fill}
+use Rattle.rec_edit.specs.Task.{Wanted, insert, replace, delete, comment_out, set, auto_fill}
 use Rattle.rec_edit.specs.Script.{Layout, parts_from, script_of, new_pieces}
 use Rattle.rec_edit.specs.Rules.{added, commenting, deletion, fields_of, is_own, replacement, setting}
 use Rattle.rec_edit.specs.Insertions.{Filled, filling, numbered_fields}
-use Rattle.rec_edit.specs.Outcome.{AreChosen, AreRemovable, ChangedAreCounted, Counts, CountsChanged, CountsChosen, Step, IsStep, is_changed, is_changed_by, step_of}
+use Rattle.rec_edit.specs.Outcome.{AreChosen, AreRemovable, ChangedAreCounted, Counts, CountsChanged, CountsChosen, Step, is_changed, is_changed_by, step_of}
 use Rattle.rec_edit.proofs.ChosenLemmas.{holds_index-before, holds_index-behind}
 use Rattle.rec_edit.proofs.EffectLemmas.{AreMeant, chosen_meant, items_plain, ok_same}
 use Rattle.rec_edit.proofs.FilledLemmas.{IsFilled, all_from, auto_fill_fills}
@@ -26,7 +26,7 @@ use Rattle.rec_edit.proofs.FillingLemmas.{LaysNeatly-filling}
 use Rattle.rec_edit.proofs.LaidLemmas.{Ends, Neat, LaysNeatly, Reopens, Ends-laid_from, all_append, laid_from, new_pieces-parts_from, parts_reopen}
 use Rattle.rec_edit.proofs.NeatLemmas.{LaysNeatly-commenting, LaysNeatly-deletion, LaysNeatly-setting}
 use Rattle.rec_edit.proofs.OwnElementLemmas.{all_chosen}
-use Rattle.rec_edit.proofs.OwnPartLemmas.{IsFreeAt, StandsAlone, is_changed-by}
+use Rattle.rec_edit.proofs.OwnPartLemmas.{StandsAlone, is_changed-by}
 use Rattle.rec_edit.proofs.ReplaceLemmas.{new_record_can_be_written}
 use Rattle.rec_edit.proofs.ReplacementLemmas.{replacement_lays_neatly}
 use Rattle.rec_edit.proofs.TiedLemmas.{IsPartOf, LaysTied, are_parts, lines_of_parts, part_reopens}

@@ -181,7 +181,8 @@ Counts step records = step.changed ≡ count_by (is_changed_by step.script) reco
 
 -- the chosen records are counted
 abbrev pub CountsChosen : List Piece → Described → Wanted → Step → Type 0
-CountsChosen pieces schema wanted step = (chosen : List (Range ℕ)) × AreChosen pieces schema.sets wanted (Ok chosen) × Counts step chosen
+CountsChosen pieces schema wanted step =
+    (chosen : List (Range ℕ)) × AreChosen pieces schema.sets wanted (Ok chosen) × Counts step chosen
 
 -- the number of changed records, as the script tells it; a record that is put in is one
 abbrev pub CountsChanged : List Piece → Described → Task → Step → Type 0

@@ -17,7 +17,7 @@ pub fn hunks_are_changes()
     ensures { HunksAreChanges }
 {}
 
-/// The number of changed records is that of the chosen ones of which the parts of the script make something else.
+/// The number of changed records, by the script alone: of the chosen ones, those of which their parts make something else.
 pub fn changed_are_counted()
     ensures { ChangedAreCounted }
 {}

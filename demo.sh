@@ -94,7 +94,8 @@ build() {
 # is brought back.
 copy_journal() {
     mkdir "$folder/copy"
-    tar -c --exclude=rec_text/out/incremental crates.txt HANDLES crates/rec_{text,journal} | tar -x -C "$folder/copy"
+    tar -c --exclude=out crates.txt HANDLES crates | tar -x -C "$folder/copy"
+    tar -c --exclude=incremental crates/rec_text/out | tar -x -C "$folder/copy"
 }
 bring_back() {
     if [ -d "$folder/copy/crates/rec_journal/out" ]; then

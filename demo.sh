@@ -5,8 +5,8 @@ set -euo pipefail
 cd "$(dirname "$0")"
 recu=$PWD/crates/recu/out/recu
 folder=$(mktemp -d)
-# As measured from nothing, on idle processors (their number: the minutes).
-minutes=([1]=75 [2]=45 [4]=30)
+# From nothing (processors: minutes). On 4 it was measured, on fewer it is what the processor minutes come to.
+minutes=([1]=100 [2]=60 [4]=40)
 
 # What runs beside this script ends with it, and what it proved is kept.
 end() {

@@ -14,7 +14,10 @@ pub mod Headers
 pub mod Folds
 pub mod Scans
 pub mod Pieces
+pub mod Countings
 pub mod Openings
 pub mod BoundLemmas
 pub mod FrontLemmas
+pub mod KeptLemmas
+pub mod StopLemmas
 pub mod PlanLemmas

@@ -10,4 +10,5 @@ pub mod History
 pub mod Listing
 pub mod Scan
 pub mod Plans
+pub mod Stops
 pub mod Bound

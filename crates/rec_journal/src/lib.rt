@@ -24,7 +24,7 @@ pub use event::Tool;
 pub use event_laws::{events_are_bounded, one_spelling};
 pub use hashed::Hashed;
 pub use history::History;
-pub use history_laws::one_opening;
+pub use history_laws::{one_opening, outside_texts_drift};
 pub use laws::{edits_lead_to_one_text, leads_to_one_text, moves_are_converse};
 pub use patch::{Direction, Hunk, Patch};
 pub use plan::{Plan, plan_edit, plan_redo, plan_undo};

@@ -14,6 +14,8 @@ use Rattle.rec_journal.specs.Patch.{Splices}
 use Rattle.rec_journal.specs.History.{Opened, Opens, IsOpening}
 use Rattle.rec_journal.specs.Revisions.{one_pass}
 use Rattle.rec_journal.specs.Plans.{ShareDigest, IsEditPlan, IsMovePlan, after_edit_plan, after_move, edits_on, nothing_there}
+use Rattle.rec_journal.specs.Stops.{IsSafe}
+use Rattle.rec_journal.proofs.Countings.{Opens-digest}
 use Rattle.rec_edit.specs.declared.outcome.Edited.{Edited}
 use Rattle.rec_tools.specs.declared.decision.Change.{Change}
 use Rattle.rec_tools.specs.declared.request.Reply.{Reply}
@@ -21,18 +23,16 @@ use Rattle.rec_tools.specs.declared.request.Reply.TheVariants.{Edited as EditedR
 use Rattle.rec_tools.specs.Home.{Contents}
 use Rattle.rec_tools.specs.Asking.{Base}
 use Rattle.rec_tools.specs.Requests.{editing, moving}
-use Rattle.rec_tools.specs.Outcomes.{staying, putting, move_plan, reply_of, IsOutcome}
+use Rattle.rec_tools.specs.Outcomes.{staying, putting, reply_of, IsOutcome}
 use Rattle.rec_tools.specs.Changes.{IsChange}
 use Rattle.rec_tools.proofs.FaultLemmas.{memory_or_weaker, ok_is_no_err, same_fault, same_value}
-use Rattle.rec_tools.proofs.OpeningLemmas.{told-digest}
 use Rattle.rec_tools.proofs.ChangeLemmas.{Changed}
 
 -- ---- two texts that share a digest
 
 -- a plan that is refused, is so where the texts share a digest
 clash-digest : (file journal text : List ℕ) (o : Opened) (tool : Tool) (steps : List Pass) → Opens file journal o → IsEditPlan o journal tool steps text (Err DigestClash) → ShareDigest file text
-clash-digest file journal text o tool steps (inl whole) same = sym (told-digest _ _ _ _ whole.tells) ∙ same
-clash-digest file journal text o tool steps (inr empty) same = sym (ap (λ (x : Opened). x.digest) empty.is) ∙ same
+clash-digest file journal text o tool steps opens same = sym (Opens-digest file journal o opens) ∙ same
 
 only-clash : (o : Opened) (journal : List ℕ) (tool : Tool) (steps : List Pass) (text : List ℕ) (fault : Fault) → IsEditPlan o journal tool steps text (Err fault) → fault ≡ DigestClash
 only-clash o journal tool steps text DigestClash h = refl
@@ -80,9 +80,9 @@ module _ (c : Contents) (tool : Tool) (IsEdit : Base → Result Edited Fault →
       edit-clash fault h = memory_or_weaker fault _ _ (λ refused. clashing fault (planned_by (Err fault) refused)) h
 
       pub edit-planned : (plan : Plan) → Splices change.edited.patch c.file change.edited.text → IsEditPlan change.history c.journal given (one_pass given change.edited.patch) change.edited.text (Ok plan)
-          → IsOpening plan.file plan.journal (Ok (after_edit_plan change.history c.journal given (one_pass given change.edited.patch) change.edited.text))
+          → IsSafe c.file c.journal change.history (after_edit_plan change.history c.journal given (one_pass given change.edited.patch) change.edited.text) plan
           → IsOutcome c (editing tool IsEdit) (Ok (putting plan (EditedReply change.edited.changed)))
-      edit-planned plan leads planned opens =
+      edit-planned plan leads planned safe =
           inr (
             parts.base,
             parts.is,
@@ -99,7 +99,7 @@ module _ (c : Contents) (tool : Tool) (IsEdit : Base → Result Edited Fault →
                     record {
                       leads = leads;
                       planned = planned_by (Ok plan) planned;
-                      opens = subst (λ x. IsOpening plan.file plan.journal (Ok (after_edit_plan change.history c.journal x (one_pass x change.edited.patch) change.edited.text))) by opens;
+                      safe = subst (λ x. IsSafe c.file c.journal change.history (after_edit_plan change.history c.journal x (one_pass x change.edited.patch) change.edited.text) plan) by safe;
                     },
                     refl,
                   ),
@@ -144,27 +144,22 @@ module _ (file journal : List ℕ) (direction : Direction) where
     move-refused fault h = memory_or_weaker fault _ _ (λ refused. inr (o, opens, refused)) h
 
     module _ (plan : Plan) (planned : IsMovePlan direction o file journal (Ok plan))
-        (next : (e : Revision) (others : List Revision) → edits_on direction o ≡ e ∷ others → IsOpening plan.file plan.journal (Ok (after_move direction o journal e others))) where
+        (safe : (e : Revision) (others : List Revision) → edits_on direction o ≡ e ∷ others → IsSafe file journal o (after_move direction o journal e others) plan) where
       move-planned : (number : ℕ) (nearest : Revision) (others : List Revision) → edits_on direction o ≡ nearest ∷ others → number ≡ nearest.number
           → IsOutcome contents (moving direction) (Ok (putting plan (reply_of direction number)))
       move-planned number nearest others there named =
-          let h = planned.1 in
-          let same : h.nearest ≡ nearest = same_nearest (sym h.there ∙ there) in
-          let journal_is : plan.journal ≡ (move_plan direction o contents h.nearest plan.file).journal = h.recorded in
+          let moves = planned.1 in
+          let same : nearest ≡ moves.nearest = same_nearest (sym there ∙ moves.there) in
           inr (
             o,
             opens,
             (
               planned.0,
               record {
-                nearest = h.nearest;
-                others = h.others;
-                there = h.there;
-                text = plan.file;
-                leads = h.leads;
-                opens = subst (λ j. IsOpening plan.file j (Ok (after_move direction o journal h.nearest h.others))) journal_is (next h.nearest h.others h.there);
-                is = ap (λ n. putting plan (reply_of direction n)) (named ∙ ap (λ (e : Revision). e.number) (sym same))
-                    ∙ ap (λ j. putting (record { file = plan.file; journal = j }) (reply_of direction h.nearest.number)) journal_is;
+                plan = plan;
+                moves = moves;
+                safe = safe moves.nearest moves.others moves.there;
+                is = ap (λ n. putting plan (reply_of direction n)) (named ∙ ap (λ (e : Revision). e.number) same);
               },
             ),
           )

@@ -1,6 +1,7 @@
 -- From what requests do to what the machine does.
 use Rattle.std.proofs.Common.{◌≡◌, inl, inr, ℕ, List, [], ◌∷◌, ◌++◌, length, take, Ok, Err, ap, sym, subst, refl, ◌∙◌, arith}
 use Rattle.std.proofs.lemmas.List.{take_all}
+use Rattle.rec_journal.specs.History.{IsRegular}
 use Rattle.rec_tools.specs.declared.request.Request.{Request}
 use Rattle.rec_tools.specs.Home.{Contents, Call, left_by_all, TellAll, HasFailed}
 use Rattle.rec_tools.specs.Printouts.{Printed}
@@ -9,14 +10,15 @@ use Rattle.rec_tools.specs.Outcomes.{Outcome, IsOutcome}
 use Rattle.rec_tools.specs.Attempts.{Answer, gots, puts, StopsWriting, IsAnswered, IsFront, IsUnread, RanShort, IsRefused, StopsPrinting, IsCarriedOut, Does, AttemptsAll}
 use Rattle.rec_tools.specs.Machine.{State, IsStep, IsMachineFront, IsOldOrNext, IsAnswer, Stands}
 use Rattle.rec_tools.specs.Guarantee.{RunsAsMachine, StepsAsMachine}
-use Rattle.rec_tools.proofs.CallLemmas.{HasFailed-front, HasFailed-rest, TellAll-front, TellAll-rest}
+use Rattle.rec_tools.proofs.CallLemmas.{HasFailed-front, HasFailed-rest, TellAll-front, TellAll-rest, left_by_all-append}
 use Rattle.rec_tools.proofs.RunLemmas.{left-gots, stopped-failed, left-stopped, cut-failed, left-carried}
 use Rattle.rec_tools.proofs.StepLemmas.{outcomes_are_steps}
+use Rattle.rec_tools.proofs.StopLemmas.{cut_stands, does-regular}
 
 -- ---- one request
 
 -- Where a write of these calls fails, the contents stand for the state as it was or for the machine's next. Nothing is asked
--- where no call failed; a law of stops gives it elsewhere.
+-- where no call failed; elsewhere a regular journal gives it.
 abbrev pub Stops : Contents → State → Asked → List Call → Type 0
 Stops c s asked calls = (o : Outcome) (cut : List Call) → IsOutcome c asked (Ok o) → calls ≡ gots c (reads_of asked) ++ cut → StopsWriting o.writes cut
     → (t : State) × IsOldOrNext s asked t × Stands (left_by_all c cut) t
@@ -24,6 +26,9 @@ Stops c s asked calls = (o : Outcome) (cut : List Call) → IsOutcome c asked (O
 pub no_stops : (c : Contents) (s : State) (asked : Asked) (calls : List Call) → (HasFailed calls → ⊥) → Stops c s asked calls
 no_stops c s asked calls held o cut is e stops =
     absurd (held (subst HasFailed (sym e) (HasFailed-rest (gots c (reads_of asked)) cut (cut-failed o.writes cut stops))))
+
+pub all_stops : (c : Contents) (s : State) (asked : Asked) (calls : List Call) → Stands c s → IsRegular c.journal → Stops c s asked calls
+all_stops c s asked calls stands regular o cut is e stops = cut_stands c asked o is regular cut stops s stands
 
 -- the machine's next state after what a request did
 abbrev pub Steps : Contents → State → Asked → Answer → List Call → Printed → Type 0
@@ -109,3 +114,20 @@ attempts_all-runs goes old new c s (request ∷ requests) (answer ∷ answers) c
     let step = does-steps c s (asked_of request) stands answer now first (no_stops c s (asked_of request) now held_now) (tried.2 c (TellAll-front c now later told)) in
     let steps = attempts_all-runs goes mid new (left_by_all c now) step.0 requests answers later rest step.2 held_later (TellAll-rest c now later told) tried_later in
     (steps.0, (now, later, first, rest, step.0, are, both, step.1, step.2, steps.1))
+
+-- the same whatever fails, where the journal is regular
+pub attempts_all-fails : {H : Type 0} (goes : H → Call → H → Type 0) (old new : H) (c : Contents) (s : State) (requests : List Request) (answers : List Answer) (calls : List Call) (p : Printed)
+    → Stands c s → IsRegular c.journal → TellAll c calls → AttemptsAll goes old new requests answers calls p
+    → (t : State) × RunsAsMachine c s requests answers calls p t × IsRegular (left_by_all c calls).journal
+attempts_all-fails goes old new c s [] [] calls p stands regular tells done =
+    (s, (done.1, done.2, refl), subst (λ made. IsRegular (left_by_all c made).journal) (sym done.1) regular)
+attempts_all-fails goes old new c s [] (answer ∷ answers) calls p stands regular tells done = absurd done
+attempts_all-fails goes old new c s (request ∷ requests) [] calls p stands regular tells done = absurd done
+attempts_all-fails goes old new c s (request ∷ requests) (answer ∷ answers) calls p stands regular tells (mid, now, later, first, rest, are, both, tried, tried_later) =
+    let told : TellAll c (now ++ later) = subst (TellAll c) are tells in
+    let does = tried.2 c (TellAll-front c now later told) in
+    let step = does-steps c s (asked_of request) stands answer now first (all_stops c s (asked_of request) now stands regular) does in
+    let stays : IsRegular (left_by_all c now).journal = does-regular c (asked_of request) regular answer now first does in
+    let steps = attempts_all-fails goes mid new (left_by_all c now) step.0 requests answers later rest step.2 stays (TellAll-rest c now later told) tried_later in
+    let left : left_by_all c calls ≡ left_by_all (left_by_all c now) later = ap (left_by_all c) are ∙ left_by_all-append c now later in
+    (steps.0, (now, later, first, rest, step.0, are, both, step.1, step.2, steps.1), subst (λ (d : Contents). IsRegular d.journal) (sym left) steps.2)

@@ -18,6 +18,8 @@ pub mod OutcomeLemmas
 pub mod MachineLemmas
 pub mod StoreLemmas
 pub mod RunLemmas
+pub mod StopLemmas
+pub mod OutsideLemmas
 pub mod GuaranteeLemmas
 pub mod RunAllLemmas
 pub mod FreshLemmas

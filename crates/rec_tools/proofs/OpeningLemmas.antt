@@ -1,34 +1,16 @@
--- The digest of what is opened is the file's; and where an edit that is planned leads.
-use Rattle.std.proofs.Common.{◌≡◌, ◌∙◌, inl, inr, ℕ, Bool, true, false, List, refl, ap, sym}
-use Rattle.std.specs.Prelude.{if◌then◌else◌}
-use Rattle.std.specs.Str.{bytes_eq}
-use Rattle.rec_journal.specs.declared.event.Event.{Event}
+-- Where an edit that is planned leads.
+use Rattle.std.proofs.Common.{◌≡◌, ◌∙◌, ℕ, List, refl, ap, sym}
 use Rattle.rec_journal.specs.declared.event.Revision.{Revision}
 use Rattle.rec_journal.specs.declared.patch.Direction.TheVariants.{Forward, Backward}
 use Rattle.rec_journal.specs.declared.plan.Plan.{Plan}
 use Rattle.rec_journal.specs.declared.event.Tool.{Tool}
-use Rattle.rec_journal.specs.Event.{after_of, before_of}
-use Rattle.rec_journal.specs.History.{Folded, Opened, Opens, Tells, judged, agrees}
+use Rattle.rec_journal.specs.History.{Opened, Opens}
 use Rattle.rec_journal.specs.Revisions.{one_pass, Leads}
 use Rattle.rec_journal.specs.Plans.{ShareDigest, edit_to}
+use Rattle.rec_journal.proofs.Countings.{Opens-digest}
 use Rattle.rec_edit.specs.declared.outcome.Edited.{Edited}
 use Rattle.rec_tools.specs.Home.{Contents}
 use Rattle.rec_tools.specs.Outcomes.{IsPlanned}
-
--- ---- the digest of an opening
-
-if-digest : (b : Bool) (d : List ℕ) (x y : Opened) → x.digest ≡ d → y.digest ≡ d → (if b then x else y).digest ≡ d
-if-digest true d x y e f = e
-if-digest false d x y e f = f
-
-judged-digest : (d : List ℕ) (s t : Folded) (last : Event) (front whole : ℕ) → (judged d s t last front whole).digest ≡ d
-judged-digest d s t last front whole =
-    if-digest (bytes_eq d (after_of last)) d _ _ refl
-    (if-digest (bytes_eq d (before_of last)) d _ _ (if-digest (agrees s.present d) d _ _ refl refl) refl)
-
-pub told-digest : (d header : List ℕ) (events : List Event) (o : Opened) → Tells d header events o → o.digest ≡ d
-told-digest d header events o (inl none) = ap (λ (x : Opened). x.digest) none.1
-told-digest d header events o (inr tells) = ap (λ (x : Opened). x.digest) tells.is ∙ judged-digest d tells.before tells.behind tells.last _ _
 
 -- ---- the plan of an edit
 
@@ -46,18 +28,15 @@ same_plan_of c o tool edited one other is is_too =
 -- where an edit is planned, its two texts don't share a digest
 pub no_clash : (c : Contents) (o : Opened) (tool : Tool) (edited : Edited) (plan : Plan) → Opens c.file c.journal o
     → IsPlanned o c tool edited plan → ShareDigest c.file edited.text → ⊥
-no_clash c o tool edited plan (inl whole) planned same = planned.planned.0 (told-digest _ _ _ _ whole.tells ∙ same)
-no_clash c o tool edited plan (inr empty) planned same = planned.planned.0 (ap (λ (x : Opened). x.digest) empty.is ∙ same)
+no_clash c o tool edited plan opens planned same = planned.planned.0 (Opens-digest c.file c.journal o opens ∙ same)
 
 -- ---- where edits lead
 
 -- a planned edit leads back from its text to the file
 pub edit_leads_back : (c : Contents) (o : Opened) (tool : Tool) (edited : Edited) (plan : Plan) → Opens c.file c.journal o
     → IsPlanned o c tool edited plan → Leads Backward (edit_to o tool edited.text (one_pass tool edited.patch)) edited.text c.file
-edit_leads_back c o tool edited plan (inl whole) planned =
-    record { leads = (edited.text, planned.leads, refl); digest_before = sym (told-digest _ _ _ _ whole.tells); digest_after = refl }
-edit_leads_back c o tool edited plan (inr empty) planned =
-    record { leads = (edited.text, planned.leads, refl); digest_before = sym (ap (λ (x : Opened). x.digest) empty.is); digest_after = refl }
+edit_leads_back c o tool edited plan opens planned =
+    record { leads = (edited.text, planned.leads, refl); digest_before = sym (Opens-digest c.file c.journal o opens); digest_after = refl }
 
 -- what leads back leads on from there
 pub leads_on : (e : Revision) (here there : List ℕ) → Leads Backward e here there → Leads Forward e there here

@@ -39,7 +39,7 @@ use Rattle.rec_tools.specs.Steps.{Then}
 use Rattle.rec_tools.specs.Asking.{Base, IsFilter, IsListed, IsShape}
 use Rattle.rec_tools.specs.Printouts.{Printout, printed_history, IsShow, IsInfoOf, IsShownText, IsReportText, verdict}
 use Rattle.rec_tools.specs.Requests.{Asked, looking, listing, editing, moving, asked_of}
-use Rattle.rec_tools.specs.Outcomes.{Outcome, IsOutcome, IsPrinting, IsEditOutcome, IsMove, Moves, OneOutcome, printing, putting, move_plan, reply_of}
+use Rattle.rec_tools.specs.Outcomes.{Outcome, IsOutcome, IsPrinting, IsEditOutcome, IsMove, Moves, OneOutcome, printing, putting, reply_of}
 use Rattle.rec_tools.proofs.FaultLemmas.{same_fault, same_value}
 use Rattle.rec_tools.proofs.OpeningLemmas.{no_clash, same_plan_of}
 use Rattle.rec_tools.proofs.EditLemmas.{replace_alike, delete_alike, comment_out_alike, set_alike, agree_on_task, agree_on_edits}
@@ -175,31 +175,24 @@ same_first : (one other : Revision) (rest others : List Revision) → one ∷ re
 same_first one other rest others e = cc
 
 module _ (direction : Direction) (o : Opened) (c : Contents) where
-  plan_of : (outcome : Outcome) → Moves direction o c outcome → Plan
-  plan_of outcome m = move_plan direction o c m.nearest m.text
-
-  is_planned : (outcome : Outcome) (is : IsMove direction o c (Ok outcome)) → IsMovePlan direction o c.file c.journal (Ok (plan_of outcome is.1))
-  unfolding plan_of
-  is_planned outcome (settled, m) = (settled, record { nearest = m.nearest; others = m.others; there = m.there; leads = m.leads; recorded = refl })
+  is_planned : (outcome : Outcome) (is : IsMove direction o c (Ok outcome)) → IsMovePlan direction o c.file c.journal (Ok is.1.plan)
+  is_planned outcome (settled, m) = (settled, m.moves)
 
   one_plan : (one other : Result Plan Fault) → IsMovePlan direction o c.file c.journal one → IsMovePlan direction o c.file c.journal other → one ≡ other
   one_plan one other is is_too = one_move_plan direction o c.file c.journal one other is is_too
 
   HasOne-move : HasOne (IsMove direction o c)
-  unfolding plan_of
   HasOne-move (Ok one) (Ok other) is is_too =
       let m = is.1 in
       let n = is_too.1 in
-      let plan = plan_of one m in
-      let also = plan_of other n in
-      let plans = same_value plan also (one_plan (Ok plan) (Ok also) (is_planned one is) (is_planned other is_too)) in
-      let nearest = same_first m.nearest n.nearest m.others n.others (sym m.there ∙ n.there) in
-      ap Ok (m.is ∙ ap (λ p. putting p (reply_of direction m.nearest.number)) plans
-      ∙ ap (λ (e : Revision). putting also (reply_of direction e.number)) nearest ∙ sym n.is)
+      let plans = same_value m.plan n.plan (one_plan (Ok m.plan) (Ok n.plan) (is_planned one is) (is_planned other is_too)) in
+      let nearest = same_first m.moves.nearest n.moves.nearest m.moves.others n.moves.others (sym m.moves.there ∙ n.moves.there) in
+      ap Ok (m.is ∙ ap (λ p. putting p (reply_of direction m.moves.nearest.number)) plans
+      ∙ ap (λ (e : Revision). putting n.plan (reply_of direction e.number)) nearest ∙ sym n.is)
   HasOne-move (Ok one) (Err fault) is is_too =
-      absurd (no_both (plan_of one is.1) fault (one_plan (Ok (plan_of one is.1)) (Err fault) (is_planned one is) is_too))
+      absurd (no_both is.1.plan fault (one_plan (Ok is.1.plan) (Err fault) (is_planned one is) is_too))
   HasOne-move (Err fault) (Ok other) is is_too =
-      absurd (no_both (plan_of other is_too.1) fault (one_plan (Ok (plan_of other is_too.1)) (Err fault) (is_planned other is_too) is))
+      absurd (no_both is_too.1.plan fault (one_plan (Ok is_too.1.plan) (Err fault) (is_planned other is_too) is))
   HasOne-move (Err fault) (Err other) is is_too = ap Err (same_fault fault other (one_plan (Err fault) (Err other) is is_too))
 
 -- ---- outcomes

@@ -5,6 +5,7 @@ use Rattle.std.specs.List.{AllByRecursion}
 use Rattle.std.proofs.KnownBytes.{Appends-trans}
 use Rattle.std.proofs.lemmas.List.{take_more, take_all}
 use Rattle.std.proofs.lemmas.List.Elements.{All-from_recursion}
+use Rattle.rec_journal.specs.History.{IsRegular}
 use Rattle.rec_tools.specs.declared.request.Request.{Request}
 use Rattle.rec_tools.specs.Home.{Contents, Call, left_by, left_by_all, Tells, HasFailed, Went}
 use Rattle.rec_tools.specs.Printouts.{Printed, WentOut, IsBoth, IsSilence}
@@ -14,7 +15,7 @@ use Rattle.rec_tools.specs.Machine.{State, Stands}
 use Rattle.rec_tools.specs.Guarantee.{RunsAsMachine}
 use Rattle.rec_tools.proofs.CallLemmas.{Follows, went_on, contents_follow}
 use Rattle.rec_tools.proofs.ExitLemmas.{Attempted, silence, went_silently}
-use Rattle.rec_tools.proofs.GuaranteeLemmas.{attempts_all-runs}
+use Rattle.rec_tools.proofs.GuaranteeLemmas.{attempts_all-runs, attempts_all-fails}
 
 -- ---- what went out, one after another
 
@@ -124,6 +125,29 @@ module _ {H S : Type 0} (goes : H → Call → H → Type 0) (told : S → Optio
   ran_told None known_new old new out out_new requests answers done follow = tt
   ran_told (Some c) known_new old new out out_new requests answers (calls, p, went_out, done) follow = λ s stands.
       (calls, p, went_out, done, follow.1, λ held. attempts_all-runs goes old new c s requests answers calls p stands held follow.0 done)
+
+  -- the same whatever fails, from a regular journal, which stays so
+  abbrev pub RanWithFailures : Option Contents → Option Contents → H → H → S → S → List Request → List Answer → Type 0
+  RanWithFailures known known_new old new out out_new requests answers = IfSome known (λ c. (s : State) → Stands c s → IsRegular c.journal →
+      (calls : List Call) × (p : Printed) × (t : State) × WentOut told sink_failures out out_new p × AttemptsAll goes old new requests answers calls p
+      × (known_new ≡ Some (left_by_all c calls))
+      × RunsAsMachine c s requests answers calls p t × IsRegular (left_by_all c calls).journal)
+
+  failed_told : (known known_new : Option Contents) (old new : H) (out out_new : S) (requests : List Request) (answers : List Answer)
+      → (done : AttemptedAll goes told sink_failures old new out out_new requests answers) → Follows known done.0 known_new
+      → RanWithFailures known known_new old new out out_new requests answers
+  failed_told None known_new old new out out_new requests answers done follow = tt
+  failed_told (Some c) known_new old new out out_new requests answers (calls, p, went_out, done) follow = λ s stands regular.
+      let ran = attempts_all-fails goes old new c s requests answers calls p stands regular follow.0 done in
+      (calls, p, ran.0, went_out, done, follow.1, ran.1, ran.2)
+
+  module _ (contents : H → Option Contents)
+      (follows : (old new : H) (call : Call) → goes old call new → IfSome (contents old) (λ c. Tells c call × (contents new ≡ Some (left_by c call)))) where
+    pub attempted_all-fails : (old new : H) (out out_new : S) (requests : List Request) (answers : List Answer)
+        → AttemptedAll goes told sink_failures old new out out_new requests answers → RanWithFailures (contents old) (contents new) old new out out_new requests answers
+    attempted_all-fails old new out out_new requests answers done =
+        failed_told (contents old) (contents new) old new out out_new requests answers done
+        (contents_follow goes contents follows old new done.0 (AttemptsAll-went goes old new requests answers done.0 done.1 done.3))
 
   pub attempted_all-runs : (contents : H → Option Contents)
       → ((old new : H) (call : Call) → goes old call new → IfSome (contents old) (λ c. Tells c call × (contents new ≡ Some (left_by c call))))

@@ -1,16 +1,16 @@
 -- What `run` ensures besides, from what the request did.
-use Rattle.std.proofs.Common.{◌≡◌, ◌⊎◌, inl, inr, ℕ, List, [], ◌∷◌, ◌++◌, Option, Some, None, Ok, Err, ap, sym, subst, refl, ◌∙◌}
+use Rattle.std.proofs.Common.{◌≡◌, ◌⊎◌, inl, inr, ℕ, suc, take, List, [], ◌∷◌, ◌++◌, Option, Some, None, Ok, Err, ap, sym, subst, refl, ◌∙◌}
 use Rattle.std.specs.Prelude.{IfSome, IfErr}
 use Rattle.rec_text.specs.declared.fault.Fault.{Fault}
 use Rattle.rec_text.specs.declared.fault.Fault.TheVariants.{OutOfMemory, StoreFailed}
 use Rattle.rec_text.specs.Sink.{HasRisen}
 use Rattle.rec_tools.specs.declared.home.Which.{Which}
 use Rattle.rec_tools.specs.declared.request.Request.{Request}
-use Rattle.rec_tools.specs.Home.{Contents, Call, got, lacked, left_by, left_by_all, Tells, TellAll, HasFailed, Counts}
+use Rattle.rec_tools.specs.Home.{Contents, Call, got, lacked, was_put, left_by, left_by_all, Tells, TellAll, HasFailed, Counts}
 use Rattle.rec_tools.specs.Printouts.{Printed}
 use Rattle.rec_tools.specs.Requests.{Asked, looking, listing, editing, moving, asked_of, reads_of, WritesNothing}
 use Rattle.rec_tools.specs.Outcomes.{Write, Outcome, IsOutcome}
-use Rattle.rec_tools.specs.Attempts.{Answer, gots, puts, StopsReading, StopsWriting, IsAnswered, IsUnread, IsCarriedOut, Does}
+use Rattle.rec_tools.specs.Attempts.{Answer, gots, puts, written, StopsReading, StopsWriting, IsAnswered, IsCutShort, IsUnread, IsCarriedOut, Does}
 use Rattle.rec_tools.proofs.CallLemmas.{Follows, HasFailed-rest, HasFailed-parts, left_by_all-append, failures_stay, failures_rise, contents_follow}
 use Rattle.rec_tools.proofs.ExitLemmas.{Attempted}
 use Rattle.rec_tools.proofs.FaultLemmas.{same_fault, same_value}
@@ -80,12 +80,23 @@ cut-failed (w ∷ writes) (call ∷ calls) (inl (inl old, none)) = rw old (inl t
 cut-failed (w ∷ writes) (call ∷ calls) (inl (inr new, none)) = rw new (inl tt)
 cut-failed (w ∷ writes) (call ∷ calls) (inr (put, stops)) = inr (cut-failed writes calls stops)
 
-no_cut : (calls : List Call) → StopsWriting [] calls → ⊥
+-- where a write fails, the first of the writes are there and the others are not
+pub cut_left : (c : Contents) (writes : List Write) (calls : List Call) → StopsWriting writes calls → (k : ℕ) × (left_by_all c calls ≡ written c (take k writes))
+cut_left c [] [] stops = absurd stops
+cut_left c [] (call ∷ calls) stops = absurd stops
+cut_left c (w ∷ writes) [] stops = absurd stops
+cut_left c (w ∷ writes) (call ∷ calls) (inl (inl old, none)) = (0, rw (old, none) refl)
+cut_left c (w ∷ writes) (call ∷ calls) (inl (inr new, none)) = (1, rw (new, none) refl)
+cut_left c (w ∷ writes) (call ∷ calls) (inr (put, stops)) =
+    let rest = cut_left (left_by c (was_put w.which w.bytes)) writes calls stops in
+    (suc rest.0, rw put rest.1)
+
+pub no_cut : (calls : List Call) → StopsWriting [] calls → ⊥
 no_cut [] stops = stops
 no_cut (call ∷ calls) stops = stops
 
 -- what writes nothing has no writes
-writes_nothing : (c : Contents) (asked : Asked) (o : Outcome) → WritesNothing asked → IsOutcome c asked (Ok o) → o.writes ≡ []
+pub writes_nothing : (c : Contents) (asked : Asked) (o : Outcome) → WritesNothing asked → IsOutcome c asked (Ok o) → o.writes ≡ []
 writes_nothing c (looking IsText) o nothing is = ap (λ (x : Outcome). x.writes) is.2
 writes_nothing c listing o nothing (inl refused) = let e = refused.2 in cc
 writes_nothing c listing o nothing (inr listed) = ap (λ (x : Outcome). x.writes) (same_value o _ listed.2)
@@ -152,7 +163,7 @@ module _ (c : Contents) (asked : Asked) (calls : List Call) (p : Printed) where
   does-store_failed never (inr (inr (inr (inl done)))) = inr done.risen
   does-store_failed never (inr (inr (inr (inr done)))) = inl (carried-failed StoreFailed done).1
 
-  gots-left : calls ≡ gots c (reads_of asked) → left_by_all c calls ≡ c
+  pub gots-left : calls ≡ gots c (reads_of asked) → left_by_all c calls ≡ c
   gots-left read = ap (left_by_all c) read ∙ left-gots c (reads_of asked)
 
   -- after any other refusal the contents are as before
@@ -167,6 +178,20 @@ module _ (c : Contents) (asked : Asked) (calls : List Call) (p : Printed) where
   pub left-carried : (later : List Call) → calls ≡ gots c (reads_of asked) ++ later → left_by_all c calls ≡ left_by_all c later
   left-carried later e =
       ap (left_by_all c) e ∙ left_by_all-append c (gots c (reads_of asked)) later ∙ ap (λ d. left_by_all d later) (left-gots c (reads_of asked))
+
+  -- where a store failed they are, or a write was cut short
+  pub does-stopped : Does c asked (Err StoreFailed) calls p → (left_by_all c calls ≡ c) ⊎ IsCutShort c asked (Some (left_by_all c calls))
+  does-stopped (inl done) = inl (left-stopped c (reads_of asked) calls done.fault done.stops)
+  does-stopped (inr (inl done)) = inl (gots-left done.read)
+  does-stopped (inr (inr (inl done))) = inl (gots-left done.read)
+  does-stopped (inr (inr (inr (inl done)))) = inl (gots-left done.read)
+  does-stopped (inr (inr (inr (inr done)))) =
+      elim done.answered [
+        | inl put ↦ (let e = put.0 in cc)
+        | inr stopped ↦
+            let cut = cut_left c done.o.writes done.behind stopped.1 in
+            inr (done.o, cut.0, done.outcome, ap Some (left-carried done.behind done.calls_are ∙ cut.1))
+      ]
 
   -- so they are after what writes nothing
   pub does-looks : (answer : Answer) → WritesNothing asked → Does c asked answer calls p → left_by_all c calls ≡ c
@@ -187,6 +212,16 @@ unchanged-told None new asked answer calls p follow does = tt
 unchanged-told (Some c) new asked (Ok reply) calls p follow does = tt
 unchanged-told (Some c) new asked (Err fault) calls p follow does =
     elim (does-unchanged c asked calls p fault (does c follow.0)) [ inl e ↦ inl e | inr same ↦ inr (follow.1 ∙ ap Some same) ]
+
+stopped-told : (old new : Option Contents) (asked : Asked) (answer : Answer) (calls : List Call) (p : Printed) → Follows old calls new
+    → ((c : Contents) → TellAll c calls → Does c asked answer calls p)
+    → IfSome old (λ c. answer ≡ Err StoreFailed → (new ≡ Some c) ⊎ IsCutShort c asked new)
+stopped-told None new asked answer calls p follow does = tt
+stopped-told (Some c) new asked answer calls p follow does = λ e.
+    elim (does-stopped c asked calls p (subst (λ a. Does c asked a calls p) e (does c follow.0))) [
+      | inl same ↦ inl (follow.1 ∙ ap Some same)
+      | inr cut ↦ inr (subst (IsCutShort c asked) (sym follow.1) cut)
+    ]
 
 looks-told : (old new : Option Contents) (asked : Asked) (answer : Answer) (calls : List Call) (p : Printed) → Follows old calls new
     → ((c : Contents) → TellAll c calls → Does c asked answer calls p)
@@ -229,3 +264,8 @@ module _ {H S : Type 0} (goes : H → Call → H → Type 0) (told : S → Optio
         → IfSome (contents old) (λ c. WritesNothing asked → contents new ≡ Some c)
     attempted-looks old new out out_new asked answer (calls, p, went_out, (went, tells, does)) =
         looks-told (contents old) (contents new) asked answer calls p (contents_follow goes contents follows old new calls went) does
+
+    pub attempted-stopped : (old new : H) (out out_new : S) (asked : Asked) (answer : Answer) → Attempted goes told sink_failures old new out out_new asked answer
+        → IfSome (contents old) (λ c. answer ≡ Err StoreFailed → (contents new ≡ Some c) ⊎ IsCutShort c asked (contents new))
+    attempted-stopped old new out out_new asked answer (calls, p, went_out, (went, tells, does)) =
+        stopped-told (contents old) (contents new) asked answer calls p (contents_follow goes contents follows old new calls went) does

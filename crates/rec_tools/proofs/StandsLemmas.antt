@@ -1,11 +1,12 @@
 -- Contents stand for one state at most, and a file and an empty journal stand for the first.
-use Rattle.std.proofs.Common.{arith, ◌≡◌, ◌≢◌, inr, ℕ, false, List, [], ◌∷◌, Result, Ok, sym, ap, ap₂, subst, refl, ◌∙◌}
+use Rattle.std.proofs.Common.{arith, ◌≡◌, ◌≢◌, inr, ℕ, false, List, [], ◌∷◌, ◌++◌, length, length-append, Result, Ok, sym, ap, ap₂, subst, refl, ◌∙◌}
 use Rattle.rec_text.specs.declared.fault.Fault.{Fault}
 use Rattle.rec_journal.specs.declared.event.Revision.{Revision}
 use Rattle.rec_journal.specs.declared.patch.Direction.{Direction}
 use Rattle.rec_journal.specs.declared.patch.Direction.TheVariants.{Forward, Backward}
 use Rattle.rec_journal.specs.declared.event.Tool.{Tool}
-use Rattle.rec_journal.specs.History.{Opened, Opens, open_at, start, newest_header}
+use Rattle.rec_journal.specs.History.{Opened, Opens, IsRegular, open_at, spelled, start, newest_header}
+use Rattle.rec_journal.proofs.Headers.{length-header}
 use Rattle.rec_journal.proofs.Openings.{one_opening}
 use Rattle.rec_journal.proofs.StepLemmas.{edits_lead_to_one_text}
 use Rattle.rec_tools.specs.Home.{Contents}
@@ -90,3 +91,8 @@ first_stands file = record {
   future = tt;
   next = refl;
 }
+
+-- no header fits in an empty journal
+pub empty_is_regular : IsRegular []
+empty_is_regular header events tail holds =
+    absurd (omega (arith, ap length holds.whole, length-append header (spelled events ++ tail), length-header header holds.is_header))

@@ -20,7 +20,7 @@ use Rattle.rec_tools.specs.Steps.{Then}
 use Rattle.rec_tools.specs.Asking.{Base, IsBase}
 use Rattle.rec_tools.specs.Printouts.{Printout, history_text, printed_history}
 use Rattle.rec_tools.specs.Requests.{Asked, looking, listing, editing, moving, asked_of}
-use Rattle.rec_tools.specs.Outcomes.{Outcome, IsOutcome, IsPrinting, IsEditOutcome, IsPlanned, IsMove, Moves, printing, writes_of, move_plan, reply_of}
+use Rattle.rec_tools.specs.Outcomes.{Outcome, IsOutcome, IsPrinting, IsEditOutcome, IsPlanned, IsMove, Moves, printing, writes_of, reply_of}
 use Rattle.rec_tools.specs.Attempts.{written}
 use Rattle.rec_tools.specs.Machine.{Entry, State, AreEntries, Stands, IsStep, IsMoveStep, Clashes, entries_on, listed, state_after_edit, state_after_move}
 use Rattle.rec_tools.specs.Guarantee.{StepsAsMachine, OutcomesAreSteps}
@@ -182,7 +182,7 @@ module _ (c : Contents) (s : State) (stands : Stands c s) where
           let edit = edit_to o tool edited.text (one_pass tool edited.patch) in
           record {
             opened = after_edit_plan o c.journal tool (one_pass tool edited.patch) edited.text;
-            opens = planned.opens;
+            opens = planned.safe.next;
             settled = refl;
             present = sym planned.planned.1;
             past = (
@@ -224,18 +224,17 @@ module _ (c : Contents) (s : State) (stands : Stands c s) where
 
     moved : (outcome : Outcome) → Moves direction o c outcome → StepsAsMachine c s (moving direction) (Ok outcome)
     moved outcome m =
-        let has = has_nearest direction o c s m.nearest m.others by m.there in
-        let plan = move_plan direction o c m.nearest m.text in
+        let has = has_nearest direction o c s m.moves.nearest m.moves.others by m.moves.there in
         let t = state_after_move direction s has.entry has.entries in
-        let reply = reply_of direction m.nearest.number in
+        let reply = reply_of direction m.moves.nearest.number in
         subst (λ x. StepsAsMachine c s (moving direction) (Ok x)) (sym m.is) (
           t,
           (
             subst (λ es. IsMoveStep direction s es (Ok reply) t) (sym has.are) (ap (λ n. Ok (reply_of direction n)) has.number, refl),
             refl,
           ),
-          stands_after_move direction o c (written c (writes_of plan)) s m.nearest m.others by has
-              (edits_lead_to_one_text direction m.nearest c.file m.text has.entry.text m.leads has.leads) m.opens,
+          stands_after_move direction o c (written c (writes_of m.plan)) s m.moves.nearest m.moves.others by has
+              (edits_lead_to_one_text direction m.moves.nearest c.file m.plan.file has.entry.text m.moves.leads has.leads) m.safe.next,
         )
 
     no_drift : (o.drifted ≡ true) ⊎ ((o.drifted ≡ false) × LeadsNowhere direction o c.file) → ⊥

@@ -1,5 +1,5 @@
 -- What requests do, call by call, whether the home fails or not.
-use Rattle.std.specs.Prelude.{◌≡◌, ◌⊎◌, ℕ, List, [], ◌∷◌, ◌++◌, map, take, Result, Ok, Err}
+use Rattle.std.specs.Prelude.{◌≡◌, ◌⊎◌, ℕ, List, [], ◌∷◌, ◌++◌, map, take, Option, Some, Result, Ok, Err}
 use Rattle.rec_text.specs.declared.fault.Fault.{Fault}
 use Rattle.rec_text.specs.declared.fault.Fault.TheVariants.{OutOfMemory, StoreFailed}
 use Rattle.rec_text.specs.Sink.{HasRisen}
@@ -112,6 +112,12 @@ module _ (c : Contents) (asked : Asked) (answer : Answer) (calls : List Call) (p
 
   abbrev pub Does : Type 0
   Does = IsUnread ⊎ (RanShort ⊎ (IsRefused ⊎ (StopsPrinting ⊎ IsCarriedOut)))
+
+-- ---- what a failed write leaves
+
+-- of the outcome's writes the first k are there, and the others are not
+abbrev pub IsCutShort : Contents → Asked → Option Contents → Type 0
+IsCutShort c asked new = (o : Outcome) × (k : ℕ) × IsOutcome c asked (Ok o) × (new ≡ Some (written c (take k o.writes)))
 
 -- ---- on a home
 

@@ -1,10 +1,16 @@
--- Laws of the machine, and of what contents stand for.
-use Rattle.std.specs.Prelude.{◌≡◌, ◌≢◌, ℕ, List, [], Err}
-use Rattle.rec_text.specs.declared.fault.Fault.TheVariants.{BadPattern}
+-- Laws of the machine, of what contents stand for, and of files that were changed outside.
+use Rattle.std.specs.Prelude.{◌≡◌, ◌≢◌, ◌⊎◌, ℕ, ◌+◌, true, List, [], ◌∷◌, codes, Result, Ok, Err}
+use Rattle.rec_text.specs.declared.fault.Fault.{Fault}
+use Rattle.rec_text.specs.declared.fault.Fault.TheVariants.{BadPattern, Drifted}
+use Rattle.rec_journal.specs.declared.event.Tool.{Tool}
+use Rattle.rec_journal.specs.History.{Opened, Opens}
+use Rattle.rec_tools.specs.declared.request.Reply.TheVariants.{Shown}
 use Rattle.rec_tools.specs.declared.request.Request.{Request}
+use Rattle.rec_tools.specs.declared.request.Request.TheVariants.{Undo, Redo, History}
 use Rattle.rec_tools.specs.Home.{Contents}
 use Rattle.rec_tools.specs.Requests.{asked_of}
-use Rattle.rec_tools.specs.Attempts.{Answer}
+use Rattle.rec_tools.specs.Outcomes.{Outcome, IsOutcome, printing}
+use Rattle.rec_tools.specs.Attempts.{Answer, written}
 use Rattle.rec_tools.specs.Machine.{State, IsStep, Stands, first_state}
 
 -- The machine's step is a function of the state and the request; only where `regex` may refuse a pattern, that refusal may
@@ -22,3 +28,23 @@ OneState = (c : Contents) (s t : State) → Stands c s → Stands c t → s ≡ 
 -- a file and an empty journal stand for the first state
 abbrev pub FirstStands : Type 0
 FirstStands = (file : List ℕ) → Stands (record { file = file; journal = [] }) (first_state file)
+
+-- ---- a file that was changed outside
+
+-- an edit begins the history anew, with the outside text as the one before it
+abbrev pub outside_state : Contents → Opened → Tool → List ℕ → State
+outside_state c o tool text =
+    record { past = record { number = o.next; tool = tool; text = c.file } ∷ []; present = text; future = []; next = o.next + 1 }
+
+-- nothing is taken back or made again, and the history says so; an edit that changes the text begins it anew
+pub record IsNoticed (c : Contents) (o : Opened) : Type 0 where
+  pub undo : (r : Result Outcome Fault) → IsOutcome c (asked_of Undo) r → r ≡ Err Drifted
+  pub redo : (r : Result Outcome Fault) → IsOutcome c (asked_of Redo) r → r ≡ Err Drifted
+  pub history : (r : Result Outcome Fault) → IsOutcome c (asked_of History) r → r ≡ Ok (printing (codes "drifted\n") Shown)
+  pub edits : (request : Request) (outcome : Outcome) → IsOutcome c (asked_of request) (Ok outcome)
+      → (outcome.writes ≡ [])
+      ⊎ ((tool : Tool) × Stands (written c outcome.writes) (outside_state c o tool (written c outcome.writes).file))
+
+-- wherever the opening has drifted
+abbrev pub OutsideIsNoticed : Type 0
+OutsideIsNoticed = (c : Contents) (o : Opened) → Opens c.file c.journal o → o.drifted ≡ true → IsNoticed c o

@@ -4,14 +4,13 @@ use Rattle.rec_text.specs.declared.fault.Fault.{Fault}
 use Rattle.rec_text.specs.declared.fault.Fault.TheVariants.{BadPattern, DigestClash}
 use Rattle.rec_journal.specs.declared.patch.Direction.{Direction}
 use Rattle.rec_journal.specs.declared.patch.Direction.TheVariants.{Forward, Backward}
-use Rattle.rec_journal.specs.declared.event.Event.TheVariants.{Moved}
-use Rattle.rec_journal.specs.declared.event.Revision.{Revision}
 use Rattle.rec_journal.specs.declared.event.Tool.{Tool}
 use Rattle.rec_journal.specs.declared.plan.Plan.{Plan}
 use Rattle.rec_journal.specs.Patch.{Splices}
 use Rattle.rec_journal.specs.History.{Opened, IsOpening}
-use Rattle.rec_journal.specs.Revisions.{one_pass, Leads}
-use Rattle.rec_journal.specs.Plans.{ShareDigest, planned, IsEditPlan, after_edit_plan, edits_on, move_of, after_move, IsMovePlan}
+use Rattle.rec_journal.specs.Revisions.{one_pass}
+use Rattle.rec_journal.specs.Plans.{ShareDigest, IsEditPlan, after_edit_plan, MovesByNearest, after_move, IsMovePlan}
+use Rattle.rec_journal.specs.Stops.{IsSafe}
 use Rattle.rec_tools.specs.declared.decision.Decision.{Decision}
 use Rattle.rec_tools.specs.declared.decision.Decision.TheVariants.{Stay, Put}
 use Rattle.rec_edit.specs.declared.outcome.Edited.{Edited}
@@ -62,11 +61,11 @@ outcome_of (Put plan reply) = putting plan reply
 
 -- ---- an edit
 
--- The plan of an edit: its patch leads from the file to the text, and the plan's contents open with the edit as the newest.
+-- The plan of an edit: its patch leads from the file to the text, and a stop leaves the history before or the one with the edit.
 pub record IsPlanned (o : Opened) (c : Contents) (tool : Tool) (edited : Edited) (plan : Plan) : Type 0 where
   pub leads : Splices edited.patch c.file edited.text
   pub planned : IsEditPlan o c.journal tool (one_pass tool edited.patch) edited.text (Ok plan)
-  pub opens : IsOpening plan.file plan.journal (Ok (after_edit_plan o c.journal tool (one_pass tool edited.patch) edited.text))
+  pub safe : IsSafe c.file c.journal o (after_edit_plan o c.journal tool (one_pass tool edited.patch) edited.text) plan
 
 -- an edit that leaves the text as it is writes nothing; every other one is put in place, unless the two texts share a digest
 abbrev pub IsEditOutcome : Opened → Contents → Tool → Edited → Result Outcome Fault → Type 0
@@ -84,20 +83,12 @@ abbrev pub reply_of : Direction → ℕ → Reply
 reply_of Backward number = Undone number
 reply_of Forward number = Redone number
 
--- the plan of a move by this edit that leads to this text
-abbrev pub move_plan : Direction → Opened → Contents → Revision → List ℕ → Plan
-move_plan direction o c e text = record { file = text; journal = planned c.journal o (Moved direction (move_of direction o e)) }
-
--- the nearest edit that way leads from the file to the plan's file, and the journal has its event
+-- the plan of a move by the nearest edit that way is put in place, and a stop leaves the history before or the one with the move
 pub record Moves (direction : Direction) (o : Opened) (c : Contents) (outcome : Outcome) : Type 0 where
-  pub nearest : Revision
-  pub others : List Revision
-  pub there : edits_on direction o ≡ nearest ∷ others
-  pub text : List ℕ
-  pub leads : Leads direction nearest c.file text
-  pub opens : IsOpening text (planned c.journal o (Moved direction (move_of direction o nearest)))
-      (Ok (after_move direction o c.journal nearest others))
-  pub is : outcome ≡ putting (move_plan direction o c nearest text) (reply_of direction nearest.number)
+  pub plan : Plan
+  pub moves : MovesByNearest direction o c.file c.journal plan
+  pub safe : IsSafe c.file c.journal o (after_move direction o c.journal moves.nearest moves.others) plan
+  pub is : outcome ≡ putting plan (reply_of direction moves.nearest.number)
 
 -- refused as its plan is: where the file has drifted, else where there is no edit that way, else where the nearest leads nowhere
 abbrev pub IsMove : Direction → Opened → Contents → Result Outcome Fault → Type 0

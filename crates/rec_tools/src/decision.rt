@@ -6,6 +6,7 @@ ghost use Rattle.rec_journal.specs.declared.event.Revision.{Revision};
 ghost use Rattle.rec_journal.specs.Patch.{Splices};
 ghost use Rattle.rec_journal.specs.History.{IsOpening};
 ghost use Rattle.rec_journal.specs.Plans.{IsMovePlan, edits_on, after_move, nothing_there};
+ghost use Rattle.rec_journal.specs.Stops.{IsSafe};
 ghost use Rattle.rec_tools.specs.Steps.{Then, IsRefusal};
 ghost use Rattle.rec_tools.specs.Asking.{IsBaseOf};
 ghost use Rattle.rec_tools.specs.Requests.{moving};
@@ -124,9 +125,9 @@ fn plan_move(
 ) -> Result<Plan, Fault>
     requires { IsOpening file.now journal.now (Ok history.now) }
     ensures found { UnlessMemory result (IsMovePlan direction history.now file.now journal.now) }
-    ensures next { IfOk result (λ plan. (nearest : Revision) (others : List Revision)
+    ensures safe { IfOk result (λ plan. (nearest : Revision) (others : List Revision)
         → edits_on direction history.now ≡ nearest ∷ others
-        → IsOpening plan.file plan.journal (Ok (after_move direction history.now journal.now nearest others))) }
+        → IsSafe file.now journal.now history.now (after_move direction history.now journal.now nearest others) plan) }
 {
     match direction {
         Direction::Forward => plan_redo(alloc, history, file, journal),

@@ -1,7 +1,9 @@
 //! Laws of the definitions, which no function computes.
 ghost use Rattle.rec_tools.specs.Outcomes.{OneOutcome};
-ghost use Rattle.rec_tools.specs.Guarantee.{OutcomesAreSteps};
-ghost use Rattle.rec_tools.specs.Laws.{OneStep, OneState, FirstStands};
+ghost use Rattle.std.specs.Prelude.{[]};
+ghost use Rattle.rec_journal.specs.History.{IsRegular};
+ghost use Rattle.rec_tools.specs.Guarantee.{OutcomesAreSteps, StopsAreSteps, WritesAreRegular};
+ghost use Rattle.rec_tools.specs.Laws.{OneStep, OneState, FirstStands, OutsideIsNoticed};
 
 /// A request comes to one outcome on two contents at most.
 pub fn one_outcome()
@@ -18,12 +20,25 @@ pub fn one_state()
     ensures { OneState }
 {}
 
-/// A file and an empty journal stand for the machine's first state.
+/// A file and an empty journal stand for the machine's first state, and an empty journal is regular.
 pub fn first_stands()
-    ensures { FirstStands }
+    ensures stands { FirstStands }
+    ensures regular { IsRegular [] }
 {}
 
 /// Whatever a request comes to on contents that stand for a state, the machine steps so.
 pub fn outcomes_are_steps()
     ensures { OutcomesAreSteps }
+{}
+
+/// A request whose write fails leaves the state as it was or the machine's next; a regular journal stays so, also where all
+/// is written.
+pub fn stops_are_steps()
+    ensures stops { StopsAreSteps }
+    ensures writes { WritesAreRegular }
+{}
+
+/// A file that was changed outside is noticed: nothing is taken back or made again, and an edit begins the history anew.
+pub fn outside_is_noticed()
+    ensures { OutsideIsNoticed }
 {}

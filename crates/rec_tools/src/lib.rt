@@ -15,7 +15,10 @@ mod runner;
 mod selecting;
 
 pub use home::{Home, Which};
-pub use laws::{first_stands, one_outcome, one_state, one_step, outcomes_are_steps};
+pub use laws::{
+    first_stands, one_outcome, one_state, one_step, outcomes_are_steps, outside_is_noticed,
+    stops_are_steps,
+};
 pub use memory::{MemoryHome, StoreFault};
 pub use rec_edit::{Action, NewRecord, Pair};
 pub use rec_select::InfoForm;

@@ -2,12 +2,13 @@
 ghost use Rattle.std.specs.Prelude.{◌≡◌, ◌⊎◌, ◌≤◌, ℕ, List, Option, Some, IfOk, IfErr, IfSome, IsErrOf};
 ghost use Rattle.std.specs.List.{AllByRecursion};
 ghost use Rattle.rec_text.specs.Sink.{UnlessStoreFailed};
+ghost use Rattle.rec_journal.specs.History.{IsRegular};
 ghost use Rattle.rec_tools.specs.Home.{Call, Went, HasFailed, left_by_all, Rose};
 ghost use Rattle.rec_tools.specs.Steps.{IsRefusal};
 ghost use Rattle.rec_tools.specs.Printouts.{Printed, WentOut};
 ghost use Rattle.rec_tools.specs.Requests.{listing, moving, asked_of, IsSilent, WritesNothing};
 ghost use Rattle.rec_tools.specs.Outcomes.{outcome_of, writes_of};
-ghost use Rattle.rec_tools.specs.Attempts.{AreRead, AreWritten, IsAnswered, Attempts, AttemptsAll};
+ghost use Rattle.rec_tools.specs.Attempts.{AreRead, AreWritten, IsAnswered, IsCutShort, Attempts, AttemptsAll};
 ghost use Rattle.rec_tools.specs.Machine.{State, Stands};
 ghost use Rattle.rec_tools.specs.Guarantee.{RunsAsMachine};
 ghost use Rattle.rec_tools.specs.Changes.{asked_by};
@@ -169,6 +170,10 @@ pub fn run<H: Home, S: Sink>(
     // A store failed only where the failures of the home or of the sink rose.
     ensures store_failed { IsErrOf result Fault.StoreFailed → Rose H.failure_count home.old home.new ⊎ Rose S.failure_count out.old out.new }
 
+    // Where a write failed, the journal alone is new, or the file is too, or neither is.
+    ensures stopped { IfSome (H.contents home.old) (λ c. IsErrOf result Fault.StoreFailed
+        → (H.contents home.new ≡ Some c) ⊎ IsCutShort c (asked_of request.now) (H.contents home.new)) }
+
     // After any refusal but a failed store both contents are as before; so they are after every request that writes nothing.
     ensures unchanged { IfSome (H.contents home.old) (λ c. IfErr result (λ fault. (fault ≡ Fault.StoreFailed) ⊎ (H.contents home.new ≡ Some c))) }
     ensures looks { IfSome (H.contents home.old) (λ c. WritesNothing (asked_of request.now) → H.contents home.new ≡ Some c) }
@@ -196,6 +201,14 @@ pub fn run_all<H: Home, S: Sink>(
         × AttemptsAll H.goes home.old home.new requests.now answers.items calls p
         × (H.contents home.new ≡ Some (left_by_all c calls))
         × (¬ HasFailed calls → (t : State) × RunsAsMachine c s requests.now answers.items calls p t))) }
+
+    // The same whatever calls fail, where the journal is regular, as it then stays: a run with failures.
+    ensures failing_stores { IfOk result (λ answers. IfSome (H.contents home.old) (λ c. (s : State)
+        → Stands c s → IsRegular c.journal →
+        (calls : List Call) × (p : Printed) × (t : State) × WentOut S.contents S.failure_count out.old out.new p
+        × AttemptsAll H.goes home.old home.new requests.now answers.items calls p
+        × (H.contents home.new ≡ Some (left_by_all c calls))
+        × RunsAsMachine c s requests.now answers.items calls p t × IsRegular (left_by_all c calls).journal)) }
 
     ensures unreserved { IfErr result (λ fault. (fault ≡ Fault.OutOfMemory) × (home.new ≡ home.old) × (out.new ≡ out.old)) }
     ensures counted { S.failure_count out.old ≤ S.failure_count out.new }

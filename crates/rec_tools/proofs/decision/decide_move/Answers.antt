@@ -18,5 +18,5 @@ returns-in_err-reply-clause-found c =
 
 pub returns-clause-found : goal.returns-clause-found
 returns-clause-found c =
-    move-replied c.args.file.now c.args.journal.now c.args.direction _ c.in_ok-history.ensures _ c.in_ok-plan.ensures.found c.in_ok-plan.ensures.next
+    move-replied c.args.file.now c.args.journal.now c.args.direction _ c.in_ok-history.ensures _ c.in_ok-plan.ensures.found c.in_ok-plan.ensures.safe
     _ c.nearest_number.ensures _ c.in_ok-reply.ensures

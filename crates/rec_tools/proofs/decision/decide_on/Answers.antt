@@ -24,4 +24,4 @@ pub returns-clause-found : goal.returns-clause-found
 returns-clause-found c =
     let other = differs _ _ _ _ c.is_idle.ensures c.if-is_idle.false c.in_ok-history.ensures.unchanged in
     edit-planned _ (tool_by c.args.deed) (IsEditOf c.args.deed c.args.force) _ (change-parts _ (IsEditOf c.args.deed c.args.force) _ c.in_ok-history.ensures.found) other _ c.tool.ensures _
-    c.in_ok-history.ensures.leads c.in_ok-plan.ensures.found c.in_ok-plan.ensures.next
+    c.in_ok-history.ensures.leads c.in_ok-plan.ensures.found c.in_ok-plan.ensures.safe

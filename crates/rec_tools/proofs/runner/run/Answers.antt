@@ -1,4 +1,4 @@
-use Rattle.rec_tools.proofs.RunLemmas.{attempted-kept, attempted-store_failed, attempted-unchanged, attempted-looks}
+use Rattle.rec_tools.proofs.RunLemmas.{attempted-kept, attempted-store_failed, attempted-unchanged, attempted-stopped, attempted-looks}
 use Rattle.rec_tools.proofs.runner.run.Goals as goal
 
 pub returns-clause-kept : goal.returns-clause-kept
@@ -16,3 +16,7 @@ returns-clause-unchanged g c =
 pub returns-clause-looks : goal.returns-clause-looks
 returns-clause-looks g c =
     attempted-looks g.H.Home.goes g.S.Sink.contents g.S.Sink.failure_count g.H.Home.contents g.met.H.Home.follows _ _ c.args.out.now c.attempt.new.out _ _ c.attempt.ensures.attempts
+
+pub returns-clause-stopped : goal.returns-clause-stopped
+returns-clause-stopped g c =
+    attempted-stopped g.H.Home.goes g.S.Sink.contents g.S.Sink.failure_count g.H.Home.contents g.met.H.Home.follows _ _ c.args.out.now c.attempt.new.out _ _ c.attempt.ensures.attempts

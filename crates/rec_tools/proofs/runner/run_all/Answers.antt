@@ -1,5 +1,5 @@
 use Rattle.std.proofs.Common.{◌∙◌, arith, rules}
-use Rattle.rec_tools.proofs.RunAllLemmas.{AttemptedAll, attempted_all-none, attempted_all-more, attempted_all-runs, silent_at, take_one_more, take_them_all}
+use Rattle.rec_tools.proofs.RunAllLemmas.{AttemptedAll, attempted_all-none, attempted_all-more, attempted_all-runs, attempted_all-fails, silent_at, take_one_more, take_them_all}
 use Rattle.rec_tools.proofs.runner.run_all.Goals as goal
 
 pub loop-request-init : goal.loop-request-init
@@ -33,6 +33,14 @@ returns-clause-attempts g c =
 pub returns-clause-guarantee : goal.returns-clause-guarantee
 returns-clause-guarantee g c =
     attempted_all-runs g.H.Home.goes g.S.Sink.contents g.S.Sink.failure_count g.H.Home.contents g.met.H.Home.follows
+    c.args.home.now c.loop-request.home c.args.out.now c.loop-request.out c.args.requests.now c.loop-request.answers.items
+    (take_them_all c.args.requests.now c.loop-request.request-index
+    (λ requests. AttemptedAll g.H.Home.goes g.S.Sink.contents g.S.Sink.failure_count c.args.home.now c.loop-request.home c.args.out.now c.loop-request.out requests c.loop-request.answers.items)
+    c.loop-request-test.false c.loop-request.invariant.attempted)
+
+pub returns-clause-failing_stores : goal.returns-clause-failing_stores
+returns-clause-failing_stores g c =
+    attempted_all-fails g.H.Home.goes g.S.Sink.contents g.S.Sink.failure_count g.H.Home.contents g.met.H.Home.follows
     c.args.home.now c.loop-request.home c.args.out.now c.loop-request.out c.args.requests.now c.loop-request.answers.items
     (take_them_all c.args.requests.now c.loop-request.request-index
     (λ requests. AttemptedAll g.H.Home.goes g.S.Sink.contents g.S.Sink.failure_count c.args.home.now c.loop-request.home c.args.out.now c.loop-request.out requests c.loop-request.answers.items)

@@ -1,0 +1,91 @@
+-- A file that was changed outside, and what requests then come to.
+use Rattle.std.proofs.Common.{◌≡◌, ◌⊎◌, inl, inr, ℕ, ◌+◌, true, false, List, [], Result, Ok, Err, sym, ap, subst, refl, ◌∙◌}
+use Rattle.std.specs.Prelude.{codes, if◌then◌else◌, map}
+use Rattle.std.proofs.lemmas.Bool.{false≢true}
+use Rattle.rec_text.specs.declared.fault.Fault.{Fault}
+use Rattle.rec_text.specs.declared.fault.Fault.TheVariants.{Drifted}
+use Rattle.rec_journal.specs.declared.patch.Direction.{Direction}
+use Rattle.rec_journal.specs.declared.patch.Direction.TheVariants.{Forward, Backward}
+use Rattle.rec_journal.specs.declared.event.Revision.{Revision}
+use Rattle.rec_journal.specs.declared.event.Tool.{Tool}
+use Rattle.rec_journal.specs.declared.plan.Plan.{Plan}
+use Rattle.rec_journal.specs.History.{Opened, Opens, IsOpening}
+use Rattle.rec_journal.specs.Revisions.{one_pass, Leads}
+use Rattle.rec_journal.specs.Plans.{edit_to, after_edit_plan}
+use Rattle.rec_journal.proofs.Countings.{drifted-empty}
+use Rattle.rec_journal.proofs.Openings.{one_opening}
+use Rattle.rec_edit.specs.declared.outcome.Edited.{Edited}
+use Rattle.rec_tools.specs.declared.request.Reply.TheVariants.{Shown}
+use Rattle.rec_tools.specs.Home.{Contents}
+use Rattle.rec_tools.specs.Printouts.{printed_history, history_text}
+use Rattle.rec_tools.specs.Requests.{Asked, looking, listing, editing, moving, asked_of}
+use Rattle.rec_tools.specs.Outcomes.{Outcome, IsOutcome, IsPlanned, printing, writes_of}
+use Rattle.rec_tools.specs.Attempts.{written}
+use Rattle.rec_tools.specs.Machine.{AreEntries, Stands}
+use Rattle.rec_tools.specs.Laws.{outside_state, IsNoticed, OutsideIsNoticed}
+use Rattle.rec_tools.proofs.FaultLemmas.{ok_is_no_err, same_value}
+use Rattle.rec_tools.proofs.OpeningLemmas.{edit_leads_back}
+use Rattle.rec_tools.proofs.RunLemmas.{writes_nothing}
+
+module _ (c : Contents) (o : Opened) (opens : Opens c.file c.journal o) (drifted : o.drifted ≡ true) where
+  no_refusal : (fault : Fault) → IsOpening c.file c.journal (Err fault) → ⊥
+  no_refusal fault refused = ok_is_no_err o fault ⊥ (one_opening c.file c.journal (Err fault) (Ok o) refused opens)
+
+  same_opening : (p : Opened) → Opens c.file c.journal p → p ≡ o
+  same_opening p opened = same_value p o (one_opening c.file c.journal (Ok p) (Ok o) opened opens)
+
+  not_settled : (p : Opened) → Opens c.file c.journal p → p.drifted ≡ false → ⊥
+  not_settled p opened settled = false≢true (sym settled ∙ ap (λ (x : Opened). x.drifted) (same_opening p opened) ∙ drifted)
+
+  no_move : (direction : Direction) (r : Result Outcome Fault) → IsOutcome c (moving direction) r → r ≡ Err Drifted
+  no_move direction r (inl (fault, refused, e)) = absurd (no_refusal fault refused)
+  no_move direction (Ok outcome) (inr (p, opened, (settled, m))) = absurd (not_settled p opened settled)
+  no_move direction (Err fault) (inr (p, opened, inl (is, why))) = ap Err is
+  no_move direction (Err fault) (inr (p, opened, inr (is, settled, none))) = absurd (not_settled p opened settled)
+
+  told_drifted : (r : Result Outcome Fault) → IsOutcome c listing r → r ≡ Ok (printing (codes "drifted\n") Shown)
+  told_drifted r (inl (fault, refused, e)) = absurd (no_refusal fault refused)
+  told_drifted r (inr (p, opened, e)) =
+      let is : p.drifted ≡ true = ap (λ (x : Opened). x.drifted) (same_opening p opened) ∙ drifted in
+      e ∙ ap (λ b. Ok (printing (if b then codes "drifted\n" else history_text (map (λ (x : Revision). (x.number, x.tool)) p.past) (map (λ (x : Revision). (x.number, x.tool)) p.future)) Shown)) is
+
+  -- the history after an edit has that edit alone
+  begun : (tool : Tool) (edited : Edited) (plan : Plan) → IsPlanned o c tool edited plan → Stands (written c (writes_of plan)) (outside_state c o tool plan.file)
+  begun tool edited plan planned =
+      let edit : Revision = edit_to o tool edited.text (one_pass tool edited.patch) in
+      record {
+        opened = after_edit_plan o c.journal tool (one_pass tool edited.patch) edited.text;
+        opens = planned.safe.next;
+        settled = refl;
+        present = refl;
+        past = (
+          refl,
+          refl,
+          subst (λ t. Leads Backward edit t c.file) (sym planned.planned.1) (edit_leads_back c o tool edited plan opens planned),
+          subst (λ es. AreEntries Backward es [] c.file) (sym (drifted-empty c.file c.journal o opens drifted).0) tt,
+        );
+        future = tt;
+        next = refl;
+      }
+
+  begins_anew : (asked : Asked) (outcome : Outcome) → IsOutcome c asked (Ok outcome)
+      → (outcome.writes ≡ []) ⊎ ((tool : Tool) × Stands (written c outcome.writes) (outside_state c o tool (written c outcome.writes).file))
+  begins_anew (looking IsText) outcome is = inl (writes_nothing c (looking IsText) outcome tt is)
+  begins_anew listing outcome is = inl (writes_nothing c listing outcome tt is)
+  begins_anew (editing tool IsEdit) outcome (inl refused) = let e = refused.2 in cc
+  begins_anew (editing tool IsEdit) outcome (inr (base, is, inl refused)) = let e = refused.2 in cc
+  begins_anew (editing tool IsEdit) outcome (inr (base, is, inr (p, opened, inl refused))) = let e = refused.2 in cc
+  begins_anew (editing tool IsEdit) outcome (inr (base, is, inr (p, opened, inr (edited, done, inl (same, e))))) = inl (ap (λ (x : Outcome). x.writes) e)
+  begins_anew (editing tool IsEdit) outcome (inr (base, is, inr (p, opened, inr (edited, done, inr (differs, (plan, planned, e)))))) =
+      let here : IsPlanned o c tool edited plan = subst (λ x. IsPlanned x c tool edited plan) (same_opening p opened) planned in
+      inr (tool, subst (λ ws. Stands (written c ws) (outside_state c o tool (written c ws).file)) (sym (ap (λ (x : Outcome). x.writes) e)) (begun tool edited plan here))
+  begins_anew (moving direction) outcome is = absurd (ok_is_no_err outcome Drifted ⊥ (sym (no_move direction (Ok outcome) is)))
+
+pub outside_is_noticed : OutsideIsNoticed
+outside_is_noticed c o opens drifted =
+    record {
+      undo = no_move c o opens drifted Backward;
+      redo = no_move c o opens drifted Forward;
+      history = told_drifted c o opens drifted;
+      edits = λ request outcome is. begins_anew c o opens drifted (asked_of request) outcome is;
+    }

@@ -1,0 +1,5 @@
+use Rattle.rec_tools.proofs.OutsideLemmas as lemma
+use Rattle.rec_tools.proofs.laws.outside_is_noticed.Goals as goal
+
+pub returns : goal.returns
+returns c = lemma.outside_is_noticed

@@ -1,5 +1,5 @@
 -- Values as they are written, line by line.
-use Rattle.std.proofs.Common.{◌≡◌, ℕ, Bool, true, false, List, [], ◌∷◌, ◌++◌, ◌==◌, ◌&&◌, not, Result, sym, ap, refl, ◌∙◌, append_assoc, append-nil}
+use Rattle.std.proofs.Common.{◌≡◌, ℕ, Bool, true, false, List, [], ◌∷◌, ◌++◌, ◌==◌, ◌&&◌, not, sym, ap, refl, ◌∙◌, append_assoc, append-nil}
 use Rattle.std.proofs.lemmas.Bool.{ne_eqb}
 use Rattle.rec_text.specs.Lines.{HasNoNewline, ends_backslash, BeginsWithLine}
 use Rattle.rec_text.specs.Canonical.{folded, is_foldable, Extends}

@@ -1,11 +1,10 @@
 -- The steps of the iterators over paragraphs and records.
-use Rattle.std.proofs.Common.{◌≡◌, ℕ, ◌<◌, ◌≤◌, ◌⊎◌, inl, inr, Bool, List, ◌∷◌, Option, Some, None, length, sym, ap, subst, ◌∙◌, arith}
-use Rattle.std.specs.List.{AllByRecursion, cons_option}
+use Rattle.std.proofs.Common.{◌≡◌, ℕ, ◌<◌, ◌≤◌, ◌⊎◌, inl, inr, List, ◌∷◌, Option, Some, None, length, sym, ap, subst, ◌∙◌, arith}
 use Rattle.std.specs.Iterator.{YieldsFirst, MakesProgress, item_count}
 use Rattle.std.specs.declared.ops.Range.{Range}
 use Rattle.rec_text.specs.Elements.{Piece}
 use Rattle.rec_text.specs.Records.{AreParagraphs, is_full_at, is_blank_at}
-use Rattle.rec_text.specs.Scanned.{IsFirstIn, IsWithin, range, runs_to, narrowed, all_narrowed}
+use Rattle.rec_text.specs.Scanned.{IsFirstIn, range, runs_to}
 use Rattle.rec_text.proofs.RunLemmas.{AreRuns-runs_to, first_run, no_run}
 use Rattle.rec_text.proofs.SoughtLemmas.{blank_is_not_full}
 

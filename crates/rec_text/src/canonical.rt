@@ -1,5 +1,6 @@
 //! Fields as recu writes them.
-ghost use Rattle.std.specs.Prelude.{◌≡◌, ◌++◌, IsTrue, OnOk, OnErr};
+ghost use Rattle.std.specs.Prelude.{◌≡◌, ◌++◌, IsTrue, Ok, OnOk, OnErr, IfErr};
+ghost use Rattle.rec_text.specs.declared.fault.Fault.TheVariants.{OutOfMemory};
 ghost use Rattle.rec_text.specs.declared.element.Kind.TheVariants.{Field};
 ghost use Rattle.std.specs.List.{list_all};
 ghost use Rattle.rec_text.specs.Bytes.{continues_name as may_continue};
@@ -67,9 +68,8 @@ fn append_folded(out: &mut Vec<u8>, value: &[u8]) -> Result<(), AllocError>
     out.extend_from_slice(rest)
 }
 
-/// Appends the canonical field of this name and value, whether they can be read again or not. What was there before stays
-/// its front, also where memory ends.
-pub fn append_field(out: &mut Vec<u8>, name: &[u8], value: &[u8]) -> Result<(), AllocError>
+/// Appends the parts of a field. Where memory ends, the first of them have been appended.
+fn append_parts(out: &mut Vec<u8>, name: &[u8], value: &[u8]) -> Result<(), AllocError>
     ensures field { OnOk result (out.new.items ≡ out.old.items ++ field_of name.now value.now) }
     ensures front { Extends out.old.items out.new.items }
 {
@@ -79,12 +79,28 @@ pub fn append_field(out: &mut Vec<u8>, name: &[u8], value: &[u8]) -> Result<(), 
     out.extend_from_slice(b"\n")
 }
 
+/// Appends the canonical field of this name and value, whether they can be read again or not. Where memory ends, `out` is as
+/// it was.
+pub fn append_field(out: &mut Vec<u8>, name: &[u8], value: &[u8]) -> Result<(), AllocError>
+    ensures field { OnOk result (out.new.items ≡ out.old.items ++ field_of name.now value.now) }
+    ensures unchanged { OnErr result (out.new.items ≡ out.old.items) }
+{
+    let len = out.len();
+    let appended = append_parts(out, name, value);
+    if appended.is_err() {
+        out.truncate(len);
+    }
+    appended
+}
+
 /// Appends the canonical field of this name and value. A refusal leaves `out` as it was.
 pub fn put_field(out: &mut Vec<u8>, name: &[u8], value: &[u8]) -> Result<(), Fault>
     ensures field { OnOk result (out.new.items ≡ out.old.items ++ field_of name.now value.now) }
     ensures unchanged { OnErr result (out.new.items ≡ out.old.items) }
     // Whether it succeeds, and else why not.
     ensures outcome { UnlessMemory result (λ answer. answer ≡ put_outcome name.now value.now) }
+    // Memory ends only where the field may be written.
+    ensures writable { IfErr result (λ fault. fault ≡ OutOfMemory → put_outcome name.now value.now ≡ Ok tt) }
     // What is written is a field, and reads as this name and value.
     ensures well_formed { OnOk result (IsTrue (is_field (field_of name.now value.now))) }
     ensures name { OnOk result (name_of (record { kind = Field; bytes = field_of name.now value.now }) ≡ name.now) }
@@ -96,10 +112,6 @@ pub fn put_field(out: &mut Vec<u8>, name: &[u8], value: &[u8]) -> Result<(), Fau
     if !is_foldable(value) {
         return Err(Fault::BadValue);
     }
-    let len = out.len();
-    if let Err(error) = append_field(out, name, value) {
-        out.truncate(len);
-        return Err(Fault::from(error));
-    }
+    append_field(out, name, value)?;
     Ok(())
 }

@@ -100,7 +100,7 @@ impl<'t> Element<'t> {
     ghost use Rattle.rec_text.specs.Spellings.{IsSpelledValue};
     ghost use Rattle.rec_text.specs.Values.{value_of, bytes_of, is_part, stands_whole};
     ghost use Rattle.rec_text.specs.declared.fault.Fault.TheVariants.{OutOfMemory};
-    ghost use Rattle.std.specs.Prelude.{◌≡◌, IfOk, IfErr};
+    ghost use Rattle.std.specs.Prelude.{◌≡◌, false, IfOk, IfErr, OnErr};
 
     /// The value of a field; empty where the element is none.
     pub fn value(&self, alloc: Global) -> Result<Value<'t>, Fault>
@@ -110,6 +110,8 @@ impl<'t> Element<'t> {
         // It is made only where it doesn't stand in the text in one piece.
         ensures part { IfOk result (λ v. is_part v ≡ stands_whole (piece_of self.now)) }
         ensures refusals { IfErr result (λ fault. fault ≡ OutOfMemory) }
+        // Memory can end only where the value has to be made.
+        ensures made { OnErr result (stands_whole (piece_of self.now) ≡ false) }
     {
         let Kind::Field = self.kind else {
             return Ok(Value::Part(&[]));

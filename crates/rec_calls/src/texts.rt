@@ -99,8 +99,7 @@ fn growth_of_append_field(alloc: Global, log: &mut Log) -> Result<(), Fault> {
         return Ok(());
     };
     if append_field(&mut out, b"%rec", b"a\nb\\").is_err() {
-        log.holds("what was there", out.as_slice().starts_with(b"K: 0\n"));
-        out.truncate(5);
+        log.same("the text that was there", out.as_slice(), b"K: 0\n");
         append_field(&mut out, b"%rec", b"a\nb\\")?;
     }
     log.same("the text", out.as_slice(), b"K: 0\n%rec: a\n+ b\\\n");

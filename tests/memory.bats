@@ -261,7 +261,7 @@ is_told() {
         "$wanted/$(tail -n 1 said)") ;;
         *) wrong 'no such end' ;;
     esac
-    head -c "$(stat -c %s out)" printed | cmp -s - out || wrong 'no front of the text'
+    head -c "$(stat -c %s out)" printed | cmp -s - out || wrong 'no prefix of the text'
     if [ -e hit ]; then
         status=0
         "$program" "$@" > out 2> err || status=$?

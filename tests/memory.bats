@@ -147,6 +147,10 @@ is_printed() {
     cmp -s db.rec start/db.rec || wrong 'the file was changed'
     if [ ! -e hit ]; then
         [ "$status" = "$wanted" ] && cmp -s out printed || wrong 'refused without a failing allocation'
+    elif ! cmp -s out printed; then
+        status=0
+        "$program" "$@" > out 2> err || status=$?
+        [ "$status" = "$wanted" ] && cmp -s out printed || wrong 'the same again prints another text'
     fi
 }
 
@@ -184,6 +188,10 @@ REC
 
 @test "memory for recsel -n" {
     prints_people 'b¶c¶' recsel -t P -n 1-2 -P N -C
+}
+
+@test "memory for recsel -c" {
+    prints_people '3¶' recsel -t P -c
 }
 
 @test "memory for recinf" {
@@ -243,4 +251,45 @@ REC
     put printed 'done 1 recdel¶undone 2 recset¶'
     fast each_allocation is_printed history db.rec
     cmp db.rec.journal start/db.rec.journal
+}
+
+# is_told WORD..: judges a run that prints the files printed and said, and ends with the status $wanted
+is_told() {
+    case "$status/$(tail -n 1 err)" in
+        "$wanted/$(tail -n 1 said)" | '1/recu: out of memory' | 1/) ;;
+        *) wrong 'no such end' ;;
+    esac
+    head -c "$(stat -c %s out)" printed | cmp -s - out || wrong 'no prefix of the text'
+    if [ -e hit ]; then
+        status=0
+        "$program" "$@" > out 2> err || status=$?
+    fi
+    [ "$status" = "$wanted" ] && cmp -s out printed && cmp -s err said || wrong 'another text'
+}
+
+# tells STATUS WORD..: with each failing allocation recu says what it says to these words, or that memory ran out
+tells() {
+    local wanted=$1
+    mkdir start
+    put start/db.rec "$three"
+    "$program" "${@:2}" > printed 2> said || [ $? = "$wanted" ] || fail "another status: $*"
+    fast each_allocation is_told "${@:2}"
+}
+
+@test "memory for words that are refused" {
+    tells 1 recset -f A --sett 2 db.rec
+}
+
+@test "memory for a hyphen in a value" {
+    tells 1 recset -f A -s -2 db.rec
+}
+
+@test "each command has a case here" {
+    local commands command
+    commands=$("$program" --help | sed -n '/^Commands:/,/^$/s/^  \([a-z]*\)  .*/\1/p')
+    [ "$(wc -w <<< "$commands")" -ge 9 ] || fail "the help names too few commands: $commands"
+    for command in $commands; do
+        [ "$command" != help ] || continue
+        grep -Eq "^ +(fast each_allocation|prints_people|tells) .*[ ]$command( |$)" "$BATS_TEST_FILENAME" || fail "$command has no case"
+    done
 }

@@ -272,3 +272,49 @@ edits() {
     prints '' "$reason¶"
     only f
 }
+
+# is_cut STATUS TEXT WORD..: the words end with this status and print this text; where standard output takes fewer bytes they
+# are refused, and a prefix went out. The text `-` is what they print.
+is_cut() {
+    local wanted=$1 text=$BATS_TEST_TMPDIR/text out=$BATS_TEST_TMPDIR/cut room status size
+    if [ "$2" = - ]; then "$program" "${@:3}" > "$text"; else put "$text" "$2"; fi
+    size=$(stat -c %s "$text")
+    [ "$size" -gt 0 ] || fail "${*:3} prints nothing"
+    for ((room = 0; room <= size; room++)); do
+        status=0
+        NARROW=1 ROOM=$room LD_PRELOAD=$BATS_FILE_TMPDIR/narrow.so "$program" "${@:3}" > "$out" 2> "$out.err" || status=$?
+        head -c "$room" "$text" | cmp -s - "$out" || fail "${*:3}: with room for $room bytes other ones went out"
+        if [ "$room" -lt "$size" ]; then
+            [ "$status/$(tail -n 1 "$out.err")" = '1/recu: a file could not be read or written' ] ||
+                fail "${*:3}: with room for $room bytes status $status: $(cat "$out.err")"
+        else
+            [ "$status" = "$wanted" ] || fail "${*:3}: status $status: $(cat "$out.err")"
+        fi
+    done
+}
+
+@test "what is printed is cut where standard output fails" {
+    put f '%rec: P¶%mandatory: X¶¶N: a¶M: x\¶y¶¶N: b¶'
+    fast is_cut 0 'N: a¶M: x\¶y¶¶N: b¶' recsel f
+    fast is_cut 0 'M: x\¶y¶N: a¶' recsel -p M,N -n 0 f
+    fast is_cut 0 'a¶¶b¶' recsel -P N f
+    fast is_cut 0 'a xy¶b¶' recsel -R N,M -C f
+    fast is_cut 0 '2¶' recsel -c f
+    fast is_cut 0 '2 P¶' recinf f
+    fast is_cut 0 'P¶' recinf -n f
+    fast is_cut 0 '%rec: P¶%mandatory: X¶' recinf -d f
+    fast is_cut 1 '4: mandatory X¶8: mandatory X¶' recfix f
+    does recset -n 0 -f M -s z --force f
+    does recset -n 1 -f N -s c --force f
+    does undo f
+    fast is_cut 0 'done 1 recset¶undone 2 recset¶' history f
+    has f '%rec: P¶%mandatory: X¶¶N: a¶M: z¶¶N: b¶'
+    only f f.journal
+}
+
+@test "help is cut where standard output fails" {
+    fast is_cut 0 - --help
+    fast is_cut 0 - history --help
+    fast is_cut 0 - --version
+    only
+}

@@ -1,8 +1,11 @@
 #!/usr/bin/env python3
-"""Looks through the wrong bodies, crates/NAME/must-fail/*.edit and tests/wrong-bodies/NAME/*.edit, in seconds.
-    python3 tests/wrong-bodies.py applied     says which of them can't be tried any more
+"""Looks through the wrong bodies, crates/NAME/must-fail/*.edit and tests/wrong-bodies/NAME/*.edit, and through the list of
+public calls, docs/calls.md, in seconds.
+    python3 tests/wrong-bodies.py applied     says which wrong body can't be tried any more
     python3 tests/wrong-bodies.py covered     says which public function has none
-Where it says something it ends with 1. tests/README.md says how one is written."""
+    python3 tests/wrong-bodies.py listed      says which public function the list lacks, and what it has that isn't there
+    python3 tests/wrong-bodies.py grown       says which call that needs memory has no test in which that is refused
+Where it says something it ends with 1. tests/README.md says how a wrong body is written."""
 import collections
 import glob
 import os
@@ -10,7 +13,10 @@ import re
 import sys
 
 MOST_IN_THE_GATE = 14
-Function = collections.namedtuple("Function", "path name first last is_public")
+LIST = "docs/calls.md"
+# A public function of which a body can be wrong needs a wrong body.
+Function = collections.namedtuple("Function", "path name first last is_public may_be_wrong")
+Row = collections.namedtuple("Row", "names clauses memory")
 
 
 def read(path):
@@ -74,11 +80,11 @@ def exports_of(crate):
 
 
 def functions_of(path, exported, own_traits):
-    """The functions with a body, as rt fmt writes them: it ends at a brace right below the function's first letter.
+    """The functions, as rt fmt writes them: a body ends at a brace right below the function's first letter.
 
     Public are an exported function, a function of an exported trait, and of an exported type what is `pub` or of a
-    trait. The others are no concern of callers. A law has the body {}, and a function outside of traits that has no
-    `ensures` promises nothing: no body of these is wrong.
+    trait. The others are no concern of callers. A law has the body {}, a trait may leave the body to others, and a
+    function outside of traits that has no `ensures` promises nothing: no body of these is wrong.
     """
     trait = owner = ""
     name = None
@@ -96,25 +102,29 @@ def functions_of(path, exported, own_traits):
             continue
         promises = promises or not has_begun and line.lstrip().startswith("ensures ")
         has_begun = has_begun or re.match(rf"{indent}(\S.*)?{{$", line) is not None
-        if line == f"{indent}{{}}" or not has_begun and line.endswith(";"):
-            name = None
-        elif line == f"{indent}}}":
-            if not indent:
-                is_public = mark == "pub " and name in exported
-            elif trait:
-                is_public = trait in exported or owner in exported and trait not in own_traits
-            else:
-                is_public = mark == "pub " and owner in exported
-            yield Function(path, f"{owner}::{name}" if indent else name, first, at, is_public and promises)
-            name = None
+        has_body = line == f"{indent}}}"
+        if not has_body and line != f"{indent}{{}}" and (has_begun or not line.endswith(";")):
+            continue
+        if not indent:
+            is_public = mark == "pub " and name in exported
+        elif trait:
+            is_public = trait in exported or owner in exported and trait not in own_traits
+        else:
+            is_public = mark == "pub " and owner in exported
+        yield Function(path, f"{owner}::{name}" if indent else name, first, at, is_public, promises and has_body)
+        name = None
+
+
+def all_functions_of(crate):
+    exported, sources = exports_of(crate), sorted(glob.glob(f"crates/{crate}/src/*.rt"))
+    own_traits = re.findall(r"^(?:pub |pub\(crate\) )?trait (\w+)", "\n".join(read(path) for path in sources), re.M)
+    return [one for path in sources for one in functions_of(path, exported, own_traits)]
 
 
 def covered(crate):
     """An edit is one of the function in which its first old text stands, and of those that its line `turns` names."""
-    exported, sources = exports_of(crate), glob.glob(f"crates/{crate}/src/*.rt")
-    own_traits = re.findall(r"^(?:pub |pub\(crate\) )?trait (\w+)", "\n".join(read(path) for path in sources), re.M)
-    functions = [one for path in sources for one in functions_of(path, exported, own_traits)]
-    public = [one for one in functions if one.is_public]
+    functions = all_functions_of(crate)
+    public = [one for one in functions if one.is_public and one.may_be_wrong]
     turned = set()
     for edit in edits_of(crate):
         for name in re.findall(r"[\w:]+", " ".join(re.findall(r"^# turns: (.*)", read(edit), re.M))):
@@ -129,8 +139,54 @@ def covered(crate):
     yield from sorted(f"{one.path}: no wrong body of {one.name}" for one in public if one not in turned)
 
 
+def text_of(one):
+    return "\n".join(read(one.path).split("\n")[one.first : one.last + 1])
+
+
+def rows_of(crate):
+    """The rows of the list on the crate: the functions, the clauses that are named, and what is said of memory."""
+    part = re.search(rf"^## {crate}\n(.*?)(?=^## |\Z)", read(LIST), re.M | re.S)
+    for line in part.group(1).split("\n") if part else []:
+        if line.startswith("| `"):
+            call, *promises, memory = line.strip("| ").split(" | ")
+            names = re.findall(r"`([\w:]+)`", call)
+            yield Row(names, set(re.findall(r"`(\w+)`", " ".join(promises))), memory)
+
+
+def listed(crate):
+    public = {one.name: [] for one in all_functions_of(crate) if one.is_public}
+    for one in all_functions_of(crate):
+        if one.is_public:
+            public[one.name].append(text_of(one))
+    names = [name for row in rows_of(crate) for name in row.names]
+    yield from (f"{LIST}: {crate} has no public function {name}" for name in names if name not in public)
+    yield from (f"{LIST}: {name} of {crate} is missing" for name in public if name not in names)
+    for row in rows_of(crate):
+        text = "\n".join(text for name in row.names for text in public.get(name, []))
+        clauses = set(re.findall(r"^ *ensures (\w+) {", text, re.M))
+        yield from (f"{LIST}: {row.names[0]} has no clause {name}" for name in sorted(row.clauses - clauses))
+
+
+def grown(crate):
+    """A test is a case `growth_of_..` of crates/rec_calls, or one of tests/memory.bats, whose name stands in quotes."""
+    sources = "\n".join(read(path) for path in glob.glob("crates/rec_calls/src/*.rt"))
+    tests = re.findall(r"^fn (growth_of_\w+)", sources, re.M) + re.findall(r'^@test "(.*)"', read("tests/memory.bats"), re.M)
+    signatures = {one.name: text_of(one).partition("{")[0] for one in all_functions_of(crate)}
+    for row in rows_of(crate):
+        named = re.findall(r"`(growth_of_\w+)`|\"(.*?)\"", row.memory)
+        named = [case or command for case, command in named]
+        yield from (f"{LIST}: {row.names[0]}: there is no test {name}" for name in named if name not in tests)
+        if row.memory != "none" and not named:
+            yield f"{LIST}: {row.names[0]} needs memory, and no test is named in which it is refused"
+        if row.memory == "none" and any(re.search(r"alloc: Global|AllocGlobal", signatures.get(name, "")) for name in row.names):
+            yield f"{LIST}: {row.names[0]} is given memory, and the list says that it needs none"
+    if crate == "rec_calls":
+        cases = [name for name in tests if name.startswith("growth_of_")]
+        yield from (f"{LIST}: {name} is no test of a call" for name in cases if f"`{name}`" not in read(LIST))
+
+
 def main(words):
-    looks = {"applied": applied, "covered": covered}
+    looks = {"applied": applied, "covered": covered, "listed": listed, "grown": grown}
     if len(words) != 1 or words[0] not in looks:
         sys.exit(__doc__)
     said = [line for crate in sorted(os.listdir("crates")) for line in looks[words[0]](crate)]

@@ -10,7 +10,12 @@ use rec_text::{Database, Fault, read};
 use std::alloc::Global;
 
 pub fn run(alloc: Global, log: &mut Log) {
-    cases!(alloc, log: counters_go_on, counters_are_named_once, counters_of_a_set);
+    cases!(alloc, log:
+        counters_go_on,
+        counters_are_named_once,
+        counters_of_a_set,
+        growth_of_automatic_names,
+        growth_of_counters);
 }
 
 /// A text, in which `|` stands for a newline, the name of a field in its last set, and the next value.
@@ -130,5 +135,52 @@ fn counters_of_a_set(alloc: Global, log: &mut Log) -> Result<(), Fault> {
     let schema = Schema::read(alloc, &database)?;
     log.equal("records", records_in(&database, &schema), 2);
     let mut counters = counters_in(alloc, &database, &schema)?;
+    check_counters(log, &mut counters)
+}
+
+/// A set with two counters, one of which is named twice.
+const COUNTED: &[u8] = b"A: 9\n\n%rec: P\n%auto: A B A\n\nA: 3\n\nB: -7\nA: x\n";
+
+fn names_again(alloc: Global, schema: &Schema) -> Result<Vec<&[u8]>, Fault> {
+    match schema.automatic_names(alloc, 1) {
+        Err(Fault::OutOfMemory) => schema.automatic_names(alloc, 1),
+        answer => answer,
+    }
+}
+
+fn growth_of_automatic_names(alloc: Global, log: &mut Log) -> Result<(), Fault> {
+    let Ok(database) = read(alloc, COUNTED) else {
+        return Ok(());
+    };
+    let Ok(schema) = Schema::read(alloc, &database) else {
+        return Ok(());
+    };
+    let names = names_again(alloc, &schema)?;
+    let wanted = [b"A".as_slice(), b"B".as_slice()];
+    log.holds("the names", names.as_slice() == wanted.as_slice());
+    Ok(())
+}
+
+fn counters_again<'r>(
+    alloc: Global,
+    database: &Database,
+    schema: &'r Schema,
+) -> Result<Vec<Counter<'r>>, Fault>
+    requires { IsSchema database.now (Ok (described schema.now)) }
+{
+    match counters_in(alloc, database, schema) {
+        Err(Fault::OutOfMemory) => counters_in(alloc, database, schema),
+        answer => answer,
+    }
+}
+
+fn growth_of_counters(alloc: Global, log: &mut Log) -> Result<(), Fault> {
+    let Ok(database) = read(alloc, COUNTED) else {
+        return Ok(());
+    };
+    let Ok(schema) = Schema::read(alloc, &database) else {
+        return Ok(());
+    };
+    let mut counters = counters_again(alloc, &database, &schema)?;
     check_counters(log, &mut counters)
 }

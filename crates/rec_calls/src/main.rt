@@ -28,11 +28,13 @@ mod log;
 mod order;
 mod parts;
 mod patches;
+mod paths;
 mod patterns;
 mod plain;
 mod plain_edit;
 mod records;
 mod reports;
+mod requests;
 mod rows;
 mod selections;
 mod texts;
@@ -66,6 +68,8 @@ fn run(alloc: Global, log: &mut Log) {
     histories::run(alloc, log);
     journals::run(alloc, log);
     edits::run(alloc, log);
+    requests::run(alloc, log);
+    paths::run(alloc, log);
     log.close();
 }
 

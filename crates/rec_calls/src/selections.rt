@@ -147,12 +147,11 @@ fn no_output(alloc: Global) -> Printed {
     }
 }
 
-/// Memory ran out, or the output's did, and what went out is a prefix of the text. It is taken back.
-fn check_refusal(log: &mut Log, fault: Fault, out: &mut Printed, text: &[u8]) {
+/// Memory ran out, or the output's did, and what went out is a prefix of the text.
+fn check_refusal(log: &mut Log, fault: Fault, out: &Printed, text: &[u8]) {
     let number = if out.failed == 0 { 1 } else { 23 };
     log.holds("the refusal", fault.number() == number);
     log.holds("a prefix went out", text.starts_with(out.writer.as_slice()));
-    out.writer.clear();
 }
 
 fn check_records(
@@ -167,7 +166,8 @@ fn check_records(
 {
     let mut out = no_output(alloc);
     if let Err(fault) = write_records(alloc, database, selected, shape, false, &mut out) {
-        check_refusal(log, fault, &mut out, text);
+        check_refusal(log, fault, &out, text);
+        out = no_output(alloc);
         write_records(alloc, database, selected, shape, false, &mut out)?;
     }
     log.same("what is printed", out.writer.as_slice(), text);
@@ -280,7 +280,8 @@ fn check_info(
 {
     let mut out = no_output(alloc);
     if let Err(fault) = write_info(database, schema, None, form, &mut out) {
-        check_refusal(log, fault, &mut out, text);
+        check_refusal(log, fault, &out, text);
+        out = no_output(alloc);
         write_info(database, schema, None, form, &mut out)?;
     }
     log.same("what is printed", out.writer.as_slice(), text);
@@ -328,7 +329,8 @@ fn growth_of_write_report(alloc: Global, log: &mut Log) -> Result<(), Fault> {
     let text = b"20: key Id\n123: type Id\n";
     let mut out = no_output(alloc);
     if let Err(fault) = write_report(&report, &mut out) {
-        check_refusal(log, fault, &mut out, text);
+        check_refusal(log, fault, &out, text);
+        out = no_output(alloc);
         write_report(&report, &mut out)?;
     }
     log.same("what is printed", out.writer.as_slice(), text);
@@ -340,7 +342,8 @@ fn growth_of_put_parts(alloc: Global, log: &mut Log) -> Result<(), Fault> {
     let text = b"Id: 1\n";
     let mut out = no_output(alloc);
     if let Err(fault) = put_parts(&mut out, &parts) {
-        check_refusal(log, fault, &mut out, text);
+        check_refusal(log, fault, &out, text);
+        out = no_output(alloc);
         put_parts(&mut out, &parts)?;
     }
     log.same("what is printed", out.writer.as_slice(), text);

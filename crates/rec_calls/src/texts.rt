@@ -99,8 +99,7 @@ fn growth_of_append_field(alloc: Global, log: &mut Log) -> Result<(), Fault> {
         return Ok(());
     };
     if append_field(&mut out, b"%rec", b"a\nb\\").is_err() {
-        log.holds("what was there", out.as_slice().starts_with(b"K: 0\n"));
-        out.truncate(5);
+        log.same("the text that was there", out.as_slice(), b"K: 0\n");
         append_field(&mut out, b"%rec", b"a\nb\\")?;
     }
     log.same("the text", out.as_slice(), b"K: 0\n%rec: a\n+ b\\\n");
@@ -116,6 +115,8 @@ fn growth_of_put_all(alloc: Global, log: &mut Log) -> Result<(), Fault> {
     if let Err(fault) = put_all(&mut out, b"A: 1\n") {
         log.holds("the output failed", fault.number() == 23 && out.failed == 1);
         log.same("what was there", out.writer.as_slice(), b"K: 0\n");
+        let writer = Vec::from_slice(alloc, b"K: 0\n")?;
+        out = Output { writer, failed: 0 };
         put_all(&mut out, b"A: 1\n")?;
     }
     log.same("the output", out.writer.as_slice(), b"K: 0\nA: 1\n");

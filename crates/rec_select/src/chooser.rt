@@ -1,6 +1,7 @@
 //! Finds the records that a selection takes.
-ghost use Rattle.std.specs.Prelude.{◌≡◌, ℕ, List, Bool, Result, Ok, Err, IfOk, IfErr, MatchResult};
+ghost use Rattle.std.specs.Prelude.{◌≡◌, ◌⊎◌, ℕ, List, Bool, Result, Ok, Err, IfOk, IfErr, IsOk, MatchResult};
 ghost use Rattle.rec_text.specs.declared.fault.Fault.{Fault};
+ghost use Rattle.rec_text.specs.declared.fault.Fault.TheVariants.{OutOfMemory, TypeNeeded, NoSuchType};
 ghost use Rattle.rec_text.specs.Faults.{IsMemoryOr};
 ghost use Rattle.rec_check.specs.Schemas.{IsSchema};
 ghost use Rattle.rec_check.specs.Stored.{described};
@@ -22,7 +23,8 @@ fn has_records(set: &Set_) -> bool
 
 /// The set that is meant where no type is given.
 fn meant_set(sets: &[Set_]) -> Result<&Set_, Fault>
-    ensures { MatchResult result (λ set. set_without_type sets.now ≡ Ok set.now) (λ fault. set_without_type sets.now ≡ Err fault) }
+    ensures set { MatchResult result (λ set. set_without_type sets.now ≡ Ok set.now) (λ fault. set_without_type sets.now ≡ Err fault) }
+    ensures refusals { IfErr result (λ fault. fault ≡ TypeNeeded) }
 {
     match sets {
         [untyped, ..] if has_records(untyped) => Ok(untyped),
@@ -32,7 +34,8 @@ fn meant_set(sets: &[Set_]) -> Result<&Set_, Fault>
 }
 
 fn typed_set<'s>(schema: &'s Schema, kind: &[u8]) -> Result<&'s Set_, Fault>
-    ensures { MatchResult result (λ set. set_of_type kind.now (described schema.now).sets ≡ Ok set.now) (λ fault. set_of_type kind.now (described schema.now).sets ≡ Err fault) }
+    ensures set { MatchResult result (λ set. set_of_type kind.now (described schema.now).sets ≡ Ok set.now) (λ fault. set_of_type kind.now (described schema.now).sets ≡ Err fault) }
+    ensures refusals { IfErr result (λ fault. fault ≡ NoSuchType) }
 {
     match schema.set_of_type(kind) {
         Some(place) => Ok(&schema.sets()[place]),
@@ -42,7 +45,8 @@ fn typed_set<'s>(schema: &'s Schema, kind: &[u8]) -> Result<&'s Set_, Fault>
 
 /// The set that is selected from.
 fn set_of<'s>(schema: &'s Schema, kind: &Option<Bytes>) -> Result<&'s Set_, Fault>
-    ensures { MatchResult result (λ set. set_for kind.now (described schema.now).sets ≡ Ok set.now) (λ fault. set_for kind.now (described schema.now).sets ≡ Err fault) }
+    ensures set { MatchResult result (λ set. set_for kind.now (described schema.now).sets ≡ Ok set.now) (λ fault. set_for kind.now (described schema.now).sets ≡ Err fault) }
+    ensures refusals { IfErr result (λ fault. (fault ≡ TypeNeeded) ⊎ (fault ≡ NoSuchType)) }
 {
     match kind {
         Some(kind) => typed_set(schema, kind.as_slice()),
@@ -61,6 +65,8 @@ pub fn choose(
     ensures selected { IfOk result (λ selected. IsSelection database.now (described schema.now).sets selection.now.kind (filter_of selection.now.by) (Ok selected.items)) }
     ensures indexes { IfOk result (λ selected. AreIndexes database.now selected.items) }
     ensures refused { IfErr result (λ fault. IsMemoryOr fault (IsSelection database.now (described schema.now).sets selection.now.kind (filter_of selection.now.by) (Err fault))) }
+    // Memory ends only where there is a set to select from.
+    ensures set { IfErr result (λ fault. fault ≡ OutOfMemory → IsOk (set_for selection.now.kind (described schema.now).sets)) }
     ensures only { (other : Result (List ℕ) Fault) → IsSelection database.now (described schema.now).sets selection.now.kind (filter_of selection.now.by) other → MatchResult result (λ selected. other ≡ Ok selected.items) (λ fault. IsMemoryOr fault (other ≡ Err fault)) }
 {
     let members = &set_of(schema, &selection.kind)?.members;

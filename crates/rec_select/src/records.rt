@@ -3,10 +3,11 @@ ghost use Rattle.std.specs.Prelude.{◌≡◌, ◌⊎◌, ◌<◌, ◌≤◌, no
 ghost use Rattle.std.specs.List.{AllByRecursion};
 ghost use Rattle.rec_text.specs.Bytes.{is_nil};
 ghost use Rattle.rec_text.specs.Scanned.{IsWithin};
-ghost use Rattle.rec_text.specs.Sink.{KeptAtSuccess, RisenAtStoreFailed};
+ghost use Rattle.rec_text.specs.Sink.{KeptAtSuccess, RisenAtStoreFailed, UnlessStoreFailed};
 ghost use Rattle.rec_select.specs.Selection.{record_at};
 ghost use Rattle.rec_select.specs.Blocks.{behind, full, separated};
 ghost use Rattle.rec_select.specs.Printing.{AreIndexes, IsPrinted, Puts, block_of, number_line};
+ghost use Rattle.rec_select.specs.declared.records.Shape.TheVariants.{Count};
 ghost use Rattle.rec_select.specs.Taken.{Prints, SaysFailures};
 
 use crate::block::Block;
@@ -34,7 +35,8 @@ pub enum Shape {
 
 /// Prints a number, and a newline.
 fn write_number<S: Sink>(number: usize, out: &mut S) -> Result<(), Fault>
-    ensures { Prints (number_line number) (S.contents out.old) (S.contents out.new) (S.failure_count out.old) (S.failure_count out.new) result }
+    ensures refusals { UnlessStoreFailed result }
+    ensures printed { Prints (number_line number) (S.contents out.old) (S.contents out.new) (S.failure_count out.old) (S.failure_count out.new) result }
 {
     let mut buffer = Buffer::new();
     put_all(out, buffer.format(number).as_bytes())?;
@@ -115,6 +117,8 @@ pub fn write_records<S: Sink>(
     ensures told { SaysFailures (S.failure_count out.old) (S.failure_count out.new) result }
     ensures store_failed { RisenAtStoreFailed (S.failure_count out.old) (S.failure_count out.new) result }
     ensures refusals { IfErr result (λ fault. (fault ≡ Fault.OutOfMemory) ⊎ (fault ≡ Fault.StoreFailed)) }
+    // Their number is printed without any memory.
+    ensures number { shape.now ≡ Count → UnlessStoreFailed result }
 {
     if let Shape::Count = shape {
         return write_number(selected.len(), out);

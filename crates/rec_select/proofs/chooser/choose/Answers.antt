@@ -85,9 +85,9 @@ loop-index-preserved c =
 pub returns-clause-selected : goal.returns-clause-selected
 returns-clause-selected c = (
   c.in_ok-members.field-0.now,
-  c.in_ok-members.ensures,
+  c.in_ok-members.ensures.set,
   all_chosen _ _ _ c.in_ok-members.field-0.now _ _ _ _ c.loop-index.invariant.so_far refl
-      (λ records are. members_within _ _ records _ _ c.requires are c.in_ok-members.ensures) c.loop-index.invariant.ends (λ more. (c.in-None.ensures.steps more).0.0),
+      (λ records are. members_within _ _ records _ _ c.requires are c.in_ok-members.ensures.set) c.loop-index.invariant.ends (λ more. (c.in-None.ensures.steps more).0.0),
 )
 
 pub returns-clause-only : goal.returns-clause-only

@@ -2,8 +2,8 @@ use Rattle.std.proofs.Common.{[], ◌∷◌, ◌∙◌}
 use Rattle.rec_select.proofs.PutsLemmas.{HasTaken-as, Prints-put, Prints-append}
 use Rattle.rec_select.proofs.records.write_number.Goals as goal
 
-pub returns : goal.returns
-returns g c =
+pub returns-clause-printed : goal.returns-clause-printed
+returns-clause-printed g c =
     let first = c.in_ok-put_all.ensures in
     let put = c.put_all-2.ensures in
     let digits = c.as_bytes.ensures.value ∙ c.format.ensures.text in

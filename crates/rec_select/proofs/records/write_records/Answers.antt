@@ -38,4 +38,5 @@ returns g c =
       told = told-prints _ _ _ _ _ answer prints;
       store_failed = store_failed-prints _ _ _ _ _ answer prints;
       refusals = refusals-prints _ _ _ _ _ answer prints;
+      number = λ is. absurd (c.in_default.not-Count is);
     }

@@ -39,11 +39,12 @@ state() {
     put "$1/history" "$4"
 }
 
-# The words of each command, its contents before and after, and the first text. `rest` is what follows the first field.
+# The words of each command, its contents before and after, and the first text. The file `rest` has what follows the field.
 prepare() {
-    local rest=${2-'¶B: 2¶¶C: 3¶'} digit events
+    local digit events
+    [ -e rest ] || put rest '¶B: 2¶¶C: 3¶'
     for digit in 1 8 9; do
-        put "$digit" "A: $digit¶$rest"
+        { bytes "A: $digit¶" && cat rest; } > "$digit"
     done
     words=(recset -n 0 -f A -S 9)
     case $1 in
@@ -207,4 +208,132 @@ each_half() {
     for command in first edit undo redo; do
         fast each_half "$command"
     done
+}
+
+# each_room: in a small file system the edit finds each number of free pages in turn. The texts have five pages.
+each_room() {
+    local free used=0 failed=0
+    for ((free = 0; free <= 14; free++)); do
+        begin
+        rm -f filler
+        head -c $(($(stat -f -c '%a * %S' .) - 4096 * free)) /dev/zero > filler
+        status=0 number=$free call='free pages'
+        "$program" "${words[@]}" db.rec > "$work/out" 2> "$work/err" || status=$?
+        rm filler
+        cp "$work/err" err
+        if [ "$status" = 0 ]; then
+            used=$((used + 1))
+        else
+            failed=$((failed + 1))
+            grep -q ': No space left on device (os error 28)$' err || wrong 'it is refused for another reason'
+            [ "$(tail -n 1 err)" = 'recu: a file could not be read or written' ] || wrong 'it is refused otherwise'
+            cmp -s db.rec "$before/db.rec" || wrong 'it has changed the file'
+        fi
+        judge room
+    done
+    [ "$used" -gt 0 ] && [ "$failed" -gt 0 ] || fail "$used edits were done, and $failed refused"
+}
+
+in_small_room() {
+    mkdir small
+    mount -t tmpfs -o size=512k none small || exit 77
+    cp first.rec small
+    cd small || exit 1
+    each_room
+}
+
+@test "a file system with little room" {
+    local status=0 flags=-m
+    unshare -m true 2> /dev/null || flags=-rm
+    put rest "# $(head -c 18000 /dev/zero | tr '\0' x)¶¶B: 2¶"
+    prepare edit
+    export work=$PWD before=$PWD/before after=$PWD/after program
+    {
+        declare -f fail wrong begin are are_stopped judge cleared undone each_room in_small_room
+        declare -p words
+        echo in_small_room
+    } > script
+    unshare "$flags" bash script > said 2>&1 3>&- || status=$?
+    [ "$status" != 77 ] && ! grep -q '^unshare: ' said || skip "no file system can be mounted: $(tail -n 1 said)"
+    [ "$status" = 0 ] || fail "$(< said)"
+}
+
+# records COUNT VALUE: as many records, whose values are numbers or all this one
+records() {
+    awk -v count="$1" -v value="$2" 'BEGIN { for (i = 0; i < count; i++) print "\nN: " (value == "" ? "record " i : value) }'
+}
+
+# long ONLY WHAT COMMAND: these calls of the command on a file of 4 MB
+long() {
+    ONLY=$1 each_call "$3" "$2" 2
+}
+
+@test "a file of several MB" {
+    local command
+    records 220000 '' > rest
+    for command in edit undo; do
+        fast long write half "$command"
+        fast long write 28 "$command"
+        fast long rename end "$command"
+    done
+}
+
+# each_long: an edit of all records, whose event is as long as the file, ends within each of its writes
+each_long() {
+    words=(recset -f N -s x)
+    for number in 1 2; do
+        rm -f db.rec db.rec.journal
+        cp first.rec db.rec
+        status=0
+        ONLY=write at "$number" half "${words[@]}" db.rec || status=$?
+        met || fail "there is no write $number"
+        [ "$("$program" history db.rec)" = '' ] || wrong 'it has a history'
+        cmp -s db.rec first.rec || wrong 'not the first text'
+        "$program" "${words[@]}" db.rec 2> err || wrong 'the same again is refused'
+        cmp -s db.rec all.rec || wrong 'not the text after'
+        cleared 'left by the next edit'
+        [ "$("$program" history db.rec)" = 'done 1 recset' ] || wrong 'another history'
+        undone
+        "$program" redo db.rec 2> err || wrong 'it is not made again'
+        cmp -s db.rec all.rec || wrong 'not the text after'
+        undone
+    done
+}
+
+@test "an edit of several MB" {
+    records 100000 '' > first.rec
+    records 100000 x > all.rec
+    fast each_long
+}
+
+# closed WORD..: so ends recu with these words, whose output nobody can read
+closed() {
+    local status=0
+    "$program" "${@:2}" >&5 2> err < /dev/null 3>&- || status=$?
+    [ "$status" = "$1" ] || fail "${*:2}: status $status: $(< err)"
+}
+
+@test "a closed pipe" {
+    local tool
+    prepare edit
+    begin
+    put rules.rec '%rec: P¶%size: 2¶¶A: 1¶'
+    cp rules.rec given.rec
+    mkfifo pipe
+    exec 4<> pipe 5> pipe 4<&-
+    rm pipe
+    for tool in 'recsel db.rec' 'recinf db.rec' 'history db.rec' 'recfix rules.rec'; do
+        closed 1 $tool
+        has err "$store_failed"
+        cmp db.rec before/db.rec
+        cmp db.rec.journal before/db.rec.journal
+    done
+    cmp rules.rec given.rec
+    # What edits prints nothing.
+    closed 0 "${words[@]}" db.rec
+    cmp db.rec after/db.rec
+    cmp db.rec.journal after/db.rec.journal
+    closed 0 undo db.rec
+    cmp db.rec before/db.rec
+    exec 5>&-
 }

@@ -53,6 +53,17 @@ fn home_of(alloc: Global, file: &[u8], journal: &[u8]) -> Result<Tester, AllocEr
     Ok(tester)
 }
 
+/// The answer is the last one of a plain machine.
+fn compare_answer(
+    alloc: Global,
+    answer: &String,
+    plain: &Plain,
+    log: &mut Log,
+) -> Result<(), AllocError> {
+    let said = format!(in alloc; "{answer}\n")?;
+    log.compare("answers", said.as_bytes(), plain.answers.as_bytes())
+}
+
 /// A home on which requests are run one by one, and the plain machine of the state that its contents stand for.
 #[derive(Drop)]
 struct Run {
@@ -81,6 +92,11 @@ impl Run {
         )
     }
 
+    /// The same contents, of which no call fails, and the same machine.
+    fn copy(&self) -> Result<Run, AllocError> {
+        Ok(Run::new(self.alloc, self.copy_of_home()?, self.plain.copy()?))
+    }
+
     /// Whether the contents stand for the state of a plain machine: its text, and the history that it prints.
     fn stands_for(&self, plain: &Plain) -> Result<bool, AllocError> {
         let mut opened = self.copy_of_home()?;
@@ -103,21 +119,25 @@ impl Run {
         let answer = self.tester.answer(request, usize::MAX)?;
         write!(self.answers, "{answer}\n")?;
         if self.tester.home.failures() == failures {
-            let said = format!(in self.alloc; "{answer}\n")?;
-            log.compare("answers", said.as_bytes(), next.answers.as_bytes())?;
+            compare_answer(self.alloc, &answer, &next, log)?;
             self.plain = next;
-        } else {
-            log.compare("answers", answer.as_bytes(), STORE_FAILED.as_bytes())?;
-            if self.stands_for(&next)? {
-                self.plain = next;
-            }
+            return Ok(());
         }
-        let stands = self.stands_for(&self.plain)?;
-        log.expect("the history before or after", stands)?;
-        Ok(self.is_left_of(before, request, log)?)
+        log.compare("answers", answer.as_bytes(), STORE_FAILED.as_bytes())?;
+        self.is_left_of(before, request, log)?;
+        if self.stands_for(&next)? {
+            self.plain = next;
+        }
+        Ok(self.is_as_told("the history before or after", log)?)
     }
 
-    /// A request leaves both contents as they were, the new journal beside the old file, or both new.
+    /// The contents stand for the state of the plain machine.
+    fn is_as_told(&self, what: &str, log: &mut Log) -> Result<(), AllocError> {
+        let stands = self.stands_for(&self.plain)?;
+        log.expect(what, stands)
+    }
+
+    /// A failed request leaves both contents as they were, the new journal beside the old file, or both new.
     fn is_left_of(
         &self,
         before: Tester,
@@ -144,8 +164,7 @@ impl Run {
             self.plain.answers.clear();
             self.plain.take("undo", log)?;
             let answer = home.answer(&Request::Undo, usize::MAX)?;
-            let said = format!(in self.alloc; "{answer}\n")?;
-            log.compare("answers", said.as_bytes(), self.plain.answers.as_bytes())?;
+            compare_answer(self.alloc, &answer, &self.plain, log)?;
         }
         Ok(log.compare("the first text", home.home.file(), first)?)
     }
@@ -172,6 +191,7 @@ impl<'c> Case<'c> {
         for (request, line) in self.requests.iter().zip(self.lines) {
             run.step(request, line.as_str(), log)?;
         }
+        run.is_as_told("the history at the end", log)?;
         self.run_together(fails, &run, log)?;
         run.undo_all(self.file, log)
     }
@@ -202,51 +222,55 @@ impl<'c> Case<'c> {
         Ok(())
     }
 
-    /// Every prefix of the journal that each request writes, beside the old file.
+    /// Every prefix of the journal that each request writes, beside the old file, and the whole beside the new one.
     fn run_cut(&self, log: &mut Log) -> Result<(), Fault> {
         let mut run = self.begin(&[])?;
         for (request, line) in self.requests.iter().zip(self.lines) {
             log.row = String::from_str(self.alloc, line.as_str())?;
-            let file = Bytes::copy_of(self.alloc, run.tester.home.file())?;
-            let kept = run.tester.home.journal().len();
-            let plain = run.plain.copy()?;
+            let before = run.copy()?;
             run.step(request, line.as_str(), log)?;
-            let journal = run.tester.home.journal();
-            for cut in kept..=journal.len() {
-                log.cut = cut;
-                let old = home_of(
-                    self.alloc,
-                    file.as_slice(),
-                    journal.get(..cut).unwrap_or(journal),
-                )?;
-                let stopped = Run::new(self.alloc, old, plain.copy()?);
-                self.go_on(stopped, &run, request, line.as_str(), log)?;
-            }
-            log.cut = 0;
+            self.cut_each(&before, &run, request, log)?;
+            run.is_as_told("the history after", log)?;
+            run.copy()?.undo_all(self.file, log)?;
         }
         Ok(())
     }
 
-    /// Contents that a stop left open as before. The same request then leads to the same contents.
+    /// Every prefix of the journal after a request that has the one before it.
+    fn cut_each(
+        &self,
+        before: &Run,
+        after: &Run,
+        request: &Request,
+        log: &mut Log,
+    ) -> Result<(), Fault> {
+        let journal = after.tester.home.journal();
+        for cut in before.tester.home.journal().len()..=journal.len() {
+            log.cut = cut;
+            let front = journal.get(..cut).unwrap_or(journal);
+            let home = home_of(self.alloc, before.tester.home.file(), front)?;
+            let stopped = Run::new(self.alloc, home, before.plain.copy()?);
+            self.go_on(stopped, after, request, log)?;
+        }
+        log.cut = 0;
+        Ok(())
+    }
+
+    /// Contents that a stop left open as those before, and the same request leads to the same contents.
     fn go_on(
         &self,
         mut stopped: Run,
-        whole: &Run,
+        after: &Run,
         request: &Request,
-        line: &str,
         log: &mut Log,
     ) -> Result<(), Fault> {
-        let stands = stopped.stands_for(&stopped.plain)?;
-        log.expect("the history before", stands)?;
-        Run::new(self.alloc, stopped.copy_of_home()?, stopped.plain.copy()?).undo_all(
-            self.file, log,
-        )?;
-        stopped.step(request, line, log)?;
-        let wanted = &whole.tester.home;
+        stopped.is_as_told("the history before", log)?;
+        stopped.copy()?.undo_all(self.file, log)?;
+        let answer = stopped.tester.answer(request, usize::MAX)?;
+        compare_answer(self.alloc, &answer, &after.plain, log)?;
         let home = &stopped.tester.home;
-        log.compare("the file", home.file(), wanted.file())?;
-        log.compare("the journal", home.journal(), wanted.journal())?;
-        stopped.undo_all(self.file, log)
+        log.compare("the file", home.file(), after.tester.home.file())?;
+        Ok(log.compare("the journal", home.journal(), after.tester.home.journal())?)
     }
 }
 

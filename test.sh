@@ -100,7 +100,8 @@ layout() {
 }
 
 # unproved CRATE: runs the crate's program on what stands beside its src/, as the gate does, but as rt try builds it:
-# with no proof, and with a check of each index, sum and access as it runs. Of each pool of drawn.rec five lists are run.
+# with no proof, and with a check of each index, sum and access as it runs. Of each pool of drawn.rec five lists are run,
+# and in stops.rec the first four calls fail, not all.
 unproved() (
     words=() arguments=() input=/dev/null
     cd "crates/$1" || exit 1
@@ -109,6 +110,7 @@ unproved() (
     if [ -d data ]; then
         cp -r data "$folder/data"
         sed -i 's/^Lists: [0-9]*/Lists: 5/' "$folder/data/drawn.rec"
+        sed -i 's/^Failing: [0-9]*/Failing: 4/' "$folder/data/stops.rec"
         for name in "${arguments[@]}"; do words+=(--data "$name=$folder/data/$name"); done
     fi
     rt try --seconds 300 "${words[@]}" -- "${arguments[@]}" < "$input" > "$folder/$1.out" 2> "$folder/$1.err"
@@ -146,7 +148,7 @@ quick() {
 }
 
 program() {
-    cases "${1-}" tests/{edits,usage,files,rivals,rights,streams,selecting,rules,sessions}.bats
+    cases "${1-}" tests/{edits,usage,files,rivals,stops,rights,streams,selecting,rules,sessions}.bats
 }
 
 memory() {

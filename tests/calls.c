@@ -1,6 +1,7 @@
 /* Counts a program's calls on files. Of the one whose number, from 1, stands in AT the name goes into the file `hit`, and DO says
-   what becomes of it: `pause` holds it up from a file `paused` until a file `go` is there, `end` kills the program at it, and a
-   number is the error with which it fails. ONLY counts the calls of this name alone. */
+   what becomes of it: `pause` holds it up from a file `paused` until a file `go` is there, `end` kills the program at it, `half`
+   kills it once a write has put down half of its bytes, and a number is the error with which it fails. ONLY counts the calls of
+   this name alone. */
 #define _GNU_SOURCE
 #include <dlfcn.h>
 #include <errno.h>
@@ -24,6 +25,7 @@ static int is_hit(const char *name) {
     if (++calls != atol(at)) return 0;
     leave("hit", name);
     if (!strcmp(what, "end")) syscall(SYS_kill, getpid(), SIGKILL);
+    if (!strcmp(what, "half")) return 1;
     if (strcmp(what, "pause")) return errno = atoi(what);
     leave("paused", "");
     for (int tries = 0; tries < 10000 && syscall(SYS_access, "go", F_OK); tries++) usleep(2000);
@@ -63,5 +65,8 @@ ssize_t read(int file, void *to, size_t room) {
 }
 ssize_t write(int file, const void *bytes, size_t count) {
     NEXT(ssize_t, write, int, const void *, size_t);
-    return file > 2 && is_hit("write") ? -1 : next(file, bytes, count);
+    if (file <= 2 || !is_hit("write")) return next(file, bytes, count);
+    if (strcmp(getenv("DO"), "half")) return -1;
+    next(file, bytes, count / 2);
+    return syscall(SYS_kill, getpid(), SIGKILL);
 }

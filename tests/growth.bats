@@ -1,6 +1,6 @@
 # Each allocation fails in turn in each case of crates/rec_calls whose name begins with `growth_of_`.
 # Such a case makes public calls of the crates below on one row, and a call that answers `out of memory` once more: it
-# passes, whichever allocation fails.
+# passes, whichever allocation fails. crates/rec_rows says what one list of requests comes to with each of them.
 
 load helpers
 load allocator
@@ -49,4 +49,53 @@ grow() {
 
 @test "no other crate has such cases" {
     [ "$(functions '*')" = "$(functions rec_calls)" ] || fail 'another crate has functions with such names'
+}
+
+rows=$top/crates/rec_rows/out/rec_rows
+
+# What run_all may answer to two edits and an undo where a growth is refused within one of them, and the file that it leaves:
+# memory ran out before the first replace, or the home had no room for what it was to keep.
+refused_within() {
+    local word
+    for word in '1 out of memory' '23 a file could not be read or written'; do
+        echo "$word¶edited 1¶undone 1¶ A: 1¶"
+        echo "edited 1¶$word¶undone 1¶ A: 1¶"
+        echo "edited 1¶edited 1¶$word¶ A: 3¶"
+    done | LC_ALL=C sort
+}
+
+# each_refusal: adds what run_all answered, and the file after it, where that is no edit, edit and undo
+each_refusal() {
+    local number
+    for ((number = 1; number <= 100000; number++)); do
+        : > hit
+        { failing "$number" "$rows" three.rec > out 2> err; } 2> /dev/null || true
+        if [ ! -s hit ]; then
+            [ "$(cat out)" = '1 cases, 3 requests' ] || fail "refused nothing: $(cat out err)"
+            return 0
+        fi
+        sed -n '/: answers together: /,$s/^.*, request [0-9]*: \(answers together\|the file\): //p' out | paste -s -d ' ' >> answers
+    done
+    fail 'no end'
+}
+
+@test "a growth is refused within one of three requests" {
+    [ -x "$rows" ] || fail "there is no $rows: bash test.sh proofs makes it"
+    put three.rec <<'REC'
+Case: two edits and an undo
+File: A: 1¶
+Request: recset -n 0 -f A -s 2
+Answer: edited 1
+File_after: A: 2¶
+Request: recset -n 0 -f A -s 3
+Answer: edited 1
+File_after: A: 3¶
+Request: undo
+Answer: undone 2
+File_after: A: 2¶
+REC
+    fast each_refusal
+    grep -v '^$' answers | LC_ALL=C sort -u > found
+    refused_within > wanted
+    diff wanted found
 }

@@ -98,7 +98,7 @@ fn told(alloc: Global, file: &[u8], journal: &[u8]) -> Result<String, Fault> {
 }
 
 /// The digit of a file, how much of the journal is there, and what is told of them.
-const HISTORIES: [(u8, usize, &str); 9] = [
+const HISTORIES: [(u8, usize, &str); 12] = [
     // No events: no journal, a cut header, and the header.
     (b'1', 0, "0 0 0 false"),
     (b'1', 9, "0 0 0 false"),
@@ -107,6 +107,10 @@ const HISTORIES: [(u8, usize, &str); 9] = [
     (b'2', 259, "1 0 259 false"),
     (b'3', 259, "0 0 259 true"),
     (b'3', 461, "2 0 461 false"),
+    // An edit and an undo whose file was not replaced, and a change from outside.
+    (b'1', 259, "0 0 57 false"),
+    (b'3', 634, "2 0 461 false"),
+    (b'7', 461, "0 0 461 true"),
     // What is taken back can be redone until the next edit.
     (b'2', 634, "1 1 634 false"),
     (b'1', 807, "0 2 807 false"),
@@ -134,9 +138,21 @@ fn histories_are_told(alloc: Global, log: &mut Log) -> Result<(), Fault> {
     Ok(())
 }
 
+/// The digit of the old file, where the journal of a plan may be cut, and what is told of the old file with each cut.
+const STOPS: [(u8, usize, usize, &str); 6] = [
+    (b'1', 0, 56, "0 0 0 false"),
+    (b'1', 57, 259, "0 0 57 false"),
+    (b'2', 259, 461, "1 0 259 false"),
+    (b'3', 461, 634, "2 0 461 false"),
+    (b'2', 634, 807, "1 1 634 false"),
+    (b'1', 807, 1009, "0 2 807 false"),
+];
+
 fn a_stop_leaves_the_old_history(alloc: Global, log: &mut Log) -> Result<(), Fault> {
-    for len in 57..260 {
-        check_told(alloc, log, b'1', len, "0 0 57 false")?;
+    for (digit, first, last, wanted) in &STOPS {
+        for len in *first..=*last {
+            check_told(alloc, log, *digit, len, wanted)?;
+        }
     }
     Ok(())
 }

@@ -2,6 +2,7 @@
 use crate::cells::bytes_in;
 use crate::drawn::run_lists;
 use crate::log::Log;
+use crate::stops::run_stops;
 use crate::trial::{Trial, Way};
 use rec_text::{Element, Fault, read};
 use std::alloc::Global;
@@ -135,15 +136,15 @@ fn run_rows(
     Ok(())
 }
 
-/// The lines from which the requests of a case are drawn.
-fn pool_of(alloc: Global, case: &[Element<'_>]) -> Result<Vec<String>, Fault> {
-    let mut pool = Vec::new(alloc);
+/// The texts of all fields of a name.
+fn fields(alloc: Global, case: &[Element<'_>], name: &str) -> Result<Vec<String>, Fault> {
+    let mut texts = Vec::new(alloc);
     for element in case {
-        if name_of(element) == "Pool" {
-            pool.push(text_of(alloc, element)?)?;
+        if name_of(element) == name {
+            texts.push(text_of(alloc, element)?)?;
         }
     }
-    Ok(pool)
+    Ok(texts)
 }
 
 /// Runs the lists that a case asks for: their number, and their length.
@@ -153,8 +154,22 @@ fn run_drawn(alloc: Global, case: &[Element<'_>], lists: &str, log: &mut Log) ->
     let lists = number_in(lists)?;
     let cell = field(alloc, case, "File")?;
     let file = bytes_in(alloc, cell.as_str())?;
-    let pool = pool_of(alloc, case)?;
+    let pool = fields(alloc, case, "Pool")?;
     run_lists(alloc, file.as_slice(), pool.as_slice(), lists, len, log)
+}
+
+/// Runs the requests of a case on homes of whose first calls one or two fail, and on journals that are cut.
+fn run_stopped(
+    alloc: Global,
+    case: &[Element<'_>],
+    calls: &str,
+    log: &mut Log,
+) -> Result<(), Fault> {
+    let calls = number_in(calls)?;
+    let cell = field(alloc, case, "File")?;
+    let file = bytes_in(alloc, cell.as_str())?;
+    let lines = fields(alloc, case, "Request")?;
+    run_stops(alloc, file.as_slice(), lines.as_slice(), calls, log)
 }
 
 /// Runs a case whose requests it names.
@@ -173,6 +188,10 @@ fn run_named(alloc: Global, case: &[Element<'_>], log: &mut Log) -> Result<(), F
 
 fn run_case(alloc: Global, case: &[Element<'_>], log: &mut Log) -> Result<(), Fault> {
     log.begin(field(alloc, case, "Case")?);
+    let calls = field(alloc, case, "Failing")?;
+    if !calls.as_str().is_empty() {
+        return run_stopped(alloc, case, calls.as_str(), log);
+    }
     let lists = field(alloc, case, "Lists")?;
     if lists.as_str().is_empty() {
         return run_named(alloc, case, log);

@@ -9,6 +9,7 @@ mod drawn;
 mod log;
 mod narrow;
 mod plain;
+mod stops;
 mod tester;
 mod trial;
 

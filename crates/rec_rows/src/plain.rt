@@ -38,6 +38,19 @@ fn put_step(
     prints.extend_from_slice(line.as_bytes())
 }
 
+/// The same steps.
+fn copies(alloc: Global, steps: &[Step]) -> Result<Vec<Step>, AllocError> {
+    let mut copies = Vec::new(alloc);
+    for step in steps {
+        copies.push(Step {
+            number: step.number,
+            tool: String::from_str(alloc, step.tool.as_str())?,
+            text: Bytes::copy_of(alloc, step.text.as_slice())?,
+        })?;
+    }
+    Ok(copies)
+}
+
 fn answer_of(alloc: Global, tester: &mut Tester, line: &str) -> Result<String, Fault> {
     let request = request_of(alloc, line, &[])?;
     Ok(tester.answer(&request, usize::MAX)?)
@@ -54,6 +67,24 @@ impl Plain {
             answers: String::new(alloc),
             prints: Vec::new(alloc),
         }
+    }
+
+    /// The same machine, with no answers and prints yet.
+    pub fn copy(&self) -> Result<Plain, AllocError> {
+        Ok(Plain {
+            alloc: self.alloc,
+            text: Bytes::copy_of(self.alloc, self.text.as_slice())?,
+            past: copies(self.alloc, &self.past)?,
+            future: copies(self.alloc, &self.future)?,
+            events: self.events,
+            answers: String::new(self.alloc),
+            prints: Vec::new(self.alloc),
+        })
+    }
+
+    /// How many edits are done.
+    pub fn undos(&self) -> usize {
+        self.past.len()
     }
 
     /// The text on the other side of a step is present, and the step leads back.
@@ -82,13 +113,21 @@ impl Plain {
         Ok(())
     }
 
-    fn print_history(&mut self) -> Result<(), AllocError> {
+    /// The history, as it is printed.
+    pub fn history(&self) -> Result<Vec<u8>, AllocError> {
+        let mut lines = Vec::new(self.alloc);
         for step in &self.past {
-            put_step(&mut self.prints, self.alloc, "done", step)?;
+            put_step(&mut lines, self.alloc, "done", step)?;
         }
         for step in self.future.iter().rev() {
-            put_step(&mut self.prints, self.alloc, "undone", step)?;
+            put_step(&mut lines, self.alloc, "undone", step)?;
         }
+        Ok(lines)
+    }
+
+    fn print_history(&mut self) -> Result<(), AllocError> {
+        let lines = self.history()?;
+        self.prints.extend_from_slice(lines.as_slice())?;
         self.answers.push_str("shown\n")
     }
 

@@ -6,7 +6,7 @@ use rec_tools::{
 };
 use std::alloc::{AllocError, Global};
 
-const STORE_FAILED: &str = "23 a file could not be read or written";
+pub const STORE_FAILED: &str = "23 a file could not be read or written";
 
 /// What is wanted of a request.
 #[derive(Drop)]

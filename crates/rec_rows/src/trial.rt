@@ -104,6 +104,7 @@ impl Trial {
         match name {
             "File" => self.put_file(cell)?,
             "Journal" => self.put_journal(cell)?,
+            "Outside" => self.change_outside(cell, log)?,
             "Fails" => self.fail(cell)?,
             "Request" => self.begin(cell, log)?,
             "Word" => self.word = bytes_in(self.alloc, cell)?,
@@ -130,6 +131,17 @@ impl Trial {
         self.wanted.journal = Some(Bytes::copy_of(self.alloc, journal)?);
         self.tester.home.journal = Bytes::copy_of(self.alloc, journal)?;
         Ok(())
+    }
+
+    /// Another program gives the file this content, once the requests so far were run.
+    fn change_outside(&mut self, cell: &str, log: &mut Log) -> Result<(), Fault> {
+        self.finish(log)?;
+        self.line.clear();
+        self.taken = Taken::new(self.alloc);
+        if self.wanted.journal.is_none() {
+            self.wanted.journal = Some(Bytes::copy_of(self.alloc, self.tester.home.journal())?);
+        }
+        Ok(self.put_file(cell)?)
     }
 
     /// Lets a call of the home fail: its number, and which content is left.

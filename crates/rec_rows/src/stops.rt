@@ -1,0 +1,303 @@
+//! Requests on homes of whose calls some fail, and on journals that are cut: the contents stand for the history before a
+//! request or for the one after it.
+use crate::command::request_of;
+use crate::log::Log;
+use crate::plain::Plain;
+use crate::tester::{STORE_FAILED, Tester, Wanted};
+use rec_tools::{Bytes, Fault, Home, Request, StoreFault};
+use std::alloc::{AllocError, Global};
+
+/// A file, and requests that are run on it and an empty journal.
+#[derive(Clone, Copy)]
+struct Case<'c> {
+    alloc: Global,
+    file: &'c [u8],
+    lines: &'c [String],
+    requests: &'c [Request],
+}
+
+/// A call of the home that fails.
+#[derive(Clone, Copy)]
+struct Failing {
+    call: u64,
+    fault: StoreFault,
+}
+
+impl Failing {
+    /// Two for each call: it leaves the old content, and the new one.
+    fn of(number: usize) -> Failing {
+        let fault = if number % 2 == 0 {
+            StoreFault::LeavesOld
+        } else {
+            StoreFault::LeavesNew
+        };
+        Failing {
+            call: number as u64 / 2,
+            fault,
+        }
+    }
+
+    fn word(&self) -> &'static str {
+        match self.fault {
+            StoreFault::LeavesOld => "old",
+            StoreFault::LeavesNew => "new",
+        }
+    }
+}
+
+/// A home with these contents, none of whose calls fails.
+fn home_of(alloc: Global, file: &[u8], journal: &[u8]) -> Result<Tester, AllocError> {
+    let mut tester = Tester::new(alloc);
+    tester.home.file = Bytes::copy_of(alloc, file)?;
+    tester.home.journal = Bytes::copy_of(alloc, journal)?;
+    Ok(tester)
+}
+
+/// The answer is the last one of a plain machine.
+fn compare_answer(
+    alloc: Global,
+    answer: &String,
+    plain: &Plain,
+    log: &mut Log,
+) -> Result<(), AllocError> {
+    let said = format!(in alloc; "{answer}\n")?;
+    log.compare("answers", said.as_bytes(), plain.answers.as_bytes())
+}
+
+/// A home on which requests are run one by one, and the plain machine of the state that its contents stand for.
+#[derive(Drop)]
+struct Run {
+    alloc: Global,
+    tester: Tester,
+    plain: Plain,
+    /// What was answered, an answer a line.
+    answers: String,
+}
+
+impl Run {
+    fn new(alloc: Global, tester: Tester, plain: Plain) -> Run {
+        Run {
+            alloc,
+            tester,
+            plain,
+            answers: String::new(alloc),
+        }
+    }
+
+    fn copy_of_home(&self) -> Result<Tester, AllocError> {
+        home_of(
+            self.alloc,
+            self.tester.home.file(),
+            self.tester.home.journal(),
+        )
+    }
+
+    /// The same contents, of which no call fails, and the same machine.
+    fn copy(&self) -> Result<Run, AllocError> {
+        Ok(Run::new(self.alloc, self.copy_of_home()?, self.plain.copy()?))
+    }
+
+    /// Whether the contents stand for the state of a plain machine: its text, and the history that it prints.
+    fn stands_for(&self, plain: &Plain) -> Result<bool, AllocError> {
+        let mut opened = self.copy_of_home()?;
+        let answer = opened.answer(&Request::History, usize::MAX)?;
+        let history = plain.history()?;
+        Ok(
+            answer.as_str() == "shown"
+                && opened.printed() == history.as_slice()
+                && opened.home.file() == plain.text.as_slice(),
+        )
+    }
+
+    /// Runs a request, some of whose calls may fail. It goes as the plain machine says, or answers that a file could not
+    /// be read or written, and leaves the state before or the one after.
+    fn step(&mut self, request: &Request, line: &str, log: &mut Log) -> Result<(), Fault> {
+        let mut next = self.plain.copy()?;
+        next.take(line, log)?;
+        let before = self.copy_of_home()?;
+        let failures = self.tester.home.failures();
+        let answer = self.tester.answer(request, usize::MAX)?;
+        write!(self.answers, "{answer}\n")?;
+        if self.tester.home.failures() == failures {
+            compare_answer(self.alloc, &answer, &next, log)?;
+            self.plain = next;
+            return Ok(());
+        }
+        log.compare("answers", answer.as_bytes(), STORE_FAILED.as_bytes())?;
+        self.is_left_of(before, request, log)?;
+        if self.stands_for(&next)? {
+            self.plain = next;
+        }
+        Ok(self.is_as_told("the history before or after", log)?)
+    }
+
+    /// The contents stand for the state of the plain machine.
+    fn is_as_told(&self, what: &str, log: &mut Log) -> Result<(), AllocError> {
+        let stands = self.stands_for(&self.plain)?;
+        log.expect(what, stands)
+    }
+
+    /// A failed request leaves both contents as they were, the new journal beside the old file, or both new.
+    fn is_left_of(
+        &self,
+        before: Tester,
+        request: &Request,
+        log: &mut Log,
+    ) -> Result<(), AllocError> {
+        let mut after = home_of(self.alloc, before.home.file(), before.home.journal())?;
+        after.answer(request, usize::MAX)?;
+        let home = &self.tester.home;
+        let has_old_file = home.file() == before.home.file();
+        let has_new_file = home.file() == after.home.file();
+        let has_old_journal = home.journal() == before.home.journal();
+        let has_new_journal = home.journal() == after.home.journal();
+        log.expect(
+            "both contents old, the journal new, or both new",
+            has_old_file && (has_old_journal || has_new_journal) || has_new_file && has_new_journal,
+        )
+    }
+
+    /// Each edit that is done is undone, with no failure, and then there is none.
+    fn undo_all(&mut self, first: &[u8], log: &mut Log) -> Result<(), Fault> {
+        let mut home = self.copy_of_home()?;
+        for _ in 0..=self.plain.undos() {
+            self.plain.answers.clear();
+            self.plain.take("undo", log)?;
+            let answer = home.answer(&Request::Undo, usize::MAX)?;
+            compare_answer(self.alloc, &answer, &self.plain, log)?;
+        }
+        Ok(log.compare("the first text", home.home.file(), first)?)
+    }
+}
+
+impl<'c> Case<'c> {
+    /// A run from the case's file, with these failing calls.
+    fn begin(&self, fails: &[Failing]) -> Result<Run, AllocError> {
+        let mut tester = home_of(self.alloc, self.file, &[])?;
+        for failing in fails {
+            tester.home.fail(failing.call, failing.fault)?;
+        }
+        let plain = Plain::new(self.alloc, Bytes::copy_of(self.alloc, self.file)?);
+        Ok(Run::new(self.alloc, tester, plain))
+    }
+
+    /// Runs the requests with these failing calls, one by one and in one call, and then undoes what is done.
+    fn run_with(&self, fails: &[Failing], log: &mut Log) -> Result<(), Fault> {
+        log.row = String::from_str(self.alloc, "failing")?;
+        for failing in fails {
+            write!(log.row, " {} {}", failing.call, failing.word())?;
+        }
+        let mut run = self.begin(fails)?;
+        for (request, line) in self.requests.iter().zip(self.lines) {
+            run.step(request, line.as_str(), log)?;
+        }
+        run.is_as_told("the history at the end", log)?;
+        self.run_together(fails, &run, log)?;
+        run.undo_all(self.file, log)
+    }
+
+    /// All requests in one call give the same.
+    fn run_together(&self, fails: &[Failing], run: &Run, log: &mut Log) -> Result<(), Fault> {
+        let home = &run.tester.home;
+        let wanted = Wanted {
+            answer: String::from_str(self.alloc, run.answers.as_str())?,
+            print: Bytes::copy_of(self.alloc, &[])?,
+            file: Bytes::copy_of(self.alloc, home.file())?,
+            journal: Some(Bytes::copy_of(self.alloc, home.journal())?),
+        };
+        let mut other = self.begin(fails)?;
+        other.tester.run_all(self.requests, &wanted, log)
+    }
+
+    /// Every list of one or two failing calls among the first ones.
+    fn run_failing(&self, calls: usize, log: &mut Log) -> Result<(), Fault> {
+        let end = calls.saturating_mul(2);
+        for one in 0..end {
+            self.run_with(&[Failing::of(one)], log)?;
+            let next = (one / 2).saturating_add(1).saturating_mul(2);
+            for two in next..end {
+                self.run_with(&[Failing::of(one), Failing::of(two)], log)?;
+            }
+        }
+        Ok(())
+    }
+
+    /// Every prefix of the journal that each request writes, beside the old file, and the whole beside the new one.
+    fn run_cut(&self, log: &mut Log) -> Result<(), Fault> {
+        let mut run = self.begin(&[])?;
+        for (request, line) in self.requests.iter().zip(self.lines) {
+            log.row = String::from_str(self.alloc, line.as_str())?;
+            let before = run.copy()?;
+            run.step(request, line.as_str(), log)?;
+            self.cut_each(&before, &run, request, log)?;
+            run.is_as_told("the history after", log)?;
+            run.copy()?.undo_all(self.file, log)?;
+        }
+        Ok(())
+    }
+
+    /// Every prefix of the journal after a request that has the one before it.
+    fn cut_each(
+        &self,
+        before: &Run,
+        after: &Run,
+        request: &Request,
+        log: &mut Log,
+    ) -> Result<(), Fault> {
+        let journal = after.tester.home.journal();
+        for cut in before.tester.home.journal().len()..=journal.len() {
+            log.cut = cut;
+            let front = journal.get(..cut).unwrap_or(journal);
+            let home = home_of(self.alloc, before.tester.home.file(), front)?;
+            let stopped = Run::new(self.alloc, home, before.plain.copy()?);
+            self.go_on(stopped, after, request, log)?;
+        }
+        log.cut = 0;
+        Ok(())
+    }
+
+    /// Contents that a stop left open as those before, and the same request leads to the same contents.
+    fn go_on(
+        &self,
+        mut stopped: Run,
+        after: &Run,
+        request: &Request,
+        log: &mut Log,
+    ) -> Result<(), Fault> {
+        stopped.is_as_told("the history before", log)?;
+        stopped.copy()?.undo_all(self.file, log)?;
+        let answer = stopped.tester.answer(request, usize::MAX)?;
+        compare_answer(self.alloc, &answer, &after.plain, log)?;
+        let home = &stopped.tester.home;
+        log.compare("the file", home.file(), after.tester.home.file())?;
+        Ok(log.compare("the journal", home.journal(), after.tester.home.journal())?)
+    }
+}
+
+/// The requests of lines.
+fn requests_of(alloc: Global, lines: &[String]) -> Result<Vec<Request>, Fault> {
+    let mut requests = Vec::new(alloc);
+    for line in lines {
+        requests.push(request_of(alloc, line.as_str(), &[])?)?;
+    }
+    Ok(requests)
+}
+
+/// Runs requests with every list of one or two failing calls among so many, and on every prefix of each journal.
+pub fn run_stops(
+    alloc: Global,
+    file: &[u8],
+    lines: &[String],
+    calls: usize,
+    log: &mut Log,
+) -> Result<(), Fault> {
+    let requests = requests_of(alloc, lines)?;
+    let case = Case {
+        alloc,
+        file,
+        lines,
+        requests: requests.as_slice(),
+    };
+    case.run_failing(calls, log)?;
+    case.run_cut(log)
+}

@@ -1,0 +1,339 @@
+# An edit, an undo, a redo and a first edit whose calls of the system fail or find no room, or at which the program ends: the
+# next command finds the history before or the one after, and both contents are whole. A file system without room, a file of
+# several MB, and a closed pipe. A loop over the numbers of calls.c ends with a run that has no such call.
+
+load helpers
+load calls
+
+setup_file() {
+    need_program
+    build_calls
+}
+
+# The contents and the history before a command and after it are files in two folders, written by hand.
+before=before
+after=after
+
+digest() {
+    local sum
+    sum=$(sha256sum < "$1")
+    echo "${sum%% *}"
+}
+
+# edit NUMBER FILE FILE OLD NEW: the event of an edit of the first field, which leads from one file to the other
+edit() {
+    echo "Number: $1¶Kind: edit¶Tool: recset¶Before: $(digest "$2")¶After: $(digest "$3")¶At: 0¶Old: $4\$¶+ \$¶New: $5\$¶+ \$¶¶"
+}
+
+# move NUMBER KIND OF FILE FILE: the event of an undo or of a redo
+move() {
+    echo "Number: $1¶Kind: $2¶Of: $3¶Before: $(digest "$4")¶After: $(digest "$5")¶¶"
+}
+
+# state FOLDER FILE JOURNAL HISTORY: what stands in a folder
+state() {
+    mkdir -p "$1"
+    cp "$2" "$1/db.rec"
+    rm -f "$1/db.rec.journal"
+    [ -z "$3" ] || put "$1/db.rec.journal" "$3"
+    put "$1/history" "$4"
+}
+
+# The words of each command, its contents before and after, and the first text. The file `rest` has what follows the field.
+prepare() {
+    local digit events
+    [ -e rest ] || put rest '¶B: 2¶¶C: 3¶'
+    for digit in 1 8 9; do
+        { bytes "A: $digit¶" && cat rest; } > "$digit"
+    done
+    words=(recset -n 0 -f A -S 9)
+    case $1 in
+        first)
+            state before 1 '' ''
+            state after 9 "$header$(edit 1 1 9 'A: 1' 'A: 9')" 'done 1 recset¶'
+            ;;
+        edit)
+            events=$header$(edit 1 1 8 'A: 1' 'A: 8')
+            state before 8 "$events" 'done 1 recset¶'
+            state after 9 "$events$(edit 2 8 9 'A: 8' 'A: 9')" 'done 1 recset¶done 2 recset¶'
+            ;;
+        undo)
+            words=(undo)
+            events=$header$(edit 1 1 8 'A: 1' 'A: 8')$(edit 2 8 9 'A: 8' 'A: 9')
+            state before 9 "$events" 'done 1 recset¶done 2 recset¶'
+            state after 8 "$events$(move 3 undo 2 9 8)" 'done 1 recset¶undone 2 recset¶'
+            ;;
+        redo)
+            words=(redo)
+            events=$header$(edit 1 1 8 'A: 1' 'A: 8')$(edit 2 8 9 'A: 8' 'A: 9')$(move 3 undo 2 9 8)
+            state before 8 "$events" 'done 1 recset¶undone 2 recset¶'
+            state after 9 "$events$(move 4 redo 2 8 9)" 'done 1 recset¶done 2 recset¶'
+            ;;
+    esac
+    mv 1 first.rec
+    rm 8 9
+}
+
+wrong() {
+    fail "call $number ($call), status $status: $*" $'\n'"$(cat err)" $'\n'"$(ls -A)" $'\n'"$(head -c 300 db.rec | cat -A)" $'\n'"$(tail -c 600 db.rec.journal | cat -A)"
+}
+
+# begin: the contents before the command
+begin() {
+    rm -f db.rec db.rec.journal db.rec.new db.rec.journal.new hit
+    cp "$before"/db.rec* .
+}
+
+# are STATE: both contents and the history are these
+are() {
+    cmp -s db.rec "$1/db.rec" && cmp -s history "$1/history" || return 1
+    if [ -e "$1/db.rec.journal" ]; then cmp -s db.rec.journal "$1/db.rec.journal"; else [ ! -s db.rec.journal ]; fi
+}
+
+# are_stopped: the journal alone has the command's event, and the history is the one before
+are_stopped() {
+    cmp -s db.rec "$before/db.rec" && cmp -s history "$before/history" && cmp -s db.rec.journal "$after/db.rec.journal"
+}
+
+# judge WHAT: what stands after a run is the state before or the one after; the next edit goes through, and leaves nothing else
+judge() {
+    local stands=before
+    "$program" history db.rec > history 2> err.history || wrong "the history is refused: $(cat err.history)"
+    if are "$after"; then
+        stands=after
+    elif ! are "$before" && ! are_stopped; then
+        wrong "neither the state before nor the one after, the history is: $(cat history)"
+    fi
+    [ "$status" != 0 ] || [ "$stands" = after ] || wrong 'what was done is lost'
+    case $1/$call in
+        end/* | half/* | */unlink) ;;
+        *) cleared 'left behind' ;;
+    esac
+    if [ "$stands" = before ]; then
+        "$program" "${words[@]}" db.rec > out 2> err || wrong 'the same again is refused'
+        "$program" history db.rec > history
+        are "$after" || wrong 'the same again leads elsewhere'
+        cleared 'left by the next edit'
+    else
+        "$program" recset -n 0 -f A -s 5 db.rec > out 2> err || wrong 'the next edit is refused'
+        cleared 'left by the next edit'
+    fi
+    undone
+}
+
+# cleared WHAT: no working name is left
+cleared() {
+    [ ! -e db.rec.new ] && [ ! -e db.rec.journal.new ] || wrong "$1:" *.new
+}
+
+# undone: each edit that is done is undone, and that gives the first text
+undone() {
+    while "$program" undo db.rec > out 2> err; do :; done
+    [ "$(< err)" = 'recu: nothing to undo' ] || wrong 'an edit could not be undone'
+    cmp -s db.rec first.rec || wrong 'not the first text'
+    cleared 'left by an undo'
+}
+
+# each_call COMMAND WHAT [LEAST]: this becomes of each call of the command in turn, and there are at least so many
+each_call() {
+    prepare "$1"
+    for ((number = 1; number <= 1000; number++)); do
+        begin
+        status=0
+        at "$number" "$2" "${words[@]}" db.rec || status=$?
+        if ! met; then
+            [ "$number" -gt "${3-10}" ] || fail "there are $number calls"
+            return 0
+        fi
+        judge "$2"
+    done
+    fail 'no end'
+}
+
+@test "each call of a first edit fails" {
+    fast each_call first 5
+}
+
+@test "each call of an edit fails" {
+    fast each_call edit 5
+}
+
+@test "each call of an undo fails" {
+    fast each_call undo 5
+}
+
+@test "each call of a redo fails" {
+    fast each_call redo 5
+}
+
+@test "there is no room at each call of a first edit" {
+    fast each_call first 28
+}
+
+@test "there is no room at each call of an edit" {
+    fast each_call edit 28
+}
+
+@test "there is no room at each call of an undo" {
+    fast each_call undo 28
+}
+
+@test "there is no room at each call of a redo" {
+    fast each_call redo 28
+}
+
+@test "the program ends at each call of a first edit" {
+    fast each_call first end
+}
+
+@test "the program ends at each call of an edit" {
+    fast each_call edit end
+}
+
+@test "the program ends at each call of an undo" {
+    fast each_call undo end
+}
+
+@test "the program ends at each call of a redo" {
+    fast each_call redo end
+}
+
+# each_half COMMAND: the program ends within each of its two writes
+each_half() {
+    ONLY=write each_call "$1" half 2
+}
+
+@test "the program ends within each write" {
+    local command
+    for command in first edit undo redo; do
+        fast each_half "$command"
+    done
+}
+
+# each_room: in a small file system the edit finds each number of free pages in turn. The texts have five pages.
+each_room() {
+    local free used=0 failed=0
+    for ((free = 0; free <= 14; free++)); do
+        begin
+        rm -f filler
+        head -c $(($(stat -f -c '%a * %S' .) - 4096 * free)) /dev/zero > filler
+        status=0 number=$free call='free pages'
+        "$program" "${words[@]}" db.rec > "$work/out" 2> "$work/err" || status=$?
+        rm filler
+        cp "$work/err" err
+        if [ "$status" = 0 ]; then
+            used=$((used + 1))
+        else
+            failed=$((failed + 1))
+            grep -q ': No space left on device (os error 28)$' err || wrong 'it is refused for another reason'
+            [ "$(tail -n 1 err)" = 'recu: a file could not be read or written' ] || wrong 'it is refused otherwise'
+            cmp -s db.rec "$before/db.rec" || wrong 'it has changed the file'
+        fi
+        judge room
+    done
+    [ "$used" -gt 0 ] && [ "$failed" -gt 0 ] || fail "$used edits were done, and $failed refused"
+}
+
+in_small_room() {
+    mkdir small
+    mount -t tmpfs -o size=512k none small || exit 77
+    cp first.rec small
+    cd small || exit 1
+    each_room
+}
+
+@test "a file system with little room" {
+    local status=0 flags=-m
+    unshare -m true 2> /dev/null || flags=-rm
+    put rest "# $(head -c 18000 /dev/zero | tr '\0' x)¶¶B: 2¶"
+    prepare edit
+    export work=$PWD before=$PWD/before after=$PWD/after program
+    {
+        declare -f fail wrong begin are are_stopped judge cleared undone each_room in_small_room
+        declare -p words
+        echo in_small_room
+    } > script
+    unshare "$flags" bash script > said 2>&1 3>&- || status=$?
+    [ "$status" != 77 ] && ! grep -q '^unshare: ' said || skip "no file system can be mounted: $(tail -n 1 said)"
+    [ "$status" = 0 ] || fail "$(< said)"
+}
+
+# records COUNT VALUE: as many records, whose values are numbers or all this one
+records() {
+    awk -v count="$1" -v value="$2" 'BEGIN { for (i = 0; i < count; i++) print "\nN: " (value == "" ? "record " i : value) }'
+}
+
+# long ONLY WHAT COMMAND: these calls of the command on a file of 4 MB
+long() {
+    ONLY=$1 each_call "$3" "$2" 2
+}
+
+@test "a file of several MB" {
+    local command
+    records 220000 '' > rest
+    for command in edit undo; do
+        fast long write half "$command"
+        fast long write 28 "$command"
+        fast long rename end "$command"
+    done
+}
+
+# each_long: an edit of all records, whose event is as long as the file, ends within each of its writes
+each_long() {
+    words=(recset -f N -s x)
+    for number in 1 2; do
+        rm -f db.rec db.rec.journal
+        cp first.rec db.rec
+        status=0
+        ONLY=write at "$number" half "${words[@]}" db.rec || status=$?
+        met || fail "there is no write $number"
+        [ "$("$program" history db.rec)" = '' ] || wrong 'it has a history'
+        cmp -s db.rec first.rec || wrong 'not the first text'
+        "$program" "${words[@]}" db.rec 2> err || wrong 'the same again is refused'
+        cmp -s db.rec all.rec || wrong 'not the text after'
+        cleared 'left by the next edit'
+        [ "$("$program" history db.rec)" = 'done 1 recset' ] || wrong 'another history'
+        undone
+        "$program" redo db.rec 2> err || wrong 'it is not made again'
+        cmp -s db.rec all.rec || wrong 'not the text after'
+        undone
+    done
+}
+
+@test "an edit of several MB" {
+    records 100000 '' > first.rec
+    records 100000 x > all.rec
+    fast each_long
+}
+
+# closed WORD..: so ends recu with these words, whose output nobody can read
+closed() {
+    local status=0
+    "$program" "${@:2}" >&5 2> err < /dev/null 3>&- || status=$?
+    [ "$status" = "$1" ] || fail "${*:2}: status $status: $(< err)"
+}
+
+@test "a closed pipe" {
+    local tool
+    prepare edit
+    begin
+    put rules.rec '%rec: P¶%size: 2¶¶A: 1¶'
+    cp rules.rec given.rec
+    mkfifo pipe
+    exec 4<> pipe 5> pipe 4<&-
+    rm pipe
+    for tool in 'recsel db.rec' 'recinf db.rec' 'history db.rec' 'recfix rules.rec'; do
+        closed 1 $tool
+        has err "$store_failed"
+        cmp db.rec before/db.rec
+        cmp db.rec.journal before/db.rec.journal
+    done
+    cmp rules.rec given.rec
+    # What edits prints nothing.
+    closed 0 "${words[@]}" db.rec
+    cmp db.rec after/db.rec
+    cmp db.rec.journal after/db.rec.journal
+    closed 0 undo db.rec
+    cmp db.rec before/db.rec
+    exec 5>&-
+}

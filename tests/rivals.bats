@@ -39,7 +39,7 @@ wrong() {
 # can_be_taken_back TEXT: each edit that stands is undone, and then the file has the text
 can_be_taken_back() {
     local edits
-    edits=$("$program" history db.rec | grep -c '^done')
+    edits=$("$program" history db.rec | grep -c '^done' || true)
     while [ "$edits" -gt 0 ]; do
         "$program" undo db.rec > /dev/null || wrong 'an edit could not be taken back'
         edits=$((edits - 1))

@@ -111,12 +111,12 @@ pub fn changed() -> Error {
     Error::other("changed by another program meanwhile")
 }
 
-/// What stands under a working name can't be handled. What has gone meanwhile was another program's.
+/// What stands under a working name can't be judged or removed. What has gone meanwhile was another program's.
 pub fn of_foreign(error: Error) -> Cause {
-    if error.kind() == ErrorKind::NotFound {
-        Cause::Itself(in_use())
-    } else {
-        Cause::Foreign(error)
+    match error.kind() {
+        ErrorKind::NotFound => Cause::Itself(in_use()),
+        ErrorKind::OutOfMemory => Cause::Itself(error),
+        _ => Cause::Foreign(error),
     }
 }
 

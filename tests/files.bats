@@ -200,39 +200,189 @@ have_modes() {
     put db.rec.journal "$header"
     chmod 666 db.rec db.rec.journal
     chmod 555 .
-    fails_to_store 'db.rec.new: Permission denied (os error 13)' recdel -n 0 db.rec
+    fails_to_store 'db.rec.journal.new: Permission denied (os error 13)' recdel -n 0 db.rec
     chmod 755 .
     has db.rec "$three"
     has db.rec.journal "$header"
     only db.rec db.rec.journal
 }
 
-@test "what a stopped program left is written over" {
-    put db.rec "$three"
-    put db.rec.new 'half a fi'
-    put db.rec.journal.new ''
-    chmod 400 db.rec.new
-    does recdel -n 0 db.rec
-    has db.rec 'B: 2¶¶C: 3¶'
-    put db.rec.new 'A'
-    recu 0 undo db.rec
+# What a stop leaves: the journal's new file, whole or in part, and beside it the file's; or, between the renames, the file's
+# alone, with the text after the last event.
+@test "what a stop left before the renames is removed" {
+    local journal file
+    for journal in '' '%' '%rec: RecEdit¶%doc: recu journal, format 1¶%key: Number¶' "$header" "${header}Number: 1¶Kind: ed"; do
+        for file in none '' 'half a fi'; do
+            put db.rec "$three"
+            rm -f db.rec.journal
+            put db.rec.journal.new "$journal"
+            if [ "$file" != none ]; then
+                put db.rec.new "$file"
+                chmod 400 db.rec.new
+            fi
+            does recdel -n 0 db.rec
+            has db.rec 'B: 2¶¶C: 3¶'
+            put db.rec.journal.new "$journal"
+            does undo db.rec
+            has db.rec "$three"
+            only db.rec db.rec.journal
+        done
+    done
+}
+
+# stopped TEXT WORD..: such an edit of the text was stopped between the renames
+stopped() {
+    put db.rec "$1"
+    does "${@:2}" db.rec
+    mv db.rec db.rec.new
+    put db.rec "$1"
+}
+
+@test "what a stop left between the renames is removed" {
+    stopped "$three" recdel -n 0
+    recu 0 history db.rec
+    prints '' ''
+    does recdel -n 1 db.rec
+    has db.rec 'A: 1¶¶C: 3¶'
+    only db.rec db.rec.journal
+    stopped 'A: 1¶¶C: 3¶' undo
+    does undo db.rec
     has db.rec "$three"
+    stopped "$three" redo
+    does recset -n 0 -f A -s 9 db.rec
+    has db.rec 'A: 9¶¶B: 2¶¶C: 3¶'
+    does undo db.rec
+    has db.rec "$three"
+    refuses 'nothing to undo' undo db.rec
     only db.rec db.rec.journal
 }
 
-@test "a folder or a link is no leftover" {
+@test "so is an empty new file, where all was deleted" {
+    stopped 'A: 1¶' recdel -n 0
+    has db.rec.new ''
+    does recset -n 0 -f A -s 9 db.rec
+    has db.rec 'A: 9¶'
+    only db.rec db.rec.journal
+}
+
+# What was saved under a file's new name after such a stop, or before it by hand, is told from what the stop left.
+@test "the text after an edit that was made stays" {
+    local stays='db.rec.new: not left by recu: recu writes under this name, so move it away'
     put db.rec "$three"
-    put other 'other'
-    mkdir db.rec.journal.new
-    fails_to_store 'db.rec.journal.new: not a regular file: left by another program? remove it' recdel -n 0 db.rec
+    does recdel -n 0 db.rec
+    cp db.rec db.rec.new
+    fails_to_store "$stays" recdel -n 0 db.rec
+    fails_to_store "$stays" undo db.rec
+    has db.rec 'B: 2¶¶C: 3¶'
+    has db.rec.new 'B: 2¶¶C: 3¶'
+    put db.rec 'X: 1¶'
+    fails_to_store "$stays" recdel -n 0 db.rec
+    has db.rec.new 'B: 2¶¶C: 3¶'
+    put db.rec "$three"
+    put db.rec.new 'B: 2¶¶C: 3'
+    fails_to_store "$stays" recdel -n 0 db.rec
+    has db.rec.new 'B: 2¶¶C: 3'
+    only db.rec db.rec.journal db.rec.new
+}
+
+# stays NAME: what stands under this name stays, and every command that would write is refused
+stays() {
+    local line="$1: not left by recu: recu writes under this name, so move it away"
+    cp -p "$1" "$BATS_TEST_TMPDIR/own"
+    cp db.rec.journal "$BATS_TEST_TMPDIR/journal"
+    fails_to_store "$line" recset -n 0 -f B -s 9 db.rec
+    fails_to_store "$line" undo db.rec
+    does recset -n 0 -f B -s 2 db.rec
+    refuses 'nothing to redo' redo db.rec
+    recu 0 recsel -c db.rec
+    recu 0 history db.rec
+    has db.rec 'B: 2¶¶C: 3¶'
+    has db.rec.journal < "$BATS_TEST_TMPDIR/journal"
+    has "$1" < "$BATS_TEST_TMPDIR/own"
+    only db.rec db.rec.journal "$@"
+}
+
+@test "somebody's own file under a working name stays" {
+    local own
+    put db.rec "$three"
+    does recdel -n 0 db.rec
+    for own in 'my own work¶' '' "$header" "$three"; do
+        put db.rec.new "$own"
+        stays db.rec.new
+    done
+    rm db.rec.new
+    for own in 'my own work¶' '%rec: RecEdix¶' "%rec: RecEdit¶%doc: recu journal, format 2¶%key: Number¶¶" "¶$header"; do
+        put db.rec.journal.new "$own"
+        stays db.rec.journal.new
+    done
+    put db.rec.new ''
+    stays db.rec.journal.new db.rec.new
+    has db.rec.new ''
+    rm db.rec.journal.new db.rec.new
+    does undo db.rec
     has db.rec "$three"
-    only db.rec db.rec.journal.new other
-    rmdir db.rec.journal.new
-    ln -s other db.rec.journal.new
-    recu 1 recdel -n 0 db.rec
-    has db.rec "$three"
-    has other 'other'
-    only db.rec db.rec.journal.new other
+}
+
+@test "somebody's own file before the first edit" {
+    local name
+    put db.rec "$three"
+    for name in db.rec.new db.rec.journal.new; do
+        put "$name" 'my own work¶'
+        fails_to_store "$name: not left by recu: recu writes under this name, so move it away" recdel -n 0 db.rec
+        has "$name" 'my own work¶'
+        has db.rec "$three"
+        only db.rec "$name"
+        rm "$name"
+    done
+    put db.rec.new ''
+    fails_to_store 'db.rec.new: not left by recu: recu writes under this name, so move it away' recdel -n 0 db.rec
+    only db.rec db.rec.new
+}
+
+@test "second names of the file and of its journal stay" {
+    put db.rec "$three"
+    does recdel -n 0 db.rec
+    ln db.rec db.rec.new
+    stays db.rec.new
+    [ db.rec -ef db.rec.new ] || fail 'it is another file'
+    mv db.rec.new db.rec.journal.new
+    fails_to_store 'db.rec.journal: the file or its journal stands under the working name of the other' undo db.rec
+    [ db.rec -ef db.rec.journal.new ] || fail 'it is another file'
+    ln -f db.rec.journal db.rec.journal.new
+    stays db.rec.journal.new
+    [ db.rec.journal -ef db.rec.journal.new ] || fail 'it is another file'
+    put db.rec.new "$three"
+    ln -f db.rec db.rec.new
+    put "$BATS_TEST_TMPDIR/journal" ''
+    mv "$BATS_TEST_TMPDIR/journal" db.rec.journal.new
+    fails_to_store 'db.rec.new: not left by recu: recu writes under this name, so move it away' undo db.rec
+    [ db.rec -ef db.rec.new ] || fail 'it is another file'
+    has db.rec.journal.new ''
+    only db.rec db.rec.journal db.rec.journal.new db.rec.new
+}
+
+@test "a folder, a link or a pipe is no leftover" {
+    local name
+    put db.rec "$three"
+    put journal "$header"
+    for name in db.rec.new db.rec.journal.new; do
+        mkdir "$name"
+        fails_to_store "$name: not a regular file: recu writes under this name, so move it away" recdel -n 0 db.rec
+        rmdir "$name"
+        mkfifo "$name"
+        fails_to_store "$name: not a regular file: recu writes under this name, so move it away" recdel -n 0 db.rec
+        rm "$name"
+        ln -s journal "$name"
+        fails_to_store "$name: not a regular file: recu writes under this name, so move it away" recdel -n 0 db.rec
+        [ "$(readlink "$name")" = journal ] || fail 'the link is gone'
+        ln -sf gone "$name"
+        fails_to_store "$name: not a regular file: recu writes under this name, so move it away" recdel -n 0 db.rec
+        [ "$(readlink "$name")" = gone ] || fail 'the link is gone'
+        has db.rec "$three"
+        has journal "$header"
+        only db.rec journal "$name"
+        rm "$name"
+    done
 }
 
 # hold NAME: another process makes the file and keeps it locked
@@ -275,6 +425,7 @@ let_go() {
     only db.rec db.rec.new
     let_go
     refuses 'nothing to undo' undo db.rec
+    rm db.rec.new
     recu 0 recdel -n 1 db.rec
     recu 0 undo db.rec
     has db.rec "$three"

@@ -107,12 +107,12 @@ says() {
     put db.rec "$three"
     mkdir db.rec.new
     untouched recdel -n 0 db.rec
-    says 'db.rec.new: not a regular file: left by another program? remove it'
+    says 'db.rec.new: not a regular file: recu writes under this name, so move it away'
     rmdir db.rec.new
     put other 'other'
     ln -s other db.rec.new
     untouched recdel -n 0 db.rec
-    says 'db.rec.new: not a regular file: left by another program? remove it'
+    says 'db.rec.new: not a regular file: recu writes under this name, so move it away'
     has other 'other'
     only db.rec db.rec.new other
 }
@@ -142,15 +142,53 @@ says() {
     does recdel -n 0 db.rec
 }
 
+@test "another user's file under a working name" {
+    as_other
+    local name
+    put db.rec "$three"
+    chmod 666 db.rec
+    for name in db.rec.new db.rec.journal.new; do
+        put "$name" 'my own work¶'
+        chmod 600 "$name"
+        untouched recdel -n 0 db.rec
+        says "$name: Permission denied (os error 13): recu writes under this name, so move it away"
+        chmod 644 "$name"
+        untouched recdel -n 0 db.rec
+        says "$name: not left by recu: recu writes under this name, so move it away"
+        has "$name" 'my own work¶'
+        is 644:0:0 "$name"
+        only db.rec "$name"
+        rm "$name"
+    done
+}
+
 @test "another user's leftover" {
     as_other
     put db.rec "$three"
-    put db.rec.new ''
-    chmod 600 db.rec.new
     chmod 666 db.rec
+    put db.rec.journal.new "$header"
+    chmod 600 db.rec.journal.new
     untouched recdel -n 0 db.rec
-    says 'db.rec.new: Permission denied (os error 13): left by another program? remove it'
-    only db.rec db.rec.new
+    says 'db.rec.journal.new: Permission denied (os error 13): recu writes under this name, so move it away'
+    only db.rec db.rec.journal.new
+    chmod 644 db.rec.journal.new
+    put db.rec.new 'half a fi'
+    chmod 644 db.rec.new
+    does recdel -n 0 db.rec
+    only db.rec db.rec.journal
+}
+
+@test "another user's leftover in a sticky folder" {
+    as_other
+    mkdir d
+    chmod 1777 d
+    cd d
+    put db.rec "$three"
+    chown 65534 db.rec
+    put db.rec.journal.new ''
+    untouched recdel -n 0 db.rec
+    says 'db.rec.journal.new: Operation not permitted (os error 1): recu writes under this name, so move it away'
+    only db.rec db.rec.journal.new
 }
 
 @test "a file that is a mount point" {

@@ -39,7 +39,7 @@ wrong() {
 # can_be_taken_back TEXT: each edit that stands is undone, and then the file has the text
 can_be_taken_back() {
     local edits
-    edits=$("$program" history db.rec | grep -c '^done')
+    edits=$("$program" history db.rec | grep -c '^done' || true)
     while [ "$edits" -gt 0 ]; do
         "$program" undo db.rec > /dev/null || wrong 'an edit could not be taken back'
         edits=$((edits - 1))
@@ -212,6 +212,60 @@ whole() {
     [ "$call" = unlink ] || no_leftovers
 }
 
+# The texts around the edits and moves of the cases below.
+first=$three
+second='B: 2¶¶C: 3¶'
+
+# before WORD..: a file and its journal on which these words lead from one of the two texts to the other
+before() {
+    rm -rf db.rec db.rec.journal ./*.new hit
+    put db.rec "$first"
+    case $1 in
+        first) ;;
+        recset) "$program" recset -n 0 -f A -s 9 db.rec && "$program" undo db.rec ;;
+        undo) "$program" recdel -n 0 db.rec ;;
+        redo) "$program" recdel -n 0 db.rec && "$program" undo db.rec ;;
+        left) put db.rec.journal.new "$header" && put db.rec.new 'half a fi' ;;
+        between) "$program" recdel -n 0 db.rec && mv db.rec db.rec.new && put db.rec "$first" ;;
+    esac
+}
+
+# each_stop STATE WORD..: from such a state the words end at each of their calls in turn, and the next edit goes through
+each_stop() {
+    for ((number = 1; number <= 1000; number++)); do
+        before "$1"
+        status=0
+        at "$number" end "${@:2}" db.rec || status=$?
+        if ! met; then
+            [ "$number" -gt 10 ] || fail 'no call was met'
+            return 0
+        fi
+        "$program" recins -f N -v 1 db.rec > out 2> err || wrong 'the next edit is refused'
+        no_leftovers
+        "$program" undo db.rec > out 2> err || wrong 'and can not be taken back'
+        fast has db.rec "$first" 2> /dev/null || fast has db.rec "$second" || wrong 'neither the old text nor the new one'
+        can_be_taken_back "$first"
+    done
+    fail 'no end'
+}
+
+@test "after each stop of an edit the next one goes through" {
+    second=$edited
+    fast each_stop first recset -n 0 -f A -S 9
+    fast each_stop recset recset -n 0 -f A -S 9
+}
+
+@test "after each stop of an undo or a redo the next edit goes through" {
+    fast each_stop undo undo
+    fast each_stop redo redo
+}
+
+@test "after each stop of an edit that removes leftovers the next one goes through" {
+    second=$edited
+    fast each_stop left recset -n 0 -f A -S 9
+    fast each_stop between recset -n 0 -f A -S 9
+}
+
 @test "each call of the system fails" {
     fast each_call 5
 }
@@ -224,7 +278,7 @@ whole() {
     fast each_call end
 }
 
-# sync_fails NUMBER ERROR: the sync of this number fails so; the second and the fourth are those of the folder
+# sync_fails NUMBER ERROR: the sync of this number fails so; the third and the fourth are those of the folder
 sync_fails() {
     rm -rf db.rec db.rec.journal hit
     put db.rec "$three"
@@ -235,13 +289,19 @@ sync_fails() {
 
 @test "a folder that cannot be synced" {
     local number
-    for number in 2 4; do
+    for number in 3 4; do
         sync_fails "$number" 22
         [ "$status" = 0 ] || wrong 'it is a failure'
         fast has db.rec "$edited" || wrong 'the edit is lost'
         sync_fails "$number" 95
         [ "$status" = 0 ] || wrong 'it is a failure'
     done
+    sync_fails 3 5
+    [ "$status" = 1 ] || wrong 'it is no failure'
+    grep -q '^db.rec.journal: ' err || wrong 'it says something else'
+    fast has db.rec "$three" || wrong 'the file was replaced'
+    [ -z "$("$program" history db.rec)" ] || wrong 'the event counts'
+    no_leftovers
     sync_fails 4 5
     [ "$status" = 1 ] || wrong 'it is no failure'
     grep -q '^db.rec: the edit is done, but its folder could not be synced, so a power cut may undo it: ' err || wrong 'it says something else'

@@ -25,7 +25,7 @@ const VERSION: &str = "0.1.0";
 const ABOUT: &str = "Prints, checks and edits rec files, and takes edits back";
 
 const WORKING_NAMES: &str =
-    "FILE.new and the journal's .new are working names of recu: each file is written under its own\nbefore it takes its place. What stands there is removed, unless a running recu is writing it.\n\nExamples:\n  recu recsel -e \"#Phone\" contacts.rec\n  recu recdel -n 1 contacts.rec\n  recu undo contacts.rec";
+    "FILE.new and the journal's .new are working names of recu: each file is written under its own\nbefore it takes its place. What a stop of recu left there is removed; with any other file there the\ncommand is refused, and the file stays.\n\nExamples:\n  recu recsel -e \"#Phone\" contacts.rec\n  recu recdel -n 1 contacts.rec\n  recu undo contacts.rec";
 
 const RECSEL_HELP: &str =
     "Only one of -e, -n and -q can be given, and only one of -p, -P, -R and -c.\n\nExamples:\n  recu recsel -e \"#Phone || Note ~ 'second'\" -P Name contacts.rec\n  recu recsel -n 0,2 -p Name,Email contacts.rec\n  recu recsel -t Book -q Austen library.rec";

@@ -18,8 +18,8 @@ pub enum Cause {
     Itself(Error),
     /// Its working name can't be made.
     Working(Error),
-    /// What stands under its working name is in the way.
-    Leftover(Error),
+    /// What stands under its working name is in the way, and stays.
+    Foreign(Error),
     /// It was replaced, and then its folder could not be synced.
     Unsynced(Error),
 }
@@ -36,12 +36,12 @@ impl From<Error> for Cause {
 }
 
 /// What an answer tells of the file or of the journal.
-pub fn told_of(which: Which, answer: Result<(), Cause>) -> Result<(), Failure>
+pub fn told_of<T: Drop>(which: Which, answer: Result<T, Cause>) -> Result<T, Failure>
     ensures well { is_ok result ≡ is_ok answer }
     ensures failure { IfErr result (λ failure. (failure.which ≡ which) × (answer ≡ Err failure.cause)) }
 {
     match answer {
-        Ok(()) => Ok(()),
+        Ok(value) => Ok(value),
         Err(cause) => Err(Failure { which, cause }),
     }
 }
@@ -97,6 +97,11 @@ pub fn in_use() -> Error {
     Error::other("in use: another program is writing it")
 }
 
+/// No stop of recu left it under a working name.
+pub fn not_left() -> Error {
+    Error::other("not left by recu")
+}
+
 /// Another recu edits it.
 pub fn locked() -> Error {
     Error::other("in use by another recu")
@@ -106,11 +111,12 @@ pub fn changed() -> Error {
     Error::other("changed by another program meanwhile")
 }
 
-/// What was there has gone, or is there again: another program came first.
-pub fn overtaken(error: Error) -> Error {
+/// What stands under a working name can't be judged or removed. What has gone meanwhile was another program's.
+pub fn of_foreign(error: Error) -> Cause {
     match error.kind() {
-        ErrorKind::NotFound | ErrorKind::AlreadyExists => in_use(),
-        _ => error,
+        ErrorKind::NotFound => Cause::Itself(in_use()),
+        ErrorKind::OutOfMemory => Cause::Itself(error),
+        _ => Cause::Foreign(error),
     }
 }
 

@@ -1,6 +1,6 @@
 //! The home of real files. A request that only looks reads them as they stand; one that may write holds them locked.
 //! What opens files stands in `spot`, `held`, `claim`, `rights` and `links`; standard input is read here alone.
-ghost use Rattle.std.specs.Prelude.{◌≡◌, ◌≤◌, ◌↔◌, [], length, IsTrue, IsNone, None, Some, OnOk, option_map, string_bytes, unwrap_or};
+ghost use Rattle.std.specs.Prelude.{◌≡◌, ◌≤◌, ◌↔◌, [], length, IsTrue, IsNone, None, Some, Ok, OnOk, option_map, string_bytes, unwrap_or};
 ghost use Rattle.std.specs.IoError.{error_kind, raw_os_error};
 ghost use Rattle.rec_text.specs.Sink.{one_more};
 ghost use Rattle.rec_tools.specs.Home.{Counts};
@@ -19,7 +19,8 @@ use std::io::{Error, ErrorKind};
 use std::rt::Files;
 use std::{fs, io};
 
-/// A file and its journal on disk. It keeps the last failure, for `explain`.
+/// A file and its journal on disk. A replace of the journal waits under its working name until the file's, by which both
+/// are put in place. It keeps the last failure, for `explain`.
 #[derive(Drop)]
 pub struct FileHome<'r, R> {
     rt: &'r R,
@@ -59,7 +60,9 @@ impl<'r, R: Files<File = File> + Input + AllocGlobal> FileHome<'r, R> {
     }
 
     /// Says on standard error which path failed last, and why.
-    pub fn explain(&self, err: &impl Eprint) -> io::Result<()> {
+    pub fn explain(&self, err: &impl Eprint) -> io::Result<()>
+        ensures silent { IsNone self.now.failure → result ≡ Ok tt }
+    {
         let Some(failure) = self.failure else {
             return Ok(());
         };
@@ -71,8 +74,8 @@ impl<'r, R: Files<File = File> + Input + AllocGlobal> FileHome<'r, R> {
         match failure.cause {
             Cause::Itself(error) => eprintln!(err; "{name}: {error}"),
             Cause::Working(error) => eprintln!(err; "{working}: {error}"),
-            Cause::Leftover(error) => {
-                eprintln!(err; "{working}: {error}: left by another program? remove it")
+            Cause::Foreign(error) => {
+                eprintln!(err; "{working}: {error}: recu writes under this name, so move it away")
             }
             Cause::Unsynced(error) => {
                 let what =
@@ -83,7 +86,10 @@ impl<'r, R: Files<File = File> + Input + AllocGlobal> FileHome<'r, R> {
     }
 
     /// Removes what was made to be put in place and was not.
-    pub fn let_go(&mut self) {
+    pub fn let_go(&mut self)
+        ensures kept { self.new.failed ≡ self.old.failed }
+        ensures noted { self.new.failure ≡ self.old.failure }
+    {
         self.pair.let_go(self.rt);
     }
 
@@ -175,7 +181,7 @@ impl<'r, R: Files<File = File> + Input + AllocGlobal> Home for FileHome<'r, R> {
         match self.pair.put(self.rt, which, bytes) {
             Ok(()) => Ok(()),
             Err(failure) => {
-                self.pair.let_go(self.rt);
+                self.let_go();
                 Err(self.fail(failure))
             }
         }

@@ -7,7 +7,7 @@ use crate::reading::read_whole;
 use rec_tools::Which;
 use std::alloc::Global;
 use std::fs::{File, Metadata, OpenOptions, TryLockError};
-use std::io::ErrorKind;
+use std::io::{ErrorKind, Seek, SeekFrom};
 use std::os::unix::fs::MetadataExt;
 use std::rt::Files;
 use std::{fs, io};
@@ -35,6 +35,13 @@ impl Held {
             return Err(changed());
         }
         Ok(bytes)
+    }
+
+    /// Its bytes, where it was read before.
+    pub fn read_again(&self, alloc: Global, which: Which) -> io::Result<Vec<u8>> {
+        let mut file = &self.file;
+        file.seek(SeekFrom::Start(0))?;
+        self.read(alloc, which)
     }
 
     /// Somebody wrote the open file since it was opened. A pipe or a device changes as it is read.

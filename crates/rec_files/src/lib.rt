@@ -7,6 +7,7 @@ mod causes;
 mod claim;
 mod files;
 mod held;
+mod leftover;
 mod links;
 mod pair;
 mod paths;

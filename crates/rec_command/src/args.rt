@@ -151,7 +151,9 @@ impl From<clap::Error> for Refusal {
 }
 
 /// The words behind the program's name.
-pub fn words<R: Env + Eprint + AllocGlobal>(rt: &R) -> Result<Vec<String>, Fault> {
+pub fn words<R: Env + Eprint + AllocGlobal>(rt: &R) -> Result<Vec<String>, Fault>
+    ensures refusals { IfErr result (λ fault. (fault ≡ Fault.OutOfMemory) ⊎ (fault ≡ Fault.BadUsage)) }
+{
     match env::args(rt) {
         Ok(words) => Ok(words.skip(1).collect(rt.alloc())?),
         Err(error) if error.kind() == io::ErrorKind::OutOfMemory => Err(Fault::OutOfMemory),

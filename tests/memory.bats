@@ -276,6 +276,10 @@ tells() {
     fast each_allocation is_told "${@:2}"
 }
 
+@test "memory for the help" {
+    tells 0 recset --help
+}
+
 @test "memory for words that are refused" {
     tells 1 recset -f A --sett 2 db.rec
 }

@@ -118,10 +118,13 @@ impl Refusal {
         }
     }
 
-    /// Prints the explanation, and says whether it is help that was asked for.
+    /// Prints the explanation, and says whether it is help that was asked for. Where memory ran out, that is the error.
     fn explain<R: Print + Eprint>(&self, rt: &R) -> io::Result<bool> {
         match self {
-            Refusal::OutOfMemory => Ok(false),
+            Refusal::OutOfMemory => Err(io::Error::from(io::ErrorKind::OutOfMemory)),
+            Refusal::Clap(error) if error.kind() == ErrorKind::OutOfMemory => {
+                Err(io::Error::from(io::ErrorKind::OutOfMemory))
+            }
             Refusal::Clap(error) => {
                 let is_help = !error.use_stderr();
                 let printed = error.print(rt);
@@ -151,7 +154,9 @@ impl From<clap::Error> for Refusal {
 }
 
 /// The words behind the program's name.
-pub fn words<R: Env + Eprint + AllocGlobal>(rt: &R) -> Result<Vec<String>, Fault> {
+pub fn words<R: Env + Eprint + AllocGlobal>(rt: &R) -> Result<Vec<String>, Fault>
+    ensures refusals { IfErr result (λ fault. (fault ≡ Fault.OutOfMemory) ⊎ (fault ≡ Fault.BadUsage)) }
+{
     match env::args(rt) {
         Ok(words) => Ok(words.skip(1).collect(rt.alloc())?),
         Err(error) if error.kind() == io::ErrorKind::OutOfMemory => Err(Fault::OutOfMemory),
@@ -174,7 +179,7 @@ pub fn request_of<S: AsStr>(alloc: Global, words: &[S]) -> Result<Asked, Fault>
 }
 
 /// Says on standard error what is wrong with words that give no request. Where they ask for help, it prints that on
-/// standard output instead and answers true.
+/// standard output instead and answers true. An error is the output's, or says that memory ran out.
 pub fn explain<R: Print + Eprint + AllocGlobal, S: AsStr>(rt: &R, words: &[S]) -> io::Result<bool> {
     match read(rt.alloc(), words) {
         Ok(_) => Ok(false),

@@ -8,6 +8,7 @@ use output::StandardOutput;
 use rec_command::Asked;
 use rec_files::{FileHome, access_of};
 use rec_tools::{Fault, Output, Reply};
+use std::io;
 use std::process::ExitCode;
 use std::rt::Runtime;
 
@@ -33,6 +34,9 @@ fn answer(rt: &HostRuntime) -> Option<Result<Reply, Fault>> {
         Err(fault) => match rec_command::explain(rt, words.as_slice()) {
             Ok(true) => None,
             Ok(false) => Some(Err(fault)),
+            Err(error) if error.kind() == io::ErrorKind::OutOfMemory => {
+                Some(Err(Fault::OutOfMemory))
+            }
             Err(error) => {
                 let _ = output::explain(rt, error);
                 Some(Err(Fault::StoreFailed))

@@ -1,5 +1,5 @@
 -- The numbers of the refusals, and answers that memory may cut short.
-use Rattle.std.specs.Prelude.{ℕ, Result, Ok, Err}
+use Rattle.std.specs.Prelude.{◌≡◌, ◌⊎◌, ℕ, Result, Ok, Err, IfErr}
 use Rattle.rec_text.specs.declared.fault.Fault.{Fault}
 use Rattle.rec_text.specs.declared.fault.Fault.TheVariants.{OutOfMemory, BadLine, OpenLine, BadDescriptor, Unsupported, BadExpression, BadPattern, BadFieldList, BadIndexList, NoSelection, TypeNeeded, NoSuchType, BadName, BadValue, BadRecord, Integrity, AutoImpossible, DigestClash, BadJournal, NothingToUndo, NothingToRedo, Drifted, StoreFailed, BadUsage}
 
@@ -38,3 +38,7 @@ IsMemoryOr _ P = P
 abbrev pub UnlessMemory : {X : Type 0} → Result X Fault → (Result X Fault → Type 0) → Type 0
 UnlessMemory (Ok x) P = P (Ok x)
 UnlessMemory (Err fault) P = IsMemoryOr fault (P (Err fault))
+
+-- the only refusals are these two
+abbrev pub IsOkUnlessEither : {X : Type 0} → Result X Fault → Fault → Fault → Type 0
+IsOkUnlessEither result one other = IfErr result (λ fault. (fault ≡ one) ⊎ (fault ≡ other))

@@ -4,11 +4,10 @@ use Rattle.std.specs.Option.{option_map, option_map_or}
 use Rattle.std.specs.List.{list_all}
 use Rattle.std.proofs.lemmas.List.{take_at, drop_at, length_push}
 use Rattle.std.proofs.lemmas.Bool.{and_parts, and_from, and_left, and_right, or_left, or_right, or_from, not-true, not_from_false, eqb-true}
-use Rattle.rec_text.specs.declared.element.Kind.TheVariants.{Field}
 use Rattle.rec_text.specs.Bytes.{is_nil, is_letter, continues_name}
 use Rattle.rec_text.specs.Elements.{name_end, colon_of, is_joined, is_dangling, is_body, is_field, name_of}
 use Rattle.rec_text.specs.Values.{body_value, value_of}
-use Rattle.rec_text.specs.Canonical.{is_plain_name, is_foldable, folded, field_of}
+use Rattle.rec_text.specs.Canonical.{is_plain_name, is_foldable, folded, field_of, canonical}
 use Rattle.rec_text.proofs.FoldLemmas.{is_foldable-same}
 use Rattle.rec_text.proofs.ValueLemmas.{rest_value, begins_newline, body_value-rest, rest_value-newline, rest_value-byte, passes_apart}
 
@@ -114,10 +113,10 @@ module _ (name value : List ℕ) (plain : IsTrue (is_plain_name name)) (foldable
       ∙ ap is_body (behind_colon name (32 ∷ written value))
       ∙ and_from (is_joined 32 (written value)) _ (is_joined-written 32 value) (not_from_false _ (is_dangling-written 32 value foldable))
 
-  pub name_of-field_of : name_of (record { kind = Field; bytes = field_of name value }) ≡ name
+  pub name_of-field_of : name_of (canonical name value) ≡ name
   name_of-field_of = at_colon (λ c. take c (field_of name value)) [] name value plain ∙ take_at name (58 ∷ 32 ∷ written value) (length name) refl
 
-  pub value_of-field_of : value_of (record { kind = Field; bytes = field_of name value }) ≡ value
+  pub value_of-field_of : value_of (canonical name value) ≡ value
   value_of-field_of =
       at_colon (λ c. body_value (drop (c + 1) (field_of name value))) [] name value plain
       ∙ ap body_value (behind_colon name (32 ∷ written value))

@@ -3,7 +3,9 @@ use Rattle.std.specs.Prelude.{◌≡◌, ℕ, Bool, false, List, [], ◌∷◌, 
 use Rattle.std.specs.List.{list_all}
 use Rattle.rec_text.specs.declared.fault.Fault.{Fault}
 use Rattle.rec_text.specs.declared.fault.Fault.TheVariants.{BadName, BadValue}
+use Rattle.rec_text.specs.declared.element.Kind.TheVariants.{Field}
 use Rattle.rec_text.specs.Bytes.{is_letter, begins_name, continues_name}
+use Rattle.rec_text.specs.Elements.{Piece}
 
 -- a letter, then letters, digits and _
 abbrev pub is_plain_name : List ℕ → Bool
@@ -28,6 +30,10 @@ folded (b ∷ bs) = if b == 10 then 10 ∷ 43 ∷ 32 ∷ folded bs else b ∷ fo
 -- the canonical field: name, colon, space, the folded value and a newline
 abbrev pub field_of : List ℕ → List ℕ → List ℕ
 field_of name value = name ++ (58 ∷ 32 ∷ (folded value ++ 10 ∷ []))
+
+-- the element that it is
+abbrev pub canonical : List ℕ → List ℕ → Piece
+canonical name value = record { kind = Field; bytes = field_of name value }
 
 -- whether a field can be written, and else why not
 abbrev pub put_outcome : List ℕ → List ℕ → Result (Unit {0}) Fault

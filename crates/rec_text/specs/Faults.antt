@@ -29,7 +29,7 @@ number_of Drifted = 22
 number_of StoreFailed = 23
 number_of BadUsage = 24
 
--- a fact of a fault, unless the fault is a want of memory
+-- a fact of a fault, unless it is that memory ran out
 abbrev pub IsMemoryOr : Fault → Type 0 → Type 0
 IsMemoryOr OutOfMemory P = Unit {0}
 IsMemoryOr _ P = P
@@ -38,6 +38,10 @@ IsMemoryOr _ P = P
 abbrev pub UnlessMemory : {X : Type 0} → Result X Fault → (Result X Fault → Type 0) → Type 0
 UnlessMemory (Ok x) P = P (Ok x)
 UnlessMemory (Err fault) P = IsMemoryOr fault (P (Err fault))
+
+-- memory aside, no answer but the one that the call gave has P
+abbrev pub HasNoOther : {X : Type 0} → Result X Fault → (Result X Fault → Type 0) → Type 0
+HasNoOther {X} result P = (other : Result X Fault) → P other → UnlessMemory result (λ answer. answer ≡ other)
 
 -- the only refusals are these two
 abbrev pub IsOkUnlessEither : {X : Type 0} → Result X Fault → Fault → Fault → Type 0

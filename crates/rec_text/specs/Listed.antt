@@ -1,6 +1,8 @@
 -- The records of elements that come one after another.
-use Rattle.std.specs.Prelude.{◌≡◌, ℕ, ◌<◌, ◌≤◌, true, List, ◌++◌, length, Option, Some, None, option_to_list}
+use Rattle.std.specs.Prelude.{◌≡◌, ℕ, ◌<◌, ◌≤◌, true, List, [], ◌∷◌, ◌++◌, length, Option, Some, None, option_to_list}
 use Rattle.std.specs.declared.ops.Range.{Range}
+use Rattle.rec_text.specs.declared.element.Kind.{Kind}
+use Rattle.rec_text.specs.declared.listing.Listing.{Listing}
 use Rattle.rec_text.specs.Elements.{Piece}
 use Rattle.rec_text.specs.Records.{AreRecords, is_field_at, is_full_at}
 
@@ -17,3 +19,16 @@ GoesOn pieces (Some fields) = AreFull pieces fields.start
 pub record AreListed (pieces : List Piece) (closed : List (Range ℕ)) (current : Option (Range ℕ)) : Type 0 where
   pub are : AreRecords pieces (closed ++ option_to_list current)
   pub goes_on : GoesOn pieces current
+
+-- the records that a listing has
+abbrev pub listed : Listing → List (Range ℕ)
+listed listing = listing.closed.items ++ option_to_list listing.current
+
+-- the listing has the records of these elements
+abbrev pub HasListed : List Piece → Listing → Type 0
+HasListed pieces listing = AreListed pieces listing.closed.items listing.current
+
+-- where a listing has those of the elements before one of this kind and index, the other has those up to it
+abbrev pub ListsNext : Kind → ℕ → Listing → Listing → Type 0
+ListsNext kind index one other = (pieces : List Piece) (piece : Piece) → length pieces ≡ index → piece.kind ≡ kind
+    → HasListed pieces one → HasListed (pieces ++ piece ∷ []) other

@@ -1,10 +1,9 @@
 //! Fields as recu writes them.
 ghost use Rattle.std.specs.Prelude.{◌≡◌, ◌++◌, IsTrue, Ok, OnOk, OnErr, IfErr};
 ghost use Rattle.rec_text.specs.declared.fault.Fault.TheVariants.{OutOfMemory};
-ghost use Rattle.rec_text.specs.declared.element.Kind.TheVariants.{Field};
 ghost use Rattle.std.specs.List.{list_all};
 ghost use Rattle.rec_text.specs.Bytes.{continues_name as may_continue};
-ghost use Rattle.rec_text.specs.Canonical.{field_of, put_outcome, folded, is_field_name as may_name_a_field, is_plain_name as may_be_written, is_foldable as can_be_folded, Extends};
+ghost use Rattle.rec_text.specs.Canonical.{field_of, canonical, put_outcome, folded, is_field_name as may_name_a_field, is_plain_name as may_be_written, is_foldable as can_be_folded, Extends};
 ghost use Rattle.rec_text.specs.Elements.{is_field, name_of};
 ghost use Rattle.rec_text.specs.Faults.{UnlessMemory};
 ghost use Rattle.rec_text.specs.Values.{value_of};
@@ -103,8 +102,8 @@ pub fn put_field(out: &mut Vec<u8>, name: &[u8], value: &[u8]) -> Result<(), Fau
     ensures writable { IfErr result (λ fault. fault ≡ OutOfMemory → put_outcome name.now value.now ≡ Ok tt) }
     // What is written is a field, and reads as this name and value.
     ensures well_formed { OnOk result (IsTrue (is_field (field_of name.now value.now))) }
-    ensures name { OnOk result (name_of (record { kind = Field; bytes = field_of name.now value.now }) ≡ name.now) }
-    ensures value { OnOk result (value_of (record { kind = Field; bytes = field_of name.now value.now }) ≡ value.now) }
+    ensures name { OnOk result (name_of (canonical name.now value.now) ≡ name.now) }
+    ensures value { OnOk result (value_of (canonical name.now value.now) ≡ value.now) }
 {
     if !is_plain_name(name) {
         return Err(Fault::BadName);

@@ -25,7 +25,8 @@ pub fn split_line(text: &[u8]) -> Option<(&[u8], &[u8])>
 /// A line that ends in a backslash, without it.
 pub(crate) fn strip_backslash(line: &[u8]) -> Option<&[u8]>
     ensures variant { is_some result ≡ ends_backslash line.now }
-    ensures cases { MatchOption result (ends_backslash line.now ≡ false) (λ front. line.now ≡ front.now ++ 92 ∷ []) }
+    ensures cases { MatchOption result (ends_backslash line.now ≡ false)
+        (λ front. line.now ≡ front.now ++ 92 ∷ []) }
 {
     let (last, front) = line.split_last()?;
     if *last == b'\\' { Some(front) } else { None }

@@ -13,12 +13,11 @@ pub(crate) struct Listing {
 }
 
 impl Listing {
-    ghost use Rattle.std.specs.Prelude.{◌≡◌, ◌++◌, ◌∷◌, [], ◌<◌, ◌-◌, ◌^◌, None, List, length, option_to_list, IfOk, OnOk};
-    ghost use Rattle.rec_text.specs.Elements.{Piece};
-    ghost use Rattle.rec_text.specs.Listed.{AreListed};
+    ghost use Rattle.std.specs.Prelude.{◌≡◌, [], ◌<◌, ◌-◌, ◌^◌, None, IfOk, OnOk};
+    ghost use Rattle.rec_text.specs.Listed.{HasListed, ListsNext, listed};
 
     pub(crate) fn new(alloc: Global) -> Listing
-        ensures { AreListed [] result.closed.items result.current }
+        ensures { HasListed [] result }
     {
         Listing {
             closed: Vec::new(alloc),
@@ -28,7 +27,7 @@ impl Listing {
 
     /// No field of the current record comes any more.
     fn close(&mut self) -> Result<(), AllocError>
-        ensures closed { OnOk result (self.new.closed.items ≡ self.old.closed.items ++ option_to_list self.old.current) }
+        ensures closed { OnOk result (self.new.closed.items ≡ listed self.old) }
         ensures none { OnOk result (self.new.current ≡ None) }
     {
         if let Some(fields) = self.current.take() {
@@ -40,7 +39,7 @@ impl Listing {
     /// Takes the element of this index.
     pub(crate) fn add(&mut self, kind: Kind, index: usize) -> Result<(), AllocError>
         requires { index < 2 ^ 64 - 1 }
-        ensures { (pieces : List Piece) (piece : Piece) → length pieces ≡ index → piece.kind ≡ kind → AreListed pieces self.old.closed.items self.old.current → OnOk result (AreListed (pieces ++ piece ∷ []) self.new.closed.items self.new.current) }
+        ensures { OnOk result (ListsNext kind index self.old self.new) }
     {
         match kind {
             Kind::Blank => self.close()?,
@@ -58,7 +57,7 @@ impl Listing {
 
     /// The records, where no element comes any more.
     pub(crate) fn finish(mut self) -> Result<Vec<Range<usize>>, AllocError>
-        ensures { IfOk result (λ records. records.items ≡ self.closed.items ++ option_to_list self.current) }
+        ensures { IfOk result (λ records. records.items ≡ listed self) }
     {
         self.close()?;
         Ok(self.closed)

@@ -1,8 +1,6 @@
 //! Reads a text into its elements.
-ghost use Rattle.std.specs.Prelude.{◌≡◌, List, Result};
-ghost use Rattle.rec_text.specs.declared.fault.Fault.{Fault};
-ghost use Rattle.rec_text.specs.Elements.{Piece};
-ghost use Rattle.rec_text.specs.Faults.{UnlessMemory};
+ghost use Rattle.std.specs.Prelude.{◌≡◌};
+ghost use Rattle.rec_text.specs.Faults.{UnlessMemory, HasNoOther};
 ghost use Rattle.rec_text.specs.Reading.{IsReading, line_after as number_of_line};
 
 use crate::database::Database;
@@ -27,7 +25,7 @@ pub fn read<'t>(alloc: Global, text: &'t [u8]) -> Result<Database<'t>, Fault>
     ensures found { UnlessMemory result (IsReading text.now) }
 
     // and no other reading is.
-    ensures only { (other : Result (List Piece) Fault) → IsReading text.now other → UnlessMemory result (λ answer. answer ≡ other) }
+    ensures only { HasNoOther result (IsReading text.now) }
 {
     let mut elements = Vec::new(alloc);
     let mut listing = Listing::new(alloc);

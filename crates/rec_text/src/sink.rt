@@ -1,9 +1,10 @@
 //! Where printed text goes.
-ghost use Rattle.std.specs.Prelude.{◌≡◌, ◌≤◌, ⊤, ℕ, List, Option, Result, OnOk, OnErr};
+ghost use Rattle.std.specs.Prelude.{◌≡◌, ◌≤◌, ⊤, ℕ, List, Option, Result, OnOk, OnErr, IsOkUnless};
 ghost use Rattle.std.specs.Io.{WritesAtMost};
 ghost use Rattle.std.specs.Io.KnownBytes.{Appends, WriteAppends};
 ghost use Rattle.std.specs.declared.io.Error.{Error};
-ghost use Rattle.rec_text.specs.Sink.{Took, AppendsFront, HasRisen, IsOneCall, KeptAtSuccess, UnlessStoreFailed, one_more};
+ghost use Rattle.rec_text.specs.declared.fault.Fault.TheVariants.{StoreFailed};
+ghost use Rattle.rec_text.specs.Sink.{Took, AppendsFront, HasRisen, IsOneCall, KeptAtSuccess, one_more};
 
 use crate::fault::Fault;
 use std::io;
@@ -23,7 +24,7 @@ pub trait Sink {
         ensures kept { KeptAtSuccess (failure_count self.old) (failure_count self.new) result }
         ensures counted { failure_count self.old ≤ failure_count self.new }
         ensures failed { OnErr result (HasRisen (failure_count self.old) (failure_count self.new)) }
-        ensures refusals { UnlessStoreFailed result };
+        ensures refusals { IsOkUnless result StoreFailed };
 
     /// How often it failed.
     fn failures(&self) -> u64
@@ -74,7 +75,7 @@ impl<W: Writer> Sink for Output<W> {
         ensures kept { KeptAtSuccess self.old.failed self.new.failed result }
         ensures counted { self.old.failed ≤ self.new.failed }
         ensures failed { OnErr result (self.new.failed ≡ one_more self.old.failed) }
-        ensures refusals { UnlessStoreFailed result }
+        ensures refusals { IsOkUnless result StoreFailed }
     {
         if let Ok(taken) = self.writer.call(bytes) {
             if taken > 0 || bytes.is_empty() {
@@ -97,7 +98,7 @@ pub fn put_all<S: Sink>(sink: &mut S, bytes: &[u8]) -> Result<(), Fault>
     ensures kept { KeptAtSuccess (S.failure_count sink.old) (S.failure_count sink.new) result }
     ensures counted { S.failure_count sink.old ≤ S.failure_count sink.new }
     ensures failed { OnErr result (HasRisen (S.failure_count sink.old) (S.failure_count sink.new)) }
-    ensures refusals { UnlessStoreFailed result }
+    ensures refusals { IsOkUnless result StoreFailed }
 {
     let mut rest = bytes;
     while !rest.is_empty() {

@@ -6,7 +6,7 @@ ghost use Rattle.rec_journal.specs.Patch.{Splices};
 
 use crate::log::Log;
 use rec_journal::{
-    Direction, Hashed, History, Hunk, Patch, Plan, Tool, plan_edit, plan_redo, plan_undo,
+    Direction, Hashed, History, Hunk, Patch, Plan, Tool, plan_edit, plan_move, plan_redo, plan_undo,
 };
 use rec_text::{Bytes, Fault};
 use std::alloc::{AllocError, Global};
@@ -16,6 +16,7 @@ pub fn run(alloc: Global, log: &mut Log) {
         growth_of_apply,
         growth_of_load,
         growth_of_plan_edit,
+        growth_of_plan_move,
         growth_of_plan_undo,
         growth_of_plan_redo);
 }
@@ -236,6 +237,24 @@ fn growth_of_plan_edit(alloc: Global, log: &mut Log) -> Result<(), Fault> {
         Ok(patch) => check_plan_edit(alloc, log, &history, &file, &patch),
         Err(_) => Ok(()),
     }
+}
+
+fn move_again(alloc: Global, history: &History, file: &[u8], journal: &[u8]) -> Result<Plan, Fault>
+    requires { IsOpening file.now journal.now (Ok history.now) }
+{
+    match plan_move(alloc, Direction::Backward, history, file, journal) {
+        Err(Fault::OutOfMemory) => plan_move(alloc, Direction::Backward, history, file, journal),
+        answer => answer,
+    }
+}
+
+fn growth_of_plan_move(alloc: Global, log: &mut Log) -> Result<(), Fault> {
+    let Ok(history) = loaded(alloc, WITHOUT_B, B_DELETED) else {
+        return Ok(());
+    };
+    let plan = move_again(alloc, &history, WITHOUT_B, B_DELETED)?;
+    check_plan(log, &plan, B_DELETED, UNDO, ALL);
+    Ok(())
 }
 
 fn undo_again(alloc: Global, history: &History, file: &[u8], journal: &[u8]) -> Result<Plan, Fault>

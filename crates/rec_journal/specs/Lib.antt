@@ -1,14 +1,17 @@
+-- what patches, events, histories and plans are, and what a stop leaves
 pub mod Direction
 pub mod Patch
-pub mod Weave
-pub mod Fronts
 pub mod Revisions
 pub mod Event
-pub mod Head
-pub mod Reading
 pub mod History
 pub mod Listing
-pub mod Scan
 pub mod Plans
 pub mod Stops
 pub mod Bound
+pub mod Moves
+-- what serves proofs
+pub mod Weave
+pub mod Fronts
+pub mod Head
+pub mod Reading
+pub mod Scan

@@ -27,6 +27,6 @@ pub use history::History;
 pub use history_laws::{one_opening, outside_texts_drift};
 pub use laws::{edits_lead_to_one_text, leads_to_one_text, moves_are_converse};
 pub use patch::{Direction, Hunk, Patch};
-pub use plan::{Plan, plan_edit, plan_redo, plan_undo};
+pub use plan::{Plan, plan_edit, plan_move, plan_redo, plan_undo};
 pub use rec_text::{Bytes, Fault};
 pub use steps::{Step, Steps};

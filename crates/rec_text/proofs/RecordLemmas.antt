@@ -1,5 +1,5 @@
 -- Paragraphs and records: the lists of their ranges, and that there are no others.
-use Rattle.std.proofs.Common.{◌≡◌, ℕ, ◌+◌, ◌-◌, ◌<◌, ◌≤◌, inl, inr, Bool, true, false, not, List, [], ◌∷◌, Option, Some, None, length, suc, zero, refl, sym, ap, ◌∙◌, arith}
+use Rattle.std.proofs.Common.{◌≡◌, ℕ, ◌+◌, ◌-◌, ◌<◌, ◌≤◌, inl, inr, Bool, true, false, not, List, [], ◌∷◌, Option, Some, None, length, suc, zero, refl, sym, ◌∙◌, arith}
 use Rattle.std.proofs.lemmas.Bool.{cases_Bool, cases_lt, false≢true}
 use Rattle.std.specs.List.{AllByRecursion, slice_get, cons_option}
 use Rattle.std.specs.Option.{option_map_or}
@@ -8,7 +8,7 @@ use Rattle.rec_text.specs.declared.element.Kind.{Kind}
 use Rattle.rec_text.specs.declared.element.Kind.TheVariants.{Blank, Comment, Field}
 use Rattle.rec_text.specs.Elements.{Piece}
 use Rattle.rec_text.specs.Records.{IsRun, AreAscending, LiesIn, AreParagraphs, AreRecords, IsRecord, OneListOfRecords, is_field_at, is_full_at, is_field_piece, is_blank_piece}
-use Rattle.rec_text.specs.Scanned.{range, reaching, narrowed_from, narrowed, all_narrowed}
+use Rattle.rec_text.specs.Scanned.{reaching, narrowed_from, narrowed, all_narrowed}
 use Rattle.rec_text.proofs.RangeLemmas.{LiesIn-here, LiesIn-there, LiesIn-cases, AreAscending-from, one_list_of_parts, ArePartsFrom}
 use Rattle.rec_text.proofs.RunLemmas.{one_list_of_runs, runs_share_end}
 
@@ -89,37 +89,6 @@ module _ (test : ℕ → Bool) (to : ℕ) where
         | inl holds ↦ rw holds (IsSpan-reaching from _ (omega arith) holds rest)
         | inr fails ↦ rw fails (IsNarrowed-skip from _ fails rest)
       ]
-
-  span_starts : (from : ℕ) (span other : Range ℕ) → IsSpan test from to span → IsSpan test from to other → span.start ≤ other.start
-  span_starts from span other h k =
-      elim (cases_lt other.start span.start) [
-        | inl less ↦ absurd (false≢true (sym (h.before other.start k.low less) ∙ k.first))
-        | inr more ↦ more
-      ]
-
-  span_ends : (from : ℕ) (span other : Range ℕ) → IsSpan test from to span → IsSpan test from to other → other.end ≤ span.end
-  span_ends from span other h k =
-      elim (cases_lt span.end other.end) [
-        | inl less ↦ absurd (false≢true (sym (h.behind (other.end - 1) (omega arith) (omega (arith, k.high))) ∙ k.last))
-        | inr more ↦ more
-      ]
-
-  same_span : (from : ℕ) (span other : Range ℕ) → IsSpan test from to span → IsSpan test from to other → span ≡ other
-  same_span from span other h k =
-      let starts : span.start ≡ other.start = omega (arith, span_starts from span other h k, span_starts from other span k h) in
-      let ends : span.end ≡ other.end = omega (arith, span_ends from span other h k, span_ends from other span k h) in
-      ap (λ (start : ℕ). range start span.end) starts ∙ ap (λ (end : ℕ). range other.start end) ends
-
-  same_narrowed : (from : ℕ) (some other : Option (Range ℕ)) → IsNarrowed test from to some → IsNarrowed test from to other → some ≡ other
-  same_narrowed from None None h k = refl
-  same_narrowed from None (Some other) h k =
-      absurd (false≢true (sym (h other.start k.low (omega (arith, k.some, k.high))) ∙ k.first))
-  same_narrowed from (Some span) None h k =
-      absurd (false≢true (sym (k span.start h.low (omega (arith, h.some, h.high))) ∙ h.first))
-  same_narrowed from (Some span) (Some other) h k = ap Some (same_span from span other h k)
-
-  pub is_narrowed_from : (from : ℕ) (result : Option (Range ℕ)) → from ≤ to → IsNarrowed test from to result → result ≡ narrowed_from test from (to - from)
-  is_narrowed_from from result le h = same_narrowed from result _ h (IsNarrowed-narrowed_from from (to - from) (omega arith))
 
 pub IsNarrowed-narrowed : (test : ℕ → Bool) (whole : Range ℕ) → whole.start ≤ whole.end → IsNarrowed test whole.start whole.end (narrowed test whole)
 IsNarrowed-narrowed test whole le = IsNarrowed-narrowed_from test whole.end whole.start (whole.end - whole.start) (omega arith)

@@ -123,7 +123,8 @@ fn behind_operand(
     all: bool,
     token: &Token,
 ) -> Result<Option<Want>, AllocError>
-    ensures { IfOk result (λ next. next_of next stack.new.items ≡ next_operator all (stack_of stack.old.items) token.now) }
+    ensures { IfOk result (λ next.
+        next_of next stack.new.items ≡ next_operator all (stack_of stack.old.items) token.now) }
 {
     match token {
         Token::Binary(operator) => Ok(if all || !binds_strongly(*operator) {
@@ -160,7 +161,8 @@ fn behind_found(token: &Token) -> Option<Want>
 
 /// Takes off what was opened last, and answers what is wanted then, if it was this.
 fn closed(stack: &mut Vec<Opened>, opened: Opened, want: Want) -> Option<Want>
-    ensures { next_of result stack.new.items ≡ behind_closed (opened_of opened) (want_of want) (stack_of stack.old.items) }
+    ensures { next_of result stack.new.items ≡
+        behind_closed (opened_of opened) (want_of want) (stack_of stack.old.items) }
 {
     match stack.pop() {
         Some(last) if last == opened => Some(want),

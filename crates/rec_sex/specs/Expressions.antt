@@ -1,5 +1,5 @@
 -- The expression of a tree, and the texts that expressions are read from.
-use Rattle.std.specs.Prelude.{◌≡◌, ◌≤◌, ℕ, List, [], ◌∷◌, ◌++◌, length, map, Some, None, Result, IsErrOf, slice_get, unwrap_or}
+use Rattle.std.specs.Prelude.{◌≡◌, ◌≤◌, ℕ, List, ◌∷◌, ◌++◌, length, map, Some, None, Result, IsErrOf, slice_get, unwrap_or}
 use Rattle.regex.specs.Patterns.{Re, SameCaptures, empty}
 use Rattle.regex.specs.Strings.{regex_pattern}
 use Rattle.regex.specs.declared.string.regex.Regex.{Regex}

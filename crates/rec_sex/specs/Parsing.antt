@@ -59,7 +59,7 @@ AreBuiltFrom (text ∷ texts) (pattern ∷ patterns) = IsBuiltFrom text pattern 
 AreBuiltFrom [] (pattern ∷ patterns) = ⊥
 AreBuiltFrom (text ∷ texts) [] = ⊥
 
--- each of the texts stands behind a `~`
+-- each of the texts stands after a `~`
 abbrev pub AreAmong : List Token → List (List ℕ) → Type 0
 AreAmong tokens texts = AllByRecursion (λ text. (front rest : List Token) × (tokens ≡ front ++ Found ∷ (Literal text ∷ rest)) × (is_utf8 text ≡ true)) texts
 

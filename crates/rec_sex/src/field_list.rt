@@ -4,7 +4,7 @@ ghost use Rattle.rec_text.specs.Bytes.{begins_name as may_begin};
 ghost use Rattle.rec_text.specs.Places.{pieces_of};
 ghost use Rattle.rec_sex.specs.IndexList.{begins_with};
 ghost use Rattle.rec_sex.specs.Lists.{begins_field, occurrences, IsClosingFault, IsSubscriptFault, IsItem, IsItemFault, picks, picked_by};
-ghost use Rattle.rec_sex.specs.FieldItems.{is_among, BeginsName, Closes, BeginsSubscript, BeginsItem};
+ghost use Rattle.rec_sex.specs.FieldItems.{is_meant, BeginsName, Closes, BeginsSubscript, BeginsItem};
 ghost use Rattle.rec_sex.specs.ItemStarts.{Covers};
 
 use crate::index_list::{Span, ends_item, leading_span};
@@ -134,8 +134,8 @@ impl ListItem for Item {
 }
 
 /// Whether an occurrence is among these; all are where none are named.
-fn is_among(span: Option<Span>, occurrence: usize) -> bool
-    ensures { result ≡ is_among span occurrence }
+fn is_meant(span: Option<Span>, occurrence: usize) -> bool
+    ensures { result ≡ is_meant span occurrence }
 {
     match span {
         None => true,
@@ -151,7 +151,7 @@ fn add_places(item: &Item, fields: &[Element], places: &mut Vec<usize>) -> Resul
     let mut occurrence = 0;
     for (place, field) in fields.iter().enumerate() {
         if field.has_name(item.name.as_slice()) {
-            if is_among(item.occurrences, occurrence) {
+            if is_meant(item.occurrences, occurrence) {
                 places.push(place)?;
             }
             occurrence += 1;

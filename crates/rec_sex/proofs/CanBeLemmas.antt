@@ -14,7 +14,8 @@ use Rattle.rec_sex.specs.declared.outcomes.Outcomes.{Outcomes}
 use Rattle.rec_sex.specs.declared.token.Operator.{Operator}
 use Rattle.rec_sex.specs.Grammar.{inverse, binary, choice}
 use Rattle.rec_sex.specs.Meaning.{Meaning, Choice_, values_of, value_at, text, sem, is_true, is_zero, is_found, text_of, truth, in_range, reading_of, IsChoice, Selects}
-use Rattle.rec_sex.specs.Choices.{Entry, chosen_in, is_chosen, pattern_in, term_under, is_among, repeated_names, places_of, shared_names, any_below, any_choice}
+use Rattle.rec_sex.specs.Expressions.{pattern_in, term_under}
+use Rattle.rec_sex.specs.Choices.{Entry, chosen_in, is_chosen, is_among, repeated_names, places_of, shared_names, any_below, any_choice}
 use Rattle.rec_sex.specs.Outcomes.{outcome_of, can_be, only, inverse_of, is_connective, joined_by, branch_of, outcomes_over, outcomes_of_part, outcomes_in, can_hold, CanBe}
 use Rattle.rec_text.proofs.ListLemmas.{bytes_eq-self}
 use Rattle.rec_sex.proofs.EntryLemmas.{chosen_in-none, chosen_in-front, chosen_in-behind, HasEntries, any_choice-entries, any_choice-chosen, entries_of, chosen_among, not_among, agrees_with_own, is_among-names, has_chosen, is_among-shared, has_chosen-shared}

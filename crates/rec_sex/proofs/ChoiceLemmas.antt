@@ -9,11 +9,9 @@ use Rattle.rec_sex.specs.declared.tree.Tree.{Tree}
 use Rattle.rec_sex.specs.declared.occurrences.Chosen.{Chosen}
 use Rattle.rec_sex.specs.declared.outcomes.Outcomes.{Outcomes}
 use Rattle.rec_sex.specs.Meaning.{values_of}
-use Rattle.rec_sex.specs.Choices.{Entry, entry_of, term_under, any_below, any_choice}
+use Rattle.rec_sex.specs.Expressions.{term_under}
+use Rattle.rec_sex.specs.Choices.{Entry, entry_of, texts, any_below, any_choice}
 use Rattle.rec_sex.specs.Outcomes.{union, union_below, outcomes_over, can_hold}
-
-abbrev pub texts : List (Bor (List ℕ)) → List (List ℕ)
-texts names = map (λ one. one.now) names
 
 abbrev pub rest_of : List (Bor (List ℕ)) → List (Bor (List ℕ))
 rest_of names = take (length names - 1) (drop 1 names)

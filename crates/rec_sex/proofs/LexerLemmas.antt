@@ -5,8 +5,7 @@ use Rattle.std.proofs.lemmas.List.{append-nil, append_assoc, length_push, length
 use Rattle.rec_sex.specs.declared.token.Token.{Token}
 use Rattle.rec_text.specs.Bytes.{is_space}
 use Rattle.rec_sex.specs.Tokens.{Lexeme, Whole, Broken, Placed, lexeme_at, len_of, lexemes_from, lexemes}
-use Rattle.rec_sex.specs.declared.lexeme.Lexeme.{Lexeme as ReadLexeme}
-use Rattle.rec_sex.specs.Lexing.{lexeme_of, IsStep}
+use Rattle.rec_sex.specs.Lexing.{IsStep}
 use Rattle.rec_sex.specs.Grammar.{Operand, Operator_, Comparison, Pattern, Walk, walk_start, behind, walked, may_end, fault_inside, fault_from, fault_of, AreTokens, AreTaken}
 use Rattle.rec_sex.proofs.WithinLemmas.{IsWithin, lexeme_is_within}
 
@@ -67,9 +66,9 @@ lexemes_at-token text at token len less none is =
     ∙ ap (λ n. lexemes_at text n) place)
 
 -- what was read at a place, where it is this
-pub lexeme_read : (text : List ℕ) (at : ℕ) (read known : ReadLexeme) → read ≡ known → lexeme_of read ≡ lexeme_at (take (length text - at) (drop at text))
-    → lexeme_of known ≡ lexeme_at (drop at text)
-lexeme_read text at read known same is = sym (ap lexeme_of same) ∙ is ∙ ap lexeme_at (take_rest text at)
+pub lexeme_read : (text : List ℕ) (at : ℕ) (read known : Lexeme) → read ≡ known → read ≡ lexeme_at (take (length text - at) (drop at text))
+    → known ≡ lexeme_at (drop at text)
+lexeme_read text at read known same is = sym same ∙ is ∙ ap lexeme_at (take_rest text at)
 
 -- ---- the walk
 

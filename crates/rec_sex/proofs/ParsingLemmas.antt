@@ -1,5 +1,5 @@
 -- Trees of parts, put together.
-use Rattle.std.proofs.Common.{◌≡◌, ℕ, ℤ, zero, suc, ◌+◌, ◌-◌, ◌<◌, ◌≤◌, true, false, List, [], ◌∷◌, ◌++◌, length, drop, refl, ap, sym, ◌∙◌, subst, append_assoc, zero-add, length-append, get_or, Some, unwrap_or, slice_get, arith, lit≤}
+use Rattle.std.proofs.Common.{◌≡◌, ℕ, ℤ, zero, suc, ◌+◌, ◌-◌, ◌<◌, ◌≤◌, true, false, List, [], ◌∷◌, ◌++◌, length, drop, map, refl, ap, sym, ◌∙◌, subst, append_assoc, zero-add, length-append, get_or, Some, unwrap_or, slice_get, arith, lit≤}
 use Rattle.regex.specs.declared.string.regex.Regex.{Regex}
 use Rattle.rec_sex.specs.declared.token.Token.{Token}
 use Rattle.rec_sex.specs.declared.token.Token.TheVariants.{Integer, Literal, Name, Occurrence, Count, Not, Binary, Found, Open, Close, Then, Else}
@@ -11,12 +11,14 @@ use Rattle.std.specs.Option.{option_map}
 use Rattle.std.proofs.Math.ListN.{get_or-append}
 use Rattle.std.proofs.Math.Seq.{get_or-append_seam}
 use Rattle.std.proofs.lemmas.List.{append-nil}
-use Rattle.regex.specs.Patterns.{empty as no_pattern, default_config}
-use Rattle.regex.specs.Strings.{regex_pattern, regex_source, regex_config, IsReadFromSource}
+use Rattle.std.proofs.lemmas.Option.{slice_get-map}
+use Rattle.regex.specs.Patterns.{empty as no_pattern}
+use Rattle.regex.specs.Strings.{regex_pattern}
 use Rattle.std.proofs.lemmas.Bool.Decides.{nat_tests}
 use Rattle.rec_sex.specs.Grammar.{Term, Derives, IsPatternOf, AreTaken, walk_start, by_next, by_choice, by_implication, by_operator, by_pattern, by_not, by_minus, by_integer, by_literal, by_name, by_occurrence, by_count, by_parentheses, level_of, number, literal, field, occurrence, count, inverse, negated, binary, choice, Parenthesis, Question, Operand, Operator_}
-use Rattle.rec_sex.specs.Expressions.{AreAmong, AreBuiltFrom, pattern_at, term_with}
-use Rattle.rec_sex.specs.Parsing.{Passes, IsTree, Extends, IsBoundAbove, IsFoundTree, MayStand, AreNumbered, takes_from, level_at, left_level, right_level, begins_choice}
+use Rattle.rec_sex.specs.Expressions.{pattern_in, term_with}
+use Rattle.rec_sex.specs.Patterns.{IsBuiltFrom}
+use Rattle.rec_sex.specs.Parsing.{AreAmong, AreBuiltFrom, Passes, IsTree, Extends, IsBoundAbove, IsFoundTree, MayStand, AreNumbered, takes_from, level_at, left_level, right_level, begins_choice}
 use Rattle.rec_sex.proofs.WalkLemmas.{takes_walked, levels, behind_operator, behind_pattern, operator_is_minus, ends_in_parenthesis, ends_in_else, ends_in_nothing}
 
 -- ---- tokens that are taken one after the other
@@ -46,13 +48,13 @@ numbered_before texts more text patterns e numbered = λ i h.
     let within : i < length more = omega (arith, ap length e, length-append texts (text ∷ [])) in
     let here = numbered i within in
     let same : get_or more i [] ≡ get_or texts i [] = ap (λ x. get_or x i []) e ∙ get_or-append texts (text ∷ []) [] i h in
-    subst (λ x. IsPatternOf x (pattern_at patterns i)) same here
+    subst (λ x. IsPatternOf x (pattern_in (map regex_pattern patterns) i)) same here
 
-numbered_last : (texts more : List (List ℕ)) (text : List ℕ) (patterns : List Regex) → more ≡ texts ++ text ∷ [] → AreNumbered more patterns → IsPatternOf text (pattern_at patterns (length texts))
+numbered_last : (texts more : List (List ℕ)) (text : List ℕ) (patterns : List Regex) → more ≡ texts ++ text ∷ [] → AreNumbered more patterns → IsPatternOf text (pattern_in (map regex_pattern patterns) (length texts))
 numbered_last texts more text patterns e numbered =
     let within : length texts < length more = omega (arith, ap length e, length-append texts (text ∷ [])) in
     let same : get_or more (length texts) [] ≡ text = ap (λ x. get_or x (length texts) []) e ∙ get_or-append_seam texts text [] [] in
-    subst (λ x. IsPatternOf x (pattern_at patterns (length texts))) same (numbered (length texts) within)
+    subst (λ x. IsPatternOf x (pattern_in (map regex_pattern patterns) (length texts))) same (numbered (length texts) within)
 
 abbrev pub Passes-pattern : (text : List ℕ) (tokens rest : List Token) (texts more : List (List ℕ)) → tokens ≡ Literal text ∷ rest → is_utf8 text ≡ true → more ≡ texts ++ text ∷ [] → Passes (Found ∷ tokens) rest texts more
 Passes-pattern text tokens rest texts more e utf8 collected = record {
@@ -64,18 +66,18 @@ Passes-pattern text tokens rest texts more e utf8 collected = record {
       subst (λ x. AreAmong whole x) (sym collected) (among_more whole texts text h here);
 }
 
-numbered_built : (texts : List (List ℕ)) (patterns : List Regex) → AreBuiltFrom texts patterns → (i : ℕ) → i < length texts → (r : Regex) × (slice_get patterns i ≡ Some r) × (regex_source r ≡ get_or texts i []) × (regex_config r ≡ default_config) × IsReadFromSource r
+numbered_built : (texts : List (List ℕ)) (patterns : List Regex) → AreBuiltFrom texts patterns → (i : ℕ) → i < length texts → (r : Regex) × (slice_get patterns i ≡ Some r) × IsBuiltFrom (get_or texts i []) r
 numbered_built [] [] built i h = absurd (omega arith)
 numbered_built [] (pattern ∷ patterns) built i h = absurd built
 numbered_built (text ∷ texts) [] built i h = absurd built
-numbered_built (text ∷ texts) (pattern ∷ patterns) built zero h = (pattern, refl, built.0, built.1, built.2)
-numbered_built (text ∷ texts) (pattern ∷ patterns) built (suc i) h = numbered_built texts patterns built.3 i (omega arith)
+numbered_built (text ∷ texts) (pattern ∷ patterns) built zero h = (pattern, refl, built.0)
+numbered_built (text ∷ texts) (pattern ∷ patterns) built (suc i) h = numbered_built texts patterns built.1 i (omega arith)
 
 pub AreNumbered-built : (texts : List (List ℕ)) (patterns : List Regex) → AreBuiltFrom texts patterns → AreNumbered texts patterns
 AreNumbered-built texts patterns built = λ i h.
     let at = numbered_built texts patterns built i h in
-    let same : regex_pattern at.0 ≡ pattern_at patterns i = sym (ap (λ x. unwrap_or (option_map regex_pattern x) no_pattern) at.1) in
-    (at.0, at.2, at.3, at.4, same)
+    let same : regex_pattern at.0 ≡ pattern_in (map regex_pattern patterns) i = sym (ap (λ x. unwrap_or x no_pattern) (slice_get-map regex_pattern patterns i ∙ ap (option_map regex_pattern) at.1)) in
+    (at.0, at.2.0, at.2.1, at.2.2, same)
 
 -- ---- levels
 
@@ -219,7 +221,7 @@ module _ (tokens middle rest : List Token) (texts more : List (List ℕ)) (left 
   Extends-found may e f =
       let here : Extends (Found ∷ middle) rest texts more left tree = record {
         passes = Passes-pattern f.text middle rest texts more f.parts f.utf8 f.collected;
-        derived = λ patterns numbered front d. rw f.term (by_pattern (front ++ Found ∷ Literal f.text ∷ []) front (term_with patterns left) f.text (pattern_at patterns (length texts)) refl d (numbered_last texts more f.text patterns f.collected numbered));
+        derived = λ patterns numbered front d. rw f.term (by_pattern (front ++ Found ∷ Literal f.text ∷ []) front (term_with patterns left) f.text (pattern_in (map regex_pattern patterns) (length texts)) refl d (numbered_last texts more f.text patterns f.collected numbered));
         goes_on = λ stack taken. (behind_pattern stack f.text rest (rw f.parts at taken) f.utf8).0;
         stops = (behind_pattern may.stack f.text rest (rw (e, f.parts) at may.taken) f.utf8).1;
         shorter = let few : length middle ≡ length rest + 1 = (ap length f.parts ∙ omega arith) in omega arith;

@@ -10,7 +10,7 @@ use Rattle.std.proofs.lemmas.Option.{slice_get-map, slice_get-get_or, slice_get_
 use Rattle.regex.specs.Patterns.{Re, empty}
 use Rattle.regex.proofs.ForCallers.{find_str_complete}
 use Rattle.rec_sex.specs.Meaning.{is_found}
-use Rattle.rec_sex.specs.Choices.{pattern_in}
+use Rattle.rec_sex.specs.Expressions.{pattern_in}
 use Rattle.rec_sex.proofs.OperandLemmas.{is_found-text, is_found-none}
 
 -- an element with the same image in the place of another leaves the images as they were

@@ -9,7 +9,7 @@ use Rattle.rec_text.specs.Elements.{name_of}
 use Rattle.rec_text.specs.Places.{piece_of, pieces_of}
 use Rattle.rec_sex.specs.declared.index_list.Span.{Span}
 use Rattle.rec_sex.specs.Lists.{places_from, occurrences}
-use Rattle.rec_sex.specs.FieldItems.{is_among}
+use Rattle.rec_sex.specs.FieldItems.{is_meant}
 
 -- what an item picks of the places that are left, behind so many occurrences
 abbrev pub left_of : Option Span → ℕ → List ℕ → List ℕ
@@ -39,7 +39,7 @@ window_past : (skip count : ℕ) (places : List ℕ) → count ≡ 0 → drop sk
 window_past skip count places none = ap (λ n. drop skip (take n places)) none ∙ drop-nil skip
 
 -- one more place, which is among those that the item means
-pub left_of-among : (span : Option Span) (seen place : ℕ) (places : List ℕ) → is_among span seen ≡ true → left_of span seen (place ∷ places) ≡ place ∷ left_of span (seen + 1) places
+pub left_of-among : (span : Option Span) (seen place : ℕ) (places : List ℕ) → is_meant span seen ≡ true → left_of span seen (place ∷ places) ≡ place ∷ left_of span (seen + 1) places
 left_of-among None seen place places among = refl
 left_of-among (Some span) seen place places among =
     let parts = and_parts (leb span.first seen) (leb seen span.last) among in
@@ -48,7 +48,7 @@ left_of-among (Some span) seen place places among =
     window_first (span.first - seen) (span.last + 1 - seen) (span.last + 1 - (seen + 1)) (span.first - (seen + 1)) place places (omega arith) (omega arith) (omega arith)
 
 -- one more place, which is not
-pub left_of-other : (span : Option Span) (seen place : ℕ) (places : List ℕ) → is_among span seen ≡ false → left_of span seen (place ∷ places) ≡ left_of span (seen + 1) places
+pub left_of-other : (span : Option Span) (seen place : ℕ) (places : List ℕ) → is_meant span seen ≡ false → left_of span seen (place ∷ places) ≡ left_of span (seen + 1) places
 left_of-other None seen place places other = absurd (cc)
 left_of-other (Some span) seen place places other =
     elim (cases_lt span.last seen) [
@@ -60,7 +60,7 @@ left_of-other (Some span) seen place places other =
             | inl before ↦
                 window_more (span.first - seen) (span.last + 1 - seen) (span.first - (seen + 1)) (span.last + 1 - (seen + 1)) place places (omega arith) (omega arith)
             | inr low ↦
-                let among : is_among (Some span) seen ≡ true = and_from (leb span.first seen) (leb seen span.last) (le-leb span.first seen low) (le-leb seen span.last high) in
+                let among : is_meant (Some span) seen ≡ true = and_from (leb span.first seen) (leb seen span.last) (le-leb span.first seen low) (le-leb seen span.last high) in
                 absurd (let clash : true ≡ false = sym among ∙ other in cc)
           ]
     ]
@@ -98,7 +98,7 @@ picks_on_past whole span name fields picked seen place d within compares on =
     ap (λ places. picked ++ left_of span seen places) (sym (places_from-other place name fields d within compares)) ∙ on
 
 pub picks_on_without : (whole : List ℕ) (span : Option Span) (name : List ℕ) (fields : List Element) (picked : List ℕ) (seen place : ℕ) (d : Element) → place < length fields
-    → Compares (get_or fields place d) name true → is_among span seen ≡ false → PicksOn whole span name fields picked seen place
+    → Compares (get_or fields place d) name true → is_meant span seen ≡ false → PicksOn whole span name fields picked seen place
     → PicksOn whole span name fields picked (seen + 1) (place + 1)
 picks_on_without whole span name fields picked seen place d within compares other on =
     let more = places_from (place + 1) name (pieces_of (drop (place + 1) fields)) in
@@ -107,7 +107,7 @@ picks_on_without whole span name fields picked seen place d within compares othe
     ∙ on
 
 pub picks_on_with : (whole : List ℕ) (span : Option Span) (name : List ℕ) (fields : List Element) (picked : List ℕ) (seen place : ℕ) (d : Element) → place < length fields
-    → Compares (get_or fields place d) name true → is_among span seen ≡ true → PicksOn whole span name fields picked seen place
+    → Compares (get_or fields place d) name true → is_meant span seen ≡ true → PicksOn whole span name fields picked seen place
     → PicksOn whole span name fields (picked ++ place ∷ []) (seen + 1) (place + 1)
 picks_on_with whole span name fields picked seen place d within compares among on =
     let more = places_from (place + 1) name (pieces_of (drop (place + 1) fields)) in

@@ -1,37 +1,31 @@
 -- The walk over the choices finds one that makes the expression true exactly where there is one.
 use Rattle.std.proofs.Common.{◌≡◌, ℕ, ◌+◌, ◌<◌, Bool, List, [], ◌∷◌, ◌++◌, length, take, get_or, map, Option, Some, None, refl, ap, subst, sym, ◌∙◌}
 use Rattle.std.specs.Option.{option_map, option_and_then}
-use Rattle.std.specs.Prelude.{if◌then◌else◌, neg_ℤ, unwrap_or, IsTrue, ◌↔◌}
+use Rattle.std.specs.Prelude.{if◌then◌else◌, neg_ℤ, IsTrue, ◌↔◌}
 use Rattle.std.proofs.lemmas.List.{map_push, take_more}
-use Rattle.std.proofs.lemmas.Option.{slice_get-map}
-use Rattle.regex.specs.Patterns.{Re, empty}
-use Rattle.regex.specs.Strings.{regex_pattern}
-use Rattle.regex.specs.declared.string.regex.Regex.{Regex}
-use Rattle.rec_sex.specs.Expressions.{pattern_at, term_with}
+use Rattle.regex.specs.Patterns.{Re}
+use Rattle.rec_sex.specs.Expressions.{pattern_in, term_under}
 use Rattle.rec_text.specs.Elements.{Piece}
 use Rattle.rec_sex.specs.declared.tree.Tree.{Tree, Integer, Literal, Name, Occurrence, Count, Not', Negate', Binary', Found', Choice'}
 use Rattle.rec_sex.specs.Meaning.{Meaning, Choice_, sem, is_true, is_zero, is_found, text_of, truth, in_range, reading_of, apply_operator, Selects}
-use Rattle.rec_sex.specs.Choices.{chosen_in, pattern_in, term_under, repeated_names, shared_names, any_choice, FindAlike}
+use Rattle.rec_sex.specs.Choices.{chosen_in, repeated_names, shared_names, any_choice, FindAlike}
 use Rattle.rec_sex.specs.Outcomes.{can_hold}
 use Rattle.rec_sex.proofs.CanBeLemmas.{only_choice_selects, walk_selects_tree, selected_by_walk}
 use Rattle.rec_sex.proofs.EntryLemmas.{chosen_in-none}
 
 -- ---- patterns that are found alike
 
-module _ (patterns : List Regex) (alike : List Re) (finds : FindAlike alike (map regex_pattern patterns)) (pieces : List Piece) (c : Choice_) where
+module _ (patterns alike : List Re) (finds : FindAlike alike patterns) (pieces : List Piece) (c : Choice_) where
   abbrev with_patterns : Tree → Option Meaning
-  with_patterns tree = sem (term_with patterns tree) pieces c
+  with_patterns tree = sem (term_under patterns tree) pieces c
 
   abbrev with_alike : Tree → Option Meaning
   with_alike tree = sem (term_under alike tree) pieces c
 
-  finds_at : (i : ℕ) (bytes : List ℕ) → is_found (pattern_in alike i) bytes ≡ is_found (pattern_at patterns i) bytes
-  finds_at i bytes = finds i bytes ∙ ap (λ o. is_found (unwrap_or o empty) bytes) (slice_get-map regex_pattern patterns i)
-
   found_alike : (i : ℕ) (o : Option Meaning)
-      → option_map (λ x. truth (is_found (pattern_in alike i) (text_of x))) o ≡ option_map (λ x. truth (is_found (pattern_at patterns i) (text_of x))) o
+      → option_map (λ x. truth (is_found (pattern_in alike i) (text_of x))) o ≡ option_map (λ x. truth (is_found (pattern_in patterns i) (text_of x))) o
   found_alike i None = refl
-  found_alike i (Some x) = ap (λ b. Some (truth b)) (finds_at i (text_of x))
+  found_alike i (Some x) = ap (λ b. Some (truth b)) (finds i (text_of x))
 
   meaning_alike : (tree : Tree) → with_alike tree ≡ with_patterns tree
   meaning_alike (Integer n) = refl
@@ -44,7 +38,7 @@ module _ (patterns : List Regex) (alike : List Re) (finds : FindAlike alike (map
   meaning_alike (Binary' op p a q b) =
       ap (λ m. option_and_then (λ x. option_and_then (λ y. apply_operator op x y) m) (with_alike a)) (meaning_alike b)
       ∙ ap (λ m. option_and_then (λ x. option_and_then (λ y. apply_operator op x y) (with_patterns b)) m) (meaning_alike a)
-  meaning_alike (Found' p a i) = found_alike i (with_alike a) ∙ ap (λ m. option_map (λ x. truth (is_found (pattern_at patterns i) (text_of x))) m) (meaning_alike a)
+  meaning_alike (Found' p a i) = found_alike i (with_alike a) ∙ ap (λ m. option_map (λ x. truth (is_found (pattern_in patterns i) (text_of x))) m) (meaning_alike a)
   meaning_alike (Choice' p k q a r b) =
       ap (λ m. option_and_then (λ x. option_and_then (λ z. if is_zero z then m else with_alike a) (reading_of x)) (with_alike k)) (meaning_alike b)
       ∙ ap (λ m. option_and_then (λ x. option_and_then (λ z. if is_zero z then with_patterns b else m) (reading_of x)) (with_alike k)) (meaning_alike a)
@@ -67,15 +61,15 @@ module _ (patterns : List Re) (pieces : List Piece) (tree : Tree) (answer : Bool
 pub FindAlike-same : (some other : List Re) → some ≡ other → FindAlike some other
 FindAlike-same some other same i bytes = ap (λ ps. is_found (pattern_in ps i) bytes) same
 
-module _ (tree : Tree) (patterns : List Regex) (alike : List Re) (finds : FindAlike alike (map regex_pattern patterns)) (pieces : List Piece) where
-  with_patterns_selects : Selects (term_under alike tree) pieces → Selects (term_with patterns tree) pieces
+module _ (tree : Tree) (patterns alike : List Re) (finds : FindAlike alike patterns) (pieces : List Piece) where
+  with_patterns_selects : Selects (term_under alike tree) pieces → Selects (term_under patterns tree) pieces
   with_patterns_selects found = record {
     chosen = found.chosen;
     is_choice = found.is_choice;
     holds = ap is_true (sym (meaning_alike patterns alike finds pieces found.chosen tree)) ∙ found.holds;
   }
 
-  with_alike_selects : Selects (term_with patterns tree) pieces → Selects (term_under alike tree) pieces
+  with_alike_selects : Selects (term_under patterns tree) pieces → Selects (term_under alike tree) pieces
   with_alike_selects selects = record {
     chosen = selects.chosen;
     is_choice = selects.is_choice;
@@ -83,7 +77,7 @@ module _ (tree : Tree) (patterns : List Regex) (alike : List Re) (finds : FindAl
   }
 
   -- with matchers of the same patterns
-  pub selects_with : (answer : Bool) (used : List Re) → used ≡ alike → (IsTrue answer ↔ Selects (term_under used tree) pieces) → IsTrue answer ↔ Selects (term_with patterns tree) pieces
+  pub selects_with : (answer : Bool) (used : List Re) → used ≡ alike → (IsTrue answer ↔ Selects (term_under used tree) pieces) → IsTrue answer ↔ Selects (term_under patterns tree) pieces
   selects_with answer used same is =
       let moved : IsTrue answer ↔ Selects (term_under alike tree) pieces = subst (λ ps. IsTrue answer ↔ Selects (term_under ps tree) pieces) same is in
       (λ true_. with_patterns_selects (moved.0 true_), λ selects. moved.1 (with_alike_selects selects))

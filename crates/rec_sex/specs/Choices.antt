@@ -1,15 +1,19 @@
--- Choices and patterns in memory, the expression that a tree stands for with them, and the walk over all choices.
-use Rattle.std.specs.Prelude.{◌≡◌, ℕ, zero, suc, ◌+◌, Bool, false, ◌||◌, ◌&&◌, not, nat_lt, List, [], ◌∷◌, ◌++◌, length, slice_get, unwrap_or, if◌then◌else◌}
+-- Choices of occurrences and matchers in memory, and the walk over all choices.
+use Rattle.std.specs.Prelude.{◌≡◌, ℕ, zero, suc, ◌+◌, Bool, false, ◌||◌, ◌&&◌, not, nat_lt, List, [], ◌∷◌, ◌++◌, length, map, if◌then◌else◌}
+use Rattle.std.specs.Borrow.{Bor}
 use Rattle.std.specs.List.{filter}
 use Rattle.std.specs.Str.{bytes_eq}
-use Rattle.regex.specs.Patterns.{Re, empty}
+use Rattle.regex.specs.Patterns.{Re}
+use Rattle.regex.specs.Strings.{matcher_pattern}
+use Rattle.regex.specs.declared.string.matcher.Matcher.{Matcher}
 use Rattle.rec_text.specs.Elements.{Piece}
 use Rattle.rec_sex.specs.declared.tree.Tree.{Tree, Integer, Literal, Name, Occurrence, Count, Not', Negate', Binary', Found', Choice'}
 use Rattle.rec_sex.specs.declared.occurrences.Chosen.{Chosen}
-use Rattle.rec_sex.specs.Grammar.{Term, number, literal, field, occurrence, count, inverse, negated, binary, found, choice}
+use Rattle.rec_sex.specs.Grammar.{Term}
 use Rattle.rec_sex.specs.declared.sharing.Times.{Times}
 use Rattle.rec_sex.specs.declared.sharing.Times.TheVariants.{Never, Once, Often}
 use Rattle.rec_sex.specs.Meaning.{Choice_, values_of, is_found}
+use Rattle.rec_sex.specs.Expressions.{pattern_in, term_under}
 
 -- ---- expressions under a choice
 
@@ -19,6 +23,9 @@ Entry = List ℕ × ℕ
 
 abbrev pub entry_of : Chosen → Entry
 entry_of chosen = (chosen.name.now, chosen.occurrence)
+
+abbrev pub entries_of : List Chosen → List Entry
+entries_of chosen = map entry_of chosen
 
 -- the occurrence that is chosen for a name; the first one where none is
 abbrev pub chosen_in : List Entry → Choice_
@@ -30,24 +37,19 @@ abbrev pub is_chosen : List Entry → List ℕ → Bool
 is_chosen [] name = false
 is_chosen (entry ∷ entries) name = bytes_eq entry.0 name || is_chosen entries name
 
--- the pattern of a number; the empty one where there is none
-abbrev pub pattern_in : List Re → ℕ → Re
-pattern_in patterns i = unwrap_or (slice_get patterns i) empty
+-- the pattern of each matcher
+abbrev pub patterns_of : List Matcher → List Re
+patterns_of matchers = map matcher_pattern matchers
 
--- the expression that a tree stands for, with these patterns
-abbrev pub term_under : List Re → Tree → Term
-term_under patterns (Integer n) = number n
-term_under patterns (Literal text) = literal text
-term_under patterns (Name name) = field name
-term_under patterns (Occurrence name i) = occurrence name i
-term_under patterns (Count name) = count name
-term_under patterns (Not' p a) = inverse (term_under patterns a)
-term_under patterns (Negate' p a) = negated (term_under patterns a)
-term_under patterns (Binary' op p a q b) = binary op (term_under patterns a) (term_under patterns b)
-term_under patterns (Found' p a i) = found (term_under patterns a) (pattern_in patterns i)
-term_under patterns (Choice' p c q a r b) = choice (term_under patterns c) (term_under patterns a) (term_under patterns b)
+-- the expression that a tree stands for, with these matchers
+abbrev pub term_by : List Matcher → Tree → Term
+term_by matchers tree = term_under (patterns_of matchers) tree
 
 -- ---- the walk over choices
+
+-- the bytes of each name
+abbrev pub texts : List (Bor (List ℕ)) → List (List ℕ)
+texts names = map (λ name. name.now) names
 
 -- the name is among these
 abbrev pub is_among : List ℕ → List (List ℕ) → Bool

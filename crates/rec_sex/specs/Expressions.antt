@@ -1,12 +1,11 @@
--- Expressions in memory, and the texts that they are read from.
-use Rattle.std.specs.Prelude.{◌≡◌, ◌≤◌, ℕ, List, [], ◌∷◌, ◌++◌, length, true, None, slice_get, unwrap_or}
-use Rattle.std.specs.Option.{option_map}
-use Rattle.regex.specs.Patterns.{Re, SameCaptures, empty, default_config}
-use Rattle.std.specs.List.{AllByRecursion}
-use Rattle.std.specs.Str.{is_utf8}
-use Rattle.regex.specs.Strings.{regex_pattern, regex_source, regex_config, IsReadFromSource}
+-- The expression of a tree, and the texts that expressions are read from.
+use Rattle.std.specs.Prelude.{◌≡◌, ◌≤◌, ℕ, List, ◌∷◌, ◌++◌, length, map, Some, None, Result, IsErrOf, slice_get, unwrap_or}
+use Rattle.regex.specs.Patterns.{Re, SameCaptures, empty}
+use Rattle.regex.specs.Strings.{regex_pattern}
 use Rattle.regex.specs.declared.string.regex.Regex.{Regex}
 use Rattle.rec_text.specs.Elements.{Piece}
+use Rattle.rec_text.specs.declared.fault.Fault.{Fault}
+use Rattle.rec_text.specs.declared.fault.Fault.TheVariants.{BadExpression}
 use Rattle.rec_sex.specs.declared.token.Token.{Token}
 use Rattle.rec_sex.specs.declared.token.Token.TheVariants.{Literal, Found}
 use Rattle.rec_sex.specs.declared.tree.Tree.{Tree, Integer, Literal as LiteralTree, Name, Occurrence, Count, Not', Negate', Binary', Found', Choice'}
@@ -16,22 +15,26 @@ use Rattle.rec_sex.specs.Patterns.{PatternMayBeRefused}
 use Rattle.rec_sex.specs.Meaning.{Selects}
 use Rattle.rec_sex.specs.Grammar.{Term, Derives, AreTokens, fault_of, number, literal, field, occurrence, count, inverse, negated, binary, found, choice}
 
--- the pattern of a number
-abbrev pub pattern_at : List Regex → ℕ → Re
-pattern_at patterns i = unwrap_or (option_map regex_pattern (slice_get patterns i)) empty
+-- the pattern of a number; the empty one where there is none
+abbrev pub pattern_in : List Re → ℕ → Re
+pattern_in patterns i = unwrap_or (slice_get patterns i) empty
 
 -- the expression that a tree stands for, with these patterns
+abbrev pub term_under : List Re → Tree → Term
+term_under patterns (Integer n) = number n
+term_under patterns (LiteralTree text) = literal text
+term_under patterns (Name name) = field name
+term_under patterns (Occurrence name i) = occurrence name i
+term_under patterns (Count name) = count name
+term_under patterns (Not' p a) = inverse (term_under patterns a)
+term_under patterns (Negate' p a) = negated (term_under patterns a)
+term_under patterns (Binary' op p a q b) = binary op (term_under patterns a) (term_under patterns b)
+term_under patterns (Found' p a i) = found (term_under patterns a) (pattern_in patterns i)
+term_under patterns (Choice' p c q a r b) = choice (term_under patterns c) (term_under patterns a) (term_under patterns b)
+
+-- the same, with the patterns as they stand in memory
 abbrev pub term_with : List Regex → Tree → Term
-term_with patterns (Integer n) = number n
-term_with patterns (LiteralTree text) = literal text
-term_with patterns (Name name) = field name
-term_with patterns (Occurrence name i) = occurrence name i
-term_with patterns (Count name) = count name
-term_with patterns (Not' p a) = inverse (term_with patterns a)
-term_with patterns (Negate' p a) = negated (term_with patterns a)
-term_with patterns (Binary' op p a q b) = binary op (term_with patterns a) (term_with patterns b)
-term_with patterns (Found' p a i) = found (term_with patterns a) (pattern_at patterns i)
-term_with patterns (Choice' p c q a r b) = choice (term_with patterns c) (term_with patterns a) (term_with patterns b)
+term_with patterns tree = term_under (map regex_pattern patterns) tree
 
 abbrev pub term_of : Expr → Term
 term_of e = term_with e.patterns.items e.tree
@@ -58,6 +61,14 @@ pub record OneExpression : Type 0 where
   pub selects : (text : List ℕ) (one other : Term) (pieces : List Piece) → IsExpression text one → IsExpression text other → Selects one pieces → Selects other pieces
   pub faultless : (text : List ℕ) (term : Term) → IsExpression text term → fault_of text ≡ None
 
+-- the place of an expression's fault is refused
+abbrev pub IsBadExpression : Fault → Type 0
+IsBadExpression fault = (place : ℕ) × (fault ≡ BadExpression place)
+
+-- a place that is refused is that of the leftmost fault
+abbrev pub RefusesItsFault : {X : Type 0} → List ℕ → Result X Fault → Type 0
+RefusesItsFault text result = (place : ℕ) → IsErrOf result (BadExpression place) → fault_of text ≡ Some place
+
 -- the text behind some `~` is one that `regex` may refuse as a pattern, for another cause than memory
 pub record ExpressionMayBeRefused (text : List ℕ) : Type 0 where
   pub tokens : List Token
@@ -67,14 +78,3 @@ pub record ExpressionMayBeRefused (text : List ℕ) : Type 0 where
   pub rest : List Token
   pub parts : tokens ≡ front ++ Found ∷ (Literal pattern ∷ rest)
   pub refused : PatternMayBeRefused pattern
-
--- the patterns are built from these texts, one by one
-abbrev pub AreBuiltFrom : List (List ℕ) → List Regex → Type 0
-AreBuiltFrom [] [] = Unit {0}
-AreBuiltFrom (text ∷ texts) (pattern ∷ patterns) = (regex_source pattern ≡ text) × (regex_config pattern ≡ default_config) × IsReadFromSource pattern × AreBuiltFrom texts patterns
-AreBuiltFrom [] (pattern ∷ patterns) = ⊥
-AreBuiltFrom (text ∷ texts) [] = ⊥
-
--- each of the texts stands behind a `~`
-abbrev pub AreAmong : List Token → List (List ℕ) → Type 0
-AreAmong tokens texts = AllByRecursion (λ text. (front rest : List Token) × (tokens ≡ front ++ Found ∷ (Literal text ∷ rest)) × (is_utf8 text ≡ true)) texts

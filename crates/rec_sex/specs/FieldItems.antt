@@ -23,6 +23,6 @@ abbrev pub BeginsItem : List ℕ → Item → List ℕ → Type 0
 BeginsItem text item rest = BeginsWhole IsItem text item rest
 
 -- an occurrence is among these; where none are named, each is
-abbrev pub is_among : Option Span → ℕ → Bool
-is_among None i = true
-is_among (Some span) i = nat_le span.first i && nat_le i span.last
+abbrev pub is_meant : Option Span → ℕ → Bool
+is_meant None i = true
+is_meant (Some span) i = nat_le span.first i && nat_le i span.last

@@ -8,6 +8,13 @@ use Rattle.rec_sex.specs.declared.token.Operator.{Operator}
 use Rattle.rec_sex.specs.declared.token.Operator.TheVariants.{Equal, NotEqual, Less, Greater, LessOrEqual, GreaterOrEqual, Join, Add, Subtract, Multiply, Divide, Remainder, And, Or, Implies}
 use Rattle.rec_sex.specs.declared.token.Token.{Token}
 use Rattle.rec_sex.specs.declared.token.Token.TheVariants.{Integer, Literal, Name, Occurrence, Count, Not, Binary, Found, Open, Close, Then, Else}
+-- what comes next: an operand; a binary operator or an end; the same without those that bind more strongly than a
+-- comparison; a pattern
+pub use Rattle.rec_sex.specs.declared.walk.Want.{Want}
+pub use Rattle.rec_sex.specs.declared.walk.Want.TheVariants.{Operand, Operator as Operator_, Comparison, Pattern}
+-- what is open: a parenthesis, or a `?` without its `:`
+pub use Rattle.rec_sex.specs.declared.walk.Opened.{Opened}
+pub use Rattle.rec_sex.specs.declared.walk.Opened.TheVariants.{Parenthesis, Question}
 use Rattle.rec_sex.specs.Tokens.{Whole, Broken, Placed, lexemes}
 
 -- ---- the grammar
@@ -75,19 +82,6 @@ pub data Derives : ℕ → List Token → Term → Type 0 where
   by_parentheses : (tokens inner : List Token) (a : Term) → tokens ≡ Open ∷ (inner ++ Close ∷ []) → Derives 0 inner a → Derives 9 tokens a
 
 -- ---- the walk that finds the leftmost fault
-
--- what comes next: an operand; a binary operator or an end; the same without those that bind more strongly than a
--- comparison; a pattern
-pub data Want : Type 0 where
-  Operand : Want
-  Operator_ : Want
-  Comparison : Want
-  Pattern : Want
-
--- what is open: a parenthesis, or a `?` without its `:`
-pub data Opened : Type 0 where
-  Parenthesis : Opened
-  Question : Opened
 
 -- where the walk stands
 pub record Walk : Type 0 where

@@ -1,11 +1,11 @@
 -- A table of where the items of a list start.
-use Rattle.std.specs.Prelude.{◌≡◌, ℕ, Bool, true, List, [], Option, None, Some}
+use Rattle.std.specs.Prelude.{◌≡◌, ℕ, Bool, true, ◌||◌, List, [], ◌∷◌, ◌++◌, if◌then◌else◌, Option, None, Some}
 use Rattle.std.specs.Bool.{nat_eq}
 use Rattle.std.specs.BTreeMap.{is_at}
 use Rattle.std.specs.Borrow.{Bor}
 use Rattle.std.specs.Global.{Vec}
 use Rattle.std.specs.HashMap.{HashMap, get_by}
-use Rattle.std.specs.List.{list_any, slice_get}
+use Rattle.std.specs.List.{list_any, flat_map, slice_get}
 use Rattle.std.specs.Option.{option_map_or}
 use Rattle.std.specs.Ordering.{nat_cmp}
 use Rattle.std.specs.Str.{bytes_eq}
@@ -19,6 +19,10 @@ use Rattle.rec_sex.specs.NamePlaces.{places_in}
 abbrev pub has_index : List ℕ → ℕ → Bool
 has_index indexes i = list_any (is_at (nat_cmp i)) indexes
 
+-- these are the indexes of both others
+abbrev pub HasBoth : List ℕ → List ℕ → List ℕ → Type 0
+HasBoth both some others = (i : ℕ) → has_index both i ≡ (has_index some i || has_index others i)
+
 -- the first occurrence that an item means
 abbrev pub first_of : Option Span → ℕ
 first_of None = 0
@@ -28,6 +32,11 @@ first_of (Some span) = span.first
 abbrev pub indexes_at : {T : Type 0} → HashMap ℕ (Vec ℕ) T → ℕ → List ℕ
 indexes_at starts occurrence = option_map_or (λ indexes. indexes.items) (get_by (nat_eq occurrence) starts) []
 
+-- one index more at the occurrence, after those that are there, and the same at all others
+abbrev pub AddsIndex : {T : Type 0} → HashMap ℕ (Vec ℕ) T → HashMap ℕ (Vec ℕ) T → ℕ → ℕ → Type 0
+AddsIndex before after occurrence index =
+    (at : ℕ) → indexes_at after at ≡ (if nat_eq occurrence at then indexes_at before at ++ index ∷ [] else indexes_at before at)
+
 module _ {S T : Type 0} where
   -- what the table has for a name, if it has the name
   abbrev pub starts_in : HashMap (Vec ℕ) (HashMap ℕ (Vec ℕ) T) S → List ℕ → Option (HashMap ℕ (Vec ℕ) T)
@@ -36,6 +45,12 @@ module _ {S T : Type 0} where
   -- the indexes that the table has for an occurrence of a name
   abbrev pub indexes_in : HashMap (Vec ℕ) (HashMap ℕ (Vec ℕ) T) S → List ℕ → ℕ → List ℕ
   indexes_in table name occurrence = option_map_or (λ starts. indexes_at starts occurrence) (starts_in table name) []
+
+  -- one index more for the name at the occurrence, and the same for all others
+  abbrev pub AddsStart : HashMap (Vec ℕ) (HashMap ℕ (Vec ℕ) T) S → HashMap (Vec ℕ) (HashMap ℕ (Vec ℕ) T) S → List ℕ → ℕ → ℕ → Type 0
+  AddsStart before after name occurrence index = (other : List ℕ) (at : ℕ) → indexes_in after other at
+      ≡ (if bytes_eq name other then (if nat_eq occurrence at then indexes_in before other at ++ index ∷ [] else indexes_in before other at)
+      else indexes_in before other at)
 
   -- for the name and the first occurrence of each item the table has the item's index; it may have more
   abbrev pub Covers : HashMap (Vec ℕ) (HashMap ℕ (Vec ℕ) T) S → List Item → Type 0
@@ -58,3 +73,7 @@ picked_at pick items i = option_map_or pick (slice_get items i) []
 -- what an item picks, by the table of places
 abbrev pub meant_of : {S : Type 0} → HashMap (Bor (List ℕ)) (Vec ℕ) S → Item → List ℕ
 meant_of table item = occurrences item.occurrences (places_in table item.name)
+
+-- what the items at these indexes pick, by the table of places
+abbrev pub all_meant : {S : Type 0} → HashMap (Bor (List ℕ)) (Vec ℕ) S → List Item → List ℕ → List ℕ
+all_meant table items indexes = flat_map (picked_at (meant_of table) items) indexes

@@ -1,22 +1,10 @@
 -- What the values of the code that reads tokens stand for.
-use Rattle.std.specs.Prelude.{ℕ, ◌==◌, ◌||◌, ◌&&◌, Bool, true, false, nat_lt, List, [], ◌∷◌, Option, Some, None, length, map, reverse, if◌then◌else◌, ◌≡◌, take_while}
+use Rattle.std.specs.Prelude.{ℕ, ◌==◌, ◌||◌, ◌&&◌, Bool, true, false, nat_lt, List, [], ◌∷◌, Option, Some, None, length, reverse, if◌then◌else◌, ◌≡◌, take_while}
 use Rattle.std.specs.Char.{is_ascii_digit}
 use Rattle.rec_sex.specs.declared.token.Token.{Token}
-use Rattle.rec_sex.specs.declared.lexeme.Lexeme.{Lexeme as ReadLexeme}
-use Rattle.rec_sex.specs.declared.lexeme.Lexeme.TheVariants.{Whole as read_whole, Broken as read_broken}
-use Rattle.rec_sex.specs.declared.walk.Want.{Want as NextWant}
-use Rattle.rec_sex.specs.declared.walk.Want.TheVariants.{Operand as next_operand, Operator as next_operator, Comparison as next_comparison, Pattern as next_pattern}
-use Rattle.rec_sex.specs.declared.walk.Opened.{Opened as LastOpened}
-use Rattle.rec_sex.specs.declared.walk.Opened.TheVariants.{Parenthesis as last_parenthesis, Question as last_question}
 use Rattle.rec_sex.specs.declared.walk.Walk.{Walk as TakenWalk}
 use Rattle.rec_sex.specs.IndexList.{value_of, greatest}
-use Rattle.rec_sex.specs.Tokens.{Lexeme, Whole, Broken}
-use Rattle.rec_sex.specs.Grammar.{Want, Operand, Operator_, Comparison, Pattern, Opened, Parenthesis, Question, Walk, behind}
-
--- what was read, as a lexeme
-abbrev pub lexeme_of : ReadLexeme → Lexeme
-lexeme_of (read_whole token len) = Whole token len
-lexeme_of (read_broken at) = Broken at
+use Rattle.rec_sex.specs.Grammar.{Want, Opened, Parenthesis, Question, Walk, behind}
 
 -- the index that all digits write which come first, and their number; none where there is no digit, or it is too large
 abbrev pub index_at : List ℕ → Option (ℕ × ℕ)
@@ -30,18 +18,6 @@ literal_byte [] = (0, 1)
 literal_byte (b ∷ []) = (b, 1)
 literal_byte (b ∷ c ∷ bs) = if b == 92 && (c == 39 || c == 34) then (c, 2) else (b, 1)
 
--- what the walk wants
-abbrev pub want_of : NextWant → Want
-want_of next_operand = Operand
-want_of next_operator = Operator_
-want_of next_comparison = Comparison
-want_of next_pattern = Pattern
-
--- what is open
-abbrev pub opened_of : LastOpened → Opened
-opened_of last_parenthesis = Parenthesis
-opened_of last_question = Question
-
 -- the two are the same
 abbrev pub is_opened : Opened → Opened → Bool
 is_opened Parenthesis Parenthesis = true
@@ -49,17 +25,17 @@ is_opened Question Question = true
 is_opened _ _ = false
 
 -- what was opened last comes first
-abbrev pub stack_of : List LastOpened → List Opened
-stack_of opened = reverse (map opened_of opened)
+abbrev pub stack_of : List Opened → List Opened
+stack_of opened = reverse opened
 
 -- where the walk stands
 abbrev pub walk_of : TakenWalk → Walk
-walk_of walk = record { want = want_of walk.want; stack = stack_of walk.stack.items }
+walk_of walk = record { want = walk.want; stack = stack_of walk.stack.items }
 
 -- the walk that goes on with this stack, if something is wanted
-abbrev pub next_of : Option NextWant → List LastOpened → Option Walk
+abbrev pub next_of : Option Want → List Opened → Option Walk
 next_of None opened = None
-next_of (Some want) opened = Some (record { want = want_of want; stack = stack_of opened })
+next_of (Some want) opened = Some (record { want = want; stack = stack_of opened })
 
 -- whether the walk takes a token, and how it stands then
 abbrev pub IsStep : Walk → Token → Bool → Walk → Type 0

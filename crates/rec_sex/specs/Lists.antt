@@ -77,6 +77,10 @@ abbrev pub occurrences : Option Span → List ℕ → List ℕ
 occurrences None places = places
 occurrences (Some span) places = drop span.first (take (span.last + 1) places)
 
--- for each item in order the places of its occurrences, in record order
+-- the places of an item's occurrences, in record order
+abbrev pub picked_by : Item → List Piece → List ℕ
+picked_by item fields = occurrences item.occurrences (places_from 0 item.name fields)
+
+-- those of each item in order
 abbrev pub picks : List Item → List Piece → List ℕ
-picks items fields = flat_map (λ item. occurrences item.occurrences (places_from 0 item.name fields)) items
+picks items fields = flat_map (λ item. picked_by item fields) items

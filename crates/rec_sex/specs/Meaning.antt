@@ -88,6 +88,16 @@ apply_operator And a b = on_readings (λ x y. Some (truth (not (is_zero x) && no
 apply_operator Or a b = on_readings (λ x y. Some (truth (not (is_zero x) || not (is_zero y)))) a b
 apply_operator Implies a b = on_readings (λ x y. Some (truth (is_zero x || not (is_zero y)))) a b
 
+-- an operator, `!` and `-` on what may be undefined
+abbrev pub applied : Operator → Option Meaning → Option Meaning → Option Meaning
+applied op a b = option_and_then (λ x. option_and_then (λ y. apply_operator op x y) b) a
+
+abbrev pub inverted : Option Meaning → Option Meaning
+inverted a = option_and_then (λ x. option_map (λ z. truth (is_zero z)) (reading_of x)) a
+
+abbrev pub negation_of : Option Meaning → Option Meaning
+negation_of a = option_and_then (λ x. option_and_then (λ z. in_range (neg_ℤ z)) (reading_of x)) a
+
 -- the pattern is found in a text that is UTF-8
 abbrev pub is_found : Re → List ℕ → Bool
 is_found pattern bytes = is_utf8 bytes && is_some (find_str pattern bytes 0)
@@ -105,9 +115,9 @@ sem (literal bytes) pieces c = Some (text bytes)
 sem (field name) pieces c = Some (text (value_at pieces name (c name)))
 sem (occurrence name i) pieces c = Some (text (value_at pieces name i))
 sem (count name) pieces c = Some (integer (pos (length (values_of name pieces))))
-sem (inverse a) pieces c = option_and_then (λ x. option_map (λ z. truth (is_zero z)) (reading_of x)) (sem a pieces c)
-sem (negated a) pieces c = option_and_then (λ x. option_and_then (λ z. in_range (neg_ℤ z)) (reading_of x)) (sem a pieces c)
-sem (binary op a b) pieces c = option_and_then (λ x. option_and_then (λ y. apply_operator op x y) (sem b pieces c)) (sem a pieces c)
+sem (inverse a) pieces c = inverted (sem a pieces c)
+sem (negated a) pieces c = negation_of (sem a pieces c)
+sem (binary op a b) pieces c = applied op (sem a pieces c) (sem b pieces c)
 sem (found a pattern) pieces c = option_map (λ x. truth (is_found pattern (text_of x))) (sem a pieces c)
 sem (choice condition a b) pieces c = option_and_then (λ x. option_and_then (λ z. if is_zero z then sem b pieces c else sem a pieces c) (reading_of x)) (sem condition pieces c)
 

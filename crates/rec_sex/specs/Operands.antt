@@ -1,17 +1,25 @@
 -- Operands in memory, and the operators that work on their readings.
-use Rattle.std.specs.Prelude.{ℤ, pos, ◌+ℤ◌, ◌-ℤ◌, ◌*ℤ◌, Bool, ◌||◌, ◌&&◌, not, Option, Some, None, if◌then◌else◌, int_lt, int_div, int_rem}
-use Rattle.std.specs.Option.{option_and_then}
+use Rattle.std.specs.Prelude.{ℕ, ℤ, pos, ◌+ℤ◌, ◌-ℤ◌, ◌*ℤ◌, Bool, ◌||◌, ◌&&◌, not, List, Option, Some, None, if◌then◌else◌, int_lt, int_div, int_rem}
+use Rattle.std.specs.Option.{option_map, option_and_then}
 use Rattle.rec_text.specs.Values.{bytes_of}
 use Rattle.rec_sex.specs.declared.token.Operator.{Operator}
 use Rattle.rec_sex.specs.declared.token.Operator.TheVariants.{Equal, NotEqual, Less, Greater, LessOrEqual, GreaterOrEqual, Join, Add, Subtract, Multiply, Divide, Remainder, And, Or, Implies}
 use Rattle.rec_sex.specs.declared.operand.Operand.{Operand}
 use Rattle.rec_sex.specs.declared.operand.Operand.TheVariants.{Integer, Text}
-use Rattle.rec_sex.specs.Meaning.{Meaning, integer, text, fits, is_zero, reading_of}
+use Rattle.rec_sex.specs.Meaning.{Meaning, integer, text, fits, is_zero, reading_of, text_of}
 
 -- what an operand means
 abbrev pub meaning_of : Operand → Meaning
 meaning_of (Integer z) = integer z
 meaning_of (Text value) = text (bytes_of value)
+
+-- what an operand means, if there is one
+abbrev pub meaning_in : Option Operand → Option Meaning
+meaning_in operand = option_map meaning_of operand
+
+-- the text of an operand
+abbrev pub text_in : Operand → List ℕ
+text_in operand = text_of (meaning_of operand)
 
 -- the integer, if it has 64 bits
 abbrev pub fitting : ℤ → Option ℤ

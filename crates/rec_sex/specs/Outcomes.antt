@@ -11,7 +11,8 @@ use Rattle.rec_sex.specs.declared.outcomes.Outcomes.{Outcomes}
 use Rattle.rec_sex.specs.declared.tree.Tree.{Tree, Not', Binary', Choice'}
 use Rattle.rec_sex.specs.Grammar.{Term}
 use Rattle.rec_sex.specs.Meaning.{Meaning, Choice_, IsChoice, values_of, sem, is_zero, reading_of}
-use Rattle.rec_sex.specs.Choices.{Entry, chosen_in, is_chosen, term_under, repeated_names}
+use Rattle.rec_sex.specs.Choices.{Entry, chosen_in, is_chosen, repeated_names}
+use Rattle.rec_sex.specs.Expressions.{term_under}
 
 -- ---- conditions
 

@@ -1,12 +1,16 @@
--- What a parser takes of the tokens, and the trees that it builds of them.
-use Rattle.std.specs.Prelude.{◌≡◌, ℕ, ◌+◌, ◌<◌, ◌≤◌, Bool, true, false, List, [], ◌∷◌, ◌++◌, length, Some, None, slice_index_or, if◌then◌else◌, ◌==◌}
+-- The patterns that a parser collects, what it takes of the tokens, and the trees that it builds of them.
+use Rattle.std.specs.Prelude.{◌≡◌, ℕ, ◌+◌, ◌<◌, ◌≤◌, Bool, true, false, List, [], ◌∷◌, ◌++◌, length, map, Some, None, slice_index_or, if◌then◌else◌, ◌==◌}
+use Rattle.std.specs.List.{AllByRecursion}
 use Rattle.std.specs.Str.{is_utf8}
+use Rattle.regex.specs.Strings.{regex_pattern}
 use Rattle.regex.specs.declared.string.regex.Regex.{Regex}
 use Rattle.rec_sex.specs.declared.token.Token.{Token}
 use Rattle.rec_sex.specs.declared.token.Token.TheVariants.{Literal, Binary, Found, Then}
 use Rattle.rec_sex.specs.declared.tree.Tree.{Tree}
+use Rattle.rec_sex.specs.declared.parser.Parser.{Parser}
 use Rattle.rec_sex.specs.Grammar.{Walk, Want, Opened, Operand, Operator_, behind, may_end, level_of, Derives, IsPatternOf, found}
-use Rattle.rec_sex.specs.Expressions.{term_with, pattern_at, AreAmong}
+use Rattle.rec_sex.specs.Expressions.{pattern_in, term_with}
+use Rattle.rec_sex.specs.Patterns.{IsBuiltFrom}
 
 -- ---- where the walk stands
 
@@ -48,9 +52,20 @@ begins_choice (_ ∷ rest) = false
 
 -- ---- trees
 
+-- the patterns are built from these texts, one by one
+abbrev pub AreBuiltFrom : List (List ℕ) → List Regex → Type 0
+AreBuiltFrom [] [] = Unit {0}
+AreBuiltFrom (text ∷ texts) (pattern ∷ patterns) = IsBuiltFrom text pattern × AreBuiltFrom texts patterns
+AreBuiltFrom [] (pattern ∷ patterns) = ⊥
+AreBuiltFrom (text ∷ texts) [] = ⊥
+
+-- each of the texts stands after a `~`
+abbrev pub AreAmong : List Token → List (List ℕ) → Type 0
+AreAmong tokens texts = AllByRecursion (λ text. (front rest : List Token) × (tokens ≡ front ++ Found ∷ (Literal text ∷ rest)) × (is_utf8 text ≡ true)) texts
+
 -- each text's pattern has the text's number
 abbrev pub AreNumbered : List (List ℕ) → List Regex → Type 0
-AreNumbered texts patterns = (i : ℕ) → i < length texts → IsPatternOf (slice_index_or texts i []) (pattern_at patterns i)
+AreNumbered texts patterns = (i : ℕ) → i < length texts → IsPatternOf (slice_index_or texts i []) (pattern_in (map regex_pattern patterns) i)
 
 -- the tokens up to the rest are taken, and the texts of their patterns stand behind those of before
 pub record Passes (tokens rest : List Token) (texts more : List (List ℕ)) : Type 0 where
@@ -80,7 +95,7 @@ pub record IsFoundTree (tokens rest : List Token) (texts more : List (List ℕ))
   pub parts : tokens ≡ Literal text ∷ rest
   pub utf8 : is_utf8 text ≡ true
   pub collected : more ≡ texts ++ text ∷ []
-  pub term : (patterns : List Regex) → term_with patterns tree ≡ found (term_with patterns operand) (pattern_at patterns (length texts))
+  pub term : (patterns : List Regex) → term_with patterns tree ≡ found (term_with patterns operand) (pattern_in (map regex_pattern patterns) (length texts))
 
 -- the tree is that of the tokens up to the rest, some level at least this strong, and no stronger operator follows
 pub record IsBoundAbove (level : ℕ) (tokens rest : List Token) (texts more : List (List ℕ)) (tree : Tree) : Type 0 where
@@ -89,3 +104,17 @@ pub record IsBoundAbove (level : ℕ) (tokens rest : List Token) (texts more : L
   pub high : bound ≤ 8
   pub is_tree : IsTree bound tokens rest texts more tree
   pub stops : level_at rest < right_level bound
+
+-- ---- the same between two states of the parser
+
+-- it takes the tokens of an expression of this level, and the tree is that expression's
+abbrev pub Reads : ℕ → Parser → Parser → Tree → Type 0
+Reads level before after tree = IsTree level before.rest.items after.rest.items before.patterns.items after.patterns.items tree
+
+-- it takes an operator and its right operand, and the tree is that of both operands
+abbrev pub ReadsMore : Parser → Parser → Tree → Tree → Type 0
+ReadsMore before after left tree = Extends before.rest.items after.rest.items before.patterns.items after.patterns.items left tree
+
+-- it takes a pattern, and the tree looks for it
+abbrev pub ReadsPattern : Parser → Parser → Tree → Tree → Type 0
+ReadsPattern before after operand tree = IsFoundTree before.rest.items after.rest.items before.patterns.items after.patterns.items operand tree

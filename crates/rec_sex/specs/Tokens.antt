@@ -7,15 +7,13 @@ use Rattle.rec_text.specs.Bytes.{is_space, is_letter, continues_name}
 use Rattle.rec_sex.specs.declared.token.Operator.TheVariants.{Equal, NotEqual, Less, Greater, LessOrEqual, GreaterOrEqual, Join, Add, Subtract, Multiply, Divide, Remainder, And, Or, Implies}
 use Rattle.rec_sex.specs.declared.token.Token.{Token}
 use Rattle.rec_sex.specs.declared.token.Token.TheVariants.{Integer, Literal, Name, Occurrence, Count, Not, Binary, Found, Open, Close, Then, Else, Unused}
+-- a token and its length in bytes; or a fault, at this offset where an operand is wanted, and at the first byte elsewhere
+pub use Rattle.rec_sex.specs.declared.lexeme.Lexeme.{Lexeme}
+pub use Rattle.rec_sex.specs.declared.lexeme.Lexeme.TheVariants.{Whole, Broken}
 use Rattle.rec_sex.specs.IndexList.{value_of, greatest}
 use Rattle.rec_sex.specs.Integers.{magnitude_of}
 
 -- ---- one token
-
--- A token of so many bytes; or a fault, at this offset where an operand is wanted, and at the first byte elsewhere.
-pub data Lexeme : Type 0 where
-  Whole : Token → ℕ → Lexeme
-  Broken : ℕ → Lexeme
 
 -- one byte more
 abbrev pub with_byte : ℕ → Option (List ℕ × ℕ) → Option (List ℕ × ℕ)

@@ -1,9 +1,8 @@
 //! The choices of occurrences that an expression has for a record, and whether it holds under one.
-ghost use Rattle.std.specs.Prelude.{◌≡◌, ◌↔◌, ◌<◌, map, length, nat_lt, IsTrue, IfOk, IfErr};
-ghost use Rattle.regex.specs.Strings.{matcher_pattern};
+ghost use Rattle.std.specs.Prelude.{◌≡◌, ◌↔◌, length, nat_lt, IsTrue, IfOk, IsOkUnless, OnOk};
 ghost use Rattle.rec_text.specs.Places.{pieces_of};
 ghost use Rattle.rec_sex.specs.Meaning.{values_of, Selects};
-ghost use Rattle.rec_sex.specs.Choices.{entry_of, is_among, is_chosen, with_repeated, repeated_names, term_under, any_choice};
+ghost use Rattle.rec_sex.specs.Choices.{is_among, is_chosen, with_repeated, repeated_names, any_choice, entries_of, patterns_of, term_by, texts};
 ghost use Rattle.rec_sex.specs.Outcomes.{can_hold};
 
 use crate::conditions::outcomes_of;
@@ -18,7 +17,7 @@ use regex::Matcher;
 use std::alloc::Global;
 
 fn is_among(name: &[u8], names: &[&[u8]]) -> bool
-    ensures { result ≡ is_among name.now (map (λ one. one.now) names.now) }
+    ensures { result ≡ is_among name.now (texts names.now) }
 {
     for one in names {
         if *one == name {
@@ -37,7 +36,7 @@ fn is_repeated(fields: &Fields<'_, '_>, name: &[u8]) -> bool
 
 /// Whether an occurrence is chosen for a name.
 fn is_chosen(chosen: &[Chosen<'_>], name: &[u8]) -> bool
-    ensures { result ≡ is_chosen (map entry_of chosen.now) name.now }
+    ensures { result ≡ is_chosen (entries_of chosen.now) name.now }
 {
     for entry in chosen {
         if entry.name == name {
@@ -54,8 +53,9 @@ fn add_repeated<'e>(
     names: &mut Vec<&'e [u8]>,
     name: &'e [u8],
 ) -> Result<(), Fault>
-    ensures names { IfOk result (λ _. map (λ one. one.now) names.new.items ≡ with_repeated fields.now (map entry_of chosen.now) (map (λ one. one.now) names.old.items) name.now) }
-    ensures refusals { IfErr result (λ fault. fault ≡ Fault.OutOfMemory) }
+    ensures names { OnOk result (texts names.new.items ≡
+        with_repeated fields.now (entries_of chosen.now) (texts names.old.items) name.now) }
+    ensures refusals { IsOkUnless result Fault.OutOfMemory }
 {
     if is_repeated(fields, name) && !is_chosen(chosen, name) && !is_among(name, names) {
         names.push(name)?;
@@ -70,8 +70,9 @@ pub(crate) fn add_repeated_names<'e>(
     names: &mut Vec<&'e [u8]>,
     tree: &'e Tree,
 ) -> Result<(), Fault>
-    ensures names { IfOk result (λ _. map (λ one. one.now) names.new.items ≡ repeated_names fields.now (map entry_of chosen.now) (map (λ one. one.now) names.old.items) tree.now) }
-    ensures refusals { IfErr result (λ fault. fault ≡ Fault.OutOfMemory) }
+    ensures names { OnOk result (texts names.new.items ≡
+        repeated_names fields.now (entries_of chosen.now) (texts names.old.items) tree.now) }
+    ensures refusals { IsOkUnless result Fault.OutOfMemory }
 {
     match tree {
         Tree::Integer(_) | Tree::Literal(_) | Tree::Occurrence(..) | Tree::Count(_) => Ok(()),
@@ -100,10 +101,12 @@ fn has_choice<'v>(
     chosen: &mut Vec<Chosen<'v>>,
     matchers: &mut [Matcher<'_>],
 ) -> Result<bool, Fault>
-    ensures answer { IfOk result (λ answer. answer ≡ any_choice (can_hold (map matcher_pattern matchers.old) fields.now tree.now) fields.now (map (λ one. one.now) names.now) (map entry_of chosen.old.items)) }
-    ensures chosen { IfOk result (λ _. map entry_of chosen.new.items ≡ map entry_of chosen.old.items) }
-    ensures same { map matcher_pattern matchers.new ≡ map matcher_pattern matchers.old }
-    ensures refusals { IfErr result (λ fault. fault ≡ Fault.OutOfMemory) }
+    ensures answer { IfOk result (λ answer. answer ≡
+        any_choice (can_hold (patterns_of matchers.old) fields.now tree.now) fields.now
+        (texts names.now) (entries_of chosen.old.items)) }
+    ensures chosen { OnOk result (entries_of chosen.new.items ≡ entries_of chosen.old.items) }
+    ensures same { patterns_of matchers.new ≡ patterns_of matchers.old }
+    ensures refusals { IsOkUnless result Fault.OutOfMemory }
 {
     let [name, rest @ ..] = names else {
         let outcomes = outcomes_of(alloc, tree, fields, chosen, matchers)?;
@@ -127,9 +130,10 @@ pub(crate) fn holds<'v>(
     elements: &[Element<'v>],
     matchers: &mut [Matcher<'_>],
 ) -> Result<bool, Fault>
-    ensures answer { IfOk result (λ answer. IsTrue answer ↔ Selects (term_under (map matcher_pattern matchers.old) tree.now) (pieces_of elements.now)) }
-    ensures same { map matcher_pattern matchers.new ≡ map matcher_pattern matchers.old }
-    ensures refusals { IfErr result (λ fault. fault ≡ Fault.OutOfMemory) }
+    ensures answer { IfOk result (λ answer. IsTrue answer ↔
+        Selects (term_by matchers.old tree.now) (pieces_of elements.now)) }
+    ensures same { patterns_of matchers.new ≡ patterns_of matchers.old }
+    ensures refusals { IsOkUnless result Fault.OutOfMemory }
 {
     let fields = Fields::of(elements);
     let mut names = Vec::new(alloc);

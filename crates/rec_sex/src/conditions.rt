@@ -1,8 +1,7 @@
 //! What a condition can be for a record, over all choices of occurrences.
-ghost use Rattle.std.specs.Prelude.{◌≡◌, map, IfOk, IfErr};
-ghost use Rattle.regex.specs.Strings.{matcher_pattern};
-ghost use Rattle.rec_sex.specs.Choices.{entry_of, term_under};
+ghost use Rattle.std.specs.Prelude.{◌≡◌, IfOk, IsOkUnless, OnOk};
 ghost use Rattle.rec_sex.specs.Outcomes.{outcomes_over, outcomes_of_part, outcomes_in};
+ghost use Rattle.rec_sex.specs.Choices.{entries_of, patterns_of, term_by, texts};
 
 use crate::choices::add_repeated_names;
 use crate::evaluation::evaluate;
@@ -23,10 +22,11 @@ fn outcomes_over<'v>(
     chosen: &mut Vec<Chosen<'v>>,
     matchers: &mut [Matcher<'_>],
 ) -> Result<Outcomes, Fault>
-    ensures outcomes { IfOk result (λ outcomes. outcomes ≡ outcomes_over (term_under (map matcher_pattern matchers.old) tree.now) fields.now (map (λ one. one.now) names.now) (map entry_of chosen.old.items)) }
-    ensures chosen { IfOk result (λ _. map entry_of chosen.new.items ≡ map entry_of chosen.old.items) }
-    ensures same { map matcher_pattern matchers.new ≡ map matcher_pattern matchers.old }
-    ensures refusals { IfErr result (λ fault. fault ≡ Fault.OutOfMemory) }
+    ensures outcomes { IfOk result (λ outcomes. outcomes ≡
+        outcomes_over (term_by matchers.old tree.now) fields.now (texts names.now) (entries_of chosen.old.items)) }
+    ensures chosen { OnOk result (entries_of chosen.new.items ≡ entries_of chosen.old.items) }
+    ensures same { patterns_of matchers.new ≡ patterns_of matchers.old }
+    ensures refusals { IsOkUnless result Fault.OutOfMemory }
 {
     let [name, rest @ ..] = names else {
         let meaning = evaluate(alloc, tree, fields, chosen, matchers)?;
@@ -50,10 +50,11 @@ fn outcomes_of_part<'v>(
     chosen: &mut Vec<Chosen<'v>>,
     matchers: &mut [Matcher<'_>],
 ) -> Result<Outcomes, Fault>
-    ensures outcomes { IfOk result (λ outcomes. outcomes ≡ outcomes_of_part (map matcher_pattern matchers.old) fields.now (map entry_of chosen.old.items) tree.now) }
-    ensures chosen { IfOk result (λ _. map entry_of chosen.new.items ≡ map entry_of chosen.old.items) }
-    ensures same { map matcher_pattern matchers.new ≡ map matcher_pattern matchers.old }
-    ensures refusals { IfErr result (λ fault. fault ≡ Fault.OutOfMemory) }
+    ensures outcomes { IfOk result (λ outcomes. outcomes ≡
+        outcomes_of_part (patterns_of matchers.old) fields.now (entries_of chosen.old.items) tree.now) }
+    ensures chosen { OnOk result (entries_of chosen.new.items ≡ entries_of chosen.old.items) }
+    ensures same { patterns_of matchers.new ≡ patterns_of matchers.old }
+    ensures refusals { IsOkUnless result Fault.OutOfMemory }
 {
     let mut names = Vec::new(alloc);
     add_repeated_names(fields, chosen, &mut names, tree)?;
@@ -69,10 +70,11 @@ pub(crate) fn outcomes_of<'v>(
     chosen: &mut Vec<Chosen<'v>>,
     matchers: &mut [Matcher<'_>],
 ) -> Result<Outcomes, Fault>
-    ensures outcomes { IfOk result (λ outcomes. outcomes ≡ outcomes_in (map matcher_pattern matchers.old) fields.now (map entry_of chosen.old.items) tree.now) }
-    ensures chosen { IfOk result (λ _. map entry_of chosen.new.items ≡ map entry_of chosen.old.items) }
-    ensures same { map matcher_pattern matchers.new ≡ map matcher_pattern matchers.old }
-    ensures refusals { IfErr result (λ fault. fault ≡ Fault.OutOfMemory) }
+    ensures outcomes { IfOk result (λ outcomes. outcomes ≡
+        outcomes_in (patterns_of matchers.old) fields.now (entries_of chosen.old.items) tree.now) }
+    ensures chosen { OnOk result (entries_of chosen.new.items ≡ entries_of chosen.old.items) }
+    ensures same { patterns_of matchers.new ≡ patterns_of matchers.old }
+    ensures refusals { IsOkUnless result Fault.OutOfMemory }
 {
     match tree {
         Tree::Not(operand) => {

@@ -1,10 +1,9 @@
 //! The meaning of an expression under one choice of occurrences.
-ghost use Rattle.std.specs.Prelude.{◌≡◌, IfOk, IfErr, map, pos, length};
-ghost use Rattle.std.specs.Option.{option_map};
-ghost use Rattle.regex.specs.Strings.{matcher_pattern};
-ghost use Rattle.rec_sex.specs.Meaning.{is_found as is_found_in_text, text_of, sem, values_of};
-ghost use Rattle.rec_sex.specs.Operands.{meaning_of};
-ghost use Rattle.rec_sex.specs.Choices.{entry_of, chosen_in, pattern_in, term_under};
+ghost use Rattle.std.specs.Prelude.{◌≡◌, IfOk, pos, length, IsOkUnless};
+ghost use Rattle.rec_sex.specs.Meaning.{is_found as is_found_in_text, sem, values_of};
+ghost use Rattle.rec_sex.specs.Choices.{chosen_in, entries_of, patterns_of, term_by};
+ghost use Rattle.rec_sex.specs.Expressions.{pattern_in};
+ghost use Rattle.rec_sex.specs.Operands.{meaning_in, text_in};
 
 use crate::fields::Fields;
 use crate::occurrences::Chosen;
@@ -18,7 +17,7 @@ use std::alloc::Global;
 
 /// The occurrence that is chosen for a name; the first one where none is.
 fn occurrence_of(chosen: &[Chosen<'_>], name: &[u8]) -> usize
-    ensures { result ≡ chosen_in (map entry_of chosen.now) name.now }
+    ensures { result ≡ chosen_in (entries_of chosen.now) name.now }
 {
     for entry in chosen {
         if entry.name == name {
@@ -36,8 +35,8 @@ fn count(fields: &Fields<'_, '_>, name: &[u8]) -> i64
 
 /// Whether the pattern of a number is found in an operand's text.
 fn is_found_at(matchers: &mut [Matcher<'_>], pattern: usize, operand: &Operand<'_>) -> bool
-    ensures found { result ≡ is_found_in_text (pattern_in (map matcher_pattern matchers.old) pattern) (text_of (meaning_of operand.now)) }
-    ensures same { map matcher_pattern matchers.new ≡ map matcher_pattern matchers.old }
+    ensures found { result ≡ is_found_in_text (pattern_in (patterns_of matchers.old) pattern) (text_in operand.now) }
+    ensures same { patterns_of matchers.new ≡ patterns_of matchers.old }
 {
     let mut buffer = Buffer::new();
     let text = operand.text(&mut buffer);
@@ -56,9 +55,10 @@ pub(crate) fn evaluate<'v>(
     chosen: &[Chosen<'_>],
     matchers: &mut [Matcher<'_>],
 ) -> Result<Option<Operand<'v>>, Fault>
-    ensures meaning { IfOk result (λ operand. option_map meaning_of operand ≡ sem (term_under (map matcher_pattern matchers.old) tree.now) fields.now (chosen_in (map entry_of chosen.now))) }
-    ensures same { map matcher_pattern matchers.new ≡ map matcher_pattern matchers.old }
-    ensures refusals { IfErr result (λ fault. fault ≡ Fault.OutOfMemory) }
+    ensures meaning { IfOk result (λ operand. meaning_in operand ≡
+        sem (term_by matchers.old tree.now) fields.now (chosen_in (entries_of chosen.now))) }
+    ensures same { patterns_of matchers.new ≡ patterns_of matchers.old }
+    ensures refusals { IsOkUnless result Fault.OutOfMemory }
 {
     match tree {
         Tree::Integer(integer) => Ok(Some(Operand::Integer(*integer))),

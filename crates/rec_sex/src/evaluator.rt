@@ -1,7 +1,7 @@
 //! Finds whether an expression selects records.
 ghost use Rattle.std.specs.Prelude.{◌≡◌, map};
-ghost use Rattle.regex.specs.Strings.{regex_pattern, matcher_pattern};
-ghost use Rattle.rec_sex.specs.Choices.{FindAlike};
+ghost use Rattle.regex.specs.Strings.{regex_pattern};
+ghost use Rattle.rec_sex.specs.Choices.{FindAlike, patterns_of};
 
 use crate::choices::holds;
 use crate::expr::Expr;
@@ -14,18 +14,18 @@ use std::alloc::Global;
 pub struct Search<'e> {
     expr: &'e Expr,
     matchers: Vec<Matcher<'e>>,
-    ghost alike: { FindAlike (map matcher_pattern matchers.items) (map regex_pattern expr.now.patterns.items) },
+    ghost alike: { FindAlike (patterns_of matchers.items) (map regex_pattern expr.now.patterns.items) },
 }
 
 impl Expr {
-    ghost use Rattle.std.specs.Prelude.{◌≡◌, IfOk, IfErr};
+    ghost use Rattle.std.specs.Prelude.{◌≡◌, IfOk, IsOkUnless};
     ghost use Rattle.rec_sex.specs.Expressions.{term_of};
     ghost use Rattle.rec_sex.specs.Searching.{searched};
 
     /// Makes a matcher for each pattern.
     pub fn search(&self, alloc: Global) -> Result<Search<'_>, Fault>
         ensures search { IfOk result (λ search. searched search ≡ term_of self.now) }
-        ensures refusals { IfErr result (λ fault. fault ≡ Fault.OutOfMemory) }
+        ensures refusals { IsOkUnless result Fault.OutOfMemory }
     {
         let mut matchers = Vec::new(alloc);
         for pattern in &self.patterns {
@@ -39,7 +39,7 @@ impl Expr {
 }
 
 impl<'e> Search<'e> {
-    ghost use Rattle.std.specs.Prelude.{◌≡◌, ◌↔◌, IsTrue, IfOk, IfErr};
+    ghost use Rattle.std.specs.Prelude.{◌≡◌, ◌↔◌, IsTrue, IfOk, IsOkUnless};
     ghost use Rattle.rec_text.specs.Places.{pieces_of};
     ghost use Rattle.rec_sex.specs.Meaning.{Selects};
     ghost use Rattle.rec_sex.specs.Searching.{searched};
@@ -48,7 +48,7 @@ impl<'e> Search<'e> {
     pub fn selects(&mut self, alloc: Global, fields: &[Element]) -> Result<bool, Fault>
         ensures selects { IfOk result (λ answer. IsTrue answer ↔ Selects (searched self.old) (pieces_of fields.now)) }
         ensures same { searched self.new ≡ searched self.old }
-        ensures refusals { IfErr result (λ fault. fault ≡ Fault.OutOfMemory) }
+        ensures refusals { IsOkUnless result Fault.OutOfMemory }
     {
         // The elements are lent again, for as long as the tree.
         holds(alloc, &self.expr.tree, &*fields, &mut self.matchers)

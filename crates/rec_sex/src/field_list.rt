@@ -1,10 +1,10 @@
 //! Lists of fields, such as `Name,Email[0-1]`.
-ghost use Rattle.std.specs.Prelude.{◌≡◌, ◌∷◌, ◌++◌, false, IfOk, IfErr, IfSome, MatchOption, MatchResult};
+ghost use Rattle.std.specs.Prelude.{◌≡◌, ◌∷◌, ◌++◌, false, IfOk, IfSome, MatchOption, MatchResult, IsOkUnless, OnOk};
 ghost use Rattle.rec_text.specs.Bytes.{begins_name as may_begin};
 ghost use Rattle.rec_text.specs.Places.{pieces_of};
 ghost use Rattle.rec_sex.specs.IndexList.{begins_with};
-ghost use Rattle.rec_sex.specs.Lists.{begins_field, occurrences, places_from, IsClosingFault, IsSubscriptFault, IsItem, IsItemFault, picks};
-ghost use Rattle.rec_sex.specs.FieldItems.{is_among, BeginsName, Closes, BeginsSubscript, BeginsItem};
+ghost use Rattle.rec_sex.specs.Lists.{begins_field, occurrences, IsClosingFault, IsSubscriptFault, IsItem, IsItemFault, picks, picked_by};
+ghost use Rattle.rec_sex.specs.FieldItems.{is_meant, BeginsName, Closes, BeginsSubscript, BeginsItem};
 ghost use Rattle.rec_sex.specs.ItemStarts.{Covers};
 
 use crate::index_list::{Span, ends_item, leading_span};
@@ -55,7 +55,8 @@ fn begins_name(byte: u8) -> bool
 
 /// The name that a text begins with, and what stands behind it.
 fn leading_name(text: &[u8]) -> Option<(&[u8], &[u8])>
-    ensures { MatchOption result (begins_field text.now ≡ false) (λ (name, rest). BeginsName text.now name.now rest.now) }
+    ensures { MatchOption result (begins_field text.now ≡ false)
+        (λ (name, rest). BeginsName text.now name.now rest.now) }
 {
     let (first, behind) = text.split_first()?;
     if !begins_name(*first) {
@@ -89,7 +90,8 @@ fn behind_bracket(text: &[u8]) -> Result<&[u8], usize>
 
 /// The occurrences that a subscript names, behind its opening bracket, and what stands behind it; or the place of the fault.
 fn subscript(text: &[u8]) -> Result<(Span, &[u8]), usize>
-    ensures { MatchResult result (λ (span, rest). BeginsSubscript text.now span rest.now) (λ place. IsSubscriptFault text.now place) }
+    ensures { MatchResult result (λ (span, rest). BeginsSubscript text.now span rest.now)
+        (λ place. IsSubscriptFault text.now place) }
 {
     let (span, behind) = leading_span(text)?;
     match behind_bracket(behind) {
@@ -100,7 +102,9 @@ fn subscript(text: &[u8]) -> Result<(Span, &[u8]), usize>
 
 /// The item that a text begins with, its name and its occurrences, and what stands behind it; or the place of its fault.
 fn leading_item(text: &[u8]) -> Result<(&[u8], Option<Span>, &[u8]), usize>
-    ensures { MatchResult result (λ (name, occurrences, rest). BeginsItem text.now (record { name = name.now; occurrences = occurrences }) rest.now) (λ place. IsItemFault text.now place) }
+    ensures { MatchResult result (λ (name, occurrences, rest).
+        BeginsItem text.now (record { name = name.now; occurrences = occurrences }) rest.now)
+        (λ place. IsItemFault text.now place) }
 {
     let Some((name, behind)) = leading_name(text) else {
         return Err(0);
@@ -130,8 +134,8 @@ impl ListItem for Item {
 }
 
 /// Whether an occurrence is among these; all are where none are named.
-fn is_among(span: Option<Span>, occurrence: usize) -> bool
-    ensures { result ≡ is_among span occurrence }
+fn is_meant(span: Option<Span>, occurrence: usize) -> bool
+    ensures { result ≡ is_meant span occurrence }
 {
     match span {
         None => true,
@@ -141,13 +145,13 @@ fn is_among(span: Option<Span>, occurrence: usize) -> bool
 
 /// Adds the places of an item's occurrences.
 fn add_places(item: &Item, fields: &[Element], places: &mut Vec<usize>) -> Result<(), Fault>
-    ensures added { IfOk result (λ _. places.new.items ≡ places.old.items ++ occurrences item.now.occurrences (places_from 0 item.now.name (pieces_of fields.now))) }
-    ensures refusals { IfErr result (λ fault. fault ≡ Fault.OutOfMemory) }
+    ensures added { OnOk result (places.new.items ≡ places.old.items ++ picked_by item.now (pieces_of fields.now)) }
+    ensures refusals { IsOkUnless result Fault.OutOfMemory }
 {
     let mut occurrence = 0;
     for (place, field) in fields.iter().enumerate() {
         if field.has_name(item.name.as_slice()) {
-            if is_among(item.occurrences, occurrence) {
+            if is_meant(item.occurrences, occurrence) {
                 places.push(place)?;
             }
             occurrence += 1;
@@ -159,7 +163,7 @@ fn add_places(item: &Item, fields: &[Element], places: &mut Vec<usize>) -> Resul
 /// What the items pick, by a pass over the fields for each.
 fn picked_by_walks(alloc: Global, items: &[Item], fields: &[Element]) -> Result<Vec<usize>, Fault>
     ensures places { IfOk result (λ places. places.items ≡ picks items.now (pieces_of fields.now)) }
-    ensures refusals { IfErr result (λ fault. fault ≡ Fault.OutOfMemory) }
+    ensures refusals { IsOkUnless result Fault.OutOfMemory }
 {
     let mut places = Vec::new(alloc);
     for item in items {
@@ -182,7 +186,7 @@ fn starts_of_many(
 }
 
 impl FieldList {
-    ghost use Rattle.std.specs.Prelude.{◌≡◌, List, Result, IfOk, IfErr};
+    ghost use Rattle.std.specs.Prelude.{◌≡◌, List, Result, IfOk, IsOkUnless};
     ghost use Rattle.rec_text.specs.declared.fault.Fault.{Fault};
     ghost use Rattle.rec_text.specs.Faults.{UnlessMemory};
     ghost use Rattle.rec_text.specs.Places.{pieces_of};
@@ -192,7 +196,8 @@ impl FieldList {
     /// Reads a list. A fault is refused with its place.
     pub fn parse(alloc: Global, text: &[u8]) -> Result<FieldList, Fault>
         ensures found { UnlessMemory result (IsFieldList text.now) }
-        ensures only { (other : Result (List Item) Fault) → IsFieldList text.now other → UnlessMemory result (λ answer. answer ≡ other) }
+        ensures only { (other : Result (List Item) Fault) → IsFieldList text.now other
+            → UnlessMemory result (λ answer. answer ≡ other) }
     {
         match items_of(alloc, text) {
             Ok(items) => {
@@ -214,7 +219,7 @@ impl FieldList {
     /// For each item in order the places of its occurrences among a record's elements, in record order.
     pub fn picks(&self, alloc: Global, fields: &[Element]) -> Result<Vec<usize>, Fault>
         ensures places { IfOk result (λ places. places.items ≡ picks self.now (pieces_of fields.now)) }
-        ensures refusals { IfErr result (λ fault. fault ≡ Fault.OutOfMemory) }
+        ensures refusals { IsOkUnless result Fault.OutOfMemory }
     {
         match &self.starts {
             Some(starts) => picked_by_name(alloc, &self.items, starts, fields),

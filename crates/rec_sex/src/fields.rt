@@ -1,5 +1,5 @@
 //! The elements of one record, as an expression reads them.
-ghost use Rattle.std.specs.Prelude.{◌≡◌, IfOk, IfErr};
+ghost use Rattle.std.specs.Prelude.{◌≡◌, IfOk, IsOkUnless};
 ghost use Rattle.rec_text.specs.Places.{pieces_of};
 ghost use Rattle.rec_text.specs.Values.{bytes_of};
 ghost use Rattle.rec_sex.specs.Meaning.{value_at as value_of_occurrence};
@@ -46,8 +46,9 @@ fn value_by_table<'t>(
     occurrence: usize,
 ) -> Result<Value<'t>, Fault>
     requires { HasPlaces table.now (pieces_of elements.now) }
-    ensures value { IfOk result (λ value. bytes_of value ≡ value_of_occurrence (pieces_of elements.now) name.now occurrence) }
-    ensures refusals { IfErr result (λ fault. fault ≡ Fault.OutOfMemory) }
+    ensures value { IfOk result (λ value. bytes_of value ≡
+        value_of_occurrence (pieces_of elements.now) name.now occurrence) }
+    ensures refusals { IsOkUnless result Fault.OutOfMemory }
 {
     match place_of(table, name, occurrence) {
         Some(place) => elements[place].value(alloc),
@@ -56,7 +57,7 @@ fn value_by_table<'t>(
 }
 
 impl<'r, 't> Fields<'r, 't> {
-    ghost use Rattle.std.specs.Prelude.{◌≡◌, ◌<◌, ◌^◌, length, IfOk, IfErr};
+    ghost use Rattle.std.specs.Prelude.{◌≡◌, ◌<◌, ◌^◌, length, IfOk, IsOkUnless};
     ghost use Rattle.rec_text.specs.Places.{pieces_of};
     ghost use Rattle.rec_text.specs.Values.{bytes_of};
     ghost use Rattle.rec_sex.specs.Meaning.{values_of, value_at as value_of_occurrence};
@@ -74,7 +75,7 @@ impl<'r, 't> Fields<'r, 't> {
     /// The elements of a record, for many looks at them: where they are many, one pass lists the places of each name.
     pub fn listed(alloc: Global, elements: &'r [Element<'t>]) -> Result<Fields<'r, 't>, Fault>
         ensures fields { IfOk result (λ fields. fields ≡ pieces_of elements.now) }
-        ensures refusals { IfErr result (λ fault. fault ≡ Fault.OutOfMemory) }
+        ensures refusals { IsOkUnless result Fault.OutOfMemory }
     {
         if elements.len() <= FEW {
             return Ok(Fields::of(elements));
@@ -103,7 +104,7 @@ impl<'r, 't> Fields<'r, 't> {
         occurrence: usize,
     ) -> Result<Value<'t>, Fault>
         ensures value { IfOk result (λ value. bytes_of value ≡ value_of_occurrence self.now name.now occurrence) }
-        ensures refusals { IfErr result (λ fault. fault ≡ Fault.OutOfMemory) }
+        ensures refusals { IsOkUnless result Fault.OutOfMemory }
     {
         match &self.table {
             Some(table) => value_by_table(alloc, self.elements, table, name, occurrence),

@@ -66,7 +66,8 @@ fn digit_count(text: &[u8]) -> usize
 
 /// The index that a text begins with, if it is at least this, and what stands behind it.
 fn leading_index(least: usize, text: &[u8]) -> Option<(usize, &[u8])>
-    ensures { MatchOption result (LacksIndex least text.now) (λ (index, rest). BeginsIndex least text.now index rest.now) }
+    ensures { MatchOption result (LacksIndex least text.now)
+        (λ (index, rest). BeginsIndex least text.now index rest.now) }
 {
     let (digits, rest) = text.split_at(digit_count(text));
     if digits.is_empty() {
@@ -98,7 +99,8 @@ fn behind_hyphen(rest: &[u8]) -> Option<&[u8]>
 
 /// The span that a text begins with, and what stands behind it; or the place of its fault.
 pub(crate) fn leading_span(text: &[u8]) -> Result<(Span, &[u8]), usize>
-    ensures { MatchResult result (λ (span, rest). BeginsSpan text.now span rest.now) (λ place. IsSpanFault text.now place) }
+    ensures { MatchResult result (λ (span, rest). BeginsSpan text.now span rest.now)
+        (λ place. IsSpanFault text.now place) }
 {
     let Some((first, behind)) = leading_index(0, text) else {
         return Err(0);
@@ -161,7 +163,8 @@ impl IndexList {
     /// Reads a list. A fault is refused with its place.
     pub fn parse(alloc: Global, text: &[u8]) -> Result<IndexList, Fault>
         ensures found { UnlessMemory result (IsIndexList text.now) }
-        ensures only { (other : Result (List Span) Fault) → IsIndexList text.now other → UnlessMemory result (λ answer. answer ≡ other) }
+        ensures only { (other : Result (List Span) Fault) → IsIndexList text.now other
+            → UnlessMemory result (λ answer. answer ≡ other) }
     {
         match items_of(alloc, text) {
             Ok(spans) => {

@@ -44,13 +44,15 @@ pub(crate) trait ListItem: Drop {
 
     /// The item that a text begins with, and what stands behind it; or the place of its fault.
     fn leading(alloc: Global, text: &[u8]) -> Result<(Self, &[u8]), Unread>
-        ensures leads { MatchResult result (λ (item, rest). BeginsWhole is_item text.now item rest.now) (IsUnread (is_fault text.now)) }
+        ensures leads { MatchResult result (λ (item, rest). BeginsWhole is_item text.now item rest.now)
+            (IsUnread (is_fault text.now)) }
         ensures within { IfErr result (IsUnread (λ place. place ≤ length text.now)) };
 }
 
 /// The items that a text is, with a comma between two of them; or the place of the first fault.
 pub(crate) fn items_of<I: ListItem>(alloc: Global, text: &[u8]) -> Result<Vec<I>, Unread>
-    ensures { MatchResult result (λ items. AreJoined I.is_item text.now items.items) (IsUnread (HasFaultyItem I.is_item I.is_fault text.now)) }
+    ensures { MatchResult result (λ items. AreJoined I.is_item text.now items.items)
+        (IsUnread (HasFaultyItem I.is_item I.is_fault text.now)) }
 {
     let mut items = Vec::new(alloc);
     let mut rest = text;

@@ -15,8 +15,8 @@ pub fn one_expression()
     ensures { OneExpression }
 {}
 
-/// The bytes before the place of a list's fault begin a list, and with the byte there they begin none, but at the end of
-/// the text and at a number that is wrong as a whole.
+/// The bytes before the place of a list's fault begin a list, and with the byte there they begin none, but at the end
+/// of the text and at a number that is wrong as a whole.
 pub fn place_is_first_fault()
     ensures { PlaceIsFirstFault }
 {}

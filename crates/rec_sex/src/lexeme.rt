@@ -3,7 +3,7 @@ ghost use Rattle.std.specs.Prelude.{◌≡◌, ◌+◌, ◌<◌, ◌^◌, length
 ghost use Rattle.std.specs.List.{take_while};
 ghost use Rattle.rec_text.specs.Bytes.{is_letter as letter, continues_name as may_continue};
 ghost use Rattle.rec_sex.specs.Tokens.{lexeme_at as lexeme_first, integer_at as integer_first, name_at as name_first, subscript_at as subscript_first, count_at as count_first, literal_at as literal_first, operator_at as operator_first, token_of_one as one_byte_token, token_of_two as two_bytes_token};
-ghost use Rattle.rec_sex.specs.Lexing.{lexeme_of, index_at as index_first, literal_byte as byte_of_literal};
+ghost use Rattle.rec_sex.specs.Lexing.{index_at as index_first, literal_byte as byte_of_literal};
 
 use crate::magnitude::magnitude_of;
 use crate::token::{Operator, Token};
@@ -45,7 +45,7 @@ pub(crate) fn word_at(text: &[u8]) -> &[u8]
 
 /// An integer without its sign. All that is written together with it belongs to it.
 fn integer_at(text: &[u8]) -> Lexeme
-    ensures { lexeme_of result ≡ integer_first text.now }
+    ensures { result ≡ integer_first text.now }
 {
     let word = word_at(text);
     let Some(magnitude) = magnitude_of(word) else {
@@ -85,7 +85,7 @@ fn subscript_at(
     before: usize,
 ) -> Result<Lexeme, AllocError>
     requires { before + length text.now < 2 ^ 64 }
-    ensures { IfOk result (λ lexeme. lexeme_of lexeme ≡ subscript_first name.now text.now before) }
+    ensures { IfOk result (λ lexeme. lexeme ≡ subscript_first name.now text.now before) }
 {
     let Some((index, len)) = index_at(text) else {
         return Ok(Lexeme::Broken(before));
@@ -101,7 +101,7 @@ fn subscript_at(
 
 /// A name, with its subscript where a bracket stands directly behind it.
 fn name_at(alloc: Global, text: &[u8]) -> Result<Lexeme, AllocError>
-    ensures { IfOk result (λ lexeme. lexeme_of lexeme ≡ name_first text.now) }
+    ensures { IfOk result (λ lexeme. lexeme ≡ name_first text.now) }
 {
     let name = word_at(text);
     match &text[name.len()..] {
@@ -115,7 +115,7 @@ fn name_at(alloc: Global, text: &[u8]) -> Result<Lexeme, AllocError>
 
 /// A count, behind its `#`.
 fn count_at(alloc: Global, text: &[u8]) -> Result<Lexeme, AllocError>
-    ensures { IfOk result (λ lexeme. lexeme_of lexeme ≡ count_first text.now) }
+    ensures { IfOk result (λ lexeme. lexeme ≡ count_first text.now) }
 {
     match text.first() {
         Some(byte) if is_letter(*byte) => {
@@ -142,7 +142,7 @@ fn literal_byte(text: &[u8]) -> (u8, usize)
 /// A text literal.
 fn literal_at(alloc: Global, text: &[u8]) -> Result<Lexeme, AllocError>
     requires { 0 < length text.now }
-    ensures { IfOk result (λ lexeme. lexeme_of lexeme ≡ literal_first text.now) }
+    ensures { IfOk result (λ lexeme. lexeme ≡ literal_first text.now) }
 {
     let quote = text[0];
     let mut literal = Vec::new(alloc);
@@ -201,7 +201,7 @@ fn token_of_one(byte: u8) -> Option<Token>
 
 /// An operator or a parenthesis, the longest first.
 fn operator_at(text: &[u8]) -> Lexeme
-    ensures { lexeme_of result ≡ operator_first text.now }
+    ensures { result ≡ operator_first text.now }
 {
     if let [first, second, ..] = text {
         if let Some(token) = token_of_two(*first, *second) {
@@ -219,7 +219,7 @@ fn operator_at(text: &[u8]) -> Lexeme
 
 /// The token at the front of a text that begins with no space.
 pub(crate) fn lexeme_at(alloc: Global, text: &[u8]) -> Result<Lexeme, AllocError>
-    ensures { IfOk result (λ lexeme. lexeme_of lexeme ≡ lexeme_first text.now) }
+    ensures { IfOk result (λ lexeme. lexeme ≡ lexeme_first text.now) }
 {
     match text.first() {
         Some(byte) if byte.is_ascii_digit() => Ok(integer_at(text)),

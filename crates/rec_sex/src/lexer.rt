@@ -1,7 +1,8 @@
 //! The tokens of an expression.
-ghost use Rattle.std.specs.Prelude.{◌≡◌, ◌⊎◌, ℕ, Some, None, IfOk, IfErr, IsErrOf, ◌==◌};
+ghost use Rattle.std.specs.Prelude.{◌≡◌, ◌⊎◌, None, IfOk, IfErr};
 ghost use Rattle.rec_sex.specs.Tokens.{lexemes};
 ghost use Rattle.rec_sex.specs.Grammar.{AreTokens, AreTaken, fault_of};
+ghost use Rattle.rec_sex.specs.Expressions.{IsBadExpression, RefusesItsFault};
 
 use crate::lexeme::{Lexeme, lexeme_at};
 use crate::token::Token;
@@ -14,9 +15,10 @@ const MOST_TOKENS: usize = 1000;
 
 /// The tokens of an expression. The leftmost fault is refused with its place.
 pub(crate) fn tokens_of(alloc: Global, text: &[u8]) -> Result<Vec<Token>, Fault>
-    ensures tokens { IfOk result (λ tokens. AreTokens (lexemes text.now) tokens.items × AreTaken tokens.items × (fault_of text.now ≡ None)) }
-    ensures bad_expression { (place : ℕ) → IsErrOf result (Fault.BadExpression place) → fault_of text.now ≡ Some place }
-    ensures refusals { IfErr result (λ fault. (fault ≡ Fault.OutOfMemory) ⊎ ((place : ℕ) × (fault ≡ Fault.BadExpression place))) }
+    ensures tokens { IfOk result (λ tokens.
+        AreTokens (lexemes text.now) tokens.items × AreTaken tokens.items × (fault_of text.now ≡ None)) }
+    ensures bad_expression { RefusesItsFault text.now result }
+    ensures refusals { IfErr result (λ fault. (fault ≡ Fault.OutOfMemory) ⊎ IsBadExpression fault) }
 {
     let mut tokens = Vec::new(alloc);
     let mut walk = Walk::start(alloc);

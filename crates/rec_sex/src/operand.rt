@@ -1,8 +1,8 @@
 //! Operands, and what the operators make of them.
-ghost use Rattle.std.specs.Prelude.{◌≡◌, ◌≢◌, ◌++◌, IfOk, IfErr, neg_ℤ};
+ghost use Rattle.std.specs.Prelude.{◌≡◌, ◌≢◌, ◌++◌, IfOk, IsOkUnless};
 ghost use Rattle.std.specs.Option.{option_map, option_and_then};
-ghost use Rattle.rec_sex.specs.Meaning.{truth as meaning_of_truth, is_true as is_true_meaning, is_zero, in_range, reading_of, text_of, are_equal as are_equal_meanings, apply_operator as meaning_of_operator, integer, text};
-ghost use Rattle.rec_sex.specs.Operands.{meaning_of, fitting, combined as combined_integers, combined_readings};
+ghost use Rattle.rec_sex.specs.Meaning.{truth as meaning_of_truth, is_true as is_true_meaning, reading_of, are_equal as are_equal_meanings, apply_operator as meaning_of_operator, integer, text, applied, inverted, negation_of};
+ghost use Rattle.rec_sex.specs.Operands.{meaning_of, combined as combined_integers, combined_readings, meaning_in, text_in};
 
 use crate::integer::int_of;
 use crate::token::Operator;
@@ -30,7 +30,7 @@ impl<'v> Operand<'v> {
 
     /// The text of this operand. The digits of an integer stand in the buffer.
     pub(crate) fn text<'a>(&'a self, buffer: &'a mut Buffer) -> &'a [u8]
-        ensures { result.now ≡ text_of (meaning_of self.now) }
+        ensures { result.now ≡ text_in self.now }
     {
         match self {
             Operand::Integer(integer) => buffer.format(*integer).as_bytes(),
@@ -47,14 +47,14 @@ pub(crate) fn truth<'v>(holds: bool) -> Operand<'v>
 
 /// The integer of an operand, if it is defined and has one.
 pub(crate) fn reading(operand: Option<Operand<'_>>) -> Option<i64>
-    ensures { result ≡ option_and_then reading_of (option_map meaning_of operand.entry) }
+    ensures { result ≡ option_and_then reading_of (meaning_in operand.entry) }
 {
     operand?.reading()
 }
 
 /// Whether a meaning is defined and reads as another integer than 0.
 pub(crate) fn is_true(operand: Option<Operand<'_>>) -> bool
-    ensures { result ≡ is_true_meaning (option_map meaning_of operand.entry) }
+    ensures { result ≡ is_true_meaning (meaning_in operand.entry) }
 {
     match reading(operand) {
         Some(integer) => integer != 0,
@@ -63,13 +63,13 @@ pub(crate) fn is_true(operand: Option<Operand<'_>>) -> bool
 }
 
 pub(crate) fn inverse<'v>(operand: Option<Operand<'_>>) -> Option<Operand<'v>>
-    ensures { option_map meaning_of result ≡ option_and_then (λ x. option_map (λ z. meaning_of_truth (is_zero z)) (reading_of x)) (option_map meaning_of operand.entry) }
+    ensures { meaning_in result ≡ inverted (meaning_in operand.entry) }
 {
     Some(truth(operand?.reading()? == 0))
 }
 
 pub(crate) fn negated<'v>(operand: Option<Operand<'_>>) -> Option<Operand<'v>>
-    ensures { option_map meaning_of result ≡ option_and_then (λ x. option_and_then (λ z. in_range (neg_ℤ z)) (reading_of x)) (option_map meaning_of operand.entry) }
+    ensures { meaning_in result ≡ negation_of (meaning_in operand.entry) }
 {
     Some(Operand::Integer(operand?.reading()?.checked_neg()?))
 }
@@ -87,7 +87,7 @@ fn are_equal(left: &Operand<'_>, right: &Operand<'_>) -> bool
 
 /// The text of an operand, as bytes of its own. One that was made is taken over as it is.
 fn into_text(alloc: Global, operand: Operand<'_>) -> Result<Vec<u8>, AllocError>
-    ensures { IfOk result (λ text. text.items ≡ text_of (meaning_of operand.entry)) }
+    ensures { IfOk result (λ text. text.items ≡ text_in operand.entry) }
 {
     match operand {
         Operand::Integer(integer) => {
@@ -105,7 +105,7 @@ fn joined<'v>(
     left: Operand<'_>,
     right: &Operand<'_>,
 ) -> Result<Operand<'v>, AllocError>
-    ensures { IfOk result (λ both. meaning_of both ≡ text (text_of (meaning_of left.entry) ++ text_of (meaning_of right.now))) }
+    ensures { IfOk result (λ both. meaning_of both ≡ text (text_in left.entry ++ text_in right.now)) }
 {
     let mut buffer = Buffer::new();
     let mut text = into_text(alloc, left)?;
@@ -150,7 +150,8 @@ fn combined_readings<'v>(
     left: &Operand<'_>,
     right: &Operand<'_>,
 ) -> Option<Operand<'v>>
-    ensures { option_map meaning_of result ≡ option_map integer (combined_readings operator (meaning_of left.now) (meaning_of right.now)) }
+    ensures { meaning_in result ≡
+        option_map integer (combined_readings operator (meaning_of left.now) (meaning_of right.now)) }
 {
     let x = left.reading()?;
     let y = right.reading()?;
@@ -164,7 +165,7 @@ fn apply_unjoined<'v>(
     right: &Operand<'_>,
 ) -> Option<Operand<'v>>
     requires { operator ≢ Operator.Join }
-    ensures { option_map meaning_of result ≡ meaning_of_operator operator (meaning_of left.now) (meaning_of right.now) }
+    ensures { meaning_in result ≡ meaning_of_operator operator (meaning_of left.now) (meaning_of right.now) }
 {
     match operator {
         Operator::Equal => Some(truth(are_equal(left, right))),
@@ -179,8 +180,9 @@ fn apply_to_defined<'v>(
     left: Operand<'_>,
     right: &Operand<'_>,
 ) -> Result<Option<Operand<'v>>, Fault>
-    ensures meaning { IfOk result (λ both. option_map meaning_of both ≡ meaning_of_operator operator (meaning_of left.entry) (meaning_of right.now)) }
-    ensures refusals { IfErr result (λ fault. fault ≡ Fault.OutOfMemory) }
+    ensures meaning { IfOk result (λ both. meaning_in both ≡
+        meaning_of_operator operator (meaning_of left.entry) (meaning_of right.now)) }
+    ensures refusals { IsOkUnless result Fault.OutOfMemory }
 {
     match operator {
         Operator::Join => Ok(Some(joined(alloc, left, right)?)),
@@ -195,8 +197,9 @@ pub(crate) fn apply_operator<'v>(
     left: Option<Operand<'_>>,
     right: Option<Operand<'_>>,
 ) -> Result<Option<Operand<'v>>, Fault>
-    ensures meaning { IfOk result (λ both. option_map meaning_of both ≡ option_and_then (λ x. option_and_then (λ y. meaning_of_operator operator x y) (option_map meaning_of right.entry)) (option_map meaning_of left.entry)) }
-    ensures refusals { IfErr result (λ fault. fault ≡ Fault.OutOfMemory) }
+    ensures meaning { IfOk result (λ both. meaning_in both ≡
+        applied operator (meaning_in left.entry) (meaning_in right.entry)) }
+    ensures refusals { IsOkUnless result Fault.OutOfMemory }
 {
     match (left, right) {
         (Some(left), Some(right)) => apply_to_defined(alloc, operator, left, &right),

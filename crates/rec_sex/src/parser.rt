@@ -1,9 +1,9 @@
 //! Builds the syntax tree of tokens.
-ghost use Rattle.std.specs.Prelude.{◌≡◌, ◌<◌, ◌≤◌, List, false, IfOk, IfErr, OnOk};
+ghost use Rattle.std.specs.Prelude.{◌≡◌, ◌<◌, ◌≤◌, List, false, IfOk, OnOk, IsOkUnless};
 ghost use Rattle.regex.specs.declared.string.regex.Regex.{Regex};
 ghost use Rattle.rec_sex.specs.Grammar.{AreTaken, Operand, Operator_, Pattern, Derives, level_of, inverse, negated, binary, choice};
-ghost use Rattle.rec_sex.specs.Expressions.{term_with, AreBuiltFrom, AreAmong};
-ghost use Rattle.rec_sex.specs.Parsing.{MayStand, IsTree, Extends, IsFoundTree, level_at, right_level, begins_choice};
+ghost use Rattle.rec_sex.specs.Expressions.{term_with};
+ghost use Rattle.rec_sex.specs.Parsing.{AreBuiltFrom, AreAmong, MayStand, level_at, right_level, begins_choice, Reads, ReadsMore, ReadsPattern};
 
 use crate::token::{Operator, Token};
 use crate::tree::Tree;
@@ -23,9 +23,10 @@ pub(crate) fn tree_of(alloc: Global, tokens: Vec<Token>) -> Result<Parsed, Fault
     requires { AreTaken tokens.items }
 
     // With patterns built from the texts, the tree is the expression that the grammar derives.
-    ensures derived { IfOk result (λ parsed. (patterns : List Regex) → AreBuiltFrom parsed.patterns.items patterns → Derives 0 tokens.items (term_with patterns parsed.tree)) }
+    ensures derived { IfOk result (λ parsed. (patterns : List Regex) → AreBuiltFrom parsed.patterns.items patterns
+        → Derives 0 tokens.items (term_with patterns parsed.tree)) }
     ensures patterns { IfOk result (λ parsed. AreAmong tokens.items parsed.patterns.items) }
-    ensures refusals { IfErr result (λ fault. fault ≡ Fault.OutOfMemory) }
+    ensures refusals { IsOkUnless result Fault.OutOfMemory }
 {
     let mut parser = Parser {
         alloc,
@@ -78,9 +79,9 @@ impl Parser {
     #[cycle(expressions)]
     fn expression(&mut self) -> Result<Tree, Fault>
         requires { MayStand Operand self.old.rest.items }
-        ensures tree { IfOk result (λ tree. IsTree 0 self.old.rest.items self.new.rest.items self.old.patterns.items self.new.patterns.items tree) }
+        ensures tree { IfOk result (Reads 0 self.old self.new) }
         ensures ends { OnOk result ((level_at self.new.rest.items ≡ 0) × (begins_choice self.new.rest.items ≡ false)) }
-        ensures refusals { IfErr result (λ fault. fault ≡ Fault.OutOfMemory) }
+        ensures refusals { IsOkUnless result Fault.OutOfMemory }
     {
         let condition = self.operation(1)?;
         if !self.begins_choice() {
@@ -99,9 +100,9 @@ impl Parser {
         requires low { 1 ≤ level }
         requires high { level ≤ 8 }
         requires taken { MayStand Operand self.old.rest.items }
-        ensures tree { IfOk result (λ tree. IsTree level self.old.rest.items self.new.rest.items self.old.patterns.items self.new.patterns.items tree) }
+        ensures tree { IfOk result (Reads level self.old self.new) }
         ensures ends { OnOk result (level_at self.new.rest.items < level) }
-        ensures refusals { IfErr result (λ fault. fault ≡ Fault.OutOfMemory) }
+        ensures refusals { IsOkUnless result Fault.OutOfMemory }
     {
         let mut tree = self.operand()?;
         while self.next_level() >= level {
@@ -115,8 +116,8 @@ impl Parser {
     fn extended(&mut self, left: Tree) -> Result<Tree, Fault>
         requires operator { 0 < level_at self.old.rest.items }
         requires taken { MayStand Operator_ self.old.rest.items }
-        ensures tree { IfOk result (λ tree. Extends self.old.rest.items self.new.rest.items self.old.patterns.items self.new.patterns.items left tree) }
-        ensures refusals { IfErr result (λ fault. fault ≡ Fault.OutOfMemory) }
+        ensures tree { IfOk result (ReadsMore self.old self.new left) }
+        ensures refusals { IsOkUnless result Fault.OutOfMemory }
     {
         match self.rest.pop_front() {
             Some(Token::Binary(operator)) => {
@@ -132,8 +133,8 @@ impl Parser {
     #[cycle(expressions)]
     fn operand(&mut self) -> Result<Tree, Fault>
         requires { MayStand Operand self.old.rest.items }
-        ensures tree { IfOk result (λ tree. IsTree 8 self.old.rest.items self.new.rest.items self.old.patterns.items self.new.patterns.items tree) }
-        ensures refusals { IfErr result (λ fault. fault ≡ Fault.OutOfMemory) }
+        ensures tree { IfOk result (Reads 8 self.old self.new) }
+        ensures refusals { IsOkUnless result Fault.OutOfMemory }
     {
         match self.rest.pop_front() {
             Some(Token::Integer(n)) => Ok(Tree::Integer(n)),
@@ -162,8 +163,8 @@ impl Parser {
     /// The operand with the pattern that comes next, behind a `~`.
     fn found(&mut self, operand: Tree) -> Result<Tree, Fault>
         requires { MayStand Pattern self.old.rest.items }
-        ensures tree { IfOk result (λ tree. IsFoundTree self.old.rest.items self.new.rest.items self.old.patterns.items self.new.patterns.items operand tree) }
-        ensures refusals { IfErr result (λ fault. fault ≡ Fault.OutOfMemory) }
+        ensures tree { IfOk result (ReadsPattern self.old self.new operand) }
+        ensures refusals { IsOkUnless result Fault.OutOfMemory }
     {
         let Some(Token::Literal(text)) = self.rest.pop_front() else {
             unreachable!()
@@ -192,22 +193,25 @@ impl Parser {
 }
 
 fn inverse(alloc: Global, operand: Tree) -> Result<Tree, Fault>
-    ensures tree { IfOk result (λ tree. (patterns : List Regex) → term_with patterns tree ≡ inverse (term_with patterns operand)) }
-    ensures refusals { IfErr result (λ fault. fault ≡ Fault.OutOfMemory) }
+    ensures tree { IfOk result (λ tree. (patterns : List Regex) →
+        term_with patterns tree ≡ inverse (term_with patterns operand)) }
+    ensures refusals { IsOkUnless result Fault.OutOfMemory }
 {
     Ok(Tree::Not(Box::new(alloc, operand)?))
 }
 
 fn negated(alloc: Global, operand: Tree) -> Result<Tree, Fault>
-    ensures tree { IfOk result (λ tree. (patterns : List Regex) → term_with patterns tree ≡ negated (term_with patterns operand)) }
-    ensures refusals { IfErr result (λ fault. fault ≡ Fault.OutOfMemory) }
+    ensures tree { IfOk result (λ tree. (patterns : List Regex) →
+        term_with patterns tree ≡ negated (term_with patterns operand)) }
+    ensures refusals { IsOkUnless result Fault.OutOfMemory }
 {
     Ok(Tree::Negate(Box::new(alloc, operand)?))
 }
 
 fn binary(alloc: Global, operator: Operator, left: Tree, right: Tree) -> Result<Tree, Fault>
-    ensures tree { IfOk result (λ tree. (patterns : List Regex) → term_with patterns tree ≡ binary operator (term_with patterns left) (term_with patterns right)) }
-    ensures refusals { IfErr result (λ fault. fault ≡ Fault.OutOfMemory) }
+    ensures tree { IfOk result (λ tree. (patterns : List Regex) →
+        term_with patterns tree ≡ binary operator (term_with patterns left) (term_with patterns right)) }
+    ensures refusals { IsOkUnless result Fault.OutOfMemory }
 {
     let left = Box::new(alloc, left)?;
     let right = Box::new(alloc, right)?;
@@ -215,8 +219,10 @@ fn binary(alloc: Global, operator: Operator, left: Tree, right: Tree) -> Result<
 }
 
 fn choice(alloc: Global, condition: Tree, first: Tree, second: Tree) -> Result<Tree, Fault>
-    ensures tree { IfOk result (λ tree. (patterns : List Regex) → term_with patterns tree ≡ choice (term_with patterns condition) (term_with patterns first) (term_with patterns second)) }
-    ensures refusals { IfErr result (λ fault. fault ≡ Fault.OutOfMemory) }
+    ensures tree { IfOk result (λ tree. (patterns : List Regex) →
+        term_with patterns tree ≡ choice (term_with patterns condition)
+        (term_with patterns first) (term_with patterns second)) }
+    ensures refusals { IsOkUnless result Fault.OutOfMemory }
 {
     let condition = Box::new(alloc, condition)?;
     let first = Box::new(alloc, first)?;

@@ -1,10 +1,11 @@
 //! Builds patterns from their texts, and finds them in others.
-ghost use Rattle.std.specs.Prelude.{◌≡◌, ◌⊎◌, All, Any, true, IfOk, IfErr, IsErrOf};
+ghost use Rattle.std.specs.Prelude.{◌≡◌, All, Any, true, IfOk, IsErrOf};
 ghost use Rattle.std.specs.Str.{is_utf8};
 ghost use Rattle.rec_sex.specs.Patterns.{IsBuiltFrom, PatternMayBeRefused};
 ghost use Rattle.regex.specs.Strings.{matcher_pattern};
-ghost use Rattle.rec_sex.specs.Expressions.{AreBuiltFrom};
+ghost use Rattle.rec_sex.specs.Parsing.{AreBuiltFrom};
 ghost use Rattle.rec_sex.specs.Meaning.{is_found as is_found_in_text};
+ghost use Rattle.rec_text.specs.Faults.{IsOkUnlessEither};
 
 use rec_text::{Bytes, Fault};
 use regex::{Matcher, Regex};
@@ -14,7 +15,7 @@ use std::alloc::Global;
 pub fn pattern_of(alloc: Global, text: &str) -> Result<Regex, Fault>
     ensures built { IfOk result (IsBuiltFrom text.now) }
     ensures refused { IsErrOf result Fault.BadPattern → PatternMayBeRefused text.now }
-    ensures refusals { IfErr result (λ fault. (fault ≡ Fault.OutOfMemory) ⊎ (fault ≡ Fault.BadPattern)) }
+    ensures refusals { IsOkUnlessEither result Fault.OutOfMemory Fault.BadPattern }
 {
     match Regex::new(alloc, text) {
         Ok(pattern) => Ok(pattern),
@@ -28,7 +29,7 @@ pub(crate) fn patterns_of(alloc: Global, texts: &[Bytes]) -> Result<Vec<Regex>, 
     requires { All (λ text. is_utf8 text ≡ true) texts.now }
     ensures built { IfOk result (λ patterns. AreBuiltFrom texts.now patterns.items) }
     ensures refused { IsErrOf result Fault.BadPattern → Any PatternMayBeRefused texts.now }
-    ensures refusals { IfErr result (λ fault. (fault ≡ Fault.OutOfMemory) ⊎ (fault ≡ Fault.BadPattern)) }
+    ensures refusals { IsOkUnlessEither result Fault.OutOfMemory Fault.BadPattern }
 {
     let mut patterns = Vec::new(alloc);
     for text in texts {

@@ -1,12 +1,10 @@
 //! What many items pick of a record: its fields find the items that start at them.
-ghost use Rattle.std.specs.Prelude.{◌≡◌, ◌||◌, ◌++◌, [], ℕ, IfOk, OnOk, IfErr};
-ghost use Rattle.std.specs.List.{flat_map};
+ghost use Rattle.std.specs.Prelude.{◌≡◌, ◌++◌, [], IfOk, OnOk, IsOkUnless};
 ghost use Rattle.std.specs.List.Sorted.{IsStrictlySortedBy};
 ghost use Rattle.std.specs.Ordering.{nat_cmp};
 ghost use Rattle.rec_text.specs.Places.{pieces_of};
-ghost use Rattle.rec_sex.specs.ItemStarts.{has_index, AreWanted, Covers, HasPlacesOf, meant_of, picked_at};
+ghost use Rattle.rec_sex.specs.ItemStarts.{AreWanted, Covers, HasPlacesOf, meant_of, HasBoth, all_meant};
 ghost use Rattle.rec_sex.specs.Lists.{occurrences, picks};
-ghost use Rattle.rec_sex.specs.NamePlaces.{places_in};
 
 use crate::field_list::Item;
 use crate::index_list::Span;
@@ -40,8 +38,8 @@ fn add_meant(
     item: &Item,
     places: &mut Vec<usize>,
 ) -> Result<(), Fault>
-    ensures added { IfOk result (λ _. places.new.items ≡ places.old.items ++ occurrences item.now.occurrences (places_in table.now item.now.name)) }
-    ensures refusals { IfErr result (λ fault. fault ≡ Fault.OutOfMemory) }
+    ensures added { OnOk result (places.new.items ≡ places.old.items ++ meant_of table.now item.now) }
+    ensures refusals { IsOkUnless result Fault.OutOfMemory }
 {
     let found = places_of(table, item.name.as_slice());
     places.extend_from_slice(meant(item.occurrences, found))?;
@@ -50,8 +48,8 @@ fn add_meant(
 
 /// Adds indexes to those of a set.
 fn add_indexes(wanted: &mut BTreeSet<usize>, indexes: &[usize]) -> Result<(), Fault>
-    ensures added { OnOk result ((index : ℕ) → has_index wanted.new.keys index ≡ (has_index indexes.now index || has_index wanted.old.keys index)) }
-    ensures refusals { IfErr result (λ fault. fault ≡ Fault.OutOfMemory) }
+    ensures added { OnOk result (HasBoth wanted.new.keys indexes.now wanted.old.keys) }
+    ensures refusals { IsOkUnless result Fault.OutOfMemory }
 {
     for index in indexes {
         wanted.insert(*index)?;
@@ -70,7 +68,7 @@ fn add_found<'t>(
     requires { HasPlacesOf starts.now table.old [] }
     ensures wanted { OnOk result (AreWanted starts.now (pieces_of fields.now) wanted.new.keys) }
     ensures places { OnOk result (HasPlacesOf starts.now table.new (pieces_of fields.now)) }
-    ensures refusals { IfErr result (λ fault. fault ≡ Fault.OutOfMemory) }
+    ensures refusals { IsOkUnless result Fault.OutOfMemory }
 {
     for (place, field) in fields.iter().enumerate() {
         let name = field.name();
@@ -91,7 +89,7 @@ fn found<'t>(
 ) -> Result<(BTreeSet<usize>, HashMap<&'t [u8], Vec<usize>>), Fault>
     ensures wanted { IfOk result (λ (wanted, _). AreWanted starts.now (pieces_of fields.now) wanted.keys) }
     ensures places { IfOk result (λ (_, table). HasPlacesOf starts.now table (pieces_of fields.now)) }
-    ensures refusals { IfErr result (λ fault. fault ≡ Fault.OutOfMemory) }
+    ensures refusals { IsOkUnless result Fault.OutOfMemory }
 {
     let mut wanted = BTreeSet::new(alloc);
     let mut table = HashMap::new(alloc);
@@ -106,9 +104,9 @@ fn add_picked(
     table: &HashMap<&[u8], Vec<usize>>,
     places: &mut Vec<usize>,
 ) -> Result<(), Fault>
-    ensures added { OnOk result (places.new.items ≡ places.old.items ++ flat_map (picked_at (meant_of table.now) items.now) wanted.now.keys) }
+    ensures added { OnOk result (places.new.items ≡ places.old.items ++ all_meant table.now items.now wanted.now.keys) }
     ensures rising { OnOk result (IsStrictlySortedBy nat_cmp wanted.now.keys) }
-    ensures refusals { IfErr result (λ fault. fault ≡ Fault.OutOfMemory) }
+    ensures refusals { IsOkUnless result Fault.OutOfMemory }
 {
     for index in wanted {
         let Some(item) = items.get(*index) else {
@@ -128,7 +126,7 @@ pub(crate) fn picked_by_name(
 ) -> Result<Vec<usize>, Fault>
     requires { Covers starts.now items.now }
     ensures places { IfOk result (λ places. places.items ≡ picks items.now (pieces_of fields.now)) }
-    ensures refusals { IfErr result (λ fault. fault ≡ Fault.OutOfMemory) }
+    ensures refusals { IsOkUnless result Fault.OutOfMemory }
 {
     let (wanted, table) = found(alloc, starts, fields)?;
     let mut places = Vec::new(alloc);

@@ -1,8 +1,7 @@
 //! A table of the places of each name among the elements of a record.
-ghost use Rattle.std.specs.Prelude.{◌≡◌, ◌∷◌, ◌++◌, ℕ, List, [], if◌then◌else◌, slice_get, IfOk, IfErr, OnOk};
-ghost use Rattle.std.specs.Str.{bytes_eq};
+ghost use Rattle.std.specs.Prelude.{◌≡◌, slice_get, IfOk, OnOk, IsOkUnless};
 ghost use Rattle.rec_text.specs.Places.{pieces_of};
-ghost use Rattle.rec_sex.specs.NamePlaces.{places_in, HasPlaces};
+ghost use Rattle.rec_sex.specs.NamePlaces.{places_in, HasPlaces, AddsPlace};
 
 use rec_text::{Element, Fault};
 use std::alloc::Global;
@@ -15,8 +14,8 @@ pub(crate) fn add_place<'t>(
     name: &'t [u8],
     place: usize,
 ) -> Result<(), Fault>
-    ensures added { OnOk result ((other : List ℕ) → places_in table.new other ≡ (if bytes_eq name.now other then places_in table.old other ++ place ∷ [] else places_in table.old other)) }
-    ensures refusals { IfErr result (λ fault. fault ≡ Fault.OutOfMemory) }
+    ensures added { OnOk result (AddsPlace table.old table.new name.now place) }
+    ensures refusals { IsOkUnless result Fault.OutOfMemory }
 {
     if let Some(places) = table.get_mut(name) {
         places.push(place)?;
@@ -34,7 +33,7 @@ pub(crate) fn table_of<'t>(
     fields: &[Element<'t>],
 ) -> Result<HashMap<&'t [u8], Vec<usize>>, Fault>
     ensures places { IfOk result (λ table. HasPlaces table (pieces_of fields.now)) }
-    ensures refusals { IfErr result (λ fault. fault ≡ Fault.OutOfMemory) }
+    ensures refusals { IsOkUnless result Fault.OutOfMemory }
 {
     let mut table = HashMap::new(alloc);
     for (place, field) in fields.iter().enumerate() {

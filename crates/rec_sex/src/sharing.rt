@@ -1,6 +1,6 @@
 //! The names that stand more than once in an expression.
-ghost use Rattle.std.specs.Prelude.{◌≡◌, map, nat_lt, IfOk, IfErr};
-ghost use Rattle.rec_sex.specs.Choices.{places_of, shared_names, times_of, times_in_both};
+ghost use Rattle.std.specs.Prelude.{◌≡◌, nat_lt, IfOk, IsOkUnless};
+ghost use Rattle.rec_sex.specs.Choices.{places_of, shared_names, times_of, times_in_both, texts};
 
 use crate::tree::Tree;
 use rec_text::Fault;
@@ -67,8 +67,8 @@ pub(crate) fn shared_names<'e>(
     tree: &Tree,
     names: &[&'e [u8]],
 ) -> Result<Vec<&'e [u8]>, Fault>
-    ensures names { IfOk result (λ shared. map (λ one. one.now) shared.items ≡ shared_names tree.now (map (λ one. one.now) names.now)) }
-    ensures refusals { IfErr result (λ fault. fault ≡ Fault.OutOfMemory) }
+    ensures names { IfOk result (λ shared. texts shared.items ≡ shared_names tree.now (texts names.now)) }
+    ensures refusals { IsOkUnless result Fault.OutOfMemory }
 {
     let mut shared = Vec::new(alloc);
     for name in names {

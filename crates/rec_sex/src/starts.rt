@@ -1,9 +1,7 @@
 //! Where the items of a list start: by its name and its number among the fields of that name, a field finds the items whose
 //! first occurrence it is.
-ghost use Rattle.std.specs.Prelude.{◌≡◌, ◌∷◌, ◌++◌, ℕ, List, [], if◌then◌else◌, IfOk, OnOk};
-ghost use Rattle.std.specs.Bool.{nat_eq};
-ghost use Rattle.std.specs.Str.{bytes_eq};
-ghost use Rattle.rec_sex.specs.ItemStarts.{first_of, indexes_at, indexes_in, Covers};
+ghost use Rattle.std.specs.Prelude.{◌≡◌, IfOk, OnOk};
+ghost use Rattle.rec_sex.specs.ItemStarts.{first_of, indexes_at, Covers, AddsIndex, AddsStart};
 
 use crate::field_list::Item;
 use crate::index_list::Span;
@@ -27,7 +25,7 @@ fn add_at(
     occurrence: usize,
     index: usize,
 ) -> Result<(), AllocError>
-    ensures { OnOk result ((other : ℕ) → indexes_at starts.new other ≡ (if nat_eq occurrence other then indexes_at starts.old other ++ index ∷ [] else indexes_at starts.old other)) }
+    ensures { OnOk result (AddsIndex starts.old starts.new occurrence index) }
 {
     if let Some(indexes) = starts.get_mut(&occurrence) {
         indexes.push(index)?;
@@ -47,7 +45,7 @@ fn add_start(
     occurrence: usize,
     index: usize,
 ) -> Result<(), AllocError>
-    ensures { OnOk result ((other : List ℕ) (at : ℕ) → indexes_in table.new other at ≡ (if bytes_eq name.now other then (if nat_eq occurrence at then indexes_in table.old other at ++ index ∷ [] else indexes_in table.old other at) else indexes_in table.old other at)) }
+    ensures { OnOk result (AddsStart table.old table.new name.now occurrence index) }
 {
     if let Some(starts) = table.get_mut(name) {
         add_at(alloc, starts, occurrence, index)?;

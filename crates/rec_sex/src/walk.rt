@@ -3,7 +3,7 @@ ghost use Rattle.std.specs.Prelude.{◌≡◌, nat_lt, List, IfOk};
 ghost use Rattle.std.specs.Str.{is_utf8 as text_is_utf8};
 ghost use Rattle.rec_sex.specs.declared.walk.Opened.{Opened};
 ghost use Rattle.rec_sex.specs.Grammar.{walk_start, behind_operand_wanted as next_operand, behind_operand as next_operator, behind_found as next_pattern, may_end as walk_may_end, fault_inside as offset_inside, level_of};
-ghost use Rattle.rec_sex.specs.Lexing.{walk_of, want_of, opened_of, stack_of, next_of, behind_closed, IsStep};
+ghost use Rattle.rec_sex.specs.Lexing.{walk_of, stack_of, next_of, behind_closed, IsStep};
 
 use crate::token::{Operator, Token};
 use std::alloc::{AllocError, Global};
@@ -123,7 +123,8 @@ fn behind_operand(
     all: bool,
     token: &Token,
 ) -> Result<Option<Want>, AllocError>
-    ensures { IfOk result (λ next. next_of next stack.new.items ≡ next_operator all (stack_of stack.old.items) token.now) }
+    ensures { IfOk result (λ next.
+        next_of next stack.new.items ≡ next_operator all (stack_of stack.old.items) token.now) }
 {
     match token {
         Token::Binary(operator) => Ok(if all || !binds_strongly(*operator) {
@@ -160,7 +161,7 @@ fn behind_found(token: &Token) -> Option<Want>
 
 /// Takes off what was opened last, and answers what is wanted then, if it was this.
 fn closed(stack: &mut Vec<Opened>, opened: Opened, want: Want) -> Option<Want>
-    ensures { next_of result stack.new.items ≡ behind_closed (opened_of opened) (want_of want) (stack_of stack.old.items) }
+    ensures { next_of result stack.new.items ≡ behind_closed opened want (stack_of stack.old.items) }
 {
     match stack.pop() {
         Some(last) if last == opened => Some(want),

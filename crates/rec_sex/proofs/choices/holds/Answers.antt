@@ -5,9 +5,9 @@ use Rattle.std.proofs.lemmas.Result.{IfOk-weaker}
 use Rattle.regex.specs.Strings.{matcher_pattern}
 use Rattle.rec_text.specs.Places.{pieces_of}
 use Rattle.rec_sex.specs.Meaning.{is_true, sem}
-use Rattle.rec_sex.specs.Choices.{chosen_in, entry_of, term_under, repeated_names, shared_names, any_choice}
+use Rattle.rec_sex.specs.Expressions.{term_under}
+use Rattle.rec_sex.specs.Choices.{chosen_in, entry_of, repeated_names, shared_names, any_choice, texts}
 use Rattle.rec_sex.specs.Outcomes.{can_hold}
-use Rattle.rec_sex.proofs.ChoiceLemmas.{texts}
 use Rattle.rec_sex.proofs.SelectLemmas.{holds_by_one, holds_by_walk}
 use Rattle.rec_sex.proofs.choices.holds.Goals as goal
 

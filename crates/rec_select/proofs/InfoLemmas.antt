@@ -24,61 +24,61 @@ use Rattle.rec_check.specs.Sets.{AreFrom, BeginsAt, is_of_type, named_in}
 use Rattle.rec_text.proofs.ListLemmas.{AllByRecursion-slice_get, slice_get-drop, slice_get-take}
 use Rattle.rec_select.specs.declared.records.Shape.TheVariants.{Blocks}
 use Rattle.rec_select.specs.Printing.{block_of, closed, joined_blocks}
+use Rattle.rec_select.specs.Blocks.{gap}
 use Rattle.rec_select.specs.Heads.{AreHeads, HeadsFrom}
 use Rattle.rec_select.specs.Selection.{record_at}
 use Rattle.rec_select.specs.Info.{info, sets_for}
 use Rattle.rec_select.specs.declared.info.InfoForm.TheVariants.{Descriptors}
-use Rattle.rec_select.specs.Taken.{HasTaken, HasStopped, Prints}
-use Rattle.rec_select.proofs.PutsLemmas.{HasTaken-nil, HasTaken-as, HasTaken-append, HasStopped-as, HasStopped-append, HasStopped-within}
+use Rattle.rec_select.specs.Taken.{HasTaken, HasStopped}
+use Rattle.rec_select.proofs.PutsLemmas.{HasTaken-nil, HasTaken-as, HasTaken-append, HasStopped-as, HasStopped-within}
 
 -- ---- parts of a text, put one after another
 
 -- the rest of a text is still to be put, and what stands before it was taken
-pub record IsTakenTo (text : List ℕ) (old new : Option (List ℕ)) (before after : ℕ) (rest : List ℕ) : Type 0 where
-  pub front : List ℕ
-  pub parts : text ≡ front ++ rest
-  pub taken : HasTaken front old new before after
+pub record IsTakenTo {S : Type 0} (contents : S → Option (List ℕ)) (failures : S → ℕ) (old new : S) (text rest : List ℕ) : Type 0 where
+  pub before : List ℕ
+  pub parts : text ≡ before ++ rest
+  pub taken : HasTaken contents failures old new before
 
-pub IsTakenTo-none : (text : List ℕ) (old : Option (List ℕ)) (before : ℕ) → IsTakenTo text old old before before text
-IsTakenTo-none text old before = record { front = []; parts = refl; taken = HasTaken-nil old before }
-
-parts_of : {text rest : List ℕ} (front part later : List ℕ) → text ≡ front ++ rest → rest ≡ part ++ later → text ≡ (front ++ part) ++ later
-parts_of front part later parts more = parts ∙ ap (λ r. front ++ r) more ∙ sym (append_assoc front part later)
-
--- a part more was taken
-pub IsTakenTo-more : {text rest : List ℕ} {old mid new : Option (List ℕ)} {before between after : ℕ} → (part later : List ℕ)
-    → IsTakenTo text old mid before between rest → rest ≡ part ++ later → HasTaken part mid new between after → IsTakenTo text old new before after later
-IsTakenTo-more part later so_far more taken = record {
-  front = so_far.front ++ part;
-  parts = parts_of so_far.front part later so_far.parts more;
-  taken = HasTaken-append so_far.taken taken;
-}
-
--- a part stopped, and so did the whole
-pub IsTakenTo-stopped : {text rest : List ℕ} {old mid new : Option (List ℕ)} {before between after : ℕ} {fault : Fault} → (part later : List ℕ)
-    → IsTakenTo text old mid before between rest → rest ≡ part ++ later → HasStopped part mid new between after fault → HasStopped text old new before after fault
-IsTakenTo-stopped part later so_far more stopped = HasStopped-within _ later (parts_of so_far.front part later so_far.parts more) so_far.taken stopped
-
--- nothing is left
-pub IsTakenTo-all : {text rest : List ℕ} {old new : Option (List ℕ)} {before after : ℕ} → IsTakenTo text old new before after rest → rest ≡ [] → HasTaken text old new before after
-IsTakenTo-all so_far none = HasTaken-as (sym (so_far.parts ∙ ap (λ r. so_far.front ++ r) none ∙ append-nil so_far.front)) so_far.taken
-
--- ---- a text for each element of a list
+parts_of : {text rest : List ℕ} (before part later : List ℕ) → text ≡ before ++ rest → rest ≡ part ++ later → text ≡ (before ++ part) ++ later
+parts_of before part later parts more = parts ∙ ap (λ r. before ++ r) more ∙ sym (append_assoc before part later)
 
 flat_map-drop : {X : Type 0} (f : X → List ℕ) (xs : List X) (i : ℕ) (d x : X) → i < length xs → x ≡ get_or xs i d → flat_map f (drop i xs) ≡ f x ++ flat_map f (drop (i + 1) xs)
 flat_map-drop f xs i d x there is = rw (add-one, is, drop-cons xs i d)
 
--- the text of one element more was taken
-pub one_taken : {X : Type 0} (f : X → List ℕ) (xs : List X) (i : ℕ) (d x : X) {old mid new : Option (List ℕ)} {before between after : ℕ}
-    → IsTakenTo (flat_map f xs) old mid before between (flat_map f (drop i xs)) → i < length xs → x ≡ get_or xs i d → HasTaken (f x) mid new between after
-    → IsTakenTo (flat_map f xs) old new before after (flat_map f (drop (i + 1) xs))
-one_taken f xs i d x so_far there is taken = IsTakenTo-more (f x) _ so_far (flat_map-drop f xs i d x there is) taken
+module _ {S : Type 0} {contents : S → Option (List ℕ)} {failures : S → ℕ} where
+  pub IsTakenTo-none : (text : List ℕ) (old : S) → IsTakenTo contents failures old old text text
+  IsTakenTo-none text old = record { before = []; parts = refl; taken = HasTaken-nil old }
 
--- the text of one element stopped
-pub one_stopped : {X : Type 0} (f : X → List ℕ) (xs : List X) (i : ℕ) (d x : X) {old mid new : Option (List ℕ)} {before between after : ℕ} {fault : Fault}
-    → IsTakenTo (flat_map f xs) old mid before between (flat_map f (drop i xs)) → i < length xs → x ≡ get_or xs i d → HasStopped (f x) mid new between after fault
-    → HasStopped (flat_map f xs) old new before after fault
-one_stopped f xs i d x so_far there is stopped = IsTakenTo-stopped (f x) (flat_map f (drop (i + 1) xs)) so_far (flat_map-drop f xs i d x there is) stopped
+  -- a part more was taken
+  pub IsTakenTo-more : {text rest : List ℕ} {old mid new : S} → (part later : List ℕ)
+      → IsTakenTo contents failures old mid text rest → rest ≡ part ++ later → HasTaken contents failures mid new part → IsTakenTo contents failures old new text later
+  IsTakenTo-more part later so_far more taken = record {
+    before = so_far.before ++ part;
+    parts = parts_of so_far.before part later so_far.parts more;
+    taken = HasTaken-append so_far.taken taken;
+  }
+
+  -- a part stopped, and so did the whole
+  pub IsTakenTo-stopped : {text rest : List ℕ} {old mid new : S} {fault : Fault} → (part later : List ℕ)
+      → IsTakenTo contents failures old mid text rest → rest ≡ part ++ later → HasStopped contents failures mid new part fault → HasStopped contents failures old new text fault
+  IsTakenTo-stopped part later so_far more stopped = HasStopped-within _ later (parts_of so_far.before part later so_far.parts more) so_far.taken stopped
+
+  -- nothing is left
+  pub IsTakenTo-all : {text rest : List ℕ} {old new : S} → IsTakenTo contents failures old new text rest → rest ≡ [] → HasTaken contents failures old new text
+  IsTakenTo-all so_far none = HasTaken-as (sym (so_far.parts ∙ ap (λ r. so_far.before ++ r) none ∙ append-nil so_far.before)) so_far.taken
+
+  -- ---- a text for each element of a list
+
+  module _ {X : Type 0} (f : X → List ℕ) (xs : List X) (i : ℕ) (d x : X) {old mid new : S} (so_far : IsTakenTo contents failures old mid (flat_map f xs) (flat_map f (drop i xs)))
+      (there : i < length xs) (is : x ≡ get_or xs i d) where
+    -- the text of one element more was taken
+    pub one_taken : HasTaken contents failures mid new (f x) → IsTakenTo contents failures old new (flat_map f xs) (flat_map f (drop (i + 1) xs))
+    one_taken taken = IsTakenTo-more (f x) _ so_far (flat_map-drop f xs i d x there is) taken
+
+    -- the text of one element stopped
+    pub one_stopped : {fault : Fault} → HasStopped contents failures mid new (f x) fault → HasStopped contents failures old new (flat_map f xs) fault
+    one_stopped stopped = IsTakenTo-stopped (f x) (flat_map f (drop (i + 1) xs)) so_far (flat_map-drop f xs i d x there is) stopped
 
 -- ---- the sets that are printed
 
@@ -115,15 +115,6 @@ pub sets_for-missing : (kind : List ℕ) (sets : List Set_) → position (is_of_
 sets_for-missing kind sets none = sets_for-no_find kind sets (find-no_position (is_of_type kind) sets none)
 
 -- ---- the blocks of descriptors
-
-pub Prints-append : {old mid : Option (List ℕ)} {before between : ℕ} → (some more : List ℕ) (new : Option (List ℕ)) (after : ℕ) (result : Result (Unit {0}) Fault)
-    → HasTaken some old mid before between → Prints more mid new between after result → Prints (some ++ more) old new before after result
-Prints-append some more new after (Ok done) first next = HasTaken-append first next
-Prints-append some more new after (Err fault) first next = HasStopped-append first next
-
--- what stands before a block: an empty line, unless it is the first
-abbrev pub gap : Bool → List ℕ
-gap is_first = if is_first then [] else 10 ∷ []
 
 -- what is printed of blocks, from the first of all or from a later one on
 abbrev pub text_from : Bool → List (List ℕ) → List ℕ
@@ -240,8 +231,8 @@ module _ (pieces : List Piece) (all : List (Range ℕ)) where
   head_blocks sets = map (λ i. block_of Blocks (record_at pieces all i)) (filter_map (λ s. s.head) sets)
 
   -- the descriptors up to some sets went out, and these sets and the records behind those passed are left
-  pub record AreHeadsTo (sets : List Set_) (old new : Option (List ℕ)) (before after : ℕ) (passed : ℕ) (left : List (Range ℕ)) (rest : List Set_) : Type 0 where
-    pub taken : IsTakenTo (text_from true (head_blocks sets)) old new before after (text_from (passed == 0) (head_blocks rest))
+  pub record AreHeadsTo {S : Type 0} (contents : S → Option (List ℕ)) (failures : S → ℕ) (old new : S) (sets : List Set_) (passed : ℕ) (left : List (Range ℕ)) (rest : List Set_) : Type 0 where
+    pub taken : IsTakenTo contents failures old new (text_from true (head_blocks sets)) (text_from (passed == 0) (head_blocks rest))
     pub left_are : left ≡ drop passed all
     pub ordered : HeadsFrom (length all) passed rest
 
@@ -258,17 +249,23 @@ module _ (pieces : List Piece) (all : List (Range ℕ)) where
   head_blocks-typed s sets head fields is at = rw (is, at) refl
 
 module _ {pieces : List Piece} {all : List (Range ℕ)} where
-  pub first_head : (sets : List Set_) (old : Option (List ℕ)) (before : ℕ) → AreRecords pieces all → AreHeads pieces sets → AreHeadsTo pieces all sets old old before before 0 all sets
-  first_head sets old before are (records, are_records, ordered) =
+  -- what is left of the descriptors after some of them are those of the text
+  text_from-info : (sets : List Set_) (records : List (Range ℕ)) → AreRecords pieces all → AreRecords pieces records → text_from true (head_blocks pieces all sets) ≡ info Descriptors pieces records sets
+  text_from-info sets records are are_records =
+      sym (joined_blocks-text_from (head_blocks pieces all sets)) ∙ ap (λ records. info Descriptors pieces records sets) (OneListOfRecords-holds.records pieces all records are are_records)
+
+module _ {S : Type 0} {contents : S → Option (List ℕ)} {failures : S → ℕ} {pieces : List Piece} {all : List (Range ℕ)} where
+  pub first_head : (sets : List Set_) (old : S) → AreRecords pieces all → AreHeads pieces sets → AreHeadsTo pieces all contents failures old old sets 0 all sets
+  first_head sets old are (records, are_records, ordered) =
       let P : List (Range ℕ) → Type 0 = λ records. HeadsFrom (length records) 0 sets in
       record {
-        taken = IsTakenTo-none (text_from true (head_blocks pieces all sets)) old before;
+        taken = IsTakenTo-none (text_from true (head_blocks pieces all sets)) old;
         left_are = refl;
         ordered = subst P (OneListOfRecords-holds.records pieces records all are_records are) ordered;
       }
 
-  module _ {sets : List Set_} {i : ℕ} {s : Set_} {old new : Option (List ℕ)} {before after : ℕ} {passed : ℕ} {left : List (Range ℕ)}
-      (so_far : AreHeadsTo pieces all sets old new before after passed left (drop i sets)) (there : i < length sets) (is : s ≡ get_or sets i s) where
+  module _ {sets : List Set_} {i : ℕ} {s : Set_} {old new : S} {passed : ℕ} {left : List (Range ℕ)}
+      (so_far : AreHeadsTo pieces all contents failures old new sets passed left (drop i sets)) (there : i < length sets) (is : s ≡ get_or sets i s) where
     rest_are : drop i sets ≡ s ∷ drop (i + 1) sets
     rest_are = drop-item sets i s there is
 
@@ -307,33 +304,28 @@ module _ {pieces : List Piece} {all : List (Range ℕ)} where
           ordered = next.1;
         }
 
-  -- what is left of the descriptors after some of them are those of the text
-  text_from-info : (sets : List Set_) (records : List (Range ℕ)) → AreRecords pieces all → AreRecords pieces records → text_from true (head_blocks pieces all sets) ≡ info Descriptors pieces records sets
-  text_from-info sets records are are_records =
-      sym (joined_blocks-text_from (head_blocks pieces all sets)) ∙ ap (λ records. info Descriptors pieces records sets) (OneListOfRecords-holds.records pieces all records are are_records)
-
-  module _ {sets rest more : List Set_} {old mid : Option (List ℕ)} {before between : ℕ} {passed : ℕ} {left later : List (Range ℕ)} {head : ℕ} {fields : Range ℕ}
-      (so_far : AreHeadsTo pieces all sets old mid before between passed left rest) (next : IsNextHead pieces all passed head fields later rest more) (part same : List Piece) (is_part : part ≡ elements_in same fields)
+  module _ {sets rest more : List Set_} {old mid : S} {passed : ℕ} {left later : List (Range ℕ)} {head : ℕ} {fields : Range ℕ}
+      (so_far : AreHeadsTo pieces all contents failures old mid sets passed left rest) (next : IsNextHead pieces all passed head fields later rest more) (part same : List Piece) (is_part : part ≡ elements_in same fields)
       (is_same : same ≡ pieces) where
     block_is : gap (passed == 0) ++ block_of Blocks part ≡ gap (passed == 0) ++ block_of Blocks (elements_in pieces fields)
     block_is = ap (λ (pieces : List Piece). gap (passed == 0) ++ block_of Blocks pieces) (is_part ∙ ap (λ (pieces : List Piece). elements_in pieces fields) is_same)
 
-    pub head_taken : {new : Option (List ℕ)} {after : ℕ} → HasTaken (gap (passed == 0) ++ block_of Blocks part) mid new between after → AreHeadsTo pieces all sets old new before after (head + 1) later more
-    head_taken {new} {after} taken =
-        let P : Bool → Type 0 = λ is_first. IsTakenTo (text_from true (head_blocks pieces all sets)) old new before after (text_from is_first (head_blocks pieces all more)) in
+    pub head_taken : {new : S} → HasTaken contents failures mid new (gap (passed == 0) ++ block_of Blocks part) → AreHeadsTo pieces all contents failures old new sets (head + 1) later more
+    head_taken {new} taken =
+        let P : Bool → Type 0 = λ is_first. IsTakenTo contents failures old new (text_from true (head_blocks pieces all sets)) (text_from is_first (head_blocks pieces all more)) in
         record {
           taken = subst P (sym (is_later head)) (IsTakenTo-more _ _ so_far.taken next.text (HasTaken-as block_is taken));
           left_are = next.later_are;
           ordered = next.ordered;
         }
 
-    pub head_stopped : {new : Option (List ℕ)} {after : ℕ} {fault : Fault} → HasStopped (gap (passed == 0) ++ block_of Blocks part) mid new between after fault
-        → (records : List (Range ℕ)) → AreRecords pieces all → AreRecords pieces records → HasStopped (info Descriptors pieces records sets) old new before after fault
+    pub head_stopped : {new : S} {fault : Fault} → HasStopped contents failures mid new (gap (passed == 0) ++ block_of Blocks part) fault
+        → (records : List (Range ℕ)) → AreRecords pieces all → AreRecords pieces records → HasStopped contents failures old new (info Descriptors pieces records sets) fault
     head_stopped stopped records are are_records =
         HasStopped-as (text_from-info sets records are are_records) (IsTakenTo-stopped _ _ so_far.taken next.text (HasStopped-as block_is stopped))
 
-  pub heads_taken : {sets : List Set_} {i : ℕ} {old new : Option (List ℕ)} {before after : ℕ} {passed : ℕ} {left : List (Range ℕ)} → AreHeadsTo pieces all sets old new before after passed left (drop i sets)
-      → length sets ≤ i → (records : List (Range ℕ)) → AreRecords pieces all → AreRecords pieces records → HasTaken (info Descriptors pieces records sets) old new before after
+  pub heads_taken : {sets : List Set_} {i : ℕ} {old new : S} {passed : ℕ} {left : List (Range ℕ)} → AreHeadsTo pieces all contents failures old new sets passed left (drop i sets)
+      → length sets ≤ i → (records : List (Range ℕ)) → AreRecords pieces all → AreRecords pieces records → HasTaken contents failures old new (info Descriptors pieces records sets)
   heads_taken {sets} {i} {passed = passed} so_far none records are are_records =
       HasTaken-as (text_from-info sets records are are_records) (IsTakenTo-all so_far.taken (ap (λ (rest : List Set_). text_from (passed == 0) (head_blocks pieces all rest)) (drop_all i sets none)))
 

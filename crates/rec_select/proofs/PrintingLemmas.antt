@@ -16,7 +16,7 @@ use Rattle.rec_text.proofs.ListLemmas.{AllByRecursion-weaker, join_with_byte-con
 use Rattle.rec_text.proofs.RecordLemmas.{one_list_of_records}
 use Rattle.rec_text.specs.Records.{elements_in}
 use Rattle.rec_select.specs.Selection.{record_at}
-use Rattle.rec_select.specs.Blocks.{behind, full, separated}
+use Rattle.rec_select.specs.Blocks.{full, led_by, separated}
 use Rattle.rec_select.specs.Printing.{AreIndexes, IsPrinted, block_of, joined_blocks, printed}
 use Rattle.rec_select.specs.declared.records.Shape.{Shape}
 use Rattle.rec_select.specs.declared.records.Shape.TheVariants.{Blocks, Print, Values, Row, Count}
@@ -28,8 +28,8 @@ record_at-within pieces records i d some = rw (slice_get-get_or records i d some
 
 -- ---- blocks one after another
 
-pub behind-full : (before block : List ℕ) → is_nil block ≡ false → behind before block ≡ before ++ block
-behind-full before block e = rw e refl
+pub led_by-full : (before block : List ℕ) → is_nil block ≡ false → led_by before block ≡ before ++ block
+led_by-full before block e = rw e refl
 
 -- what stands before the next block
 abbrev pub lead : List ℕ → List (List ℕ) → List ℕ
@@ -53,7 +53,7 @@ full-append xs ys = filter-append (λ block. not (is_nil block)) xs ys
 
 -- one more block
 separated-more : (separator : List ℕ) (blocks : List (List ℕ)) (next : List ℕ)
-    → separated separator (full (blocks ++ next ∷ [])) ≡ separated separator (full blocks) ++ behind (lead separator (full blocks)) next
+    → separated separator (full (blocks ++ next ∷ [])) ≡ separated separator (full blocks) ++ led_by (lead separator (full blocks)) next
 separated-more separator blocks [] =
     ap (separated separator) (full-append blocks ([] ∷ []) ∙ append-nil (full blocks)) ∙ sym (append-nil (separated separator (full blocks)))
 separated-more separator blocks (b ∷ bs) = ap (separated separator) (full-append blocks ((b ∷ bs) ∷ [])) ∙ separated-push separator (full blocks) (b ∷ bs)
@@ -82,12 +82,12 @@ module _ (separator : List ℕ) (block : ℕ → List ℕ) (selected : List ℕ)
   map-more : map block (take (i + 1) selected) ≡ so_far ++ next ∷ []
   map-more = ap (map block) (take_more selected i 0 within) ∙ map-append block (take i selected) (get_or selected i 0 ∷ [])
 
-  pub separated_at : separated separator (full (map block (take (i + 1) selected))) ≡ separated separator (full so_far) ++ behind (lead separator (full so_far)) next
+  pub separated_at : separated separator (full (map block (take (i + 1) selected))) ≡ separated separator (full so_far) ++ led_by (lead separator (full so_far)) next
   separated_at = ap (λ t. separated separator (full t)) map-more ∙ separated-more separator so_far next
 
   -- with the separator and the block as the code has them
   pub separated_rest : (before part : List ℕ) → before ≡ lead separator (full so_far) → part ≡ next
-      → (rest : List ℕ) × (separated separator (full (map block selected)) ≡ (separated separator (full so_far) ++ behind before part) ++ rest)
+      → (rest : List ℕ) × (separated separator (full (map block selected)) ≡ (separated separator (full so_far) ++ led_by before part) ++ rest)
   separated_rest before part leads is =
       let done : List (List ℕ) = map block (take (i + 1) selected) in
       let left : List (List ℕ) = map block (drop (i + 1) selected) in
@@ -95,11 +95,11 @@ module _ (separator : List ℕ) (block : ℕ → List ℕ) (selected : List ℕ)
       let rest = separated-append separator (full done) (full left) in
       (rest.0, ap (λ t. separated separator (full t)) parts ∙ ap (separated separator) (full-append done left) ∙ rest.1 ∙ ap (λ t. t ++ rest.0) (rw (leads, is) separated_at))
 
-  pub lead_behind_full : is_nil next ≡ false → separator ≡ lead separator (full (map block (take (i + 1) selected)))
-  lead_behind_full holds = sym (ap (λ t. lead separator (full t)) map-more ∙ lead-full separator so_far next holds)
+  pub lead_after_full : is_nil next ≡ false → separator ≡ lead separator (full (map block (take (i + 1) selected)))
+  lead_after_full holds = sym (ap (λ t. lead separator (full t)) map-more ∙ lead-full separator so_far next holds)
 
-  pub lead_behind_empty : is_nil next ≡ true → lead separator (full so_far) ≡ lead separator (full (map block (take (i + 1) selected)))
-  lead_behind_empty empty = sym (ap (λ t. lead separator (full t)) map-more ∙ lead-empty separator so_far next empty)
+  pub lead_after_empty : is_nil next ≡ true → lead separator (full so_far) ≡ lead separator (full (map block (take (i + 1) selected)))
+  lead_after_empty empty = sym (ap (λ t. lead separator (full t)) map-more ∙ lead-empty separator so_far next empty)
 
 -- ---- collapsed or not
 

@@ -1,11 +1,14 @@
 -- The text of one record's block, and of blocks one after another.
-use Rattle.std.specs.Prelude.{ℕ, not, List, [], ◌∷◌, ◌++◌, map, filter, flat_map, if◌then◌else◌}
+use Rattle.std.specs.Prelude.{ℕ, Bool, not, List, [], ◌∷◌, ◌++◌, map, filter, flat_map, if◌then◌else◌}
+use Rattle.std.specs.declared.ops.Range.{Range}
 use Rattle.rec_text.specs.Bytes.{ends_newline, is_nil}
 use Rattle.rec_text.specs.Elements.{Piece}
 use Rattle.rec_text.specs.Places.{pieces_of}
+use Rattle.rec_text.specs.Records.{record_at}
 use Rattle.rec_text.specs.Values.{value_of}
 use Rattle.rec_select.specs.declared.block.Block.{Block}
 use Rattle.rec_select.specs.declared.block.Block.TheVariants.{Fields, Elements, Values, Row}
+use Rattle.rec_select.specs.declared.records.Shape.{Shape}
 use Rattle.rec_select.specs.declared.records.Shape.TheVariants.{Blocks}
 use Rattle.rec_select.specs.Printing.{block_of, closed, row_of, value_line}
 
@@ -24,13 +27,21 @@ text_of (Elements elements) = flat_map closed (pieces_of elements.items)
 text_of (Values elements) = flat_map value_line (pieces_of elements.items)
 text_of (Row elements) = row_of (map value_of (pieces_of elements.items))
 
--- a block behind a text; nothing where the block holds nothing
-abbrev pub behind : List ℕ → List ℕ → List ℕ
-behind before block = if is_nil block then [] else before ++ block
+-- a text and a block; nothing where the block holds nothing
+abbrev pub led_by : List ℕ → List ℕ → List ℕ
+led_by before block = if is_nil block then [] else before ++ block
+
+-- what stands before a record's block: an empty line, unless it is the first
+abbrev pub gap : Bool → List ℕ
+gap is_first = if is_first then [] else 10 ∷ []
 
 -- the blocks that hold anything
 abbrev pub full : List (List ℕ) → List (List ℕ)
 full blocks = filter (λ block. not (is_nil block)) blocks
+
+-- those of the records of some indexes
+abbrev pub blocks_of : Shape → List Piece → List (Range ℕ) → List ℕ → List (List ℕ)
+blocks_of shape pieces records selected = full (map (λ i. block_of shape (record_at pieces records i)) selected)
 
 -- blocks with a separator between each two
 abbrev pub separated : List ℕ → List (List ℕ) → List ℕ

@@ -1,9 +1,11 @@
+-- what a reader believes, in reading order
 pub mod Selection
-pub mod Filters
 pub mod Printing
 pub mod Taken
+pub mod Info
+pub mod Report
+-- what serves proofs
+pub mod Filters
 pub mod Excerpts
 pub mod Blocks
-pub mod Info
 pub mod Heads
-pub mod Report

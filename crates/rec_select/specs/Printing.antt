@@ -1,14 +1,11 @@
--- What is printed of records, and what a sink has taken of a text.
-use Rattle.std.specs.Prelude.{◌≡◌, ◌⊎◌, ℕ, ◌<◌, Bool, not, List, [], ◌∷◌, ◌++◌, length, map, filter, filter_map, flat_map, slice_get, decimal, Option, Result, Ok, Err, if◌then◌else◌}
-use Rattle.std.specs.Io.KnownBytes.{Appends, Keeps}
+-- What is printed of records.
+use Rattle.std.specs.Prelude.{◌≡◌, ℕ, ◌<◌, Bool, not, List, [], ◌∷◌, ◌++◌, length, map, filter, filter_map, flat_map, slice_get, decimal, Result, Ok, Err, if◌then◌else◌}
 use Rattle.std.specs.List.{concat, join_with_byte, AllByRecursion}
 use Rattle.std.specs.declared.ops.Range.{Range}
 use Rattle.rec_text.specs.declared.fault.Fault.{Fault}
-use Rattle.rec_text.specs.declared.fault.Fault.TheVariants.{OutOfMemory, StoreFailed}
 use Rattle.rec_text.specs.Bytes.{is_nil, ends_newline}
 use Rattle.rec_text.specs.Elements.{Piece}
 use Rattle.rec_text.specs.Records.{AreRecords, is_field_piece}
-use Rattle.rec_text.specs.Sink.{AppendsFront}
 use Rattle.rec_text.specs.Values.{value_of}
 use Rattle.rec_sex.specs.declared.field_list.Item.{Item}
 use Rattle.rec_sex.specs.Lists.{picks}
@@ -68,13 +65,3 @@ AreIndexes pieces selected = (records : List (Range ℕ)) × AreRecords pieces r
 abbrev pub IsPrinted : List Piece → List ℕ → Shape → Bool → Result (List ℕ) Fault → Type 0
 IsPrinted pieces selected shape collapse (Ok text) = (records : List (Range ℕ)) × AreRecords pieces records × (text ≡ printed pieces records selected shape collapse)
 IsPrinted pieces selected shape collapse (Err fault) = ⊥
-
--- ---- what went out
-
--- What a call put out that prints a text or refuses it: at success the whole text; at a want of memory, and where the
--- sink failed, a front of it; at another refusal nothing.
-abbrev pub Puts : {X : Type 0} → (Result (List ℕ) Fault → Type 0) → Option (List ℕ) → Option (List ℕ) → Result X Fault → Type 0
-Puts IsText old new (Ok done) = (text : List ℕ) × IsText (Ok text) × Appends old new text
-Puts IsText old new (Err OutOfMemory) = Keeps old new ⊎ ((text : List ℕ) × IsText (Ok text) × AppendsFront old new text)
-Puts IsText old new (Err StoreFailed) = (text : List ℕ) × IsText (Ok text) × AppendsFront old new text
-Puts IsText old new (Err fault) = IsText (Err fault) × Keeps old new

@@ -5,8 +5,12 @@ use Rattle.rec_text.specs.declared.violations.Violation.{Violation}
 use Rattle.rec_text.specs.Rules.{word_of}
 
 -- LINE: RULE NAME
+abbrev pub line_with : List ℕ → List ℕ → List ℕ → List ℕ
+line_with line rule name = line ++ (codes ": " ++ (rule ++ 32 ∷ (name ++ 10 ∷ [])))
+
+-- the line of a violation
 abbrev pub report_line : Violation → List ℕ
-report_line v = decimal v.line ++ (codes ": " ++ (word_of v.rule ++ 32 ∷ (v.name ++ 10 ∷ [])))
+report_line v = line_with (decimal v.line) (word_of v.rule) v.name
 
 abbrev pub report : List Violation → List ℕ
 report violations = flat_map report_line violations

@@ -1,5 +1,5 @@
 -- The records that a selection takes: a set, and a filter of its members.
-use Rattle.std.specs.Prelude.{◌≡◌, ◌↔◌, ℕ, ◌-◌, ◌<◌, ◌≤◌, Bool, true, List, [], ◌∷◌, ◌++◌, Any, AllPairs, Contains, find, nat_lt, Option, Some, None, Result, Ok, Err, if◌then◌else◌}
+use Rattle.std.specs.Prelude.{◌≡◌, ◌↔◌, ℕ, ◌-◌, ◌<◌, ◌≤◌, Bool, true, List, [], ◌∷◌, ◌++◌, Any, AllPairs, Contains, find, nat_lt, Option, Some, None, Result, Ok, Err, MatchResult, if◌then◌else◌}
 use Rattle.std.specs.declared.ops.Range.{Range}
 use Rattle.rec_text.specs.declared.fault.Fault.{Fault}
 use Rattle.rec_text.specs.declared.fault.Fault.TheVariants.{TypeNeeded, NoSuchType}
@@ -11,11 +11,14 @@ use Rattle.rec_sex.specs.Expressions.{term_of}
 use Rattle.rec_sex.specs.Grammar.{Term}
 use Rattle.rec_sex.specs.IndexList.{has}
 use Rattle.rec_sex.specs.Meaning.{Selects}
+use Rattle.rec_check.specs.declared.schema.Schema.{Schema}
 use Rattle.rec_check.specs.declared.set.Set_.{Set_}
 pub use Rattle.rec_text.specs.Records.{record_at}
 use Rattle.rec_check.specs.Sets.{is_of_type}
+use Rattle.rec_check.specs.Stored.{described}
 use Rattle.rec_select.specs.declared.selection.By.{By}
 use Rattle.rec_select.specs.declared.selection.By.TheVariants.{All, Expr, Index, Quick}
+use Rattle.rec_select.specs.declared.selection.Selection.{Selection}
 
 -- ---- the set
 
@@ -40,6 +43,10 @@ set_of_type kind sets = elim (find (is_of_type kind) sets) [ None ↦ Err NoSuch
 abbrev pub set_for : Option (List ℕ) → List Set_ → Result Set_ Fault
 set_for None sets = set_without_type sets
 set_for (Some kind) sets = set_of_type kind sets
+
+-- this is what a call answers: what it lends has the value, or it refuses so
+abbrev pub Answers : {X Y : Type 0} → (X → Y) → Result X Fault → Result Y Fault → Type 0
+Answers value result answer = MatchResult result (λ x. answer ≡ Ok (value x)) (λ fault. answer ≡ Err fault)
 
 -- ---- the filter
 
@@ -81,6 +88,10 @@ pub record AreSelected (pieces : List Piece) (s : Set_) (wanted : Filter) (selec
 abbrev pub IsSelection : List Piece → List Set_ → Option (List ℕ) → Filter → Result (List ℕ) Fault → Type 0
 IsSelection pieces sets kind wanted (Ok selected) = (s : Set_) × (set_for kind sets ≡ Ok s) × AreSelected pieces s wanted selected
 IsSelection pieces sets kind wanted (Err fault) = set_for kind sets ≡ Err fault
+
+-- the same of a selection from a text with its schema
+abbrev pub IsChoice : List Piece → Schema → Selection → Result (List ℕ) Fault → Type 0
+IsChoice pieces schema selection = IsSelection pieces (described schema).sets selection.kind (filter_of selection.by)
 
 -- a selection has one answer
 abbrev pub OneSelection : Type 0

@@ -1,10 +1,9 @@
 //! What is printed of one record.
-ghost use Rattle.std.specs.Prelude.{◌≡◌, flat_map, map, IfOk, IfErr};
+ghost use Rattle.std.specs.Prelude.{◌≡◌, flat_map, map, IfOk, IsOkUnless};
 ghost use Rattle.std.specs.List.{list_any};
 ghost use Rattle.rec_text.specs.Bytes.{ends_newline as newline_is_last};
 ghost use Rattle.rec_text.specs.Places.{piece_of, pieces_of};
 ghost use Rattle.rec_text.specs.Records.{is_field_piece};
-ghost use Rattle.rec_text.specs.Sink.{UnlessStoreFailed};
 ghost use Rattle.rec_text.specs.Values.{value_of};
 ghost use Rattle.rec_select.specs.Blocks.{closed_text, spaced_value};
 ghost use Rattle.rec_select.specs.Printing.{closed, picked as picked_of, row_of, value_line};
@@ -25,8 +24,8 @@ fn ends_newline(text: &[u8]) -> bool
 
 /// Prints a text, with a newline at its end.
 pub(crate) fn write_closed<S: Sink>(text: &[u8], out: &mut S) -> Result<(), Fault>
-    ensures printed { Prints (closed_text text.now) (S.contents out.old) (S.contents out.new) (S.failure_count out.old) (S.failure_count out.new) result }
-    ensures refusals { UnlessStoreFailed result }
+    ensures printed { Prints S.contents S.failure_count out.old out.new (closed_text text.now) result }
+    ensures refusals { IsOkUnless result Fault.StoreFailed }
 {
     put_all(out, text)?;
     if ends_newline(text) {
@@ -37,7 +36,7 @@ pub(crate) fn write_closed<S: Sink>(text: &[u8], out: &mut S) -> Result<(), Faul
 
 /// Prints elements, each with a newline at its end.
 fn write_elements<S: Sink>(elements: &[Element], out: &mut S) -> Result<(), Fault>
-    ensures { Prints (flat_map closed (pieces_of elements.now)) (S.contents out.old) (S.contents out.new) (S.failure_count out.old) (S.failure_count out.new) result }
+    ensures { Prints S.contents S.failure_count out.old out.new (flat_map closed (pieces_of elements.now)) result }
 {
     for element in elements {
         write_closed(element.raw, out)?;
@@ -47,7 +46,7 @@ fn write_elements<S: Sink>(elements: &[Element], out: &mut S) -> Result<(), Faul
 
 /// Prints the value of an element.
 fn write_value<S: Sink>(alloc: Global, element: &Element, out: &mut S) -> Result<(), Fault>
-    ensures { Prints (value_of (piece_of element.now)) (S.contents out.old) (S.contents out.new) (S.failure_count out.old) (S.failure_count out.new) result }
+    ensures { Prints S.contents S.failure_count out.old out.new (value_of (piece_of element.now)) result }
 {
     let value = element.value(alloc)?;
     put_all(out, value.bytes())
@@ -55,15 +54,15 @@ fn write_value<S: Sink>(alloc: Global, element: &Element, out: &mut S) -> Result
 
 /// Prints the value of an element, and a newline.
 fn write_value_line<S: Sink>(alloc: Global, element: &Element, out: &mut S) -> Result<(), Fault>
-    ensures { Prints (value_line (piece_of element.now)) (S.contents out.old) (S.contents out.new) (S.failure_count out.old) (S.failure_count out.new) result }
+    ensures { Prints S.contents S.failure_count out.old out.new (value_line (piece_of element.now)) result }
 {
     write_value(alloc, element, out)?;
     put_all(out, b"\n")
 }
 
-/// Prints the values of elements, each with a newline behind it.
+/// Prints the values of elements, each with a newline after it.
 fn write_values<S: Sink>(alloc: Global, elements: &[Element], out: &mut S) -> Result<(), Fault>
-    ensures { Prints (flat_map value_line (pieces_of elements.now)) (S.contents out.old) (S.contents out.new) (S.failure_count out.old) (S.failure_count out.new) result }
+    ensures { Prints S.contents S.failure_count out.old out.new (flat_map value_line (pieces_of elements.now)) result }
 {
     for element in elements {
         write_value_line(alloc, element, out)?;
@@ -71,21 +70,22 @@ fn write_values<S: Sink>(alloc: Global, elements: &[Element], out: &mut S) -> Re
     Ok(())
 }
 
-/// Prints the value of an element behind a space.
+/// Prints a space, and the value of an element.
 fn write_spaced_value<S: Sink>(alloc: Global, element: &Element, out: &mut S) -> Result<(), Fault>
-    ensures { Prints (spaced_value (piece_of element.now)) (S.contents out.old) (S.contents out.new) (S.failure_count out.old) (S.failure_count out.new) result }
+    ensures { Prints S.contents S.failure_count out.old out.new (spaced_value (piece_of element.now)) result }
 {
     put_all(out, b" ")?;
     write_value(alloc, element, out)
 }
 
-/// Prints the values of elements, each behind a space.
+/// Prints the values of elements, each after a space.
 fn write_spaced_values<S: Sink>(
     alloc: Global,
     elements: &[Element],
     out: &mut S,
 ) -> Result<(), Fault>
-    ensures { Prints (flat_map spaced_value (pieces_of elements.now)) (S.contents out.old) (S.contents out.new) (S.failure_count out.old) (S.failure_count out.new) result }
+    ensures { Prints S.contents S.failure_count out.old out.new
+        (flat_map spaced_value (pieces_of elements.now)) result }
 {
     for element in elements {
         write_spaced_value(alloc, element, out)?;
@@ -95,7 +95,8 @@ fn write_spaced_values<S: Sink>(
 
 /// Prints the values of elements with a space between each two, and a newline.
 fn write_row<S: Sink>(alloc: Global, elements: &[Element], out: &mut S) -> Result<(), Fault>
-    ensures { Prints (row_of (map value_of (pieces_of elements.now))) (S.contents out.old) (S.contents out.new) (S.failure_count out.old) (S.failure_count out.new) result }
+    ensures { Prints S.contents S.failure_count out.old out.new
+        (row_of (map value_of (pieces_of elements.now))) result }
 {
     let Some((first, others)) = elements.split_first() else {
         return Ok(());
@@ -124,7 +125,7 @@ fn picked<'t>(
     fields: &[Element<'t>],
 ) -> Result<Vec<Element<'t>>, Fault>
     ensures picked { IfOk result (λ elements. pieces_of elements.items ≡ picked_of list.now (pieces_of fields.now)) }
-    ensures refusals { IfErr result (λ fault. fault ≡ Fault.OutOfMemory) }
+    ensures refusals { IsOkUnless result Fault.OutOfMemory }
 {
     let places = list.picks(alloc, fields)?;
     let mut elements = Vec::with_capacity(alloc, places.len())?;
@@ -150,7 +151,7 @@ pub(crate) enum Block<'f, 't> {
 }
 
 impl<'f, 't> Block<'f, 't> {
-    ghost use Rattle.std.specs.Prelude.{◌≡◌, IfOk, IfErr};
+    ghost use Rattle.std.specs.Prelude.{◌≡◌, IfOk, IsOkUnless};
     ghost use Rattle.rec_text.specs.Bytes.{is_nil};
     ghost use Rattle.rec_text.specs.Places.{pieces_of};
     ghost use Rattle.rec_select.specs.Blocks.{text_of};
@@ -164,7 +165,7 @@ impl<'f, 't> Block<'f, 't> {
         shape: &Shape,
     ) -> Result<Block<'f, 't>, Fault>
         ensures text { IfOk result (λ block. text_of block ≡ block_of shape.now fields.entry) }
-        ensures refusals { IfErr result (λ fault. fault ≡ Fault.OutOfMemory) }
+        ensures refusals { IsOkUnless result Fault.OutOfMemory }
     {
         match shape {
             Shape::Blocks => Ok(Block::Fields(fields)),
@@ -188,7 +189,7 @@ impl<'f, 't> Block<'f, 't> {
     }
 
     pub(crate) fn write<S: Sink>(&self, alloc: Global, out: &mut S) -> Result<(), Fault>
-        ensures { Prints (text_of self.now) (S.contents out.old) (S.contents out.new) (S.failure_count out.old) (S.failure_count out.new) result }
+        ensures { Prints S.contents S.failure_count out.old out.new (text_of self.now) result }
     {
         match self {
             Block::Fields(fields) => fields.write_fields(out),

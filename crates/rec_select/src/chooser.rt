@@ -1,12 +1,11 @@
 //! Finds the records that a selection takes.
-ghost use Rattle.std.specs.Prelude.{◌≡◌, ◌⊎◌, ℕ, List, Bool, Result, Ok, Err, IfOk, IfErr, IsOk, MatchResult};
+ghost use Rattle.std.specs.Prelude.{◌≡◌, ℕ, List, Result, Ok, Err, IfOk, IfErr, IsOk, IsOkUnless, MatchResult};
 ghost use Rattle.rec_text.specs.declared.fault.Fault.{Fault};
-ghost use Rattle.rec_text.specs.declared.fault.Fault.TheVariants.{OutOfMemory, TypeNeeded, NoSuchType};
-ghost use Rattle.rec_text.specs.Faults.{IsMemoryOr};
+ghost use Rattle.rec_text.specs.Faults.{IsMemoryOr, IsOkUnlessEither};
 ghost use Rattle.rec_check.specs.Schemas.{IsSchema};
 ghost use Rattle.rec_check.specs.Stored.{described};
 ghost use Rattle.rec_select.specs.Printing.{AreIndexes};
-ghost use Rattle.rec_select.specs.Selection.{IsSelection, filter_of, has_members, set_without_type, set_of_type, set_for};
+ghost use Rattle.rec_select.specs.Selection.{Answers, IsChoice, has_members, set_without_type, set_of_type, set_for};
 
 use crate::excerpt::Excerpt;
 use crate::filter::Filter;
@@ -23,8 +22,8 @@ fn has_records(set: &Set_) -> bool
 
 /// The set that is meant where no type is given.
 fn meant_set(sets: &[Set_]) -> Result<&Set_, Fault>
-    ensures set { MatchResult result (λ set. set_without_type sets.now ≡ Ok set.now) (λ fault. set_without_type sets.now ≡ Err fault) }
-    ensures refusals { IfErr result (λ fault. fault ≡ TypeNeeded) }
+    ensures set { Answers (λ set. set.now) result (set_without_type sets.now) }
+    ensures refusals { IsOkUnless result Fault.TypeNeeded }
 {
     match sets {
         [untyped, ..] if has_records(untyped) => Ok(untyped),
@@ -34,8 +33,8 @@ fn meant_set(sets: &[Set_]) -> Result<&Set_, Fault>
 }
 
 fn typed_set<'s>(schema: &'s Schema, kind: &[u8]) -> Result<&'s Set_, Fault>
-    ensures set { MatchResult result (λ set. set_of_type kind.now (described schema.now).sets ≡ Ok set.now) (λ fault. set_of_type kind.now (described schema.now).sets ≡ Err fault) }
-    ensures refusals { IfErr result (λ fault. fault ≡ NoSuchType) }
+    ensures set { Answers (λ set. set.now) result (set_of_type kind.now (described schema.now).sets) }
+    ensures refusals { IsOkUnless result Fault.NoSuchType }
 {
     match schema.set_of_type(kind) {
         Some(place) => Ok(&schema.sets()[place]),
@@ -45,8 +44,8 @@ fn typed_set<'s>(schema: &'s Schema, kind: &[u8]) -> Result<&'s Set_, Fault>
 
 /// The set that is selected from.
 fn set_of<'s>(schema: &'s Schema, kind: &Option<Bytes>) -> Result<&'s Set_, Fault>
-    ensures set { MatchResult result (λ set. set_for kind.now (described schema.now).sets ≡ Ok set.now) (λ fault. set_for kind.now (described schema.now).sets ≡ Err fault) }
-    ensures refusals { IfErr result (λ fault. (fault ≡ TypeNeeded) ⊎ (fault ≡ NoSuchType)) }
+    ensures set { Answers (λ set. set.now) result (set_for kind.now (described schema.now).sets) }
+    ensures refusals { IsOkUnlessEither result Fault.TypeNeeded Fault.NoSuchType }
 {
     match kind {
         Some(kind) => typed_set(schema, kind.as_slice()),
@@ -62,12 +61,15 @@ pub fn choose(
     selection: &Selection,
 ) -> Result<Vec<usize>, Fault>
     requires { IsSchema database.now (Ok (described schema.now)) }
-    ensures selected { IfOk result (λ selected. IsSelection database.now (described schema.now).sets selection.now.kind (filter_of selection.now.by) (Ok selected.items)) }
+    ensures selected { IfOk result (λ selected. IsChoice database.now schema.now selection.now (Ok selected.items)) }
     ensures indexes { IfOk result (λ selected. AreIndexes database.now selected.items) }
-    ensures refused { IfErr result (λ fault. IsMemoryOr fault (IsSelection database.now (described schema.now).sets selection.now.kind (filter_of selection.now.by) (Err fault))) }
-    // Memory ends only where there is a set to select from.
-    ensures set { IfErr result (λ fault. fault ≡ OutOfMemory → IsOk (set_for selection.now.kind (described schema.now).sets)) }
-    ensures only { (other : Result (List ℕ) Fault) → IsSelection database.now (described schema.now).sets selection.now.kind (filter_of selection.now.by) other → MatchResult result (λ selected. other ≡ Ok selected.items) (λ fault. IsMemoryOr fault (other ≡ Err fault)) }
+    ensures refused { IfErr result (λ fault. IsMemoryOr fault
+        (IsChoice database.now schema.now selection.now (Err fault))) }
+    // Memory runs out only where there is a set to select from.
+    ensures set { IfErr result (λ fault. fault ≡ Fault.OutOfMemory
+        → IsOk (set_for selection.now.kind (described schema.now).sets)) }
+    ensures only { (other : Result (List ℕ) Fault) → IsChoice database.now schema.now selection.now other
+        → MatchResult result (λ selected. other ≡ Ok selected.items) (λ fault. IsMemoryOr fault (other ≡ Err fault)) }
 {
     let members = &set_of(schema, &selection.kind)?.members;
     let mut filter = Filter::of(alloc, &selection.by)?;

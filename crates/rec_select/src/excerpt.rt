@@ -1,11 +1,11 @@
-//! Elements of a text that stand one behind another.
+//! Elements of a text that stand one after another.
 
 use crate::block::write_closed;
 use rec_text::{Database, Element, Fault, Sink, elements_in};
 use std::marker::Model;
 use std::ops::Range;
 
-/// Elements that stand one behind another in a text, and the text.
+/// Elements that stand one after another in a text, and the text.
 #[derive(Drop)]
 pub(crate) struct Excerpt<'d, 't> {
     text: &'t [u8],
@@ -27,10 +27,9 @@ impl<'d, 't> Model for Excerpt<'d, 't> {
 }
 
 impl<'d, 't> Excerpt<'d, 't> {
-    ghost use Rattle.std.specs.Prelude.{◌≡◌, ◌<◌, ◌≤◌, ◌^◌, flat_map, length};
+    ghost use Rattle.std.specs.Prelude.{◌≡◌, ◌<◌, ◌≤◌, ◌^◌, flat_map, length, IsOkUnless};
     ghost use Rattle.rec_text.specs.Elements.{AreElementsOf, text_of};
     ghost use Rattle.rec_text.specs.Places.{pieces_of};
-    ghost use Rattle.rec_text.specs.Sink.{UnlessStoreFailed};
     ghost use Rattle.rec_text.specs.Records.{elements_in};
     ghost use Rattle.rec_select.specs.declared.records.Shape.TheVariants.{Blocks};
     ghost use Rattle.rec_select.specs.Printing.{block_of, closed};
@@ -78,8 +77,8 @@ impl<'d, 't> Excerpt<'d, 't> {
 
     /// Prints the elements, each with a newline at its end.
     fn write<S: Sink>(&self, out: &mut S) -> Result<(), Fault>
-        ensures printed { Prints (flat_map closed self.now) (S.contents out.old) (S.contents out.new) (S.failure_count out.old) (S.failure_count out.new) result }
-        ensures refusals { UnlessStoreFailed result }
+        ensures printed { Prints S.contents S.failure_count out.old out.new (flat_map closed self.now) result }
+        ensures refusals { IsOkUnless result Fault.StoreFailed }
     {
         let raw = self.raw();
         if raw.is_empty() {
@@ -90,8 +89,8 @@ impl<'d, 't> Excerpt<'d, 't> {
 
     /// Prints the fields, each with a newline at its end.
     pub(crate) fn write_fields<S: Sink>(&self, out: &mut S) -> Result<(), Fault>
-        ensures printed { Prints (block_of Blocks self.now) (S.contents out.old) (S.contents out.new) (S.failure_count out.old) (S.failure_count out.new) result }
-        ensures refusals { UnlessStoreFailed result }
+        ensures printed { Prints S.contents S.failure_count out.old out.new (block_of Blocks self.now) result }
+        ensures refusals { IsOkUnless result Fault.StoreFailed }
     {
         let mut start = 0;
         for (at, element) in self.elements.iter().enumerate() {

@@ -1,5 +1,5 @@
 //! Filters, ready to be tried on many records.
-ghost use Rattle.std.specs.Prelude.{◌≡◌, ◌↔◌, Any, IsTrue, IfOk, IfErr};
+ghost use Rattle.std.specs.Prelude.{◌≡◌, ◌↔◌, Any, IsTrue, IfOk, IsOkUnless};
 ghost use Rattle.rec_text.specs.Places.{piece_of};
 ghost use Rattle.rec_select.specs.Filters.{HasText, is_one_line};
 
@@ -23,7 +23,7 @@ pub(crate) enum Filter<'s> {
 /// Whether an element is a field whose value contains a text.
 fn has_text(alloc: Global, element: &Element, text: &Finder) -> Result<bool, Fault>
     ensures has { IfOk result (λ answer. IsTrue answer ↔ HasText text.now (piece_of element.now)) }
-    ensures refusals { IfErr result (λ fault. fault ≡ Fault.OutOfMemory) }
+    ensures refusals { IsOkUnless result Fault.OutOfMemory }
 {
     let Kind::Field = element.kind else {
         return Ok(false);
@@ -45,7 +45,7 @@ fn is_line(text: &[u8]) -> bool
 /// Whether some element is a field whose value contains a text.
 fn any_has_text(alloc: Global, fields: &Excerpt, text: &Finder) -> Result<bool, Fault>
     ensures has { IfOk result (λ answer. IsTrue answer ↔ Any (HasText text.now) fields.now) }
-    ensures refusals { IfErr result (λ fault. fault ≡ Fault.OutOfMemory) }
+    ensures refusals { IsOkUnless result Fault.OutOfMemory }
 {
     let occurs = text.find(fields.raw()).is_some();
     for element in fields.elements() {
@@ -61,13 +61,13 @@ fn any_has_text(alloc: Global, fields: &Excerpt, text: &Finder) -> Result<bool, 
 }
 
 impl<'s> Filter<'s> {
-    ghost use Rattle.std.specs.Prelude.{◌≡◌, ◌↔◌, IsTrue, IfOk, IfErr};
+    ghost use Rattle.std.specs.Prelude.{◌≡◌, ◌↔◌, IsTrue, IfOk, IsOkUnless};
     ghost use Rattle.rec_select.specs.Selection.{filter_of, Passes};
     ghost use Rattle.rec_select.specs.Filters.{stands_for};
 
     pub(crate) fn of(alloc: Global, by: &'s By) -> Result<Filter<'s>, Fault>
         ensures filter { IfOk result (λ filter. stands_for filter ≡ filter_of by.now) }
-        ensures refusals { IfErr result (λ fault. fault ≡ Fault.OutOfMemory) }
+        ensures refusals { IsOkUnless result Fault.OutOfMemory }
     {
         match by {
             By::All => Ok(Filter::All),
@@ -86,7 +86,7 @@ impl<'s> Filter<'s> {
     ) -> Result<bool, Fault>
         ensures passes { IfOk result (λ answer. IsTrue answer ↔ Passes (stands_for self.old) fields.now place) }
         ensures same { stands_for self.new ≡ stands_for self.old }
-        ensures refusals { IfErr result (λ fault. fault ≡ Fault.OutOfMemory) }
+        ensures refusals { IsOkUnless result Fault.OutOfMemory }
     {
         match self {
             Filter::All => Ok(true),

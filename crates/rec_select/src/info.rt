@@ -1,16 +1,18 @@
 //! Prints what record sets a text has.
-ghost use Rattle.std.specs.Prelude.{◌≡◌, ◌⊎◌, ◌≤◌, ◌++◌, ◌∷◌, [], ℕ, if◌then◌else◌, flat_map, List, Ok, Err, IfErr, MatchResult, option_map};
+ghost use Rattle.std.specs.Prelude.{◌++◌, ℕ, flat_map, List, Ok, IsOkUnless, option_map};
 ghost use Rattle.std.specs.declared.ops.Range.{Range};
+ghost use Rattle.rec_text.specs.Faults.{IsOkUnlessEither};
 ghost use Rattle.rec_text.specs.Records.{AreRecords};
-ghost use Rattle.rec_text.specs.Sink.{KeptAtSuccess, RisenAtStoreFailed, UnlessStoreFailed};
 ghost use Rattle.rec_check.specs.Schemas.{IsSchema};
 ghost use Rattle.rec_check.specs.Stored.{described};
 ghost use Rattle.rec_select.specs.declared.info.InfoForm.TheVariants.{Descriptors};
 ghost use Rattle.rec_select.specs.declared.records.Shape.TheVariants.{Blocks};
+ghost use Rattle.rec_select.specs.Blocks.{gap};
 ghost use Rattle.rec_select.specs.Heads.{AreHeads};
 ghost use Rattle.rec_select.specs.Info.{IsInfo, count_line, name_line, info, sets_for};
-ghost use Rattle.rec_select.specs.Printing.{Puts, block_of};
-ghost use Rattle.rec_select.specs.Taken.{Prints, SaysFailures};
+ghost use Rattle.rec_select.specs.Printing.{block_of};
+ghost use Rattle.rec_select.specs.Selection.{Answers};
+ghost use Rattle.rec_select.specs.Taken.{Prints, PrintsAndCounts, Puts};
 
 use crate::excerpt::Excerpt;
 use crate::parts::put_parts;
@@ -32,7 +34,8 @@ pub enum InfoForm {
 
 /// All sets, or that of a type.
 fn sets_for<'s>(schema: &'s Schema, kind: Option<&[u8]>) -> Result<&'s [Set_], Fault>
-    ensures { MatchResult result (λ kept. sets_for (option_map (λ kind. kind.now) kind.entry) (described schema.now).sets ≡ Ok kept.now) (λ fault. sets_for (option_map (λ kind. kind.now) kind.entry) (described schema.now).sets ≡ Err fault) }
+    ensures { Answers (λ kept. kept.now) result
+        (sets_for (option_map (λ kind. kind.now) kind.entry) (described schema.now).sets) }
 {
     let Some(kind) = kind else {
         return Ok(schema.sets());
@@ -44,8 +47,8 @@ fn sets_for<'s>(schema: &'s Schema, kind: Option<&[u8]>) -> Result<&'s [Set_], F
 }
 
 fn write_count<S: Sink>(set: &Set_, out: &mut S) -> Result<(), Fault>
-    ensures printed { Prints (count_line set.now) (S.contents out.old) (S.contents out.new) (S.failure_count out.old) (S.failure_count out.new) result }
-    ensures refusals { UnlessStoreFailed result }
+    ensures printed { Prints S.contents S.failure_count out.old out.new (count_line set.now) result }
+    ensures refusals { IsOkUnless result Fault.StoreFailed }
 {
     let size = set.members.len();
     let mut buffer = Buffer::new();
@@ -58,8 +61,8 @@ fn write_count<S: Sink>(set: &Set_, out: &mut S) -> Result<(), Fault>
 }
 
 fn write_name<S: Sink>(set: &Set_, out: &mut S) -> Result<(), Fault>
-    ensures printed { Prints (name_line set.now) (S.contents out.old) (S.contents out.new) (S.failure_count out.old) (S.failure_count out.new) result }
-    ensures refusals { UnlessStoreFailed result }
+    ensures printed { Prints S.contents S.failure_count out.old out.new (name_line set.now) result }
+    ensures refusals { IsOkUnless result Fault.StoreFailed }
 {
     match &set.kind {
         Some(kind) => put_parts(out, &[kind.as_slice(), b"\n"]),
@@ -68,8 +71,8 @@ fn write_name<S: Sink>(set: &Set_, out: &mut S) -> Result<(), Fault>
 }
 
 fn write_counts<S: Sink>(sets: &[Set_], out: &mut S) -> Result<(), Fault>
-    ensures printed { Prints (flat_map count_line sets.now) (S.contents out.old) (S.contents out.new) (S.failure_count out.old) (S.failure_count out.new) result }
-    ensures refusals { UnlessStoreFailed result }
+    ensures printed { Prints S.contents S.failure_count out.old out.new (flat_map count_line sets.now) result }
+    ensures refusals { IsOkUnless result Fault.StoreFailed }
 {
     for set in sets {
         write_count(set, out)?;
@@ -78,8 +81,8 @@ fn write_counts<S: Sink>(sets: &[Set_], out: &mut S) -> Result<(), Fault>
 }
 
 fn write_names<S: Sink>(sets: &[Set_], out: &mut S) -> Result<(), Fault>
-    ensures printed { Prints (flat_map name_line sets.now) (S.contents out.old) (S.contents out.new) (S.failure_count out.old) (S.failure_count out.new) result }
-    ensures refusals { UnlessStoreFailed result }
+    ensures printed { Prints S.contents S.failure_count out.old out.new (flat_map name_line sets.now) result }
+    ensures refusals { IsOkUnless result Fault.StoreFailed }
 {
     for set in sets {
         write_name(set, out)?;
@@ -89,8 +92,9 @@ fn write_names<S: Sink>(sets: &[Set_], out: &mut S) -> Result<(), Fault>
 
 /// Prints a record, after an empty line unless it is the first.
 fn write_next_block<S: Sink>(head: &Excerpt, is_first: bool, out: &mut S) -> Result<(), Fault>
-    ensures printed { Prints ((if is_first then [] else 10 ∷ []) ++ block_of Blocks head.now) (S.contents out.old) (S.contents out.new) (S.failure_count out.old) (S.failure_count out.new) result }
-    ensures refusals { UnlessStoreFailed result }
+    ensures printed { Prints S.contents S.failure_count out.old out.new
+        (gap is_first ++ block_of Blocks head.now) result }
+    ensures refusals { IsOkUnless result Fault.StoreFailed }
 {
     if !is_first {
         put_all(out, b"\n")?;
@@ -101,8 +105,9 @@ fn write_next_block<S: Sink>(head: &Excerpt, is_first: bool, out: &mut S) -> Res
 /// Prints the descriptors of sets that stand in file order, in one walk over the records.
 fn write_descriptors<S: Sink>(database: &Database, sets: &[Set_], out: &mut S) -> Result<(), Fault>
     requires { AreHeads database.now sets.now }
-    ensures printed { (records : List (Range ℕ)) → AreRecords database.now records → Prints (info Descriptors database.now records sets.now) (S.contents out.old) (S.contents out.new) (S.failure_count out.old) (S.failure_count out.new) result }
-    ensures refusals { UnlessStoreFailed result }
+    ensures printed { (records : List (Range ℕ)) → AreRecords database.now records
+        → Prints S.contents S.failure_count out.old out.new (info Descriptors database.now records sets.now) result }
+    ensures refusals { IsOkUnless result Fault.StoreFailed }
 {
     let text = Excerpt::of(database);
     let mut records = database.records();
@@ -127,8 +132,9 @@ fn write_sets<S: Sink>(
     out: &mut S,
 ) -> Result<(), Fault>
     requires { AreHeads database.now sets.now }
-    ensures printed { (records : List (Range ℕ)) → AreRecords database.now records → Prints (info form database.now records sets.now) (S.contents out.old) (S.contents out.new) (S.failure_count out.old) (S.failure_count out.new) result }
-    ensures refusals { UnlessStoreFailed result }
+    ensures printed { (records : List (Range ℕ)) → AreRecords database.now records
+        → Prints S.contents S.failure_count out.old out.new (info form database.now records sets.now) result }
+    ensures refusals { IsOkUnless result Fault.StoreFailed }
 {
     match form {
         InfoForm::Counts => write_counts(sets, out),
@@ -146,12 +152,10 @@ pub fn write_info<S: Sink>(
     out: &mut S,
 ) -> Result<(), Fault>
     requires { IsSchema database.now (Ok (described schema.now)) }
-    ensures printed { Puts (IsInfo database.now (described schema.now).sets (option_map (λ kind. kind.now) kind.entry) form) (S.contents out.old) (S.contents out.new) result }
-    ensures counted { S.failure_count out.old ≤ S.failure_count out.new }
-    ensures kept { KeptAtSuccess (S.failure_count out.old) (S.failure_count out.new) result }
-    ensures told { SaysFailures (S.failure_count out.old) (S.failure_count out.new) result }
-    ensures store_failed { RisenAtStoreFailed (S.failure_count out.old) (S.failure_count out.new) result }
-    ensures refusals { IfErr result (λ fault. (fault ≡ Fault.NoSuchType) ⊎ (fault ≡ Fault.StoreFailed)) }
+    ensures written { PrintsAndCounts S.contents S.failure_count out.old out.new
+        (Puts (IsInfo database.now (described schema.now).sets (option_map (λ kind. kind.now) kind.entry) form))
+        result }
+    ensures refusals { IsOkUnlessEither result Fault.NoSuchType Fault.StoreFailed }
 {
     let sets = sets_for(schema, kind)?;
     write_sets(database, sets, form, out)

@@ -1,14 +1,14 @@
 //! Prints records.
-ghost use Rattle.std.specs.Prelude.{◌≡◌, ◌⊎◌, ◌<◌, ◌≤◌, not, length, map, IfOk, IfErr};
+ghost use Rattle.std.specs.Prelude.{◌≡◌, ◌<◌, not, length, IfOk, IsOkUnless};
 ghost use Rattle.std.specs.List.{AllByRecursion};
 ghost use Rattle.rec_text.specs.Bytes.{is_nil};
+ghost use Rattle.rec_text.specs.Faults.{IsOkUnlessEither};
 ghost use Rattle.rec_text.specs.Scanned.{IsWithin};
-ghost use Rattle.rec_text.specs.Sink.{KeptAtSuccess, RisenAtStoreFailed, UnlessStoreFailed};
 ghost use Rattle.rec_select.specs.Selection.{record_at};
-ghost use Rattle.rec_select.specs.Blocks.{behind, full, separated};
-ghost use Rattle.rec_select.specs.Printing.{AreIndexes, IsPrinted, Puts, block_of, number_line};
+ghost use Rattle.rec_select.specs.Blocks.{blocks_of, led_by, separated};
+ghost use Rattle.rec_select.specs.Printing.{AreIndexes, IsPrinted, block_of, number_line};
 ghost use Rattle.rec_select.specs.declared.records.Shape.TheVariants.{Count};
-ghost use Rattle.rec_select.specs.Taken.{Prints, SaysFailures};
+ghost use Rattle.rec_select.specs.Taken.{Prints, PrintsAndCounts, Puts};
 
 use crate::block::Block;
 use crate::excerpt::Excerpt;
@@ -35,15 +35,15 @@ pub enum Shape {
 
 /// Prints a number, and a newline.
 fn write_number<S: Sink>(number: usize, out: &mut S) -> Result<(), Fault>
-    ensures refusals { UnlessStoreFailed result }
-    ensures printed { Prints (number_line number) (S.contents out.old) (S.contents out.new) (S.failure_count out.old) (S.failure_count out.new) result }
+    ensures refusals { IsOkUnless result Fault.StoreFailed }
+    ensures printed { Prints S.contents S.failure_count out.old out.new (number_line number) result }
 {
     let mut buffer = Buffer::new();
     put_all(out, buffer.format(number).as_bytes())?;
     put_all(out, b"\n")
 }
 
-/// Prints a record's block behind `before`, where it holds anything, and tells whether it does.
+/// Prints `before` and a record's block, where that holds anything, and tells whether it does.
 fn write_block<S: Sink>(
     alloc: Global,
     before: &[u8],
@@ -51,7 +51,8 @@ fn write_block<S: Sink>(
     shape: &Shape,
     out: &mut S,
 ) -> Result<bool, Fault>
-    ensures printed { Prints (behind before.now (block_of shape.now fields.entry)) (S.contents out.old) (S.contents out.new) (S.failure_count out.old) (S.failure_count out.new) result }
+    ensures printed { Prints S.contents S.failure_count out.old out.new
+        (led_by before.now (block_of shape.now fields.entry)) result }
     ensures holds { IfOk result (λ holds. holds ≡ not (is_nil (block_of shape.now fields.entry))) }
 {
     let block = Block::of(alloc, fields, shape)?;
@@ -89,7 +90,8 @@ fn write_blocks<S: Sink>(
 ) -> Result<(), Fault>
     requires within { AllByRecursion (IsWithin (length text.now)) records.now }
     requires indexes { AllByRecursion (λ i. i < length records.now) selected.now }
-    ensures { Prints (separated separator.now (full (map (λ i. block_of shape.now (record_at text.now records.now i)) selected.now))) (S.contents out.old) (S.contents out.new) (S.failure_count out.old) (S.failure_count out.new) result }
+    ensures { Prints S.contents S.failure_count out.old out.new
+        (separated separator.now (blocks_of shape.now text.now records.now selected.now)) result }
 {
     let mut before: &[u8] = b"";
     for index in selected {
@@ -111,14 +113,11 @@ pub fn write_records<S: Sink>(
     out: &mut S,
 ) -> Result<(), Fault>
     requires { AreIndexes database.now selected.now }
-    ensures printed { Puts (IsPrinted database.now selected.now shape.now collapse) (S.contents out.old) (S.contents out.new) result }
-    ensures counted { S.failure_count out.old ≤ S.failure_count out.new }
-    ensures kept { KeptAtSuccess (S.failure_count out.old) (S.failure_count out.new) result }
-    ensures told { SaysFailures (S.failure_count out.old) (S.failure_count out.new) result }
-    ensures store_failed { RisenAtStoreFailed (S.failure_count out.old) (S.failure_count out.new) result }
-    ensures refusals { IfErr result (λ fault. (fault ≡ Fault.OutOfMemory) ⊎ (fault ≡ Fault.StoreFailed)) }
+    ensures written { PrintsAndCounts S.contents S.failure_count out.old out.new
+        (Puts (IsPrinted database.now selected.now shape.now collapse)) result }
+    ensures refusals { IsOkUnlessEither result Fault.OutOfMemory Fault.StoreFailed }
     // Their number is printed without any memory.
-    ensures number { shape.now ≡ Count → UnlessStoreFailed result }
+    ensures number { shape.now ≡ Count → IsOkUnless result Fault.StoreFailed }
 {
     if let Shape::Count = shape {
         return write_number(selected.len(), out);

@@ -1,9 +1,7 @@
 //! Prints where a text breaks the rules of its record sets.
-ghost use Rattle.std.specs.Prelude.{◌∷◌, ◌++◌, ◌≤◌, [], codes};
-ghost use Rattle.rec_text.specs.Sink.{KeptAtSuccess, RisenAtStoreFailed, UnlessStoreFailed};
-ghost use Rattle.rec_select.specs.Printing.{Puts};
-ghost use Rattle.rec_select.specs.Report.{IsReport, report, report_line};
-ghost use Rattle.rec_select.specs.Taken.{Prints, SaysFailures};
+ghost use Rattle.std.specs.Prelude.{IsOkUnless};
+ghost use Rattle.rec_select.specs.Report.{IsReport, line_with, report, report_line};
+ghost use Rattle.rec_select.specs.Taken.{Prints, PrintsAndCounts, Puts};
 
 use crate::parts::put_parts;
 use itoa::Buffer;
@@ -16,15 +14,15 @@ fn write_line<'p, S: Sink>(
     name: &'p [u8],
     out: &mut S,
 ) -> Result<(), Fault>
-    ensures printed { Prints (line.now ++ (codes ": " ++ (rule.now ++ 32 ∷ (name.now ++ 10 ∷ [])))) (S.contents out.old) (S.contents out.new) (S.failure_count out.old) (S.failure_count out.new) result }
-    ensures refusals { UnlessStoreFailed result }
+    ensures printed { Prints S.contents S.failure_count out.old out.new (line_with line.now rule.now name.now) result }
+    ensures refusals { IsOkUnless result Fault.StoreFailed }
 {
     put_parts(out, &[line, b": ", rule, b" ", name, b"\n"])
 }
 
 fn write_violation<S: Sink>(violation: &Violation, out: &mut S) -> Result<(), Fault>
-    ensures printed { Prints (report_line violation.now) (S.contents out.old) (S.contents out.new) (S.failure_count out.old) (S.failure_count out.new) result }
-    ensures refusals { UnlessStoreFailed result }
+    ensures printed { Prints S.contents S.failure_count out.old out.new (report_line violation.now) result }
+    ensures refusals { IsOkUnless result Fault.StoreFailed }
 {
     let mut buffer = Buffer::new();
     let line = buffer.format(violation.line).as_bytes();
@@ -33,8 +31,8 @@ fn write_violation<S: Sink>(violation: &Violation, out: &mut S) -> Result<(), Fa
 }
 
 fn write_violations<S: Sink>(violations: &[Violation], out: &mut S) -> Result<(), Fault>
-    ensures printed { Prints (report violations.now) (S.contents out.old) (S.contents out.new) (S.failure_count out.old) (S.failure_count out.new) result }
-    ensures refusals { UnlessStoreFailed result }
+    ensures printed { Prints S.contents S.failure_count out.old out.new (report violations.now) result }
+    ensures refusals { IsOkUnless result Fault.StoreFailed }
 {
     for violation in violations {
         write_violation(violation, out)?;
@@ -44,12 +42,9 @@ fn write_violations<S: Sink>(violations: &[Violation], out: &mut S) -> Result<()
 
 /// Prints violations, one in a line.
 pub fn write_report<S: Sink>(violations: &[Violation], out: &mut S) -> Result<(), Fault>
-    ensures printed { Puts (IsReport violations.now) (S.contents out.old) (S.contents out.new) result }
-    ensures counted { S.failure_count out.old ≤ S.failure_count out.new }
-    ensures kept { KeptAtSuccess (S.failure_count out.old) (S.failure_count out.new) result }
-    ensures told { SaysFailures (S.failure_count out.old) (S.failure_count out.new) result }
-    ensures store_failed { RisenAtStoreFailed (S.failure_count out.old) (S.failure_count out.new) result }
-    ensures refusals { UnlessStoreFailed result }
+    ensures written { PrintsAndCounts S.contents S.failure_count out.old out.new
+        (Puts (IsReport violations.now)) result }
+    ensures refusals { IsOkUnless result Fault.StoreFailed }
 {
     write_violations(violations, out)
 }

@@ -15,5 +15,5 @@ returns g c =
     let parts = row_parts c.args.elements.now _ _ c.in-Some.ensures.cases.0 in
     let put = c.put_all.ensures in
     rw parts
-    (Prints-append (HasTaken-append c.in_ok-write_value.ensures c.in_ok-write_spaced_values.ensures) _ _ (10 ∷ []) c.put_all.result
+    (Prints-append (HasTaken-append c.in_ok-write_value.ensures c.in_ok-write_spaced_values.ensures) _ (10 ∷ []) c.put_all.result
     (Prints-put _ _ _ _ (10 ∷ []) c.put_all.result put.all put.front put.kept put.counted put.failed put.refusals))

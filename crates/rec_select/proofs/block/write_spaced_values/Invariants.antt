@@ -6,5 +6,4 @@ use Rattle.rec_select.proofs.block.write_spaced_values.Given as goal
 
 abbrev pub invariant-loop-element : goal.invariant-loop-element
 invariant-loop-element g l =
-    HasTaken (flat_map spaced_value (pieces_of (take l.element-index l.elements)))
-    (g.S.Sink.contents l.fn.out) (g.S.Sink.contents l.out) (g.S.Sink.failure_count l.fn.out) (g.S.Sink.failure_count l.out)
+    HasTaken g.S.Sink.contents g.S.Sink.failure_count l.fn.out l.out (flat_map spaced_value (pieces_of (take l.element-index l.elements)))

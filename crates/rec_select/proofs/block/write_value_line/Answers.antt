@@ -5,5 +5,5 @@ use Rattle.rec_select.proofs.block.write_value_line.Goals as goal
 pub returns : goal.returns
 returns g c =
     let put = c.put_all.ensures in
-    Prints-append c.in_ok-write_value.ensures _ _ (10 ∷ []) c.put_all.result
+    Prints-append c.in_ok-write_value.ensures _ (10 ∷ []) c.put_all.result
     (Prints-put _ _ _ _ (10 ∷ []) c.put_all.result put.all put.front put.kept put.counted put.failed put.refusals)

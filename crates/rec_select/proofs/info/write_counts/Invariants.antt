@@ -5,5 +5,4 @@ use Rattle.rec_select.proofs.info.write_counts.Given as goal
 
 abbrev pub invariant-loop-set : goal.invariant-loop-set
 invariant-loop-set g l =
-    IsTakenTo (flat_map count_line l.sets) (g.S.Sink.contents l.fn.out) (g.S.Sink.contents l.out)
-    (g.S.Sink.failure_count l.fn.out) (g.S.Sink.failure_count l.out) (flat_map count_line (drop l.set-index l.sets))
+    IsTakenTo g.S.Sink.contents g.S.Sink.failure_count l.fn.out l.out (flat_map count_line l.sets) (flat_map count_line (drop l.set-index l.sets))

@@ -4,7 +4,7 @@ use Rattle.rec_select.proofs.InfoLemmas.{first_head, head_low, head_there, head_
 use Rattle.rec_select.proofs.info.write_descriptors.Goals as goal
 
 pub loop-set-init : goal.loop-set-init
-loop-set-init g c = first_head c.args.sets.now _ _ c.records-records.ensures c.requires
+loop-set-init g c = first_head c.args.sets.now _ c.records-records.ensures c.requires
 
 pub overflow_sub-head : goal.overflow_sub-head
 overflow_sub-head g c = head_low c.loop-set.invariant c.loop-set-test.true c.set-item.is _ c.in-Some.is

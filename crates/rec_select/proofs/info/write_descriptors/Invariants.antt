@@ -4,5 +4,4 @@ use Rattle.rec_select.proofs.info.write_descriptors.Given as goal
 
 abbrev pub invariant-loop-set : goal.invariant-loop-set
 invariant-loop-set g l =
-    AreHeadsTo l.database l.initial.records l.sets (g.S.Sink.contents l.fn.out) (g.S.Sink.contents l.out)
-    (g.S.Sink.failure_count l.fn.out) (g.S.Sink.failure_count l.out) l.passed l.records (drop l.set-index l.sets)
+    AreHeadsTo l.database l.initial.records g.S.Sink.contents g.S.Sink.failure_count l.fn.out l.out l.sets l.passed l.records (drop l.set-index l.sets)

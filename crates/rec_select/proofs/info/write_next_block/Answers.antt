@@ -1,5 +1,5 @@
 use Rattle.std.proofs.Common.{[], ◌∷◌}
-use Rattle.rec_select.proofs.InfoLemmas.{Prints-append}
+use Rattle.rec_select.proofs.PutsLemmas.{Prints-append}
 use Rattle.rec_select.proofs.info.write_next_block.Goals as goal
 use Rattle.rec_select.proofs.info.write_next_block.Goals.{then-not-is_first+in_ok-put_all, else-not-is_first}
 
@@ -8,7 +8,7 @@ returns-clause-printed g c = elim c.if-not-is_first.branch [
   | then-not-is_first+in_ok-put_all w ↦
       let put = w.in_ok-put_all.ensures in
       let block = rw w.out-is at c.write_fields.ensures.printed in
-      rw w.if-not-is_first.true (Prints-append (10 ∷ []) _ _ _ _ (record { whole = put.all; sound = put.kept }) block)
+      rw w.if-not-is_first.true (Prints-append {a = 10 ∷ []} (record { whole = put.all; sound = put.kept }) _ _ _ block)
   | else-not-is_first w ↦
       let block = rw w.out-is at c.write_fields.ensures.printed in
       rw w.if-not-is_first.false block

@@ -4,5 +4,4 @@ use Rattle.rec_select.proofs.parts.put_parts.Given as goal
 
 abbrev pub invariant-loop-part : goal.invariant-loop-part
 invariant-loop-part g l =
-    IsTakenTo (flat_map (λ part. part.now) l.parts) (g.S.Sink.contents l.fn.out) (g.S.Sink.contents l.out)
-    (g.S.Sink.failure_count l.fn.out) (g.S.Sink.failure_count l.out) (flat_map (λ part. part.now) (drop l.part-index l.parts))
+    IsTakenTo g.S.Sink.contents g.S.Sink.failure_count l.fn.out l.out (flat_map (λ part. part.now) l.parts) (flat_map (λ part. part.now) (drop l.part-index l.parts))

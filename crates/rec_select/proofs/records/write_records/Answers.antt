@@ -1,7 +1,7 @@
 use Rattle.std.proofs.Common.{sym, ap, subst, inl, inr}
 use Rattle.rec_text.specs.Records.{AreRecords}
 use Rattle.rec_select.specs.Printing.{IsPrinted}
-use Rattle.rec_select.proofs.PutsLemmas.{Puts-prints, counted-prints, kept-prints, told-prints, store_failed-prints, refusals-prints}
+use Rattle.rec_select.proofs.PutsLemmas.{PrintsAndCounts-prints, refusals-prints}
 use Rattle.rec_select.proofs.PrintingLemmas.{SeparatorIs, IsPrinted-blocks, records_within, indexes_within}
 use Rattle.rec_select.proofs.records.write_records.Goals as goal
 use Rattle.rec_select.proofs.records.write_records.Goals.{then-collapse, else-collapse}
@@ -32,11 +32,7 @@ returns g c =
     let answer = c.write_blocks.result in
     let prints = c.write_blocks.ensures in
     record {
-      printed = Puts-prints _ _ _ _ _ (IsPrinted pieces selected shape collapse) printed answer prints;
-      counted = counted-prints _ _ _ _ _ answer prints;
-      kept = kept-prints _ _ _ _ _ answer prints;
-      told = told-prints _ _ _ _ _ answer prints;
-      store_failed = store_failed-prints _ _ _ _ _ answer prints;
+      written = PrintsAndCounts-prints _ _ _ _ _ (IsPrinted pieces selected shape collapse) printed answer prints;
       refusals = refusals-prints _ _ _ _ _ answer prints;
       number = λ is. absurd (c.in_default.not-Count is);
     }

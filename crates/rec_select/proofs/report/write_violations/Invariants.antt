@@ -5,5 +5,4 @@ use Rattle.rec_select.proofs.report.write_violations.Given as goal
 
 abbrev pub invariant-loop-violation : goal.invariant-loop-violation
 invariant-loop-violation g l =
-    IsTakenTo (flat_map report_line l.violations) (g.S.Sink.contents l.fn.out) (g.S.Sink.contents l.out)
-    (g.S.Sink.failure_count l.fn.out) (g.S.Sink.failure_count l.out) (flat_map report_line (drop l.violation-index l.violations))
+    IsTakenTo g.S.Sink.contents g.S.Sink.failure_count l.fn.out l.out (flat_map report_line l.violations) (flat_map report_line (drop l.violation-index l.violations))

@@ -30,4 +30,4 @@ pub returns-clause-printed : goal.returns-clause-printed
 returns-clause-printed g c =
     let size : length c.args.self.now ≡ length c.self.inside.elements.now = ap length (sym c.self.view_is) ∙ length-map c.self.inside.elements.now piece_of in
     let whole = last_run c.args.self.now c.loop-at.start c.loop-at.at c.loop-at.invariant.run c.part-2.result _ c.part-2.ensures (omega (arith, size)) (omega (arith, size)) in
-    Prints-as _ _ _ _ whole c.write-2.result (Prints-append c.loop-at.invariant.printed _ _ _ c.write-2.result c.write-2.ensures.printed)
+    Prints-as _ _ _ _ whole c.write-2.result (Prints-append c.loop-at.invariant.printed _ _ c.write-2.result c.write-2.ensures.printed)

@@ -7,6 +7,5 @@ abbrev pub invariant-loop-at : goal.invariant-loop-at
 invariant-loop-at g l = record {
   run : IsFieldRun l.self l.start l.at;
   printed :
-      HasTaken (fields_text (take l.start l.self)) (g.S.Sink.contents l.fn.out) (g.S.Sink.contents l.out)
-      (g.S.Sink.failure_count l.fn.out) (g.S.Sink.failure_count l.out);
+      HasTaken g.S.Sink.contents g.S.Sink.failure_count l.fn.out l.out (fields_text (take l.start l.self));
 }

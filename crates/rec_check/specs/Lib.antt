@@ -22,6 +22,7 @@ pub mod Tests
 pub mod Constraints
 pub mod Ready
 pub mod Stored
+pub mod DescribedTexts
 pub mod Kinds
 pub mod Resolved
 pub mod Testing

@@ -24,7 +24,8 @@ impl<'r> Allowed<'r> {
     ghost use Rattle.rec_check.specs.Words.{distinct};
 
     pub(crate) fn of(alloc: Global, rules: &'r Rules) -> Result<Allowed<'r>, Fault>
-        ensures names { IfOk result (λ allowed. (name : List ℕ) → allows allowed name ≡ is_allowed (rules_stored rules.now) name) }
+        ensures names { IfOk result (λ allowed. (name : List ℕ) → allows allowed name
+            ≡ is_allowed (rules_stored rules.now) name) }
         ensures refusals { IfErr result (λ fault. fault ≡ Fault.OutOfMemory) }
     {
         let Some(allowed) = &rules.allowed else {
@@ -48,7 +49,8 @@ impl<'r> Allowed<'r> {
 
     /// Whether an element is a field whose name isn't allowed.
     fn refuses(&self, element: &Element) -> bool
-        ensures { result ≡ (is_field_piece (piece_of element.now) && not (allows self.now (name_of (piece_of element.now)))) }
+        ensures { result ≡ (is_field_piece (piece_of element.now)
+            && not (allows self.now (name_of (piece_of element.now)))) }
     {
         let Kind::Field = element.kind else {
             return false;
@@ -58,7 +60,8 @@ impl<'r> Allowed<'r> {
 
     /// The names of a record's fields that aren't allowed, each once, in the order in which they first occur.
     fn others<'t>(&self, alloc: Global, fields: &[Element<'t>]) -> Result<Names<'t>, Fault>
-        ensures names { IfOk result (λ names. names ≡ filter (λ name. not (allows self.now name)) (distinct (names_of (pieces_of fields.now)))) }
+        ensures names { IfOk result (λ names. names
+            ≡ filter (λ name. not (allows self.now name)) (distinct (names_of (pieces_of fields.now)))) }
         ensures refusals { IfErr result (λ fault. fault ≡ Fault.OutOfMemory) }
     {
         let mut names = Names::new(alloc);
@@ -78,7 +81,9 @@ impl<'r> Allowed<'r> {
         fields: &[Element],
         found: &mut Vec<Violation>,
     ) -> Result<(), Fault>
-        ensures added { OnOk result (found.new.items ≡ found.old.items ++ violations_of line Rule.Allowed (filter (λ name. not (allows self.now name)) (distinct (names_of (pieces_of fields.now))))) }
+        ensures added { OnOk result (found.new.items ≡ found.old.items
+            ++ violations_of line Rule.Allowed (filter
+            (λ name. not (allows self.now name)) (distinct (names_of (pieces_of fields.now))))) }
         ensures refusals { IfErr result (λ fault. fault ≡ Fault.OutOfMemory) }
     {
         let names = self.others(alloc, fields)?;

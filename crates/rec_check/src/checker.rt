@@ -64,8 +64,12 @@ impl<'r, 't> Checker<'r, 't> {
         requires forward { lines.old.passed ≤ range.now.start }
         requires some { range.now.start < range.now.end }
         requires within { range.now.end ≤ length lines.old.elements.now }
-        ensures added { (rules : Asked) (earlier : List (List Piece)) → IsReady rules earlier self.old → OnOk result (AddsOfRecord (pieces_of lines.old.elements.now) rules earlier range.now found.old.items found.new.items) }
-        ensures ready { (rules : Asked) (earlier : List (List Piece)) → IsReady rules earlier self.old → OnOk result (IsReady rules (earlier ++ elements_in (pieces_of lines.old.elements.now) range.now ∷ []) self.new) }
+        ensures added { (rules : Asked) (earlier : List (List Piece)) → IsReady rules earlier self.old
+            → OnOk result (AddsOfRecord
+            (pieces_of lines.old.elements.now) rules earlier range.now found.old.items found.new.items) }
+        ensures ready { (rules : Asked) (earlier : List (List Piece)) → IsReady rules earlier self.old
+            → OnOk result (IsReady rules (earlier ++ elements_in (pieces_of lines.old.elements.now) range.now
+            ∷ []) self.new) }
         ensures passed { OnOk result (lines.new.passed ≤ range.now.end) }
         ensures elements { OnOk result (lines.new.elements.now ≡ lines.old.elements.now) }
         ensures refusals { IfErr result (λ fault. fault ≡ Fault.OutOfMemory) }
@@ -92,8 +96,11 @@ impl<'r, 't> Checker<'r, 't> {
     ) -> Result<(), Fault>
         requires ahead { AreAscending lines.old.passed records.now }
         requires within { AreWithin (length lines.old.elements.now) records.now }
-        ensures added { (rules : Asked) → IsReady rules [] self.old → OnOk result (AddsOfRecords (pieces_of lines.old.elements.now) rules records.now found.old.items found.new.items) }
-        ensures ahead { (rest : List (Range ℕ)) → AreAscending lines.old.passed (records.now ++ rest) → OnOk result (AreAscending lines.new.passed rest) }
+        ensures added { (rules : Asked) → IsReady rules [] self.old
+            → OnOk result (AddsOfRecords
+            (pieces_of lines.old.elements.now) rules records.now found.old.items found.new.items) }
+        ensures ahead { (rest : List (Range ℕ)) → AreAscending lines.old.passed (records.now ++ rest)
+            → OnOk result (AreAscending lines.new.passed rest) }
         ensures elements { OnOk result (lines.new.elements.now ≡ lines.old.elements.now) }
         ensures refusals { IfErr result (λ fault. fault ≡ Fault.OutOfMemory) }
     {

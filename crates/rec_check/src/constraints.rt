@@ -15,7 +15,8 @@ fn add_numbered(
     number: usize,
     found: &mut Vec<Violation>,
 ) -> Result<(), Fault>
-    ensures added { OnOk result (found.new.items ≡ found.old.items ++ violation line Rule.Constraint (decimal number) ∷ []) }
+    ensures added { OnOk result (found.new.items
+        ≡ found.old.items ++ violation line Rule.Constraint (decimal number) ∷ []) }
     ensures refusals { IfErr result (λ fault. fault ≡ Fault.OutOfMemory) }
 {
     let mut buffer = Buffer::new();
@@ -55,7 +56,8 @@ impl<'r> Constraints<'r> {
         fields: &[Element],
         found: &mut Vec<Violation>,
     ) -> Result<(), Fault>
-        ensures added { OnOk result (AddsUnselected line (terms_in self.old) (pieces_of fields.now) found.old.items found.new.items) }
+        ensures added { OnOk result (AddsUnselected line (terms_in self.old)
+            (pieces_of fields.now) found.old.items found.new.items) }
         ensures same { OnOk result (terms_in self.new ≡ terms_in self.old) }
         ensures refusals { IfErr result (λ fault. fault ≡ Fault.OutOfMemory) }
     {

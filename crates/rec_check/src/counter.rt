@@ -44,8 +44,10 @@ impl<'r> Counter<'r> {
     /// The next number, which counts from then on: one more than the greatest, and 0 where there is none. Where that is
     /// refused, the counter stays as it is.
     pub fn next_number(&mut self) -> Result<i64, Fault>
-        ensures next { (rules : Asked) (numbers : List ℤ) → IsCounterOf rules numbers self.old → IsNext rules self.old.name.now numbers result }
-        ensures counted { (rules : Asked) (numbers : List ℤ) → IsCounterOf rules numbers self.old → IfOk result (λ number. IsCounterOf rules (number ∷ numbers) self.new) }
+        ensures next { (rules : Asked) (numbers : List ℤ) → IsCounterOf rules numbers self.old
+            → IsNext rules self.old.name.now numbers result }
+        ensures counted { (rules : Asked) (numbers : List ℤ) → IsCounterOf rules numbers self.old
+            → IfOk result (λ number. IsCounterOf rules (number ∷ numbers) self.new) }
         ensures name { self.new.name ≡ self.old.name }
         ensures refusals { IfErr result (λ fault. fault ≡ Fault.AutoImpossible) }
         ensures unchanged { IfErr result (λ _. self.new ≡ self.old) }
@@ -65,7 +67,8 @@ fn count_field<'a>(
     greatest: &mut HashMap<&'a [u8], Option<i64>>,
     field: &Element<'a>,
 ) -> Result<(), Fault>
-    ensures counts { OnOk result (Counts (greatest_at greatest.old) (greatest_at greatest.new) (λ name. readings_in name (piece_of field.now ∷ []))) }
+    ensures counts { OnOk result (Counts (greatest_at greatest.old) (greatest_at greatest.new)
+        (λ name. readings_in name (piece_of field.now ∷ []))) }
     ensures refusals { IfErr result (λ fault. fault ≡ Fault.OutOfMemory) }
 {
     let name = field.name();
@@ -83,7 +86,8 @@ fn count_fields<'a>(
     greatest: &mut HashMap<&'a [u8], Option<i64>>,
     fields: &[Element<'a>],
 ) -> Result<(), Fault>
-    ensures counts { OnOk result (Counts (greatest_at greatest.old) (greatest_at greatest.new) (λ name. readings_in name (pieces_of fields.now))) }
+    ensures counts { OnOk result (Counts (greatest_at greatest.old) (greatest_at greatest.new)
+        (λ name. readings_in name (pieces_of fields.now))) }
     ensures refusals { IfErr result (λ fault. fault ≡ Fault.OutOfMemory) }
 {
     for field in fields {
@@ -100,7 +104,8 @@ fn count_records<'a>(
     records: &[Range<usize>],
 ) -> Result<(), Fault>
     requires { AreWithin (length elements.now) records.now }
-    ensures counts { OnOk result (Counts (greatest_at greatest.old) (greatest_at greatest.new) (readings (pieces_of elements.now) records.now)) }
+    ensures counts { OnOk result (Counts (greatest_at greatest.old) (greatest_at greatest.new)
+        (readings (pieces_of elements.now) records.now)) }
     ensures refusals { IfErr result (λ fault. fault ≡ Fault.OutOfMemory) }
 {
     for record in records {
@@ -129,7 +134,8 @@ fn greatest_numbers<'a>(
     names: &[&'a [u8]],
 ) -> Result<HashMap<&'a [u8], Option<i64>>, Fault>
     requires { AreWithin (length elements.now) records.now }
-    ensures greatest { IfOk result (λ greatest. HoldsGreatest (texts names.now) (greatest_at greatest) (readings (pieces_of elements.now) records.now)) }
+    ensures greatest { IfOk result (λ greatest. HoldsGreatest (texts names.now) (greatest_at greatest)
+        (readings (pieces_of elements.now) records.now)) }
     ensures refusals { IfErr result (λ fault. fault ≡ Fault.OutOfMemory) }
 {
     let mut greatest = uncounted(alloc, names)?;
@@ -155,7 +161,8 @@ fn counters_with<'r>(
     greatest: &HashMap<&[u8], Option<i64>>,
 ) -> Result<Vec<Counter<'r>>, AllocError>
     ensures names { IfOk result (λ counters. counter_names counters.items ≡ texts names.now) }
-    ensures each { IfOk result (λ counters. AllByRecursion (IsKept (type_in types.now) (greatest_at greatest.now)) counters.items) }
+    ensures each { IfOk result (λ counters. AllByRecursion
+        (IsKept (type_in types.now) (greatest_at greatest.now)) counters.items) }
 {
     let mut counters = Vec::with_capacity(alloc, names.len())?;
     for name in names {
@@ -176,7 +183,8 @@ pub(crate) fn counters_of<'r>(
     rules: &'r Rules,
 ) -> Result<Vec<Counter<'r>>, Fault>
     requires { AreWithin (length elements.now) records.now }
-    ensures counters { IfOk result (λ counters. AreCounters (rules_stored rules.now) (readings (pieces_of elements.now) records.now) counters.items) }
+    ensures counters { IfOk result (λ counters. AreCounters (rules_stored rules.now)
+        (readings (pieces_of elements.now) records.now) counters.items) }
     ensures refusals { IfErr result (λ fault. fault ≡ Fault.OutOfMemory) }
 {
     let names = automatic_names(alloc, rules)?;
@@ -197,7 +205,8 @@ pub(crate) fn next_value<'a>(
     name: &'a [u8],
 ) -> Result<i64, Fault>
     requires { AreWithin (length elements.now) records.now }
-    ensures { UnlessMemory result (IsNext (rules_stored rules.now) name.now (readings (pieces_of elements.now) records.now name.now)) }
+    ensures { UnlessMemory result (IsNext (rules_stored rules.now) name.now
+        (readings (pieces_of elements.now) records.now name.now)) }
 {
     if !may_be_counter(alloc, rules, name)? {
         return Err(Fault::AutoImpossible);

@@ -69,7 +69,8 @@ impl<'r, 't> Key<'r, 't> {
     /// Takes a key, and answers whether it was taken already.
     fn take(&mut self, alloc: Global, value: Value<'t>) -> Result<bool, Fault>
         ensures was_taken { IfOk result (λ answer. answer ≡ has_taken self.old (bytes_of value.entry)) }
-        ensures taken { OnOk result ((other : List ℕ) → has_taken self.new other ≡ (has_taken self.old other || bytes_eq other (bytes_of value.entry))) }
+        ensures taken { OnOk result ((other : List ℕ)
+            → has_taken self.new other ≡ (has_taken self.old other || bytes_eq other (bytes_of value.entry))) }
         ensures name { self.new.name ≡ self.old.name }
         ensures refusals { IfErr result (λ fault. fault ≡ Fault.OutOfMemory) }
     {
@@ -79,8 +80,12 @@ impl<'r, 't> Key<'r, 't> {
 
     /// Whether a record has not exactly one key field, or its key is taken. Its key is taken from then on.
     fn breaks(&mut self, alloc: Global, name: &[u8], fields: &[Element<'t>]) -> Result<bool, Fault>
-        ensures breaks { IfOk result (λ answer. answer ≡ option_map_or (has_taken self.old) (key_of name.now (pieces_of fields.now)) true) }
-        ensures taken { OnOk result ((other : List ℕ) → has_taken self.new other ≡ (has_taken self.old other || option_map_or (bytes_eq other) (key_of name.now (pieces_of fields.now)) false)) }
+        ensures breaks { IfOk result (λ answer. answer
+            ≡ option_map_or (has_taken self.old) (key_of name.now (pieces_of fields.now)) true) }
+        ensures taken { OnOk result ((other : List ℕ)
+            → has_taken self.new other
+            ≡ (has_taken self.old other || option_map_or (bytes_eq other)
+            (key_of name.now (pieces_of fields.now)) false)) }
         ensures name { self.new.name ≡ self.old.name }
         ensures refusals { IfErr result (λ fault. fault ≡ Fault.OutOfMemory) }
     {
@@ -98,8 +103,12 @@ impl<'r, 't> Key<'r, 't> {
         fields: &[Element<'t>],
         found: &mut Vec<Violation>,
     ) -> Result<(), Fault>
-        ensures added { (earlier : List (List Piece)) → IsAfter self.old earlier → OnOk result (found.new.items ≡ found.old.items ++ violations_of line Rule.Key (filter (breaks_key earlier (pieces_of fields.now)) (option_to_list self.old.name.now))) }
-        ensures after { (earlier : List (List Piece)) → IsAfter self.old earlier → OnOk result (IsAfter self.new (earlier ++ pieces_of fields.now ∷ [])) }
+        ensures added { (earlier : List (List Piece)) → IsAfter self.old earlier
+            → OnOk result (found.new.items ≡ found.old.items
+            ++ violations_of line Rule.Key
+            (filter (breaks_key earlier (pieces_of fields.now)) (option_to_list self.old.name.now))) }
+        ensures after { (earlier : List (List Piece)) → IsAfter self.old earlier
+            → OnOk result (IsAfter self.new (earlier ++ pieces_of fields.now ∷ [])) }
         ensures name { self.new.name ≡ self.old.name }
         ensures refusals { IfErr result (λ fault. fault ≡ Fault.OutOfMemory) }
     {

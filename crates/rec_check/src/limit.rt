@@ -74,7 +74,8 @@ impl<'r> Limited<'r> {
 
     /// The names that break the limit in a record, where they are few.
     fn broken_each(&self, alloc: Global, fields: &[Element]) -> Result<Vec<&'r [u8]>, Fault>
-        ensures names { IfOk result (λ names. texts names.items ≡ breaking self.now.limit self.now.names (pieces_of fields.now)) }
+        ensures names { IfOk result (λ names. texts names.items
+            ≡ breaking self.now.limit self.now.names (pieces_of fields.now)) }
         ensures refusals { IfErr result (λ fault. fault ≡ Fault.OutOfMemory) }
     {
         let mut broken = Vec::new(alloc);
@@ -88,7 +89,9 @@ impl<'r> Limited<'r> {
 
     /// The same as `broken_each`, in one pass over the fields.
     fn broken_met(&self, alloc: Global, fields: &[Element]) -> Result<Vec<&'r [u8]>, Fault>
-        ensures names { distinct self.now.names ≡ self.now.names → IfOk result (λ names. texts names.items ≡ breaking self.now.limit self.now.names (pieces_of fields.now)) }
+        ensures names { distinct self.now.names ≡ self.now.names
+            → IfOk result (λ names. texts names.items
+            ≡ breaking self.now.limit self.now.names (pieces_of fields.now)) }
         ensures refusals { IfErr result (λ fault. fault ≡ Fault.OutOfMemory) }
     {
         let met = Met::of(alloc, &self.names, fields)?;
@@ -101,7 +104,8 @@ impl<'r> Limited<'r> {
 
     /// The names that break the limit in a record.
     fn broken(&self, alloc: Global, fields: &[Element]) -> Result<Vec<&'r [u8]>, Fault>
-        ensures names { IfOk result (λ names. texts names.items ≡ breaking self.now.limit self.now.names (pieces_of fields.now)) }
+        ensures names { IfOk result (λ names. texts names.items
+            ≡ breaking self.now.limit self.now.names (pieces_of fields.now)) }
         ensures refusals { IfErr result (λ fault. fault ≡ Fault.OutOfMemory) }
     {
         if self.names.len() <= FEW {
@@ -118,7 +122,8 @@ impl<'r> Limited<'r> {
         fields: &[Element],
         found: &mut Vec<Violation>,
     ) -> Result<(), Fault>
-        ensures added { OnOk result (found.new.items ≡ found.old.items ++ limit_violations self.now.limit self.now.names line (pieces_of fields.now)) }
+        ensures added { OnOk result (found.new.items ≡ found.old.items
+            ++ limit_violations self.now.limit self.now.names line (pieces_of fields.now)) }
         ensures refusals { IfErr result (λ fault. fault ≡ Fault.OutOfMemory) }
     {
         let broken = self.broken(alloc, fields)?;

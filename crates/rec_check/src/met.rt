@@ -25,7 +25,9 @@ impl Met {
     /// Notes a field of the name at a place.
     fn note(&mut self, place: usize) -> Result<(), Fault>
         ensures once { OnOk result (self.new.once.keys ≡ insert_key nat_cmp self.old.once.keys place) }
-        ensures again { OnOk result (self.new.again.keys ≡ (if contains nat_cmp self.old.once place then insert_key nat_cmp self.old.again.keys place else self.old.again.keys)) }
+        ensures again { OnOk result (self.new.again.keys
+            ≡ (if contains nat_cmp self.old.once place
+            then insert_key nat_cmp self.old.again.keys place else self.old.again.keys)) }
         ensures refusals { IfErr result (λ fault. fault ≡ Fault.OutOfMemory) }
     {
         if !self.once.insert(place)? {

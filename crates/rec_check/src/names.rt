@@ -17,7 +17,8 @@ pub(crate) fn is_among(names: &[Bytes], name: &[u8]) -> bool
 
 /// Adds names to those of a set.
 pub(crate) fn add_names<'n>(names: &mut HashSet<&'n [u8]>, more: &'n [Bytes]) -> Result<(), Fault>
-    ensures names { OnOk result ((name : List ℕ) → has_name names.new name ≡ (has_name names.old name || among more.now name)) }
+    ensures names { OnOk result ((name : List ℕ) → has_name names.new name
+        ≡ (has_name names.old name || among more.now name)) }
     ensures refusals { IfErr result (λ fault. fault ≡ Fault.OutOfMemory) }
 {
     for name in more {
@@ -123,7 +124,9 @@ impl<'n> Names<'n> {
         alloc: Global,
         places: &BTreeSet<usize>,
     ) -> Result<Vec<&'n [u8]>, Fault>
-        ensures names { IfOk result (λ names. texts names.items ≡ filter_map (λ (place, name). if contains nat_cmp places.now place then None else Some name) (enumerate_from 0 self.now)) }
+        ensures names { IfOk result (λ names. texts names.items
+            ≡ filter_map (λ (place, name). if contains nat_cmp places.now place then None else Some name)
+            (enumerate_from 0 self.now)) }
         ensures refusals { IfErr result (λ fault. fault ≡ Fault.OutOfMemory) }
     {
         let all = self.as_slice();

@@ -64,8 +64,8 @@ impl Schema {
         Some(self.types.place_of(kind)? + 1)
     }
 
-    /// Where a text breaks the rules of its sets: set by set, first its size, then the kinds that mean nothing, and then
-    /// record by record.
+    /// Where a text breaks the rules of its sets: set by set, first its size, then the kinds that mean nothing,
+    /// and then record by record.
     pub fn violations(&self, alloc: Global, database: &Database) -> Result<Vec<Violation>, Fault>
         requires { IsSchema database.now (Ok (described self.now)) }
         ensures violations { IfOk result (λ found. AreViolations database.now (described self.now) found.items) }
@@ -122,7 +122,8 @@ impl Schema {
     ) -> Result<Vec<Counter<'_>>, Fault>
         requires schema { IsSchema database.now (Ok (described self.now)) }
         requires place { set < length (described self.now).sets }
-        ensures counters { IfOk result (λ counters. AreCountersAt database.now (described self.now) set counters.items) }
+        ensures counters { IfOk result (λ counters. AreCountersAt database.now
+            (described self.now) set counters.items) }
         ensures refusals { IfErr result (λ fault. fault ≡ Fault.OutOfMemory) }
     {
         let records = self.members(database, set);

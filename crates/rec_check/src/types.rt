@@ -19,7 +19,8 @@ fn place_names<'n>(
     names: &'n [Bytes],
     place: usize,
 ) -> Result<(), Fault>
-    ensures places { OnOk result ((name : List ℕ) → place_of places.new name ≡ (if among names.now name then Some place else place_of places.old name)) }
+    ensures places { OnOk result ((name : List ℕ)
+        → place_of places.new name ≡ (if among names.now name then Some place else place_of places.old name)) }
     ensures refusals { IfErr result (λ fault. fault ≡ Fault.OutOfMemory) }
 {
     for name in names {
@@ -66,7 +67,8 @@ impl<'r> Types<'r> {
 
     /// Of two types for one field the later holds.
     pub(crate) fn of(alloc: Global, rules: &'r Rules) -> Result<Types<'r>, Fault>
-        ensures types { IfOk result (λ types. (name : List ℕ) → type_in types name ≡ field_type (rules_stored rules.now) name) }
+        ensures types { IfOk result (λ types. (name : List ℕ) → type_in types name
+            ≡ field_type (rules_stored rules.now) name) }
         ensures refusals { IfErr result (λ fault. fault ≡ Fault.OutOfMemory) }
     {
         let resolver = Resolver::of(alloc, &rules.definitions)?;
@@ -79,7 +81,9 @@ impl<'r> Types<'r> {
         resolver: &Resolver<'r>,
         typings: &'r [Typing],
     ) -> Result<Types<'r>, Fault>
-        ensures types { IfOk result (λ types. (name : List ℕ) → type_in types name ≡ type_for (map (by_meaning (meaning_by resolver.now)) (map typing_stored typings.now)) name) }
+        ensures types { IfOk result (λ types. (name : List ℕ)
+            → type_in types name ≡ type_for
+            (map (by_meaning (meaning_by resolver.now)) (map typing_stored typings.now)) name) }
         ensures refusals { IfErr result (λ fault. fault ≡ Fault.OutOfMemory) }
     {
         let mut places = HashMap::new(alloc);
@@ -132,7 +136,9 @@ impl<'r> Types<'r> {
     ) -> Result<(), Fault>
         requires forward { lines.old.passed ≤ start }
         requires within { start + length fields.now ≤ length lines.old.elements.now }
-        ensures added { OnOk result (found.new.items ≡ found.old.items ++ misfit_violations (pieces_of lines.old.elements.now) (type_in self.old) start (pieces_of fields.now)) }
+        ensures added { OnOk result (found.new.items ≡ found.old.items
+            ++ misfit_violations (pieces_of lines.old.elements.now) (type_in self.old) start
+            (pieces_of fields.now)) }
         ensures same { OnOk result ((name : List ℕ) → type_in self.new name ≡ type_in self.old name) }
         ensures passed { OnOk result (lines.new.passed ≤ start + length fields.now) }
         ensures elements { OnOk result (lines.new.elements.now ≡ lines.old.elements.now) }

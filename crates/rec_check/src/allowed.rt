@@ -14,7 +14,7 @@ pub(crate) struct Allowed<'r> {
 }
 
 impl<'r> Allowed<'r> {
-    ghost use Rattle.std.specs.Prelude.{◌≡◌, ◌&&◌, ◌++◌, ℕ, List, IfErr, IfOk, OnOk, filter, not};
+    ghost use Rattle.std.specs.Prelude.{◌≡◌, ◌&&◌, ◌++◌, ℕ, List, IfOk, OnOk, filter, not, IsOkUnless};
     ghost use Rattle.rec_text.specs.Elements.{name_of};
     ghost use Rattle.rec_text.specs.Places.{piece_of, pieces_of};
     ghost use Rattle.rec_text.specs.Records.{is_field_piece};
@@ -26,7 +26,7 @@ impl<'r> Allowed<'r> {
     pub(crate) fn of(alloc: Global, rules: &'r Rules) -> Result<Allowed<'r>, Fault>
         ensures names { IfOk result (λ allowed. (name : List ℕ) → allows allowed name
             ≡ is_allowed (rules_stored rules.now) name) }
-        ensures refusals { IfErr result (λ fault. fault ≡ Fault.OutOfMemory) }
+        ensures refusals { IsOkUnless result Fault.OutOfMemory }
     {
         let Some(allowed) = &rules.allowed else {
             return Ok(Allowed { names: None });
@@ -62,7 +62,7 @@ impl<'r> Allowed<'r> {
     fn others<'t>(&self, alloc: Global, fields: &[Element<'t>]) -> Result<Names<'t>, Fault>
         ensures names { IfOk result (λ names. names
             ≡ filter (λ name. not (allows self.now name)) (distinct (names_of (pieces_of fields.now)))) }
-        ensures refusals { IfErr result (λ fault. fault ≡ Fault.OutOfMemory) }
+        ensures refusals { IsOkUnless result Fault.OutOfMemory }
     {
         let mut names = Names::new(alloc);
         for field in fields {
@@ -84,7 +84,7 @@ impl<'r> Allowed<'r> {
         ensures added { OnOk result (found.new.items ≡ found.old.items
             ++ violations_of line Rule.Allowed (filter
             (λ name. not (allows self.now name)) (distinct (names_of (pieces_of fields.now))))) }
-        ensures refusals { IfErr result (λ fault. fault ≡ Fault.OutOfMemory) }
+        ensures refusals { IsOkUnless result Fault.OutOfMemory }
     {
         let names = self.others(alloc, fields)?;
         add_violations(alloc, line, Rule::Allowed, names.as_slice(), found)

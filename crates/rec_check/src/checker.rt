@@ -26,7 +26,7 @@ pub(crate) struct Checker<'r, 't> {
 }
 
 impl<'r, 't> Checker<'r, 't> {
-    ghost use Rattle.std.specs.Prelude.{◌≡◌, ◌++◌, ◌∷◌, [], ◌<◌, ◌≤◌, ℕ, List, length, IfErr, IfOk, OnOk};
+    ghost use Rattle.std.specs.Prelude.{◌≡◌, ◌++◌, ◌∷◌, [], ◌<◌, ◌≤◌, ℕ, List, length, IfOk, OnOk, IsOkUnless};
     ghost use Rattle.std.specs.declared.ops.Range.{Range};
     ghost use Rattle.rec_text.specs.Elements.{Piece};
     ghost use Rattle.rec_text.specs.Places.{pieces_of};
@@ -39,7 +39,7 @@ impl<'r, 't> Checker<'r, 't> {
 
     pub(crate) fn of(alloc: Global, rules: &'r Rules) -> Result<Checker<'r, 't>, Fault>
         ensures ready { IfOk result (λ checker. IsReady (rules_stored rules.now) [] checker) }
-        ensures refusals { IfErr result (λ fault. fault ≡ Fault.OutOfMemory) }
+        ensures refusals { IsOkUnless result Fault.OutOfMemory }
     {
         Ok(Checker {
             key: Key::of(alloc, &rules.key),
@@ -72,7 +72,7 @@ impl<'r, 't> Checker<'r, 't> {
             ∷ []) self.new) }
         ensures passed { OnOk result (lines.new.passed ≤ range.now.end) }
         ensures elements { OnOk result (lines.new.elements.now ≡ lines.old.elements.now) }
-        ensures refusals { IfErr result (λ fault. fault ≡ Fault.OutOfMemory) }
+        ensures refusals { IsOkUnless result Fault.OutOfMemory }
     {
         let line = lines.line_of(range.start);
         let fields = elements_in(lines.elements(), range);
@@ -102,7 +102,7 @@ impl<'r, 't> Checker<'r, 't> {
         ensures ahead { (rest : List (Range ℕ)) → AreAscending lines.old.passed (records.now ++ rest)
             → OnOk result (AreAscending lines.new.passed rest) }
         ensures elements { OnOk result (lines.new.elements.now ≡ lines.old.elements.now) }
-        ensures refusals { IfErr result (λ fault. fault ≡ Fault.OutOfMemory) }
+        ensures refusals { IsOkUnless result Fault.OutOfMemory }
     {
         for record in records {
             self.check(alloc, lines, record, found)?;

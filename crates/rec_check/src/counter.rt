@@ -1,5 +1,5 @@
 //! The counters of a set, each with its greatest number so far.
-ghost use Rattle.std.specs.Prelude.{◌≡◌, [], ◌∷◌, None, unwrap_or, length, OnOk, IfOk, IfErr};
+ghost use Rattle.std.specs.Prelude.{◌≡◌, [], ◌∷◌, None, unwrap_or, length, OnOk, IfOk, IsOkUnless};
 ghost use Rattle.std.specs.List.{AllByRecursion};
 ghost use Rattle.rec_text.specs.Faults.{UnlessMemory};
 ghost use Rattle.rec_text.specs.Places.{piece_of, pieces_of};
@@ -29,7 +29,7 @@ pub struct Counter<'r> {
 }
 
 impl<'r> Counter<'r> {
-    ghost use Rattle.std.specs.Prelude.{◌≡◌, ◌∷◌, ℤ, List, IfOk, IfErr};
+    ghost use Rattle.std.specs.Prelude.{◌≡◌, ◌∷◌, ℤ, List, IfOk, IfErr, IsOkUnless};
     ghost use Rattle.rec_check.specs.Automatic.{IsNext};
     ghost use Rattle.rec_check.specs.Counters.{IsCounterOf};
     ghost use Rattle.rec_check.specs.Rules.{Rules as Asked};
@@ -49,7 +49,7 @@ impl<'r> Counter<'r> {
         ensures counted { (rules : Asked) (numbers : List ℤ) → IsCounterOf rules numbers self.old
             → IfOk result (λ number. IsCounterOf rules (number ∷ numbers) self.new) }
         ensures name { self.new.name ≡ self.old.name }
-        ensures refusals { IfErr result (λ fault. fault ≡ Fault.AutoImpossible) }
+        ensures refusals { IsOkUnless result Fault.AutoImpossible }
         ensures unchanged { IfErr result (λ _. self.new ≡ self.old) }
     {
         if !self.counts {
@@ -69,7 +69,7 @@ fn count_field<'a>(
 ) -> Result<(), Fault>
     ensures counts { OnOk result (Counts (greatest_at greatest.old) (greatest_at greatest.new)
         (λ name. readings_in name (piece_of field.now ∷ []))) }
-    ensures refusals { IfErr result (λ fault. fault ≡ Fault.OutOfMemory) }
+    ensures refusals { IsOkUnless result Fault.OutOfMemory }
 {
     let name = field.name();
     let Some(so_far) = greatest.get(name).copied() else {
@@ -88,7 +88,7 @@ fn count_fields<'a>(
 ) -> Result<(), Fault>
     ensures counts { OnOk result (Counts (greatest_at greatest.old) (greatest_at greatest.new)
         (λ name. readings_in name (pieces_of fields.now))) }
-    ensures refusals { IfErr result (λ fault. fault ≡ Fault.OutOfMemory) }
+    ensures refusals { IsOkUnless result Fault.OutOfMemory }
 {
     for field in fields {
         count_field(alloc, greatest, field)?;
@@ -106,7 +106,7 @@ fn count_records<'a>(
     requires { AreWithin (length elements.now) records.now }
     ensures counts { OnOk result (Counts (greatest_at greatest.old) (greatest_at greatest.new)
         (readings (pieces_of elements.now) records.now)) }
-    ensures refusals { IfErr result (λ fault. fault ≡ Fault.OutOfMemory) }
+    ensures refusals { IsOkUnless result Fault.OutOfMemory }
 {
     for record in records {
         count_fields(alloc, greatest, elements_in(elements, record))?;
@@ -117,7 +117,7 @@ fn count_records<'a>(
 /// Names without a number so far.
 fn uncounted<'a>(alloc: Global, names: &[&'a [u8]]) -> Result<HashMap<&'a [u8], Option<i64>>, Fault>
     ensures none { IfOk result (λ greatest. CountsFrom (texts names.now) (greatest_at greatest)) }
-    ensures refusals { IfErr result (λ fault. fault ≡ Fault.OutOfMemory) }
+    ensures refusals { IsOkUnless result Fault.OutOfMemory }
 {
     let mut greatest = HashMap::new(alloc);
     for name in names {
@@ -136,7 +136,7 @@ fn greatest_numbers<'a>(
     requires { AreWithin (length elements.now) records.now }
     ensures greatest { IfOk result (λ greatest. HoldsGreatest (texts names.now) (greatest_at greatest)
         (readings (pieces_of elements.now) records.now)) }
-    ensures refusals { IfErr result (λ fault. fault ≡ Fault.OutOfMemory) }
+    ensures refusals { IsOkUnless result Fault.OutOfMemory }
 {
     let mut greatest = uncounted(alloc, names)?;
     count_records(alloc, &mut greatest, elements, records)?;
@@ -185,7 +185,7 @@ pub(crate) fn counters_of<'r>(
     requires { AreWithin (length elements.now) records.now }
     ensures counters { IfOk result (λ counters. AreCounters (rules_stored rules.now)
         (readings (pieces_of elements.now) records.now) counters.items) }
-    ensures refusals { IfErr result (λ fault. fault ≡ Fault.OutOfMemory) }
+    ensures refusals { IsOkUnless result Fault.OutOfMemory }
 {
     let names = automatic_names(alloc, rules)?;
     if names.is_empty() {

@@ -1,5 +1,5 @@
 //! The key of a set.
-ghost use Rattle.std.specs.Prelude.{◌≡◌, IfErr, IfOk, option_map};
+ghost use Rattle.std.specs.Prelude.{◌≡◌, IfOk, option_map, IsOkUnless};
 ghost use Rattle.std.specs.Cow.{cow_slice_items};
 ghost use Rattle.rec_text.specs.Places.{piece_of, pieces_of};
 ghost use Rattle.rec_text.specs.Values.{bytes_of, value_of};
@@ -31,7 +31,7 @@ fn only_field<'f, 't>(fields: &'f [Element<'t>], name: &[u8]) -> Option<&'f Elem
 /// The bytes of a value, copied only where they don't stand in the text.
 pub(crate) fn bytes_in<'t>(alloc: Global, value: Value<'t>) -> Result<CowSlice<'t, u8>, Fault>
     ensures bytes { IfOk result (λ bytes. cow_slice_items bytes ≡ bytes_of value.entry) }
-    ensures refusals { IfErr result (λ fault. fault ≡ Fault.OutOfMemory) }
+    ensures refusals { IsOkUnless result Fault.OutOfMemory }
 {
     match value {
         Value::Part(part) => Ok(CowSlice::Borrowed(part)),
@@ -47,7 +47,7 @@ pub(crate) struct Key<'r, 't> {
 }
 
 impl<'r, 't> Key<'r, 't> {
-    ghost use Rattle.std.specs.Prelude.{◌≡◌, ◌++◌, ◌∷◌, [], ◌||◌, ℕ, List, Some, true, false, IfErr, IfOk, OnOk, filter, option_to_list};
+    ghost use Rattle.std.specs.Prelude.{◌≡◌, ◌++◌, ◌∷◌, [], ◌||◌, ℕ, List, Some, true, false, IfOk, OnOk, filter, option_to_list, IsOkUnless};
     ghost use Rattle.std.specs.Option.{option_map_or};
     ghost use Rattle.std.specs.Str.{bytes_eq};
     ghost use Rattle.rec_text.specs.Elements.{Piece};
@@ -72,7 +72,7 @@ impl<'r, 't> Key<'r, 't> {
         ensures taken { OnOk result ((other : List ℕ)
             → has_taken self.new other ≡ (has_taken self.old other || bytes_eq other (bytes_of value.entry))) }
         ensures name { self.new.name ≡ self.old.name }
-        ensures refusals { IfErr result (λ fault. fault ≡ Fault.OutOfMemory) }
+        ensures refusals { IsOkUnless result Fault.OutOfMemory }
     {
         let is_new = self.taken.insert(bytes_in(alloc, value)?)?;
         Ok(!is_new)
@@ -87,7 +87,7 @@ impl<'r, 't> Key<'r, 't> {
             ≡ (has_taken self.old other || option_map_or (bytes_eq other)
             (key_of name.now (pieces_of fields.now)) false)) }
         ensures name { self.new.name ≡ self.old.name }
-        ensures refusals { IfErr result (λ fault. fault ≡ Fault.OutOfMemory) }
+        ensures refusals { IsOkUnless result Fault.OutOfMemory }
     {
         match only_field(fields, name) {
             Some(field) => self.take(alloc, field.value(alloc)?),
@@ -110,7 +110,7 @@ impl<'r, 't> Key<'r, 't> {
         ensures after { (earlier : List (List Piece)) → IsAfter self.old earlier
             → OnOk result (IsAfter self.new (earlier ++ pieces_of fields.now ∷ [])) }
         ensures name { self.new.name ≡ self.old.name }
-        ensures refusals { IfErr result (λ fault. fault ≡ Fault.OutOfMemory) }
+        ensures refusals { IsOkUnless result Fault.OutOfMemory }
     {
         let Some(name) = self.name else {
             return Ok(());

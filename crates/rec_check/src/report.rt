@@ -1,5 +1,5 @@
 //! Where a text breaks the rules of its record sets.
-ghost use Rattle.std.specs.Prelude.{◌≡◌, ◌++◌, ◌∷◌, [], ◌<◌, ◌≤◌, ℕ, List, Ok, None, drop, length, map, unwrap_or, if◌then◌else◌, IfErr, IfOk, OnOk};
+ghost use Rattle.std.specs.Prelude.{◌≡◌, ◌++◌, ◌∷◌, [], ◌<◌, ◌≤◌, ℕ, List, Ok, None, drop, length, map, unwrap_or, if◌then◌else◌, IfOk, OnOk, IsOkUnless};
 ghost use Rattle.std.specs.declared.ops.Range.{Range};
 ghost use Rattle.rec_text.specs.Places.{pieces_of};
 ghost use Rattle.rec_text.specs.Records.{AreAscending};
@@ -61,7 +61,7 @@ fn check_size(
         ∷ [] else [])) }
     ensures passed { OnOk result (lines.new.passed ≤ start) }
     ensures elements { OnOk result (lines.new.elements.now ≡ lines.old.elements.now) }
-    ensures refusals { IfErr result (λ fault. fault ≡ Fault.OutOfMemory) }
+    ensures refusals { IsOkUnless result Fault.OutOfMemory }
 {
     let Some(bound) = &rules.size else {
         return Ok(());
@@ -89,7 +89,7 @@ fn check_head(
         ++ head_violations (pieces_of lines.old.elements.now) records.now (rules_stored rules.now) set.now) }
     ensures ahead { OnOk result (AreAscending lines.new.passed (drop set.now.members.start records.now)) }
     ensures elements { OnOk result (lines.new.elements.now ≡ lines.old.elements.now) }
-    ensures refusals { IfErr result (λ fault. fault ≡ Fault.OutOfMemory) }
+    ensures refusals { IsOkUnless result Fault.OutOfMemory }
 {
     let Some(head) = set.head else {
         return Ok(());
@@ -114,7 +114,7 @@ fn check_records<'t>(
     ensures ahead { (rest : List (Range ℕ)) → AreAscending lines.old.passed (records.now ++ rest)
         → OnOk result (AreAscending lines.new.passed rest) }
     ensures elements { OnOk result (lines.new.elements.now ≡ lines.old.elements.now) }
-    ensures refusals { IfErr result (λ fault. fault ≡ Fault.OutOfMemory) }
+    ensures refusals { IsOkUnless result Fault.OutOfMemory }
 {
     let mut checker = Checker::of(alloc, rules)?;
     checker.check_all(alloc, lines, records, found)
@@ -136,7 +136,7 @@ fn check_set<'t>(
         (rules_stored rules.now) found.old.items found.new.items) }
     ensures ahead { OnOk result (AreAscending lines.new.passed (drop set.now.members.end records.now)) }
     ensures elements { OnOk result (lines.new.elements.now ≡ lines.old.elements.now) }
-    ensures refusals { IfErr result (λ fault. fault ≡ Fault.OutOfMemory) }
+    ensures refusals { IsOkUnless result Fault.OutOfMemory }
 {
     check_head(alloc, lines, records, set, rules, found)?;
     let members = &records[set.members.start..set.members.end];
@@ -153,7 +153,7 @@ pub(crate) fn violations_of(
     requires { IsSchema database.now (Ok (record { sets = sets.now; rules = map rules_stored rules.now })) }
     ensures violations { IfOk result (λ found. AreViolations database.now
         (record { sets = sets.now; rules = map rules_stored rules.now }) found.items) }
-    ensures refusals { IfErr result (λ fault. fault ≡ Fault.OutOfMemory) }
+    ensures refusals { IsOkUnless result Fault.OutOfMemory }
 {
     let records = database.records().as_slice();
     let mut lines = Lines::of(database);

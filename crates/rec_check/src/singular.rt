@@ -17,7 +17,7 @@ pub(crate) struct Singular<'r, 't> {
 }
 
 impl<'r, 't> Singular<'r, 't> {
-    ghost use Rattle.std.specs.Prelude.{◌≡◌, ◌++◌, ◌∷◌, [], ◌||◌, ℕ, List, true, if◌then◌else◌, None, filter, option_map, position, IfErr, IfOk, IfSome, OnOk};
+    ghost use Rattle.std.specs.Prelude.{◌≡◌, ◌++◌, ◌∷◌, [], ◌||◌, ℕ, List, true, if◌then◌else◌, None, filter, option_map, position, IfOk, IfSome, OnOk, IsOkUnless};
     ghost use Rattle.std.specs.Cow.{cow_slice_items};
     ghost use Rattle.std.specs.List.{list_any};
     ghost use Rattle.std.specs.Str.{bytes_eq};
@@ -32,7 +32,7 @@ impl<'r, 't> Singular<'r, 't> {
 
     pub(crate) fn of(alloc: Global, names: &'r [Bytes]) -> Result<Singular<'r, 't>, Fault>
         ensures after { IfOk result (λ singular. IsAfter names.now [] singular) }
-        ensures refusals { IfErr result (λ fault. fault ≡ Fault.OutOfMemory) }
+        ensures refusals { IsOkUnless result Fault.OutOfMemory }
     {
         Ok(Singular {
             names: Names::of(alloc, names)?,
@@ -50,7 +50,7 @@ impl<'r, 't> Singular<'r, 't> {
             ≡ position (bytes_eq (name_of (piece_of field.now))) self.now.names) }
         ensures value { IfOk result (λ item. IfSome item (λ one. cow_slice_items one.1
             ≡ value_of (piece_of field.now))) }
-        ensures refusals { IfErr result (λ fault. fault ≡ Fault.OutOfMemory) }
+        ensures refusals { IsOkUnless result Fault.OutOfMemory }
     {
         let Some(place) = self.names.place_of(field.name()) else {
             return Ok(None);
@@ -64,7 +64,7 @@ impl<'r, 't> Singular<'r, 't> {
         ensures place { IfOk result (λ place. place
             ≡ (if is_repeat self.now (piece_of field.now) then position
             (bytes_eq (name_of (piece_of field.now))) self.now.names else None)) }
-        ensures refusals { IfErr result (λ fault. fault ≡ Fault.OutOfMemory) }
+        ensures refusals { IsOkUnless result Fault.OutOfMemory }
     {
         match self.item_of(alloc, field)? {
             Some(item) if self.seen.contains(&item) => Ok(Some(item.0)),
@@ -78,7 +78,7 @@ impl<'r, 't> Singular<'r, 't> {
             → IfOk result (λ broken. broken.keys
             ≡ places_of (λ name. list_any (has_seen self.now name)
             (values_of name (pieces_of fields.now))) self.now.names) }
-        ensures refusals { IfErr result (λ fault. fault ≡ Fault.OutOfMemory) }
+        ensures refusals { IsOkUnless result Fault.OutOfMemory }
     {
         let mut broken = BTreeSet::new(alloc);
         for field in fields {
@@ -96,7 +96,7 @@ impl<'r, 't> Singular<'r, 't> {
             → has_seen self.new name value
             ≡ (has_seen self.old name value || is_among (values_of name (pieces_of fields.now)) value)) }
         ensures names { self.new.names ≡ self.old.names }
-        ensures refusals { IfErr result (λ fault. fault ≡ Fault.OutOfMemory) }
+        ensures refusals { IsOkUnless result Fault.OutOfMemory }
     {
         for field in fields {
             let Some(item) = self.item_of(alloc, field)? else {
@@ -121,7 +121,7 @@ impl<'r, 't> Singular<'r, 't> {
             (filter (breaks_singular earlier (pieces_of fields.now)) (distinct names))) }
         ensures after { (names : List (List ℕ)) (earlier : List (List Piece)) → IsAfter names earlier self.old
             → OnOk result (IsAfter names (earlier ++ pieces_of fields.now ∷ []) self.new) }
-        ensures refusals { IfErr result (λ fault. fault ≡ Fault.OutOfMemory) }
+        ensures refusals { IsOkUnless result Fault.OutOfMemory }
     {
         if self.names.as_slice().is_empty() {
             return Ok(());

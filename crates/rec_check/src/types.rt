@@ -1,5 +1,5 @@
 //! The types of the fields of a set.
-ghost use Rattle.std.specs.Prelude.{◌≡◌, ℕ, List, Some, if◌then◌else◌, map, slice_get, IfOk, OnOk, IfErr};
+ghost use Rattle.std.specs.Prelude.{◌≡◌, ℕ, List, Some, if◌then◌else◌, map, slice_get, IfOk, OnOk, IsOkUnless};
 ghost use Rattle.rec_check.specs.Fitting.{fails, place_of, tested};
 ghost use Rattle.rec_check.specs.Words.{is_among as among};
 
@@ -21,7 +21,7 @@ fn place_names<'n>(
 ) -> Result<(), Fault>
     ensures places { OnOk result ((name : List ℕ)
         → place_of places.new name ≡ (if among names.now name then Some place else place_of places.old name)) }
-    ensures refusals { IfErr result (λ fault. fault ≡ Fault.OutOfMemory) }
+    ensures refusals { IsOkUnless result Fault.OutOfMemory }
 {
     for name in names {
         places.insert(name.as_slice(), place)?;
@@ -38,7 +38,7 @@ fn fails_at(
 ) -> Result<bool, Fault>
     ensures fails { IfOk result (λ answer. answer ≡ fails (slice_get (map tested tests.old) place) value.now) }
     ensures same { map tested tests.new ≡ map tested tests.old }
-    ensures refusals { IfErr result (λ fault. fault ≡ Fault.OutOfMemory) }
+    ensures refusals { IsOkUnless result Fault.OutOfMemory }
 {
     if place >= tests.len() {
         return Ok(false);
@@ -55,7 +55,7 @@ pub(crate) struct Types<'r> {
 }
 
 impl<'r> Types<'r> {
-    ghost use Rattle.std.specs.Prelude.{◌≡◌, ◌+◌, ◌++◌, ◌≤◌, ℕ, List, length, map, IfErr, IfOk, OnOk};
+    ghost use Rattle.std.specs.Prelude.{◌≡◌, ◌+◌, ◌++◌, ◌≤◌, ℕ, List, length, map, IfOk, OnOk, IsOkUnless};
     ghost use Rattle.rec_text.specs.Places.{piece_of, pieces_of};
     ghost use Rattle.rec_check.specs.Automatic.{may_count};
     ghost use Rattle.rec_check.specs.Fitting.{misfits, misfit_violations};
@@ -69,7 +69,7 @@ impl<'r> Types<'r> {
     pub(crate) fn of(alloc: Global, rules: &'r Rules) -> Result<Types<'r>, Fault>
         ensures types { IfOk result (λ types. (name : List ℕ) → type_in types name
             ≡ field_type (rules_stored rules.now) name) }
-        ensures refusals { IfErr result (λ fault. fault ≡ Fault.OutOfMemory) }
+        ensures refusals { IsOkUnless result Fault.OutOfMemory }
     {
         let resolver = Resolver::of(alloc, &rules.definitions)?;
         Types::with(alloc, &resolver, &rules.types)
@@ -84,7 +84,7 @@ impl<'r> Types<'r> {
         ensures types { IfOk result (λ types. (name : List ℕ)
             → type_in types name ≡ type_for
             (map (by_meaning (meaning_by resolver.now)) (map typing_stored typings.now)) name) }
-        ensures refusals { IfErr result (λ fault. fault ≡ Fault.OutOfMemory) }
+        ensures refusals { IsOkUnless result Fault.OutOfMemory }
     {
         let mut places = HashMap::new(alloc);
         let mut tests = Vec::with_capacity(alloc, typings.len())?;
@@ -113,7 +113,7 @@ impl<'r> Types<'r> {
     fn is_misfit(&mut self, alloc: Global, element: &Element) -> Result<bool, Fault>
         ensures misfit { IfOk result (λ answer. answer ≡ misfits (type_in self.old) (piece_of element.now)) }
         ensures same { (name : List ℕ) → type_in self.new name ≡ type_in self.old name }
-        ensures refusals { IfErr result (λ fault. fault ≡ Fault.OutOfMemory) }
+        ensures refusals { IsOkUnless result Fault.OutOfMemory }
     {
         let Kind::Field = element.kind else {
             return Ok(false);
@@ -142,7 +142,7 @@ impl<'r> Types<'r> {
         ensures same { OnOk result ((name : List ℕ) → type_in self.new name ≡ type_in self.old name) }
         ensures passed { OnOk result (lines.new.passed ≤ start + length fields.now) }
         ensures elements { OnOk result (lines.new.elements.now ≡ lines.old.elements.now) }
-        ensures refusals { IfErr result (λ fault. fault ≡ Fault.OutOfMemory) }
+        ensures refusals { IsOkUnless result Fault.OutOfMemory }
     {
         for (i, field) in fields.iter().enumerate() {
             if !self.is_misfit(alloc, field)? {

@@ -1,5 +1,5 @@
 //! The kinds that a descriptor names and that mean nothing.
-ghost use Rattle.std.specs.Prelude.{◌≡◌, ◌+◌, ◌++◌, ◌<◌, ◌≤◌, length, is_some, slice_get, option_map, option_to_list, IfErr, OnOk};
+ghost use Rattle.std.specs.Prelude.{◌≡◌, ◌+◌, ◌++◌, ◌<◌, ◌≤◌, length, is_some, slice_get, option_map, option_to_list, OnOk, IsOkUnless};
 ghost use Rattle.rec_text.specs.Places.{piece_of, pieces_of};
 ghost use Rattle.rec_text.specs.Records.{elements_in as elements_of};
 ghost use Rattle.rec_check.specs.Resolved.{resolved_by};
@@ -59,7 +59,7 @@ fn check_field(
         (unresolved_of (resolved_by resolver.now) (piece_of field.now)))) }
     ensures passed { OnOk result (lines.new.passed ≤ index) }
     ensures elements { OnOk result (lines.new.elements.now ≡ lines.old.elements.now) }
-    ensures refusals { IfErr result (λ fault. fault ≡ Fault.OutOfMemory) }
+    ensures refusals { IsOkUnless result Fault.OutOfMemory }
 {
     if !names_kind(field) {
         return Ok(());
@@ -88,7 +88,7 @@ fn check_fields(
         (pieces_of fields.now)) }
     ensures passed { OnOk result (lines.new.passed ≤ start + length fields.now) }
     ensures elements { OnOk result (lines.new.elements.now ≡ lines.old.elements.now) }
-    ensures refusals { IfErr result (λ fault. fault ≡ Fault.OutOfMemory) }
+    ensures refusals { IsOkUnless result Fault.OutOfMemory }
 {
     for (i, field) in fields.iter().enumerate() {
         check_field(alloc, lines, resolver, start + i, field, found)?;
@@ -113,7 +113,7 @@ pub(crate) fn check_kinds(
         (elements_of (pieces_of lines.old.elements.now) range.now)) }
     ensures passed { OnOk result (lines.new.passed ≤ range.now.end) }
     ensures elements { OnOk result (lines.new.elements.now ≡ lines.old.elements.now) }
-    ensures refusals { IfErr result (λ fault. fault ≡ Fault.OutOfMemory) }
+    ensures refusals { IsOkUnless result Fault.OutOfMemory }
 {
     let resolver = Resolver::of(alloc, &rules.definitions)?;
     let fields = elements_in(lines.elements(), range);

@@ -14,7 +14,7 @@ pub(crate) struct Allowed<'r> {
 }
 
 impl<'r> Allowed<'r> {
-    ghost use Rattle.std.specs.Prelude.{◌≡◌, ◌&&◌, ◌++◌, ℕ, List, IfErr, IfOk, OnOk, filter, not};
+    ghost use Rattle.std.specs.Prelude.{◌≡◌, ◌&&◌, ◌++◌, ℕ, List, IfOk, OnOk, filter, not, IsOkUnless};
     ghost use Rattle.rec_text.specs.Elements.{name_of};
     ghost use Rattle.rec_text.specs.Places.{piece_of, pieces_of};
     ghost use Rattle.rec_text.specs.Records.{is_field_piece};
@@ -24,8 +24,9 @@ impl<'r> Allowed<'r> {
     ghost use Rattle.rec_check.specs.Words.{distinct};
 
     pub(crate) fn of(alloc: Global, rules: &'r Rules) -> Result<Allowed<'r>, Fault>
-        ensures names { IfOk result (λ allowed. (name : List ℕ) → allows allowed name ≡ is_allowed (rules_stored rules.now) name) }
-        ensures refusals { IfErr result (λ fault. fault ≡ Fault.OutOfMemory) }
+        ensures names { IfOk result (λ allowed. (name : List ℕ) → allows allowed name
+            ≡ is_allowed (rules_stored rules.now) name) }
+        ensures refusals { IsOkUnless result Fault.OutOfMemory }
     {
         let Some(allowed) = &rules.allowed else {
             return Ok(Allowed { names: None });
@@ -48,7 +49,8 @@ impl<'r> Allowed<'r> {
 
     /// Whether an element is a field whose name isn't allowed.
     fn refuses(&self, element: &Element) -> bool
-        ensures { result ≡ (is_field_piece (piece_of element.now) && not (allows self.now (name_of (piece_of element.now)))) }
+        ensures { result ≡ (is_field_piece (piece_of element.now)
+            && not (allows self.now (name_of (piece_of element.now)))) }
     {
         let Kind::Field = element.kind else {
             return false;
@@ -58,8 +60,9 @@ impl<'r> Allowed<'r> {
 
     /// The names of a record's fields that aren't allowed, each once, in the order in which they first occur.
     fn others<'t>(&self, alloc: Global, fields: &[Element<'t>]) -> Result<Names<'t>, Fault>
-        ensures names { IfOk result (λ names. names ≡ filter (λ name. not (allows self.now name)) (distinct (names_of (pieces_of fields.now)))) }
-        ensures refusals { IfErr result (λ fault. fault ≡ Fault.OutOfMemory) }
+        ensures names { IfOk result (λ names. names
+            ≡ filter (λ name. not (allows self.now name)) (distinct (names_of (pieces_of fields.now)))) }
+        ensures refusals { IsOkUnless result Fault.OutOfMemory }
     {
         let mut names = Names::new(alloc);
         for field in fields {
@@ -78,8 +81,10 @@ impl<'r> Allowed<'r> {
         fields: &[Element],
         found: &mut Vec<Violation>,
     ) -> Result<(), Fault>
-        ensures added { OnOk result (found.new.items ≡ found.old.items ++ violations_of line Rule.Allowed (filter (λ name. not (allows self.now name)) (distinct (names_of (pieces_of fields.now))))) }
-        ensures refusals { IfErr result (λ fault. fault ≡ Fault.OutOfMemory) }
+        ensures added { OnOk result (found.new.items ≡ found.old.items
+            ++ violations_of line Rule.Allowed (filter
+            (λ name. not (allows self.now name)) (distinct (names_of (pieces_of fields.now))))) }
+        ensures refusals { IsOkUnless result Fault.OutOfMemory }
     {
         let names = self.others(alloc, fields)?;
         add_violations(alloc, line, Rule::Allowed, names.as_slice(), found)

@@ -1,5 +1,5 @@
 //! Automatic values: what may be counted, and the number behind the greatest.
-ghost use Rattle.std.specs.Prelude.{◌≡◌, ◌&&◌, not, IfOk, IfErr};
+ghost use Rattle.std.specs.Prelude.{◌≡◌, ◌&&◌, not, IfOk, IsOkUnless};
 ghost use Rattle.rec_text.specs.Places.{piece_of};
 ghost use Rattle.rec_text.specs.Values.{value_of};
 ghost use Rattle.rec_sex.specs.Integers.{int_of};
@@ -43,7 +43,7 @@ pub(crate) fn is_counter(types: &Types, name: &[u8]) -> bool
 /// Whether a field may be a counter under these rules.
 pub(crate) fn may_be_counter(alloc: Global, rules: &Rules, name: &[u8]) -> Result<bool, Fault>
     ensures counter { IfOk result (λ answer. answer ≡ may_be_counted (rules_stored rules.now) name.now) }
-    ensures refusals { IfErr result (λ fault. fault ≡ Fault.OutOfMemory) }
+    ensures refusals { IsOkUnless result Fault.OutOfMemory }
 {
     let types = Types::of(alloc, rules)?;
     Ok(is_counter(&types, name))
@@ -62,7 +62,7 @@ pub(crate) fn greater(so_far: Option<i64>, number: Option<i64>) -> Option<i64>
 /// The integer that a field's value reads as, if it does.
 pub(crate) fn reading_of(alloc: Global, field: &Element) -> Result<Option<i64>, Fault>
     ensures reading { IfOk result (λ reading. reading ≡ int_of (value_of (piece_of field.now))) }
-    ensures refusals { IfErr result (λ fault. fault ≡ Fault.OutOfMemory) }
+    ensures refusals { IsOkUnless result Fault.OutOfMemory }
 {
     let value = field.value(alloc)?;
     Ok(int_of(value.bytes()))

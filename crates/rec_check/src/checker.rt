@@ -26,7 +26,7 @@ pub(crate) struct Checker<'r, 't> {
 }
 
 impl<'r, 't> Checker<'r, 't> {
-    ghost use Rattle.std.specs.Prelude.{◌≡◌, ◌++◌, ◌∷◌, [], ◌<◌, ◌≤◌, ℕ, List, length, IfErr, IfOk, OnOk};
+    ghost use Rattle.std.specs.Prelude.{◌≡◌, ◌++◌, ◌∷◌, [], ◌<◌, ◌≤◌, ℕ, List, length, IfOk, OnOk, IsOkUnless};
     ghost use Rattle.std.specs.declared.ops.Range.{Range};
     ghost use Rattle.rec_text.specs.Elements.{Piece};
     ghost use Rattle.rec_text.specs.Places.{pieces_of};
@@ -39,7 +39,7 @@ impl<'r, 't> Checker<'r, 't> {
 
     pub(crate) fn of(alloc: Global, rules: &'r Rules) -> Result<Checker<'r, 't>, Fault>
         ensures ready { IfOk result (λ checker. IsReady (rules_stored rules.now) [] checker) }
-        ensures refusals { IfErr result (λ fault. fault ≡ Fault.OutOfMemory) }
+        ensures refusals { IsOkUnless result Fault.OutOfMemory }
     {
         Ok(Checker {
             key: Key::of(alloc, &rules.key),
@@ -64,11 +64,15 @@ impl<'r, 't> Checker<'r, 't> {
         requires forward { lines.old.passed ≤ range.now.start }
         requires some { range.now.start < range.now.end }
         requires within { range.now.end ≤ length lines.old.elements.now }
-        ensures added { (rules : Asked) (earlier : List (List Piece)) → IsReady rules earlier self.old → OnOk result (AddsOfRecord (pieces_of lines.old.elements.now) rules earlier range.now found.old.items found.new.items) }
-        ensures ready { (rules : Asked) (earlier : List (List Piece)) → IsReady rules earlier self.old → OnOk result (IsReady rules (earlier ++ elements_in (pieces_of lines.old.elements.now) range.now ∷ []) self.new) }
+        ensures added { (rules : Asked) (earlier : List (List Piece)) → IsReady rules earlier self.old
+            → OnOk result (AddsOfRecord
+            (pieces_of lines.old.elements.now) rules earlier range.now found.old.items found.new.items) }
+        ensures ready { (rules : Asked) (earlier : List (List Piece)) → IsReady rules earlier self.old
+            → OnOk result (IsReady rules (earlier ++ elements_in (pieces_of lines.old.elements.now) range.now
+            ∷ []) self.new) }
         ensures passed { OnOk result (lines.new.passed ≤ range.now.end) }
         ensures elements { OnOk result (lines.new.elements.now ≡ lines.old.elements.now) }
-        ensures refusals { IfErr result (λ fault. fault ≡ Fault.OutOfMemory) }
+        ensures refusals { IsOkUnless result Fault.OutOfMemory }
     {
         let line = lines.line_of(range.start);
         let fields = elements_in(lines.elements(), range);
@@ -92,10 +96,13 @@ impl<'r, 't> Checker<'r, 't> {
     ) -> Result<(), Fault>
         requires ahead { AreAscending lines.old.passed records.now }
         requires within { AreWithin (length lines.old.elements.now) records.now }
-        ensures added { (rules : Asked) → IsReady rules [] self.old → OnOk result (AddsOfRecords (pieces_of lines.old.elements.now) rules records.now found.old.items found.new.items) }
-        ensures ahead { (rest : List (Range ℕ)) → AreAscending lines.old.passed (records.now ++ rest) → OnOk result (AreAscending lines.new.passed rest) }
+        ensures added { (rules : Asked) → IsReady rules [] self.old
+            → OnOk result (AddsOfRecords
+            (pieces_of lines.old.elements.now) rules records.now found.old.items found.new.items) }
+        ensures ahead { (rest : List (Range ℕ)) → AreAscending lines.old.passed (records.now ++ rest)
+            → OnOk result (AreAscending lines.new.passed rest) }
         ensures elements { OnOk result (lines.new.elements.now ≡ lines.old.elements.now) }
-        ensures refusals { IfErr result (λ fault. fault ≡ Fault.OutOfMemory) }
+        ensures refusals { IsOkUnless result Fault.OutOfMemory }
     {
         for record in records {
             self.check(alloc, lines, record, found)?;

@@ -1,5 +1,5 @@
 //! The constraints of a set.
-ghost use Rattle.std.specs.Prelude.{◌≡◌, ◌++◌, ◌∷◌, [], decimal, IfErr, OnOk};
+ghost use Rattle.std.specs.Prelude.{◌≡◌, ◌++◌, ◌∷◌, [], decimal, OnOk, IsOkUnless};
 ghost use Rattle.rec_check.specs.Violations.{violation};
 
 use crate::found::add_violation;
@@ -15,8 +15,9 @@ fn add_numbered(
     number: usize,
     found: &mut Vec<Violation>,
 ) -> Result<(), Fault>
-    ensures added { OnOk result (found.new.items ≡ found.old.items ++ violation line Rule.Constraint (decimal number) ∷ []) }
-    ensures refusals { IfErr result (λ fault. fault ≡ Fault.OutOfMemory) }
+    ensures added { OnOk result (found.new.items
+        ≡ found.old.items ++ violation line Rule.Constraint (decimal number) ∷ []) }
+    ensures refusals { IsOkUnless result Fault.OutOfMemory }
 {
     let mut buffer = Buffer::new();
     let name = buffer.format(number).as_bytes();
@@ -30,7 +31,7 @@ pub(crate) struct Constraints<'r> {
 }
 
 impl<'r> Constraints<'r> {
-    ghost use Rattle.std.specs.Prelude.{◌≡◌, map, IfErr, IfOk, OnOk};
+    ghost use Rattle.std.specs.Prelude.{◌≡◌, map, IfOk, OnOk, IsOkUnless};
     ghost use Rattle.rec_text.specs.Places.{pieces_of};
     ghost use Rattle.rec_sex.specs.Expressions.{term_of};
     ghost use Rattle.rec_check.specs.Checks.{AddsUnselected};
@@ -38,7 +39,7 @@ impl<'r> Constraints<'r> {
 
     pub(crate) fn of(alloc: Global, constraints: &'r [Expr]) -> Result<Constraints<'r>, Fault>
         ensures terms { IfOk result (λ ready. terms_in ready ≡ map term_of constraints.now) }
-        ensures refusals { IfErr result (λ fault. fault ≡ Fault.OutOfMemory) }
+        ensures refusals { IsOkUnless result Fault.OutOfMemory }
     {
         let mut searches = Vec::new(alloc);
         for constraint in constraints {
@@ -55,9 +56,10 @@ impl<'r> Constraints<'r> {
         fields: &[Element],
         found: &mut Vec<Violation>,
     ) -> Result<(), Fault>
-        ensures added { OnOk result (AddsUnselected line (terms_in self.old) (pieces_of fields.now) found.old.items found.new.items) }
+        ensures added { OnOk result (AddsUnselected line (terms_in self.old)
+            (pieces_of fields.now) found.old.items found.new.items) }
         ensures same { OnOk result (terms_in self.new ≡ terms_in self.old) }
-        ensures refusals { IfErr result (λ fault. fault ≡ Fault.OutOfMemory) }
+        ensures refusals { IsOkUnless result Fault.OutOfMemory }
     {
         for (i, search) in self.searches.iter_mut().enumerate() {
             if search.selects(alloc, fields)? {

@@ -1,5 +1,5 @@
 //! The counters of a set, each with its greatest number so far.
-ghost use Rattle.std.specs.Prelude.{◌≡◌, [], ◌∷◌, None, unwrap_or, length, OnOk, IfOk, IfErr};
+ghost use Rattle.std.specs.Prelude.{◌≡◌, [], ◌∷◌, None, unwrap_or, length, OnOk, IfOk, IsOkUnless};
 ghost use Rattle.std.specs.List.{AllByRecursion};
 ghost use Rattle.rec_text.specs.Faults.{UnlessMemory};
 ghost use Rattle.rec_text.specs.Places.{piece_of, pieces_of};
@@ -29,7 +29,7 @@ pub struct Counter<'r> {
 }
 
 impl<'r> Counter<'r> {
-    ghost use Rattle.std.specs.Prelude.{◌≡◌, ◌∷◌, ℤ, List, IfOk, IfErr};
+    ghost use Rattle.std.specs.Prelude.{◌≡◌, ◌∷◌, ℤ, List, IfOk, IfErr, IsOkUnless};
     ghost use Rattle.rec_check.specs.Automatic.{IsNext};
     ghost use Rattle.rec_check.specs.Counters.{IsCounterOf};
     ghost use Rattle.rec_check.specs.Rules.{Rules as Asked};
@@ -44,10 +44,12 @@ impl<'r> Counter<'r> {
     /// The next number, which counts from then on: one more than the greatest, and 0 where there is none. Where that is
     /// refused, the counter stays as it is.
     pub fn next_number(&mut self) -> Result<i64, Fault>
-        ensures next { (rules : Asked) (numbers : List ℤ) → IsCounterOf rules numbers self.old → IsNext rules self.old.name.now numbers result }
-        ensures counted { (rules : Asked) (numbers : List ℤ) → IsCounterOf rules numbers self.old → IfOk result (λ number. IsCounterOf rules (number ∷ numbers) self.new) }
+        ensures next { (rules : Asked) (numbers : List ℤ) → IsCounterOf rules numbers self.old
+            → IsNext rules self.old.name.now numbers result }
+        ensures counted { (rules : Asked) (numbers : List ℤ) → IsCounterOf rules numbers self.old
+            → IfOk result (λ number. IsCounterOf rules (number ∷ numbers) self.new) }
         ensures name { self.new.name ≡ self.old.name }
-        ensures refusals { IfErr result (λ fault. fault ≡ Fault.AutoImpossible) }
+        ensures refusals { IsOkUnless result Fault.AutoImpossible }
         ensures unchanged { IfErr result (λ _. self.new ≡ self.old) }
     {
         if !self.counts {
@@ -65,8 +67,9 @@ fn count_field<'a>(
     greatest: &mut HashMap<&'a [u8], Option<i64>>,
     field: &Element<'a>,
 ) -> Result<(), Fault>
-    ensures counts { OnOk result (Counts (greatest_at greatest.old) (greatest_at greatest.new) (λ name. readings_in name (piece_of field.now ∷ []))) }
-    ensures refusals { IfErr result (λ fault. fault ≡ Fault.OutOfMemory) }
+    ensures counts { OnOk result (Counts (greatest_at greatest.old) (greatest_at greatest.new)
+        (λ name. readings_in name (piece_of field.now ∷ []))) }
+    ensures refusals { IsOkUnless result Fault.OutOfMemory }
 {
     let name = field.name();
     let Some(so_far) = greatest.get(name).copied() else {
@@ -83,8 +86,9 @@ fn count_fields<'a>(
     greatest: &mut HashMap<&'a [u8], Option<i64>>,
     fields: &[Element<'a>],
 ) -> Result<(), Fault>
-    ensures counts { OnOk result (Counts (greatest_at greatest.old) (greatest_at greatest.new) (λ name. readings_in name (pieces_of fields.now))) }
-    ensures refusals { IfErr result (λ fault. fault ≡ Fault.OutOfMemory) }
+    ensures counts { OnOk result (Counts (greatest_at greatest.old) (greatest_at greatest.new)
+        (λ name. readings_in name (pieces_of fields.now))) }
+    ensures refusals { IsOkUnless result Fault.OutOfMemory }
 {
     for field in fields {
         count_field(alloc, greatest, field)?;
@@ -100,8 +104,9 @@ fn count_records<'a>(
     records: &[Range<usize>],
 ) -> Result<(), Fault>
     requires { AreWithin (length elements.now) records.now }
-    ensures counts { OnOk result (Counts (greatest_at greatest.old) (greatest_at greatest.new) (readings (pieces_of elements.now) records.now)) }
-    ensures refusals { IfErr result (λ fault. fault ≡ Fault.OutOfMemory) }
+    ensures counts { OnOk result (Counts (greatest_at greatest.old) (greatest_at greatest.new)
+        (readings (pieces_of elements.now) records.now)) }
+    ensures refusals { IsOkUnless result Fault.OutOfMemory }
 {
     for record in records {
         count_fields(alloc, greatest, elements_in(elements, record))?;
@@ -112,7 +117,7 @@ fn count_records<'a>(
 /// Names without a number so far.
 fn uncounted<'a>(alloc: Global, names: &[&'a [u8]]) -> Result<HashMap<&'a [u8], Option<i64>>, Fault>
     ensures none { IfOk result (λ greatest. CountsFrom (texts names.now) (greatest_at greatest)) }
-    ensures refusals { IfErr result (λ fault. fault ≡ Fault.OutOfMemory) }
+    ensures refusals { IsOkUnless result Fault.OutOfMemory }
 {
     let mut greatest = HashMap::new(alloc);
     for name in names {
@@ -129,8 +134,9 @@ fn greatest_numbers<'a>(
     names: &[&'a [u8]],
 ) -> Result<HashMap<&'a [u8], Option<i64>>, Fault>
     requires { AreWithin (length elements.now) records.now }
-    ensures greatest { IfOk result (λ greatest. HoldsGreatest (texts names.now) (greatest_at greatest) (readings (pieces_of elements.now) records.now)) }
-    ensures refusals { IfErr result (λ fault. fault ≡ Fault.OutOfMemory) }
+    ensures greatest { IfOk result (λ greatest. HoldsGreatest (texts names.now) (greatest_at greatest)
+        (readings (pieces_of elements.now) records.now)) }
+    ensures refusals { IsOkUnless result Fault.OutOfMemory }
 {
     let mut greatest = uncounted(alloc, names)?;
     count_records(alloc, &mut greatest, elements, records)?;
@@ -155,7 +161,8 @@ fn counters_with<'r>(
     greatest: &HashMap<&[u8], Option<i64>>,
 ) -> Result<Vec<Counter<'r>>, AllocError>
     ensures names { IfOk result (λ counters. counter_names counters.items ≡ texts names.now) }
-    ensures each { IfOk result (λ counters. AllByRecursion (IsKept (type_in types.now) (greatest_at greatest.now)) counters.items) }
+    ensures each { IfOk result (λ counters. AllByRecursion
+        (IsKept (type_in types.now) (greatest_at greatest.now)) counters.items) }
 {
     let mut counters = Vec::with_capacity(alloc, names.len())?;
     for name in names {
@@ -176,8 +183,9 @@ pub(crate) fn counters_of<'r>(
     rules: &'r Rules,
 ) -> Result<Vec<Counter<'r>>, Fault>
     requires { AreWithin (length elements.now) records.now }
-    ensures counters { IfOk result (λ counters. AreCounters (rules_stored rules.now) (readings (pieces_of elements.now) records.now) counters.items) }
-    ensures refusals { IfErr result (λ fault. fault ≡ Fault.OutOfMemory) }
+    ensures counters { IfOk result (λ counters. AreCounters (rules_stored rules.now)
+        (readings (pieces_of elements.now) records.now) counters.items) }
+    ensures refusals { IsOkUnless result Fault.OutOfMemory }
 {
     let names = automatic_names(alloc, rules)?;
     if names.is_empty() {
@@ -197,7 +205,8 @@ pub(crate) fn next_value<'a>(
     name: &'a [u8],
 ) -> Result<i64, Fault>
     requires { AreWithin (length elements.now) records.now }
-    ensures { UnlessMemory result (IsNext (rules_stored rules.now) name.now (readings (pieces_of elements.now) records.now name.now)) }
+    ensures { UnlessMemory result (IsNext (rules_stored rules.now) name.now
+        (readings (pieces_of elements.now) records.now name.now)) }
 {
     if !may_be_counter(alloc, rules, name)? {
         return Err(Fault::AutoImpossible);

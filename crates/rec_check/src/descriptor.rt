@@ -54,7 +54,8 @@ fn add_type(
     types: &TypeNames,
     value: &[u8],
 ) -> Result<(), Refusal>
-    ensures { Answers (rec_flaw (is_some kind.old) types.now (words value.now)) (kind.new ≡ Some (first_word (words value.now))) ⊥ result }
+    ensures { Answers (rec_flaw (is_some kind.old) types.now (words value.now))
+        (kind.new ≡ Some (first_word (words value.now))) ⊥ result }
 {
     let Some((word, source)) = split_word(value) else {
         return Err(Refusal::Bad);
@@ -71,7 +72,8 @@ fn add_type(
 
 /// Takes the one name of a `%key` field.
 fn add_key(alloc: Global, key: &mut Option<Bytes>, value: &[u8]) -> Result<(), Refusal>
-    ensures { Answers (special_flaw Special.Key (is_some key.old) [] value.now) (key.new ≡ slice_get (words value.now) 0) ⊥ result }
+    ensures { Answers (special_flaw Special.Key (is_some key.old) [] value.now)
+        (key.new ≡ slice_get (words value.now) 0) ⊥ result }
 {
     let Some((name, behind)) = split_word(value) else {
         return Err(Refusal::Bad);
@@ -85,7 +87,8 @@ fn add_key(alloc: Global, key: &mut Option<Bytes>, value: &[u8]) -> Result<(), R
 
 /// Takes the names of a field that lists some.
 fn add_names(alloc: Global, names: &mut Vec<Bytes>, value: &[u8]) -> Result<(), Refusal>
-    ensures { Answers (bad_unless (list_all may_name_a_field (words value.now))) (names.new.items ≡ names.old.items ++ words value.now) ⊥ result }
+    ensures { Answers (bad_unless (list_all may_name_a_field (words value.now)))
+        (names.new.items ≡ names.old.items ++ words value.now) ⊥ result }
 {
     let mut rest = value;
     while let Some((name, behind)) = split_word(rest) {
@@ -100,7 +103,9 @@ fn add_names(alloc: Global, names: &mut Vec<Bytes>, value: &[u8]) -> Result<(), 
 
 /// Takes the names of an `%allowed` field.
 fn add_allowed(alloc: Global, allowed: &mut Option<Vec<Bytes>>, value: &[u8]) -> Result<(), Refusal>
-    ensures { Answers (bad_unless (list_all may_name_a_field (words value.now))) (option_map (λ names. names.items) allowed.new ≡ Some (unwrap_or (option_map (λ names. names.items) allowed.old) [] ++ words value.now)) ⊥ result }
+    ensures { Answers (bad_unless (list_all may_name_a_field (words value.now)))
+        (option_map (λ names. names.items) allowed.new
+        ≡ Some (unwrap_or (option_map (λ names. names.items) allowed.old) [] ++ words value.now)) ⊥ result }
 {
     let mut names = match allowed.take() {
         Some(names) => names,
@@ -118,7 +123,9 @@ fn add_typing(
     types: &mut Vec<Typing>,
     value: &[u8],
 ) -> Result<(), Refusal>
-    ensures { Answers (special_flaw Special.Type_ false [] value.now) (AddsTyping value.now types.old.items types.new.items) (TypeMayBeRefused value.now) result }
+    ensures { Answers (special_flaw Special.Type_ false [] value.now)
+        (AddsTyping value.now types.old.items types.new.items)
+        (TypeMayBeRefused value.now) result }
 {
     types.push(typing_in(alloc, patterns, value)?)?;
     Ok(())
@@ -131,7 +138,9 @@ fn add_definition(
     definitions: &mut Vec<Definition>,
     value: &[u8],
 ) -> Result<(), Refusal>
-    ensures { Answers (special_flaw Special.Typedef false [] value.now) (AddsDefinition value.now definitions.old.items definitions.new.items) (DefinitionMayBeRefused value.now) result }
+    ensures { Answers (special_flaw Special.Typedef false [] value.now)
+        (AddsDefinition value.now definitions.old.items definitions.new.items)
+        (DefinitionMayBeRefused value.now) result }
 {
     definitions.push(definition_in(alloc, patterns, value)?)?;
     Ok(())
@@ -139,7 +148,8 @@ fn add_definition(
 
 /// Takes what a `%size` field says.
 fn add_bound(size: &mut Option<Bound>, value: &[u8]) -> Result<(), Refusal>
-    ensures { Answers (special_flaw Special.Size (is_some size.old) [] value.now) (size.new ≡ bound_in value.now) ⊥ result }
+    ensures { Answers (special_flaw Special.Size (is_some size.old) [] value.now)
+        (size.new ≡ bound_in value.now) ⊥ result }
 {
     let None = size else {
         return Err(Refusal::Bad);
@@ -164,7 +174,9 @@ fn refusal_of(fault: Fault) -> Refusal
 
 /// Takes the expression of a `%constraint` field.
 fn add_constraint(alloc: Global, constraints: &mut Vec<Expr>, value: &[u8]) -> Result<(), Refusal>
-    ensures { Answers (special_flaw Special.Constraint false [] value.now) (AddsConstraint value.now constraints.old.items constraints.new.items) (ExpressionMayBeRefused value.now) result }
+    ensures { Answers (special_flaw Special.Constraint false [] value.now)
+        (AddsConstraint value.now constraints.old.items constraints.new.items)
+        (ExpressionMayBeRefused value.now) result }
 {
     match Expr::parse(alloc, value) {
         Ok(constraint) => {
@@ -201,7 +213,8 @@ impl Descriptor {
         special: Special,
         value: &[u8],
     ) -> Result<(), Refusal>
-        ensures { Answers (special_flaw special (is_repeated special (said self.old)) types.now value.now) (Adds special value.now (said self.old) (said self.new)) (MayBeRefusedAs special value.now) result }
+        ensures { Answers (special_flaw special (is_repeated special (said self.old)) types.now value.now)
+            (Adds special value.now (said self.old) (said self.new)) (MayBeRefusedAs special value.now) result }
     {
         let patterns = &mut self.patterns;
         match special {
@@ -239,7 +252,8 @@ impl Descriptor {
         self.add(alloc, types, special, value.bytes())
     }
 
-    /// Reads the fields of a descriptor, where these types are named before. The first faulty one is refused with its line.
+    /// Reads the fields of a descriptor, where these types are named before. The first faulty one is refused with
+    /// its line.
     pub(crate) fn read(
         alloc: Global,
         database: &Database,
@@ -247,8 +261,10 @@ impl Descriptor {
         types: &TypeNames,
     ) -> Result<Descriptor, Fault>
         requires { All (λ field. field.at ≤ length (text_of database.now)) fields.now }
-        ensures found { IfOk result (λ descriptor. IsRead (text_of database.now) types.now fields.now (Ok (said descriptor))) }
-        ensures refused { IfErr result (λ fault. IsMemoryOr fault (IsRead (text_of database.now) types.now fields.now (Err fault))) }
+        ensures found { IfOk result (λ descriptor. IsRead (text_of database.now) types.now fields.now
+            (Ok (said descriptor))) }
+        ensures refused { IfErr result (λ fault. IsMemoryOr fault
+            (IsRead (text_of database.now) types.now fields.now (Err fault))) }
     {
         let mut descriptor = Descriptor::new(alloc);
         for field in fields {

@@ -56,8 +56,10 @@ impl Draft {
         requires index { index < 2 ^ 64 - 1 }
         requires typed { HaveTypes self.old.sets.items self.old.types }
         ensures typed { OnOk result (HaveTypes self.new.sets.items self.new.types) }
-        ensures added { OnOk result (AddsRecord self.old.types (pieces_of fields.now) index (drafted self.old) (drafted self.new)) }
-        ensures refused { IfErr result (λ fault. IsMemoryOr fault (IsRefusedRecord (text_of database.now) self.old.types fields.now fault)) }
+        ensures added { OnOk result (AddsRecord self.old.types (pieces_of fields.now) index (drafted self.old)
+            (drafted self.new)) }
+        ensures refused { IfErr result (λ fault. IsMemoryOr fault
+            (IsRefusedRecord (text_of database.now) self.old.types fields.now fault)) }
     {
         if !is_descriptor(fields) {
             add_record(&mut self.sets, index, None)?;

@@ -1,5 +1,5 @@
 //! Adds to the violations that are found.
-ghost use Rattle.std.specs.Prelude.{◌≡◌, ◌++◌, ◌∷◌, [], IfErr, OnOk};
+ghost use Rattle.std.specs.Prelude.{◌≡◌, ◌++◌, ◌∷◌, [], OnOk, IsOkUnless};
 ghost use Rattle.rec_check.specs.Checks.{texts};
 ghost use Rattle.rec_check.specs.Violations.{violation, violations_of};
 
@@ -14,7 +14,7 @@ pub(crate) fn add_violation(
     found: &mut Vec<Violation>,
 ) -> Result<(), Fault>
     ensures added { OnOk result (found.new.items ≡ found.old.items ++ violation line rule name.now ∷ []) }
-    ensures refusals { IfErr result (λ fault. fault ≡ Fault.OutOfMemory) }
+    ensures refusals { IsOkUnless result Fault.OutOfMemory }
 {
     let name = Bytes::copy_of(alloc, name)?;
     found.push(Violation { line, rule, name })?;
@@ -30,7 +30,7 @@ pub(crate) fn add_violations(
     found: &mut Vec<Violation>,
 ) -> Result<(), Fault>
     ensures added { OnOk result (found.new.items ≡ found.old.items ++ violations_of line rule (texts names.now)) }
-    ensures refusals { IfErr result (λ fault. fault ≡ Fault.OutOfMemory) }
+    ensures refusals { IsOkUnless result Fault.OutOfMemory }
 {
     for name in names {
         add_violation(alloc, line, rule, name, found)?;

@@ -36,7 +36,8 @@ fn bound_of(word: &[u8]) -> Option<i64>
 
 /// The ends of a range, of which the first may be left out.
 fn ends_in(text: &[u8]) -> Option<(i64, i64)>
-    ensures { MatchOption result (range_of (words text.now) ≡ None) (λ (least, greatest). range_of (words text.now) ≡ Some (range least greatest)) }
+    ensures { MatchOption result (range_of (words text.now) ≡ None)
+        (λ (least, greatest). range_of (words text.now) ≡ Some (range least greatest)) }
 {
     let (first, behind) = split_word(text)?;
     let Some((second, behind)) = split_word(behind) else {
@@ -50,7 +51,8 @@ fn ends_in(text: &[u8]) -> Option<(i64, i64)>
 
 /// The only word, a number that isn't negative.
 fn number_in(text: &[u8]) -> Option<u64>
-    ensures { MatchOption result (size_type_of (words text.now) ≡ None) (λ most. size_type_of (words text.now) ≡ Some (size most)) }
+    ensures { MatchOption result (size_type_of (words text.now) ≡ None)
+        (λ most. size_type_of (words text.now) ≡ Some (size most)) }
 {
     let (number, behind) = split_word(text)?;
     if split_word(behind).is_some() {
@@ -61,7 +63,8 @@ fn number_in(text: &[u8]) -> Option<u64>
 
 /// A type without words of its own.
 fn alone(text: &[u8], type_: FieldType) -> Result<FieldType, Refusal>
-    ensures { (written : WrittenType (List ℕ)) → IsBuilt written (type_stored type_) → IsTypeOf (alone (words text.now) written) result }
+    ensures { (written : WrittenType (List ℕ)) → IsBuilt written (type_stored type_)
+        → IsTypeOf (alone (words text.now) written) result }
 {
     if split_word(text).is_some() {
         return Err(Refusal::Bad);

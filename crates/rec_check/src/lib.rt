@@ -21,6 +21,7 @@ mod lines;
 mod met;
 mod names;
 mod patterns;
+mod rec_file;
 mod refusal;
 mod regexp;
 mod report;
@@ -40,6 +41,7 @@ mod words;
 
 pub use counter::Counter;
 pub use laws::{new_descriptor, one_check, one_meaning, one_report, one_schema, same_descriptors};
+pub use rec_file::RecFile;
 pub use rec_text::{Bytes, Database, Element, Fault, Rule, Violation};
 pub use schema::Schema;
 pub use set::Set_;

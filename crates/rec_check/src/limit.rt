@@ -58,7 +58,7 @@ pub(crate) struct Limited<'r> {
 }
 
 impl<'r> Limited<'r> {
-    ghost use Rattle.std.specs.Prelude.{◌≡◌, ◌++◌, IfErr, IfOk, OnOk};
+    ghost use Rattle.std.specs.Prelude.{◌≡◌, ◌++◌, IfOk, OnOk, IsOkUnless};
     ghost use Rattle.rec_text.specs.Places.{pieces_of};
     ghost use Rattle.rec_check.specs.Checks.{breaking, limit_violations, texts};
     ghost use Rattle.rec_check.specs.Words.{distinct};
@@ -66,7 +66,7 @@ impl<'r> Limited<'r> {
     pub(crate) fn of(alloc: Global, limit: Limit, names: &'r [Bytes]) -> Result<Limited<'r>, Fault>
         ensures limit { IfOk result (λ limited. limited.limit ≡ limit) }
         ensures names { IfOk result (λ limited. limited.names ≡ distinct names.now) }
-        ensures refusals { IfErr result (λ fault. fault ≡ Fault.OutOfMemory) }
+        ensures refusals { IsOkUnless result Fault.OutOfMemory }
     {
         let names = Names::of(alloc, names)?;
         Ok(Limited { limit, names })
@@ -74,8 +74,9 @@ impl<'r> Limited<'r> {
 
     /// The names that break the limit in a record, where they are few.
     fn broken_each(&self, alloc: Global, fields: &[Element]) -> Result<Vec<&'r [u8]>, Fault>
-        ensures names { IfOk result (λ names. texts names.items ≡ breaking self.now.limit self.now.names (pieces_of fields.now)) }
-        ensures refusals { IfErr result (λ fault. fault ≡ Fault.OutOfMemory) }
+        ensures names { IfOk result (λ names. texts names.items
+            ≡ breaking self.now.limit self.now.names (pieces_of fields.now)) }
+        ensures refusals { IsOkUnless result Fault.OutOfMemory }
     {
         let mut broken = Vec::new(alloc);
         for name in self.names.as_slice() {
@@ -88,8 +89,10 @@ impl<'r> Limited<'r> {
 
     /// The same as `broken_each`, in one pass over the fields.
     fn broken_met(&self, alloc: Global, fields: &[Element]) -> Result<Vec<&'r [u8]>, Fault>
-        ensures names { distinct self.now.names ≡ self.now.names → IfOk result (λ names. texts names.items ≡ breaking self.now.limit self.now.names (pieces_of fields.now)) }
-        ensures refusals { IfErr result (λ fault. fault ≡ Fault.OutOfMemory) }
+        ensures names { distinct self.now.names ≡ self.now.names
+            → IfOk result (λ names. texts names.items
+            ≡ breaking self.now.limit self.now.names (pieces_of fields.now)) }
+        ensures refusals { IsOkUnless result Fault.OutOfMemory }
     {
         let met = Met::of(alloc, &self.names, fields)?;
         match self.limit {
@@ -101,8 +104,9 @@ impl<'r> Limited<'r> {
 
     /// The names that break the limit in a record.
     fn broken(&self, alloc: Global, fields: &[Element]) -> Result<Vec<&'r [u8]>, Fault>
-        ensures names { IfOk result (λ names. texts names.items ≡ breaking self.now.limit self.now.names (pieces_of fields.now)) }
-        ensures refusals { IfErr result (λ fault. fault ≡ Fault.OutOfMemory) }
+        ensures names { IfOk result (λ names. texts names.items
+            ≡ breaking self.now.limit self.now.names (pieces_of fields.now)) }
+        ensures refusals { IsOkUnless result Fault.OutOfMemory }
     {
         if self.names.len() <= FEW {
             return self.broken_each(alloc, fields);
@@ -118,8 +122,9 @@ impl<'r> Limited<'r> {
         fields: &[Element],
         found: &mut Vec<Violation>,
     ) -> Result<(), Fault>
-        ensures added { OnOk result (found.new.items ≡ found.old.items ++ limit_violations self.now.limit self.now.names line (pieces_of fields.now)) }
-        ensures refusals { IfErr result (λ fault. fault ≡ Fault.OutOfMemory) }
+        ensures added { OnOk result (found.new.items ≡ found.old.items
+            ++ limit_violations self.now.limit self.now.names line (pieces_of fields.now)) }
+        ensures refusals { IsOkUnless result Fault.OutOfMemory }
     {
         let broken = self.broken(alloc, fields)?;
         add_violations(alloc, line, self.limit.rule(), &broken, found)

@@ -15,7 +15,7 @@ pub(crate) struct Met {
 }
 
 impl Met {
-    ghost use Rattle.std.specs.Prelude.{◌≡◌, if◌then◌else◌, IfErr, IfOk, OnOk};
+    ghost use Rattle.std.specs.Prelude.{◌≡◌, if◌then◌else◌, IfOk, OnOk, IsOkUnless};
     ghost use Rattle.std.specs.BTreeSet.{contains, insert_key};
     ghost use Rattle.std.specs.Ordering.{nat_cmp};
     ghost use Rattle.rec_text.specs.Places.{pieces_of};
@@ -25,8 +25,10 @@ impl Met {
     /// Notes a field of the name at a place.
     fn note(&mut self, place: usize) -> Result<(), Fault>
         ensures once { OnOk result (self.new.once.keys ≡ insert_key nat_cmp self.old.once.keys place) }
-        ensures again { OnOk result (self.new.again.keys ≡ (if contains nat_cmp self.old.once place then insert_key nat_cmp self.old.again.keys place else self.old.again.keys)) }
-        ensures refusals { IfErr result (λ fault. fault ≡ Fault.OutOfMemory) }
+        ensures again { OnOk result (self.new.again.keys
+            ≡ (if contains nat_cmp self.old.once place
+            then insert_key nat_cmp self.old.again.keys place else self.old.again.keys)) }
+        ensures refusals { IsOkUnless result Fault.OutOfMemory }
     {
         if !self.once.insert(place)? {
             self.again.insert(place)?;
@@ -37,7 +39,7 @@ impl Met {
     /// Those that a record with these fields has.
     pub(crate) fn of(alloc: Global, names: &Names<'_>, fields: &[Element]) -> Result<Met, Fault>
         ensures met { distinct names.now ≡ names.now → IfOk result (AreMet names.now (pieces_of fields.now)) }
-        ensures refusals { IfErr result (λ fault. fault ≡ Fault.OutOfMemory) }
+        ensures refusals { IsOkUnless result Fault.OutOfMemory }
     {
         let mut met = Met {
             once: BTreeSet::new(alloc),

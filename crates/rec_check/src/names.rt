@@ -1,5 +1,5 @@
 //! Lists of names.
-ghost use Rattle.std.specs.Prelude.{◌≡◌, ◌||◌, ℕ, List, OnOk, IfErr};
+ghost use Rattle.std.specs.Prelude.{◌≡◌, ◌||◌, ℕ, List, OnOk, IsOkUnless};
 ghost use Rattle.rec_check.specs.Names.{has_name};
 ghost use Rattle.rec_check.specs.Words.{is_among as among};
 
@@ -17,8 +17,9 @@ pub(crate) fn is_among(names: &[Bytes], name: &[u8]) -> bool
 
 /// Adds names to those of a set.
 pub(crate) fn add_names<'n>(names: &mut HashSet<&'n [u8]>, more: &'n [Bytes]) -> Result<(), Fault>
-    ensures names { OnOk result ((name : List ℕ) → has_name names.new name ≡ (has_name names.old name || among more.now name)) }
-    ensures refusals { IfErr result (λ fault. fault ≡ Fault.OutOfMemory) }
+    ensures names { OnOk result ((name : List ℕ) → has_name names.new name
+        ≡ (has_name names.old name || among more.now name)) }
+    ensures refusals { IsOkUnless result Fault.OutOfMemory }
 {
     for name in more {
         names.insert(name.as_slice())?;
@@ -45,7 +46,7 @@ impl<'n> Model for Names<'n> {
 }
 
 impl<'n> Names<'n> {
-    ghost use Rattle.std.specs.Prelude.{◌≡◌, ◌++◌, ◌∷◌, [], filter_map, if◌then◌else◌, length, position, slice_get, None, Some, IfErr, IfOk, OnOk};
+    ghost use Rattle.std.specs.Prelude.{◌≡◌, ◌++◌, ◌∷◌, [], filter_map, if◌then◌else◌, length, position, slice_get, None, Some, IfOk, OnOk, IsOkUnless};
     ghost use Rattle.std.specs.BTreeSet.{contains};
     ghost use Rattle.std.specs.List.{enumerate_from};
     ghost use Rattle.std.specs.Ordering.{nat_cmp};
@@ -104,7 +105,7 @@ impl<'n> Names<'n> {
     /// The names at some places.
     pub(crate) fn at(&self, alloc: Global, places: &BTreeSet<usize>) -> Result<Vec<&'n [u8]>, Fault>
         ensures names { IfOk result (λ names. texts names.items ≡ filter_map (slice_get self.now) places.now.keys) }
-        ensures refusals { IfErr result (λ fault. fault ≡ Fault.OutOfMemory) }
+        ensures refusals { IsOkUnless result Fault.OutOfMemory }
     {
         let all = self.as_slice();
         let mut names = Vec::new(alloc);
@@ -123,8 +124,10 @@ impl<'n> Names<'n> {
         alloc: Global,
         places: &BTreeSet<usize>,
     ) -> Result<Vec<&'n [u8]>, Fault>
-        ensures names { IfOk result (λ names. texts names.items ≡ filter_map (λ (place, name). if contains nat_cmp places.now place then None else Some name) (enumerate_from 0 self.now)) }
-        ensures refusals { IfErr result (λ fault. fault ≡ Fault.OutOfMemory) }
+        ensures names { IfOk result (λ names. texts names.items
+            ≡ filter_map (λ (place, name). if contains nat_cmp places.now place then None else Some name)
+            (enumerate_from 0 self.now)) }
+        ensures refusals { IsOkUnless result Fault.OutOfMemory }
     {
         let all = self.as_slice();
         let mut names = Vec::new(alloc);

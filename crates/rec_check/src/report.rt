@@ -1,5 +1,5 @@
 //! Where a text breaks the rules of its record sets.
-ghost use Rattle.std.specs.Prelude.{◌≡◌, ◌++◌, ◌∷◌, [], ◌<◌, ◌≤◌, ℕ, List, Ok, None, drop, length, map, unwrap_or, if◌then◌else◌, IfErr, IfOk, OnOk};
+ghost use Rattle.std.specs.Prelude.{◌≡◌, ◌++◌, ◌∷◌, [], ◌<◌, ◌≤◌, ℕ, List, Ok, None, drop, length, map, unwrap_or, if◌then◌else◌, IfOk, OnOk, IsOkUnless};
 ghost use Rattle.std.specs.declared.ops.Range.{Range};
 ghost use Rattle.rec_text.specs.Places.{pieces_of};
 ghost use Rattle.rec_text.specs.Records.{AreAscending};
@@ -55,10 +55,13 @@ fn check_size(
 ) -> Result<(), Fault>
     requires forward { lines.old.passed ≤ start }
     requires within { start < length lines.old.elements.now }
-    ensures added { OnOk result (found.new.items ≡ found.old.items ++ (if breaks_size (rules_stored rules.now) set.now then violation (line_at (pieces_of lines.old.elements.now) start) Rule.Size (unwrap_or set.now.kind []) ∷ [] else [])) }
+    ensures added { OnOk result (found.new.items ≡ found.old.items
+        ++ (if breaks_size (rules_stored rules.now) set.now then violation
+        (line_at (pieces_of lines.old.elements.now) start) Rule.Size (unwrap_or set.now.kind [])
+        ∷ [] else [])) }
     ensures passed { OnOk result (lines.new.passed ≤ start) }
     ensures elements { OnOk result (lines.new.elements.now ≡ lines.old.elements.now) }
-    ensures refusals { IfErr result (λ fault. fault ≡ Fault.OutOfMemory) }
+    ensures refusals { IsOkUnless result Fault.OutOfMemory }
 {
     let Some(bound) = &rules.size else {
         return Ok(());
@@ -82,10 +85,11 @@ fn check_head(
     requires ruled { set.now.head ≡ None → rules.now.size ≡ None }
     requires next { IsNext lines.old.passed records.now set.now }
     requires within { AreWithin (length lines.old.elements.now) records.now }
-    ensures added { OnOk result (found.new.items ≡ found.old.items ++ head_violations (pieces_of lines.old.elements.now) records.now (rules_stored rules.now) set.now) }
+    ensures added { OnOk result (found.new.items ≡ found.old.items
+        ++ head_violations (pieces_of lines.old.elements.now) records.now (rules_stored rules.now) set.now) }
     ensures ahead { OnOk result (AreAscending lines.new.passed (drop set.now.members.start records.now)) }
     ensures elements { OnOk result (lines.new.elements.now ≡ lines.old.elements.now) }
-    ensures refusals { IfErr result (λ fault. fault ≡ Fault.OutOfMemory) }
+    ensures refusals { IsOkUnless result Fault.OutOfMemory }
 {
     let Some(head) = set.head else {
         return Ok(());
@@ -105,10 +109,12 @@ fn check_records<'t>(
 ) -> Result<(), Fault>
     requires ahead { AreAscending lines.old.passed records.now }
     requires within { AreWithin (length lines.old.elements.now) records.now }
-    ensures added { OnOk result (AddsOfRecords (pieces_of lines.old.elements.now) (rules_stored rules.now) records.now found.old.items found.new.items) }
-    ensures ahead { (rest : List (Range ℕ)) → AreAscending lines.old.passed (records.now ++ rest) → OnOk result (AreAscending lines.new.passed rest) }
+    ensures added { OnOk result (AddsOfRecords (pieces_of lines.old.elements.now)
+        (rules_stored rules.now) records.now found.old.items found.new.items) }
+    ensures ahead { (rest : List (Range ℕ)) → AreAscending lines.old.passed (records.now ++ rest)
+        → OnOk result (AreAscending lines.new.passed rest) }
     ensures elements { OnOk result (lines.new.elements.now ≡ lines.old.elements.now) }
-    ensures refusals { IfErr result (λ fault. fault ≡ Fault.OutOfMemory) }
+    ensures refusals { IsOkUnless result Fault.OutOfMemory }
 {
     let mut checker = Checker::of(alloc, rules)?;
     checker.check_all(alloc, lines, records, found)
@@ -126,10 +132,11 @@ fn check_set<'t>(
     requires ruled { set.now.head ≡ None → rules.now.size ≡ None }
     requires next { IsNext lines.old.passed records.now set.now }
     requires within { AreWithin (length lines.old.elements.now) records.now }
-    ensures added { OnOk result (AddsOfSet (pieces_of lines.old.elements.now) records.now set.now (rules_stored rules.now) found.old.items found.new.items) }
+    ensures added { OnOk result (AddsOfSet (pieces_of lines.old.elements.now) records.now set.now
+        (rules_stored rules.now) found.old.items found.new.items) }
     ensures ahead { OnOk result (AreAscending lines.new.passed (drop set.now.members.end records.now)) }
     ensures elements { OnOk result (lines.new.elements.now ≡ lines.old.elements.now) }
-    ensures refusals { IfErr result (λ fault. fault ≡ Fault.OutOfMemory) }
+    ensures refusals { IsOkUnless result Fault.OutOfMemory }
 {
     check_head(alloc, lines, records, set, rules, found)?;
     let members = &records[set.members.start..set.members.end];
@@ -144,8 +151,9 @@ pub(crate) fn violations_of(
     rules: &[Rules],
 ) -> Result<Vec<Violation>, Fault>
     requires { IsSchema database.now (Ok (record { sets = sets.now; rules = map rules_stored rules.now })) }
-    ensures violations { IfOk result (λ found. AreViolations database.now (record { sets = sets.now; rules = map rules_stored rules.now }) found.items) }
-    ensures refusals { IfErr result (λ fault. fault ≡ Fault.OutOfMemory) }
+    ensures violations { IfOk result (λ found. AreViolations database.now
+        (record { sets = sets.now; rules = map rules_stored rules.now }) found.items) }
+    ensures refusals { IsOkUnless result Fault.OutOfMemory }
 {
     let records = database.records().as_slice();
     let mut lines = Lines::of(database);

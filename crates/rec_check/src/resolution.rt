@@ -68,7 +68,8 @@ fn last_places<'r>(
 
 /// What a definition alone says of its meaning.
 fn first_meaning<'r>(places: &HashMap<&'r [u8], usize>, definition: &'r Definition) -> Meaning<'r>
-    ensures { (definitions : List OneDefinition) → AreLastPlaces definitions (place_of places.now) → IsRight definitions (definition_stored definition.now) result }
+    ensures { (definitions : List OneDefinition) → AreLastPlaces definitions (place_of places.now)
+        → IsRight definitions (definition_stored definition.now) result }
 {
     let kind = definition.kind.as_slice();
     if is_known_kind(kind) {
@@ -123,7 +124,8 @@ fn follow(
     passed: &mut Vec<usize>,
 ) -> Result<usize, AllocError>
     requires { passed.old.items ≡ [] }
-    ensures work { IfOk result (λ end. (definitions : List OneDefinition) → AreRight definitions meanings.old → AreAtWork definitions passed.new.items end meanings.new) }
+    ensures work { IfOk result (λ end. (definitions : List OneDefinition) → AreRight definitions meanings.old
+        → AreAtWork definitions passed.new.items end meanings.new) }
     ensures end { IfOk result (λ end. open_at meanings.new end ≡ None) }
     ensures start { OnOk result (open_at meanings.new start ≡ None) }
     ensures settled { OnOk result (StaySettled meanings.old meanings.new) }
@@ -150,7 +152,8 @@ fn settle<'r>(meanings: &mut [Meaning<'r>], places: &[usize], type_: Option<&'r 
 
 /// Settles what the definition at a place means, and all on the way to it.
 fn resolve(alloc: Global, meanings: &mut [Meaning], start: usize) -> Result<(), AllocError>
-    ensures right { OnOk result ((definitions : List OneDefinition) → AreRight definitions meanings.old → AreRight definitions meanings.new) }
+    ensures right { OnOk result ((definitions : List OneDefinition) → AreRight definitions meanings.old
+        → AreRight definitions meanings.new) }
     ensures start { OnOk result (open_at meanings.new start ≡ None) }
     ensures settled { OnOk result (StaySettled meanings.old meanings.new) }
 {
@@ -163,7 +166,8 @@ fn resolve(alloc: Global, meanings: &mut [Meaning], start: usize) -> Result<(), 
 
 /// Settles what each definition means.
 fn resolve_all(alloc: Global, meanings: &mut [Meaning]) -> Result<(), AllocError>
-    ensures right { OnOk result ((definitions : List OneDefinition) → AreRight definitions meanings.old → AreRight definitions meanings.new) }
+    ensures right { OnOk result ((definitions : List OneDefinition) → AreRight definitions meanings.old
+        → AreRight definitions meanings.new) }
     ensures settled { OnOk result ((place : ℕ) → open_at meanings.new place ≡ None) }
 {
     for start in 0..meanings.len() {
@@ -194,7 +198,8 @@ impl<'r> Resolver<'r> {
         alloc: Global,
         definitions: &'r [Definition],
     ) -> Result<Resolver<'r>, AllocError>
-        ensures { IfOk result (λ resolver. (kind : List ℕ) (own : OneType Re) → meaning_by resolver kind own ≡ meaning_in (map definition_stored definitions.now) kind own) }
+        ensures { IfOk result (λ resolver. (kind : List ℕ) (own : OneType Re)
+            → meaning_by resolver kind own ≡ meaning_in (map definition_stored definitions.now) kind own) }
     {
         let places = last_places(alloc, definitions)?;
         let mut meanings = first_meanings(alloc, &places, definitions)?;
@@ -204,7 +209,8 @@ impl<'r> Resolver<'r> {
 
     /// The type that a kind means, which has a type of its own; none where the kind isn't resolved.
     pub(crate) fn meaning_of(&self, kind: &[u8], own: &'r FieldType) -> Option<&'r FieldType>
-        ensures { option_map (λ type_. type_stored type_.now) result ≡ meaning_by self.now kind.now (type_stored own.now) }
+        ensures { option_map (λ type_. type_stored type_.now) result
+            ≡ meaning_by self.now kind.now (type_stored own.now) }
     {
         if is_known_kind(kind) {
             return Some(own);

@@ -23,7 +23,7 @@ pub struct Schema {
 }
 
 impl Schema {
-    ghost use Rattle.std.specs.Prelude.{◌≡◌, ◌<◌, length, position, Ok, IfOk, Err, IfErr};
+    ghost use Rattle.std.specs.Prelude.{◌≡◌, ◌<◌, length, position, Ok, IfOk, Err, IfErr, IsOkUnless};
     ghost use Rattle.rec_text.specs.Faults.{IsMemoryOr, UnlessMemory};
     ghost use Rattle.rec_check.specs.Automatic.{IsAutomatic, automatic_of};
     ghost use Rattle.rec_check.specs.Checks.{texts};
@@ -64,12 +64,12 @@ impl Schema {
         Some(self.types.place_of(kind)? + 1)
     }
 
-    /// Where a text breaks the rules of its sets: set by set, first its size, then the kinds that mean nothing, and then
-    /// record by record.
+    /// Where a text breaks the rules of its sets: set by set, first its size, then the kinds that mean nothing,
+    /// and then record by record.
     pub fn violations(&self, alloc: Global, database: &Database) -> Result<Vec<Violation>, Fault>
         requires { IsSchema database.now (Ok (described self.now)) }
         ensures violations { IfOk result (λ found. AreViolations database.now (described self.now) found.items) }
-        ensures refusals { IfErr result (λ fault. fault ≡ Fault.OutOfMemory) }
+        ensures refusals { IsOkUnless result Fault.OutOfMemory }
     {
         violations_of(alloc, database, &self.sets, &self.rules)
     }
@@ -77,7 +77,7 @@ impl Schema {
     /// The counters of the set at this place: the names of its `%auto` fields, each where it stands first.
     pub fn automatic_names(&self, alloc: Global, set: usize) -> Result<Vec<&[u8]>, Fault>
         ensures names { IfOk result (λ names. texts names.items ≡ automatic_of (described self.now) set) }
-        ensures refusals { IfErr result (λ fault. fault ≡ Fault.OutOfMemory) }
+        ensures refusals { IsOkUnless result Fault.OutOfMemory }
     {
         match self.rules.get(set) {
             Some(rules) => Ok(automatic_names(alloc, rules)?),
@@ -122,8 +122,9 @@ impl Schema {
     ) -> Result<Vec<Counter<'_>>, Fault>
         requires schema { IsSchema database.now (Ok (described self.now)) }
         requires place { set < length (described self.now).sets }
-        ensures counters { IfOk result (λ counters. AreCountersAt database.now (described self.now) set counters.items) }
-        ensures refusals { IfErr result (λ fault. fault ≡ Fault.OutOfMemory) }
+        ensures counters { IfOk result (λ counters. AreCountersAt database.now
+            (described self.now) set counters.items) }
+        ensures refusals { IsOkUnless result Fault.OutOfMemory }
     {
         let records = self.members(database, set);
         counters_of(alloc, database.elements(), records, &self.rules[set])

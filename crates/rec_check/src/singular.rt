@@ -17,7 +17,7 @@ pub(crate) struct Singular<'r, 't> {
 }
 
 impl<'r, 't> Singular<'r, 't> {
-    ghost use Rattle.std.specs.Prelude.{◌≡◌, ◌++◌, ◌∷◌, [], ◌||◌, ℕ, List, true, if◌then◌else◌, None, filter, option_map, position, IfErr, IfOk, IfSome, OnOk};
+    ghost use Rattle.std.specs.Prelude.{◌≡◌, ◌++◌, ◌∷◌, [], ◌||◌, ℕ, List, true, if◌then◌else◌, None, filter, option_map, position, IfOk, IfSome, OnOk, IsOkUnless};
     ghost use Rattle.std.specs.Cow.{cow_slice_items};
     ghost use Rattle.std.specs.List.{list_any};
     ghost use Rattle.std.specs.Str.{bytes_eq};
@@ -32,7 +32,7 @@ impl<'r, 't> Singular<'r, 't> {
 
     pub(crate) fn of(alloc: Global, names: &'r [Bytes]) -> Result<Singular<'r, 't>, Fault>
         ensures after { IfOk result (λ singular. IsAfter names.now [] singular) }
-        ensures refusals { IfErr result (λ fault. fault ≡ Fault.OutOfMemory) }
+        ensures refusals { IsOkUnless result Fault.OutOfMemory }
     {
         Ok(Singular {
             names: Names::of(alloc, names)?,
@@ -46,9 +46,11 @@ impl<'r, 't> Singular<'r, 't> {
         alloc: Global,
         field: &Element<'t>,
     ) -> Result<Option<(usize, CowSlice<'t, u8>)>, Fault>
-        ensures place { IfOk result (λ item. option_map (λ one. one.0) item ≡ position (bytes_eq (name_of (piece_of field.now))) self.now.names) }
-        ensures value { IfOk result (λ item. IfSome item (λ one. cow_slice_items one.1 ≡ value_of (piece_of field.now))) }
-        ensures refusals { IfErr result (λ fault. fault ≡ Fault.OutOfMemory) }
+        ensures place { IfOk result (λ item. option_map (λ one. one.0) item
+            ≡ position (bytes_eq (name_of (piece_of field.now))) self.now.names) }
+        ensures value { IfOk result (λ item. IfSome item (λ one. cow_slice_items one.1
+            ≡ value_of (piece_of field.now))) }
+        ensures refusals { IsOkUnless result Fault.OutOfMemory }
     {
         let Some(place) = self.names.place_of(field.name()) else {
             return Ok(None);
@@ -59,8 +61,10 @@ impl<'r, 't> Singular<'r, 't> {
 
     /// The place of a field's name, where an earlier record has a field of this name and value.
     fn repeated(&self, alloc: Global, field: &Element<'t>) -> Result<Option<usize>, Fault>
-        ensures place { IfOk result (λ place. place ≡ (if is_repeat self.now (piece_of field.now) then position (bytes_eq (name_of (piece_of field.now))) self.now.names else None)) }
-        ensures refusals { IfErr result (λ fault. fault ≡ Fault.OutOfMemory) }
+        ensures place { IfOk result (λ place. place
+            ≡ (if is_repeat self.now (piece_of field.now) then position
+            (bytes_eq (name_of (piece_of field.now))) self.now.names else None)) }
+        ensures refusals { IsOkUnless result Fault.OutOfMemory }
     {
         match self.item_of(alloc, field)? {
             Some(item) if self.seen.contains(&item) => Ok(Some(item.0)),
@@ -70,8 +74,11 @@ impl<'r, 't> Singular<'r, 't> {
 
     /// The places of the names with a value of an earlier record.
     fn broken(&self, alloc: Global, fields: &[Element<'t>]) -> Result<BTreeSet<usize>, Fault>
-        ensures places { distinct self.now.names ≡ self.now.names → IfOk result (λ broken. broken.keys ≡ places_of (λ name. list_any (has_seen self.now name) (values_of name (pieces_of fields.now))) self.now.names) }
-        ensures refusals { IfErr result (λ fault. fault ≡ Fault.OutOfMemory) }
+        ensures places { distinct self.now.names ≡ self.now.names
+            → IfOk result (λ broken. broken.keys
+            ≡ places_of (λ name. list_any (has_seen self.now name)
+            (values_of name (pieces_of fields.now))) self.now.names) }
+        ensures refusals { IsOkUnless result Fault.OutOfMemory }
     {
         let mut broken = BTreeSet::new(alloc);
         for field in fields {
@@ -85,9 +92,11 @@ impl<'r, 't> Singular<'r, 't> {
 
     /// Takes the values of a record.
     fn take(&mut self, alloc: Global, fields: &[Element<'t>]) -> Result<(), Fault>
-        ensures seen { OnOk result ((name value : List ℕ) → is_among self.old.names name ≡ true → has_seen self.new name value ≡ (has_seen self.old name value || is_among (values_of name (pieces_of fields.now)) value)) }
+        ensures seen { OnOk result ((name value : List ℕ) → is_among self.old.names name ≡ true
+            → has_seen self.new name value
+            ≡ (has_seen self.old name value || is_among (values_of name (pieces_of fields.now)) value)) }
         ensures names { self.new.names ≡ self.old.names }
-        ensures refusals { IfErr result (λ fault. fault ≡ Fault.OutOfMemory) }
+        ensures refusals { IsOkUnless result Fault.OutOfMemory }
     {
         for field in fields {
             let Some(item) = self.item_of(alloc, field)? else {
@@ -106,9 +115,13 @@ impl<'r, 't> Singular<'r, 't> {
         fields: &[Element<'t>],
         found: &mut Vec<Violation>,
     ) -> Result<(), Fault>
-        ensures added { (names : List (List ℕ)) (earlier : List (List Piece)) → IsAfter names earlier self.old → OnOk result (found.new.items ≡ found.old.items ++ violations_of line Rule.Singular (filter (breaks_singular earlier (pieces_of fields.now)) (distinct names))) }
-        ensures after { (names : List (List ℕ)) (earlier : List (List Piece)) → IsAfter names earlier self.old → OnOk result (IsAfter names (earlier ++ pieces_of fields.now ∷ []) self.new) }
-        ensures refusals { IfErr result (λ fault. fault ≡ Fault.OutOfMemory) }
+        ensures added { (names : List (List ℕ)) (earlier : List (List Piece)) → IsAfter names earlier self.old
+            → OnOk result (found.new.items ≡ found.old.items
+            ++ violations_of line Rule.Singular
+            (filter (breaks_singular earlier (pieces_of fields.now)) (distinct names))) }
+        ensures after { (names : List (List ℕ)) (earlier : List (List Piece)) → IsAfter names earlier self.old
+            → OnOk result (IsAfter names (earlier ++ pieces_of fields.now ∷ []) self.new) }
+        ensures refusals { IsOkUnless result Fault.OutOfMemory }
     {
         if self.names.as_slice().is_empty() {
             return Ok(());

@@ -1,5 +1,5 @@
 //! How values are tried for a type.
-ghost use Rattle.std.specs.Prelude.{◌≡◌, true, ℕ, List, IfOk, IfErr};
+ghost use Rattle.std.specs.Prelude.{◌≡◌, true, ℕ, List, IfOk, IsOkUnless};
 ghost use Rattle.rec_check.specs.Names.{has_name};
 ghost use Rattle.rec_check.specs.Stored.{type_stored};
 ghost use Rattle.rec_check.specs.Testing.{is_plain};
@@ -81,7 +81,7 @@ fn fits_plainly(type_: &FieldType, value: &[u8]) -> bool
 /// The set of some words.
 fn set_of<'r>(alloc: Global, items: &'r [Bytes]) -> Result<HashSet<&'r [u8]>, Fault>
     ensures words { IfOk result (λ words. (word : List ℕ) → has_name words word ≡ among items.now word) }
-    ensures refusals { IfErr result (λ fault. fault ≡ Fault.OutOfMemory) }
+    ensures refusals { IsOkUnless result Fault.OutOfMemory }
 {
     let mut words = HashSet::new(alloc);
     add_names(&mut words, items)?;
@@ -89,14 +89,14 @@ fn set_of<'r>(alloc: Global, items: &'r [Bytes]) -> Result<HashSet<&'r [u8]>, Fa
 }
 
 impl<'r> Test<'r> {
-    ghost use Rattle.std.specs.Prelude.{◌≡◌, IfOk, IfErr};
+    ghost use Rattle.std.specs.Prelude.{◌≡◌, IfOk, IsOkUnless};
     ghost use Rattle.rec_check.specs.Stored.{type_stored};
     ghost use Rattle.rec_check.specs.Testing.{Serves};
     ghost use Rattle.rec_check.specs.Types.{fits};
 
     pub(crate) fn of(alloc: Global, type_: &'r FieldType) -> Result<Test<'r>, Fault>
         ensures serves { IfOk result (λ test. Serves test type_.now) }
-        ensures refusals { IfErr result (λ fault. fault ≡ Fault.OutOfMemory) }
+        ensures refusals { IsOkUnless result Fault.OutOfMemory }
     {
         match type_ {
             FieldType::OneOf(items) => {

@@ -16,7 +16,7 @@ pub(crate) struct Tried<'r> {
 }
 
 impl<'r> Tried<'r> {
-    ghost use Rattle.std.specs.Prelude.{◌≡◌, Some, IfOk, IfErr};
+    ghost use Rattle.std.specs.Prelude.{◌≡◌, Some, IfOk, IsOkUnless};
     ghost use Rattle.rec_check.specs.Automatic.{may_count};
     ghost use Rattle.rec_check.specs.Stored.{type_stored};
     ghost use Rattle.rec_check.specs.Types.{fits};
@@ -31,7 +31,7 @@ impl<'r> Tried<'r> {
     fn fits(&mut self, alloc: Global, value: &[u8]) -> Result<bool, Fault>
         ensures fits { IfOk result (λ answer. answer ≡ fits (type_stored self.old.type_.now) value.now) }
         ensures same { type_stored self.new.type_.now ≡ type_stored self.old.type_.now }
-        ensures refusals { IfErr result (λ fault. fault ≡ Fault.OutOfMemory) }
+        ensures refusals { IsOkUnless result Fault.OutOfMemory }
     {
         if let Some(test) = &mut self.test {
             return Ok(test.passes(self.type_, value));
@@ -57,7 +57,7 @@ pub(crate) struct Tested<'r> {
 }
 
 impl<'r> Tested<'r> {
-    ghost use Rattle.std.specs.Prelude.{◌≡◌, Some, option_map, unwrap_or, IfOk, IfErr};
+    ghost use Rattle.std.specs.Prelude.{◌≡◌, Some, option_map, unwrap_or, IfOk, IsOkUnless};
     ghost use Rattle.rec_check.specs.Automatic.{may_count};
     ghost use Rattle.rec_check.specs.Fitting.{tested};
     ghost use Rattle.rec_check.specs.Stored.{type_stored};
@@ -78,7 +78,7 @@ impl<'r> Tested<'r> {
     pub(crate) fn fits(&mut self, alloc: Global, value: &[u8]) -> Result<bool, Fault>
         ensures fits { IfOk result (λ answer. answer ≡ fits (tested self.old) value.now) }
         ensures same { tested self.new ≡ tested self.old }
-        ensures refusals { IfErr result (λ fault. fault ≡ Fault.OutOfMemory) }
+        ensures refusals { IsOkUnless result Fault.OutOfMemory }
     {
         match &mut self.tried {
             Some(tried) => tried.fits(alloc, value),

@@ -1,5 +1,5 @@
 //! The types of the fields of a set.
-ghost use Rattle.std.specs.Prelude.{◌≡◌, ℕ, List, Some, if◌then◌else◌, map, slice_get, IfOk, OnOk, IfErr};
+ghost use Rattle.std.specs.Prelude.{◌≡◌, ℕ, List, Some, if◌then◌else◌, map, slice_get, IfOk, OnOk, IsOkUnless};
 ghost use Rattle.rec_check.specs.Fitting.{fails, place_of, tested};
 ghost use Rattle.rec_check.specs.Words.{is_among as among};
 
@@ -19,8 +19,9 @@ fn place_names<'n>(
     names: &'n [Bytes],
     place: usize,
 ) -> Result<(), Fault>
-    ensures places { OnOk result ((name : List ℕ) → place_of places.new name ≡ (if among names.now name then Some place else place_of places.old name)) }
-    ensures refusals { IfErr result (λ fault. fault ≡ Fault.OutOfMemory) }
+    ensures places { OnOk result ((name : List ℕ)
+        → place_of places.new name ≡ (if among names.now name then Some place else place_of places.old name)) }
+    ensures refusals { IsOkUnless result Fault.OutOfMemory }
 {
     for name in names {
         places.insert(name.as_slice(), place)?;
@@ -37,7 +38,7 @@ fn fails_at(
 ) -> Result<bool, Fault>
     ensures fails { IfOk result (λ answer. answer ≡ fails (slice_get (map tested tests.old) place) value.now) }
     ensures same { map tested tests.new ≡ map tested tests.old }
-    ensures refusals { IfErr result (λ fault. fault ≡ Fault.OutOfMemory) }
+    ensures refusals { IsOkUnless result Fault.OutOfMemory }
 {
     if place >= tests.len() {
         return Ok(false);
@@ -54,7 +55,7 @@ pub(crate) struct Types<'r> {
 }
 
 impl<'r> Types<'r> {
-    ghost use Rattle.std.specs.Prelude.{◌≡◌, ◌+◌, ◌++◌, ◌≤◌, ℕ, List, length, map, IfErr, IfOk, OnOk};
+    ghost use Rattle.std.specs.Prelude.{◌≡◌, ◌+◌, ◌++◌, ◌≤◌, ℕ, List, length, map, IfOk, OnOk, IsOkUnless};
     ghost use Rattle.rec_text.specs.Places.{piece_of, pieces_of};
     ghost use Rattle.rec_check.specs.Automatic.{may_count};
     ghost use Rattle.rec_check.specs.Fitting.{misfits, misfit_violations};
@@ -66,8 +67,9 @@ impl<'r> Types<'r> {
 
     /// Of two types for one field the later holds.
     pub(crate) fn of(alloc: Global, rules: &'r Rules) -> Result<Types<'r>, Fault>
-        ensures types { IfOk result (λ types. (name : List ℕ) → type_in types name ≡ field_type (rules_stored rules.now) name) }
-        ensures refusals { IfErr result (λ fault. fault ≡ Fault.OutOfMemory) }
+        ensures types { IfOk result (λ types. (name : List ℕ) → type_in types name
+            ≡ field_type (rules_stored rules.now) name) }
+        ensures refusals { IsOkUnless result Fault.OutOfMemory }
     {
         let resolver = Resolver::of(alloc, &rules.definitions)?;
         Types::with(alloc, &resolver, &rules.types)
@@ -79,8 +81,10 @@ impl<'r> Types<'r> {
         resolver: &Resolver<'r>,
         typings: &'r [Typing],
     ) -> Result<Types<'r>, Fault>
-        ensures types { IfOk result (λ types. (name : List ℕ) → type_in types name ≡ type_for (map (by_meaning (meaning_by resolver.now)) (map typing_stored typings.now)) name) }
-        ensures refusals { IfErr result (λ fault. fault ≡ Fault.OutOfMemory) }
+        ensures types { IfOk result (λ types. (name : List ℕ)
+            → type_in types name ≡ type_for
+            (map (by_meaning (meaning_by resolver.now)) (map typing_stored typings.now)) name) }
+        ensures refusals { IsOkUnless result Fault.OutOfMemory }
     {
         let mut places = HashMap::new(alloc);
         let mut tests = Vec::with_capacity(alloc, typings.len())?;
@@ -109,7 +113,7 @@ impl<'r> Types<'r> {
     fn is_misfit(&mut self, alloc: Global, element: &Element) -> Result<bool, Fault>
         ensures misfit { IfOk result (λ answer. answer ≡ misfits (type_in self.old) (piece_of element.now)) }
         ensures same { (name : List ℕ) → type_in self.new name ≡ type_in self.old name }
-        ensures refusals { IfErr result (λ fault. fault ≡ Fault.OutOfMemory) }
+        ensures refusals { IsOkUnless result Fault.OutOfMemory }
     {
         let Kind::Field = element.kind else {
             return Ok(false);
@@ -132,11 +136,13 @@ impl<'r> Types<'r> {
     ) -> Result<(), Fault>
         requires forward { lines.old.passed ≤ start }
         requires within { start + length fields.now ≤ length lines.old.elements.now }
-        ensures added { OnOk result (found.new.items ≡ found.old.items ++ misfit_violations (pieces_of lines.old.elements.now) (type_in self.old) start (pieces_of fields.now)) }
+        ensures added { OnOk result (found.new.items ≡ found.old.items
+            ++ misfit_violations (pieces_of lines.old.elements.now) (type_in self.old) start
+            (pieces_of fields.now)) }
         ensures same { OnOk result ((name : List ℕ) → type_in self.new name ≡ type_in self.old name) }
         ensures passed { OnOk result (lines.new.passed ≤ start + length fields.now) }
         ensures elements { OnOk result (lines.new.elements.now ≡ lines.old.elements.now) }
-        ensures refusals { IfErr result (λ fault. fault ≡ Fault.OutOfMemory) }
+        ensures refusals { IsOkUnless result Fault.OutOfMemory }
     {
         for (i, field) in fields.iter().enumerate() {
             if !self.is_misfit(alloc, field)? {

@@ -56,7 +56,8 @@ pub(crate) fn typing_in(
     ensures found { IfOk result (λ typing. IsTyping value.now (typing_stored typing)) }
     ensures bad { IsErrOf result Refusal.Bad → typing_of value.now ≡ None }
     ensures pattern { IsErrOf result Refusal.Pattern → TypeMayBeRefused value.now }
-    ensures refusals { IfErr result (λ refusal. (refusal ≡ Refusal.Bad) ⊎ ((refusal ≡ Refusal.Pattern) ⊎ (refusal ≡ Refusal.OutOfMemory))) }
+    ensures refusals { IfErr result (λ refusal. (refusal ≡ Refusal.Bad)
+        ⊎ ((refusal ≡ Refusal.Pattern) ⊎ (refusal ≡ Refusal.OutOfMemory))) }
 {
     let Some((joined, behind)) = split_word(value) else {
         return Err(Refusal::Bad);
@@ -78,7 +79,8 @@ pub(crate) fn definition_in(
     ensures found { IfOk result (λ definition. IsDefinition value.now (definition_stored definition)) }
     ensures bad { IsErrOf result Refusal.Bad → definition_of value.now ≡ None }
     ensures pattern { IsErrOf result Refusal.Pattern → DefinitionMayBeRefused value.now }
-    ensures refusals { IfErr result (λ refusal. (refusal ≡ Refusal.Bad) ⊎ ((refusal ≡ Refusal.Pattern) ⊎ (refusal ≡ Refusal.OutOfMemory))) }
+    ensures refusals { IfErr result (λ refusal. (refusal ≡ Refusal.Bad)
+        ⊎ ((refusal ≡ Refusal.Pattern) ⊎ (refusal ≡ Refusal.OutOfMemory))) }
 {
     let Some((name, behind)) = split_word(value) else {
         return Err(Refusal::Bad);

@@ -1,5 +1,5 @@
 //! The kinds that a descriptor names and that mean nothing.
-ghost use Rattle.std.specs.Prelude.{◌≡◌, ◌+◌, ◌++◌, ◌<◌, ◌≤◌, length, is_some, slice_get, option_map, option_to_list, IfErr, OnOk};
+ghost use Rattle.std.specs.Prelude.{◌≡◌, ◌+◌, ◌++◌, ◌<◌, ◌≤◌, length, is_some, slice_get, option_map, option_to_list, OnOk, IsOkUnless};
 ghost use Rattle.rec_text.specs.Places.{piece_of, pieces_of};
 ghost use Rattle.rec_text.specs.Records.{elements_in as elements_of};
 ghost use Rattle.rec_check.specs.Resolved.{resolved_by};
@@ -54,10 +54,12 @@ fn check_field(
 ) -> Result<(), Fault>
     requires forward { lines.old.passed ≤ index }
     requires within { index < length lines.old.elements.now }
-    ensures added { OnOk result (found.new.items ≡ found.old.items ++ option_to_list (option_map (violation (line_at (pieces_of lines.old.elements.now) index) Rule.Typedef) (unresolved_of (resolved_by resolver.now) (piece_of field.now)))) }
+    ensures added { OnOk result (found.new.items ≡ found.old.items
+        ++ option_to_list (option_map (violation (line_at (pieces_of lines.old.elements.now) index) Rule.Typedef)
+        (unresolved_of (resolved_by resolver.now) (piece_of field.now)))) }
     ensures passed { OnOk result (lines.new.passed ≤ index) }
     ensures elements { OnOk result (lines.new.elements.now ≡ lines.old.elements.now) }
-    ensures refusals { IfErr result (λ fault. fault ≡ Fault.OutOfMemory) }
+    ensures refusals { IsOkUnless result Fault.OutOfMemory }
 {
     if !names_kind(field) {
         return Ok(());
@@ -81,10 +83,12 @@ fn check_fields(
 ) -> Result<(), Fault>
     requires forward { lines.old.passed ≤ start }
     requires within { start + length fields.now ≤ length lines.old.elements.now }
-    ensures added { OnOk result (found.new.items ≡ found.old.items ++ unresolved_violations (pieces_of lines.old.elements.now) (resolved_by resolver.now) start (pieces_of fields.now)) }
+    ensures added { OnOk result (found.new.items ≡ found.old.items
+        ++ unresolved_violations (pieces_of lines.old.elements.now) (resolved_by resolver.now) start
+        (pieces_of fields.now)) }
     ensures passed { OnOk result (lines.new.passed ≤ start + length fields.now) }
     ensures elements { OnOk result (lines.new.elements.now ≡ lines.old.elements.now) }
-    ensures refusals { IfErr result (λ fault. fault ≡ Fault.OutOfMemory) }
+    ensures refusals { IsOkUnless result Fault.OutOfMemory }
 {
     for (i, field) in fields.iter().enumerate() {
         check_field(alloc, lines, resolver, start + i, field, found)?;
@@ -103,10 +107,13 @@ pub(crate) fn check_kinds(
     requires forward { lines.old.passed ≤ range.now.start }
     requires some { range.now.start < range.now.end }
     requires within { range.now.end ≤ length lines.old.elements.now }
-    ensures added { OnOk result (found.new.items ≡ found.old.items ++ unresolved_violations (pieces_of lines.old.elements.now) (resolves (rules_stored rules.now).definitions) range.now.start (elements_of (pieces_of lines.old.elements.now) range.now)) }
+    ensures added { OnOk result (found.new.items ≡ found.old.items
+        ++ unresolved_violations (pieces_of lines.old.elements.now)
+        (resolves (rules_stored rules.now).definitions) range.now.start
+        (elements_of (pieces_of lines.old.elements.now) range.now)) }
     ensures passed { OnOk result (lines.new.passed ≤ range.now.end) }
     ensures elements { OnOk result (lines.new.elements.now ≡ lines.old.elements.now) }
-    ensures refusals { IfErr result (λ fault. fault ≡ Fault.OutOfMemory) }
+    ensures refusals { IsOkUnless result Fault.OutOfMemory }
 {
     let resolver = Resolver::of(alloc, &rules.definitions)?;
     let fields = elements_in(lines.elements(), range);

@@ -174,7 +174,7 @@ fn made(
             selection,
             list,
             action,
-        } => set(alloc, database, schema, selection, list.as_slice(), action),
+        } => set(alloc, database, schema, selection, list, action),
         Edit::AutoFill => auto_fill(alloc, database, schema),
     }
 }

@@ -50,7 +50,7 @@ last_of s = if has_members s then Some (s.members.end - 1) else s.head
 abbrev pub range_of : List (Range ℕ) → Option ℕ → Option (Range ℕ)
 range_of records i = option_and_then (slice_get records) i
 
--- the record behind which one more of the set at a place is put, and the descriptor of that set
+-- the record after which one more of the set at a place is put, and the descriptor of that set
 abbrev pub last_at : List (Range ℕ) → List Set_ → ℕ → Option (Range ℕ)
 last_at records sets place = range_of records (option_and_then last_of (slice_get sets place))
 

@@ -35,7 +35,7 @@ around Behind new = new ++ empty_line ∷ []
 abbrev pub placed : Site → List Piece → Insertion
 placed site new = record { place = site.place; new = around site.gap new }
 
--- new elements that are put at a site, if there is one, or else so
+-- new elements that are put at a site, or this insertion where there is none
 abbrev pub placed_or : Option Site → List Piece → Insertion → Insertion
 placed_or site new other = option_map_or (λ there. placed there new) site other
 

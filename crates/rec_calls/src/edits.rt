@@ -166,8 +166,15 @@ fn edit_again(
     }
 }
 
-/// The text after an edit, which is asked for again where memory ran out.
-fn check_edit(alloc: Global, log: &mut Log, request: &Edit, wanted: &str) -> Result<(), Fault> {
+/// The tool of an edit, and the text after it, which is asked for again where memory ran out.
+fn check_edit(
+    alloc: Global,
+    log: &mut Log,
+    request: &Edit,
+    tool: &str,
+    wanted: &str,
+) -> Result<(), Fault> {
+    log.same("the tool", request.tool().name(), tool.as_bytes());
     let Ok(database) = read(alloc, RULED) else {
         return Ok(());
     };
@@ -196,13 +203,13 @@ fn try_fields(
             last: *last,
         })?;
     }
+    let action = action(alloc, number)?;
     for (places, chosen) in &CHOSEN {
         let request = Edit::Set {
             selection: selection(alloc, places)?,
-            list: bytes(alloc, list)?,
-            action: action(alloc, number)?,
+            list: list.as_bytes(),
+            action: &action,
         };
-        let action = action(alloc, number)?;
         try_both(
             alloc,
             log,
@@ -279,19 +286,11 @@ fn both_make_the_same_of_fields(alloc: Global, log: &mut Log) -> Result<(), Faul
     Ok(())
 }
 
-fn set_or_add(alloc: Global) -> Result<Edit, Fault> {
-    Ok(Edit::Set {
-        selection: selection(alloc, "0")?,
-        list: bytes(alloc, "N,M")?,
-        action: Action::SetAdd(bytes(alloc, "b")?),
-    })
-}
-
 fn growth_of_delete(alloc: Global, log: &mut Log) -> Result<(), Fault> {
     if let Ok(selection) = selection(alloc, "0") {
         let request = Edit::Delete(selection);
         let wanted = "%rec: P\n%key: Id\n%auto: No\n\nId: 2\nNo: 4\n";
-        check_edit(alloc, log, &request, wanted)?;
+        check_edit(alloc, log, &request, "recdel", wanted)?;
     }
     Ok(())
 }
@@ -300,15 +299,27 @@ fn growth_of_comment_out(alloc: Global, log: &mut Log) -> Result<(), Fault> {
     if let Ok(selection) = selection(alloc, "1") {
         let request = Edit::CommentOut(selection);
         let wanted = "%rec: P\n%key: Id\n%auto: No\n\nId: 1\n# c\nN: a\n\n#Id: 2\n#No: 4\n";
-        check_edit(alloc, log, &request, wanted)?;
+        check_edit(alloc, log, &request, "recdel", wanted)?;
     }
     Ok(())
 }
 
+/// The first record, and an action that sets its fields or adds them.
+fn set_or_add(alloc: Global) -> Result<(Selection, Action), Fault> {
+    let selection = selection(alloc, "0")?;
+    let action = Action::SetAdd(bytes(alloc, "b")?);
+    Ok((selection, action))
+}
+
 fn growth_of_set(alloc: Global, log: &mut Log) -> Result<(), Fault> {
-    if let Ok(request) = set_or_add(alloc) {
+    if let Ok((selection, action)) = set_or_add(alloc) {
+        let request = Edit::Set {
+            selection,
+            list: "N,M".as_bytes(),
+            action: &action,
+        };
         let wanted = "%rec: P\n%key: Id\n%auto: No\n\nId: 1\n# c\nN: b\nM: b\n\nId: 2\nNo: 4\n";
-        check_edit(alloc, log, &request, wanted)?;
+        check_edit(alloc, log, &request, "recset", wanted)?;
     }
     Ok(())
 }
@@ -323,40 +334,48 @@ fn one_field(alloc: Global, name: &str, value: &str) -> Result<NewRecord, AllocE
     Ok(NewRecord::Pairs(pairs))
 }
 
-fn insertion(alloc: Global) -> Result<Edit, AllocError> {
+/// A type, and a new record of it.
+fn insertion(alloc: Global) -> Result<(Option<Bytes>, NewRecord), AllocError> {
     let fresh = one_field(alloc, "Id", "3")?;
-    Ok(Edit::Insert {
-        kind: Some(bytes(alloc, "P")?),
-        fresh,
-        auto: true,
-    })
+    let kind = Some(bytes(alloc, "P")?);
+    Ok((kind, fresh))
 }
 
 fn growth_of_insert(alloc: Global, log: &mut Log) -> Result<(), Fault> {
-    if let Ok(request) = insertion(alloc) {
+    if let Ok((kind, fresh)) = insertion(alloc) {
+        let request = Edit::Insert {
+            kind: &kind,
+            fresh: &fresh,
+            auto: true,
+        };
         let wanted =
             "%rec: P\n%key: Id\n%auto: No\n\nId: 1\n# c\nN: a\n\nId: 2\nNo: 4\n\nNo: 5\nId: 3\n";
-        check_edit(alloc, log, &request, wanted)?;
+        check_edit(alloc, log, &request, "recins", wanted)?;
     }
     Ok(())
 }
 
-fn replacement(alloc: Global) -> Result<Edit, Fault> {
+/// The first record, and a new one.
+fn replacement(alloc: Global) -> Result<(Selection, NewRecord), Fault> {
     let selection = selection(alloc, "0")?;
     let fresh = NewRecord::Text(bytes(alloc, "Id: 3\n# d\nN:x")?);
-    Ok(Edit::Replace { selection, fresh })
+    Ok((selection, fresh))
 }
 
 fn growth_of_replace(alloc: Global, log: &mut Log) -> Result<(), Fault> {
-    if let Ok(request) = replacement(alloc) {
+    if let Ok((selection, fresh)) = replacement(alloc) {
+        let request = Edit::Replace {
+            selection,
+            fresh: &fresh,
+        };
         let wanted = "%rec: P\n%key: Id\n%auto: No\n\nId: 3\nN: x\n\nId: 2\nNo: 4\n";
-        check_edit(alloc, log, &request, wanted)?;
+        check_edit(alloc, log, &request, "recins", wanted)?;
     }
     Ok(())
 }
 
 fn growth_of_auto_fill(alloc: Global, log: &mut Log) -> Result<(), Fault> {
     let wanted = "%rec: P\n%key: Id\n%auto: No\n\nNo: 5\nId: 1\n# c\nN: a\n\nId: 2\nNo: 4\n";
-    check_edit(alloc, log, &Edit::AutoFill, wanted)?;
+    check_edit(alloc, log, &Edit::AutoFill, "recfix", wanted)?;
     Ok(())
 }

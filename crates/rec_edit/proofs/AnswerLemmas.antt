@@ -1,6 +1,5 @@
 -- Each step of an edit has one answer at most, and so has one step after another; a refused pattern may stand aside.
-use Rattle.std.proofs.Common.{◌≡◌, ◌∙◌, inl, inr, Result, Ok, Err, sym, ap, subst}
-use Rattle.std.specs.Prelude.{◌≢◌}
+use Rattle.std.proofs.Common.{◌≡◌, ◌∙◌, inl, inr, Result, Ok, Err, sym, ap, subst, ◌≢◌}
 use Rattle.rec_text.specs.declared.fault.Fault.{Fault}
 use Rattle.rec_text.specs.declared.fault.Fault.TheVariants.{BadPattern, OutOfMemory}
 use Rattle.rec_text.specs.Faults.{IsMemoryOr}

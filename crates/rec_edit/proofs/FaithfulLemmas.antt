@@ -1,5 +1,5 @@
 -- What holds of each step of an edit.
-use Rattle.std.specs.Prelude.{◌≡◌, List, [], Ok}
+use Rattle.std.proofs.Common.{◌≡◌, Ok, List, []}
 use Rattle.rec_text.specs.Elements.{Piece, AreElementsOf, text_of}
 use Rattle.rec_check.specs.Schemas.{Described, IsSchema}
 use Rattle.rec_edit.specs.Task.{Task}

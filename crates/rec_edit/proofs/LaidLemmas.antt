@@ -1,6 +1,5 @@
 -- The elements that a layout makes of those of a text, and the newline at their end.
-use Rattle.std.proofs.Common.{◌≡◌, ◌∙◌, ℕ, suc, ◌+◌, Bool, true, false, IsTrue, List, [], ◌∷◌, ◌++◌, not, length, map, refl, ap, ap₂, sym, subst, inl, inr, arith}
-use Rattle.std.specs.Prelude.{if◌then◌else◌}
+use Rattle.std.proofs.Common.{◌≡◌, ◌∙◌, ℕ, suc, ◌+◌, Bool, true, false, IsTrue, List, [], ◌∷◌, ◌++◌, not, length, map, refl, ap, ap₂, sym, subst, inl, inr, arith, if◌then◌else◌}
 use Rattle.std.specs.List.{AllByRecursion}
 use Rattle.std.proofs.lemmas.Bool.{cases_Bool, false≢true, and_parts}
 use Rattle.std.proofs.lemmas.List.{append_assoc, append-nil, map-append}

@@ -1,10 +1,10 @@
 -- Records that go with the blank elements directly behind them.
-use Rattle.std.proofs.Common.{◌≡◌, ◌∙◌, ℕ, zero, suc, ◌+◌, ◌-◌, ◌<◌, ◌≤◌, Bool, true, false, ◌==◌, ◌&&◌, not, List, [], ◌∷◌, ◌++◌, length, map, take, drop, refl, ap, sym, subst, inl, inr, arith}
+use Rattle.std.proofs.Common.{◌≡◌, ◌∙◌, ℕ, zero, suc, ◌+◌, ◌-◌, ◌<◌, ◌≤◌, Bool, true, false, ◌==◌, ◌&&◌, not, List, [], ◌∷◌, ◌++◌, length, map, take, drop, refl, ap, sym, subst, inl, inr, arith, length-drop, append_assoc}
 use Rattle.std.specs.List.{AllByRecursion, list_any, prefix_len}
 use Rattle.std.specs.Prelude.{filter_map, slice_get, if◌then◌else◌}
 use Rattle.std.specs.declared.ops.Range.{Range}
 use Rattle.std.proofs.lemmas.Bool.{cases_Bool, false≢true, or_parts, or_from, and_left, and_from}
-use Rattle.std.proofs.lemmas.List.{append_assoc, length-drop, length_push}
+use Rattle.std.proofs.lemmas.List.{length_push}
 use Rattle.rec_text.specs.Elements.{Piece, has_name}
 use Rattle.rec_text.specs.Records.{elements_in, is_blank_at, is_blank_piece, is_field_piece}
 use Rattle.rec_text.proofs.ListLemmas.{AllByRecursion-weaker, AllByRecursion-push}

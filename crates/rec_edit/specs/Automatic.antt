@@ -51,11 +51,19 @@ AreFilled pieces rules numbers (record_ ∷ records) answer =
     Then (AreFilled pieces rules (λ name. numbers_in given name ++ numbers name) records) (λ filled answer.
     answer ≡ Ok (record { range = record_; given = given } ∷ filled))) answer
 
+-- the records of a set
+abbrev pub AreFilledMembers : List Piece → List (Range ℕ) → Set_ → Rules → Result (List Filled) Fault → Type 0
+AreFilledMembers pieces records s rules = AreFilled pieces rules (readings pieces (members records s)) (members records s)
+
 -- set by set; the untyped set has no automatic field
 abbrev pub AreFilledSets : List Piece → List (Range ℕ) → List Set_ → List Rules → Result (List Filled) Fault → Type 0
 AreFilledSets pieces records [] [] answer = answer ≡ Ok []
 AreFilledSets pieces records (s ∷ sets) (rules ∷ more) answer =
-    Then (AreFilled pieces rules (readings pieces (members records s)) (members records s)) (λ own.
+    Then (AreFilledMembers pieces records s rules) (λ own.
     Then (AreFilledSets pieces records sets more) (λ filled answer.
     answer ≡ Ok (own ++ filled))) answer
 AreFilledSets pieces records _ _ answer = ⊥
+
+-- the records of all sets
+abbrev pub AreFilledOf : List Piece → List (Range ℕ) → Described → Result (List Filled) Fault → Type 0
+AreFilledOf pieces records schema = AreFilledSets pieces records schema.sets schema.rules

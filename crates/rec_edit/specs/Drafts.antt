@@ -76,6 +76,14 @@ settled_as text behind new = if ends_newline text then new else settling behind 
 abbrev pub laying : Layout → ℕ → List Piece → List Piece
 laying layout first pieces = flat_map (λ (i, piece). layout.becomes i (closed piece)) (enumerate_from first pieces)
 
+-- what replaces the last elements before an index, of which the first has this index, where no newline ends them
+abbrev pub laying_last : Layout → ℕ → ℕ → List Piece → List Piece
+laying_last layout first end pieces = settling (layout.put end) (laying layout first pieces)
+
+-- what replaces those elements, with this text, which may end in a newline
+abbrev pub laying_tie : List ℕ → Layout → ℕ → ℕ → List Piece → List Piece
+laying_tie text layout first end pieces = settled_as text (layout.put end) (laying layout first pieces)
+
 -- of the script of a layout, the parts of the elements from an index on are left to do
 abbrev pub IsLaid : Draft → Layout → List Piece → ℕ → Type 0
 IsLaid draft layout pieces i = IsDraft draft (settled (parts_from i layout (drop i pieces))) (script_of layout pieces)

@@ -1,5 +1,5 @@
 -- What an edit of fields works on, and which record ends at an index.
-use Rattle.std.specs.Prelude.{◌≡◌, ℕ, ◌+◌, ◌==◌, ◌&&◌, ◌<◌, Bool, List, [], length, map, flat_map, slice_index_or, if◌then◌else◌}
+use Rattle.std.specs.Prelude.{◌≡◌, ℕ, ◌+◌, ◌==◌, ◌&&◌, ◌<◌, Bool, List, [], length, map, filter, flat_map, slice_index_or, if◌then◌else◌}
 use Rattle.std.specs.List.{list_any}
 use Rattle.std.specs.declared.ops.Range.{Range}
 use Rattle.rec_text.specs.Elements.{Piece}
@@ -8,7 +8,7 @@ use Rattle.rec_sex.specs.declared.field_list.Item.{Item}
 use Rattle.rec_sex.specs.Lists.{picks}
 use Rattle.rec_check.specs.Descriptors.{holds_index}
 use Rattle.rec_edit.specs.declared.request.Action.{Action}
-use Rattle.rec_edit.specs.Rules.{canonical}
+use Rattle.rec_edit.specs.Rules.{canonical, picks_none}
 
 -- the action, the items of its list, the elements of the text and the ranges of the records
 pub record FieldEdit : Type 0 where
@@ -20,6 +20,10 @@ pub record FieldEdit : Type 0 where
 -- a field of this value for each item
 abbrev pub fields_for : List ℕ → List Item → List Piece
 fields_for value items = map (λ item. canonical item.name value) items
+
+-- a field of this value for each item that picks none of a record's elements
+abbrev pub fields_lacking : List ℕ → List Item → List Piece → List Piece
+fields_lacking value items own = fields_for value (filter (picks_none own) items)
 
 -- the element of this index is one that a list picks of this record
 abbrev pub picks_index : List Item → List Piece → ℕ → Range ℕ → Bool

@@ -68,6 +68,10 @@ pub record AddsFilled (answer : Result (List Filled) Fault → Type 0) (old new 
   pub are : answer (Ok own)
   pub joined : new ≡ old ++ own
 
+-- the same of records as they are kept
+abbrev pub FillsMore : (Result (List Filled) Fault → Type 0) → List FilledRecord → List FilledRecord → Type 0
+FillsMore answer old new = AddsFilled answer (filled_of old) (filled_of new)
+
 -- ---- as they are found
 
 abbrev pub ranges_of : List Filled → List (Range ℕ)

@@ -50,11 +50,18 @@ last_of s = if has_members s then Some (s.members.end - 1) else s.head
 abbrev pub range_of : List (Range ℕ) → Option ℕ → Option (Range ℕ)
 range_of records i = option_and_then (slice_get records) i
 
+-- the record after which one more of the set at a place is put, and the descriptor of that set
+abbrev pub last_at : List (Range ℕ) → List Set_ → ℕ → Option (Range ℕ)
+last_at records sets place = range_of records (option_and_then last_of (slice_get sets place))
+
+abbrev pub descriptor_at : List (Range ℕ) → List Set_ → ℕ → Option (Range ℕ)
+descriptor_at records sets place = range_of records (option_and_then (λ s. s.head) (slice_get sets place))
+
 -- without a type: behind the last untyped record, else before the first descriptor, else at the end
 abbrev pub untyped_insertion : List Piece → List (Range ℕ) → List Set_ → List Piece → Insertion
-untyped_insertion pieces records sets fields = elim (range_of records (option_and_then last_of (slice_get sets 0))) [
+untyped_insertion pieces records sets fields = elim (last_at records sets 0) [
   | Some last ↦ behind_paragraph pieces fields last
-  | None ↦ option_map_or (before_paragraph pieces fields) (range_of records (option_and_then (λ s. s.head) (slice_get sets 1))) (at_end pieces fields)
+  | None ↦ option_map_or (before_paragraph pieces fields) (descriptor_at records sets 1) (at_end pieces fields)
 ]
 
 -- of a type: behind the last record of its set, or behind a new descriptor at the end where it has none

@@ -7,7 +7,7 @@ pub mod Wording
 pub mod Automatic
 pub mod Outcome
 pub mod Effect
--- words of the proofs
+-- what serves proofs
 pub mod Drafts
 pub mod Edits
 pub mod Marks

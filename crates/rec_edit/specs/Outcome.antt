@@ -24,7 +24,7 @@ use Rattle.rec_edit.specs.Script.{Part, Layout, closed, script_of, old_pieces, n
 use Rattle.rec_edit.specs.Rules.{fields_of, deletion, commenting, replacement, setting}
 use Rattle.rec_edit.specs.Insertions.{Filled, inserting, insertion_for, numbered_fields, filling}
 use Rattle.rec_edit.specs.Wording.{AreItemsFor, IsNewRecord}
-use Rattle.rec_edit.specs.Automatic.{AreAutomatic, AreFilledSets}
+use Rattle.rec_edit.specs.Automatic.{AreAutomatic, AreFilledOf}
 
 -- ---- the records that are meant
 
@@ -93,7 +93,7 @@ IsStep pieces schema force (set wanted list action) answer =
     Then (AreChosen pieces schema.sets wanted) (λ chosen answer.
     answer ≡ Ok (step_of pieces chosen (setting action items pieces chosen)))) answer
 IsStep pieces schema force auto_fill answer = (records : List (Range ℕ)) × AreRecords pieces records
-    × Then (AreFilledSets pieces records schema.sets schema.rules) (λ filled answer.
+    × Then (AreFilledOf pieces records schema) (λ filled answer.
     answer ≡ Ok (step_of pieces (map (λ one. one.range) filled) (filling filled))) answer
 
 -- ---- the violations of the edited text
@@ -192,7 +192,7 @@ CountsChanged pieces schema (delete wanted) step = CountsChosen pieces schema wa
 CountsChanged pieces schema (comment_out wanted) step = CountsChosen pieces schema wanted step
 CountsChanged pieces schema (set wanted list action) step = CountsChosen pieces schema wanted step
 CountsChanged pieces schema auto_fill step = (records : List (Range ℕ)) × (filled : List Filled) × AreRecords pieces records
-    × AreFilledSets pieces records schema.sets schema.rules (Ok filled) × Counts step (map (λ one. one.range) filled)
+    × AreFilledOf pieces records schema (Ok filled) × Counts step (map (λ one. one.range) filled)
 
 -- the script of each edit tells it so
 abbrev pub ChangedAreCounted : Type 0

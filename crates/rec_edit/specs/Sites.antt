@@ -1,5 +1,6 @@
 -- Where a new record is put among the elements of a text, and the text that is put there.
 use Rattle.std.specs.Prelude.{◌≡◌, ℕ, List, [], ◌∷◌, ◌++◌, Option, Some, None}
+use Rattle.std.specs.Option.{option_map_or}
 use Rattle.std.specs.declared.ops.Range.{Range}
 use Rattle.rec_text.specs.declared.element.Kind.TheVariants.{Field}
 use Rattle.rec_text.specs.Elements.{Piece, text_of}
@@ -33,6 +34,10 @@ around Behind new = new ++ empty_line ∷ []
 -- new elements that are put at a site
 abbrev pub placed : Site → List Piece → Insertion
 placed site new = record { place = site.place; new = around site.gap new }
+
+-- new elements that are put at a site, or this insertion where there is none
+abbrev pub placed_or : Option Site → List Piece → Insertion → Insertion
+placed_or site new other = option_map_or (λ there. placed there new) site other
 
 -- the descriptor of a new type, and an empty line
 abbrev pub heading : Option (List ℕ) → List Piece

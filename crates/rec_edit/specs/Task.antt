@@ -39,11 +39,11 @@ fresh_by (Pairs pairs) = of_pairs pairs.items
 fresh_by (Text text) = of_text text
 
 abbrev pub task_of : Edit → Task
-task_of (Insert kind fresh auto) = insert kind (fresh_by fresh) auto
-task_of (Replace selection fresh) = replace (wanted_by selection) (fresh_by fresh)
+task_of (Insert kind fresh auto) = insert kind.now (fresh_by fresh.now) auto
+task_of (Replace selection fresh) = replace (wanted_by selection) (fresh_by fresh.now)
 task_of (Delete selection) = delete (wanted_by selection)
 task_of (CommentOut selection) = comment_out (wanted_by selection)
-task_of (Set selection list action) = set (wanted_by selection) list action
+task_of (Set selection list action) = set (wanted_by selection) list.now action.now
 task_of AutoFill = auto_fill
 
 -- the tool that does it

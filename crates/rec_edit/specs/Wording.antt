@@ -42,18 +42,26 @@ values_of_action (Add value) = value ∷ []
 values_of_action (SetAdd value) = value ∷ []
 values_of_action _ = []
 
+-- the items, where their names and that of the action can be written, and its value
+abbrev pub written_items : Action → List Item → Result (List Item) Fault
+written_items action items = written (map (λ item. item.name) items ++ names_of_action action) (values_of_action action) items
+
 -- the items that an action works on
 abbrev pub AreItemsFor : Action → List ℕ → Result (List Item) Fault → Type 0
 AreItemsFor action list =
     Then (IsFieldList list) (λ items.
     Then (λ answer. answer ≡ unnumbered action list items) (λ _ answer.
-    answer ≡ written (map (λ item. item.name) items ++ names_of_action action) (values_of_action action) items))
+    answer ≡ written_items action items))
 
 -- ---- the new record
 
+-- the name and the value of a field
+abbrev pub pair_of : Piece → Pair
+pair_of field = record { name = name_of field; value = value_of field }
+
 -- the names and values of a record's fields
 abbrev pub pairs_of : List Piece → List Pair
-pairs_of own = map (λ field. record { name = name_of field; value = value_of field }) (filter is_field_piece own)
+pairs_of own = map pair_of (filter is_field_piece own)
 
 -- a text that holds one record
 abbrev pub IsRecordText : List ℕ → Result (List Pair) Fault → Type 0
@@ -71,8 +79,15 @@ abbrev pub ArePairs : NewRecord → Result (List Pair) Fault → Type 0
 ArePairs (of_pairs given) answer = answer ≡ some_pairs given
 ArePairs (of_text bytes) answer = IsRecordText bytes answer
 
+abbrev pub names_in : List Pair → List (List ℕ)
+names_in pairs = map (λ pair. pair.name) pairs
+
+-- the names and values, where the names can be written, the type among them, and the values
+abbrev pub written_pairs : Option (List ℕ) → List Pair → Result (List Pair) Fault
+written_pairs kind pairs = written (option_to_list kind ++ names_in pairs) (map (λ pair. pair.value) pairs) pairs
+
 -- the names and values of a new record, of this type where one is given
 abbrev pub IsNewRecord : Option (List ℕ) → NewRecord → Result (List Pair) Fault → Type 0
 IsNewRecord kind fresh =
     Then (ArePairs fresh) (λ pairs answer.
-    answer ≡ written (option_to_list kind ++ map (λ pair. pair.name) pairs) (map (λ pair. pair.value) pairs) pairs)
+    answer ≡ written_pairs kind pairs)

@@ -1,11 +1,12 @@
 //! The automatic fields of a new record.
-ghost use Rattle.std.specs.Prelude.{◌≡◌, ◌<◌, length, map, Err, Ok, IfOk, IfErr, MatchOption};
+ghost use Rattle.std.specs.Prelude.{◌<◌, length, Err, Ok, IfOk, IfErr, IsOkUnless, MatchOption};
 ghost use Rattle.rec_text.specs.Faults.{IsMemoryOr};
 ghost use Rattle.rec_check.specs.Schemas.{IsSchema};
 ghost use Rattle.rec_check.specs.Stored.{described};
 ghost use Rattle.rec_edit.specs.Automatic.{AreAutomatic};
 ghost use Rattle.rec_edit.specs.Filling.{numbered, AreNamesOf, AreLacking, GivesNone, GivesAt};
 ghost use Rattle.rec_edit.specs.Given.{IsAutomaticText};
+ghost use Rattle.rec_edit.specs.Wording.{names_in};
 
 use crate::numbered::{NumberedField, append_numbered, give};
 use crate::request::Pair;
@@ -16,7 +17,9 @@ use std::collections::HashSet;
 
 /// The place of the set whose automatic fields a new record gets, if it gets any.
 fn set_for(schema: &Schema, kind: &Option<Bytes>, auto: bool) -> Option<usize>
-    ensures { MatchOption result (GivesNone (described schema.now) kind.now auto) (GivesAt (described schema.now) kind.now auto) }
+    ensures { MatchOption result
+        (GivesNone (described schema.now) kind.now auto)
+        (GivesAt (described schema.now) kind.now auto) }
 {
     let Some(kind) = kind else {
         return None;
@@ -29,8 +32,8 @@ fn set_for(schema: &Schema, kind: &Option<Bytes>, auto: bool) -> Option<usize>
 
 /// The names of a new record.
 fn names_of<'p>(alloc: Global, pairs: &'p [Pair]) -> Result<HashSet<&'p [u8]>, Fault>
-    ensures names { IfOk result (λ names. AreNamesOf names (map (λ pair. pair.name) pairs.now)) }
-    ensures refusals { IfErr result (λ fault. fault ≡ Fault.OutOfMemory) }
+    ensures names { IfOk result (λ names. AreNamesOf names (names_in pairs.now)) }
+    ensures refusals { IsOkUnless result Fault.OutOfMemory }
 {
     let mut names = HashSet::new(alloc);
     for pair in pairs {
@@ -49,8 +52,10 @@ fn given_at<'s>(
 ) -> Result<Vec<NumberedField<'s>>, Fault>
     requires schema { IsSchema database.now (Ok (described schema.now)) }
     requires place { place < length (described schema.now).sets }
-    ensures given { IfOk result (λ given. AreLacking database.now (described schema.now) place (map (λ pair. pair.name) pairs.now) (Ok (numbered given.items))) }
-    ensures refused { IfErr result (λ fault. IsMemoryOr fault (AreLacking database.now (described schema.now) place (map (λ pair. pair.name) pairs.now) (Err fault))) }
+    ensures given { IfOk result (λ given.
+        AreLacking database.now (described schema.now) place (names_in pairs.now) (Ok (numbered given.items))) }
+    ensures refused { IfErr result (λ fault.
+        IsMemoryOr fault (AreLacking database.now (described schema.now) place (names_in pairs.now) (Err fault))) }
 {
     let names = names_of(alloc, pairs)?;
     let mut counters = schema.counters(alloc, database, place)?;
@@ -67,8 +72,10 @@ pub(crate) fn automatic_fields(
     pairs: &[Pair],
 ) -> Result<Vec<u8>, Fault>
     requires { IsSchema database.now (Ok (described schema.now)) }
-    ensures found { IfOk result (λ text. IsAutomaticText database.now (described schema.now) kind.now auto (map (λ pair. pair.name) pairs.now) text.items) }
-    ensures refused { IfErr result (λ fault. IsMemoryOr fault (AreAutomatic database.now (described schema.now) kind.now auto (map (λ pair. pair.name) pairs.now) (Err fault))) }
+    ensures found { IfOk result (λ text.
+        IsAutomaticText database.now (described schema.now) kind.now auto (names_in pairs.now) text.items) }
+    ensures refused { IfErr result (λ fault. IsMemoryOr fault
+        (AreAutomatic database.now (described schema.now) kind.now auto (names_in pairs.now) (Err fault))) }
 {
     let mut text = Vec::new(alloc);
     let Some(place) = set_for(schema, kind, auto) else {

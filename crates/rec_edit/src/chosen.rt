@@ -40,8 +40,10 @@ pub(crate) fn chosen_records(
     selection: &Selection,
 ) -> Result<Vec<Range<usize>>, Fault>
     requires { IsSchema database.now (Ok (described schema.now)) }
-    ensures found { IfOk result (λ chosen. AreChosen database.now (described schema.now).sets (wanted_by selection.now) (Ok chosen.items)) }
-    ensures refused { IfErr result (λ fault. IsMemoryOr fault (AreChosen database.now (described schema.now).sets (wanted_by selection.now) (Err fault))) }
+    ensures found { IfOk result (λ chosen.
+        AreChosen database.now (described schema.now).sets (wanted_by selection.now) (Ok chosen.items)) }
+    ensures refused { IfErr result (λ fault. IsMemoryOr fault
+        (AreChosen database.now (described schema.now).sets (wanted_by selection.now) (Err fault))) }
     ensures ranges { IfOk result (λ chosen. AreRanges (length database.now) chosen.items) }
 {
     let selected = choose(alloc, database, schema, selection)?;
@@ -50,7 +52,9 @@ pub(crate) fn chosen_records(
 
 /// Refuses all records of a set, unless that is forced.
 fn require_allowed(by: &By, force: bool) -> Result<(), Fault>
-    ensures { MatchResult result (λ _. allowed (filter_of by.now) force ≡ Ok tt) (λ fault. allowed (filter_of by.now) force ≡ Err fault) }
+    ensures { MatchResult result
+        (λ _. allowed (filter_of by.now) force ≡ Ok tt)
+        (λ fault. allowed (filter_of by.now) force ≡ Err fault) }
 {
     match by {
         By::All if !force => Err(Fault::NoSelection),
@@ -67,8 +71,10 @@ pub(crate) fn removable_records(
     force: bool,
 ) -> Result<Vec<Range<usize>>, Fault>
     requires { IsSchema database.now (Ok (described schema.now)) }
-    ensures found { IfOk result (λ chosen. AreRemovable database.now (described schema.now).sets (wanted_by selection.now) force (Ok chosen.items)) }
-    ensures refused { IfErr result (λ fault. IsMemoryOr fault (AreRemovable database.now (described schema.now).sets (wanted_by selection.now) force (Err fault))) }
+    ensures found { IfOk result (λ chosen.
+        AreRemovable database.now (described schema.now).sets (wanted_by selection.now) force (Ok chosen.items)) }
+    ensures refused { IfErr result (λ fault. IsMemoryOr fault
+        (AreRemovable database.now (described schema.now).sets (wanted_by selection.now) force (Err fault))) }
     ensures ranges { IfOk result (λ chosen. AreRanges (length database.now) chosen.items) }
 {
     let chosen = chosen_records(alloc, database, schema, selection)?;

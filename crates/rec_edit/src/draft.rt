@@ -134,7 +134,8 @@ impl Draft {
     /// The patch and the text of what is done.
     pub fn finish(self) -> Result<(Patch, Bytes), AllocError>
         requires done { (whole : List Part) × IsDraft self [] whole }
-        ensures { (whole : List Part) → IsDraft self [] whole → IfOk result (λ (patch, text). (patch ≡ hunks_of whole) × (text ≡ edited_text whole)) }
+        ensures { (whole : List Part) → IsDraft self [] whole
+            → IfOk result (λ (patch, text). (patch ≡ hunks_of whole) × (text ≡ edited_text whole)) }
     {
         let hunks = all_hunks(self.hunks, self.run)?;
         let patch = Patch::new(hunks).unwrap();

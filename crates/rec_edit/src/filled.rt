@@ -1,19 +1,18 @@
 //! Records with the automatic fields that they get.
-ghost use Rattle.std.specs.Prelude.{◌≡◌, ◌<◌, ℕ, ℤ, List, Ok, Err, length, slice_get, Some, IfOk, IfErr, OnOk};
+ghost use Rattle.std.specs.Prelude.{◌≡◌, ◌<◌, ℕ, ℤ, List, Ok, Err, length, slice_get, Some, IfOk, IfErr, IsOkUnless, OnOk};
 ghost use Rattle.std.specs.declared.ops.Range.{Range};
 ghost use Rattle.rec_text.specs.Faults.{IsMemoryOr};
 ghost use Rattle.rec_text.specs.Places.{pieces_of};
 ghost use Rattle.rec_text.specs.Records.{AreRecords};
 ghost use Rattle.rec_check.specs.declared.set.Set_.{Set_};
-ghost use Rattle.rec_check.specs.Automatic.{readings};
 ghost use Rattle.rec_check.specs.Counters.{AreCounters};
 ghost use Rattle.rec_check.specs.Rules.{Rules};
 ghost use Rattle.rec_check.specs.Schemas.{IsSchema};
 ghost use Rattle.rec_check.specs.Stored.{described};
-ghost use Rattle.rec_check.specs.Violations.{members, names_of};
+ghost use Rattle.rec_check.specs.Violations.{names_of};
 ghost use Rattle.rec_check.specs.Walking.{AreWithin};
-ghost use Rattle.rec_edit.specs.Automatic.{AreFilled, AreFilledSets};
-ghost use Rattle.rec_edit.specs.Filling.{numbered, filled_of, AreNamesOf, IsGiven, IsRefused, AddsFilled};
+ghost use Rattle.rec_edit.specs.Automatic.{AreFilled, AreFilledMembers, AreFilledOf};
+ghost use Rattle.rec_edit.specs.Filling.{numbered, filled_of, AreNamesOf, IsGiven, IsRefused, FillsMore};
 
 use crate::numbered::{NumberedField, give};
 use rec_check::{Counter, Schema};
@@ -32,7 +31,7 @@ pub(crate) struct FilledRecord<'s> {
 /// Puts the names of fields in the place of others.
 fn take_names<'t>(names: &mut HashSet<&'t [u8]>, fields: &[Element<'t>]) -> Result<(), Fault>
     ensures names { OnOk result (AreNamesOf names.new (names_of (pieces_of fields.now))) }
-    ensures refusals { IfErr result (λ fault. fault ≡ Fault.OutOfMemory) }
+    ensures refusals { IsOkUnless result Fault.OutOfMemory }
 {
     names.clear();
     for field in fields {
@@ -51,7 +50,8 @@ fn fill_record<'s, 't>(
     fields: &[Element<'t>],
 ) -> Result<Vec<NumberedField<'s>>, Fault>
     ensures given { (rules : Rules) (numbers : List ℕ → List ℤ) → AreCounters rules numbers counters.old
-        → IfOk result (λ given. IsGiven rules numbers (names_of (pieces_of fields.now)) (numbered given.items) counters.new) }
+        → IfOk result (λ given.
+        IsGiven rules numbers (names_of (pieces_of fields.now)) (numbered given.items) counters.new) }
     ensures refused { (rules : Rules) (numbers : List ℕ → List ℤ) → AreCounters rules numbers counters.old
         → IfErr result (λ fault. IsMemoryOr fault (IsRefused rules numbers (names_of (pieces_of fields.now)) fault)) }
 {
@@ -72,9 +72,11 @@ fn fill_records<'s, 't>(
 ) -> Result<(), Fault>
     requires { AreWithin (length elements.now) records.now }
     ensures filled { (rules : Rules) (numbers : List ℕ → List ℤ) → AreCounters rules numbers counters.old
-        → OnOk result (AddsFilled (AreFilled (pieces_of elements.now) rules numbers records.now) (filled_of filled.old.items) (filled_of filled.new.items)) }
+        → OnOk result (FillsMore
+        (AreFilled (pieces_of elements.now) rules numbers records.now) filled.old.items filled.new.items) }
     ensures refused { (rules : Rules) (numbers : List ℕ → List ℤ) → AreCounters rules numbers counters.old
-        → IfErr result (λ fault. IsMemoryOr fault (AreFilled (pieces_of elements.now) rules numbers records.now (Err fault))) }
+        → IfErr result (λ fault.
+        IsMemoryOr fault (AreFilled (pieces_of elements.now) rules numbers records.now (Err fault))) }
 {
     let mut names = HashSet::new(alloc);
     for record in records {
@@ -97,11 +99,13 @@ fn fill_set<'s>(
     requires schema { IsSchema database.now (Ok (described schema.now)) }
     requires place { place < length (described schema.now).sets }
     ensures filled { (records : List (Range ℕ)) (s : Set_) (rules : Rules) → AreRecords database.now records
-        → slice_get (described schema.now).sets place ≡ Some s → slice_get (described schema.now).rules place ≡ Some rules
-        → OnOk result (AddsFilled (AreFilled database.now rules (readings database.now (members records s)) (members records s)) (filled_of filled.old.items) (filled_of filled.new.items)) }
+        → slice_get (described schema.now).sets place ≡ Some s
+        → slice_get (described schema.now).rules place ≡ Some rules
+        → OnOk result (FillsMore (AreFilledMembers database.now records s rules) filled.old.items filled.new.items) }
     ensures refused { (records : List (Range ℕ)) (s : Set_) (rules : Rules) → AreRecords database.now records
-        → slice_get (described schema.now).sets place ≡ Some s → slice_get (described schema.now).rules place ≡ Some rules
-        → IfErr result (λ fault. IsMemoryOr fault (AreFilled database.now rules (readings database.now (members records s)) (members records s) (Err fault))) }
+        → slice_get (described schema.now).sets place ≡ Some s
+        → slice_get (described schema.now).rules place ≡ Some rules
+        → IfErr result (λ fault. IsMemoryOr fault (AreFilledMembers database.now records s rules (Err fault))) }
 {
     let mut counters = schema.counters(alloc, database, place)?;
     let records = schema.members(database, place);
@@ -116,9 +120,11 @@ pub(crate) fn filled_records<'s>(
 ) -> Result<Vec<FilledRecord<'s>>, Fault>
     requires { IsSchema database.now (Ok (described schema.now)) }
     ensures filled { (records : List (Range ℕ)) → AreRecords database.now records
-        → IfOk result (λ filled. AreFilledSets database.now records (described schema.now).sets (described schema.now).rules (Ok (filled_of filled.items))) }
+        → IfOk result (λ filled.
+        AreFilledOf database.now records (described schema.now) (Ok (filled_of filled.items))) }
     ensures refused { (records : List (Range ℕ)) → AreRecords database.now records
-        → IfErr result (λ fault. IsMemoryOr fault (AreFilledSets database.now records (described schema.now).sets (described schema.now).rules (Err fault))) }
+        → IfErr result (λ fault.
+        IsMemoryOr fault (AreFilledOf database.now records (described schema.now) (Err fault))) }
 {
     let mut filled = Vec::new(alloc);
     for place in 0..schema.sets().len() {

@@ -1,14 +1,13 @@
 //! New records.
-ghost use Rattle.std.specs.Prelude.{◌≡◌, ◌≢◌, ◌∷◌, ◌++◌, [], length, option_to_list, map, Err, Ok, IfOk, IfErr, MatchOption, MatchResult};
+ghost use Rattle.std.specs.Prelude.{◌≡◌, ◌≢◌, ◌∷◌, [], length, option_to_list, map, Err, Ok, IfOk, IfErr, IsOkUnless, MatchOption, MatchResult};
 ghost use Rattle.std.specs.List.{list_all};
 ghost use Rattle.rec_text.specs.Canonical.{is_plain_name as may_be_written, is_foldable as can_be_folded};
-ghost use Rattle.rec_text.specs.Elements.{AreElementsOf, name_of};
+ghost use Rattle.rec_text.specs.Elements.{AreElementsOf};
 ghost use Rattle.rec_text.specs.Faults.{IsMemoryOr};
 ghost use Rattle.rec_text.specs.Places.{piece_of, pieces_of};
-ghost use Rattle.rec_text.specs.Values.{value_of};
 ghost use Rattle.rec_edit.specs.Causes.{cause_of as reason_of};
 ghost use Rattle.rec_edit.specs.Task.{fresh_by};
-ghost use Rattle.rec_edit.specs.Wording.{pairs_of, written, IsRecordText, ArePairs, IsNewRecord};
+ghost use Rattle.rec_edit.specs.Wording.{pair_of as pair_in, pairs_of, names_in, written_pairs, IsRecordText, ArePairs, IsNewRecord};
 
 use crate::request::{NewRecord, Pair};
 use rec_text::{Bytes, Database, Element, Fault, elements_in, is_foldable, is_plain_name, read};
@@ -30,8 +29,8 @@ fn copies(alloc: Global, pairs: &[Pair]) -> Result<Vec<Pair>, AllocError>
 
 /// The name and the value of a field.
 fn pair_of(alloc: Global, field: &Element) -> Result<Pair, Fault>
-    ensures pair { IfOk result (λ pair. pair ≡ record { name = name_of (piece_of field.now); value = value_of (piece_of field.now) }) }
-    ensures refusals { IfErr result (λ fault. fault ≡ Fault.OutOfMemory) }
+    ensures pair { IfOk result (λ pair. pair ≡ pair_in (piece_of field.now)) }
+    ensures refusals { IsOkUnless result Fault.OutOfMemory }
 {
     let name = Bytes::copy_of(alloc, field.name())?;
     let value = field.value(alloc)?;
@@ -42,7 +41,7 @@ fn pair_of(alloc: Global, field: &Element) -> Result<Pair, Fault>
 /// The names and values of the fields among a record's elements.
 fn pairs_in(alloc: Global, own: &[Element]) -> Result<Vec<Pair>, Fault>
     ensures pairs { IfOk result (λ pairs. pairs.items ≡ pairs_of (pieces_of own.now)) }
-    ensures refusals { IfErr result (λ fault. fault ≡ Fault.OutOfMemory) }
+    ensures refusals { IsOkUnless result Fault.OutOfMemory }
 {
     let mut pairs = Vec::new(alloc);
     for element in own {
@@ -110,7 +109,7 @@ fn given_pairs(alloc: Global, fresh: &NewRecord) -> Result<Vec<Pair>, Fault>
 }
 
 fn have_plain_names(pairs: &[Pair]) -> bool
-    ensures { result ≡ list_all may_be_written (map (λ pair. pair.name) pairs.now) }
+    ensures { result ≡ list_all may_be_written (names_in pairs.now) }
 {
     pairs.iter().all(|pair| is_plain_name(pair.name.as_slice()))
 }
@@ -133,8 +132,9 @@ fn is_plain_kind(kind: &Option<Bytes>) -> bool
 
 /// Refuses a name that recu doesn't write, and then a value.
 fn require_written(kind: &Option<Bytes>, pairs: &[Pair]) -> Result<(), Fault>
-    ensures { MatchResult result (λ _. written (option_to_list kind.now ++ map (λ pair. pair.name) pairs.now) (map (λ pair. pair.value) pairs.now) pairs.now ≡ Ok pairs.now)
-        (λ fault. written (option_to_list kind.now ++ map (λ pair. pair.name) pairs.now) (map (λ pair. pair.value) pairs.now) pairs.now ≡ Err fault) }
+    ensures { MatchResult result
+        (λ _. written_pairs kind.now pairs.now ≡ Ok pairs.now)
+        (λ fault. written_pairs kind.now pairs.now ≡ Err fault) }
 {
     if !is_plain_kind(kind) || !have_plain_names(pairs) {
         return Err(Fault::BadName);

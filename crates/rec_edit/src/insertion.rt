@@ -66,7 +66,8 @@ fn begin(
     schema: &Schema,
     kind: &Option<Bytes>,
 ) -> Result<Site, AllocError>
-    ensures { IfOk result (λ site. Begins database.now (described schema.now).sets kind.now site out.old.items out.new.items) }
+    ensures { IfOk result (λ site.
+        Begins database.now (described schema.now).sets kind.now site out.old.items out.new.items) }
 {
     let elements = database.elements();
     match site_beside(elements, database.records().as_slice(), schema, kind) {
@@ -104,7 +105,8 @@ impl Insertion {
         automatic: &[u8],
         pairs: &[Pair],
     ) -> Result<Insertion, AllocError>
-        ensures { IfOk result (λ plan. IsRecordPut database.now (described schema.now).sets kind.now automatic.now pairs.now plan.place plan.text.items) }
+        ensures { IfOk result (λ plan. IsRecordPut database.now (described schema.now).sets kind.now
+            automatic.now pairs.now plan.place plan.text.items) }
     {
         let mut text = Vec::new(alloc);
         let site = begin(&mut text, database, schema, kind)?;

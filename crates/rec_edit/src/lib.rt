@@ -27,7 +27,7 @@ mod wording;
 pub use laws::{changed_are_counted, hunks_are_changes, one_outcome, unruled_edits_are_sound};
 pub use outcome::{Edited, edit};
 pub use rec_check::Schema;
-pub use rec_journal::Patch;
+pub use rec_journal::{Patch, Tool};
 pub use rec_select::{By, Selection};
 pub use rec_text::{Bytes, Database, Fault};
 pub use request::{Action, Edit, NewRecord, Pair};

@@ -23,7 +23,8 @@ pub(crate) struct NumberedField<'s> {
 }
 
 fn append_one(out: &mut Vec<u8>, field: &NumberedField) -> Result<(), AllocError>
-    ensures { OnOk result (out.new.items ≡ out.old.items ++ field_of field.now.name.now (signed_decimal field.now.number)) }
+    ensures { OnOk result
+        (out.new.items ≡ out.old.items ++ field_of field.now.name.now (signed_decimal field.now.number)) }
 {
     let mut buffer = Buffer::new();
     append_field(out, field.name, buffer.format(field.number).as_bytes())
@@ -45,9 +46,11 @@ pub(crate) fn give<'s>(
     counters: &mut [Counter<'s>],
     names: &HashSet<&[u8]>,
 ) -> Result<Vec<NumberedField<'s>>, Fault>
-    ensures given { (rules : Rules) (numbers : List ℕ → List ℤ) (own : List (List ℕ)) → AreCounters rules numbers counters.old → AreNamesOf names.now own
+    ensures given { (rules : Rules) (numbers : List ℕ → List ℤ) (own : List (List ℕ))
+        → AreCounters rules numbers counters.old → AreNamesOf names.now own
         → IfOk result (λ given. IsGiven rules numbers own (numbered given.items) counters.new) }
-    ensures refused { (rules : Rules) (numbers : List ℕ → List ℤ) (own : List (List ℕ)) → AreCounters rules numbers counters.old → AreNamesOf names.now own
+    ensures refused { (rules : Rules) (numbers : List ℕ → List ℤ) (own : List (List ℕ))
+        → AreCounters rules numbers counters.old → AreNamesOf names.now own
         → IfErr result (λ fault. IsMemoryOr fault (IsRefused rules numbers own fault)) }
 {
     let mut given = Vec::new(alloc);

@@ -56,7 +56,8 @@ fn insert(
     auto: bool,
 ) -> Result<Edited, Fault>
     requires { IsSchema database.now (Ok (described schema.now)) }
-    ensures { (force : Bool) → UnlessMemory result (IsEditOf database.now (described schema.now) force (inserting_one kind.now (fresh_by fresh.now) auto)) }
+    ensures { (force : Bool) → UnlessMemory result (IsEditOf database.now (described schema.now) force
+        (inserting_one kind.now (fresh_by fresh.now) auto)) }
 {
     let pairs = new_record(alloc, kind, fresh)?;
     let automatic = automatic_fields(alloc, database, schema, kind, auto, &pairs)?;
@@ -73,7 +74,8 @@ fn replace(
     fresh: &NewRecord,
 ) -> Result<Edited, Fault>
     requires { IsSchema database.now (Ok (described schema.now)) }
-    ensures { (force : Bool) → UnlessMemory result (IsEditOf database.now (described schema.now) force (replacing (wanted_by selection.now) (fresh_by fresh.now))) }
+    ensures { (force : Bool) → UnlessMemory result (IsEditOf database.now (described schema.now) force
+        (replacing (wanted_by selection.now) (fresh_by fresh.now))) }
 {
     let pairs = new_record(alloc, &None, fresh)?;
     let chosen = chosen_records(alloc, database, schema, selection)?;
@@ -88,7 +90,8 @@ fn filled_up(
     filled: &[FilledRecord],
 ) -> Result<Edited, AllocError>
     requires { AreRanges (length database.now) (ranges_of (filled_of filled.now)) }
-    ensures { IfOk result (λ edited. edited ≡ edited_by (step_of database.now (ranges_of (filled_of filled.now)) (filling (filled_of filled.now)))) }
+    ensures { IfOk result (λ edited.
+        edited ≡ edited_by (step_of database.now (ranges_of (filled_of filled.now)) (filling (filled_of filled.now)))) }
 {
     let ranges = record_ranges(alloc, filled)?;
     let plan = Filling::of(alloc, filled)?;
@@ -113,7 +116,8 @@ fn delete(
     force: bool,
 ) -> Result<Edited, Fault>
     requires { IsSchema database.now (Ok (described schema.now)) }
-    ensures { UnlessMemory result (IsEditOf database.now (described schema.now) force (deleting (wanted_by selection.now))) }
+    ensures { UnlessMemory result (IsEditOf database.now (described schema.now) force
+        (deleting (wanted_by selection.now))) }
 {
     let chosen = removable_records(alloc, database, schema, selection, force)?;
     let plan = Deletion::of(alloc, database, &chosen)?;
@@ -129,7 +133,8 @@ fn comment_out(
     force: bool,
 ) -> Result<Edited, Fault>
     requires { IsSchema database.now (Ok (described schema.now)) }
-    ensures { UnlessMemory result (IsEditOf database.now (described schema.now) force (commenting_out (wanted_by selection.now))) }
+    ensures { UnlessMemory result (IsEditOf database.now (described schema.now) force
+        (commenting_out (wanted_by selection.now))) }
 {
     let chosen = removable_records(alloc, database, schema, selection, force)?;
     let plan = Commenting::of(alloc, &chosen)?;
@@ -146,7 +151,8 @@ fn set(
     action: &Action,
 ) -> Result<Edited, Fault>
     requires { IsSchema database.now (Ok (described schema.now)) }
-    ensures { (force : Bool) → UnlessMemory result (IsEditOf database.now (described schema.now) force (setting_fields (wanted_by selection.now) list.now action.now)) }
+    ensures { (force : Bool) → UnlessMemory result (IsEditOf database.now (described schema.now) force
+        (setting_fields (wanted_by selection.now) list.now action.now)) }
 {
     let items = items_for(alloc, action, list)?;
     let chosen = chosen_records(alloc, database, schema, selection)?;
@@ -174,7 +180,7 @@ fn made(
             selection,
             list,
             action,
-        } => set(alloc, database, schema, selection, list.as_slice(), action),
+        } => set(alloc, database, schema, selection, list, action),
         Edit::AutoFill => auto_fill(alloc, database, schema),
     }
 }
@@ -239,8 +245,9 @@ pub fn edit(
 ) -> Result<Edited, Fault>
     requires schema { IsSchema database.now (Ok (described schema.now)) }
     ensures found { UnlessMemory result (IsOutcome database.now (described schema.now) force (task_of edit.now)) }
-    ensures only { (other : Result EditedOf Fault) → IsOutcome database.now (described schema.now) force (task_of edit.now) other
-        → (other ≢ Err BadPattern) → UnlessMemory result (λ answer. (answer ≢ Err BadPattern) → answer ≡ other) }
+    ensures only { (other : Result EditedOf Fault)
+        → IsOutcome database.now (described schema.now) force (task_of edit.now) other → (other ≢ Err BadPattern)
+        → UnlessMemory result (λ answer. (answer ≢ Err BadPattern) → answer ≡ other) }
 
     ensures refusals { IfErr result IsEditRefusal }
 
@@ -250,7 +257,8 @@ pub fn edit(
     ensures whole { IfOk result (λ edited. AllByRecursion (TakesWhole database.now) edited.patch) }
 
     // What it means for the records.
-    ensures effect { IfOk result (λ edited. HasEffect database.now (described schema.now) (task_of edit.now) edited.text) }
+    ensures effect { IfOk result (λ edited.
+        HasEffect database.now (described schema.now) (task_of edit.now) edited.text) }
 {
     // These are the elements of a text.
     let _text = database.text();

@@ -27,5 +27,6 @@ pub(crate) trait Plan {
 
     /// Appends what stands in the place of the element of this index, which ends in a newline.
     fn becomes(&self, index: usize, element: &Element, out: &mut Vec<u8>) -> Result<(), AllocError>
-        ensures { OnOk result (out.new.items ≡ out.old.items ++ text_of ((layout self.now).becomes index (piece_of element.now))) };
+        ensures { OnOk result
+            (out.new.items ≡ out.old.items ++ text_of ((layout self.now).becomes index (piece_of element.now))) };
 }

@@ -1,4 +1,5 @@
 //! What an edit is to do.
+use rec_journal::Tool;
 use rec_select::Selection;
 use rec_text::Bytes;
 
@@ -35,31 +36,50 @@ pub enum NewRecord {
     Text(Bytes),
 }
 
-/// An edit of the records of a text.
+/// An edit of the records of a text. The texts that it works with are borrowed.
 #[derive(Drop)]
-pub enum Edit {
-    /// Puts a record in, behind the last one of its set: that of a type, which is made where it isn't there, or else the
+pub enum Edit<'r> {
+    /// Puts a record in, after the last one of its set: that of a type, which is made where it isn't there, or else the
     /// untyped one. With `auto` it gets the automatic fields that it lacks.
     Insert {
-        kind: Option<Bytes>,
-        fresh: NewRecord,
+        kind: &'r Option<Bytes>,
+        fresh: &'r NewRecord,
         auto: bool,
     },
-    /// Puts a new record in the place of each that a selection takes.
+    /// Replaces each record that a selection takes by a new one.
     Replace {
         selection: Selection,
-        fresh: NewRecord,
+        fresh: &'r NewRecord,
     },
-    /// Deletes those that a selection takes, with the blank lines directly behind each.
+    /// Deletes those that a selection takes, with the blank lines directly after each.
     Delete(Selection),
     /// Makes comments of all their lines.
     CommentOut(Selection),
     /// Edits the fields that a list picks of each: a text such as `Name,Email[0-1]`.
     Set {
         selection: Selection,
-        list: Bytes,
-        action: Action,
+        list: &'r [u8],
+        action: &'r Action,
     },
     /// Gives all records of typed sets the automatic fields that they lack.
     AutoFill,
+}
+
+impl Edit<'_> {
+    ghost use Rattle.std.specs.Prelude.{◌≡◌};
+    ghost use Rattle.rec_edit.specs.Task.{task_of, tool_of};
+
+    /// The tool that does it.
+    pub fn tool(&self) -> Tool
+        ensures { result ≡ tool_of (task_of self.now) }
+    {
+        match self {
+            Edit::Insert { .. } => Tool::RecIns,
+            Edit::Replace { .. } => Tool::RecIns,
+            Edit::Delete(_) => Tool::RecDel,
+            Edit::CommentOut(_) => Tool::RecDel,
+            Edit::Set { .. } => Tool::RecSet,
+            Edit::AutoFill => Tool::RecFix,
+        }
+    }
 }

@@ -6,7 +6,7 @@ ghost use Rattle.rec_text.specs.Elements.{text_of};
 ghost use Rattle.rec_text.specs.Places.{piece_of, pieces_of};
 ghost use Rattle.rec_edit.specs.Script.{Part, closed, putting, script_of};
 ghost use Rattle.rec_edit.specs.Outcome.{is_changed, step_of, edited_by};
-ghost use Rattle.rec_edit.specs.Drafts.{AreRanges, LaysLines, IsTie, IsDraft, IsLaid, settling, settled_as, laying, closed_text};
+ghost use Rattle.rec_edit.specs.Drafts.{AreRanges, LaysLines, IsTie, IsDraft, IsLaid, laying, laying_last, laying_tie, closed_text};
 
 use crate::draft::Draft;
 use crate::outcome::Edited;
@@ -30,7 +30,8 @@ fn lay_closed<P: Plan>(
     element: &Element,
     out: &mut Vec<u8>,
 ) -> Result<(), AllocError>
-    ensures { OnOk result (out.new.items ≡ out.old.items ++ text_of ((P.layout plan.now).becomes index (closed (piece_of element.now)))) }
+    ensures { OnOk result (out.new.items
+        ≡ out.old.items ++ text_of ((P.layout plan.now).becomes index (closed (piece_of element.now)))) }
 {
     if ends_newline(element.raw) {
         return plan.becomes(index, element, out);
@@ -54,7 +55,9 @@ fn lay_put<P: Plan>(
     scratch: &mut Vec<u8>,
 ) -> Result<(), AllocError>
     requires fits { draft.old.at < 2 ^ 64 }
-    ensures carried_out { (rest whole : List Part) → IsDraft draft.old (putting ((P.layout plan.now).put index) rest) whole → OnOk result (IsDraft draft.new rest whole) }
+    ensures carried_out { (rest whole : List Part)
+        → IsDraft draft.old (putting ((P.layout plan.now).put index) rest) whole
+        → OnOk result (IsDraft draft.new rest whole) }
     ensures reached { OnOk result (draft.new.at ≡ draft.old.at) }
 {
     scratch.clear();
@@ -74,7 +77,8 @@ fn lay_record<P: Plan>(
     out: &mut Vec<u8>,
 ) -> Result<(), AllocError>
     requires few { first + length elements.now < 2 ^ 64 }
-    ensures { OnOk result (out.new.items ≡ out.old.items ++ text_of (laying (P.layout plan.now) first (pieces_of elements.now))) }
+    ensures { OnOk result
+        (out.new.items ≡ out.old.items ++ text_of (laying (P.layout plan.now) first (pieces_of elements.now))) }
 {
     for (index, element) in elements.iter().enumerate() {
         lay_closed(alloc, plan, first + index, element, out)?;
@@ -92,7 +96,8 @@ fn lay_settled<P: Plan>(
 ) -> Result<(), AllocError>
     requires lines { LaysLines (P.layout plan.now) }
     requires few { first + length elements.now < 2 ^ 64 }
-    ensures { OnOk result (out.new.items ≡ text_of (settling ((P.layout plan.now).put (first + length elements.now)) (laying (P.layout plan.now) first (pieces_of elements.now)))) }
+    ensures { OnOk result (out.new.items
+        ≡ text_of (laying_last (P.layout plan.now) first (first + length elements.now) (pieces_of elements.now))) }
 {
     out.clear();
     plan.put(first + elements.len(), out)?;
@@ -116,7 +121,8 @@ fn lay_tie<P: Plan>(
 ) -> Result<(), AllocError>
     requires lines { LaysLines (P.layout plan.now) }
     requires few { first + length elements.now < 2 ^ 64 }
-    ensures { OnOk result (out.new.items ≡ text_of (settled_as text.now ((P.layout plan.now).put (first + length elements.now)) (laying (P.layout plan.now) first (pieces_of elements.now)))) }
+    ensures { OnOk result (out.new.items ≡ text_of
+        (laying_tie text.now (P.layout plan.now) first (first + length elements.now) (pieces_of elements.now))) }
 {
     if !ends_newline(text) {
         return lay_settled(alloc, plan, first, elements, out);
@@ -287,7 +293,8 @@ pub(crate) fn carried_out_on<P: Plan>(
     plan: &P,
 ) -> Result<Edited, AllocError>
     requires { LaysLines (P.layout plan.now) }
-    ensures { IfOk result (λ edited. edited ≡ edited_by (record { script = script_of (P.layout plan.now) database.now; changed = changed })) }
+    ensures { IfOk result (λ edited.
+        edited ≡ edited_by (record { script = script_of (P.layout plan.now) database.now; changed = changed })) }
 {
     let draft = drafted(alloc, database, plan)?;
     let (patch, text) = draft.finish()?;

@@ -1,12 +1,12 @@
 //! The edit of fields of records.
-ghost use Rattle.std.specs.Prelude.{◌≡◌, ◌++◌, ◌+◌, ◌^◌, ◌<◌, ◌≤◌, ◌==◌, ◌||◌, ℕ, false, List, [], length, filter, IfOk, OnOk, MatchOption};
+ghost use Rattle.std.specs.Prelude.{◌≡◌, ◌++◌, ◌+◌, ◌^◌, ◌<◌, ◌≤◌, ◌==◌, ◌||◌, ℕ, false, List, [], length, IfOk, OnOk, MatchOption};
 ghost use Rattle.std.specs.List.{list_any, AllByRecursion};
 ghost use Rattle.rec_text.specs.Elements.{Piece, text_of};
 ghost use Rattle.rec_text.specs.Places.{piece_of, pieces_of};
 ghost use Rattle.rec_sex.specs.declared.field_list.Item.{Item as ItemOf};
 ghost use Rattle.rec_edit.specs.Rules.{renamed, picked_becomes, picks_none as none_picked, added, is_picked, setting};
 ghost use Rattle.rec_edit.specs.Marks.{is_marked, AreMarks};
-ghost use Rattle.rec_edit.specs.Endings.{fields_for, picks_index, NoneEndsAt, EndsAt};
+ghost use Rattle.rec_edit.specs.Endings.{fields_for, fields_lacking, picks_index, NoneEndsAt, EndsAt};
 ghost use Rattle.rec_edit.specs.Drafts.{AreRanges};
 
 use crate::commenting::append_commented;
@@ -40,7 +40,8 @@ fn ending_at(ranges: &[Range<usize>], index: usize) -> Option<&Range<usize>>
 /// Marks places that are counted from an index.
 fn mark_places(marks: &mut Vec<bool>, start: usize, places: &[usize]) -> Result<(), AllocError>
     requires { AllByRecursion (λ place. start + place < 2 ^ 64) places.now }
-    ensures { OnOk result (AreMarks marks.new.items (λ i. is_marked marks.old.items i || list_any (λ place. start + place == i) places.now)) }
+    ensures { OnOk result (AreMarks marks.new.items
+        (λ i. is_marked marks.old.items i || list_any (λ place. start + place == i) places.now)) }
 {
     for place in places {
         mark(marks, start + *place)?;
@@ -58,7 +59,8 @@ fn mark_picked(
 ) -> Result<(), AllocError>
     requires ordered { range.now.start ≤ range.now.end }
     requires within { range.now.end ≤ length (pieces_of elements.now) }
-    ensures { OnOk result (AreMarks marks.new.items (λ i. is_marked marks.old.items i || picks_index list.now (pieces_of elements.now) i range.now)) }
+    ensures { OnOk result (AreMarks marks.new.items
+        (λ i. is_marked marks.old.items i || picks_index list.now (pieces_of elements.now) i range.now)) }
 {
     let own = elements_in(elements, range);
     let Ok(places) = list.picks(alloc, own) else {
@@ -112,7 +114,8 @@ fn append_missing(
     value: &[u8],
     own: &[Element],
 ) -> Result<(), AllocError>
-    ensures { OnOk result (out.new.items ≡ out.old.items ++ text_of (fields_for value.now (filter (none_picked (pieces_of own.now)) items.now))) }
+    ensures { OnOk result
+        (out.new.items ≡ out.old.items ++ text_of (fields_lacking value.now items.now (pieces_of own.now))) }
 {
     for item in items {
         if picks_none(item, own) {
@@ -215,7 +218,8 @@ impl<'s, 't> Setting<'s, 't> {
         action: &'s Action,
     ) -> Result<Setting<'s, 't>, AllocError>
         requires { AreRanges (length database.now) chosen.now }
-        ensures { IfOk result (λ plan. plan ≡ record { action = action.now; items = list.now; pieces = database.now; chosen = chosen.now }) }
+        ensures { IfOk result (λ plan.
+            plan ≡ record { action = action.now; items = list.now; pieces = database.now; chosen = chosen.now }) }
     {
         let elements = database.elements();
         let picked = picked_marks(alloc, elements, chosen, list)?;

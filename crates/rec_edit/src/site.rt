@@ -1,13 +1,13 @@
 //! Where a new record is put.
-ghost use Rattle.std.specs.Prelude.{◌≡◌, ◌≤◌, ◌++◌, List, None, Some, length, reverse, slice_get, option_and_then};
+ghost use Rattle.std.specs.Prelude.{◌≡◌, ◌≤◌, ◌++◌, List, None, Some, length, reverse};
 ghost use Rattle.std.specs.List.{prefix_len};
 ghost use Rattle.std.specs.Option.{option_map_or};
 ghost use Rattle.rec_text.specs.Elements.{Piece};
 ghost use Rattle.rec_text.specs.Places.{pieces_of};
 ghost use Rattle.rec_check.specs.Stored.{described};
 ghost use Rattle.rec_edit.specs.Drafts.{AreRanges};
-ghost use Rattle.rec_edit.specs.Insertions.{is_full, behind_paragraph, before_paragraph, at_end as end_insertion, last_of as last_record_of, range_of, Insertion as InsertionOf, untyped_insertion, typed_insertion, insertion_for};
-ghost use Rattle.rec_edit.specs.Sites.{placed, heading};
+ghost use Rattle.rec_edit.specs.Insertions.{is_full, behind_paragraph, before_paragraph, at_end as end_insertion, last_of as last_record_of, last_at, descriptor_at, Insertion as InsertionOf, untyped_insertion, typed_insertion, insertion_for};
+ghost use Rattle.rec_edit.specs.Sites.{placed, placed_or, heading};
 
 use rec_check::{Schema, Set_};
 use rec_text::{Bytes, Element};
@@ -52,7 +52,8 @@ fn full_count_back(elements: &[Element]) -> usize
 /// At the end of a record's paragraph.
 fn behind(elements: &[Element], range: &Range<usize>) -> Site
     requires { range.now.end ≤ length (pieces_of elements.now) }
-    ensures { (fields : List Piece) → behind_paragraph (pieces_of elements.now) fields range.now ≡ placed result fields }
+    ensures { (fields : List Piece)
+        → behind_paragraph (pieces_of elements.now) fields range.now ≡ placed result fields }
 {
     Site {
         place: range.end + full_count(&elements[range.end..]),
@@ -63,7 +64,8 @@ fn behind(elements: &[Element], range: &Range<usize>) -> Site
 /// Before a record's paragraph.
 fn before(elements: &[Element], range: &Range<usize>) -> Site
     requires { range.now.start ≤ length (pieces_of elements.now) }
-    ensures { (fields : List Piece) → before_paragraph (pieces_of elements.now) fields range.now ≡ placed result fields }
+    ensures { (fields : List Piece)
+        → before_paragraph (pieces_of elements.now) fields range.now ≡ placed result fields }
 {
     Site {
         place: range.start - full_count_back(&elements[..range.start]),
@@ -107,8 +109,9 @@ fn behind_last(
     place: usize,
 ) -> Option<Site>
     requires { AreRanges (length (pieces_of elements.now)) records.now }
-    ensures { (fields : List Piece) (other : InsertionOf) → option_map_or (behind_paragraph (pieces_of elements.now) fields) (range_of records.now (option_and_then last_record_of (slice_get sets.now place))) other
-        ≡ option_map_or (λ site. placed site fields) result other }
+    ensures { (fields : List Piece) (other : InsertionOf)
+        → option_map_or (behind_paragraph (pieces_of elements.now) fields) (last_at records.now sets.now place) other
+        ≡ placed_or result fields other }
 {
     let index = last_of(sets.get(place)?)?;
     let last = records.get(index)?;
@@ -123,8 +126,10 @@ fn before_descriptor(
     place: usize,
 ) -> Option<Site>
     requires { AreRanges (length (pieces_of elements.now)) records.now }
-    ensures { (fields : List Piece) (other : InsertionOf) → option_map_or (before_paragraph (pieces_of elements.now) fields) (range_of records.now (option_and_then (λ s. s.head) (slice_get sets.now place))) other
-        ≡ option_map_or (λ site. placed site fields) result other }
+    ensures { (fields : List Piece) (other : InsertionOf)
+        → option_map_or (before_paragraph (pieces_of elements.now) fields)
+        (descriptor_at records.now sets.now place) other
+        ≡ placed_or result fields other }
 {
     let index = sets.get(place)?.head?;
     let descriptor = records.get(index)?;
@@ -135,7 +140,7 @@ fn before_descriptor(
 fn untyped_site(elements: &[Element], records: &[Range<usize>], sets: &[Set_]) -> Option<Site>
     requires { AreRanges (length (pieces_of elements.now)) records.now }
     ensures { (fields : List Piece) → untyped_insertion (pieces_of elements.now) records.now sets.now fields
-        ≡ option_map_or (λ site. placed site fields) result (end_insertion (pieces_of elements.now) fields) }
+        ≡ placed_or result fields (end_insertion (pieces_of elements.now) fields) }
 {
     match behind_last(elements, records, sets, 0) {
         Some(site) => Some(site),
@@ -151,8 +156,9 @@ fn typed_site(
     kind: &[u8],
 ) -> Option<Site>
     requires { AreRanges (length (pieces_of elements.now)) records.now }
-    ensures { (fields : List Piece) → typed_insertion (pieces_of elements.now) records.now (described schema.now).sets fields kind.now
-        ≡ option_map_or (λ site. placed site fields) result (end_insertion (pieces_of elements.now) (heading (Some kind.now) ++ fields)) }
+    ensures { (fields : List Piece)
+        → typed_insertion (pieces_of elements.now) records.now (described schema.now).sets fields kind.now
+        ≡ placed_or result fields (end_insertion (pieces_of elements.now) (heading (Some kind.now) ++ fields)) }
 {
     match schema.set_of_type(kind) {
         Some(place) => behind_last(elements, records, schema.sets(), place),
@@ -168,8 +174,9 @@ pub(crate) fn site_beside(
     kind: &Option<Bytes>,
 ) -> Option<Site>
     requires { AreRanges (length (pieces_of elements.now)) records.now }
-    ensures { (fields : List Piece) → insertion_for (pieces_of elements.now) records.now (described schema.now).sets kind.now fields
-        ≡ option_map_or (λ site. placed site fields) result (end_insertion (pieces_of elements.now) (heading kind.now ++ fields)) }
+    ensures { (fields : List Piece)
+        → insertion_for (pieces_of elements.now) records.now (described schema.now).sets kind.now fields
+        ≡ placed_or result fields (end_insertion (pieces_of elements.now) (heading kind.now ++ fields)) }
 {
     match kind {
         Some(kind) => typed_site(elements, records, schema, kind.as_slice()),

@@ -1,10 +1,10 @@
 //! What the list of an edit of fields means, and its names and values.
-ghost use Rattle.std.specs.Prelude.{◌≡◌, ◌++◌, List, Ok, Err, map, MatchResult};
+ghost use Rattle.std.specs.Prelude.{◌≡◌, List, Ok, Err, map, MatchResult};
 ghost use Rattle.std.specs.List.{list_all};
 ghost use Rattle.rec_text.specs.Canonical.{is_plain_name as may_be_written, is_foldable as can_be_folded};
 ghost use Rattle.rec_text.specs.Faults.{UnlessMemory};
 ghost use Rattle.rec_sex.specs.declared.field_list.Item.{Item as ItemOf};
-ghost use Rattle.rec_edit.specs.Wording.{written, unnumbered, names_of_action, values_of_action, AreItemsFor};
+ghost use Rattle.rec_edit.specs.Wording.{written_items, unnumbered, names_of_action, values_of_action, AreItemsFor};
 
 use crate::request::Action;
 use rec_sex::{FieldList, Item};
@@ -13,7 +13,9 @@ use std::alloc::Global;
 
 /// Refuses the first subscript in the list of fields that are added.
 fn require_unnumbered(action: &Action, list: &[u8]) -> Result<(), Fault>
-    ensures { (items : List ItemOf) → MatchResult result (λ _. unnumbered action.now list.now items ≡ Ok items) (λ fault. unnumbered action.now list.now items ≡ Err fault) }
+    ensures { (items : List ItemOf) → MatchResult result
+        (λ _. unnumbered action.now list.now items ≡ Ok items)
+        (λ fault. unnumbered action.now list.now items ≡ Err fault) }
 {
     let Action::Add(_) = action else {
         return Ok(());
@@ -54,8 +56,9 @@ fn gives_foldable_value(action: &Action) -> bool
 
 /// Refuses a name that recu doesn't write, and then a value.
 fn require_written(action: &Action, items: &[Item]) -> Result<(), Fault>
-    ensures { MatchResult result (λ _. written (map (λ item. item.name) items.now ++ names_of_action action.now) (values_of_action action.now) items.now ≡ Ok items.now)
-        (λ fault. written (map (λ item. item.name) items.now ++ names_of_action action.now) (values_of_action action.now) items.now ≡ Err fault) }
+    ensures { MatchResult result
+        (λ _. written_items action.now items.now ≡ Ok items.now)
+        (λ fault. written_items action.now items.now ≡ Err fault) }
 {
     if !have_plain_names(items) || !gives_plain_name(action) {
         return Err(Fault::BadName);

@@ -6,7 +6,8 @@ use std::alloc::{AllocError, Global};
 
 /// The path of a file's journal.
 pub fn journal_path(alloc: Global, file: &str, given: Option<&str>) -> Result<String, AllocError>
-    ensures { IfOk result (λ path. string_bytes path ≡ journal_of file.now (option_map (λ path. path.now) given.entry)) }
+    ensures { IfOk result (λ path.
+        string_bytes path ≡ journal_of file.now (option_map (λ path. path.now) given.entry)) }
 {
     match given {
         Some(path) => String::from_str(alloc, path),

@@ -1,5 +1,5 @@
 -- What is printed of record sets, put to a sink part by part.
-use Rattle.std.proofs.Common.{◌≡◌, ℕ, suc, Bool, true, false, cond, not, ◌==◌, if◌then◌else◌, nat_lt, ◌+◌, ◌-◌, ◌<◌, ◌≤◌, List, [], ◌∷◌, ◌++◌, Option, Some, None, Result, Ok, Err, length, take, drop, get_or, flat_map, map, refl, sym, ap, subst, ◌∙◌, inl, inr, append_assoc, append-nil, length-append, length-drop, drop-drop, add-one, drop-cons, arith}
+use Rattle.std.proofs.Common.{◌≡◌, ℕ, suc, Bool, true, false, cond, not, ◌==◌, if◌then◌else◌, nat_lt, ◌+◌, ◌-◌, ◌<◌, ◌≤◌, List, [], ◌∷◌, ◌++◌, Option, Some, None, Ok, Err, length, take, drop, get_or, flat_map, map, refl, sym, ap, subst, ◌∙◌, inl, inr, append_assoc, append-nil, length-append, length-drop, drop-drop, add-one, drop-cons, arith}
 use Rattle.std.specs.Iterator.{SkipsThenYields, Yields, YieldsFirst}
 use Rattle.std.specs.List.{filter, filter_map, find, join_with_byte, position, position_or_len, slice_get}
 use Rattle.std.specs.Option.{option_map_or}

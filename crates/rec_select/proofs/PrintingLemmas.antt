@@ -58,18 +58,6 @@ separated-more separator blocks [] =
     ap (separated separator) (full-append blocks ([] ∷ []) ∙ append-nil (full blocks)) ∙ sym (append-nil (separated separator (full blocks)))
 separated-more separator blocks (b ∷ bs) = ap (separated separator) (full-append blocks ((b ∷ bs) ∷ [])) ∙ separated-push separator (full blocks) (b ∷ bs)
 
-lead-push : (separator : List ℕ) (blocks : List (List ℕ)) (next : List ℕ) → lead separator (blocks ++ next ∷ []) ≡ separator
-lead-push separator [] next = refl
-lead-push separator (block ∷ blocks) next = refl
-
-lead-full : (separator : List ℕ) (blocks : List (List ℕ)) (next : List ℕ) → is_nil next ≡ false → lead separator (full (blocks ++ next ∷ [])) ≡ separator
-lead-full separator blocks [] holds = cc
-lead-full separator blocks (b ∷ bs) holds = ap (lead separator) (full-append blocks ((b ∷ bs) ∷ [])) ∙ lead-push separator (full blocks) (b ∷ bs)
-
-lead-empty : (separator : List ℕ) (blocks : List (List ℕ)) (next : List ℕ) → is_nil next ≡ true → lead separator (full (blocks ++ next ∷ [])) ≡ lead separator (full blocks)
-lead-empty separator blocks [] empty = ap (lead separator) (full-append blocks ([] ∷ []) ∙ append-nil (full blocks))
-lead-empty separator blocks (b ∷ bs) empty = cc
-
 -- ---- the blocks of the selected
 
 module _ (separator : List ℕ) (block : ℕ → List ℕ) (selected : List ℕ) (i : ℕ) (within : i < length selected) where
@@ -94,12 +82,6 @@ module _ (separator : List ℕ) (block : ℕ → List ℕ) (selected : List ℕ)
       let parts : map block selected ≡ done ++ left = ap (map block) (sym (take-append-drop (i + 1) selected)) ∙ map-append block (take (i + 1) selected) (drop (i + 1) selected) in
       let rest = separated-append separator (full done) (full left) in
       (rest.0, ap (λ t. separated separator (full t)) parts ∙ ap (separated separator) (full-append done left) ∙ rest.1 ∙ ap (λ t. t ++ rest.0) (rw (leads, is) separated_at))
-
-  pub lead_after_full : is_nil next ≡ false → separator ≡ lead separator (full (map block (take (i + 1) selected)))
-  lead_after_full holds = sym (ap (λ t. lead separator (full t)) map-more ∙ lead-full separator so_far next holds)
-
-  pub lead_after_empty : is_nil next ≡ true → lead separator (full so_far) ≡ lead separator (full (map block (take (i + 1) selected)))
-  lead_after_empty empty = sym (ap (λ t. lead separator (full t)) map-more ∙ lead-empty separator so_far next empty)
 
 -- ---- collapsed or not
 

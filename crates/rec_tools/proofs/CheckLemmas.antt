@@ -8,14 +8,14 @@ use Rattle.rec_text.specs.Elements.{Piece}
 use Rattle.rec_text.specs.Reading.{IsReading}
 use Rattle.rec_check.specs.Schemas.{Described, IsSchema}
 use Rattle.rec_check.specs.Violations.{AreViolations, AreViolationsOf}
-use Rattle.rec_select.specs.Printing.{Puts}
+use Rattle.rec_select.specs.Taken.{PrintsAndCounts, Puts}
 use Rattle.rec_select.specs.Report.{IsReport, report}
 use Rattle.rec_tools.specs.declared.request.Reply.{Reply}
 use Rattle.rec_tools.specs.Asking.{Base, IsBaseOf, IsBase, IsRecFile}
 use Rattle.rec_tools.specs.Printouts.{IsReportText, PutsPrintout, verdict}
 use Rattle.rec_tools.proofs.FaultLemmas.{memory_or_weaker, ok_is_no_err, same_fault, same_value}
 use Rattle.rec_tools.proofs.FileLemmas.{file-refused, file-reading}
-use Rattle.rec_tools.proofs.PutsLemmas.{PutsPrintout-refused, PutsPrintout-err}
+use Rattle.rec_tools.proofs.PutsLemmas.{refused_before, PutsPrintout-err}
 
 pub no_store_report : (file : List ℕ) → AreViolationsOf file (Err StoreFailed) → ⊥
 no_store_report file (inl h) = h
@@ -32,10 +32,10 @@ no_report : (file : List ℕ) (fault : Fault) → IsBase file (Err fault) → Ar
 no_report file fault (inl (other, unread, e)) = inl (subst (λ f. IsReading file (Err f)) (sym (same_fault fault other e)) unread)
 no_report file fault (inr (pieces, read, none)) = no_report_of file pieces fault read none
 
-pub check-no_base : (file : List ℕ) (old : Option (List ℕ)) (fault : Fault) → IsMemoryOr fault (IsRecFile file (Err fault))
-    → PutsPrintout (IsReportText (AreViolationsOf file)) old old (Err fault)
-check-no_base file old fault h =
-    PutsPrintout-refused (IsReportText (AreViolationsOf file)) old fault (no_store_report file)
+pub check-no_base : {S : Type 0} {contents : S → Option (List ℕ)} {failures : S → ℕ} (file : List ℕ) (out : S) (fault : Fault) → IsMemoryOr fault (IsRecFile file (Err fault))
+    → PrintsAndCounts contents failures out out (PutsPrintout (IsReportText (AreViolationsOf file))) (Err fault)
+check-no_base file out fault h =
+    refused_before (IsReportText (AreViolationsOf file)) out fault (no_store_report file)
     (memory_or_weaker fault _ _ (no_report file fault) (file-refused file fault h))
 
 module _ (file : List ℕ) (pieces given : List Piece) (schema : Described) (is : IsRecFile file (Ok pieces)) (of_pieces : IsSchema pieces (Ok schema)) (same : given ≡ pieces)

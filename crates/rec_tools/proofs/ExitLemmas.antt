@@ -1,12 +1,13 @@
 -- What a request does at each of its exits, from the calls that were made and what went out.
 use Rattle.std.proofs.Common.{◌≡◌, ◌⊎◌, inl, inr, ℕ, List, [], ◌∷◌, ◌++◌, take, Option, Result, Ok, Err, ap, ap₂, sym, subst, refl, ◌∙◌, append-nil}
+use Rattle.std.specs.Prelude.{IsErrOf}
 use Rattle.std.specs.Io.KnownBytes.{Appends}
 use Rattle.std.proofs.KnownBytes.{Appends-nil, Appends-kept}
 use Rattle.rec_text.specs.declared.fault.Fault.{Fault}
 use Rattle.rec_text.specs.declared.fault.Fault.TheVariants.{OutOfMemory, StoreFailed}
 use Rattle.rec_text.specs.Faults.{IsMemoryOr}
-use Rattle.rec_text.specs.Sink.{RisenAtStoreFailed}
-use Rattle.rec_select.specs.Taken.{SaysFailures}
+use Rattle.rec_text.specs.Sink.{HasRisen}
+use Rattle.rec_select.specs.Taken.{PrintsAndCounts}
 use Rattle.rec_tools.specs.declared.decision.Decision.{Decision}
 use Rattle.rec_tools.specs.declared.decision.Decision.TheVariants.{Stay, Put}
 use Rattle.rec_tools.specs.declared.home.Which.TheVariants.{Base as TheFile, Journal as TheJournal}
@@ -103,7 +104,7 @@ module _ (asked : Asked) (calls : List Call) (Tells : Contents → Type 0) (IsTe
   front_of x n text c tells = (printing x.text x.reply, n, is c tells (Ok (printing x.text x.reply)) (x, text, refl), refl)
 
   -- what went out of a printing call, and what was done
-  printed_of : (old new : Option (List ℕ)) (n m : ℕ) (answer : Answer) → PutsPrintout IsText old new answer → SaysFailures n m answer → RisenAtStoreFailed n m answer
+  printed_of : (old new : Option (List ℕ)) (n m : ℕ) (answer : Answer) → PutsPrintout IsText old new answer → IsErrOf answer StoreFailed ⊎ (m ≡ n) → (IsErrOf answer StoreFailed → HasRisen n m)
       → (text : List ℕ) × Appends old new text × ((c : Contents) → Tells c → Does c asked answer calls (record { text = text; before = n; after = m }))
   printed_of old new n m (Ok reply) put says risen = (
     put.0,
@@ -221,13 +222,12 @@ TellAll-answered c o answer calls (inr stopped) = TellAll-stopped c o.writes cal
 
 module _ {H S : Type 0} (goes : H → Call → H → Type 0) (told : S → Option (List ℕ)) (failures : S → ℕ) where
   pub attempted-printed : (old new : H) (out out_new : S) (IsText : List ℕ → Result Printout Fault → Type 0) (bytes file : List ℕ) (answer : Answer)
-      → goes old (got TheFile bytes) new → file ≡ bytes → PutsPrintout (IsText file) (told out) (told out_new) answer
-      → SaysFailures (failures out) (failures out_new) answer → RisenAtStoreFailed (failures out) (failures out_new) answer
+      → goes old (got TheFile bytes) new → file ≡ bytes → PrintsAndCounts told failures out out_new (PutsPrintout (IsText file)) answer
       → Attempted goes told failures old new out out_new (looking IsText) answer
-  attempted-printed old new out out_new IsText bytes file answer step same put says risen =
-      let on : PutsPrintout (IsText bytes) (told out) (told out_new) answer = subst (λ f. PutsPrintout (IsText f) (told out) (told out_new) answer) same put in
+  attempted-printed old new out out_new IsText bytes file answer step same written =
+      let on : PutsPrintout (IsText bytes) (told out) (told out_new) answer = subst (λ f. PutsPrintout (IsText f) (told out) (told out_new) answer) same written.printed in
       let done = printed_of (looking IsText) (got TheFile bytes ∷ []) (λ c. bytes ≡ c.file) (IsText bytes) (λ c e. file_got bytes c e)
-      (λ c e r h. subst (λ b. IsPrinting (IsText b) r) e h) (told out) (told out_new) (failures out) (failures out_new) answer on says risen in (
+      (λ c e r h. subst (λ b. IsPrinting (IsText b) r) e h) (told out) (told out_new) (failures out) (failures out_new) answer on written.told written.store_failed in (
         got TheFile bytes ∷ [],
         record { text = done.0; before = failures out; after = failures out_new },
         (done.1, refl, refl),
@@ -236,18 +236,17 @@ module _ {H S : Type 0} (goes : H → Call → H → Type 0) (told : S → Optio
 
   pub attempted-listed : (old new : H) (out out_new : S) (file journal f j : List ℕ) (answer : Answer)
       → ByCalls goes old new (λ calls. calls ≡ got TheFile file ∷ got TheJournal journal ∷ []) → f ≡ file → j ≡ journal
-      → PutsPrintout (IsShownText (IsHistory f j)) (told out) (told out_new) answer
-      → SaysFailures (failures out) (failures out_new) answer → RisenAtStoreFailed (failures out) (failures out_new) answer
+      → PrintsAndCounts told failures out out_new (PutsPrintout (IsShownText (IsHistory f j))) answer
       → Attempted goes told failures old new out out_new listing answer
-  attempted-listed old new out out_new file journal f j answer read e h put says risen =
+  attempted-listed old new out out_new file journal f j answer read e h written =
       let calls : List Call = got TheFile file ∷ got TheJournal journal ∷ [] in
       let both : Contents = record { file = file; journal = journal } in
       let on : PutsPrintout (IsShownText (IsHistory file journal)) (told out) (told out_new) answer =
       subst (λ b. PutsPrintout (IsShownText (IsHistory file b)) (told out) (told out_new) answer) h
-      (subst (λ b. PutsPrintout (IsShownText (IsHistory b j)) (told out) (told out_new) answer) e put) in
+      (subst (λ b. PutsPrintout (IsShownText (IsHistory b j)) (told out) (told out_new) answer) e written.printed) in
       let done = printed_of listing calls (λ c. both ≡ c) (IsShownText (IsHistory file journal))
       (λ c same. ap (λ (d : Contents). gots d (reads_of listing)) same) (λ c same r is. subst (λ d. IsOutcome d listing r) same (listed-outcome file journal r is))
-      (told out) (told out_new) (failures out) (failures out_new) answer on says risen in (
+      (told out) (told out_new) (failures out) (failures out_new) answer on written.told written.store_failed in (
         calls,
         record { text = done.0; before = failures out; after = failures out_new },
         (done.1, refl, refl),

@@ -1,21 +1,25 @@
 -- The history that is printed: its text, line by line, and what goes out of it.
-use Rattle.std.proofs.Common.{◌≡◌, inr, ℕ, true, false, List, [], ◌∷◌, ◌++◌, map, flat_map, reverse, Option, Ok, Err, sym, ap, ap₂, refl, ◌∙◌}
+use Rattle.std.proofs.Common.{◌≡◌, inl, inr, ℕ, true, false, List, [], ◌∷◌, ◌++◌, map, flat_map, reverse, Option, Ok, Err, sym, ap, ap₂, refl, ◌∙◌, arith}
 use Rattle.std.specs.Prelude.{codes, if◌then◌else◌}
 use Rattle.std.proofs.lemmas.List.{map-append, reverse-append}
 use Rattle.std.proofs.lemmas.List.Folds.{flat_map-map}
 use Rattle.std.proofs.lemmas.Grind.{flat_map-append}
 use Rattle.rec_text.specs.declared.fault.Fault.{Fault}
-use Rattle.rec_select.specs.Taken.{HasTaken, HasStopped}
+use Rattle.rec_text.specs.declared.fault.Fault.TheVariants.{StoreFailed}
+use Rattle.rec_text.specs.Faults.{IsMemoryOr}
+use Rattle.rec_select.specs.Taken.{HasTaken, HasStopped, PrintsAndCounts}
 use Rattle.rec_select.proofs.InfoLemmas.{IsTakenTo, IsTakenTo-more, IsTakenTo-stopped}
-use Rattle.rec_select.proofs.PutsLemmas.{Puts-prints}
+use Rattle.rec_select.proofs.PutsLemmas.{PrintsAndCounts-prints}
 use Rattle.rec_journal.specs.declared.event.Revision.{Revision}
 use Rattle.rec_journal.specs.declared.event.Tool.{Tool}
 use Rattle.rec_journal.specs.declared.steps.Step.{Step}
 use Rattle.rec_journal.specs.History.{Opened, IsOpening}
 use Rattle.rec_journal.specs.Listing.{step_of, steps_of}
+use Rattle.rec_tools.specs.declared.request.Reply.TheVariants.{Shown}
 use Rattle.rec_tools.specs.Listed.{line_of}
 use Rattle.rec_tools.specs.Printouts.{step_line, history_text, printed_history, IsHistory, IsShownText, PutsPrintout}
-use Rattle.rec_tools.proofs.PutsLemmas.{PutsPrintout-err_shown}
+use Rattle.rec_tools.proofs.FaultLemmas.{memory_or_weaker, ok_is_no_err}
+use Rattle.rec_tools.proofs.PutsLemmas.{PutsPrintout-err_shown, refused_before, refused_within, no_store_then}
 
 -- ---- the text
 
@@ -50,25 +54,37 @@ printed_history-open o settled =
 lines-cons : (step : Step) (steps left : List Step) → steps ≡ step ∷ left → flat_map line_of steps ≡ line_of step ++ flat_map line_of left
 lines-cons step steps left e = ap (flat_map line_of) e
 
-pub next_taken : {text : List ℕ} {old mid new : Option (List ℕ)} {before between after : ℕ} (step : Step) (steps left : List Step)
-    → IsTakenTo text old mid before between (flat_map line_of steps) → steps ≡ step ∷ left → HasTaken (line_of step) mid new between after
-    → IsTakenTo text old new before after (flat_map line_of left)
-next_taken step steps left so_far e taken = IsTakenTo-more (line_of step) _ so_far (lines-cons step steps left e) taken
+module _ {S : Type 0} {contents : S → Option (List ℕ)} {failures : S → ℕ} {text : List ℕ} {old mid new : S} (step : Step) (steps left : List Step)
+    (so_far : IsTakenTo contents failures old mid text (flat_map line_of steps)) (e : steps ≡ step ∷ left) where
+  pub next_taken : HasTaken contents failures mid new (line_of step) → IsTakenTo contents failures old new text (flat_map line_of left)
+  next_taken taken = IsTakenTo-more (line_of step) _ so_far (lines-cons step steps left e) taken
 
-pub next_stopped : {text : List ℕ} {old mid new : Option (List ℕ)} {before between after : ℕ} {fault : Fault} (step : Step) (steps left : List Step)
-    → IsTakenTo text old mid before between (flat_map line_of steps) → steps ≡ step ∷ left → HasStopped (line_of step) mid new between after fault
-    → HasStopped text old new before after fault
-next_stopped step steps left so_far e stopped = IsTakenTo-stopped (line_of step) (flat_map line_of left) so_far (lines-cons step steps left e) stopped
+  pub next_stopped : {fault : Fault} → HasStopped contents failures mid new (line_of step) fault → HasStopped contents failures old new text fault
+  next_stopped stopped = IsTakenTo-stopped (line_of step) (flat_map line_of left) so_far (lines-cons step steps left e) stopped
 
 -- ---- what goes out of a history
 
-module _ (file journal : List ℕ) where
-  module _ (o : Opened) (opens : IsOpening file journal (Ok o)) where
-    is_history : IsHistory file journal (Ok (printed_history o))
-    is_history = inr (o, opens, refl)
+module _ {S : Type 0} {contents : S → Option (List ℕ)} {failures : S → ℕ} (file journal : List ℕ) where
+  pub history-refused : (out : S) (fault : Fault) → IsMemoryOr fault (IsOpening file journal (Err fault))
+      → PrintsAndCounts contents failures out out (PutsPrintout (IsShownText (IsHistory file journal))) (Err fault)
+  history-refused out fault h =
+      refused_before (IsShownText (IsHistory file journal)) out fault
+      (no_store_then (IsOpening file journal) (λ o answer. answer ≡ Ok (printed_history o)) (λ h. h) (λ o e. ok_is_no_err (printed_history o) StoreFailed ⊥ e))
+      (memory_or_weaker fault _ _ (λ refused. inl (fault, refused, refl)) h)
 
-    pub history-cut_short : (X : Type 0) (old new : Option (List ℕ)) (before after : ℕ) (fault : Fault) → HasStopped (printed_history o) old new before after fault
-        → PutsPrintout (IsShownText (IsHistory file journal)) old new (Err fault)
-    history-cut_short X old new before after fault stopped =
-        PutsPrintout-err_shown X (IsHistory file journal) (IsHistory file journal) old new fault (λ r h. h)
-        (Puts-prints {X = X} (printed_history o) old new before after (IsHistory file journal) is_history (Err fault) stopped)
+  module _ (o : Opened) (opens : IsOpening file journal (Ok o)) {old new : S} where
+    pub history-cut_short : {fault : Fault} → HasStopped contents failures old new (printed_history o) fault
+        → PrintsAndCounts contents failures old new (PutsPrintout (IsShownText (IsHistory file journal))) (Err fault)
+    history-cut_short {fault} stopped =
+        refused_within
+        (PrintsAndCounts-prints {X = Unit {0}} contents failures old new (printed_history o) (IsHistory file journal) (inr (o, opens, refl)) (Err fault) stopped)
+        (PutsPrintout-err_shown (Unit {0}) (IsHistory file journal) (IsHistory file journal) (contents old) (contents new) fault (λ r h. h))
+
+    pub history-printed : HasTaken contents failures old new (printed_history o)
+        → PrintsAndCounts contents failures old new (PutsPrintout (IsShownText (IsHistory file journal))) (Ok Shown)
+    history-printed taken = record {
+      printed = (printed_history o, (inr (o, opens, refl), refl), taken.whole);
+      counted = omega (arith, taken.sound);
+      told = inr taken.sound;
+      store_failed = λ failed. cc;
+    }

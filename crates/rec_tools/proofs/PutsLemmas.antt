@@ -1,5 +1,5 @@
 -- What goes out of a request that prints, by the steps of which one may refuse it.
-use Rattle.std.proofs.Common.{◌≡◌, inl, inr, ℕ, List, Option, Some, None, Result, Ok, Err, refl, subst, sym}
+use Rattle.std.proofs.Common.{◌≡◌, inl, inr, ℕ, List, Option, Some, None, Result, Ok, Err, refl, ap, subst, sym, arith}
 use Rattle.std.specs.Io.KnownBytes.{Keeps}
 use Rattle.rec_text.specs.declared.fault.Fault.{Fault}
 use Rattle.rec_text.specs.declared.fault.Fault.TheVariants.{OutOfMemory, NoSuchType, StoreFailed}
@@ -8,7 +8,7 @@ use Rattle.rec_text.specs.Reading.{IsReading}
 use Rattle.rec_text.specs.Faults.{IsMemoryOr}
 use Rattle.rec_check.specs.declared.set.Set_.{Set_}
 use Rattle.rec_check.specs.Schemas.{IsSchema}
-use Rattle.rec_select.specs.Printing.{Puts}
+use Rattle.rec_select.specs.Taken.{PrintsAndCounts, Puts}
 use Rattle.rec_tools.specs.declared.request.Reply.{Reply}
 use Rattle.rec_tools.specs.declared.request.Reply.TheVariants.{Shown}
 use Rattle.rec_tools.specs.Asking.{Base, IsBaseOf, IsBase}
@@ -27,13 +27,6 @@ IsOutcome = Result Printout Fault → Type 0
 keeps_all : (old : Option (List ℕ)) → Keeps old old
 keeps_all None = tt
 keeps_all (Some xs) = refl
-
--- a refusal before anything was put
-pub PutsPrintout-refused : (Q : IsOutcome) (old : Option (List ℕ)) (fault : Fault) → (Q (Err StoreFailed) → ⊥)
-    → IsMemoryOr fault (Q (Err fault)) → PutsPrintout Q old old (Err fault)
-PutsPrintout-refused Q old OutOfMemory never h = inl (keeps_all old)
-PutsPrintout-refused Q old StoreFailed never h = absurd (never h)
-PutsPrintout-refused Q old _ never h = (h, keeps_all old)
 
 -- each text that may be put is one of these, with a reply
 abbrev pub HaveReplies : IsText → IsOutcome → Type 0
@@ -65,6 +58,45 @@ PutsPrintout-weaker P Q old new (Err _) f h = (f _ h.0, h.1)
 pub IsShownText-weaker : (P Q : IsText) → ((r : Result (List ℕ) Fault) → P r → Q r) → (r : Result Printout Fault) → IsShownText P r → IsShownText Q r
 IsShownText-weaker P Q f (Ok p) h = (f _ h.0, h.1)
 IsShownText-weaker P Q f (Err fault) h = f _ h
+
+-- ---- the same, and how the count of the sink's failures stands
+
+abbrev pub WentOutOf : Type 0 → Type 1
+WentOutOf X = Option (List ℕ) → Option (List ℕ) → Result X Fault → Type 0
+
+module _ {S : Type 0} {contents : S → Option (List ℕ)} {failures : S → ℕ} where
+  -- a refusal before anything was put
+  pub refused_before : (Q : IsOutcome) (out : S) (fault : Fault) → (Q (Err StoreFailed) → ⊥)
+      → IsMemoryOr fault (Q (Err fault)) → PrintsAndCounts contents failures out out (PutsPrintout Q) (Err fault)
+  refused_before Q out OutOfMemory never h =
+      record { printed = inl (keeps_all (contents out)); counted = omega arith; told = inr refl; store_failed = λ failed. cc }
+  refused_before Q out StoreFailed never h = absurd (never h)
+  refused_before Q out _ never h = record { printed = (h, keeps_all (contents out)); counted = omega arith; told = inr refl; store_failed = λ failed. cc }
+
+  -- the refusal of a call that printed is that of the whole
+  pub refused_within : {X Y : Type 0} {P : WentOutOf X} {Q : WentOutOf Y} {old new : S} {fault : Fault} → PrintsAndCounts contents failures old new P (Err fault)
+      → (P (contents old) (contents new) (Err fault) → Q (contents old) (contents new) (Err fault)) → PrintsAndCounts contents failures old new Q (Err fault)
+  refused_within h f = record {
+    printed = f h.printed;
+    counted = h.counted;
+    told = elim h.told [ inl e ↦ inl (ap Err (same_fault _ _ e)) | inr kept ↦ inr kept ];
+    store_failed = λ failed. h.store_failed (ap Err (same_fault _ _ failed));
+  }
+
+  -- a call that printed all is the last
+  pub printed_all : {X Y : Type 0} {P : WentOutOf X} {Q : WentOutOf Y} {old new : S} {done : X} {reply : Y} → PrintsAndCounts contents failures old new P (Ok done)
+      → (P (contents old) (contents new) (Ok done) → Q (contents old) (contents new) (Ok reply)) → PrintsAndCounts contents failures old new Q (Ok reply)
+  printed_all {done = done} h f = record {
+    printed = f h.printed;
+    counted = h.counted;
+    told = elim h.told [ inl e ↦ absurd (ok_is_no_err done StoreFailed ⊥ (sym e)) | inr kept ↦ inr kept ];
+    store_failed = λ failed. cc;
+  }
+
+  -- more is known of what was printed
+  pub printed_weaker : {X : Type 0} {P Q : WentOutOf X} {old new : S} {result : Result X Fault} → PrintsAndCounts contents failures old new P result
+      → (P (contents old) (contents new) result → Q (contents old) (contents new) result) → PrintsAndCounts contents failures old new Q result
+  printed_weaker h f = record { printed = f h.printed; counted = h.counted; told = h.told; store_failed = h.store_failed }
 
 -- ---- no step answers that a store failed
 

@@ -11,6 +11,7 @@ use Rattle.rec_check.specs.Sets.{is_of_type}
 use Rattle.rec_select.specs.declared.records.Shape.{Shape}
 use Rattle.rec_select.specs.Printing.{IsPrinted}
 use Rattle.rec_select.specs.Selection.{Filter, IsSelection, set_for, only_set, has_members}
+use Rattle.rec_select.specs.Taken.{PrintsAndCounts}
 use Rattle.rec_tools.specs.declared.request.Ask.{Ask}
 use Rattle.rec_tools.specs.declared.request.Ask.TheVariants.{All, Expr, Index, Quick}
 use Rattle.rec_tools.specs.declared.request.Form.{Form}
@@ -21,7 +22,7 @@ use Rattle.rec_tools.specs.Printouts.{IsShowOf, IsShow, IsShownText, PutsPrintou
 use Rattle.rec_tools.specs.Steps.{Then}
 use Rattle.rec_tools.proofs.FaultLemmas.{memory_or_weaker, same_fault}
 use Rattle.rec_tools.proofs.FileLemmas.{based, file-refused, file-base, file-some_base}
-use Rattle.rec_tools.proofs.PutsLemmas.{PutsPrintout-refused, no_store_then, no_store_base, no_store_base_of, no_store_type}
+use Rattle.rec_tools.proofs.PutsLemmas.{refused_before, no_store_then, no_store_base, no_store_base_of, no_store_type}
 
 -- ---- what is asked for
 
@@ -75,10 +76,10 @@ no_store_of_pieces pieces kind wanted shape collapse =
 -- the records of elements that were given, with their schema
 module _ (pieces given : List Piece) (schema : Described) (is : IsSchema pieces (Ok schema)) (same : given ≡ pieces)
     (kind : Option (List ℕ)) (wanted : Filter) (shape : Shape) (collapse : Bool) where
-  pub show_of-refused : (old : Option (List ℕ)) (fault : Fault) → IsMemoryOr fault (IsSelection given schema.sets kind wanted (Err fault))
-      → PutsPrintout (IsShownText (Then (IsBaseOf pieces) (λ base. IsShowOf base kind wanted shape collapse))) old old (Err fault)
-  show_of-refused old fault h =
-      PutsPrintout-refused (IsShownText (Then (IsBaseOf pieces) (λ base. IsShowOf base kind wanted shape collapse))) old fault (no_store_of_pieces pieces kind wanted shape collapse)
+  pub show_of-refused : {S : Type 0} {contents : S → Option (List ℕ)} {failures : S → ℕ} (out : S) (fault : Fault) → IsMemoryOr fault (IsSelection given schema.sets kind wanted (Err fault))
+      → PrintsAndCounts contents failures out out (PutsPrintout (IsShownText (Then (IsBaseOf pieces) (λ base. IsShowOf base kind wanted shape collapse)))) (Err fault)
+  show_of-refused out fault h =
+      refused_before (IsShownText (Then (IsBaseOf pieces) (λ base. IsShowOf base kind wanted shape collapse))) out fault (no_store_of_pieces pieces kind wanted shape collapse)
       (memory_or_weaker fault _ _ (λ none. inr (
         record { pieces = pieces; schema = schema },
         based pieces schema is,
@@ -105,9 +106,9 @@ module _ (file : List ℕ) (pick : Pick) (form : Form) (collapse : Bool) where
       (no_store_filter pick.by) (λ wanted. no_store_then (IsShape form) (λ shape. IsShowOf base pick.kind wanted shape collapse)
       (no_store_shape form) (λ shape. no_store_show_of base pick.kind wanted shape collapse)))
 
-  pub show-no_base : (old : Option (List ℕ)) (fault : Fault) → IsMemoryOr fault (IsRecFile file (Err fault)) → PutsPrintout (IsShownText (IsShow file pick form collapse)) old old (Err fault)
-  show-no_base old fault h =
-      PutsPrintout-refused (IsShownText (IsShow file pick form collapse)) old fault no_store_show
+  pub show-no_base : {S : Type 0} {contents : S → Option (List ℕ)} {failures : S → ℕ} (out : S) (fault : Fault) → IsMemoryOr fault (IsRecFile file (Err fault)) → PrintsAndCounts contents failures out out (PutsPrintout (IsShownText (IsShow file pick form collapse))) (Err fault)
+  show-no_base out fault h =
+      refused_before (IsShownText (IsShow file pick form collapse)) out fault no_store_show
       (memory_or_weaker fault _ _ (λ refused. inl (fault, refused, refl)) (file-refused file fault h))
 
   module _ (pieces : List Piece) (is : IsRecFile file (Ok pieces)) where
@@ -119,9 +120,9 @@ module _ (file : List ℕ) (pick : Pick) (form : Form) (collapse : Bool) where
         let base = file-some_base file pieces is in
         inr (base.0, base.1, inr (wanted, found, inl (fault, refused, refl)))
 
-    pub show-not_asked : (old : Option (List ℕ)) (fault : Fault) → IsMemoryOr fault (Then {B = Shape} (IsFilter pick.by) (λ _. IsShape form) (Err fault))
-        → PutsPrintout (IsShownText (IsShow file pick form collapse)) old old (Err fault)
-    show-not_asked old fault h = PutsPrintout-refused (IsShownText (IsShow file pick form collapse)) old fault no_store_show (memory_or_weaker fault _ _ (asked fault) h)
+    pub show-not_asked : {S : Type 0} {contents : S → Option (List ℕ)} {failures : S → ℕ} (out : S) (fault : Fault) → IsMemoryOr fault (Then {B = Shape} (IsFilter pick.by) (λ _. IsShape form) (Err fault))
+        → PrintsAndCounts contents failures out out (PutsPrintout (IsShownText (IsShow file pick form collapse))) (Err fault)
+    show-not_asked out fault h = refused_before (IsShownText (IsShow file pick form collapse)) out fault no_store_show (memory_or_weaker fault _ _ (asked fault) h)
 
     pub show-printed : (kind : Option (List ℕ)) (wanted : Filter) (shape : Shape) → kind ≡ pick.kind → IsFilter pick.by (Ok wanted) → IsShape form (Ok shape)
         → (r : Result (List ℕ) Fault) → Then (IsBaseOf pieces) (λ base. IsShowOf base kind wanted shape collapse) r → IsShow file pick form collapse r

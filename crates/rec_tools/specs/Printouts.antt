@@ -90,8 +90,8 @@ IsHistory file journal = Then (IsOpening file journal) (λ o answer. answer ≡ 
 
 -- ---- what went out
 
--- What a call put out that prints or refuses: at success the whole text, with the reply that belongs to it; at a want of
--- memory, and where the sink failed, a front of the text; at another refusal nothing.
+-- What went out of a call that prints or refuses: at success the whole text, with the reply that belongs to it; where memory
+-- ran out or the sink failed, a prefix of the text; at another refusal nothing.
 abbrev pub PutsPrintout : (Result Printout Fault → Type 0) → Option (List ℕ) → Option (List ℕ) → Result Reply Fault → Type 0
 PutsPrintout IsOutcome old new (Ok reply) = (text : List ℕ) × IsOutcome (Ok (record { text = text; reply = reply })) × Appends old new text
 PutsPrintout IsOutcome old new (Err OutOfMemory) = Keeps old new ⊎ ((p : Printout) × IsOutcome (Ok p) × AppendsFront old new p.text)

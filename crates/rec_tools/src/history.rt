@@ -1,8 +1,7 @@
 //! Prints the history of a file.
-ghost use Rattle.std.specs.Prelude.{◌≤◌, codes, flat_map, Ok, IfErr, if◌then◌else◌};
+ghost use Rattle.std.specs.Prelude.{codes, flat_map, Ok, IfErr, IsOkUnless, if◌then◌else◌};
 ghost use Rattle.rec_text.specs.Faults.{UnlessMemory};
-ghost use Rattle.rec_text.specs.Sink.{RisenAtStoreFailed, UnlessStoreFailed};
-ghost use Rattle.rec_select.specs.Taken.{Prints, SaysFailures};
+ghost use Rattle.rec_select.specs.Taken.{Prints, PrintsAndCounts};
 ghost use Rattle.rec_journal.specs.History.{IsOpening};
 ghost use Rattle.rec_tools.specs.Steps.{IsRefusal};
 ghost use Rattle.rec_tools.specs.Printouts.{IsHistory, IsShownText, PutsPrintout, printed_history};
@@ -25,8 +24,8 @@ pub fn history_of(alloc: Global, file: &[u8], journal: &[u8]) -> Result<History,
 
 /// Prints an edit, in a line.
 fn write_step<S: Sink>(step: Step, out: &mut S) -> Result<(), Fault>
-    ensures printed { Prints (line_of step) (S.contents out.old) (S.contents out.new) (S.failure_count out.old) (S.failure_count out.new) result }
-    ensures refusals { UnlessStoreFailed result }
+    ensures printed { Prints S.contents S.failure_count out.old out.new (line_of step) result }
+    ensures refusals { IsOkUnless result Fault.StoreFailed }
 {
     let word: &[u8] = if step.done { b"done" } else { b"undone" };
     let mut buffer = Buffer::new();
@@ -35,8 +34,8 @@ fn write_step<S: Sink>(step: Step, out: &mut S) -> Result<(), Fault>
 }
 
 fn write_steps<S: Sink>(steps: Steps, out: &mut S) -> Result<(), Fault>
-    ensures printed { Prints (flat_map line_of steps.entry) (S.contents out.old) (S.contents out.new) (S.failure_count out.old) (S.failure_count out.new) result }
-    ensures refusals { UnlessStoreFailed result }
+    ensures printed { Prints S.contents S.failure_count out.old out.new (flat_map line_of steps.entry) result }
+    ensures refusals { IsOkUnless result Fault.StoreFailed }
 {
     for step in steps {
         write_step(step, out)?;
@@ -45,8 +44,8 @@ fn write_steps<S: Sink>(steps: Steps, out: &mut S) -> Result<(), Fault>
 }
 
 fn write_history<S: Sink>(history: &History, out: &mut S) -> Result<(), Fault>
-    ensures printed { Prints (printed_history history.now) (S.contents out.old) (S.contents out.new) (S.failure_count out.old) (S.failure_count out.new) result }
-    ensures refusals { UnlessStoreFailed result }
+    ensures printed { Prints S.contents S.failure_count out.old out.new (printed_history history.now) result }
+    ensures refusals { IsOkUnless result Fault.StoreFailed }
 {
     if history.is_drifted() {
         return put_all(out, b"drifted\n");
@@ -61,10 +60,8 @@ pub fn print_history<S: Sink>(
     journal: &[u8],
     out: &mut S,
 ) -> Result<Reply, Fault>
-    ensures printed { PutsPrintout (IsShownText (IsHistory file.now journal.now)) (S.contents out.old) (S.contents out.new) result }
-    ensures counted { S.failure_count out.old ≤ S.failure_count out.new }
-    ensures told { SaysFailures (S.failure_count out.old) (S.failure_count out.new) result }
-    ensures store_failed { RisenAtStoreFailed (S.failure_count out.old) (S.failure_count out.new) result }
+    ensures written { PrintsAndCounts S.contents S.failure_count out.old out.new
+        (PutsPrintout (IsShownText (IsHistory file.now journal.now))) result }
     ensures refusals { IfErr result IsRefusal }
 {
     let history = history_of(alloc, file, journal)?;

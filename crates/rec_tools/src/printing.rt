@@ -1,9 +1,8 @@
 //! The requests that print.
-ghost use Rattle.std.specs.Prelude.{◌≡◌, ◌≤◌, option_map, IfErr};
+ghost use Rattle.std.specs.Prelude.{◌≡◌, option_map, IfErr};
 ghost use Rattle.rec_check.specs.Violations.{AreViolationsOf};
 ghost use Rattle.rec_select.specs.Selection.{filter_of};
-ghost use Rattle.rec_select.specs.Taken.{SaysFailures};
-ghost use Rattle.rec_text.specs.Sink.{RisenAtStoreFailed};
+ghost use Rattle.rec_select.specs.Taken.{PrintsAndCounts};
 ghost use Rattle.rec_tools.specs.Steps.{Then, IsRefusal};
 ghost use Rattle.rec_tools.specs.Asking.{IsBaseOf};
 ghost use Rattle.rec_tools.specs.Printouts.{IsShowOf, IsShow, IsInfoOf, IsShownText, IsReportText, PutsPrintout, verdict};
@@ -23,10 +22,9 @@ fn print_wanted<S: Sink>(
     collapse: bool,
     out: &mut S,
 ) -> Result<Reply, Fault>
-    ensures printed { PutsPrintout (IsShownText (Then (IsBaseOf base.now) (λ base. IsShowOf base wanted.now.selection.kind (filter_of wanted.now.selection.by) wanted.now.shape collapse))) (S.contents out.old) (S.contents out.new) result }
-    ensures counted { S.failure_count out.old ≤ S.failure_count out.new }
-    ensures told { SaysFailures (S.failure_count out.old) (S.failure_count out.new) result }
-    ensures store_failed { RisenAtStoreFailed (S.failure_count out.old) (S.failure_count out.new) result }
+    ensures written { PrintsAndCounts S.contents S.failure_count out.old out.new
+        (PutsPrintout (IsShownText (Then (IsBaseOf base.now) (λ base. IsShowOf base wanted.now.selection.kind
+        (filter_of wanted.now.selection.by) wanted.now.shape collapse)))) result }
     ensures refusals { IfErr result IsRefusal }
 {
     let database = base.database();
@@ -44,10 +42,8 @@ pub fn show<S: Sink>(
     collapse: bool,
     out: &mut S,
 ) -> Result<Reply, Fault>
-    ensures printed { PutsPrintout (IsShownText (IsShow file.now pick.now form.now collapse)) (S.contents out.old) (S.contents out.new) result }
-    ensures counted { S.failure_count out.old ≤ S.failure_count out.new }
-    ensures told { SaysFailures (S.failure_count out.old) (S.failure_count out.new) result }
-    ensures store_failed { RisenAtStoreFailed (S.failure_count out.old) (S.failure_count out.new) result }
+    ensures written { PrintsAndCounts S.contents S.failure_count out.old out.new
+        (PutsPrintout (IsShownText (IsShow file.now pick.now form.now collapse))) result }
     ensures refusals { IfErr result IsRefusal }
 {
     let base = RecFile::read(alloc, file)?;
@@ -73,10 +69,8 @@ pub fn inform<S: Sink>(
     form: InfoForm,
     out: &mut S,
 ) -> Result<Reply, Fault>
-    ensures printed { PutsPrintout (IsShownText (IsInfoOf file.now kind.now form)) (S.contents out.old) (S.contents out.new) result }
-    ensures counted { S.failure_count out.old ≤ S.failure_count out.new }
-    ensures told { SaysFailures (S.failure_count out.old) (S.failure_count out.new) result }
-    ensures store_failed { RisenAtStoreFailed (S.failure_count out.old) (S.failure_count out.new) result }
+    ensures written { PrintsAndCounts S.contents S.failure_count out.old out.new
+        (PutsPrintout (IsShownText (IsInfoOf file.now kind.now form))) result }
     ensures refusals { IfErr result IsRefusal }
 {
     let base = RecFile::read(alloc, file)?;
@@ -96,10 +90,8 @@ fn verdict_on(found: &[Violation]) -> Reply
 
 /// Prints where a file breaks the rules of its record sets.
 pub fn check<S: Sink>(alloc: Global, file: &[u8], out: &mut S) -> Result<Reply, Fault>
-    ensures printed { PutsPrintout (IsReportText (AreViolationsOf file.now)) (S.contents out.old) (S.contents out.new) result }
-    ensures counted { S.failure_count out.old ≤ S.failure_count out.new }
-    ensures told { SaysFailures (S.failure_count out.old) (S.failure_count out.new) result }
-    ensures store_failed { RisenAtStoreFailed (S.failure_count out.old) (S.failure_count out.new) result }
+    ensures written { PrintsAndCounts S.contents S.failure_count out.old out.new
+        (PutsPrintout (IsReportText (AreViolationsOf file.now))) result }
     ensures refusals { IfErr result IsRefusal }
 {
     let base = RecFile::read(alloc, file)?;

@@ -6,5 +6,4 @@ use Rattle.rec_tools.proofs.history.write_steps.Given as goal
 -- the lines of the steps that are left are still to be put
 abbrev pub invariant-loop-step : goal.invariant-loop-step
 invariant-loop-step g l =
-    IsTakenTo (flat_map line_of l.fn.steps) (g.S.Sink.contents l.fn.out) (g.S.Sink.contents l.out)
-    (g.S.Sink.failure_count l.fn.out) (g.S.Sink.failure_count l.out) (flat_map line_of l.step-iterator)
+    IsTakenTo g.S.Sink.contents g.S.Sink.failure_count l.fn.out l.out (flat_map line_of l.fn.steps) (flat_map line_of l.step-iterator)

@@ -11,7 +11,7 @@ returns-in_err-file-in-Show-clause-attempts g c =
 
 pub returns-in_ok-file-in-Show-clause-attempts : goal.returns-in_ok-file-in-Show-clause-attempts
 returns-in_ok-file-in-Show-clause-attempts g c =
-    rw c.in-Show.is (attempted-printed _ g.S.Sink.contents g.S.Sink.failure_count _ _ c.args.out.now c.show.new.out _ _ _ _ c.in_ok-file-in-Show.ensures.call c.as_slice.ensures c.show.ensures.printed c.show.ensures.told c.show.ensures.store_failed)
+    rw c.in-Show.is (attempted-printed _ g.S.Sink.contents g.S.Sink.failure_count _ _ c.args.out.now c.show.new.out _ _ _ _ c.in_ok-file-in-Show.ensures.call c.as_slice.ensures c.show.ensures.written)
 
 -- ---- record sets are printed
 
@@ -21,7 +21,7 @@ returns-in_err-file-in-Info-clause-attempts g c =
 
 pub returns-in_ok-file-in-Info-clause-attempts : goal.returns-in_ok-file-in-Info-clause-attempts
 returns-in_ok-file-in-Info-clause-attempts g c =
-    rw c.in-Info.is (attempted-printed _ g.S.Sink.contents g.S.Sink.failure_count _ _ c.args.out.now c.inform.new.out _ _ _ _ c.in_ok-file-in-Info.ensures.call c.as_slice-in-Info.ensures c.inform.ensures.printed c.inform.ensures.told c.inform.ensures.store_failed)
+    rw c.in-Info.is (attempted-printed _ g.S.Sink.contents g.S.Sink.failure_count _ _ c.args.out.now c.inform.new.out _ _ _ _ c.in_ok-file-in-Info.ensures.call c.as_slice-in-Info.ensures c.inform.ensures.written)
 
 -- ---- violations are reported
 
@@ -31,7 +31,7 @@ returns-in_err-file-in-Check-clause-attempts g c =
 
 pub returns-in_ok-file-in-Check-clause-attempts : goal.returns-in_ok-file-in-Check-clause-attempts
 returns-in_ok-file-in-Check-clause-attempts g c =
-    rw c.in-Check.is (attempted-printed _ g.S.Sink.contents g.S.Sink.failure_count _ _ c.args.out.now c.check.new.out _ _ _ _ c.in_ok-file-in-Check.ensures.call c.as_slice-in-Check.ensures c.check.ensures.printed c.check.ensures.told c.check.ensures.store_failed)
+    rw c.in-Check.is (attempted-printed _ g.S.Sink.contents g.S.Sink.failure_count _ _ c.args.out.now c.check.new.out _ _ _ _ c.in_ok-file-in-Check.ensures.call c.as_slice-in-Check.ensures c.check.ensures.written)
 
 -- ---- records are edited
 

@@ -9,4 +9,4 @@ returns-in_err-file-clause-attempts g c =
 pub returns-clause-attempts : goal.returns-clause-attempts
 returns-clause-attempts g c =
     attempted-listed _ g.S.Sink.contents g.S.Sink.failure_count _ _ c.args.out.now c.print_history.new.out _ _ _ _ _
-    c.in_ok-file.ensures.calls c.as_slice.ensures c.as_slice-2.ensures c.print_history.ensures.printed c.print_history.ensures.told c.print_history.ensures.store_failed
+    c.in_ok-file.ensures.calls c.as_slice.ensures c.as_slice-2.ensures c.print_history.ensures.written

@@ -116,7 +116,7 @@ def functions_of(path, exported, own_traits):
 
 
 def all_functions_of(crate):
-    exported, sources = exports_of(crate), sorted(glob.glob(f"crates/{crate}/src/*.rt"))
+    exported, sources = exports_of(crate), sorted(glob.glob(f"crates/{crate}/src/**/*.rt", recursive=True))
     own_traits = re.findall(r"^(?:pub |pub\(crate\) )?trait (\w+)", "\n".join(read(path) for path in sources), re.M)
     return [one for path in sources for one in functions_of(path, exported, own_traits)]
 
@@ -169,7 +169,7 @@ def listed(crate):
 
 def grown(crate):
     """A test is a case `growth_of_..` of crates/rec_calls, or one of tests/memory.bats, whose name stands in quotes."""
-    sources = "\n".join(read(path) for path in glob.glob("crates/rec_calls/src/*.rt"))
+    sources = "\n".join(read(path) for path in glob.glob("crates/rec_calls/src/**/*.rt", recursive=True))
     tests = re.findall(r"^fn (growth_of_\w+)", sources, re.M) + re.findall(r'^@test "(.*)"', read("tests/memory.bats"), re.M)
     signatures = {one.name: text_of(one).partition("{")[0] for one in all_functions_of(crate)}
     for row in rows_of(crate):

@@ -1,3 +1,5 @@
+-- what the words of a command line ask for, and what it means
 pub mod Usage
-pub mod Options
 pub mod Words
+-- what serves proofs
+pub mod Options

@@ -28,7 +28,11 @@ has_flag name options = option_map_or (λ text. bytes_eq text (codes "true")) (o
 
 -- the texts of `--expression`, `--number` and `--quick`
 abbrev pub selection_given : List Row → Option Text × Option Text × Option Text
-selection_given options = (first_of (codes "expression") options, first_of (codes "number") options, first_of (codes "quick") options)
+selection_given options = (
+  first_of (codes "expression") options,
+  first_of (codes "number") options,
+  first_of (codes "quick") options,
+)
 
 -- and what they are where these records are asked for: one of them is given, or none
 abbrev pub selection_for : Ask → Option Text × Option Text × Option Text
@@ -92,34 +96,42 @@ action_for CommentFields = (None, None, None, None, false, true)
 abbrev pub texts_given : Text → List Row → List Text
 texts_given name options = unwrap_or (all_of name options) []
 
--- the new record that the options give: by `--field` and `--value`, which belong together place by place, or by `--record`
+-- the new record that the options give: by `--field` and `--value`, which belong together place by place, or else by
+-- `--record`
 abbrev pub IsFresh : List Row → NewRecord → Type 0
 IsFresh options (Pairs pairs) = (first_of (codes "record") options ≡ None)
-    × (map (λ pair. pair.name) pairs.items ≡ texts_given (codes "field") options) × (map (λ pair. pair.value) pairs.items ≡ texts_given (codes "value") options)
+    × (map (λ pair. pair.name) pairs.items ≡ texts_given (codes "field") options)
+    × (map (λ pair. pair.value) pairs.items ≡ texts_given (codes "value") options)
 IsFresh options (TextOfIt text) = (first_of (codes "record") options ≡ Some text)
     × (texts_given (codes "field") options ≡ []) × (texts_given (codes "value") options ≡ [])
 
 -- the request of a tool and of the options that are found
 abbrev pub Asks : Text → List Row → Request → Type 0
 Asks tool options (Show pick form collapse) =
-    (tool ≡ codes "recsel") × IsPick options pick × (form_for form ≡ form_given options) × (collapse ≡ has_flag (codes "collapse") options)
+    (tool ≡ codes "recsel") × IsPick options pick × (form_for form ≡ form_given options)
+    × (collapse ≡ has_flag (codes "collapse") options)
 Asks tool options (Info kind form) =
     (tool ≡ codes "recinf") × (kind ≡ first_of (codes "type") options) × (info_form_for form ≡ info_form_given options)
 Asks tool options Check = (tool ≡ codes "recfix") × (has_flag (codes "auto") options ≡ false)
 Asks tool options (Insert kind fresh auto force) =
-    (tool ≡ codes "recins") × (selection_given options ≡ selection_for All) × (kind ≡ first_of (codes "type") options) × IsFresh options fresh
-    × (auto ≡ not (has_flag (codes "no-auto") options)) × (force ≡ has_flag (codes "force") options)
-Asks tool options (Replace pick fresh force) =
-    (tool ≡ codes "recins") × (selection_given options ≢ selection_for All) × IsPick options pick × IsFresh options fresh × (force ≡ has_flag (codes "force") options)
-Asks tool options (Delete pick force) =
-    (tool ≡ codes "recdel") × (has_flag (codes "comment") options ≡ false) × IsPick options pick × (force ≡ has_flag (codes "force") options)
-Asks tool options (CommentOut pick force) =
-    (tool ≡ codes "recdel") × (has_flag (codes "comment") options ≡ true) × IsPick options pick × (force ≡ has_flag (codes "force") options)
-Asks tool options (Set pick list action force) =
-    (tool ≡ codes "recset") × IsPick options pick × (first_of (codes "fields") options ≡ Some list) × (action_for action ≡ action_given options)
+    (tool ≡ codes "recins") × (selection_given options ≡ selection_for All) × (kind ≡ first_of (codes "type") options)
+    × IsFresh options fresh × (auto ≡ not (has_flag (codes "no-auto") options))
     × (force ≡ has_flag (codes "force") options)
+Asks tool options (Replace pick fresh force) =
+    (tool ≡ codes "recins") × (selection_given options ≢ selection_for All) × IsPick options pick
+    × IsFresh options fresh × (force ≡ has_flag (codes "force") options)
+Asks tool options (Delete pick force) =
+    (tool ≡ codes "recdel") × (has_flag (codes "comment") options ≡ false) × IsPick options pick
+    × (force ≡ has_flag (codes "force") options)
+Asks tool options (CommentOut pick force) =
+    (tool ≡ codes "recdel") × (has_flag (codes "comment") options ≡ true) × IsPick options pick
+    × (force ≡ has_flag (codes "force") options)
+Asks tool options (Set pick list action force) =
+    (tool ≡ codes "recset") × IsPick options pick × (first_of (codes "fields") options ≡ Some list)
+    × (action_for action ≡ action_given options) × (force ≡ has_flag (codes "force") options)
 Asks tool options (AutoFill force) =
-    (tool ≡ codes "recfix") × (has_flag (codes "auto") options ≡ true) × (has_flag (codes "check") options ≡ false) × (force ≡ has_flag (codes "force") options)
+    (tool ≡ codes "recfix") × (has_flag (codes "auto") options ≡ true) × (has_flag (codes "check") options ≡ false)
+    × (force ≡ has_flag (codes "force") options)
 Asks tool options Undo = tool ≡ codes "undo"
 Asks tool options Redo = tool ≡ codes "redo"
 Asks tool options History = tool ≡ codes "history"
@@ -133,7 +145,7 @@ pub record IsEditJournal (file given journal : Option (List ℕ)) : Type 0 where
   pub kept : journal ≡ Some (journal_of path given)
   pub apart : AreApart path (journal_of path given)
 
--- A request that prints of the file alone has no journal. Where the paths of both are given, they are apart all the same.
+-- A request that prints of the file alone has no journal. Where both paths are given, they are apart all the same.
 abbrev pub HasNoJournal : Option (List ℕ) → Option (List ℕ) → Option (List ℕ) → Type 0
 HasNoJournal (Some file) (Some given) journal = (journal ≡ None) × AreApart file given
 HasNoJournal _ _ journal = journal ≡ None

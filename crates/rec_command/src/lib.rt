@@ -1,9 +1,10 @@
-//! The words of the command line: the request that they ask for and the paths that they name, or what is wrong with them.
-//! `specs/` defines what each word means.
+//! The words of the command line: the request and the paths that they ask for, or what is wrong with them.
+//! `specs/` defines what each word means. An option is a row of `options`; `args/usage` tells clap of it, and
+//! `args/selecting` and `args/editing` read what was given of it.
 #![tactic(auto)]
 
 mod args;
 mod hints;
 mod options;
 
-pub use args::{Asked, explain, request_of, words};
+pub use args::{Asked, Refusal, parse, request_of, words};

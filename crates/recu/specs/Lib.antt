@@ -1,1 +1,2 @@
+-- what the program ends with, and what it means
 pub mod Status

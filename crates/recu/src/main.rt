@@ -4,8 +4,8 @@
 mod output;
 mod status;
 
-use output::StandardOutput;
-use rec_command::Asked;
+use output::{StandardOutput, room_for};
+use rec_command::{Asked, Refusal, parse, words};
 use rec_files::{FileHome, access_of};
 use rec_tools::{Fault, Output, Reply};
 use std::io;
@@ -13,9 +13,7 @@ use std::process::ExitCode;
 use std::rt::Runtime;
 
 fn main(rt: HostRuntime) -> ExitCode {
-    let Some(answer) = answer(&rt) else {
-        return ExitCode::SUCCESS;
-    };
+    let answer = answer(&rt);
     let mut err = Output {
         writer: rt.stderr(),
         failed: 0,
@@ -23,25 +21,28 @@ fn main(rt: HostRuntime) -> ExitCode {
     ExitCode::from(status::finish(&answer, &mut err))
 }
 
-/// The answer to the command line, or nothing where it asked for help, which is shown then.
-fn answer(rt: &HostRuntime) -> Option<Result<Reply, Fault>> {
-    let words = match rec_command::words(rt) {
-        Ok(words) => words,
-        Err(fault) => return Some(Err(fault)),
-    };
-    match rec_command::request_of(rt.alloc(), words.as_slice()) {
-        Ok(asked) => Some(run(rt, asked)),
-        Err(fault) => match rec_command::explain(rt, words.as_slice()) {
-            Ok(true) => None,
-            Ok(false) => Some(Err(fault)),
-            Err(error) if error.kind() == io::ErrorKind::OutOfMemory => {
-                Some(Err(Fault::OutOfMemory))
-            }
-            Err(error) => {
-                let _ = output::explain(rt, error);
-                Some(Err(Fault::StoreFailed))
-            }
-        },
+/// The answer to the command line; to one that asks for help there is none.
+fn answer(rt: &HostRuntime) -> Result<Option<Reply>, Fault> {
+    let words = words(rt)?;
+    match parse(rt.alloc(), words.as_slice()) {
+        Ok(asked) => Ok(Some(run(rt, asked)?)),
+        Err(refusal) => {
+            explain(rt, &refusal, words.as_slice())?;
+            Ok(None)
+        }
+    }
+}
+
+/// Prints the help that the words ask for. Where they don't, it says what is wrong with them, and they are refused.
+fn explain(rt: &HostRuntime, refusal: &Refusal, words: &[String]) -> Result<(), Fault> {
+    match refusal.explain(rt, words) {
+        Ok(true) => Ok(()),
+        Ok(false) => Err(refusal.fault()),
+        Err(error) if error.kind() == io::ErrorKind::OutOfMemory => Err(Fault::OutOfMemory),
+        Err(error) => {
+            let _ = output::explain(rt, error);
+            Err(Fault::StoreFailed)
+        }
     }
 }
 
@@ -51,8 +52,9 @@ fn run(rt: &HostRuntime, asked: Asked) -> Result<Reply, Fault> {
         file,
         journal,
     } = asked;
-    let mut home = FileHome::new(rt, file, journal, access_of(&request));
-    let Ok(mut out) = StandardOutput::new(rt.alloc(), rt.stdout()) else {
+    let access = access_of(&request);
+    let mut home = FileHome::new(rt, file, journal, access);
+    let Ok(mut out) = StandardOutput::new(rt.alloc(), room_for(access), rt.stdout()) else {
         return Err(Fault::OutOfMemory);
     };
     let answer = match rec_tools::run(rt.alloc(), &mut home, &mut out, &request) {

@@ -1,9 +1,10 @@
 //! Standard output.
-ghost use Rattle.std.specs.Prelude.{◌≡◌, ◌≤◌, [], Some, IfOk, OnOk};
+ghost use Rattle.std.specs.Prelude.{◌≡◌, ◌≤◌, [], Some, IfOk, OnOk, IsOkUnless};
 ghost use Rattle.std.specs.Io.Buffered.{writer_buffer, writer_contents, writer_inner};
 ghost use Rattle.std.specs.Io.KnownBytes.{Keeps};
-ghost use Rattle.rec_text.specs.Sink.{KeptAtSuccess, RisenAtStoreFailed, UnlessStoreFailed, one_more};
+ghost use Rattle.rec_text.specs.Sink.{KeptAtSuccess, RisenAtStoreFailed, one_more};
 
+use rec_files::Access;
 use rec_tools::{Fault, Sink};
 use std::alloc::Global;
 use std::io;
@@ -11,6 +12,14 @@ use std::io::{BufWriter, Error, ErrorKind, Write};
 
 /// Output goes out in pieces of this size.
 const PIECE: usize = 65_536;
+
+/// How many bytes of output are held for a request. One that may edit prints nothing, and needs no memory for it.
+pub fn room_for(access: Access) -> usize {
+    match access {
+        Access::Look => PIECE,
+        Access::Change => 0,
+    }
+}
 
 /// Standard output, in pieces. It keeps its last failure, for `explain`.
 #[derive(Drop)]
@@ -21,13 +30,14 @@ pub struct StandardOutput<W: Write + Drop> {
 }
 
 impl<W: Write + Drop> StandardOutput<W> {
-    pub fn new(alloc: Global, writer: W) -> io::Result<StandardOutput<W>>
+    /// It holds at most `room` bytes; where that is 0, each write goes out at once.
+    pub fn new(alloc: Global, room: usize, writer: W) -> io::Result<StandardOutput<W>>
         ensures writer { IfOk result (λ output. writer_inner output.writer ≡ writer) }
         ensures empty { IfOk result (λ output. writer_buffer output.writer ≡ []) }
         ensures sound { IfOk result (λ output. output.failed ≡ 0) }
     {
         Ok(StandardOutput {
-            writer: BufWriter::with_capacity(alloc, PIECE, writer)?,
+            writer: BufWriter::with_capacity(alloc, room, writer)?,
             failed: 0,
             failure: None,
         })
@@ -36,10 +46,11 @@ impl<W: Write + Drop> StandardOutput<W> {
     /// Lets out what is still held.
     pub fn finish(&mut self) -> Result<(), Fault>
         ensures let_out { OnOk result (writer_buffer self.new.writer ≡ []) }
-        ensures bytes { Keeps (writer_contents W.contents self.old.writer) (writer_contents W.contents self.new.writer) }
+        ensures bytes { Keeps (writer_contents W.contents self.old.writer)
+            (writer_contents W.contents self.new.writer) }
         ensures kept { KeptAtSuccess self.old.failed self.new.failed result }
         ensures store_failed { RisenAtStoreFailed self.old.failed self.new.failed result }
-        ensures refusals { UnlessStoreFailed result }
+        ensures refusals { IsOkUnless result Fault.StoreFailed }
     {
         match self.writer.flush() {
             Ok(()) => Ok(()),

@@ -9,14 +9,14 @@ use rec_tools::{Fault, Reply, Sink, Violation};
 use std::fmt;
 use std::fmt::Write;
 
-/// Prints `recu: `, the text of a fault and a newline, cut where the sink fails; where an edit was refused for violations,
-/// their report stands before that. The result is the exit status.
-pub fn finish<W: Sink>(answer: &Result<Reply, Fault>, err: &mut W) -> u8
+/// Prints `recu: `, the text of a fault and a newline, cut where the sink fails; where an edit was refused for
+/// violations, their report stands before that. The result is the exit status; help, which is no reply, ends well.
+pub fn finish<W: Sink>(answer: &Result<Option<Reply>, Fault>, err: &mut W) -> u8
     ensures status { result ≡ status_of answer.now }
     ensures silent { OnOk answer.now (err.new ≡ err.old) }
 {
     match answer {
-        Ok(Reply::Violated(_)) => 1,
+        Ok(Some(Reply::Violated(_))) => 1,
         Ok(_) => 0,
         Err(fault) => {
             let _ = write_report(violations_of(fault), err);

@@ -1,5 +1,5 @@
 use Rattle.std.proofs.Common.{◌≡◌, map, take}
-use Rattle.rec_command.proofs.args.pairs.Given as goal
+use Rattle.rec_command.proofs.args.editing.pairs.Given as goal
 
 -- the names and values so far
 abbrev pub invariant-loop-index : goal.invariant-loop-index

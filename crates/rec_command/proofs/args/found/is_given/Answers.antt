@@ -4,7 +4,7 @@ use Rattle.std.specs.Str.{bytes_eq}
 use Rattle.clap.specs.Words.{found_of, one_text}
 use Rattle.clap.proofs.WalkLemmas.{one_text-rows}
 use Rattle.rec_command.proofs.WordsLemmas.{flag_read}
-use Rattle.rec_command.proofs.args.is_given.Goals as goal
+use Rattle.rec_command.proofs.args.found.is_given.Goals as goal
 
 pub returns : goal.returns
 returns c =

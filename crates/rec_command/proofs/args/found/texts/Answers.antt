@@ -2,7 +2,7 @@ use Rattle.std.proofs.Common.{◌∙◌, ap, map, refl}
 use Rattle.clap.specs.Words.{found_of}
 use Rattle.clap.proofs.WalkLemmas.{raw_values-rows}
 use Rattle.rec_command.proofs.WordsLemmas.{texts_read}
-use Rattle.rec_command.proofs.args.texts.Goals as goal
+use Rattle.rec_command.proofs.args.found.texts.Goals as goal
 
 pub returns : goal.returns
 returns c =

@@ -1,6 +1,6 @@
 use Rattle.std.proofs.lemmas.Result.{IfOk-weaker}
 use Rattle.rec_command.proofs.UsageLemmas.{tool_added}
-use Rattle.rec_command.proofs.args.command.Goals as goal
+use Rattle.rec_command.proofs.args.usage.command.Goals as goal
 
 pub returns : goal.returns
 returns c =

@@ -4,7 +4,7 @@ use Rattle.std.proofs.lemmas.Result.{IfOk-weaker}
 use Rattle.clap.specs.Words.{app_of}
 use Rattle.rec_command.specs.Options.{with_option}
 use Rattle.rec_command.proofs.UsageLemmas.{arg_added, globals-added}
-use Rattle.rec_command.proofs.args.with_edit_options.Goals as goal
+use Rattle.rec_command.proofs.args.usage.with_edit_options.Goals as goal
 
 pub returns-clause-usage : goal.returns-clause-usage
 returns-clause-usage c =

@@ -1,6 +1,6 @@
 use Rattle.std.proofs.Common.{◌∙◌}
 use Rattle.rec_command.proofs.UsageLemmas.{option_added, globals-added}
-use Rattle.rec_command.proofs.args.with_options.Goals as goal
+use Rattle.rec_command.proofs.args.usage.with_options.Goals as goal
 
 pub loop-option-preserved : goal.loop-option-preserved
 loop-option-preserved c =

@@ -1,0 +1,32 @@
+//! What the words give of an option.
+ghost use Rattle.std.specs.Prelude.{◌≡◌, map, IfOk};
+ghost use Rattle.clap.specs.Words.{first_of, found_of, rows_of};
+ghost use Rattle.rec_command.specs.Words.{has_flag, texts_given};
+
+use clap::ArgMatches;
+use rec_tools::Bytes;
+use std::alloc::{AllocError, Global};
+
+/// The text of an option.
+pub fn text(alloc: Global, options: &ArgMatches, name: &str) -> Result<Option<Bytes>, AllocError>
+    ensures { IfOk result (λ text. text ≡ first_of name.now (rows_of (found_of options.now))) }
+{
+    match options.get_str(name) {
+        Some(text) => Ok(Some(Bytes::copy_of(alloc, text.as_bytes())?)),
+        None => Ok(None),
+    }
+}
+
+/// The texts of an option that can be given several times.
+pub fn texts<'m>(options: &'m ArgMatches, name: &str) -> &'m [&'m str]
+    ensures { map (λ text. text.now) result.now ≡ texts_given name.now (rows_of (found_of options.now)) }
+{
+    options.get_strs(name).unwrap_or(&[])
+}
+
+/// Whether a flag is given.
+pub fn is_given(options: &ArgMatches, name: &str) -> bool
+    ensures { result ≡ has_flag name.now (rows_of (found_of options.now)) }
+{
+    options.get_one(name).unwrap_or(false)
+}

@@ -1,0 +1,47 @@
+//! What help says of the program and of its tools.
+
+pub const VERSION: &str = "0.1.0";
+
+pub const ABOUT: &str = "Prints, checks and edits rec files, and takes edits back";
+
+pub const WORKING_NAMES: &str =
+    "FILE.new and the journal's .new are working names of recu: each file is written under its own\nbefore it takes its place. What a stop of recu left there is removed; with any other file there the\ncommand is refused, and the file stays.\n\nExamples:\n  recu recsel -e \"#Phone\" contacts.rec\n  recu recdel -n 1 contacts.rec\n  recu undo contacts.rec";
+
+pub const RECSEL_HELP: &str =
+    "Only one of -e, -n and -q can be given, and only one of -p, -P, -R and -c.\n\nExamples:\n  recu recsel -e \"#Phone || Note ~ 'second'\" -P Name contacts.rec\n  recu recsel -n 0,2 -p Name,Email contacts.rec\n  recu recsel -t Book -q Austen library.rec";
+
+pub const RECINF_HELP: &str =
+    "Only one of -d and -n can be given.\n\nExamples:\n  recu recinf library.rec\n  recu recinf -t Book -d library.rec";
+
+pub const RECFIX_ABOUT: &str =
+    "Reports where the rules of record sets are broken, or gives records their automatic fields. Only one\nof --check and --auto can be given. FILE is needed for --auto alone.";
+
+pub const RECFIX_HELP: &str =
+    "Each violation is a line, LINE: RULE NAME. Where there is one, the exit status is 1.\n\nExamples:\n  recu recfix library.rec\n  recu recfix --auto library.rec";
+
+pub const RECINS_ABOUT: &str =
+    "Puts a record in, behind the last one of its type. With one of -e, -n and -q it puts it in the place of\neach record that these select. Its fields are those of -f and -v, place by place, or the text of -r.";
+
+pub const RECINS_HELP: &str =
+    "Examples:\n  recu recins -f Name -v 'Alan Turing' -f Phone -v '555 0123' contacts.rec\n  recu recins -t Book -r 'Title: Emma' library.rec\n  recu recins -n 0 -f Name -v 'Ada King' contacts.rec";
+
+pub const RECDEL_ABOUT: &str =
+    "Deletes records, or makes comments of them. Only one of -e, -n and -q can be given.";
+
+pub const RECDEL_HELP: &str =
+    "Examples:\n  recu recdel -n 1 contacts.rec\n  recu recdel -c -e \"Name ~ 'Hopper'\" contacts.rec";
+
+pub const RECSET_ABOUT: &str =
+    "Edits fields of records. FIELDS and exactly one of -s, -a, -S, -r, -d and -c are needed. Only one\nof -e, -n and -q can be given; without one all records are edited.";
+
+pub const RECSET_HELP: &str =
+    "Examples:\n  recu recset -n 0 -f Email -s ada@example.net contacts.rec\n  recu recset -e '!#Phone' -f Phone -a unknown contacts.rec\n  recu recset -n 2 -f Note --set=-5 contacts.rec";
+
+pub const UNDO_HELP: &str =
+    "Examples:\n  recu undo contacts.rec\n  recu undo --journal edits.rec contacts.rec";
+
+pub const REDO_HELP: &str =
+    "Examples:\n  recu redo contacts.rec\n  recu redo --journal edits.rec contacts.rec";
+
+pub const HISTORY_HELP: &str =
+    "Each edit that can be undone is a line, done NUMBER TOOL, the oldest first; behind them each that can\nbe redone is one, undone NUMBER TOOL, the nearest first. For a file that was changed outside it is the\nline drifted.\n\nExamples:\n  recu history contacts.rec\n  recu history --journal edits.rec contacts.rec";

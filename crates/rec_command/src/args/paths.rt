@@ -1,0 +1,56 @@
+//! The paths of the file and of its journal.
+ghost use Rattle.std.specs.Prelude.{◌≡◌, IfOk, string_bytes, option_map};
+ghost use Rattle.rec_files.specs.Paths.{AreApart};
+ghost use Rattle.rec_command.specs.Words.{IsJournal};
+
+use super::refusal::Refusal;
+use rec_files::{are_apart, journal_path};
+use rec_tools::Request;
+use std::alloc::{AllocError, Global};
+
+const CLASH: &str = "--journal: FILE and PATH are one path, or one is the other with .new appended";
+
+/// A copy of a path.
+pub fn copied(alloc: Global, path: Option<&str>) -> Result<Option<String>, AllocError>
+    ensures { IfOk result (λ copy. option_map string_bytes copy ≡ option_map (λ path. path.now) path.entry) }
+{
+    match path {
+        Some(path) => Ok(Some(String::from_str(alloc, path)?)),
+        None => Ok(None),
+    }
+}
+
+/// The journal of a request. One that prints of the file alone has none; every other needs a file.
+pub fn journal(
+    alloc: Global,
+    request: &Request,
+    file: Option<&str>,
+    given: Option<&str>,
+) -> Result<Option<String>, Refusal>
+    ensures { IfOk result (λ journal. IsJournal request.now (option_map (λ path. path.now) file.entry)
+        (option_map (λ path. path.now) given.entry) (option_map string_bytes journal)) }
+{
+    if let Request::Show { .. } | Request::Info { .. } | Request::Check = request {
+        if let (Some(file), Some(given)) = (file, given) {
+            require_apart(alloc, file, given)?;
+        }
+        return Ok(None);
+    }
+    let Some(file) = file else {
+        return Err(Refusal::Rule("FILE is needed"));
+    };
+    let journal = journal_path(alloc, file, given)?;
+    require_apart(alloc, file, journal.as_str())?;
+    Ok(Some(journal))
+}
+
+/// Refuses the paths of a file and a journal that are one path, or of which one is the other's working name.
+fn require_apart(alloc: Global, file: &str, journal: &str) -> Result<(), Refusal>
+    ensures { IfOk result (λ _. AreApart file.now journal.now) }
+{
+    if are_apart(alloc, file, journal)? {
+        Ok(())
+    } else {
+        Err(Refusal::Rule(CLASH))
+    }
+}

@@ -1,0 +1,223 @@
+//! What clap is told of the tools and their options.
+ghost use Rattle.std.specs.Prelude.{◌≡◌, false, fold, IfOk};
+ghost use Rattle.clap.specs.Words.{app_of, rule_of, with_rule};
+ghost use Rattle.clap.specs.declared.builder.command.Command.TheViews.{out-Command as fields_of};
+ghost use Rattle.rec_command.specs.Options.{rule_of_option, with_option};
+ghost use Rattle.rec_command.specs.Usage.{journal_option, file_word, needed_file, recsel_usage, recinf_usage, recfix_usage, recins_usage, recdel_usage, recset_usage, paths_usage, plain_usage, selecting, usage};
+
+use super::help::{
+    ABOUT, HISTORY_HELP, RECDEL_ABOUT, RECDEL_HELP, RECFIX_ABOUT, RECFIX_HELP, RECINF_HELP,
+    RECINS_ABOUT, RECINS_HELP, RECSEL_HELP, RECSET_ABOUT, RECSET_HELP, REDO_HELP, UNDO_HELP,
+    VERSION, WORKING_NAMES,
+};
+use crate::options::{
+    PRINTING, RECDEL, RECFIX, RECINF, RECINS, RECSET, SELECTION, Takes, ToolOption,
+};
+use clap::{Arg, ArgAction, Command};
+use std::alloc::{AllocError, Global};
+
+impl ToolOption {
+    /// What clap is told of it.
+    fn arg<'a>(&self, alloc: Global) -> Arg<'a>
+        ensures rule { rule_of result ≡ rule_of_option self.now }
+        ensures alone { result.global ≡ false }
+    {
+        let named = Arg::new(alloc, self.name).long(self.name).help(self.help);
+        let named = match self.letter {
+            Some(letter) => named.short(letter),
+            None => named,
+        };
+        match self.takes {
+            Takes::Nothing => named.action(ArgAction::SetTrue),
+            Takes::Value(value) => named.value_name(value),
+            Takes::Values(value) => named.value_name(value).action(ArgAction::Append),
+        }
+    }
+}
+
+/// The program with all tools.
+pub fn command<'a>(alloc: Global) -> Result<Command<'a>, AllocError>
+    ensures { IfOk result (λ command. app_of command ≡ usage) }
+{
+    let program = program(alloc)?;
+    program
+        .subcommand(recsel(alloc)?)?
+        .subcommand(recinf(alloc)?)?
+        .subcommand(recfix(alloc)?)?
+        .subcommand(recins(alloc)?)?
+        .subcommand(recdel(alloc)?)?
+        .subcommand(recset(alloc)?)?
+        .subcommand(with_paths(alloc, "undo", "Takes the newest edit back", UNDO_HELP)?)?
+        .subcommand(with_paths(
+            alloc,
+            "redo",
+            "Makes the edit again that was undone last",
+            REDO_HELP,
+        )?)?
+        .subcommand(with_paths(
+            alloc,
+            "history",
+            "Prints the edits that can be undone and redone",
+            HISTORY_HELP,
+        )?)
+}
+
+/// The program without its tools.
+fn program<'a>(alloc: Global) -> Result<Command<'a>, AllocError>
+    ensures { IfOk result (λ command. app_of command ≡ plain_usage) }
+{
+    let named = Command::new(alloc, "recu").bin_name("recu")?;
+    Ok(
+        named
+            .no_binary_name(true)
+            .version(VERSION)
+            .propagate_version(true)
+            .about(ABOUT)
+            .after_help(WORKING_NAMES)
+            .subcommand_required(true),
+    )
+}
+
+fn recsel<'a>(alloc: Global) -> Result<Command<'a>, AllocError>
+    ensures usage { IfOk result (λ command. app_of command ≡ recsel_usage) }
+    ensures alone { IfOk result (λ command. (fields_of command).has_globals ≡ false) }
+{
+    let tool = Command::new(alloc, "recsel")
+        .about("Prints records")
+        .after_help(RECSEL_HELP);
+    let tool = with_options(alloc, tool, SELECTION.as_slice())?;
+    with_options(alloc, tool, PRINTING.as_slice())?.arg(input_arg(alloc))
+}
+
+fn recinf<'a>(alloc: Global) -> Result<Command<'a>, AllocError>
+    ensures usage { IfOk result (λ command. app_of command ≡ recinf_usage) }
+    ensures alone { IfOk result (λ command. (fields_of command).has_globals ≡ false) }
+{
+    let tool = Command::new(alloc, "recinf")
+        .about("Prints which record sets there are")
+        .after_help(RECINF_HELP);
+    with_options(alloc, tool, RECINF.as_slice())?.arg(input_arg(alloc))
+}
+
+fn recfix<'a>(alloc: Global) -> Result<Command<'a>, AllocError>
+    ensures usage { IfOk result (λ command. app_of command ≡ recfix_usage) }
+    ensures alone { IfOk result (λ command. (fields_of command).has_globals ≡ false) }
+{
+    let tool = Command::new(alloc, "recfix")
+        .about("Checks the rules of record sets, or gives records their automatic fields")
+        .long_about(RECFIX_ABOUT)
+        .after_help(RECFIX_HELP);
+    with_options(alloc, tool, RECFIX.as_slice())?
+        .arg(journal_arg(alloc))?
+        .arg(input_arg(alloc))
+}
+
+fn recins<'a>(alloc: Global) -> Result<Command<'a>, AllocError>
+    ensures usage { IfOk result (λ command. app_of command ≡ recins_usage) }
+    ensures alone { IfOk result (λ command. (fields_of command).has_globals ≡ false) }
+{
+    let tool = Command::new(alloc, "recins")
+        .about("Puts a record in, or in the place of others")
+        .long_about(RECINS_ABOUT)
+        .after_help(RECINS_HELP);
+    with_edit_options(alloc, tool, RECINS.as_slice())
+}
+
+fn recdel<'a>(alloc: Global) -> Result<Command<'a>, AllocError>
+    ensures usage { IfOk result (λ command. app_of command ≡ recdel_usage) }
+    ensures alone { IfOk result (λ command. (fields_of command).has_globals ≡ false) }
+{
+    let tool = Command::new(alloc, "recdel")
+        .about("Deletes records, or makes comments of them")
+        .long_about(RECDEL_ABOUT)
+        .after_help(RECDEL_HELP);
+    with_edit_options(alloc, tool, RECDEL.as_slice())
+}
+
+fn recset<'a>(alloc: Global) -> Result<Command<'a>, AllocError>
+    ensures usage { IfOk result (λ command. app_of command ≡ recset_usage) }
+    ensures alone { IfOk result (λ command. (fields_of command).has_globals ≡ false) }
+{
+    let tool = Command::new(alloc, "recset")
+        .about("Edits fields of records")
+        .long_about(RECSET_ABOUT)
+        .after_help(RECSET_HELP);
+    with_edit_options(alloc, tool, RECSET.as_slice())
+}
+
+/// A tool that edits the records of a selection, with these options of its own.
+fn with_edit_options<'a>(
+    alloc: Global,
+    tool: Command<'a>,
+    options: &[ToolOption],
+) -> Result<Command<'a>, AllocError>
+    ensures usage { IfOk result (λ command. app_of command ≡ with_rule (with_rule
+        (fold with_option (fold with_rule (app_of tool.entry) selecting) options.now) journal_option) needed_file) }
+    ensures alone { IfOk result (λ command. (fields_of command).has_globals ≡ (fields_of tool.entry).has_globals) }
+{
+    let tool = with_options(alloc, tool, SELECTION.as_slice())?;
+    with_options(alloc, tool, options)?
+        .arg(journal_arg(alloc))?
+        .arg(file_arg(alloc))
+}
+
+/// A tool that only takes the paths of the file and its journal.
+fn with_paths<'a>(
+    alloc: Global,
+    name: &'a str,
+    about: &'a str,
+    help: &'a str,
+) -> Result<Command<'a>, AllocError>
+    ensures usage { IfOk result (λ command. app_of command ≡ paths_usage name.now) }
+    ensures alone { IfOk result (λ command. (fields_of command).has_globals ≡ false) }
+{
+    Command::new(alloc, name)
+        .about(about)
+        .after_help(help)
+        .arg(journal_arg(alloc))?
+        .arg(file_arg(alloc))
+}
+
+/// A tool with these options after those that it has.
+fn with_options<'a>(
+    alloc: Global,
+    mut tool: Command<'a>,
+    options: &[ToolOption],
+) -> Result<Command<'a>, AllocError>
+    ensures usage { IfOk result (λ command. app_of command ≡ fold with_option (app_of tool.entry) options.now) }
+    ensures alone { IfOk result (λ command. (fields_of command).has_globals ≡ (fields_of tool.entry).has_globals) }
+{
+    for option in options {
+        tool = tool.arg(option.arg(alloc))?;
+    }
+    Ok(tool)
+}
+
+fn journal_arg<'a>(alloc: Global) -> Arg<'a>
+    ensures rule { rule_of result ≡ journal_option }
+    ensures alone { result.global ≡ false }
+{
+    Arg::new(alloc, "journal")
+        .long("journal")
+        .value_name("PATH")
+        .help("The journal of the file's edits [default: FILE.journal]")
+}
+
+fn file_arg<'a>(alloc: Global) -> Arg<'a>
+    ensures rule { rule_of result ≡ needed_file }
+    ensures alone { result.global ≡ false }
+{
+    Arg::new(alloc, "file")
+        .value_name("FILE")
+        .required(true)
+        .help("The rec file; FILE.new is its working name")
+}
+
+fn input_arg<'a>(alloc: Global) -> Arg<'a>
+    ensures rule { rule_of result ≡ file_word }
+    ensures alone { result.global ≡ false }
+{
+    Arg::new(alloc, "file")
+        .value_name("FILE")
+        .help("The rec file [default: standard input]")
+}

@@ -12,13 +12,14 @@ use Rattle.rec_sex.proofs.IndexListReading.{one_index_list}
 use Rattle.rec_sex.proofs.UniqueLemmas.{one_expression}
 use Rattle.rec_check.specs.declared.set.Set_.{Set_}
 use Rattle.rec_check.specs.Schemas.{Described, IsSchema}
+use Rattle.rec_tools.specs.DescribedTexts.{DescribedText, AreDescribed, IsDescribedText}
 use Rattle.rec_check.proofs.SameLemmas.{one_schema}
 use Rattle.rec_select.specs.Selection.{Filter, all as all_members, at_places, with_text, Passes, IsSelection}
 use Rattle.rec_edit.specs.Outcome.{allowed}
 use Rattle.rec_tools.specs.declared.request.Ask.{Ask}
 use Rattle.rec_tools.specs.declared.request.Ask.TheVariants.{All, Expr, Index, Quick}
 use Rattle.rec_tools.specs.Steps.{Then}
-use Rattle.rec_tools.specs.Asking.{Base, IsBaseOf, IsBase, IsExpressionFilter, IsIndexFilter, IsFilter}
+use Rattle.rec_tools.specs.Asking.{IsExpressionFilter, IsIndexFilter, IsFilter}
 use Rattle.rec_tools.proofs.FaultLemmas.{same_fault, same_value}
 
 -- ---- one answer
@@ -193,7 +194,7 @@ alike_of ask wanted other is is_too = record {
   allowed_too = same_allowed ask wanted other is is_too;
 }
 
--- steps behind the filter agree where they agree on each, and are the same for filters that are alike
+-- steps after the filter agree where they agree on each, and are the same for filters that are alike
 pub AgreeBut-filter : {B : Type 0} (ask : Ask) (next last : Filter → Result B Fault → Type 0)
     → ((wanted other : Filter) → AreAlike wanted other → (r : Result B Fault) → next wanted r → next other r)
     → ((wanted : Filter) → AgreeBut (next wanted) (last wanted)) → AgreeBut (Then (IsFilter ask) next) (Then (IsFilter ask) last)
@@ -206,26 +207,26 @@ AgreeBut-filter ask next last same agree one other (inr (a, is, e)) (inl (g, is_
 AgreeBut-filter ask next last same agree one other (inr (a, is, e)) (inr (b, is_too, k)) built built_too =
     agree b one other (same a b (alike_of ask a b is is_too) one e) k built built_too
 
--- a step behind the filter has one answer
+-- a step after the filter has one answer
 pub HasOneBut-filter : {B : Type 0} (ask : Ask) (next : Filter → Result B Fault → Type 0)
     → ((wanted other : Filter) → AreAlike wanted other → (r : Result B Fault) → next wanted r → next other r)
     → ((wanted : Filter) → HasOneBut (next wanted)) → HasOneBut (Then (IsFilter ask) next)
 HasOneBut-filter ask next same next_one = AgreeBut-filter ask next next same next_one
 
--- ---- the base
+-- ---- the text
 
--- the base of these elements with this schema
-abbrev pub based : List Piece → Described → Base
-based pieces schema = record { pieces = pieces; schema = schema }
+-- the text of these elements with this schema
+abbrev pub with_schema : List Piece → Described → DescribedText
+with_schema pieces schema = record { pieces = pieces; schema = schema }
 
 -- steps agree on any two schemas that these elements have
-abbrev pub AgreeOnSchemas : {B : Type 0} → List Piece → (Base → Result B Fault → Type 0) → Type 0
+abbrev pub AgreeOnSchemas : {B : Type 0} → List Piece → (DescribedText → Result B Fault → Type 0) → Type 0
 AgreeOnSchemas pieces next = (schema same : Described) → IsSchema pieces (Ok schema) → IsSchema pieces (Ok same)
-    → AgreeBut (next (based pieces schema)) (next (based pieces same))
+    → AgreeBut (next (with_schema pieces schema)) (next (with_schema pieces same))
 
 -- a step after the schema has one answer where it gives the same for each schema of the elements
-HasOneBut-schema : {B : Type 0} (pieces : List Piece) (next : Base → Result B Fault → Type 0) → AgreeOnSchemas pieces next
-    → HasOneBut (Then (IsSchema pieces) (λ schema. next (based pieces schema)))
+HasOneBut-schema : {B : Type 0} (pieces : List Piece) (next : DescribedText → Result B Fault → Type 0) → AgreeOnSchemas pieces next
+    → HasOneBut (Then (IsSchema pieces) (λ schema. next (with_schema pieces schema)))
 HasOneBut-schema pieces next agree one other (inl (f, is, e)) (inl (g, is_too, k)) built built_too =
     e ∙ ap Err (one_schema pieces (Err f) (Err g) is is_too (refused_too one f e built) (refused_too other g k built_too)) ∙ sym k
 HasOneBut-schema pieces next agree one other (inl (f, is, e)) (inr (b, is_too, k)) built built_too =
@@ -234,29 +235,29 @@ HasOneBut-schema pieces next agree one other (inr (a, is, e)) (inl (g, is_too, k
     absurd (one_schema pieces (Ok a) (Err g) is is_too (no_both a BadPattern) (refused_too other g k built_too))
 HasOneBut-schema pieces next agree one other (inr (a, is, e)) (inr (b, is_too, k)) built built_too = agree a b is is_too one other e k built built_too
 
-by_schema : {B : Type 0} (pieces : List Piece) (next : Base → Result B Fault → Type 0) (answer : Result B Fault)
-    → Then (IsBaseOf pieces) next answer → Then (IsSchema pieces) (λ schema. next (based pieces schema)) answer
+by_schema : {B : Type 0} (pieces : List Piece) (next : DescribedText → Result B Fault → Type 0) (answer : Result B Fault)
+    → Then (AreDescribed pieces) next answer → Then (IsSchema pieces) (λ schema. next (with_schema pieces schema)) answer
 by_schema pieces next answer is =
-    Then-next (IsSchema pieces) (λ schema. Then (λ given. given ≡ Ok (based pieces schema)) next) (λ schema. next (based pieces schema))
-    (λ schema r h. Then-value (based pieces schema) next r h) answer
-    (Then-parts (IsSchema pieces) (λ schema given. given ≡ Ok (based pieces schema)) next answer is)
+    Then-next (IsSchema pieces) (λ schema. Then (λ given. given ≡ Ok (with_schema pieces schema)) next) (λ schema. next (with_schema pieces schema))
+    (λ schema r h. Then-value (with_schema pieces schema) next r h) answer
+    (Then-parts (IsSchema pieces) (λ schema given. given ≡ Ok (with_schema pieces schema)) next answer is)
 
-pub HasOneBut-base_of : {B : Type 0} (pieces : List Piece) (next : Base → Result B Fault → Type 0) → AgreeOnSchemas pieces next
-    → HasOneBut (Then (IsBaseOf pieces) next)
-HasOneBut-base_of pieces next agree one other is is_too =
+pub HasOneBut-elements : {B : Type 0} (pieces : List Piece) (next : DescribedText → Result B Fault → Type 0) → AgreeOnSchemas pieces next
+    → HasOneBut (Then (AreDescribed pieces) next)
+HasOneBut-elements pieces next agree one other is is_too =
     HasOneBut-schema pieces next agree one other (by_schema pieces next one is) (by_schema pieces next other is_too)
 
-pub HasOneBut-base : {B : Type 0} (file : List ℕ) (next : Base → Result B Fault → Type 0) → ((pieces : List Piece) → AgreeOnSchemas pieces next)
-    → HasOneBut (Then (IsBase file) next)
-HasOneBut-base file next agree one other is is_too =
-    AgreeBut-after (IsReading file) (λ pieces. Then (IsBaseOf pieces) next) (λ pieces. Then (IsBaseOf pieces) next) (one_reading file)
-    (λ pieces _. HasOneBut-base_of pieces next (agree pieces)) one other
-    (Then-parts (IsReading file) IsBaseOf next one is) (Then-parts (IsReading file) IsBaseOf next other is_too)
+pub HasOneBut-text : {B : Type 0} (file : List ℕ) (next : DescribedText → Result B Fault → Type 0) → ((pieces : List Piece) → AgreeOnSchemas pieces next)
+    → HasOneBut (Then (IsDescribedText file) next)
+HasOneBut-text file next agree one other is is_too =
+    AgreeBut-after (IsReading file) (λ pieces. Then (AreDescribed pieces) next) (λ pieces. Then (AreDescribed pieces) next) (one_reading file)
+    (λ pieces _. HasOneBut-elements pieces next (agree pieces)) one other
+    (Then-parts (IsReading file) AreDescribed next one is) (Then-parts (IsReading file) AreDescribed next other is_too)
 
 -- a step that asks of the schema only its sets gives the same for each schema of the elements
 pub agree_by_sets : {B : Type 0} (next : List Piece → List Set_ → Result B Fault → Type 0)
     → ((pieces : List Piece) (sets : List Set_) → HasOneBut (next pieces sets))
-    → (pieces : List Piece) → AgreeOnSchemas pieces (λ base. next base.pieces base.schema.sets)
+    → (pieces : List Piece) → AgreeOnSchemas pieces (λ text. next text.pieces text.schema.sets)
 agree_by_sets next has_one pieces schema same is is_too one other h k =
     let sets = (one_schema pieces (Ok schema) (Ok same) is is_too (no_both schema BadPattern) (no_both same BadPattern)).0 in
     has_one pieces same.sets one other (subst (λ ss. next pieces ss one) sets h) k

@@ -2,13 +2,14 @@
 use Rattle.std.proofs.Common.{◌≡◌, ◌⊎◌, inl, inr, ℕ, List, [], ◌∷◌, Result, Ok, Err, IsErrAnd, ap, sym, subst, refl, ◌∙◌}
 use Rattle.rec_text.specs.declared.fault.Fault.{Fault}
 use Rattle.rec_text.specs.declared.fault.Fault.TheVariants.{OutOfMemory, StoreFailed}
-use Rattle.rec_text.specs.Sink.{UnlessStoreFailed}
+use Rattle.std.specs.Prelude.{IsOkUnless}
 use Rattle.rec_journal.specs.declared.plan.Plan.{Plan}
 use Rattle.rec_tools.specs.declared.home.Which.{Which}
 use Rattle.rec_tools.specs.declared.home.Which.TheVariants.{Base as TheFile, Journal as TheJournal}
-use Rattle.rec_tools.specs.Home.{Call, got, was_put, Went, read_call, IsReplaceCall}
+use Rattle.rec_tools.specs.Home.{Call, got, was_put, read_call, IsReplaceCall}
 use Rattle.rec_tools.specs.Outcomes.{Write, writes_of}
 use Rattle.rec_tools.specs.Attempts.{StopsReading, AreWritten}
+use Rattle.rec_tools.specs.Silently.{ByCalls}
 use Rattle.rec_tools.proofs.CallLemmas.{one_call}
 
 -- ---- refusals
@@ -21,10 +22,6 @@ IsReadFault fault = (fault ≡ OutOfMemory) ⊎ (fault ≡ StoreFailed)
 pub refused_with : {X : Type 0} (answer : Result X Fault) (fault : Fault) → IsErrAnd answer (λ given. given ≡ fault) → answer ≡ Err fault
 refused_with (Ok value) fault h = absurd h
 refused_with (Err given) fault h = ap Err h
-
--- the calls were made, and they stand in a relation
-abbrev pub ByCalls : {H : Type 0} → (H → Call → H → Type 0) → H → H → (List Call → Type 0) → Type 0
-ByCalls {H} goes old new P = (calls : List Call) × Went goes old calls new × P calls
 
 -- ---- reads
 
@@ -62,7 +59,7 @@ put-stopped X goes old new plan journal fault same why step =
 
 -- the last replace
 last_write : {H X : Type 0} (goes : H → Call → H → Type 0) (old new : H) (w : Write) (result : Result X Fault)
-    → UnlessStoreFailed result → IsReplaced goes old new w.which w.bytes result → ByCalls goes old new (AreWritten (w ∷ []) result)
+    → IsOkUnless result StoreFailed → IsReplaced goes old new w.which w.bytes result → ByCalls goes old new (AreWritten (w ∷ []) result)
 last_write goes old new w (Ok x) why step = (step.0 ∷ [], one_call goes old new _ step.2, ap (λ call. call ∷ []) step.1)
 last_write goes old new w (Err fault) why step = (step.0 ∷ [], one_call goes old new _ step.2, (why, inl (step.1, refl)))
 
@@ -75,7 +72,7 @@ write_before goes old mid new w rest (Err fault) step then = (was_put w.which w.
 -- both replaces of a plan
 pub both-written : {H X : Type 0} (goes : H → Call → H → Type 0) (old mid new : H) (plan : Plan) (journal file : List ℕ) (result : Result X Fault)
     → journal ≡ plan.journal → file ≡ plan.file → (call : Call) × (call ≡ was_put TheJournal journal) × goes old call mid
-    → UnlessStoreFailed result → IsReplaced goes mid new TheFile file result → ByCalls goes old new (AreWritten (writes_of plan) result)
+    → IsOkUnless result StoreFailed → IsReplaced goes mid new TheFile file result → ByCalls goes old new (AreWritten (writes_of plan) result)
 both-written goes old mid new plan journal file result same_journal same_file first why step =
     let put : goes old (was_put TheJournal plan.journal) mid = subst (λ call. goes old call mid) (first.1 ∙ ap (was_put TheJournal) same_journal) first.2 in
     write_before goes old mid new (record { which = TheJournal; bytes = plan.journal }) (record { which = TheFile; bytes = plan.file } ∷ []) result put

@@ -3,6 +3,7 @@ use Rattle.std.proofs.Common.{◌≡◌, ◌≢◌, inl, inr, ℕ, Bool, true, f
 use Rattle.std.specs.Prelude.{◌↔◌, IsTrue, MatchOption}
 use Rattle.rec_text.specs.declared.fault.Fault.{Fault}
 use Rattle.rec_text.specs.declared.fault.Fault.TheVariants.{DigestClash}
+use Rattle.rec_text.specs.Elements.{text_of}
 use Rattle.rec_text.specs.Faults.{IsMemoryOr}
 use Rattle.rec_journal.specs.declared.patch.Hunk.{Hunk}
 use Rattle.rec_journal.specs.declared.patch.Direction.{Direction}
@@ -10,23 +11,23 @@ use Rattle.rec_journal.specs.declared.event.Pass.{Pass}
 use Rattle.rec_journal.specs.declared.event.Revision.{Revision}
 use Rattle.rec_journal.specs.declared.event.Tool.{Tool}
 use Rattle.rec_journal.specs.declared.plan.Plan.{Plan}
-use Rattle.rec_journal.specs.Patch.{Splices}
 use Rattle.rec_journal.specs.History.{Opened, Opens, IsOpening}
 use Rattle.rec_journal.specs.Revisions.{one_pass}
 use Rattle.rec_journal.specs.Plans.{ShareDigest, IsEditPlan, IsMovePlan, after_edit_plan, after_move, edits_on, nothing_there}
 use Rattle.rec_journal.specs.Stops.{IsSafe}
 use Rattle.rec_journal.proofs.Countings.{Opens-digest}
 use Rattle.rec_edit.specs.declared.outcome.Edited.{Edited}
-use Rattle.rec_tools.specs.declared.decision.Change.{Change}
+use Rattle.rec_edit.specs.Task.{Task, tool_of}
+use Rattle.rec_edit.specs.Outcome.{IsOutcome as IsOutcomeOf}
+use Rattle.rec_tools.specs.DescribedTexts.{DescribedText, IsDescribedText}
 use Rattle.rec_tools.specs.declared.request.Reply.{Reply}
 use Rattle.rec_tools.specs.declared.request.Reply.TheVariants.{Edited as EditedReply, Unchanged}
 use Rattle.rec_tools.specs.Home.{Contents}
-use Rattle.rec_tools.specs.Asking.{Base}
-use Rattle.rec_tools.specs.Requests.{editing, moving}
-use Rattle.rec_tools.specs.Outcomes.{staying, putting, reply_of, IsOutcome}
-use Rattle.rec_tools.specs.Changes.{IsChange}
-use Rattle.rec_tools.proofs.FaultLemmas.{memory_or_weaker, ok_is_no_err, same_fault, same_value}
-use Rattle.rec_tools.proofs.ChangeLemmas.{Changed}
+use Rattle.rec_tools.specs.Steps.{Then}
+use Rattle.rec_tools.specs.Requests.{Asked, looking, listing, editing, moving}
+use Rattle.rec_tools.specs.Outcomes.{Outcome, IsMade, IsEditOutcome, IsOutcome, staying, putting, reply_of}
+use Rattle.rec_tools.specs.Editing.{IsEditing, IsEditOf, TellsChanges, IsChange}
+use Rattle.rec_tools.proofs.FaultLemmas.{memory_or_weaker, ok_is_no_err, same_value}
 
 -- ---- two texts that share a digest
 
@@ -45,68 +46,101 @@ true_is_not_false e = cc
 pub differs : (b : Bool) (patch : List Hunk) (text file : List ℕ) → IsTrue b ↔ (patch ≡ []) → b ≡ false → (patch ≡ []) ↔ (text ≡ file) → text ≢ file
 differs b patch text file idle is_false same e = true_is_not_false (sym (idle.1 (same.1 e)) ∙ is_false)
 
--- ---- an edit
+-- ---- an edit of a text
 
-module _ (c : Contents) (tool : Tool) (IsEdit : Base → Result Edited Fault → Type 0) where
-  pub edit-refused : (fault : Fault) → IsMemoryOr fault (IsChange c IsEdit (Err fault)) → IsMemoryOr fault (IsOutcome c (editing tool IsEdit) (Err fault))
-  edit-refused fault h = memory_or_weaker fault _ _ refused h where
-    no_change : {P : Type 0} (change : Change) → ◌≡◌ {A = Result Change Fault} (Err fault) (Ok change) → P
-    no_change change e = ok_is_no_err change fault _ e
+module _ (asked : Asked) (text : DescribedText) where
+  pub edit-no_task : (fault : Fault) → IsMemoryOr fault (IsEditOf asked (Err fault)) → IsMemoryOr fault (IsMade (IsEditOf asked) text (Err fault))
+  edit-no_task fault h = memory_or_weaker fault _ _ (λ none. inl (fault, none, refl)) h
 
-    refused : IsChange c IsEdit (Err fault) → IsOutcome c (editing tool IsEdit) (Err fault)
-    refused (inl (other, none, e)) = inl (other, none, ap Err (same_fault fault other e))
-    refused (inr (base, is, inl (other, none, e))) = inr (base, is, inl (other, none, ap Err (same_fault fault other e)))
-    refused (inr (base, is, inr (o, opens, inl (other, none, e)))) = inr (base, is, inr (o, opens, inl (other, none, ap Err (same_fault fault other e))))
-    refused (inr (base, is, inr (o, opens, inr (edited, made, e)))) = no_change _ e
+  module _ (told : Task × Bool) (is : IsEditOf asked (Ok told)) where
+    pub edit-refused : (fault : Fault) → IsMemoryOr fault (IsOutcomeOf text.pieces text.schema told.1 told.0 (Err fault))
+        → IsMemoryOr fault (IsMade (IsEditOf asked) text (Err fault))
+    edit-refused fault h = memory_or_weaker fault _ _ (λ none. inr (told, is, inl (fault, none, refl))) h
 
-  module _ (change : Change) (parts : Changed c IsEdit change) where
-    pub edit-unchanged : change.edited.text ≡ c.file → IsOutcome c (editing tool IsEdit) (Ok (staying Unchanged))
-    edit-unchanged same = inr (parts.base, parts.is, inr (change.history, parts.opens, inr (change.edited, parts.made, inl (same, refl))))
+    pub edit-made : (edited : Edited) → IsOutcomeOf text.pieces text.schema told.1 told.0 (Ok edited) → (tool : Tool) → tool ≡ tool_of told.0
+        → IsMade (IsEditOf asked) text (Ok (tool, edited))
+    edit-made edited made tool by = inr (told, is, inr (edited, made, ap (λ t. Ok (t, edited)) by))
 
-    module _ (other : change.edited.text ≢ c.file) (given : Tool) (by : given ≡ tool) where
-      planned_by : (r : Result Plan Fault) → IsEditPlan change.history c.journal given (one_pass given change.edited.patch) change.edited.text r
-          → IsEditPlan change.history c.journal tool (one_pass tool change.edited.patch) change.edited.text r
-      planned_by r h = subst (λ x. IsEditPlan change.history c.journal x (one_pass x change.edited.patch) change.edited.text r) by h
+-- ---- what was read of the text of a file was read of the file
 
-      clashing : (fault : Fault) → IsEditPlan change.history c.journal tool (one_pass tool change.edited.patch) change.edited.text (Err fault) → IsOutcome c (editing tool IsEdit) (Err fault)
+module _ (text file : List ℕ) (same : text ≡ file) where
+  pub refused_on_file : (fault : Fault) → IsMemoryOr fault (IsDescribedText text (Err fault)) → IsMemoryOr fault (IsDescribedText file (Err fault))
+  refused_on_file fault none = subst (λ t. IsMemoryOr fault (IsDescribedText t (Err fault))) same none
+
+  module _ (read : DescribedText) (is : IsDescribedText text (Ok read)) where
+    pub on_file : IsDescribedText file (Ok read)
+    on_file = subst (λ t. IsDescribedText t (Ok read)) same is
+
+    -- the elements are those of the text
+    read_text : text_of read.pieces ≡ text
+    read_text = of_read is where
+      of_read : IsDescribedText text (Ok read) → text_of read.pieces ≡ text
+      of_read (inl (fault, unread, e)) = ok_is_no_err read fault _ (sym e)
+      of_read (inr (pieces, elements, inl (fault, refused, e))) = ok_is_no_err read fault _ (sym e)
+      of_read (inr (pieces, elements, inr (schema, is, e))) = ap (λ (t : DescribedText). text_of t.pieces) (same_value read _ e) ∙ elements.joined
+
+    pub tells_on_file : (edited : Edited) → TellsChanges (text_of read.pieces) edited → TellsChanges file edited
+    tells_on_file edited tells = subst (λ t. TellsChanges t edited) (read_text ∙ same) tells
+
+-- ---- an edit of a file with its history
+
+module _ (file journal : List ℕ) (asked : Asked) (edits : IsEditing asked) where
+  abbrev on : Contents
+  on = record { file = file; journal = journal }
+
+  -- what an edit comes to, step by step
+  by_steps : (r : Result Outcome Fault)
+      → Then (IsDescribedText file) (λ text. Then (IsOpening file journal) (λ o. Then (IsMade (IsEditOf asked) text) (λ made. IsEditOutcome o on made.0 made.1))) r
+      → IsOutcome on asked r
+  by_steps = of_edit asked edits where
+    of_edit : (asked : Asked) → IsEditing asked → (r : Result Outcome Fault)
+        → Then (IsDescribedText file) (λ text. Then (IsOpening file journal) (λ o. Then (IsMade (IsEditOf asked) text) (λ made. IsEditOutcome o on made.0 made.1))) r
+        → IsOutcome on asked r
+    of_edit (looking IsText) none r h = absurd none
+    of_edit listing none r h = absurd none
+    of_edit (editing IsEdit) edits r h = h
+    of_edit (moving direction) none r h = absurd none
+
+  pub change-no_text : (fault : Fault) → IsMemoryOr fault (IsDescribedText file (Err fault)) → IsMemoryOr fault (IsOutcome on asked (Err fault))
+  change-no_text fault h = memory_or_weaker fault _ _ (λ none. by_steps (Err fault) (inl (fault, none, refl))) h
+
+  module _ (text : DescribedText) (is : IsDescribedText file (Ok text)) where
+    pub change-no_opening : (fault : Fault) → IsMemoryOr fault (IsOpening file journal (Err fault)) → IsMemoryOr fault (IsOutcome on asked (Err fault))
+    change-no_opening fault h = memory_or_weaker fault _ _ (λ none. by_steps (Err fault) (inr (text, is, inl (fault, none, refl)))) h
+
+    pub change-no_edit : (o : Opened) → IsOpening file journal (Ok o) → (fault : Fault) → IsMemoryOr fault (IsMade (IsEditOf asked) text (Err fault))
+        → IsMemoryOr fault (IsOutcome on asked (Err fault))
+    change-no_edit o opens fault h = memory_or_weaker fault _ _ (λ none. by_steps (Err fault) (inr (text, is, inr (o, opens, inl (fault, none, refl))))) h
+
+  module _ (o : Opened) (tool : Tool) (edited : Edited) (change : IsChange file journal asked (o, tool, edited)) where
+    -- what becomes of the edit
+    edit-ends : (r : Result Outcome Fault) → IsEditOutcome o on tool edited r → IsOutcome on asked r
+    edit-ends r h = by_steps r (inr (change.text, change.is, inr (o, change.opens, inr ((tool, edited), change.made, h))))
+
+    pub edit-unchanged : edited.text ≡ file → IsOutcome on asked (Ok (staying Unchanged))
+    edit-unchanged same = edit-ends (Ok (staying Unchanged)) (inl (same, refl))
+
+    module _ (other : edited.text ≢ file) where
+      clashing : (fault : Fault) → IsEditPlan o journal tool (one_pass tool edited.patch) edited.text (Err fault) → IsOutcome on asked (Err fault)
       clashing fault refused =
-          let e = only-clash change.history c.journal tool (one_pass tool change.edited.patch) change.edited.text fault refused in
-          let same : ShareDigest c.file change.edited.text = clash-digest c.file c.journal change.edited.text change.history tool (one_pass tool change.edited.patch) parts.opens
-          (subst (λ f. IsEditPlan change.history c.journal tool (one_pass tool change.edited.patch) change.edited.text (Err f)) e refused) in
-          inr (parts.base, parts.is, inr (change.history, parts.opens, inr (change.edited, parts.made, (other, e, same))))
-
-      pub edit-clash : (fault : Fault) → IsMemoryOr fault (IsEditPlan change.history c.journal given (one_pass given change.edited.patch) change.edited.text (Err fault))
-          → IsMemoryOr fault (IsOutcome c (editing tool IsEdit) (Err fault))
-      edit-clash fault h = memory_or_weaker fault _ _ (λ refused. clashing fault (planned_by (Err fault) refused)) h
-
-      pub edit-planned : (plan : Plan) → Splices change.edited.patch c.file change.edited.text → IsEditPlan change.history c.journal given (one_pass given change.edited.patch) change.edited.text (Ok plan)
-          → IsSafe c.file c.journal change.history (after_edit_plan change.history c.journal given (one_pass given change.edited.patch) change.edited.text) plan
-          → IsOutcome c (editing tool IsEdit) (Ok (putting plan (EditedReply change.edited.changed)))
-      edit-planned plan leads planned safe =
-          inr (
-            parts.base,
-            parts.is,
-            inr (
-              change.history,
-              parts.opens,
-              inr (
-                change.edited,
-                parts.made,
-                inr (
-                  other,
-                  (
-                    plan,
-                    record {
-                      leads = leads;
-                      planned = planned_by (Ok plan) planned;
-                      safe = subst (λ x. IsSafe c.file c.journal change.history (after_edit_plan change.history c.journal x (one_pass x change.edited.patch) change.edited.text) plan) by safe;
-                    },
-                    refl,
-                  ),
-                ),
-              ),
-            ),
+          let e = only-clash o journal tool (one_pass tool edited.patch) edited.text fault refused in
+          edit-ends (Err fault) (
+            other,
+            e,
+            clash-digest file journal edited.text o tool (one_pass tool edited.patch) change.opens
+                (subst (λ f. IsEditPlan o journal tool (one_pass tool edited.patch) edited.text (Err f)) e refused),
           )
+
+      pub edit-clash : (fault : Fault) → IsMemoryOr fault (IsEditPlan o journal tool (one_pass tool edited.patch) edited.text (Err fault))
+          → IsMemoryOr fault (IsOutcome on asked (Err fault))
+      edit-clash fault h = memory_or_weaker fault _ _ (clashing fault) h
+
+      pub edit-planned : (plan : Plan) → IsEditPlan o journal tool (one_pass tool edited.patch) edited.text (Ok plan)
+          → IsSafe file journal o (after_edit_plan o journal tool (one_pass tool edited.patch) edited.text) plan
+          → IsOutcome on asked (Ok (putting plan (EditedReply edited.changed)))
+      edit-planned plan planned safe =
+          edit-ends (Ok (putting plan (EditedReply edited.changed)))
+          (inr (other, (plan, record { leads = change.tells.leads; planned = planned; safe = safe }, refl)))
 
 -- ---- a move
 

@@ -13,13 +13,12 @@ use Rattle.rec_tools.specs.declared.decision.Decision.TheVariants.{Stay, Put}
 use Rattle.rec_tools.specs.declared.home.Which.TheVariants.{Base as TheFile, Journal as TheJournal}
 use Rattle.rec_tools.specs.Home.{Contents, Call, got, with_content, TellAll, Went}
 use Rattle.rec_tools.specs.Printouts.{Printout, Printed, PutsPrintout, WentOut, IsSilence, IsShownText, IsHistory, printed_history}
-use Rattle.rec_tools.specs.Requests.{Asked, looking, listing, editing, moving, reads_of}
+use Rattle.rec_tools.specs.Requests.{Asked, looking, listing, editing, moving, reads_of, IsSilent}
 use Rattle.rec_tools.specs.Outcomes.{Write, Outcome, printing, outcome_of, IsPrinting, IsOutcome}
-use Rattle.rec_tools.specs.Silently.{DoesSilently}
+use Rattle.rec_tools.specs.Silently.{ByCalls, DoesSilently}
 use Rattle.rec_tools.specs.Attempts.{Answer, gots, puts, IsFront, StopsReading, StopsWriting, IsAnswered, Does, Attempts}
 use Rattle.rec_tools.proofs.FaultLemmas.{ok_is_no_err, same_fault, same_value}
 use Rattle.rec_tools.proofs.CallLemmas.{one_call, went_on}
-use Rattle.rec_tools.proofs.AttemptLemmas.{ByCalls}
 
 -- this was done by some calls of the home, and this went out of the sink
 abbrev pub Attempted : {H S : Type 0} → (H → Call → H → Type 0) → (S → Option (List ℕ)) → (S → ℕ) → H → H → S → S → Asked → Answer → Type 0
@@ -67,7 +66,7 @@ stopped-tells_both (call ∷ calls) fault (inr (inr stops)) = (file_alone stops.
 stopped-tells : (asked : Asked) (calls : List Call) (fault : Fault) → StopsReading (reads_of asked) calls fault → (c : Contents) × TellAll c calls
 stopped-tells (looking IsText) calls fault stops = stopped-tells_one calls fault stops
 stopped-tells listing calls fault stops = stopped-tells_both calls fault stops
-stopped-tells (editing tool IsEdit) calls fault stops = stopped-tells_both calls fault stops
+stopped-tells (editing IsEdit) calls fault stops = stopped-tells_both calls fault stops
 stopped-tells (moving direction) calls fault stops = stopped-tells_both calls fault stops
 
 module _ {H : Type 0} (goes : H → Call → H → Type 0) where
@@ -174,6 +173,13 @@ both_got file journal later c tells =
 abbrev pub ReadsBoth : Asked → Type 0
 ReadsBoth asked = reads_of asked ≡ TheFile ∷ TheJournal ∷ []
 
+-- so they are for all that prints nothing
+pub silent-reads_both : (asked : Asked) → IsSilent asked → ReadsBoth asked
+silent-reads_both (looking IsText) silent = absurd silent
+silent-reads_both listing silent = absurd silent
+silent-reads_both (editing IsEdit) silent = refl
+silent-reads_both (moving direction) silent = refl
+
 does-refused : (asked : Asked) (c : Contents) (fault : Fault) (p : Printed) → ReadsBoth asked → IsMemoryOr fault (IsOutcome c asked (Err fault)) → IsSilence p
     → Does c asked (Err fault) (got TheFile c.file ∷ got TheJournal c.journal ∷ []) p
 does-refused asked c OutOfMemory p both found silent =
@@ -254,6 +260,12 @@ module _ {H S : Type 0} (goes : H → Call → H → Type 0) (told : S → Optio
       )
 
 module _ {H : Type 0} (goes : H → Call → H → Type 0) where
+  -- the two contents weren't read
+  pub silently-unread_both : (old new : H) (asked : Asked) (fault : Fault) → ReadsBoth asked
+      → ByCalls goes old new (λ calls. StopsReading (TheFile ∷ TheJournal ∷ []) calls fault) → DoesSilently goes old new asked (Err fault)
+  silently-unread_both old new asked fault both read =
+      silently-unread goes old new asked fault (read.0, read.1, subst (λ whiches. StopsReading whiches read.0 fault) (sym both) read.2)
+
   -- a decision on the bytes that were read was refused
   pub silently-refused : (old new : H) (asked : Asked) (file journal f j : List ℕ) (fault : Fault) → ReadsBoth asked
       → ByCalls goes old new (λ calls. calls ≡ got TheFile file ∷ got TheJournal journal ∷ []) → f ≡ file → j ≡ journal

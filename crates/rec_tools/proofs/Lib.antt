@@ -4,12 +4,10 @@ pub mod ExitLemmas
 pub mod MemoryLemmas
 pub mod FaultLemmas
 pub mod OpeningLemmas
-pub mod FileLemmas
 pub mod PutsLemmas
 pub mod ShowLemmas
 pub mod InformLemmas
 pub mod CheckLemmas
-pub mod ChangeLemmas
 pub mod DecideLemmas
 pub mod StandsLemmas
 pub mod StepLemmas

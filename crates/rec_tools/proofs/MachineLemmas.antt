@@ -7,10 +7,11 @@ use Rattle.rec_edit.specs.declared.outcome.Edited.{Edited}
 use Rattle.rec_journal.specs.declared.patch.Direction.{Direction}
 use Rattle.rec_tools.specs.Printouts.{Printout, IsShown}
 use Rattle.rec_tools.specs.Requests.{Asked, looking, listing, editing, moving, asked_of}
+use Rattle.rec_tools.specs.Outcomes.{IsMade}
 use Rattle.rec_tools.specs.Attempts.{Answer}
 use Rattle.rec_tools.specs.Machine.{Entry, State, IsStep, IsEditStep, IsMoveStep, entries_on}
 use Rattle.rec_tools.specs.Laws.{OneStep}
-use Rattle.rec_tools.proofs.AnswerLemmas.{no_both, refused_too, HasOneBut-base}
+use Rattle.rec_tools.proofs.AnswerLemmas.{no_both, refused_too, HasOneBut-text}
 use Rattle.rec_tools.proofs.OutcomeLemmas.{MeansOne, one_meaning}
 
 -- ---- a text is shown in one way
@@ -27,18 +28,18 @@ shown_of_built (Err fault) answer printed is built = refused_too answer fault is
 
 -- ---- an edit steps in one way
 
-module _ (s : State) (tool : Tool) where
-  one_edit_step : (outcome : Result Edited Fault) (one other : Answer) (t u : State)
-      → IsEditStep s tool outcome one t → IsEditStep s tool outcome other u → (one ≡ other) × (t ≡ u)
+module _ (s : State) where
+  one_edit_step : (outcome : Result (Tool × Edited) Fault) (one other : Answer) (t u : State)
+      → IsEditStep s outcome one t → IsEditStep s outcome other u → (one ≡ other) × (t ≡ u)
   one_edit_step (Err fault) one other t u is is_too = (is.0 ∙ sym is_too.0, is.1 ∙ sym is_too.1)
-  one_edit_step (Ok edited) one other t u (inl is) (inl is_too) = (is.1 ∙ sym is_too.1, is.2 ∙ sym is_too.2)
-  one_edit_step (Ok edited) one other t u (inl is) (inr is_too) = absurd (is_too.0 is.0)
-  one_edit_step (Ok edited) one other t u (inr is) (inl is_too) = absurd (is.0 is_too.0)
-  one_edit_step (Ok edited) one other t u (inr is) (inr is_too) = (is.1 ∙ sym is_too.1, is.2 ∙ sym is_too.2)
+  one_edit_step (Ok made) one other t u (inl is) (inl is_too) = (is.1 ∙ sym is_too.1, is.2 ∙ sym is_too.2)
+  one_edit_step (Ok made) one other t u (inl is) (inr is_too) = absurd (is_too.0 is.0)
+  one_edit_step (Ok made) one other t u (inr is) (inl is_too) = absurd (is.0 is_too.0)
+  one_edit_step (Ok made) one other t u (inr is) (inr is_too) = (is.1 ∙ sym is_too.1, is.2 ∙ sym is_too.2)
 
-  edit_of_built : (outcome : Result Edited Fault) (answer : Answer) (t : State) → IsEditStep s tool outcome answer t
+  edit_of_built : (outcome : Result (Tool × Edited) Fault) (answer : Answer) (t : State) → IsEditStep s outcome answer t
       → answer ≢ Err BadPattern → outcome ≢ Err BadPattern
-  edit_of_built (Ok edited) answer t is built = no_both edited BadPattern
+  edit_of_built (Ok made) answer t is built = no_both made BadPattern
   edit_of_built (Err fault) answer t is built = refused_too answer fault is.0 built
 
 -- ---- a move steps in one way
@@ -60,10 +61,10 @@ module _ (s : State) (one other : Answer) (text printed : List ℕ) (t u : State
       let both = one_shown also one other text printed (subst (λ r. IsShown r one text) same shown) shown_too in
       (both.0, both.1, e ∙ sym k)
   one_step_of listing means is is_too = (is.0 ∙ sym is_too.0, is.1 ∙ sym is_too.1, is.2 ∙ sym is_too.2)
-  one_step_of (editing tool IsEdit) means (outcome, is, step, e) (also, is_too, step_too, k) =
-      let same = HasOneBut-base s.present IsEdit means outcome also is is_too
-      (edit_of_built s tool outcome one t step built) (edit_of_built s tool also other u step_too built_too) in
-      let both = one_edit_step s tool also one other t u (subst (λ r. IsEditStep s tool r one t) same step) step_too in
+  one_step_of (editing IsEdit) means (outcome, is, step, e) (also, is_too, step_too, k) =
+      let same = HasOneBut-text s.present (IsMade IsEdit) means outcome also is is_too
+      (edit_of_built s outcome one t step built) (edit_of_built s also other u step_too built_too) in
+      let both = one_edit_step s also one other t u (subst (λ r. IsEditStep s r one t) same step) step_too in
       (both.0, e ∙ sym k, both.1)
   one_step_of (moving direction) means (step, e) (step_too, k) =
       let both = one_move_step direction s (entries_on direction s) one other t u step step_too in

@@ -7,6 +7,7 @@ use Rattle.rec_text.proofs.RecordLemmas.{OneListOfRecords-holds}
 use Rattle.rec_sex.specs.declared.field_list.Item.{Item}
 use Rattle.rec_sex.proofs.FieldListReading.{one_field_list}
 use Rattle.rec_check.specs.declared.set.Set_.{Set_}
+use Rattle.rec_tools.specs.DescribedTexts.{DescribedText}
 use Rattle.rec_check.proofs.CheckLemmas.{one_check}
 use Rattle.rec_check.specs.Violations.{AreViolationsOf}
 use Rattle.rec_select.specs.declared.info.InfoForm.{InfoForm}
@@ -26,7 +27,7 @@ use Rattle.rec_journal.specs.Plans.{IsMovePlan}
 use Rattle.rec_journal.proofs.PlanLemmas.{one_move_plan}
 use Rattle.rec_journal.proofs.Openings.{one_opening}
 use Rattle.rec_edit.specs.declared.outcome.Edited.{Edited}
-use Rattle.rec_edit.specs.Task.{insert, replace, delete, comment_out, set, auto_fill, fresh_by}
+use Rattle.rec_edit.specs.Task.{Task, insert, replace, delete, comment_out, set, auto_fill, fresh_by}
 use Rattle.rec_tools.specs.declared.request.Form.{Form}
 use Rattle.rec_tools.specs.declared.request.Form.TheVariants.{Blocks, Print, Values, Row, Count}
 use Rattle.rec_tools.specs.declared.request.Pick.{Pick}
@@ -36,14 +37,14 @@ use Rattle.rec_tools.specs.declared.request.Reply.{Reply}
 use Rattle.rec_tools.specs.declared.request.Reply.TheVariants.{Shown, Edited as EditedReply}
 use Rattle.rec_tools.specs.Home.{Contents}
 use Rattle.rec_tools.specs.Steps.{Then}
-use Rattle.rec_tools.specs.Asking.{Base, IsFilter, IsListed, IsShape}
+use Rattle.rec_tools.specs.Asking.{IsFilter, IsListed, IsShape}
 use Rattle.rec_tools.specs.Printouts.{Printout, printed_history, IsShow, IsInfoOf, IsShownText, IsReportText, verdict}
 use Rattle.rec_tools.specs.Requests.{Asked, looking, listing, editing, moving, asked_of}
-use Rattle.rec_tools.specs.Outcomes.{Outcome, IsOutcome, IsPrinting, IsEditOutcome, IsMove, Moves, OneOutcome, printing, putting, reply_of}
+use Rattle.rec_tools.specs.Outcomes.{Outcome, IsOutcome, IsPrinting, IsMade, IsEditOutcome, IsMove, Moves, OneOutcome, printing, putting, reply_of}
 use Rattle.rec_tools.proofs.FaultLemmas.{same_fault, same_value}
 use Rattle.rec_tools.proofs.OpeningLemmas.{no_clash, same_plan_of}
-use Rattle.rec_tools.proofs.EditLemmas.{replace_alike, delete_alike, comment_out_alike, set_alike, agree_on_task, agree_on_edits}
-use Rattle.rec_tools.proofs.AnswerLemmas.{no_both, HasOne, HasOneBut, HasOneBut-of, one_value, no_value, one_fault, HasOne-Then, AgreeBut-after, AgreeBut-before, Then-first, Then-next, HasOneBut-filter, AgreeOnSchemas, based, HasOneBut-base, agree_by_sets, same_selection}
+use Rattle.rec_tools.proofs.EditLemmas.{replace_alike, delete_alike, comment_out_alike, set_alike, agree_on_told, agree_on_edits}
+use Rattle.rec_tools.proofs.AnswerLemmas.{no_both, HasOne, HasOneBut, HasOneBut-of, one_value, no_value, one_fault, HasOne-Then, AgreeBut-after, AgreeBut-before, Then-first, Then-next, HasOneBut-filter, AgreeOnSchemas, with_schema, HasOneBut-text, agree_by_sets, same_selection}
 
 -- ---- printed texts
 
@@ -83,7 +84,7 @@ HasOneBut-show_in pick form collapse pieces sets =
 
 HasOneBut-show : (file : List ℕ) (pick : Pick) (form : Form) (collapse : Bool) → HasOneBut (IsShow file pick form collapse)
 HasOneBut-show file pick form collapse =
-    HasOneBut-base file (λ base. IsShowIn pick form collapse base.pieces base.schema.sets)
+    HasOneBut-text file (λ text. IsShowIn pick form collapse text.pieces text.schema.sets)
     (agree_by_sets (IsShowIn pick form collapse) (HasOneBut-show_in pick form collapse))
 
 HasOne-info : (kind : Option (List ℕ)) (form : InfoForm) (pieces : List Piece) (sets : List Set_) → HasOne (IsInfo pieces sets kind form)
@@ -96,7 +97,7 @@ HasOne-info kind form pieces sets (Err fault) (Err other) is is_too = ap Err (sa
 
 HasOneBut-info_of : (file : List ℕ) (kind : Option (List ℕ)) (form : InfoForm) → HasOneBut (IsInfoOf file kind form)
 HasOneBut-info_of file kind form =
-    HasOneBut-base file (λ base. IsInfo base.pieces base.schema.sets kind form)
+    HasOneBut-text file (λ text. IsInfo text.pieces text.schema.sets kind form)
     (agree_by_sets (λ pieces sets. IsInfo pieces sets kind form) (λ pieces sets. HasOneBut-of _ (HasOne-info kind form pieces sets)))
 
 HasOneBut-check : (file : List ℕ) → HasOneBut (AreViolationsOf file)
@@ -133,23 +134,23 @@ HasOneBut-printing step has_one (Err fault) (Err other) is is_too built built_to
 
 -- ---- what is asked for
 
--- what is asked for has one answer: one text of a file, and one edit of a base, whichever of its schemas is taken
+-- what is asked for has one answer: one text of a file, and one edit of elements, whichever of their schemas is taken
 abbrev pub MeansOne : Asked → Type 0
 MeansOne (looking IsText) = (file : List ℕ) → HasOneBut (IsText file)
 MeansOne listing = Unit {0}
-MeansOne (editing tool IsEdit) = (pieces : List Piece) → AgreeOnSchemas pieces IsEdit
+MeansOne (editing IsEdit) = (pieces : List Piece) → AgreeOnSchemas pieces (IsMade IsEdit)
 MeansOne (moving direction) = Unit {0}
 
 pub one_meaning : (request : Request) → MeansOne (asked_of request)
 one_meaning (Show pick form collapse) = λ file. HasOneBut-shown _ (HasOneBut-show file pick form collapse)
 one_meaning (Info kind form) = λ file. HasOneBut-shown _ (HasOneBut-info_of file kind form)
 one_meaning Check = λ file. HasOneBut-reported _ (HasOneBut-check file)
-one_meaning (Insert kind fresh auto force) = agree_on_task (insert kind (fresh_by fresh) auto) force
+one_meaning (Insert kind fresh auto force) = agree_on_told (insert kind (fresh_by fresh) auto) force
 one_meaning (Replace pick fresh force) = agree_on_edits (λ wanted. replace wanted (fresh_by fresh)) (replace_alike (fresh_by fresh)) pick force
 one_meaning (Delete pick force) = agree_on_edits delete delete_alike pick force
 one_meaning (CommentOut pick force) = agree_on_edits comment_out comment_out_alike pick force
 one_meaning (Set pick list action force) = agree_on_edits (λ wanted. set wanted list action) (set_alike list action) pick force
-one_meaning (AutoFill force) = agree_on_task auto_fill force
+one_meaning (AutoFill force) = agree_on_told auto_fill force
 one_meaning Undo = tt
 one_meaning Redo = tt
 one_meaning History = tt
@@ -198,14 +199,15 @@ module _ (direction : Direction) (o : Opened) (c : Contents) where
 -- ---- outcomes
 
 module _ (c : Contents) where
-  HasOneBut-edit : (tool : Tool) (IsEdit : Base → Result Edited Fault → Type 0) → ((pieces : List Piece) → AgreeOnSchemas pieces IsEdit)
-      → HasOneBut (IsOutcome c (editing tool IsEdit))
-  HasOneBut-edit tool IsEdit agree =
-      let last : Base → Opened → Result Outcome Fault → Type 0 = λ base o. Then (IsEdit base) (λ edited. IsEditOutcome o c tool edited) in
-      HasOneBut-base c.file (λ base. Then (IsOpening c.file c.journal) (last base)) (λ pieces schema same is is_too.
-      AgreeBut-after (IsOpening c.file c.journal) (last (based pieces schema)) (last (based pieces same)) (one_opening c.file c.journal) (λ o opens.
-      AgreeBut-before (IsEdit (based pieces schema)) (IsEdit (based pieces same)) (λ edited. IsEditOutcome o c tool edited) (agree pieces schema same is is_too)
-      (λ edited. HasOneBut-of (IsEditOutcome o c tool edited) (HasOne-edit_outcome o c opens tool edited))))
+  HasOneBut-edit : (IsEdit : Result (Task × Bool) Fault → Type 0) → ((pieces : List Piece) → AgreeOnSchemas pieces (IsMade IsEdit))
+      → HasOneBut (IsOutcome c (editing IsEdit))
+  HasOneBut-edit IsEdit agree =
+      let last : Opened → Tool × Edited → Result Outcome Fault → Type 0 = λ o made. IsEditOutcome o c made.0 made.1 in
+      let next : DescribedText → Opened → Result Outcome Fault → Type 0 = λ text o. Then (IsMade IsEdit text) (last o) in
+      HasOneBut-text c.file (λ text. Then (IsOpening c.file c.journal) (next text)) (λ pieces schema same is is_too.
+      AgreeBut-after (IsOpening c.file c.journal) (next (with_schema pieces schema)) (next (with_schema pieces same)) (one_opening c.file c.journal) (λ o opens.
+      AgreeBut-before (IsMade IsEdit (with_schema pieces schema)) (IsMade IsEdit (with_schema pieces same)) (last o) (agree pieces schema same is is_too)
+      (λ made. HasOneBut-of (last o made) (HasOne-edit_outcome o c opens made.0 made.1))))
 
   -- what is asked for comes to one outcome
   pub one_outcome_of : (asked : Asked) → MeansOne asked → HasOneBut (IsOutcome c asked)
@@ -214,7 +216,7 @@ module _ (c : Contents) where
   one_outcome_of listing means one other is is_too built built_too =
       HasOne-Then (IsOpening c.file c.journal) (λ o given. given ≡ Ok (printing (printed_history o) Shown)) (one_opening c.file c.journal)
       (λ o _ a b e k. e ∙ sym k) one other is is_too
-  one_outcome_of (editing tool IsEdit) means one other is is_too built built_too = HasOneBut-edit tool IsEdit means one other is is_too built built_too
+  one_outcome_of (editing IsEdit) means one other is is_too built built_too = HasOneBut-edit IsEdit means one other is is_too built built_too
   one_outcome_of (moving direction) means one other is is_too built built_too =
       HasOne-Then (IsOpening c.file c.journal) (λ o. IsMove direction o c) (one_opening c.file c.journal) (λ o _. HasOne-move direction o c)
       one other is is_too

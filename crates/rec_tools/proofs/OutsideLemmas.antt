@@ -72,11 +72,11 @@ module _ (c : Contents) (o : Opened) (opens : Opens c.file c.journal o) (drifted
       → (outcome.writes ≡ []) ⊎ ((tool : Tool) × Stands (written c outcome.writes) (outside_state c o tool (written c outcome.writes).file))
   begins_anew (looking IsText) outcome is = inl (writes_nothing c (looking IsText) outcome tt is)
   begins_anew listing outcome is = inl (writes_nothing c listing outcome tt is)
-  begins_anew (editing tool IsEdit) outcome (inl refused) = let e = refused.2 in cc
-  begins_anew (editing tool IsEdit) outcome (inr (base, is, inl refused)) = let e = refused.2 in cc
-  begins_anew (editing tool IsEdit) outcome (inr (base, is, inr (p, opened, inl refused))) = let e = refused.2 in cc
-  begins_anew (editing tool IsEdit) outcome (inr (base, is, inr (p, opened, inr (edited, done, inl (same, e))))) = inl (ap (λ (x : Outcome). x.writes) e)
-  begins_anew (editing tool IsEdit) outcome (inr (base, is, inr (p, opened, inr (edited, done, inr (differs, (plan, planned, e)))))) =
+  begins_anew (editing IsEdit) outcome (inl refused) = let e = refused.2 in cc
+  begins_anew (editing IsEdit) outcome (inr (text, is, inl refused)) = let e = refused.2 in cc
+  begins_anew (editing IsEdit) outcome (inr (text, is, inr (p, opened, inl refused))) = let e = refused.2 in cc
+  begins_anew (editing IsEdit) outcome (inr (text, is, inr (p, opened, inr (made, done, inl (same, e))))) = inl (ap (λ (x : Outcome). x.writes) e)
+  begins_anew (editing IsEdit) outcome (inr (text, is, inr (p, opened, inr ((tool, edited), done, inr (differs, (plan, planned, e)))))) =
       let here : IsPlanned o c tool edited plan = subst (λ x. IsPlanned x c tool edited plan) (same_opening p opened) planned in
       inr (tool, subst (λ ws. Stands (written c ws) (outside_state c o tool (written c ws).file)) (sym (ap (λ (x : Outcome). x.writes) e)) (begun tool edited plan here))
   begins_anew (moving direction) outcome is = absurd (ok_is_no_err outcome Drifted ⊥ (sym (no_move direction (Ok outcome) is)))

@@ -11,7 +11,7 @@ use Rattle.rec_check.specs.Schemas.{IsSchema}
 use Rattle.rec_select.specs.Taken.{PrintsAndCounts, Puts}
 use Rattle.rec_tools.specs.declared.request.Reply.{Reply}
 use Rattle.rec_tools.specs.declared.request.Reply.TheVariants.{Shown}
-use Rattle.rec_tools.specs.Asking.{Base, IsBaseOf, IsBase}
+use Rattle.rec_tools.specs.DescribedTexts.{DescribedText, AreDescribed, IsDescribedText}
 use Rattle.rec_tools.specs.Printouts.{Printout, PutsPrintout, IsShownText}
 use Rattle.rec_tools.specs.Steps.{Then}
 use Rattle.rec_tools.proofs.FaultLemmas.{ok_is_no_err, same_fault}
@@ -105,12 +105,12 @@ pub no_store_then : {A B : Type 0} (first : Result A Fault → Type 0) (next : A
 no_store_then first next never nor (inl (fault, refused, e)) = never (subst (λ f. first (Err f)) (sym (same_fault _ _ e)) refused)
 no_store_then first next never nor (inr (a, done, h)) = nor a h
 
-pub no_store_base_of : (pieces : List Piece) → IsBaseOf pieces (Err StoreFailed) → ⊥
-no_store_base_of pieces = no_store_then (IsSchema pieces) (λ schema answer. answer ≡ Ok (record { pieces = pieces; schema = schema })) (λ h. h)
-    (λ schema e. ok_is_no_err {A = Base} (record { pieces = pieces; schema = schema }) StoreFailed ⊥ e)
+no_store_described : (pieces : List Piece) → AreDescribed pieces (Err StoreFailed) → ⊥
+no_store_described pieces = no_store_then (IsSchema pieces) (λ schema answer. answer ≡ Ok (record { pieces = pieces; schema = schema })) (λ h. h)
+    (λ schema e. ok_is_no_err {A = DescribedText} (record { pieces = pieces; schema = schema }) StoreFailed ⊥ e)
 
-pub no_store_base : (file : List ℕ) → IsBase file (Err StoreFailed) → ⊥
-no_store_base file = no_store_then (IsReading file) IsBaseOf (λ h. h) no_store_base_of
+pub no_store_text : (file : List ℕ) → IsDescribedText file (Err StoreFailed) → ⊥
+no_store_text file = no_store_then (IsReading file) AreDescribed (λ h. h) no_store_described
 
 -- the set of a type, or that there is none
 pub no_store_type : (found : Option Set_) → ◌≡◌ {A = Result Set_ Fault} (elim found [ None ↦ Err NoSuchType | Some s ↦ Ok s ]) (Err StoreFailed) → ⊥

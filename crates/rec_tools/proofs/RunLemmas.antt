@@ -100,7 +100,7 @@ pub writes_nothing : (c : Contents) (asked : Asked) (o : Outcome) → WritesNoth
 writes_nothing c (looking IsText) o nothing is = ap (λ (x : Outcome). x.writes) is.2
 writes_nothing c listing o nothing (inl refused) = let e = refused.2 in cc
 writes_nothing c listing o nothing (inr listed) = ap (λ (x : Outcome). x.writes) (same_value o _ listed.2)
-writes_nothing c (editing tool IsEdit) o nothing is = absurd nothing
+writes_nothing c (editing IsEdit) o nothing is = absurd nothing
 writes_nothing c (moving direction) o nothing is = absurd nothing
 
 none-written : (o : Outcome) (answer : Answer) (calls : List Call) → o.writes ≡ [] → IsAnswered o answer calls → calls ≡ []

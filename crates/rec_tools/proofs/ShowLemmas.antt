@@ -4,25 +4,23 @@ use Rattle.std.specs.Prelude.{find, if◌then◌else◌}
 use Rattle.rec_text.specs.declared.fault.Fault.{Fault}
 use Rattle.rec_text.specs.declared.fault.Fault.TheVariants.{StoreFailed}
 use Rattle.rec_text.specs.Faults.{IsMemoryOr}
-use Rattle.rec_text.specs.Elements.{Piece}
 use Rattle.rec_check.specs.declared.set.Set_.{Set_}
-use Rattle.rec_check.specs.Schemas.{Described, IsSchema}
+use Rattle.rec_select.specs.Taken.{PrintsAndCounts}
+use Rattle.rec_tools.specs.DescribedTexts.{DescribedText, IsDescribedText}
 use Rattle.rec_check.specs.Sets.{is_of_type}
 use Rattle.rec_select.specs.declared.records.Shape.{Shape}
 use Rattle.rec_select.specs.Printing.{IsPrinted}
 use Rattle.rec_select.specs.Selection.{Filter, IsSelection, set_for, only_set, has_members}
-use Rattle.rec_select.specs.Taken.{PrintsAndCounts}
 use Rattle.rec_tools.specs.declared.request.Ask.{Ask}
 use Rattle.rec_tools.specs.declared.request.Ask.TheVariants.{All, Expr, Index, Quick}
 use Rattle.rec_tools.specs.declared.request.Form.{Form}
 use Rattle.rec_tools.specs.declared.request.Form.TheVariants.{Blocks, Print, Values, Row, Count}
 use Rattle.rec_tools.specs.declared.request.Pick.{Pick}
-use Rattle.rec_tools.specs.Asking.{Base, IsBase, IsBaseOf, IsRecFile, IsFilter, IsShape}
+use Rattle.rec_tools.specs.Asking.{IsFilter, IsShape}
 use Rattle.rec_tools.specs.Printouts.{IsShowOf, IsShow, IsShownText, PutsPrintout}
 use Rattle.rec_tools.specs.Steps.{Then}
 use Rattle.rec_tools.proofs.FaultLemmas.{memory_or_weaker, same_fault}
-use Rattle.rec_tools.proofs.FileLemmas.{based, file-refused, file-base, file-some_base}
-use Rattle.rec_tools.proofs.PutsLemmas.{refused_before, no_store_then, no_store_base, no_store_base_of, no_store_type}
+use Rattle.rec_tools.proofs.PutsLemmas.{refused_before, no_store_then, no_store_text, no_store_type}
 
 -- ---- what is asked for
 
@@ -61,71 +59,49 @@ no_store_set (Some kind) sets e = no_store_type (find (is_of_type kind) sets) e
 
 -- ---- records
 
-pub no_store_selection : (base : Base) (kind : Option (List ℕ)) (wanted : Filter) → IsSelection base.pieces base.schema.sets kind wanted (Err StoreFailed) → ⊥
-no_store_selection base kind wanted e = no_store_set kind base.schema.sets e
+pub no_store_selection : (text : DescribedText) (kind : Option (List ℕ)) (wanted : Filter) → IsSelection text.pieces text.schema.sets kind wanted (Err StoreFailed) → ⊥
+no_store_selection text kind wanted e = no_store_set kind text.schema.sets e
 
-no_store_show_of : (base : Base) (kind : Option (List ℕ)) (wanted : Filter) (shape : Shape) (collapse : Bool) → IsShowOf base kind wanted shape collapse (Err StoreFailed) → ⊥
-no_store_show_of base kind wanted shape collapse =
-    no_store_then (IsSelection base.pieces base.schema.sets kind wanted) (λ selected. IsPrinted base.pieces selected shape collapse) (no_store_selection base kind wanted) (λ selected h. h)
+-- the records of a text that are wanted, in a shape
+module _ (text : DescribedText) (kind : Option (List ℕ)) (wanted : Filter) (shape : Shape) (collapse : Bool) where
+  no_store_show_of : IsShowOf text kind wanted shape collapse (Err StoreFailed) → ⊥
+  no_store_show_of =
+      no_store_then (IsSelection text.pieces text.schema.sets kind wanted) (λ selected. IsPrinted text.pieces selected shape collapse)
+      (no_store_selection text kind wanted) (λ selected h. h)
 
-no_store_of_pieces : (pieces : List Piece) (kind : Option (List ℕ)) (wanted : Filter) (shape : Shape) (collapse : Bool)
-    → Then (IsBaseOf pieces) (λ base. IsShowOf base kind wanted shape collapse) (Err StoreFailed) → ⊥
-no_store_of_pieces pieces kind wanted shape collapse =
-    no_store_then (IsBaseOf pieces) (λ base. IsShowOf base kind wanted shape collapse) (no_store_base_of pieces) (λ base. no_store_show_of base kind wanted shape collapse)
-
--- the records of elements that were given, with their schema
-module _ (pieces given : List Piece) (schema : Described) (is : IsSchema pieces (Ok schema)) (same : given ≡ pieces)
-    (kind : Option (List ℕ)) (wanted : Filter) (shape : Shape) (collapse : Bool) where
-  pub show_of-refused : {S : Type 0} {contents : S → Option (List ℕ)} {failures : S → ℕ} (out : S) (fault : Fault) → IsMemoryOr fault (IsSelection given schema.sets kind wanted (Err fault))
-      → PrintsAndCounts contents failures out out (PutsPrintout (IsShownText (Then (IsBaseOf pieces) (λ base. IsShowOf base kind wanted shape collapse)))) (Err fault)
+  pub show_of-refused : {S : Type 0} {contents : S → Option (List ℕ)} {failures : S → ℕ} (out : S) (fault : Fault) → IsMemoryOr fault (IsSelection text.pieces text.schema.sets kind wanted (Err fault))
+      → PrintsAndCounts contents failures out out (PutsPrintout (IsShownText (IsShowOf text kind wanted shape collapse))) (Err fault)
   show_of-refused out fault h =
-      refused_before (IsShownText (Then (IsBaseOf pieces) (λ base. IsShowOf base kind wanted shape collapse))) out fault (no_store_of_pieces pieces kind wanted shape collapse)
-      (memory_or_weaker fault _ _ (λ none. inr (
-        record { pieces = pieces; schema = schema },
-        based pieces schema is,
-        inl (fault, subst (λ g. IsSelection g schema.sets kind wanted (Err fault)) same none, refl),
-      )) h)
+      refused_before (IsShownText (IsShowOf text kind wanted shape collapse)) out fault no_store_show_of
+      (memory_or_weaker fault _ _ (λ none. inl (fault, none, refl)) h)
 
-  pub show_of-printed : (selected slice : List ℕ) → slice ≡ selected → IsSelection given schema.sets kind wanted (Ok selected)
-      → (r : Result (List ℕ) Fault) → IsPrinted given slice shape collapse r → Then (IsBaseOf pieces) (λ base. IsShowOf base kind wanted shape collapse) r
+  pub show_of-printed : (selected slice : List ℕ) → slice ≡ selected → IsSelection text.pieces text.schema.sets kind wanted (Ok selected)
+      → (r : Result (List ℕ) Fault) → IsPrinted text.pieces slice shape collapse r → IsShowOf text kind wanted shape collapse r
   show_of-printed selected slice e found r printed =
-      inr (
-        record { pieces = pieces; schema = schema },
-        based pieces schema is,
-        inr (
-          selected,
-          subst (λ g. IsSelection g schema.sets kind wanted (Ok selected)) same found,
-          subst (λ g. IsPrinted g selected shape collapse r) same (subst (λ s. IsPrinted given s shape collapse r) e printed),
-        ),
-      )
+      inr (selected, found, subst (λ s. IsPrinted text.pieces s shape collapse r) e printed)
 
 module _ (file : List ℕ) (pick : Pick) (form : Form) (collapse : Bool) where
   pub no_store_show : IsShow file pick form collapse (Err StoreFailed) → ⊥
-  no_store_show = no_store_then (IsBase file) (λ base. Then (IsFilter pick.by) (λ wanted. Then (IsShape form) (λ shape. IsShowOf base pick.kind wanted shape collapse)))
-      (no_store_base file) (λ base. no_store_then (IsFilter pick.by) (λ wanted. Then (IsShape form) (λ shape. IsShowOf base pick.kind wanted shape collapse))
-      (no_store_filter pick.by) (λ wanted. no_store_then (IsShape form) (λ shape. IsShowOf base pick.kind wanted shape collapse)
-      (no_store_shape form) (λ shape. no_store_show_of base pick.kind wanted shape collapse)))
+  no_store_show = no_store_then (IsDescribedText file) (λ text. Then (IsFilter pick.by) (λ wanted. Then (IsShape form) (λ shape. IsShowOf text pick.kind wanted shape collapse)))
+      (no_store_text file) (λ text. no_store_then (IsFilter pick.by) (λ wanted. Then (IsShape form) (λ shape. IsShowOf text pick.kind wanted shape collapse))
+      (no_store_filter pick.by) (λ wanted. no_store_then (IsShape form) (λ shape. IsShowOf text pick.kind wanted shape collapse)
+      (no_store_shape form) (λ shape. no_store_show_of text pick.kind wanted shape collapse)))
 
-  pub show-no_base : {S : Type 0} {contents : S → Option (List ℕ)} {failures : S → ℕ} (out : S) (fault : Fault) → IsMemoryOr fault (IsRecFile file (Err fault)) → PrintsAndCounts contents failures out out (PutsPrintout (IsShownText (IsShow file pick form collapse))) (Err fault)
-  show-no_base out fault h =
+  pub show-no_text : {S : Type 0} {contents : S → Option (List ℕ)} {failures : S → ℕ} (out : S) (fault : Fault) → IsMemoryOr fault (IsDescribedText file (Err fault)) → PrintsAndCounts contents failures out out (PutsPrintout (IsShownText (IsShow file pick form collapse))) (Err fault)
+  show-no_text out fault h =
       refused_before (IsShownText (IsShow file pick form collapse)) out fault no_store_show
-      (memory_or_weaker fault _ _ (λ refused. inl (fault, refused, refl)) (file-refused file fault h))
+      (memory_or_weaker fault _ _ (λ refused. inl (fault, refused, refl)) h)
 
-  module _ (pieces : List Piece) (is : IsRecFile file (Ok pieces)) where
+  module _ (text : DescribedText) (is : IsDescribedText file (Ok text)) where
     asked : (fault : Fault) → Then {B = Shape} (IsFilter pick.by) (λ _. IsShape form) (Err fault) → IsShow file pick form collapse (Err fault)
-    asked fault (inl (other, refused, e)) =
-        let base = file-some_base file pieces is in
-        inr (base.0, base.1, inl (fault, subst (λ f. IsFilter pick.by (Err f)) (sym (same_fault _ _ e)) refused, refl))
-    asked fault (inr (wanted, found, refused)) =
-        let base = file-some_base file pieces is in
-        inr (base.0, base.1, inr (wanted, found, inl (fault, refused, refl)))
+    asked fault (inl (other, refused, e)) = inr (text, is, inl (fault, subst (λ f. IsFilter pick.by (Err f)) (sym (same_fault _ _ e)) refused, refl))
+    asked fault (inr (wanted, found, refused)) = inr (text, is, inr (wanted, found, inl (fault, refused, refl)))
 
     pub show-not_asked : {S : Type 0} {contents : S → Option (List ℕ)} {failures : S → ℕ} (out : S) (fault : Fault) → IsMemoryOr fault (Then {B = Shape} (IsFilter pick.by) (λ _. IsShape form) (Err fault))
         → PrintsAndCounts contents failures out out (PutsPrintout (IsShownText (IsShow file pick form collapse))) (Err fault)
     show-not_asked out fault h = refused_before (IsShownText (IsShow file pick form collapse)) out fault no_store_show (memory_or_weaker fault _ _ (asked fault) h)
 
     pub show-printed : (kind : Option (List ℕ)) (wanted : Filter) (shape : Shape) → kind ≡ pick.kind → IsFilter pick.by (Ok wanted) → IsShape form (Ok shape)
-        → (r : Result (List ℕ) Fault) → Then (IsBaseOf pieces) (λ base. IsShowOf base kind wanted shape collapse) r → IsShow file pick form collapse r
-    show-printed kind wanted shape e found shaped r (inl (fault, refused, refusal)) = inl (fault, file-base file pieces is (Err fault) refused, refusal)
-    show-printed kind wanted shape e found shaped r (inr (base, of_pieces, printed)) =
-        inr (base, file-base file pieces is (Ok base) of_pieces, inr (wanted, found, inr (shape, shaped, subst (λ k. IsShowOf base k wanted shape collapse r) e printed)))
+        → (r : Result (List ℕ) Fault) → IsShowOf text kind wanted shape collapse r → IsShow file pick form collapse r
+    show-printed kind wanted shape e found shaped r printed =
+        inr (text, is, inr (wanted, found, inr (shape, shaped, subst (λ k. IsShowOf text k wanted shape collapse r) e printed)))

@@ -1,5 +1,5 @@
 -- What a request comes to on contents that stand for a state is what the machine does in that state.
-use Rattle.std.proofs.Common.{◌≡◌, ◌≢◌, ◌⊎◌, inl, inr, ℕ, ◌+◌, List, [], ◌∷◌, map, Result, Ok, Err, sym, ap, ap₂, subst, refl, ◌∙◌}
+use Rattle.std.proofs.Common.{◌≡◌, ◌≢◌, ◌⊎◌, inl, inr, ℕ, ◌+◌, Bool, List, [], ◌∷◌, map, Result, Ok, Err, sym, ap, ap₂, subst, refl, ◌∙◌}
 use Rattle.std.proofs.lemmas.Bool.{false≢true}
 use Rattle.std.specs.Prelude.{true, false, codes, if◌then◌else◌}
 use Rattle.rec_text.specs.declared.fault.Fault.{Fault}
@@ -13,14 +13,15 @@ use Rattle.rec_journal.specs.Revisions.{one_pass, Leads}
 use Rattle.rec_journal.specs.Plans.{ShareDigest, edit_to, after_edit_plan, edits_on, after_move, LeadsNowhere}
 use Rattle.rec_journal.proofs.Openings.{one_opening}
 use Rattle.rec_journal.proofs.StepLemmas.{edits_lead_to_one_text}
+use Rattle.rec_tools.specs.DescribedTexts.{IsDescribedText}
 use Rattle.rec_edit.specs.declared.outcome.Edited.{Edited}
+use Rattle.rec_edit.specs.Task.{Task}
 use Rattle.rec_tools.specs.declared.request.Reply.TheVariants.{Shown, Edited as EditedReply}
 use Rattle.rec_tools.specs.Home.{Contents}
 use Rattle.rec_tools.specs.Steps.{Then}
-use Rattle.rec_tools.specs.Asking.{Base, IsBase}
 use Rattle.rec_tools.specs.Printouts.{Printout, history_text, printed_history}
 use Rattle.rec_tools.specs.Requests.{Asked, looking, listing, editing, moving, asked_of}
-use Rattle.rec_tools.specs.Outcomes.{Outcome, IsOutcome, IsPrinting, IsEditOutcome, IsPlanned, IsMove, Moves, printing, writes_of, reply_of}
+use Rattle.rec_tools.specs.Outcomes.{Outcome, IsOutcome, IsPrinting, IsMade, IsEditOutcome, IsPlanned, IsMove, Moves, printing, writes_of, reply_of}
 use Rattle.rec_tools.specs.Attempts.{written}
 use Rattle.rec_tools.specs.Machine.{Entry, State, AreEntries, Stands, IsStep, IsMoveStep, Clashes, entries_on, listed, state_after_edit, state_after_move}
 use Rattle.rec_tools.specs.Guarantee.{StepsAsMachine, OutcomesAreSteps}
@@ -150,23 +151,23 @@ module _ (c : Contents) (s : State) (stands : Stands c s) where
 
   -- ---- an edit
 
-  module _ (tool : Tool) (IsEdit : Base → Result Edited Fault → Type 0) where
+  module _ (IsEdit : Result (Task × Bool) Fault → Type 0) where
     -- what the edit makes of the file it makes of the state's text
-    on_present : (r : Result Edited Fault) → Then (IsBase c.file) IsEdit r → Then (IsBase s.present) IsEdit r
-    on_present r is = subst (λ text. Then (IsBase text) IsEdit r) (sym stands.present) is
+    on_present : (r : Result (Tool × Edited) Fault) → Then (IsDescribedText c.file) (IsMade IsEdit) r → Then (IsDescribedText s.present) (IsMade IsEdit) r
+    on_present r is = subst (λ text. Then (IsDescribedText text) (IsMade IsEdit) r) (sym stands.present) is
 
-    edit_refused : (fault : Fault) → Then (IsBase c.file) IsEdit (Err fault) → StepsAsMachine c s (editing tool IsEdit) (Err fault)
+    edit_refused : (fault : Fault) → Then (IsDescribedText c.file) (IsMade IsEdit) (Err fault) → StepsAsMachine c s (editing IsEdit) (Err fault)
     edit_refused fault is = inl (Err fault, on_present (Err fault) is, (refl, refl), refl)
 
-    module _ (edited : Edited) (is : Then (IsBase c.file) IsEdit (Ok edited)) where
+    module _ (tool : Tool) (edited : Edited) (is : Then (IsDescribedText c.file) (IsMade IsEdit) (Ok (tool, edited))) where
       module _ (differs : edited.text ≢ c.file) where
         other : edited.text ≢ s.present
         other same = differs (same ∙ stands.present)
 
-        step : IsStep s (editing tool IsEdit) (Ok (EditedReply edited.changed)) [] (state_after_edit s tool edited.text)
-        step = (Ok edited, on_present (Ok edited) is, inr (other, refl, refl), refl)
+        step : IsStep s (editing IsEdit) (Ok (EditedReply edited.changed)) [] (state_after_edit s tool edited.text)
+        step = (Ok (tool, edited), on_present (Ok (tool, edited)) is, inr (other, refl, refl), refl)
 
-        clashes : ShareDigest c.file edited.text → Clashes s (editing tool IsEdit)
+        clashes : ShareDigest c.file edited.text → Clashes s (editing IsEdit)
         clashes same = record {
           reply = EditedReply edited.changed;
           later = state_after_edit s tool edited.text;
@@ -197,24 +198,24 @@ module _ (c : Contents) (s : State) (stands : Stands c s) where
           }
 
       edit_steps : (o : Opened) (r : Result Outcome Fault) → Opens c.file c.journal o → IsEditOutcome o c tool edited r
-          → StepsAsMachine c s (editing tool IsEdit) r
+          → StepsAsMachine c s (editing IsEdit) r
       edit_steps o (Ok outcome) opens (inl (same, e)) =
-          subst (λ x. StepsAsMachine c s (editing tool IsEdit) (Ok x)) (sym e)
-          (s, (Ok edited, on_present (Ok edited) is, inl (same ∙ sym stands.present, refl, refl), refl), stands)
+          subst (λ x. StepsAsMachine c s (editing IsEdit) (Ok x)) (sym e)
+          (s, (Ok (tool, edited), on_present (Ok (tool, edited)) is, inl (same ∙ sym stands.present, refl, refl), refl), stands)
       edit_steps o (Ok outcome) opens (inr (differs, (plan, planned, e))) =
-          subst (λ x. StepsAsMachine c s (editing tool IsEdit) (Ok x)) (sym e)
+          subst (λ x. StepsAsMachine c s (editing IsEdit) (Ok x)) (sym e)
           (state_after_edit s tool edited.text, step differs, stands_after_edit o plan opens planned)
       edit_steps o (Err fault) opens (differs, e, same) = inr (e, clashes differs same)
 
     edits_step : (r : Result Outcome Fault)
-        → Then (IsBase c.file) (λ base. Then (IsOpening c.file c.journal) (λ o. Then (IsEdit base) (λ edited. IsEditOutcome o c tool edited))) r
-        → StepsAsMachine c s (editing tool IsEdit) r
+        → Then (IsDescribedText c.file) (λ text. Then (IsOpening c.file c.journal) (λ o. Then (IsMade IsEdit text) (λ made. IsEditOutcome o c made.0 made.1))) r
+        → StepsAsMachine c s (editing IsEdit) r
     edits_step r (inl (fault, refused, e)) =
-        subst (λ x. StepsAsMachine c s (editing tool IsEdit) x) (sym e) (edit_refused fault (inl (fault, refused, refl)))
-    edits_step r (inr (base, is, inl (fault, refused, e))) = absurd (no_refusal fault refused)
-    edits_step r (inr (base, is, inr (o, opens, inl (fault, refused, e)))) =
-        subst (λ x. StepsAsMachine c s (editing tool IsEdit) x) (sym e) (edit_refused fault (inr (base, is, refused)))
-    edits_step r (inr (base, is, inr (o, opens, inr (edited, done, last)))) = edit_steps edited (inr (base, is, done)) o r opens last
+        subst (λ x. StepsAsMachine c s (editing IsEdit) x) (sym e) (edit_refused fault (inl (fault, refused, refl)))
+    edits_step r (inr (text, is, inl (fault, refused, e))) = absurd (no_refusal fault refused)
+    edits_step r (inr (text, is, inr (o, opens, inl (fault, refused, e)))) =
+        subst (λ x. StepsAsMachine c s (editing IsEdit) x) (sym e) (edit_refused fault (inr (text, is, refused)))
+    edits_step r (inr (text, is, inr (o, opens, inr ((tool, edited), done, last)))) = edit_steps tool edited (inr (text, is, done)) o r opens last
 
   -- ---- a move
 
@@ -262,7 +263,7 @@ pub outcomes_are_steps : (c : Contents) (s : State) (asked : Asked) (r : Result 
     → Stands c s → IsOutcome c asked r → StepsAsMachine c s asked r
 outcomes_are_steps c s (looking IsText) r stands is = looks_step c s stands IsText r is
 outcomes_are_steps c s listing r stands is = lists_step c s stands r is
-outcomes_are_steps c s (editing tool IsEdit) r stands is = edits_step c s stands tool IsEdit r is
+outcomes_are_steps c s (editing IsEdit) r stands is = edits_step c s stands IsEdit r is
 outcomes_are_steps c s (moving direction) r stands is = moves_step c s stands direction r is
 
 pub of_requests : OutcomesAreSteps

@@ -30,11 +30,11 @@ pub record Writes (c : Contents) (outcome : Outcome) : Type 0 where
 writes : (c : Contents) (asked : Asked) (outcome : Outcome) → IsOutcome c asked (Ok outcome) → (outcome.writes ≡ []) ⊎ Writes c outcome
 writes c (looking IsText) outcome is = inl (writes_nothing c (looking IsText) outcome tt is)
 writes c listing outcome is = inl (writes_nothing c listing outcome tt is)
-writes c (editing tool IsEdit) outcome (inl refused) = let e = refused.2 in cc
-writes c (editing tool IsEdit) outcome (inr (base, is, inl refused)) = let e = refused.2 in cc
-writes c (editing tool IsEdit) outcome (inr (base, is, inr (o, opens, inl refused))) = let e = refused.2 in cc
-writes c (editing tool IsEdit) outcome (inr (base, is, inr (o, opens, inr (edited, done, inl (same, e))))) = inl (ap (λ (x : Outcome). x.writes) e)
-writes c (editing tool IsEdit) outcome (inr (base, is, inr (o, opens, inr (edited, done, inr (differs, (plan, planned, e)))))) =
+writes c (editing IsEdit) outcome (inl refused) = let e = refused.2 in cc
+writes c (editing IsEdit) outcome (inr (text, is, inl refused)) = let e = refused.2 in cc
+writes c (editing IsEdit) outcome (inr (text, is, inr (o, opens, inl refused))) = let e = refused.2 in cc
+writes c (editing IsEdit) outcome (inr (text, is, inr (o, opens, inr (made, done, inl (same, e))))) = inl (ap (λ (x : Outcome). x.writes) e)
+writes c (editing IsEdit) outcome (inr (text, is, inr (o, opens, inr (made, done, inr (differs, (plan, planned, e)))))) =
     inr (record { opened = o; opens = opens; after = _; plan = plan; safe = planned.safe; are = ap (λ (x : Outcome). x.writes) e })
 writes c (moving direction) outcome (inl refused) = let e = refused.2 in cc
 writes c (moving direction) outcome (inr (o, opens, (settled, m))) =

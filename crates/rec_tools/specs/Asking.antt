@@ -1,16 +1,13 @@
--- What the texts of a request mean, and what a file is for them: its elements, and its record sets with their rules.
+-- What the texts of a request mean: the filter and the shape that are asked for.
 use Rattle.std.specs.Prelude.{◌≡◌, ℕ, List, Some, None, Result, Ok, Err}
 use Rattle.rec_text.specs.declared.fault.Fault.{Fault}
 use Rattle.rec_text.specs.declared.fault.Fault.TheVariants.{BadExpression, BadPattern}
-use Rattle.rec_text.specs.Elements.{Piece}
-use Rattle.rec_text.specs.Reading.{IsReading}
 use Rattle.rec_sex.specs.declared.field_list.Item.{Item}
 use Rattle.rec_sex.specs.declared.index_list.Span.{Span}
 use Rattle.rec_sex.specs.Expressions.{IsExpression, ExpressionMayBeRefused}
 use Rattle.rec_sex.specs.Grammar.{Term, fault_of}
 use Rattle.rec_sex.specs.IndexList.{IsIndexList}
 use Rattle.rec_sex.specs.Lists.{IsFieldList}
-use Rattle.rec_check.specs.Schemas.{Described, IsSchema}
 use Rattle.rec_select.specs.declared.records.Shape.{Shape}
 use Rattle.rec_select.specs.declared.records.Shape.TheVariants.{Blocks as AllFields, Print as PrintedFields, Values as PickedValues, Row as PickedRow, Count as NumberAlone}
 use Rattle.rec_select.specs.Selection.{Filter, all, by_expression, at_places, with_text}
@@ -18,11 +15,10 @@ use Rattle.rec_tools.specs.declared.request.Ask.{Ask}
 use Rattle.rec_tools.specs.declared.request.Ask.TheVariants.{All, Expr, Index, Quick}
 use Rattle.rec_tools.specs.declared.request.Form.{Form}
 use Rattle.rec_tools.specs.declared.request.Form.TheVariants.{Blocks, Print, Values, Row, Count}
-use Rattle.rec_tools.specs.Steps.{Then}
 
 -- ---- the filter that is asked for
 
--- The expression of a text, or its leftmost fault. A text behind a `~` that `regex` may refuse as a pattern may be refused.
+-- The expression of a text, or its leftmost fault. A text after a `~` that `regex` may refuse as a pattern may be refused.
 abbrev pub IsExpressionFilter : List ℕ → Result Filter Fault → Type 0
 IsExpressionFilter text (Ok wanted) = (term : Term) × IsExpression text term × (wanted ≡ by_expression term)
 IsExpressionFilter text (Err (BadExpression place)) = fault_of text ≡ Some place
@@ -51,26 +47,3 @@ IsShape (Print list) answer = IsListed PrintedFields list answer
 IsShape (Values list) answer = IsListed PickedValues list answer
 IsShape (Row list) answer = IsListed PickedRow list answer
 IsShape Count answer = answer ≡ Ok NumberAlone
-
--- ---- the file
-
--- the elements of a text, and its record sets with their rules
-pub record Base : Type 0 where
-  pub pieces : List Piece
-  pub schema : Described
-
--- the base of these elements
-abbrev pub IsBaseOf : List Piece → Result Base Fault → Type 0
-IsBaseOf pieces = Then (IsSchema pieces) (λ schema answer. answer ≡ Ok (record { pieces = pieces; schema = schema }))
-
--- these elements, where their record sets can be told, or why they can't
-abbrev pub AreTold : List Piece → Result (List Piece) Fault → Type 0
-AreTold pieces = Then (IsBaseOf pieces) (λ base answer. answer ≡ Ok base.pieces)
-
--- the base that a file is, or why it is none
-abbrev pub IsBase : List ℕ → Result Base Fault → Type 0
-IsBase file = Then (IsReading file) IsBaseOf
-
--- the elements of a file whose record sets can be told, or why there are none
-abbrev pub IsRecFile : List ℕ → Result (List Piece) Fault → Type 0
-IsRecFile file = Then (IsReading file) AreTold

@@ -1,9 +1,9 @@
 -- what a reader believes, in reading order
 pub mod Home
+pub mod DescribedTexts
 pub mod Steps
 pub mod Asking
 pub mod Printouts
-pub mod Edits
 pub mod Requests
 pub mod Outcomes
 pub mod Attempts
@@ -12,6 +12,7 @@ pub mod Guarantee
 pub mod Laws
 pub mod Memory
 -- what serves proofs
+pub mod ReadFiles
+pub mod Editing
 pub mod Listed
-pub mod Changes
 pub mod Silently

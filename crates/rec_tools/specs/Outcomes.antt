@@ -1,5 +1,5 @@
 -- What a request comes to on any two contents: its refusals in their order, or what it prints, what it writes, and its reply.
-use Rattle.std.specs.Prelude.{◌≡◌, ◌≢◌, ◌⊎◌, ℕ, false, List, [], ◌∷◌, Result, Ok, Err}
+use Rattle.std.specs.Prelude.{◌≡◌, ◌≢◌, ◌⊎◌, ℕ, Bool, false, List, [], ◌∷◌, Result, Ok, Err}
 use Rattle.rec_text.specs.declared.fault.Fault.{Fault}
 use Rattle.rec_text.specs.declared.fault.Fault.TheVariants.{BadPattern, DigestClash}
 use Rattle.rec_journal.specs.declared.patch.Direction.{Direction}
@@ -14,6 +14,9 @@ use Rattle.rec_journal.specs.Stops.{IsSafe}
 use Rattle.rec_tools.specs.declared.decision.Decision.{Decision}
 use Rattle.rec_tools.specs.declared.decision.Decision.TheVariants.{Stay, Put}
 use Rattle.rec_edit.specs.declared.outcome.Edited.{Edited}
+use Rattle.rec_edit.specs.Task.{Task, tool_of}
+use Rattle.rec_edit.specs.Outcome.{IsOutcome as IsOutcomeOf}
+use Rattle.rec_tools.specs.DescribedTexts.{DescribedText, IsDescribedText}
 use Rattle.rec_tools.specs.declared.home.Which.{Which}
 use Rattle.rec_tools.specs.declared.home.Which.TheVariants.{Base as TheFile, Journal as TheJournal}
 use Rattle.rec_tools.specs.declared.request.Request.{Request}
@@ -21,7 +24,6 @@ use Rattle.rec_tools.specs.declared.request.Reply.{Reply}
 use Rattle.rec_tools.specs.declared.request.Reply.TheVariants.{Shown, Edited as EditedReply, Unchanged, Undone, Redone}
 use Rattle.rec_tools.specs.Home.{Contents}
 use Rattle.rec_tools.specs.Steps.{Then}
-use Rattle.rec_tools.specs.Asking.{IsBase}
 use Rattle.rec_tools.specs.Printouts.{Printout, printed_history}
 use Rattle.rec_tools.specs.Requests.{Asked, looking, listing, editing, moving, asked_of}
 
@@ -60,6 +62,12 @@ outcome_of (Stay reply) = staying reply
 outcome_of (Put plan reply) = putting plan reply
 
 -- ---- an edit
+
+-- what the edit of a task makes of a text, and the tool that does it; or the first refusal
+abbrev pub IsMade : (Result (Task × Bool) Fault → Type 0) → DescribedText → Result (Tool × Edited) Fault → Type 0
+IsMade IsEdit text =
+    Then IsEdit (λ (task, force).
+    Then (IsOutcomeOf text.pieces text.schema force task) (λ edited answer. answer ≡ Ok (tool_of task, edited)))
 
 -- The plan of an edit: its patch leads from the file to the text, and a stop leaves the history before or the one with the edit.
 pub record IsPlanned (o : Opened) (c : Contents) (tool : Tool) (edited : Edited) (plan : Plan) : Type 0 where
@@ -107,17 +115,17 @@ abbrev pub IsOutcome : Contents → Asked → Result Outcome Fault → Type 0
 IsOutcome c (looking IsText) answer = IsPrinting (IsText c.file) answer
 IsOutcome c listing answer =
     Then (IsOpening c.file c.journal) (λ o given. given ≡ Ok (printing (printed_history o) Shown)) answer
-IsOutcome c (editing tool IsEdit) answer =
-    Then (IsBase c.file) (λ base.
+IsOutcome c (editing IsEdit) answer =
+    Then (IsDescribedText c.file) (λ text.
     Then (IsOpening c.file c.journal) (λ o.
-    Then (IsEdit base) (λ edited.
+    Then (IsMade IsEdit text) (λ (tool, edited).
     IsEditOutcome o c tool edited))) answer
 IsOutcome c (moving direction) answer = Then (IsOpening c.file c.journal) (λ o. IsMove direction o c) answer
 
--- a decision is what is asked for on the contents, or it is refused so
-abbrev pub Decides : Contents → Asked → Result Decision Fault → Type 0
-Decides c asked (Ok decision) = IsOutcome c asked (Ok (outcome_of decision))
-Decides c asked (Err fault) = IsOutcome c asked (Err fault)
+-- a decision is what is asked for on a file and a journal, or it is refused so
+abbrev pub Decides : List ℕ → List ℕ → Asked → Result Decision Fault → Type 0
+Decides file journal asked (Ok decision) = IsOutcome (record { file = file; journal = journal }) asked (Ok (outcome_of decision))
+Decides file journal asked (Err fault) = IsOutcome (record { file = file; journal = journal }) asked (Err fault)
 
 -- A request comes to one outcome on two contents at most; only where `regex` may refuse a pattern of its expression or of
 -- a descriptor, that refusal may stand in the place of the other answer.

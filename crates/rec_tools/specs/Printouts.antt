@@ -20,26 +20,27 @@ use Rattle.rec_tools.specs.declared.request.Pick.{Pick}
 use Rattle.rec_tools.specs.declared.request.Reply.{Reply}
 use Rattle.rec_tools.specs.declared.request.Reply.TheVariants.{Shown, Violated}
 use Rattle.rec_tools.specs.Steps.{Then}
-use Rattle.rec_tools.specs.Asking.{Base, IsBase, IsFilter, IsShape}
+use Rattle.rec_tools.specs.DescribedTexts.{DescribedText, IsDescribedText}
+use Rattle.rec_tools.specs.Asking.{IsFilter, IsShape}
 
 -- ---- the texts
 
--- the selected records of a base, in a shape
-abbrev pub IsShowOf : Base → Option (List ℕ) → Filter → Shape → Bool → Result (List ℕ) Fault → Type 0
-IsShowOf base kind wanted shape collapse =
-    Then (IsSelection base.pieces base.schema.sets kind wanted) (λ selected. IsPrinted base.pieces selected shape collapse)
+-- the selected records of a text, in a shape
+abbrev pub IsShowOf : DescribedText → Option (List ℕ) → Filter → Shape → Bool → Result (List ℕ) Fault → Type 0
+IsShowOf text kind wanted shape collapse =
+    Then (IsSelection text.pieces text.schema.sets kind wanted) (λ selected. IsPrinted text.pieces selected shape collapse)
 
 -- the records that a pick selects, in a form
 abbrev pub IsShow : List ℕ → Pick → Form → Bool → Result (List ℕ) Fault → Type 0
 IsShow file pick form collapse =
-    Then (IsBase file) (λ base.
+    Then (IsDescribedText file) (λ text.
     Then (IsFilter pick.by) (λ wanted.
     Then (IsShape form) (λ shape.
-    IsShowOf base pick.kind wanted shape collapse)))
+    IsShowOf text pick.kind wanted shape collapse)))
 
 -- the record sets, or that of a type, in a form
 abbrev pub IsInfoOf : List ℕ → Option (List ℕ) → InfoForm → Result (List ℕ) Fault → Type 0
-IsInfoOf file kind form = Then (IsBase file) (λ base. IsInfo base.pieces base.schema.sets kind form)
+IsInfoOf file kind form = Then (IsDescribedText file) (λ text. IsInfo text.pieces text.schema.sets kind form)
 
 -- ---- the texts with their replies
 

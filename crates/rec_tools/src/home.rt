@@ -1,6 +1,6 @@
 //! Where a file and its journal are kept.
-ghost use Rattle.std.specs.Prelude.{◌≡◌, ◌⊎◌, ℕ, Option, Some, IfErr, IfSome};
-ghost use Rattle.rec_text.specs.Sink.{UnlessStoreFailed};
+ghost use Rattle.std.specs.Prelude.{◌≡◌, ℕ, Option, Some, IfSome, IsOkUnless};
+ghost use Rattle.rec_text.specs.Faults.{IsOkUnlessEither};
 ghost use Rattle.rec_tools.specs.Home.{Contents, Call, Tells, Counts, left_by, read_call, IsReplaceCall};
 
 use rec_text::{Bytes, Fault};
@@ -29,12 +29,12 @@ pub trait Home {
     /// The bytes of a content. Nothing is changed.
     fn read(&mut self, alloc: Global, which: Which) -> Result<Bytes, Fault>
         ensures call { goes self.old (read_call which result) self.new }
-        ensures refusals { IfErr result (λ fault. (fault ≡ Fault.OutOfMemory) ⊎ (fault ≡ Fault.StoreFailed)) };
+        ensures refusals { IsOkUnlessEither result Fault.OutOfMemory Fault.StoreFailed };
 
     /// Puts these bytes in the place of a content. A failure leaves that content old or new, and the other as it was.
     fn replace(&mut self, which: Which, bytes: &[u8]) -> Result<(), Fault>
         ensures call { (call : Call) × IsReplaceCall which bytes.now result call × goes self.old call self.new }
-        ensures refusals { UnlessStoreFailed result };
+        ensures refusals { IsOkUnless result Fault.StoreFailed };
 
     /// How often the home failed.
     fn failures(&self) -> u64

@@ -3,11 +3,12 @@
 #![tactic(auto)]
 
 mod decision;
-mod deed;
+mod editing;
 mod history;
 mod home;
 mod laws;
 mod memory;
+mod moves;
 mod printing;
 mod rec_file;
 mod request;

@@ -67,7 +67,8 @@ impl MemoryHome {
 
     /// Lets the call of this number fail, unless another fault was given for it before.
     pub fn fail(&mut self, call: u64, fault: StoreFault) -> Result<(), AllocError>
-        ensures added { OnOk result (self.new.faults.items ≡ self.old.faults.items ++ record { call = call; fault = fault } ∷ []) }
+        ensures added { OnOk result
+            (self.new.faults.items ≡ self.old.faults.items ++ record { call = call; fault = fault } ∷ []) }
         ensures unchanged { OnErr result (self.new.faults.items ≡ self.old.faults.items) }
         ensures contents { held self.new ≡ held self.old }
         ensures calls { self.new.calls ≡ self.old.calls }
@@ -106,7 +107,8 @@ impl MemoryHome {
         ensures contents { held self.new ≡ held self.old }
         ensures numbered { self.new.calls ≡ min (self.old.calls + 1) (2 ^ 64 - 1) }
         ensures faults { self.new.faults.items ≡ self.old.faults.items }
-        ensures counted { MatchOption result (self.new.failed ≡ self.old.failed) (λ _. CountsOne self.old.failed self.new.failed) }
+        ensures counted { MatchOption result
+            (self.new.failed ≡ self.old.failed) (λ _. CountsOne self.old.failed self.new.failed) }
     {
         let fault = fault_at(&self.faults, self.calls);
         self.calls = self.calls.saturating_add(1);

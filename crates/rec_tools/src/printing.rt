@@ -3,32 +3,33 @@ ghost use Rattle.std.specs.Prelude.{◌≡◌, option_map, IfErr};
 ghost use Rattle.rec_check.specs.Violations.{AreViolationsOf};
 ghost use Rattle.rec_select.specs.Selection.{filter_of};
 ghost use Rattle.rec_select.specs.Taken.{PrintsAndCounts};
-ghost use Rattle.rec_tools.specs.Steps.{Then, IsRefusal};
-ghost use Rattle.rec_tools.specs.Asking.{IsBaseOf};
+ghost use Rattle.rec_tools.specs.Steps.{IsRefusal};
+ghost use Rattle.rec_tools.specs.ReadFiles.{described_file, BelongTogether};
 ghost use Rattle.rec_tools.specs.Printouts.{IsShowOf, IsShow, IsInfoOf, IsShownText, IsReportText, PutsPrintout, verdict};
 
-use crate::rec_file::RecFile;
+use crate::rec_file::{ReadFile, read_file};
 use crate::request::{Form, Pick, Reply};
 use crate::selecting::{Wanted, wanted_of};
 use rec_select::{InfoForm, choose, write_info, write_records, write_report};
 use rec_text::{Bytes, Fault, Sink, Violation};
 use std::alloc::Global;
 
-/// Prints the records of a base that are asked for.
+/// Prints the records of a file that are asked for.
 fn print_wanted<S: Sink>(
     alloc: Global,
-    base: &RecFile,
+    file: &ReadFile,
     wanted: &Wanted,
     collapse: bool,
     out: &mut S,
 ) -> Result<Reply, Fault>
+    requires { BelongTogether file.now }
     ensures written { PrintsAndCounts S.contents S.failure_count out.old out.new
-        (PutsPrintout (IsShownText (Then (IsBaseOf base.now) (λ base. IsShowOf base wanted.now.selection.kind
-        (filter_of wanted.now.selection.by) wanted.now.shape collapse)))) result }
+        (PutsPrintout (IsShownText (IsShowOf (described_file file.now) wanted.now.selection.kind
+        (filter_of wanted.now.selection.by) wanted.now.shape collapse))) result }
     ensures refusals { IfErr result IsRefusal }
 {
-    let database = base.database();
-    let selected = choose(alloc, database, base.schema(), &wanted.selection)?;
+    let database = &file.database;
+    let selected = choose(alloc, database, &file.schema, &wanted.selection)?;
     write_records(alloc, database, &selected, &wanted.shape, collapse, out)?;
     Ok(Reply::Shown)
 }
@@ -46,9 +47,9 @@ pub fn show<S: Sink>(
         (PutsPrintout (IsShownText (IsShow file.now pick.now form.now collapse))) result }
     ensures refusals { IfErr result IsRefusal }
 {
-    let base = RecFile::read(alloc, file)?;
+    let read = read_file(alloc, file)?;
     let wanted = wanted_of(alloc, pick, form)?;
-    print_wanted(alloc, &base, &wanted, collapse, out)
+    print_wanted(alloc, &read, &wanted, collapse, out)
 }
 
 /// The bytes of a type, where one is given.
@@ -73,8 +74,8 @@ pub fn inform<S: Sink>(
         (PutsPrintout (IsShownText (IsInfoOf file.now kind.now form))) result }
     ensures refusals { IfErr result IsRefusal }
 {
-    let base = RecFile::read(alloc, file)?;
-    write_info(base.database(), base.schema(), slice_of(kind), form, out)?;
+    let read = read_file(alloc, file)?;
+    write_info(&read.database, &read.schema, slice_of(kind), form, out)?;
     Ok(Reply::Shown)
 }
 
@@ -94,8 +95,8 @@ pub fn check<S: Sink>(alloc: Global, file: &[u8], out: &mut S) -> Result<Reply, 
         (PutsPrintout (IsReportText (AreViolationsOf file.now))) result }
     ensures refusals { IfErr result IsRefusal }
 {
-    let base = RecFile::read(alloc, file)?;
-    let found = base.schema().violations(alloc, base.database())?;
+    let read = read_file(alloc, file)?;
+    let found = read.schema.violations(alloc, &read.database)?;
     write_report(&found, out)?;
     Ok(verdict_on(&found))
 }

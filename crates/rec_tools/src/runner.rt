@@ -1,33 +1,31 @@
 //! Runs requests on a home.
-ghost use Rattle.std.specs.Prelude.{◌≡◌, ◌⊎◌, ◌≤◌, ℕ, List, Option, Some, IfOk, IfErr, IfSome, IsErrOf};
+ghost use Rattle.std.specs.Prelude.{◌≡◌, ◌⊎◌, ◌≤◌, ℕ, List, Option, Some, IfOk, IfErr, IfSome, IsErrOf, IsOkUnless};
 ghost use Rattle.std.specs.List.{AllByRecursion};
-ghost use Rattle.rec_text.specs.Sink.{UnlessStoreFailed};
+ghost use Rattle.rec_text.specs.Faults.{IsOkUnlessEither};
 ghost use Rattle.rec_journal.specs.History.{IsRegular};
-ghost use Rattle.rec_tools.specs.Home.{Call, Went, HasFailed, left_by_all, Rose};
+ghost use Rattle.rec_tools.specs.Home.{Call, HasFailed, left_by_all, Rose};
 ghost use Rattle.rec_tools.specs.Steps.{IsRefusal};
 ghost use Rattle.rec_tools.specs.Printouts.{Printed, WentOut};
-ghost use Rattle.rec_tools.specs.Requests.{listing, moving, asked_of, IsSilent, WritesNothing};
+ghost use Rattle.rec_tools.specs.Requests.{listing, asked_of, IsSilent, WritesNothing};
 ghost use Rattle.rec_tools.specs.Outcomes.{outcome_of, writes_of};
 ghost use Rattle.rec_tools.specs.Attempts.{AreRead, AreWritten, IsAnswered, IsCutShort, Attempts, AttemptsAll};
 ghost use Rattle.rec_tools.specs.Machine.{State, Stands};
 ghost use Rattle.rec_tools.specs.Guarantee.{RunsAsMachine};
-ghost use Rattle.rec_tools.specs.Changes.{asked_by};
-ghost use Rattle.rec_tools.specs.Silently.{DoesSilently};
+ghost use Rattle.rec_tools.specs.Silently.{ByCalls, DoesSilently};
 
-use crate::decision::{Decision, decide_edit, decide_move};
-use crate::deed::Deed;
+use crate::decision::{Decision, decide};
 use crate::history::print_history;
 use crate::home::{Home, Which};
 use crate::printing::{check, inform, show};
 use crate::request::{Reply, Request};
-use rec_journal::{Direction, Plan};
+use rec_journal::Plan;
 use rec_text::{Bytes, Fault, Sink};
 use std::alloc::Global;
 
 /// Reads the file and the journal.
 fn read_both<H: Home>(alloc: Global, home: &mut H) -> Result<(Bytes, Bytes), Fault>
-    ensures calls { (calls : List Call) × Went H.goes home.old calls home.new × AreRead result calls }
-    ensures refusals { IfErr result (λ fault. (fault ≡ Fault.OutOfMemory) ⊎ (fault ≡ Fault.StoreFailed)) }
+    ensures calls { ByCalls H.goes home.old home.new (AreRead result) }
+    ensures refusals { IsOkUnlessEither result Fault.OutOfMemory Fault.StoreFailed }
 {
     let file = home.read(alloc, Which::Base)?;
     let journal = home.read(alloc, Which::Journal)?;
@@ -37,8 +35,8 @@ fn read_both<H: Home>(alloc: Global, home: &mut H) -> Result<(Bytes, Bytes), Fau
 /// Puts a plan's contents in place, the journal first: where the second replace fails, the journal tells what became
 /// of the edit.
 fn put_in_place<H: Home>(home: &mut H, plan: &Plan) -> Result<(), Fault>
-    ensures calls { (calls : List Call) × Went H.goes home.old calls home.new × AreWritten (writes_of plan.now) result calls }
-    ensures refusals { UnlessStoreFailed result }
+    ensures calls { ByCalls H.goes home.old home.new (AreWritten (writes_of plan.now) result) }
+    ensures refusals { IsOkUnless result Fault.StoreFailed }
 {
     home.replace(Which::Journal, plan.journal.as_slice())?;
     home.replace(Which::Base, plan.file.as_slice())
@@ -46,8 +44,8 @@ fn put_in_place<H: Home>(home: &mut H, plan: &Plan) -> Result<(), Fault>
 
 /// Carries a decision out.
 fn carry_out<H: Home>(home: &mut H, decision: Decision) -> Result<Reply, Fault>
-    ensures calls { (calls : List Call) × Went H.goes home.old calls home.new × IsAnswered (outcome_of decision) result calls }
-    ensures refusals { UnlessStoreFailed result }
+    ensures calls { ByCalls H.goes home.old home.new (IsAnswered (outcome_of decision) result) }
+    ensures refusals { IsOkUnless result Fault.StoreFailed }
 {
     match decision {
         Decision::Stay(reply) => Ok(reply),
@@ -58,23 +56,14 @@ fn carry_out<H: Home>(home: &mut H, decision: Decision) -> Result<Reply, Fault>
     }
 }
 
-/// Reads both contents, edits the file, and puts the plan in place.
-fn make_edit<H: Home>(alloc: Global, home: &mut H, deed: Deed, force: bool) -> Result<Reply, Fault>
-    ensures attempts { DoesSilently H.goes home.old home.new (asked_by deed.entry force) result }
+/// Reads both contents, decides a request that prints nothing, and puts its plan in place.
+fn make_change<H: Home>(alloc: Global, home: &mut H, request: &Request) -> Result<Reply, Fault>
+    requires { IsSilent (asked_of request.now) }
+    ensures attempts { DoesSilently H.goes home.old home.new (asked_of request.now) result }
     ensures refusals { IfErr result IsRefusal }
 {
     let (file, journal) = read_both(alloc, home)?;
-    let decision = decide_edit(alloc, file.as_slice(), journal.as_slice(), deed, force)?;
-    carry_out(home, decision)
-}
-
-/// Reads both contents, and takes the newest edit back, or makes the next one again.
-fn make_move<H: Home>(alloc: Global, home: &mut H, direction: Direction) -> Result<Reply, Fault>
-    ensures attempts { DoesSilently H.goes home.old home.new (moving direction) result }
-    ensures refusals { IfErr result IsRefusal }
-{
-    let (file, journal) = read_both(alloc, home)?;
-    let decision = decide_move(alloc, file.as_slice(), journal.as_slice(), direction)?;
+    let decision = decide(alloc, file.as_slice(), journal.as_slice(), request)?;
     carry_out(home, decision)
 }
 
@@ -119,32 +108,15 @@ fn attempt<H: Home, S: Sink>(
             let file = home.read(alloc, Which::Base)?;
             check(alloc, file.as_slice(), out)
         }
-        Request::Insert {
-            kind,
-            fresh,
-            auto,
-            force,
-        } => {
-            let auto = *auto;
-            make_edit(alloc, home, Deed::Insert { kind, fresh, auto }, *force)
-        }
-        Request::Replace { pick, fresh, force } => {
-            make_edit(alloc, home, Deed::Replace(pick, fresh), *force)
-        }
-        Request::Delete { pick, force } => make_edit(alloc, home, Deed::Delete(pick), *force),
-        Request::CommentOut { pick, force } => {
-            make_edit(alloc, home, Deed::CommentOut(pick), *force)
-        }
-        Request::Set {
-            pick,
-            list,
-            action,
-            force,
-        } => make_edit(alloc, home, Deed::Set(pick, list, action), *force),
-        Request::AutoFill { force } => make_edit(alloc, home, Deed::AutoFill, *force),
-        Request::Undo => make_move(alloc, home, Direction::Backward),
-        Request::Redo => make_move(alloc, home, Direction::Forward),
         Request::History => tell_history(alloc, home, out),
+        Request::Insert { .. }
+        | Request::Replace { .. }
+        | Request::Delete { .. }
+        | Request::CommentOut { .. }
+        | Request::Set { .. }
+        | Request::AutoFill { .. }
+        | Request::Undo
+        | Request::Redo => make_change(alloc, home, request),
     }
 }
 
@@ -168,15 +140,18 @@ pub fn run<H: Home, S: Sink>(
         ⊎ ((H.failure_count home.new ≡ H.failure_count home.old) × (S.failure_count out.new ≡ S.failure_count out.old)) }
 
     // A store failed only where the failures of the home or of the sink rose.
-    ensures store_failed { IsErrOf result Fault.StoreFailed → Rose H.failure_count home.old home.new ⊎ Rose S.failure_count out.old out.new }
+    ensures store_failed { IsErrOf result Fault.StoreFailed
+        → Rose H.failure_count home.old home.new ⊎ Rose S.failure_count out.old out.new }
 
     // Where a write failed, the journal alone is new, or the file is too, or neither is.
     ensures stopped { IfSome (H.contents home.old) (λ c. IsErrOf result Fault.StoreFailed
         → (H.contents home.new ≡ Some c) ⊎ IsCutShort c (asked_of request.now) (H.contents home.new)) }
 
     // After any refusal but a failed store both contents are as before; so they are after every request that writes nothing.
-    ensures unchanged { IfSome (H.contents home.old) (λ c. IfErr result (λ fault. (fault ≡ Fault.StoreFailed) ⊎ (H.contents home.new ≡ Some c))) }
-    ensures looks { IfSome (H.contents home.old) (λ c. WritesNothing (asked_of request.now) → H.contents home.new ≡ Some c) }
+    ensures unchanged { IfSome (H.contents home.old) (λ c.
+        IfErr result (λ fault. (fault ≡ Fault.StoreFailed) ⊎ (H.contents home.new ≡ Some c))) }
+    ensures looks { IfSome (H.contents home.old) (λ c.
+        WritesNothing (asked_of request.now) → H.contents home.new ≡ Some c) }
 {
     attempt(alloc, home, out, request)
 }
@@ -210,7 +185,8 @@ pub fn run_all<H: Home, S: Sink>(
         × (H.contents home.new ≡ Some (left_by_all c calls))
         × RunsAsMachine c s requests.now answers.items calls p t × IsRegular (left_by_all c calls).journal)) }
 
-    ensures unreserved { IfErr result (λ fault. (fault ≡ Fault.OutOfMemory) × (home.new ≡ home.old) × (out.new ≡ out.old)) }
+    ensures unreserved { IfErr result (λ fault.
+        (fault ≡ Fault.OutOfMemory) × (home.new ≡ home.old) × (out.new ≡ out.old)) }
     ensures counted { S.failure_count out.old ≤ S.failure_count out.new }
     ensures silent { AllByRecursion (λ request. IsSilent (asked_of request)) requests.now → out.new ≡ out.old }
 {

@@ -25,7 +25,7 @@ fn by_of(alloc: Global, ask: &Ask) -> Result<By, Fault>
 }
 
 /// A copy of a type, where one is given.
-pub fn copy_of_kind(alloc: Global, kind: &Option<Bytes>) -> Result<Option<Bytes>, AllocError>
+fn copy_of_kind(alloc: Global, kind: &Option<Bytes>) -> Result<Option<Bytes>, AllocError>
     ensures { IfOk result (λ copy. copy ≡ kind.now) }
 {
     match kind {
@@ -68,9 +68,11 @@ pub struct Wanted {
 
 /// What a pick and a form ask for. Faults of the pick come first.
 pub fn wanted_of(alloc: Global, pick: &Pick, form: &Form) -> Result<Wanted, Fault>
-    ensures found { IfOk result (λ wanted. IsFilter pick.now.by (Ok (filter_of wanted.selection.by)) × IsShape form.now (Ok wanted.shape)) }
+    ensures found { IfOk result (λ wanted.
+        IsFilter pick.now.by (Ok (filter_of wanted.selection.by)) × IsShape form.now (Ok wanted.shape)) }
     ensures kind { IfOk result (λ wanted. wanted.selection.kind ≡ pick.now.kind) }
-    ensures refused { IfErr result (λ fault. IsMemoryOr fault (Then (IsFilter pick.now.by) (λ _. IsShape form.now) (Err fault))) }
+    ensures refused { IfErr result (λ fault.
+        IsMemoryOr fault (Then (IsFilter pick.now.by) (λ _. IsShape form.now) (Err fault))) }
 {
     let selection = selection_of(alloc, pick)?;
     let shape = shape_of(alloc, form)?;

@@ -1,21 +1,21 @@
 use Rattle.std.proofs.lemmas.Result.{err_from_is_err_and}
 use Rattle.rec_tools.proofs.PutsLemmas.{PutsPrintout-weaker, IsShownText-weaker, printed_weaker}
-use Rattle.rec_tools.proofs.ShowLemmas.{show-no_base, show-not_asked, show-printed}
+use Rattle.rec_tools.proofs.ShowLemmas.{show-no_text, show-not_asked, show-printed}
 use Rattle.rec_tools.proofs.printing.show.Goals as goal
 
-pub returns-in_err-base-clause-written : goal.returns-in_err-base-clause-written
-returns-in_err-base-clause-written g c =
+pub returns-in_err-read-clause-written : goal.returns-in_err-read-clause-written
+returns-in_err-read-clause-written g c =
     let p = err_from_is_err_and c.from_residual.result c.from_residual.ensures.1 in
-    rw (p.1, p.2) (show-no_base c.args.file.now c.args.pick.now c.args.form.now c.args.collapse _ _ c.in_err-base.ensures.found)
+    rw (p.1, p.2) (show-no_text c.args.file.now c.args.pick.now c.args.form.now c.args.collapse _ _ c.in_err-read.ensures.refused)
 
 pub returns-in_err-wanted-clause-written : goal.returns-in_err-wanted-clause-written
 returns-in_err-wanted-clause-written g c =
     let p = err_from_is_err_and c.from_residual-in_err-wanted.result c.from_residual-in_err-wanted.ensures.1 in
-    rw (p.1, p.2) (show-not_asked c.args.file.now c.args.pick.now c.args.form.now c.args.collapse _ c.in_ok-base.ensures.found _ _ c.in_err-wanted.ensures.refused)
+    rw (p.1, p.2) (show-not_asked c.args.file.now c.args.pick.now c.args.form.now c.args.collapse _ c.in_ok-read.ensures.found _ _ c.in_err-wanted.ensures.refused)
 
 pub returns-clause-written : goal.returns-clause-written
 returns-clause-written g c =
     let found = c.in_ok-wanted.ensures.found in
     printed_weaker c.print_wanted.ensures.written
     (PutsPrintout-weaker _ _ _ _ c.print_wanted.result
-    (IsShownText-weaker _ _ (show-printed c.args.file.now c.args.pick.now c.args.form.now c.args.collapse _ c.in_ok-base.ensures.found _ _ _ c.in_ok-wanted.ensures.kind found.0 found.1)))
+    (IsShownText-weaker _ _ (show-printed c.args.file.now c.args.pick.now c.args.form.now c.args.collapse _ c.in_ok-read.ensures.found _ _ _ c.in_ok-wanted.ensures.kind found.0 found.1)))

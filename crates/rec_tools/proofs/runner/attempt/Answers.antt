@@ -33,43 +33,12 @@ pub returns-in_ok-file-in-Check-clause-attempts : goal.returns-in_ok-file-in-Che
 returns-in_ok-file-in-Check-clause-attempts g c =
     rw c.in-Check.is (attempted-printed _ g.S.Sink.contents g.S.Sink.failure_count _ _ c.args.out.now c.check.new.out _ _ _ _ c.in_ok-file-in-Check.ensures.call c.as_slice-in-Check.ensures c.check.ensures.written)
 
--- ---- records are edited
-
-pub returns-in-Insert-clause-attempts : goal.returns-in-Insert-clause-attempts
-returns-in-Insert-clause-attempts g c =
-    rw c.in-Insert.is (attempted-silently _ g.S.Sink.contents g.S.Sink.failure_count _ _ c.args.out.now _ _ c.make_edit.ensures.attempts)
-
-pub returns-in-Replace-clause-attempts : goal.returns-in-Replace-clause-attempts
-returns-in-Replace-clause-attempts g c =
-    rw c.in-Replace.is (attempted-silently _ g.S.Sink.contents g.S.Sink.failure_count _ _ c.args.out.now _ _ c.make_edit-in-Replace.ensures.attempts)
-
-pub returns-in-Delete-clause-attempts : goal.returns-in-Delete-clause-attempts
-returns-in-Delete-clause-attempts g c =
-    rw c.in-Delete.is (attempted-silently _ g.S.Sink.contents g.S.Sink.failure_count _ _ c.args.out.now _ _ c.make_edit-in-Delete.ensures.attempts)
-
-pub returns-in-CommentOut-clause-attempts : goal.returns-in-CommentOut-clause-attempts
-returns-in-CommentOut-clause-attempts g c =
-    rw c.in-CommentOut.is (attempted-silently _ g.S.Sink.contents g.S.Sink.failure_count _ _ c.args.out.now _ _ c.make_edit-in-CommentOut.ensures.attempts)
-
-pub returns-in-Set-clause-attempts : goal.returns-in-Set-clause-attempts
-returns-in-Set-clause-attempts g c =
-    rw c.in-Set.is (attempted-silently _ g.S.Sink.contents g.S.Sink.failure_count _ _ c.args.out.now _ _ c.make_edit-in-Set.ensures.attempts)
-
-pub returns-in-AutoFill-clause-attempts : goal.returns-in-AutoFill-clause-attempts
-returns-in-AutoFill-clause-attempts g c =
-    rw c.in-AutoFill.is (attempted-silently _ g.S.Sink.contents g.S.Sink.failure_count _ _ c.args.out.now _ _ c.make_edit-in-AutoFill.ensures.attempts)
-
--- ---- an edit is taken back, or made again
-
-pub returns-in-Undo-clause-attempts : goal.returns-in-Undo-clause-attempts
-returns-in-Undo-clause-attempts g c =
-    rw c.in-Undo.is (attempted-silently _ g.S.Sink.contents g.S.Sink.failure_count _ _ c.args.out.now _ _ c.make_move.ensures.attempts)
-
-pub returns-in-Redo-clause-attempts : goal.returns-in-Redo-clause-attempts
-returns-in-Redo-clause-attempts g c =
-    rw c.in-Redo.is (attempted-silently _ g.S.Sink.contents g.S.Sink.failure_count _ _ c.args.out.now _ _ c.make_move-in-Redo.ensures.attempts)
-
 -- ---- the history is printed
 
 pub returns-in-History-clause-attempts : goal.returns-in-History-clause-attempts
 returns-in-History-clause-attempts g c = rw c.in-History.is c.tell_history.ensures.attempts
+
+-- ---- an edit is made, taken back, or made again
+
+pub returns-in-Insert-clause-attempts : goal.returns-in-Insert-clause-attempts
+returns-in-Insert-clause-attempts g c = attempted-silently _ g.S.Sink.contents g.S.Sink.failure_count _ _ c.args.out.now _ _ c.make_change.ensures.attempts

@@ -1,4 +1,4 @@
-use Rattle.rec_tools.proofs.decision.plan_move.Goals as goal
+use Rattle.rec_tools.proofs.moves.plan_move.Goals as goal
 
 pub returns-in-Forward-clause-safe : goal.returns-in-Forward-clause-safe
 returns-in-Forward-clause-safe c = rw c.in-Forward.is c.plan_redo.ensures.safe

@@ -12,7 +12,7 @@ use Rattle.rec_sex.proofs.IndexListReading.{one_index_list}
 use Rattle.rec_sex.proofs.UniqueLemmas.{one_expression}
 use Rattle.rec_check.specs.declared.set.Set_.{Set_}
 use Rattle.rec_check.specs.Schemas.{Described, IsSchema}
-use Rattle.rec_tools.specs.DescribedTexts.{DescribedText, AreDescribed, IsDescribedText}
+use Rattle.rec_check.specs.DescribedTexts.{DescribedText, AreDescribed, IsDescribedText}
 use Rattle.rec_check.proofs.SameLemmas.{one_schema}
 use Rattle.rec_select.specs.Selection.{Filter, all as all_members, at_places, with_text, Passes, IsSelection}
 use Rattle.rec_edit.specs.Outcome.{allowed}

@@ -6,7 +6,7 @@ use Rattle.rec_text.specs.Faults.{IsMemoryOr}
 use Rattle.rec_text.specs.declared.violations.Violation.{Violation}
 use Rattle.rec_text.specs.Reading.{IsReading}
 use Rattle.rec_check.specs.Schemas.{IsSchema}
-use Rattle.rec_tools.specs.DescribedTexts.{DescribedText, IsDescribedText}
+use Rattle.rec_check.specs.DescribedTexts.{DescribedText, IsDescribedText}
 use Rattle.rec_check.specs.Violations.{AreViolations, AreViolationsOf}
 use Rattle.rec_select.specs.Taken.{PrintsAndCounts, Puts}
 use Rattle.rec_select.specs.Report.{IsReport, report}

@@ -19,7 +19,7 @@ use Rattle.rec_journal.proofs.Countings.{Opens-digest}
 use Rattle.rec_edit.specs.declared.outcome.Edited.{Edited}
 use Rattle.rec_edit.specs.Task.{Task, tool_of}
 use Rattle.rec_edit.specs.Outcome.{IsOutcome as IsOutcomeOf}
-use Rattle.rec_tools.specs.DescribedTexts.{DescribedText, IsDescribedText}
+use Rattle.rec_check.specs.DescribedTexts.{DescribedText, IsDescribedText}
 use Rattle.rec_tools.specs.declared.request.Reply.{Reply}
 use Rattle.rec_tools.specs.declared.request.Reply.TheVariants.{Edited as EditedReply, Unchanged}
 use Rattle.rec_tools.specs.Home.{Contents}

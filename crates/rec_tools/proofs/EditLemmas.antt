@@ -12,7 +12,7 @@ use Rattle.rec_sex.specs.declared.field_list.Item.{Item}
 use Rattle.rec_sex.specs.Lists.{IsFieldList}
 use Rattle.rec_check.specs.declared.set.Set_.{Set_}
 use Rattle.rec_check.specs.Schemas.{Described}
-use Rattle.rec_tools.specs.DescribedTexts.{DescribedText}
+use Rattle.rec_check.specs.DescribedTexts.{DescribedText}
 use Rattle.rec_journal.specs.declared.event.Tool.{Tool}
 use Rattle.rec_check.specs.Violations.{AreViolationsOf}
 use Rattle.rec_select.specs.Selection.{Filter, all as all_members, by_expression, at_places, with_text, IsSelection}

@@ -7,7 +7,7 @@ use Rattle.rec_text.proofs.RecordLemmas.{OneListOfRecords-holds}
 use Rattle.rec_sex.specs.declared.field_list.Item.{Item}
 use Rattle.rec_sex.proofs.FieldListReading.{one_field_list}
 use Rattle.rec_check.specs.declared.set.Set_.{Set_}
-use Rattle.rec_tools.specs.DescribedTexts.{DescribedText}
+use Rattle.rec_check.specs.DescribedTexts.{DescribedText}
 use Rattle.rec_check.proofs.CheckLemmas.{one_check}
 use Rattle.rec_check.specs.Violations.{AreViolationsOf}
 use Rattle.rec_select.specs.declared.info.InfoForm.{InfoForm}

@@ -11,7 +11,7 @@ use Rattle.rec_check.specs.Schemas.{IsSchema}
 use Rattle.rec_select.specs.Taken.{PrintsAndCounts, Puts}
 use Rattle.rec_tools.specs.declared.request.Reply.{Reply}
 use Rattle.rec_tools.specs.declared.request.Reply.TheVariants.{Shown}
-use Rattle.rec_tools.specs.DescribedTexts.{DescribedText, AreDescribed, IsDescribedText}
+use Rattle.rec_check.specs.DescribedTexts.{DescribedText, AreDescribed, IsDescribedText}
 use Rattle.rec_tools.specs.Printouts.{Printout, PutsPrintout, IsShownText}
 use Rattle.rec_tools.specs.Steps.{Then}
 use Rattle.rec_tools.proofs.FaultLemmas.{ok_is_no_err, same_fault}

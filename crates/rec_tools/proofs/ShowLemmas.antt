@@ -6,7 +6,7 @@ use Rattle.rec_text.specs.declared.fault.Fault.TheVariants.{StoreFailed}
 use Rattle.rec_text.specs.Faults.{IsMemoryOr}
 use Rattle.rec_check.specs.declared.set.Set_.{Set_}
 use Rattle.rec_select.specs.Taken.{PrintsAndCounts}
-use Rattle.rec_tools.specs.DescribedTexts.{DescribedText, IsDescribedText}
+use Rattle.rec_check.specs.DescribedTexts.{DescribedText, IsDescribedText}
 use Rattle.rec_check.specs.Sets.{is_of_type}
 use Rattle.rec_select.specs.declared.records.Shape.{Shape}
 use Rattle.rec_select.specs.Printing.{IsPrinted}

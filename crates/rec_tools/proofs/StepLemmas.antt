@@ -13,7 +13,7 @@ use Rattle.rec_journal.specs.Revisions.{one_pass, Leads}
 use Rattle.rec_journal.specs.Plans.{ShareDigest, edit_to, after_edit_plan, edits_on, after_move, LeadsNowhere}
 use Rattle.rec_journal.proofs.Openings.{one_opening}
 use Rattle.rec_journal.proofs.StepLemmas.{edits_lead_to_one_text}
-use Rattle.rec_tools.specs.DescribedTexts.{IsDescribedText}
+use Rattle.rec_check.specs.DescribedTexts.{IsDescribedText}
 use Rattle.rec_edit.specs.declared.outcome.Edited.{Edited}
 use Rattle.rec_edit.specs.Task.{Task}
 use Rattle.rec_tools.specs.declared.request.Reply.TheVariants.{Shown, Edited as EditedReply}

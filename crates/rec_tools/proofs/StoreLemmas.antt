@@ -14,7 +14,7 @@ use Rattle.rec_tools.specs.Steps.{Then}
 use Rattle.rec_journal.specs.declared.patch.Direction.{Direction}
 use Rattle.rec_journal.specs.declared.patch.Direction.TheVariants.{Forward, Backward}
 use Rattle.rec_journal.specs.Plans.{nothing_there}
-use Rattle.rec_tools.specs.DescribedTexts.{DescribedText, IsDescribedText}
+use Rattle.rec_check.specs.DescribedTexts.{DescribedText, IsDescribedText}
 use Rattle.rec_tools.specs.Printouts.{printed_history}
 use Rattle.rec_select.specs.Info.{IsInfo}
 use Rattle.rec_tools.specs.Requests.{IsTask, IsTaskBy, editing, moving, asked_of}

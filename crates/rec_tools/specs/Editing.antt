@@ -1,7 +1,7 @@
 -- The edit of a request, and what it makes of a file with the history that it goes on from.
 use Rattle.std.specs.Prelude.{◌≡◌, ◌↔◌, ℕ, Bool, List, [], Result, Ok}
 use Rattle.rec_text.specs.declared.fault.Fault.{Fault}
-use Rattle.rec_tools.specs.DescribedTexts.{DescribedText, IsDescribedText}
+use Rattle.rec_check.specs.DescribedTexts.{DescribedText, IsDescribedText}
 use Rattle.rec_journal.specs.declared.event.Tool.{Tool}
 use Rattle.rec_journal.specs.Patch.{Splices}
 use Rattle.rec_journal.specs.History.{Opened, IsOpening}

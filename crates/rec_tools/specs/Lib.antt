@@ -1,6 +1,5 @@
 -- what a reader believes, in reading order
 pub mod Home
-pub mod DescribedTexts
 pub mod Steps
 pub mod Asking
 pub mod Printouts

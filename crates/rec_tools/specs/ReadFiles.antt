@@ -3,7 +3,7 @@ use Rattle.std.specs.Prelude.{Ok}
 use Rattle.rec_check.specs.Schemas.{IsSchema}
 use Rattle.rec_check.specs.Stored.{described}
 use Rattle.rec_tools.specs.declared.rec_file.ReadFile.{ReadFile}
-use Rattle.rec_tools.specs.DescribedTexts.{DescribedText}
+use Rattle.rec_check.specs.DescribedTexts.{DescribedText}
 
 abbrev pub described_file : ReadFile → DescribedText
 described_file file = record { pieces = file.database; schema = described file.schema }

@@ -11,11 +11,10 @@ ghost use Rattle.rec_tools.specs.Editing.{IsEditing, IsEditOf, IsChange, TellsCh
 
 use crate::editing::edit_of;
 use crate::history::history_of;
-use crate::moves::plan_move;
 use crate::rec_file::{ReadFile, read_file};
 use crate::request::{Reply, Request};
 use rec_edit::{Edited, edit};
-use rec_journal::{Direction, Hashed, History, Plan, Tool, plan_edit};
+use rec_journal::{Direction, Hashed, History, Plan, Tool, plan_edit, plan_move};
 use rec_text::Fault;
 use std::alloc::Global;
 

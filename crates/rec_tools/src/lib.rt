@@ -8,7 +8,6 @@ mod history;
 mod home;
 mod laws;
 mod memory;
-mod moves;
 mod printing;
 mod rec_file;
 mod request;

@@ -1,7 +1,7 @@
 //! A file that was read: its elements, and its record sets with their rules.
 ghost use Rattle.std.specs.Prelude.{Ok, Err, IfOk, IfErr};
 ghost use Rattle.rec_text.specs.Faults.{IsMemoryOr};
-ghost use Rattle.rec_tools.specs.DescribedTexts.{IsDescribedText};
+ghost use Rattle.rec_check.specs.DescribedTexts.{IsDescribedText};
 ghost use Rattle.rec_tools.specs.ReadFiles.{described_file, BelongTogether};
 
 use rec_check::Schema;

@@ -7,8 +7,8 @@ use Rattle.rec_text.specs.declared.violations.Rule.TheVariants.{Mandatory, Prohi
 use Rattle.rec_text.specs.declared.violations.Violation.{Violation}
 use Rattle.rec_text.specs.Elements.{Piece}
 use Rattle.rec_sex.specs.Grammar.{Term}
-use Rattle.rec_check.specs.declared.limit.Limit.{Limit}
-use Rattle.rec_check.specs.declared.limit.Limit.TheVariants.{Present, Absent, Single}
+use Rattle.rec_check.specs.declared.checks.limit.Limit.{Limit}
+use Rattle.rec_check.specs.declared.checks.limit.Limit.TheVariants.{Present, Absent, Single}
 use Rattle.rec_check.specs.declared.set.Set_.{Set_}
 use Rattle.rec_check.specs.Rules.{Rules}
 use Rattle.rec_check.specs.Violations.{AreOfRecord, AreOfRecords, AreOfSet, AreUnselected, occurrences, violations_of}

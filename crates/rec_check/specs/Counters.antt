@@ -8,7 +8,7 @@ use Rattle.std.specs.declared.ops.Range.{Range}
 use Rattle.regex.specs.Patterns.{Re}
 use Rattle.rec_text.specs.Elements.{Piece}
 use Rattle.rec_text.specs.Records.{AreRecords}
-use Rattle.rec_check.specs.declared.counter.Counter.{Counter}
+use Rattle.rec_check.specs.declared.automatic.counter.Counter.{Counter}
 use Rattle.rec_check.specs.declared.set.Set_.{Set_}
 use Rattle.rec_check.specs.Automatic.{IsGreatest, automatic_names, begins_special, is_counter, may_count, readings}
 use Rattle.rec_check.specs.Counting.{greatest_from}

@@ -8,11 +8,11 @@ use Rattle.rec_text.specs.Elements.{Piece, name_of, has_name}
 pub use Rattle.rec_text.specs.Records.{elements_in}
 use Rattle.rec_text.specs.Values.{value_of}
 use Rattle.rec_sex.specs.Grammar.{fault_of}
-use Rattle.rec_check.specs.declared.special.Special.{Special}
-use Rattle.rec_check.specs.declared.special.Special.TheVariants.{Rec, Key, Mandatory, Prohibit, Unique, Singular, Allowed, Auto, Type_, Typedef, Size, Constraint, Confidential}
-use Rattle.rec_check.specs.declared.special.Bound.{Bound}
-use Rattle.rec_check.specs.declared.special.Comparison.{Comparison}
-use Rattle.rec_check.specs.declared.special.Comparison.TheVariants.{Exactly, Less, AtMost, Greater, AtLeast}
+use Rattle.rec_check.specs.declared.descriptors.special.Special.{Special}
+use Rattle.rec_check.specs.declared.descriptors.special.Special.TheVariants.{Rec, Key, Mandatory, Prohibit, Unique, Singular, Allowed, Auto, Type_, Typedef, Size, Constraint, Confidential}
+use Rattle.rec_check.specs.declared.descriptors.special.Bound.{Bound}
+use Rattle.rec_check.specs.declared.descriptors.special.Comparison.{Comparison}
+use Rattle.rec_check.specs.declared.descriptors.special.Comparison.TheVariants.{Exactly, Less, AtMost, Greater, AtLeast}
 use Rattle.rec_check.specs.Types.{definition_of, natural_of, typing_of}
 use Rattle.rec_check.specs.Words.{words, is_among}
 

@@ -17,17 +17,4 @@ pub mod Counters
 pub mod Walking
 pub mod Soundness
 -- what serves proofs
-pub mod Steps
-pub mod Reading
-pub mod Patterns
-pub mod Kinds
-pub mod Resolved
-pub mod Fitting
-pub mod Testing
-pub mod Tests
-pub mod Names
-pub mod Keys
-pub mod Singulars
-pub mod Met
-pub mod Constraints
-pub mod Ready
+pub mod proving

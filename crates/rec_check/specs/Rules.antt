@@ -2,12 +2,11 @@
 use Rattle.std.specs.Prelude.{◌≡◌, ℕ, List, [], codes, flat_map, map, slice_get, Option, Some, None, option_and_then, unwrap_or, if◌then◌else◌}
 use Rattle.std.specs.List.{AllZip, list_any}
 use Rattle.regex.specs.Patterns.{Re, SameCaptures}
-use Rattle.rec_text.specs.Elements.{Piece}
+use Rattle.rec_text.specs.Elements.{Piece, has_name}
 use Rattle.rec_sex.specs.Expressions.{IsExpression, AreSame}
 use Rattle.rec_sex.specs.Grammar.{Term}
 use Rattle.rec_sex.specs.Meaning.{values_of}
-use Rattle.rec_check.specs.declared.special.Bound.{Bound}
-use Rattle.rec_text.specs.Elements.{has_name}
+use Rattle.rec_check.specs.declared.descriptors.special.Bound.{Bound}
 use Rattle.rec_check.specs.Descriptors.{bound_in}
 use Rattle.rec_check.specs.Meanings.{meaning_in}
 use Rattle.rec_check.specs.Types.{FieldType, matching, unchecked, Definition, Typing, IsDefinition, IsTyping, type_for}

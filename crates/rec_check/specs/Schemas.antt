@@ -6,12 +6,11 @@ use Rattle.rec_text.specs.declared.fault.Fault.{Fault}
 use Rattle.rec_text.specs.declared.fault.Fault.TheVariants.{BadDescriptor, Unsupported, BadPattern}
 use Rattle.rec_text.specs.Elements.{Piece, text_of, name_of}
 use Rattle.rec_text.specs.Reading.{line_after}
-use Rattle.rec_text.specs.Records.{AreRecords}
+use Rattle.rec_text.specs.Records.{AreRecords, elements_in, record_at}
 use Rattle.rec_text.specs.Values.{value_of}
 use Rattle.rec_sex.specs.Expressions.{ExpressionMayBeRefused}
 use Rattle.rec_check.specs.declared.set.Set_.{Set_}
-use Rattle.rec_check.specs.declared.special.Special.TheVariants.{Type_, Typedef, Constraint}
-use Rattle.rec_text.specs.Records.{elements_in, record_at}
+use Rattle.rec_check.specs.declared.descriptors.special.Special.TheVariants.{Type_, Typedef, Constraint}
 use Rattle.rec_check.specs.Descriptors.{Flaw, bad, unsupported, descriptor_at, field_flaw, flaw_at, special_of, types_before, types_of}
 use Rattle.rec_check.specs.Rules.{Rules, no_rules, AreRules, AreSameRules}
 use Rattle.rec_check.specs.Sets.{AreSets}

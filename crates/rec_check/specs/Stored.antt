@@ -5,12 +5,12 @@ use Rattle.regex.specs.Strings.{regex_pattern}
 use Rattle.rec_text.specs.declared.fault.Fault.{Fault}
 use Rattle.rec_text.specs.declared.fault.Fault.TheVariants.{OutOfMemory, BadDescriptor, Unsupported, BadPattern}
 use Rattle.rec_sex.specs.Expressions.{term_of}
-use Rattle.rec_check.specs.declared.refusal.Refusal.{Refusal}
-use Rattle.rec_check.specs.declared.refusal.Refusal.TheVariants.{Bad, Unsupported as NotSupported, Pattern, OutOfMemory as NoMemory}
-use Rattle.rec_check.specs.declared.definition.Definition.{Definition as StoredDefinition}
-use Rattle.rec_check.specs.declared.field_type.FieldType.{FieldType as StoredType}
-use Rattle.rec_check.specs.declared.field_type.FieldType.TheVariants.{Integer, Range, Line, Size, Truth, OneOf, Matching, Unchecked}
-use Rattle.rec_check.specs.declared.field_type.Typing.{Typing as StoredTyping}
+use Rattle.rec_check.specs.declared.descriptors.refusal.Refusal.{Refusal}
+use Rattle.rec_check.specs.declared.descriptors.refusal.Refusal.TheVariants.{Bad, Unsupported as NotSupported, Pattern, OutOfMemory as NoMemory}
+use Rattle.rec_check.specs.declared.field_types.definition.Definition.{Definition as StoredDefinition}
+use Rattle.rec_check.specs.declared.field_types.field_type.FieldType.{FieldType as StoredType}
+use Rattle.rec_check.specs.declared.field_types.field_type.FieldType.TheVariants.{Integer, Range, Line, Size, Truth, OneOf, Matching, Unchecked}
+use Rattle.rec_check.specs.declared.field_types.field_type.Typing.{Typing as StoredTyping}
 use Rattle.rec_check.specs.declared.rules.Rules.{Rules as StoredRules}
 use Rattle.rec_check.specs.declared.schema.Schema.{Schema}
 use Rattle.rec_check.specs.Rules.{Rules}

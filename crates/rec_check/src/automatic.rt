@@ -7,11 +7,13 @@ ghost use Rattle.rec_check.specs.Automatic.{automatic_names, may_count, begins_s
 ghost use Rattle.rec_check.specs.Checks.{texts};
 ghost use Rattle.rec_check.specs.Counting.{greater, IsBehind};
 ghost use Rattle.rec_check.specs.Stored.{rules_stored};
-ghost use Rattle.rec_check.specs.Tests.{type_in};
+ghost use Rattle.rec_check.specs.proving.Tests.{type_in};
 
-use crate::names::Names;
+pub mod counter;
+
+use crate::checks::names::Names;
+use crate::field_types::types::Types;
 use crate::rules::Rules;
-use crate::types::Types;
 use rec_sex::int_of;
 use rec_text::{Element, Fault};
 use std::alloc::{AllocError, Global};

@@ -1,8 +1,8 @@
 //! What a descriptor asks of the records of its set.
 
-use crate::definition::Definition;
-use crate::field_type::Typing;
-use crate::special::Bound;
+use crate::descriptors::special::Bound;
+use crate::field_types::definition::Definition;
+use crate::field_types::field_type::Typing;
 use rec_sex::Expr;
 use rec_text::Bytes;
 use std::alloc::Global;

@@ -1,13 +1,13 @@
 //! What the descriptors of a text say.
-ghost use Rattle.rec_check.specs.Steps.{HaveTypes};
+ghost use Rattle.rec_check.specs.proving.Steps.{HaveTypes};
 
 use crate::automatic::automatic_names;
-use crate::counter::{Counter, counters_of, next_value};
-use crate::draft::Draft;
-use crate::report::violations_of;
+use crate::automatic::counter::{Counter, counters_of, next_value};
+use crate::checks::report::violations_of;
+use crate::descriptors::draft::Draft;
+use crate::descriptors::type_names::TypeNames;
 use crate::rules::Rules;
 use crate::set::{Set_, members_of};
-use crate::type_names::TypeNames;
 use rec_text::{Database, Fault, Violation, elements_in};
 use std::alloc::Global;
 use std::ops::Range;

@@ -1,6 +1,6 @@
 //! One set of records, and the sets of a text as they grow.
 ghost use Rattle.std.specs.Prelude.{◌≡◌, ◌-◌, ◌<◌, ◌≤◌, ◌^◌, length, OnOk};
-ghost use Rattle.rec_check.specs.Steps.{with_record};
+ghost use Rattle.rec_check.specs.proving.Steps.{with_record};
 ghost use Rattle.rec_check.specs.Violations.{members};
 
 use rec_text::Bytes;

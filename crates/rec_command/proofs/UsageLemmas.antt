@@ -7,7 +7,7 @@ use Rattle.clap.specs.Words.{App, Rule, AddsArg, AddsSubcommand, app_of, rule_of
 use Rattle.clap.specs.declared.builder.arg.Arg.{Arg}
 use Rattle.clap.specs.declared.builder.command.Command.{Command}
 use Rattle.clap.specs.declared.builder.command.Command.TheViews.{out-Command as fields_of}
-use Rattle.rec_command.specs.Options.{rule_of_option, with_option}
+use Rattle.rec_command.specs.proving.Options.{rule_of_option, with_option}
 use Rattle.rec_command.specs.declared.options.ToolOption.{ToolOption}
 
 module _ {X A B : Type 0} (name : X → A) (rows : X → B) where

@@ -2,4 +2,4 @@
 pub mod Usage
 pub mod Words
 -- what serves proofs
-pub mod Options
+pub mod proving

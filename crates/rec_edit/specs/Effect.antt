@@ -5,7 +5,7 @@ use Rattle.std.specs.Option.{option_map_or}
 use Rattle.std.specs.declared.ops.Range.{Range}
 use Rattle.rec_text.specs.Elements.{Piece, AreElementsOf}
 use Rattle.rec_text.specs.Records.{AreRecords, elements_in, is_field_piece}
-use Rattle.rec_sex.specs.declared.field_list.Item.{Item}
+use Rattle.rec_sex.specs.declared.lists.field_list.Item.{Item}
 use Rattle.rec_sex.specs.Lists.{picks}
 use Rattle.rec_check.specs.declared.set.Set_.{Set_}
 use Rattle.rec_check.specs.Automatic.{automatic_names}

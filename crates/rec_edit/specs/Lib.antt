@@ -8,12 +8,4 @@ pub mod Automatic
 pub mod Outcome
 pub mod Effect
 -- what serves proofs
-pub mod Drafts
-pub mod Edits
-pub mod Marks
-pub mod Comments
-pub mod Endings
-pub mod Given
-pub mod Causes
-pub mod Sites
-pub mod Filling
+pub mod proving

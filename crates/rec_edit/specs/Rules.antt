@@ -8,7 +8,7 @@ use Rattle.rec_text.specs.Canonical.{field_of}
 use Rattle.rec_text.specs.Elements.{Piece, name_of}
 use Rattle.rec_text.specs.Records.{elements_in, is_blank_piece}
 use Rattle.rec_text.specs.Values.{on_first}
-use Rattle.rec_sex.specs.declared.field_list.Item.{Item}
+use Rattle.rec_sex.specs.declared.lists.field_list.Item.{Item}
 use Rattle.rec_sex.specs.Lists.{picks}
 use Rattle.rec_check.specs.Descriptors.{holds_index}
 use Rattle.rec_edit.specs.declared.request.Action.{Action}

@@ -10,7 +10,7 @@ use Rattle.rec_text.specs.Elements.{Piece, AreElementsOf, name_of}
 use Rattle.rec_text.specs.Records.{AreRecords, elements_in, is_field_piece}
 use Rattle.rec_text.specs.Steps.{Then}
 use Rattle.rec_text.specs.Values.{value_of}
-use Rattle.rec_sex.specs.declared.field_list.Item.{Item}
+use Rattle.rec_sex.specs.declared.lists.field_list.Item.{Item}
 use Rattle.rec_sex.specs.Lists.{IsFieldList}
 use Rattle.rec_edit.specs.declared.request.Action.{Action}
 use Rattle.rec_edit.specs.declared.request.Action.TheVariants.{Set, Add, SetAdd, Rename}

@@ -4,11 +4,15 @@ ghost use Rattle.rec_text.specs.Faults.{IsMemoryOr};
 ghost use Rattle.rec_check.specs.Schemas.{IsSchema};
 ghost use Rattle.rec_check.specs.Stored.{described};
 ghost use Rattle.rec_edit.specs.Automatic.{AreAutomatic};
-ghost use Rattle.rec_edit.specs.Filling.{numbered, AreNamesOf, AreLacking, GivesNone, GivesAt};
-ghost use Rattle.rec_edit.specs.Given.{IsAutomaticText};
+ghost use Rattle.rec_edit.specs.proving.Filling.{numbered, AreNamesOf, AreLacking, GivesNone, GivesAt};
+ghost use Rattle.rec_edit.specs.proving.Given.{IsAutomaticText};
 ghost use Rattle.rec_edit.specs.Wording.{names_in};
 
-use crate::numbered::{NumberedField, append_numbered, give};
+pub mod filled;
+pub mod filling;
+mod numbered;
+
+use crate::automatic::numbered::{NumberedField, append_numbered, give};
 use crate::request::Pair;
 use rec_check::Schema;
 use rec_text::{Bytes, Database, Fault};

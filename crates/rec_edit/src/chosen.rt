@@ -4,7 +4,7 @@ ghost use Rattle.std.specs.List.{AllByRecursion};
 ghost use Rattle.rec_text.specs.Faults.{IsMemoryOr};
 ghost use Rattle.rec_check.specs.Schemas.{IsSchema};
 ghost use Rattle.rec_check.specs.Stored.{described};
-ghost use Rattle.rec_edit.specs.Drafts.{AreRanges};
+ghost use Rattle.rec_edit.specs.proving.Drafts.{AreRanges};
 ghost use Rattle.rec_edit.specs.Task.{wanted_by};
 ghost use Rattle.rec_select.specs.Selection.{filter_of};
 ghost use Rattle.rec_edit.specs.Outcome.{allowed, AreChosen, AreRemovable};

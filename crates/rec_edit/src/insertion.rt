@@ -4,11 +4,14 @@ ghost use Rattle.rec_text.specs.Elements.{text_of};
 ghost use Rattle.rec_check.specs.Stored.{described};
 ghost use Rattle.rec_edit.specs.Insertions.{inserting};
 ghost use Rattle.rec_edit.specs.Rules.{fields_of};
-ghost use Rattle.rec_edit.specs.Sites.{line_before, line_behind, heading, block, Begins, IsRecordPut};
+ghost use Rattle.rec_edit.specs.proving.Sites.{line_before, line_behind, heading, block, Begins, IsRecordPut};
 
-use crate::plan::Plan;
+pub mod fresh;
+mod site;
+
+use crate::insertion::site::{Gap, Site, at_end, site_beside};
 use crate::request::Pair;
-use crate::site::{Gap, Site, at_end, site_beside};
+use crate::script::plan::Plan;
 use rec_check::Schema;
 use rec_text::{Bytes, Database, Element, append_field};
 use std::alloc::{AllocError, Global};
@@ -94,7 +97,7 @@ pub(crate) struct Insertion {
 impl Insertion {
     ghost use Rattle.std.specs.Prelude.{IfOk};
     ghost use Rattle.rec_check.specs.Stored.{described};
-    ghost use Rattle.rec_edit.specs.Sites.{IsRecordPut};
+    ghost use Rattle.rec_edit.specs.proving.Sites.{IsRecordPut};
 
     /// A new record with these fields, before which others stand that are given as a text.
     pub fn of(

@@ -4,23 +4,12 @@
 
 mod automatic;
 mod chosen;
-mod commenting;
-mod covered;
-mod deletion;
-mod draft;
-mod filled;
-mod filling;
-mod fresh;
 mod insertion;
 mod laws;
-mod numbered;
+mod layouts;
 mod outcome;
-mod plan;
-mod replacement;
 mod request;
 mod script;
-mod setting;
-mod site;
 mod sound;
 mod wording;
 

@@ -6,11 +6,14 @@ ghost use Rattle.rec_text.specs.Elements.{text_of};
 ghost use Rattle.rec_text.specs.Places.{piece_of, pieces_of};
 ghost use Rattle.rec_edit.specs.Script.{Part, closed, putting, script_of};
 ghost use Rattle.rec_edit.specs.Outcome.{is_changed, step_of, edited_by};
-ghost use Rattle.rec_edit.specs.Drafts.{AreRanges, LaysLines, IsTie, IsDraft, IsLaid, laying, laying_last, laying_tie, closed_text};
+ghost use Rattle.rec_edit.specs.proving.Drafts.{AreRanges, LaysLines, IsTie, IsDraft, IsLaid, laying, laying_last, laying_tie, closed_text};
 
-use crate::draft::Draft;
+mod draft;
+pub mod plan;
+
 use crate::outcome::Edited;
-use crate::plan::Plan;
+use crate::script::draft::Draft;
+use crate::script::plan::Plan;
 use rec_text::{Database, Element, elements_in};
 use std::alloc::{AllocError, Global};
 use std::ops::Range;

@@ -3,7 +3,7 @@ ghost use Rattle.std.specs.Prelude.{◌≡◌, List, Ok, Err, map, MatchResult};
 ghost use Rattle.std.specs.List.{list_all};
 ghost use Rattle.rec_text.specs.Canonical.{is_plain_name as may_be_written, is_foldable as can_be_folded};
 ghost use Rattle.rec_text.specs.Faults.{UnlessMemory};
-ghost use Rattle.rec_sex.specs.declared.field_list.Item.{Item as ItemOf};
+ghost use Rattle.rec_sex.specs.declared.lists.field_list.Item.{Item as ItemOf};
 ghost use Rattle.rec_edit.specs.Wording.{written_items, unnumbered, names_of_action, values_of_action, AreItemsFor};
 
 use crate::request::Action;

@@ -3,4 +3,4 @@ pub mod Paths
 pub mod Rights
 pub mod Leftovers
 -- what serves proofs
-pub mod Files
+pub mod proving

@@ -10,8 +10,4 @@ pub mod Stops
 pub mod Bound
 pub mod Moves
 -- what serves proofs
-pub mod Weave
-pub mod Fronts
-pub mod Head
-pub mod Reading
-pub mod Scan
+pub mod proving

@@ -18,8 +18,8 @@ use Rattle.rec_text.specs.Elements.{Piece}
 use Rattle.rec_text.specs.Places.{piece_of, pieces_of}
 use Rattle.rec_text.specs.Records.{is_field_piece}
 use Rattle.rec_text.specs.Values.{value_of}
-use Rattle.rec_text.proofs.ListLemmas.{is_nil-push, join_with_byte-cons}
-use Rattle.rec_select.specs.Blocks.{closed_text, spaced_value}
+use Rattle.rec_text.proofs.lemmas.ListLemmas.{is_nil-push, join_with_byte-cons}
+use Rattle.rec_select.specs.proving.Blocks.{closed_text, spaced_value}
 use Rattle.rec_select.specs.Printing.{closed, row_of, value_line}
 
 -- ---- the last byte

@@ -14,10 +14,10 @@ use Rattle.rec_text.specs.declared.element.Kind.TheVariants.{Blank, Comment, Fie
 use Rattle.rec_text.specs.Elements.{Piece, IsElement, EndInNewlines, AreElementsOf, text_of}
 use Rattle.rec_text.specs.Places.{piece_of, pieces_of, AreFrom}
 use Rattle.rec_text.specs.Records.{is_field_piece}
-use Rattle.rec_text.proofs.ElementLemmas.{text_of-append}
-use Rattle.rec_text.proofs.ListLemmas.{AllByRecursion-behind, AllByRecursion-front, is_nil-length}
-use Rattle.rec_select.specs.Blocks.{closed_text}
-use Rattle.rec_select.specs.Excerpts.{AreWithin}
+use Rattle.rec_text.proofs.lemmas.elements.ElementLemmas.{text_of-append}
+use Rattle.rec_text.proofs.lemmas.ListLemmas.{AllByRecursion-behind, AllByRecursion-front, is_nil-length}
+use Rattle.rec_select.specs.proving.Blocks.{closed_text}
+use Rattle.rec_select.specs.proving.Excerpts.{AreWithin}
 use Rattle.rec_select.specs.Printing.{closed}
 use Rattle.rec_select.proofs.BlockLemmas.{is_nil-append}
 

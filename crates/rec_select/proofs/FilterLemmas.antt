@@ -13,7 +13,7 @@ use Rattle.rec_text.specs.Places.{piece_of, pieces_of}
 use Rattle.rec_text.specs.Records.{is_field_piece}
 use Rattle.rec_text.specs.Values.{value_of}
 use Rattle.rec_select.specs.Selection.{Holds}
-use Rattle.rec_select.specs.Filters.{HasText}
+use Rattle.rec_select.specs.proving.Filters.{HasText}
 
 -- ---- a value holds a text where a search finds it
 

@@ -7,9 +7,9 @@ use Rattle.rec_text.specs.declared.element.Kind.TheVariants.{Blank, Field}
 use Rattle.rec_text.specs.declared.fault.Fault.TheVariants.{NoSuchType}
 use Rattle.rec_text.specs.Elements.{Piece}
 use Rattle.rec_text.specs.Records.{AreParagraphs, AreRecords, is_full_at}
-use Rattle.rec_text.specs.Scanned.{narrowed_from, range, runs_from}
-use Rattle.rec_text.proofs.RecordLemmas.{AreRecords-all_narrowed}
-use Rattle.rec_text.proofs.RunLemmas.{AreRuns-runs_to}
+use Rattle.rec_text.specs.proving.Scanned.{narrowed_from, range, runs_from}
+use Rattle.rec_text.proofs.lemmas.records.RecordLemmas.{AreRecords-all_narrowed}
+use Rattle.rec_text.proofs.lemmas.records.RunLemmas.{AreRuns-runs_to}
 use Rattle.rec_check.specs.declared.set.Set_.{Set_}
 use Rattle.rec_select.specs.declared.info.InfoForm.TheVariants.{Counts, Names, Descriptors}
 use Rattle.rec_select.specs.Info.{IsInfo, info, sets_for}

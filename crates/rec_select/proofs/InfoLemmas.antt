@@ -12,20 +12,19 @@ use Rattle.std.proofs.lemmas.List.Quantifiers.{position-Some}
 use Rattle.std.proofs.lemmas.Option.{slice_get_read, slice_get_past}
 use Rattle.rec_text.specs.Bytes.{is_nil, ends_newline}
 use Rattle.rec_text.specs.Elements.{Piece}
-use Rattle.rec_text.specs.Records.{IsRecord, AreRecords, is_field_at, is_field_piece}
+use Rattle.rec_text.specs.Records.{IsRecord, AreRecords, is_field_at, is_field_piece, elements_in}
 use Rattle.rec_text.specs.declared.fault.Fault.{Fault}
 use Rattle.rec_text.specs.declared.fault.Fault.TheVariants.{NoSuchType}
-use Rattle.rec_text.proofs.RecordLemmas.{OneListOfRecords-holds, length-records}
+use Rattle.rec_text.proofs.lemmas.records.RecordLemmas.{OneListOfRecords-holds, length-records}
 use Rattle.rec_check.specs.declared.set.Set_.{Set_}
-use Rattle.rec_text.specs.Records.{elements_in}
 use Rattle.rec_check.specs.Descriptors.{type_of}
 use Rattle.rec_check.specs.Schemas.{Described, IsDescribed}
 use Rattle.rec_check.specs.Sets.{AreFrom, BeginsAt, is_of_type, named_in}
-use Rattle.rec_text.proofs.ListLemmas.{AllByRecursion-slice_get, slice_get-drop, slice_get-take}
+use Rattle.rec_text.proofs.lemmas.ListLemmas.{AllByRecursion-slice_get, slice_get-drop, slice_get-take}
 use Rattle.rec_select.specs.declared.records.Shape.TheVariants.{Blocks}
 use Rattle.rec_select.specs.Printing.{block_of, closed, joined_blocks}
-use Rattle.rec_select.specs.Blocks.{gap}
-use Rattle.rec_select.specs.Heads.{AreHeads, HeadsFrom}
+use Rattle.rec_select.specs.proving.Blocks.{gap}
+use Rattle.rec_select.specs.proving.Heads.{AreHeads, HeadsFrom}
 use Rattle.rec_select.specs.Selection.{record_at}
 use Rattle.rec_select.specs.Info.{info, sets_for}
 use Rattle.rec_select.specs.declared.info.InfoForm.TheVariants.{Descriptors}

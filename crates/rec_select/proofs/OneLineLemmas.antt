@@ -13,7 +13,7 @@ use Rattle.rec_text.specs.declared.element.Kind.TheVariants.{Blank, Comment, Fie
 use Rattle.rec_text.specs.Elements.{Piece, colon_of, text_of}
 use Rattle.rec_text.specs.Places.{piece_of, pieces_of}
 use Rattle.rec_text.specs.Values.{body_value, logical_lines, on_first, lines_value, unfolded, without_first, value_of}
-use Rattle.rec_select.specs.Filters.{HasText, is_one_line}
+use Rattle.rec_select.specs.proving.Filters.{HasText, is_one_line}
 use Rattle.rec_select.specs.Selection.{Holds}
 use Rattle.rec_select.proofs.FilterLemmas.{found_holds}
 

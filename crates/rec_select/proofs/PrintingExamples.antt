@@ -4,7 +4,7 @@ use Rattle.std.proofs.Common.{◌≡◌, ℕ, true, false, List, [], ◌∷◌, 
 use Rattle.std.specs.Fmt.{digits}
 use Rattle.rec_text.specs.declared.element.Kind.TheVariants.{Comment, Field}
 use Rattle.rec_text.specs.Elements.{Piece}
-use Rattle.rec_sex.specs.declared.field_list.Item.{Item}
+use Rattle.rec_sex.specs.declared.lists.field_list.Item.{Item}
 use Rattle.rec_select.specs.declared.records.Shape.TheVariants.{Blocks, Print, Values, Row, Count}
 use Rattle.rec_select.specs.Printing.{block_of, joined_blocks, number_line}
 

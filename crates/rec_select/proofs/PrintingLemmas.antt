@@ -10,13 +10,12 @@ use Rattle.std.proofs.lemmas.Grind.{flat_map-append}
 use Rattle.std.proofs.lemmas.Option.{slice_get-get_or}
 use Rattle.rec_text.specs.Bytes.{is_nil}
 use Rattle.rec_text.specs.Elements.{Piece}
-use Rattle.rec_text.specs.Records.{AreRecords, IsRecord}
-use Rattle.rec_text.specs.Scanned.{IsWithin}
-use Rattle.rec_text.proofs.ListLemmas.{AllByRecursion-weaker, join_with_byte-cons}
-use Rattle.rec_text.proofs.RecordLemmas.{one_list_of_records}
-use Rattle.rec_text.specs.Records.{elements_in}
+use Rattle.rec_text.specs.Records.{AreRecords, IsRecord, elements_in}
+use Rattle.rec_text.specs.proving.Scanned.{IsWithin}
+use Rattle.rec_text.proofs.lemmas.ListLemmas.{AllByRecursion-weaker, join_with_byte-cons}
+use Rattle.rec_text.proofs.lemmas.records.RecordLemmas.{one_list_of_records}
 use Rattle.rec_select.specs.Selection.{record_at}
-use Rattle.rec_select.specs.Blocks.{full, led_by, separated}
+use Rattle.rec_select.specs.proving.Blocks.{full, led_by, separated}
 use Rattle.rec_select.specs.Printing.{AreIndexes, IsPrinted, block_of, joined_blocks, printed}
 use Rattle.rec_select.specs.declared.records.Shape.{Shape}
 use Rattle.rec_select.specs.declared.records.Shape.TheVariants.{Blocks, Print, Values, Row, Count}

@@ -15,15 +15,14 @@ use Rattle.rec_text.specs.declared.fault.Fault.{Fault}
 use Rattle.rec_text.specs.declared.fault.Fault.TheVariants.{OutOfMemory, TypeNeeded, NoSuchType}
 use Rattle.rec_text.specs.Elements.{Piece}
 use Rattle.rec_text.specs.Faults.{IsMemoryOr}
-use Rattle.rec_text.specs.Records.{AreRecords, IsRecord}
-use Rattle.rec_text.proofs.ListLemmas.{Contains-head, Contains-later}
-use Rattle.rec_text.proofs.RecordLemmas.{OneListOfRecords-holds, length-records}
+use Rattle.rec_text.specs.Records.{AreRecords, IsRecord, elements_in}
+use Rattle.rec_text.proofs.lemmas.ListLemmas.{Contains-head, Contains-later}
+use Rattle.rec_text.proofs.lemmas.records.RecordLemmas.{OneListOfRecords-holds, length-records}
 use Rattle.rec_check.specs.declared.set.Set_.{Set_}
-use Rattle.rec_text.specs.Records.{elements_in}
 use Rattle.rec_check.specs.Descriptors.{type_of}
 use Rattle.rec_check.specs.Schemas.{Described, IsDescribed}
 use Rattle.rec_check.specs.Sets.{is_of_type}
-use Rattle.rec_check.proofs.DescribedLemmas.{sets_within}
+use Rattle.rec_check.proofs.lemmas.DescribedLemmas.{sets_within}
 use Rattle.rec_select.specs.Selection.{Filter, Passes, record_at, only_set, has_members, set_without_type, set_of_type, set_for, AreSelected, OneSelection}
 
 pub from_fact : (fault : Fault) (P : Type 0) → P → IsMemoryOr fault P

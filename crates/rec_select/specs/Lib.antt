@@ -5,7 +5,4 @@ pub mod Taken
 pub mod Info
 pub mod Report
 -- what serves proofs
-pub mod Filters
-pub mod Excerpts
-pub mod Blocks
-pub mod Heads
+pub mod proving

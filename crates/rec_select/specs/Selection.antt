@@ -6,7 +6,7 @@ use Rattle.rec_text.specs.declared.fault.Fault.TheVariants.{TypeNeeded, NoSuchTy
 use Rattle.rec_text.specs.Elements.{Piece}
 use Rattle.rec_text.specs.Records.{AreRecords, is_field_piece}
 use Rattle.rec_text.specs.Values.{value_of}
-use Rattle.rec_sex.specs.declared.index_list.Span.{Span}
+use Rattle.rec_sex.specs.declared.lists.index_list.Span.{Span}
 use Rattle.rec_sex.specs.Expressions.{term_of}
 use Rattle.rec_sex.specs.Grammar.{Term}
 use Rattle.rec_sex.specs.IndexList.{has}

@@ -5,7 +5,7 @@ ghost use Rattle.rec_text.specs.Bytes.{ends_newline as newline_is_last};
 ghost use Rattle.rec_text.specs.Places.{piece_of, pieces_of};
 ghost use Rattle.rec_text.specs.Records.{is_field_piece};
 ghost use Rattle.rec_text.specs.Values.{value_of};
-ghost use Rattle.rec_select.specs.Blocks.{closed_text, spaced_value};
+ghost use Rattle.rec_select.specs.proving.Blocks.{closed_text, spaced_value};
 ghost use Rattle.rec_select.specs.Printing.{closed, picked as picked_of, row_of, value_line};
 ghost use Rattle.rec_select.specs.Taken.{Prints};
 
@@ -154,7 +154,7 @@ impl<'f, 't> Block<'f, 't> {
     ghost use Rattle.std.specs.Prelude.{◌≡◌, IfOk, IsOkUnless};
     ghost use Rattle.rec_text.specs.Bytes.{is_nil};
     ghost use Rattle.rec_text.specs.Places.{pieces_of};
-    ghost use Rattle.rec_select.specs.Blocks.{text_of};
+    ghost use Rattle.rec_select.specs.proving.Blocks.{text_of};
     ghost use Rattle.rec_select.specs.Printing.{block_of};
     ghost use Rattle.rec_select.specs.Taken.{Prints};
 

@@ -19,7 +19,7 @@ impl<'d, 't> Model for Excerpt<'d, 't> {
     ghost Value = { List Piece };
 
     ghost use Rattle.rec_text.specs.Places.{pieces_of};
-    ghost use Rattle.rec_select.specs.Excerpts.{AreWithin};
+    ghost use Rattle.rec_select.specs.proving.Excerpts.{AreWithin};
 
     ghost view = { λ e. pieces_of e.elements.now };
 

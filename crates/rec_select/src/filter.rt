@@ -1,7 +1,7 @@
 //! Filters, ready to be tried on many records.
 ghost use Rattle.std.specs.Prelude.{◌≡◌, ◌↔◌, Any, IsTrue, IfOk, IsOkUnless};
 ghost use Rattle.rec_text.specs.Places.{piece_of};
-ghost use Rattle.rec_select.specs.Filters.{HasText, is_one_line};
+ghost use Rattle.rec_select.specs.proving.Filters.{HasText, is_one_line};
 
 use crate::excerpt::Excerpt;
 use crate::selection::By;
@@ -63,7 +63,7 @@ fn any_has_text(alloc: Global, fields: &Excerpt, text: &Finder) -> Result<bool, 
 impl<'s> Filter<'s> {
     ghost use Rattle.std.specs.Prelude.{◌≡◌, ◌↔◌, IsTrue, IfOk, IsOkUnless};
     ghost use Rattle.rec_select.specs.Selection.{filter_of, Passes};
-    ghost use Rattle.rec_select.specs.Filters.{stands_for};
+    ghost use Rattle.rec_select.specs.proving.Filters.{stands_for};
 
     pub(crate) fn of(alloc: Global, by: &'s By) -> Result<Filter<'s>, Fault>
         ensures filter { IfOk result (λ filter. stands_for filter ≡ filter_of by.now) }

@@ -3,9 +3,9 @@ ghost use Rattle.std.specs.Prelude.{◌≡◌, ◌<◌, not, length, IfOk, IsOkU
 ghost use Rattle.std.specs.List.{AllByRecursion};
 ghost use Rattle.rec_text.specs.Bytes.{is_nil};
 ghost use Rattle.rec_text.specs.Faults.{IsOkUnlessEither};
-ghost use Rattle.rec_text.specs.Scanned.{IsWithin};
+ghost use Rattle.rec_text.specs.proving.Scanned.{IsWithin};
 ghost use Rattle.rec_select.specs.Selection.{record_at};
-ghost use Rattle.rec_select.specs.Blocks.{blocks_of, led_by, separated};
+ghost use Rattle.rec_select.specs.proving.Blocks.{blocks_of, led_by, separated};
 ghost use Rattle.rec_select.specs.Printing.{AreIndexes, IsPrinted, block_of, number_line};
 ghost use Rattle.rec_select.specs.declared.records.Shape.TheVariants.{Count};
 ghost use Rattle.rec_select.specs.Taken.{Prints, PrintsAndCounts, Puts};

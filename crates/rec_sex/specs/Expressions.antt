@@ -6,9 +6,9 @@ use Rattle.regex.specs.declared.string.regex.Regex.{Regex}
 use Rattle.rec_text.specs.Elements.{Piece}
 use Rattle.rec_text.specs.declared.fault.Fault.{Fault}
 use Rattle.rec_text.specs.declared.fault.Fault.TheVariants.{BadExpression}
-use Rattle.rec_sex.specs.declared.token.Token.{Token}
-use Rattle.rec_sex.specs.declared.token.Token.TheVariants.{Literal, Found}
-use Rattle.rec_sex.specs.declared.tree.Tree.{Tree, Integer, Literal as LiteralTree, Name, Occurrence, Count, Not', Negate', Binary', Found', Choice'}
+use Rattle.rec_sex.specs.declared.syntax.token.Token.{Token}
+use Rattle.rec_sex.specs.declared.syntax.token.Token.TheVariants.{Literal, Found}
+use Rattle.rec_sex.specs.declared.syntax.tree.Tree.{Tree, Integer, Literal as LiteralTree, Name, Occurrence, Count, Not', Negate', Binary', Found', Choice'}
 use Rattle.rec_sex.specs.declared.expr.Expr.{Expr}
 use Rattle.rec_sex.specs.Tokens.{lexemes}
 use Rattle.rec_sex.specs.Patterns.{PatternMayBeRefused}

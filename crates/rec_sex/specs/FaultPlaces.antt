@@ -1,7 +1,7 @@
 -- What the place of a refused list tells.
 use Rattle.std.specs.Prelude.{◌≡◌, ◌⊎◌, ℕ, ◌+◌, ◌<◌, List, [], ◌∷◌, ◌++◌, length, take, drop}
-use Rattle.rec_sex.specs.declared.index_list.Span.{Span}
-use Rattle.rec_sex.specs.declared.field_list.Item.{Item}
+use Rattle.rec_sex.specs.declared.lists.index_list.Span.{Span}
+use Rattle.rec_sex.specs.declared.lists.field_list.Item.{Item}
 use Rattle.rec_sex.specs.IndexList as indexes
 use Rattle.rec_sex.specs.IndexList.{AreDigits, value_of, greatest}
 use Rattle.rec_sex.specs.Lists as fields

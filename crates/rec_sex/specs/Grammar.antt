@@ -4,17 +4,17 @@ use Rattle.std.specs.Str.{is_utf8}
 use Rattle.regex.specs.Patterns.{Re, default_config}
 use Rattle.regex.specs.Strings.{regex_pattern, regex_source, regex_config, IsReadFromSource}
 use Rattle.regex.specs.declared.string.regex.Regex.{Regex}
-use Rattle.rec_sex.specs.declared.token.Operator.{Operator}
-use Rattle.rec_sex.specs.declared.token.Operator.TheVariants.{Equal, NotEqual, Less, Greater, LessOrEqual, GreaterOrEqual, Join, Add, Subtract, Multiply, Divide, Remainder, And, Or, Implies}
-use Rattle.rec_sex.specs.declared.token.Token.{Token}
-use Rattle.rec_sex.specs.declared.token.Token.TheVariants.{Integer, Literal, Name, Occurrence, Count, Not, Binary, Found, Open, Close, Then, Else}
+use Rattle.rec_sex.specs.declared.syntax.token.Operator.{Operator}
+use Rattle.rec_sex.specs.declared.syntax.token.Operator.TheVariants.{Equal, NotEqual, Less, Greater, LessOrEqual, GreaterOrEqual, Join, Add, Subtract, Multiply, Divide, Remainder, And, Or, Implies}
+use Rattle.rec_sex.specs.declared.syntax.token.Token.{Token}
+use Rattle.rec_sex.specs.declared.syntax.token.Token.TheVariants.{Integer, Literal, Name, Occurrence, Count, Not, Binary, Found, Open, Close, Then, Else}
 -- what comes next: an operand; a binary operator or an end; the same without those that bind more strongly than a
 -- comparison; a pattern
-pub use Rattle.rec_sex.specs.declared.walk.Want.{Want}
-pub use Rattle.rec_sex.specs.declared.walk.Want.TheVariants.{Operand, Operator as Operator_, Comparison, Pattern}
+pub use Rattle.rec_sex.specs.declared.syntax.walk.Want.{Want}
+pub use Rattle.rec_sex.specs.declared.syntax.walk.Want.TheVariants.{Operand, Operator as Operator_, Comparison, Pattern}
 -- what is open: a parenthesis, or a `?` without its `:`
-pub use Rattle.rec_sex.specs.declared.walk.Opened.{Opened}
-pub use Rattle.rec_sex.specs.declared.walk.Opened.TheVariants.{Parenthesis, Question}
+pub use Rattle.rec_sex.specs.declared.syntax.walk.Opened.{Opened}
+pub use Rattle.rec_sex.specs.declared.syntax.walk.Opened.TheVariants.{Parenthesis, Question}
 use Rattle.rec_sex.specs.Tokens.{Whole, Broken, Placed, lexemes}
 
 -- ---- the grammar

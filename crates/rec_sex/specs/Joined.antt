@@ -1,7 +1,7 @@
 -- Items joined by commas, whatever the items are.
 use Rattle.std.specs.Prelude.{◌≡◌, ℕ, ◌+◌, Bool, true, ◌==◌, List, [], ◌∷◌, ◌++◌, length}
-use Rattle.rec_sex.specs.declared.joined.Unread.{Unread}
-use Rattle.rec_sex.specs.declared.joined.Unread.TheVariants.{FaultAt, OutOfMemory}
+use Rattle.rec_sex.specs.declared.lists.joined.Unread.{Unread}
+use Rattle.rec_sex.specs.declared.lists.joined.Unread.TheVariants.{FaultAt, OutOfMemory}
 
 -- items joined by commas, at least one
 abbrev pub AreJoined : {I : Type 0} → (List ℕ → I → Type 0) → List ℕ → List I → Type 0

@@ -1,8 +1,8 @@
 -- The leftmost fault of an expression, in the grammar's own words.
 use Rattle.std.specs.Prelude.{◌≡◌, ◌⊎◌, ℕ, ◌+◌, ◌<◌, ◌≤◌, List, [], ◌∷◌, ◌++◌, length, Some, None}
 use Rattle.regex.specs.Patterns.{Re}
-use Rattle.rec_sex.specs.declared.token.Token.{Token}
-use Rattle.rec_sex.specs.declared.token.Token.TheVariants.{Name, Found}
+use Rattle.rec_sex.specs.declared.syntax.token.Token.{Token}
+use Rattle.rec_sex.specs.declared.syntax.token.Token.TheVariants.{Name, Found}
 use Rattle.rec_sex.specs.Tokens.{Lexeme, Whole, Broken, Placed, lexemes}
 use Rattle.rec_sex.specs.Grammar.{Term, Derives, AreTokens, HaveGoodPatterns, IsPatternOf, fault_of}
 

@@ -7,8 +7,8 @@ use Rattle.rec_text.specs.declared.fault.Fault.TheVariants.{BadFieldList}
 use Rattle.rec_text.specs.Bytes.{begins_name, continues_name}
 pub use Rattle.rec_text.specs.Canonical.{is_field_name}
 use Rattle.rec_text.specs.Elements.{Piece, name_of}
-use Rattle.rec_sex.specs.declared.index_list.Span.{Span}
-use Rattle.rec_sex.specs.declared.field_list.Item.{Item}
+use Rattle.rec_sex.specs.declared.lists.index_list.Span.{Span}
+use Rattle.rec_sex.specs.declared.lists.field_list.Item.{Item}
 use Rattle.rec_sex.specs.IndexList.{IsSpan, IsSpanFault, begins, begins_with}
 use Rattle.rec_sex.specs.Joined.{AreJoined, HasFaultyItem, ends_item}
 

@@ -7,8 +7,8 @@ use Rattle.std.specs.Str.{bytes_eq, is_utf8}
 use Rattle.regex.specs.Patterns.{Re, find_str}
 use Rattle.rec_text.specs.Elements.{Piece, name_of}
 use Rattle.rec_text.specs.Values.{value_of}
-use Rattle.rec_sex.specs.declared.token.Operator.{Operator}
-use Rattle.rec_sex.specs.declared.token.Operator.TheVariants.{Equal, NotEqual, Less, Greater, LessOrEqual, GreaterOrEqual, Join, Add, Subtract, Multiply, Divide, Remainder, And, Or, Implies}
+use Rattle.rec_sex.specs.declared.syntax.token.Operator.{Operator}
+use Rattle.rec_sex.specs.declared.syntax.token.Operator.TheVariants.{Equal, NotEqual, Less, Greater, LessOrEqual, GreaterOrEqual, Join, Add, Subtract, Multiply, Divide, Remainder, And, Or, Implies}
 use Rattle.rec_sex.specs.Grammar.{Term, number, literal, field, occurrence, count, inverse, negated, binary, found, choice}
 use Rattle.rec_sex.specs.Integers.{int_of}
 

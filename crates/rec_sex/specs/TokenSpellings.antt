@@ -2,8 +2,8 @@
 use Rattle.std.specs.Prelude.{◌≡◌, ◌≢◌, ◌⊎◌, ℕ, pos, ◌+◌, ◌^◌, ◌<◌, ◌≤◌, ◌==◌, ◌||◌, ◌&&◌, Bool, true, false, List, [], ◌∷◌, ◌++◌, length, Option, Some, None}
 use Rattle.std.specs.List.{list_all}
 use Rattle.rec_text.specs.Bytes.{is_space, is_letter, continues_name}
-use Rattle.rec_sex.specs.declared.token.Token.{Token}
-use Rattle.rec_sex.specs.declared.token.Token.TheVariants.{Integer, Literal, Name, Occurrence, Count}
+use Rattle.rec_sex.specs.declared.syntax.token.Token.{Token}
+use Rattle.rec_sex.specs.declared.syntax.token.Token.TheVariants.{Integer, Literal, Name, Occurrence, Count}
 use Rattle.rec_sex.specs.IndexList.{AreDigits, begins_digit, value_of, greatest}
 use Rattle.rec_sex.specs.Integers.{magnitude_of}
 use Rattle.rec_sex.specs.Tokens.{Whole, Broken, Placed, token_of_one, token_of_two, lexemes}

@@ -4,12 +4,12 @@ use Rattle.std.specs.Char.{is_ascii_digit}
 use Rattle.std.specs.Option.{option_map}
 use Rattle.std.specs.Str.{bytes_eq}
 use Rattle.rec_text.specs.Bytes.{is_space, is_letter, continues_name}
-use Rattle.rec_sex.specs.declared.token.Operator.TheVariants.{Equal, NotEqual, Less, Greater, LessOrEqual, GreaterOrEqual, Join, Add, Subtract, Multiply, Divide, Remainder, And, Or, Implies}
-use Rattle.rec_sex.specs.declared.token.Token.{Token}
-use Rattle.rec_sex.specs.declared.token.Token.TheVariants.{Integer, Literal, Name, Occurrence, Count, Not, Binary, Found, Open, Close, Then, Else, Unused}
+use Rattle.rec_sex.specs.declared.syntax.token.Operator.TheVariants.{Equal, NotEqual, Less, Greater, LessOrEqual, GreaterOrEqual, Join, Add, Subtract, Multiply, Divide, Remainder, And, Or, Implies}
+use Rattle.rec_sex.specs.declared.syntax.token.Token.{Token}
+use Rattle.rec_sex.specs.declared.syntax.token.Token.TheVariants.{Integer, Literal, Name, Occurrence, Count, Not, Binary, Found, Open, Close, Then, Else, Unused}
 -- a token and its length in bytes; or a fault, at this offset where an operand is wanted, and at the first byte elsewhere
-pub use Rattle.rec_sex.specs.declared.lexeme.Lexeme.{Lexeme}
-pub use Rattle.rec_sex.specs.declared.lexeme.Lexeme.TheVariants.{Whole, Broken}
+pub use Rattle.rec_sex.specs.declared.syntax.lexeme.Lexeme.{Lexeme}
+pub use Rattle.rec_sex.specs.declared.syntax.lexeme.Lexeme.TheVariants.{Whole, Broken}
 use Rattle.rec_sex.specs.IndexList.{value_of, greatest}
 use Rattle.rec_sex.specs.Integers.{magnitude_of}
 

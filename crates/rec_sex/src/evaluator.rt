@@ -1,10 +1,10 @@
 //! Finds whether an expression selects records.
 ghost use Rattle.std.specs.Prelude.{◌≡◌, map};
 ghost use Rattle.regex.specs.Strings.{regex_pattern};
-ghost use Rattle.rec_sex.specs.Choices.{FindAlike, patterns_of};
+ghost use Rattle.rec_sex.specs.proving.Choices.{FindAlike, patterns_of};
 
-use crate::choices::holds;
 use crate::expr::Expr;
+use crate::meaning::choices::holds;
 use rec_text::{Element, Fault};
 use regex::Matcher;
 use std::alloc::Global;

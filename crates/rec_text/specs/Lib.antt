@@ -14,7 +14,4 @@ pub mod Steps
 pub mod Sink
 pub mod Rules
 -- what serves proofs
-pub mod Scan
-pub mod Listed
-pub mod Scanned
-pub mod Sought
+pub mod proving

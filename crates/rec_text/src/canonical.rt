@@ -9,8 +9,8 @@ ghost use Rattle.rec_text.specs.Faults.{UnlessMemory};
 ghost use Rattle.rec_text.specs.Values.{value_of};
 
 use crate::fault::Fault;
-use crate::lines::{split_line, strip_backslash};
 use crate::name::{begins_name, continues_name};
+use crate::reading::lines::{split_line, strip_backslash};
 use std::alloc::AllocError;
 
 fn all_continue(bytes: &[u8]) -> bool

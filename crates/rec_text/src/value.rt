@@ -7,8 +7,8 @@ ghost use Rattle.rec_text.specs.Values.{without_first, without_mark as without_i
 use crate::bytes::Bytes;
 use crate::element::{Element, Kind};
 use crate::fault::Fault;
-use crate::lines::{split_line, strip_backslash};
 use crate::name::colon_of;
+use crate::reading::lines::{split_line, strip_backslash};
 use crate::space::is_blank;
 use std::alloc::{AllocError, Global};
 

@@ -5,15 +5,15 @@ use Rattle.rec_text.specs.declared.fault.Fault.{Fault}
 use Rattle.rec_text.specs.declared.fault.Fault.TheVariants.{BadExpression, BadPattern}
 use Rattle.rec_text.specs.Elements.{Piece}
 use Rattle.rec_text.specs.Reading.{IsReading}
-use Rattle.rec_text.proofs.ReadingLemmas.{one_reading}
+use Rattle.rec_text.proofs.lemmas.reading.ReadingLemmas.{one_reading}
 use Rattle.rec_sex.specs.Grammar.{fault_of}
 use Rattle.rec_sex.specs.Meaning.{Selects}
-use Rattle.rec_sex.proofs.IndexListReading.{one_index_list}
-use Rattle.rec_sex.proofs.UniqueLemmas.{one_expression}
+use Rattle.rec_sex.proofs.lemmas.lists.IndexListReading.{one_index_list}
+use Rattle.rec_sex.proofs.lemmas.syntax.UniqueLemmas.{one_expression}
 use Rattle.rec_check.specs.declared.set.Set_.{Set_}
 use Rattle.rec_check.specs.Schemas.{Described, IsSchema}
 use Rattle.rec_check.specs.DescribedTexts.{DescribedText, AreDescribed, IsDescribedText}
-use Rattle.rec_check.proofs.SameLemmas.{one_schema}
+use Rattle.rec_check.proofs.lemmas.laws.SameLemmas.{one_schema}
 use Rattle.rec_select.specs.Selection.{Filter, all as all_members, at_places, with_text, Passes, IsSelection}
 use Rattle.rec_edit.specs.Outcome.{allowed}
 use Rattle.rec_tools.specs.declared.request.Ask.{Ask}

@@ -9,7 +9,7 @@ use Rattle.rec_tools.specs.declared.home.Which.TheVariants.{Base as TheFile, Jou
 use Rattle.rec_tools.specs.Home.{Call, got, was_put, read_call, IsReplaceCall}
 use Rattle.rec_tools.specs.Outcomes.{Write, writes_of}
 use Rattle.rec_tools.specs.Attempts.{StopsReading, AreWritten}
-use Rattle.rec_tools.specs.Silently.{ByCalls}
+use Rattle.rec_tools.specs.proving.Silently.{ByCalls}
 use Rattle.rec_tools.proofs.CallLemmas.{one_call}
 
 -- ---- refusals

@@ -15,7 +15,7 @@ use Rattle.rec_journal.specs.History.{Opened, Opens, IsOpening}
 use Rattle.rec_journal.specs.Revisions.{one_pass}
 use Rattle.rec_journal.specs.Plans.{ShareDigest, IsEditPlan, IsMovePlan, after_edit_plan, after_move, edits_on, nothing_there}
 use Rattle.rec_journal.specs.Stops.{IsSafe}
-use Rattle.rec_journal.proofs.Countings.{Opens-digest}
+use Rattle.rec_journal.proofs.lemmas.histories.Countings.{Opens-digest}
 use Rattle.rec_edit.specs.declared.outcome.Edited.{Edited}
 use Rattle.rec_edit.specs.Task.{Task, tool_of}
 use Rattle.rec_edit.specs.Outcome.{IsOutcome as IsOutcomeOf}
@@ -26,7 +26,7 @@ use Rattle.rec_tools.specs.Home.{Contents}
 use Rattle.rec_tools.specs.Steps.{Then}
 use Rattle.rec_tools.specs.Requests.{Asked, looking, listing, editing, moving}
 use Rattle.rec_tools.specs.Outcomes.{Outcome, IsMade, IsEditOutcome, IsOutcome, staying, putting, reply_of}
-use Rattle.rec_tools.specs.Editing.{IsEditing, IsEditOf, TellsChanges, IsChange}
+use Rattle.rec_tools.specs.proving.Editing.{IsEditing, IsEditOf, TellsChanges, IsChange}
 use Rattle.rec_tools.proofs.FaultLemmas.{memory_or_weaker, ok_is_no_err, same_value}
 
 -- ---- two texts that share a digest

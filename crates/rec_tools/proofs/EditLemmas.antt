@@ -8,7 +8,7 @@ use Rattle.rec_text.specs.declared.fault.Fault.TheVariants.{BadFieldList, StoreF
 use Rattle.rec_text.specs.declared.violations.Violation.{Violation}
 use Rattle.rec_text.specs.Elements.{Piece}
 use Rattle.rec_text.specs.Records.{AreRecords}
-use Rattle.rec_sex.specs.declared.field_list.Item.{Item}
+use Rattle.rec_sex.specs.declared.lists.field_list.Item.{Item}
 use Rattle.rec_sex.specs.Lists.{IsFieldList}
 use Rattle.rec_check.specs.declared.set.Set_.{Set_}
 use Rattle.rec_check.specs.Schemas.{Described}
@@ -27,7 +27,7 @@ use Rattle.rec_edit.specs.Script.{Layout, edited_text}
 use Rattle.rec_edit.specs.Rules.{fields_of, deletion, commenting, replacement, setting}
 use Rattle.rec_edit.specs.Wording.{unnumbered, names_of_action, values_of_action, written, AreItemsFor, IsNewRecord}
 use Rattle.rec_edit.specs.Outcome.{AreChosen, AreRemovable, allowed, Step, step_of, step_of_insert, IsStep, none_of, IsSoundUnlessForced, edited_by, IsOutcome}
-use Rattle.rec_edit.proofs.OutcomeLemmas.{one_outcome}
+use Rattle.rec_edit.proofs.lemmas.outcomes.OutcomeLemmas.{one_outcome}
 use Rattle.rec_tools.specs.declared.request.Pick.{Pick}
 use Rattle.rec_tools.specs.Steps.{Then}
 use Rattle.rec_tools.specs.Asking.{IsFilter}

@@ -15,7 +15,7 @@ use Rattle.rec_tools.specs.Home.{Contents, Call, got, with_content, TellAll, Wen
 use Rattle.rec_tools.specs.Printouts.{Printout, Printed, PutsPrintout, WentOut, IsSilence, IsShownText, IsHistory, printed_history}
 use Rattle.rec_tools.specs.Requests.{Asked, looking, listing, editing, moving, reads_of, IsSilent}
 use Rattle.rec_tools.specs.Outcomes.{Write, Outcome, printing, outcome_of, IsPrinting, IsOutcome}
-use Rattle.rec_tools.specs.Silently.{ByCalls, DoesSilently}
+use Rattle.rec_tools.specs.proving.Silently.{ByCalls, DoesSilently}
 use Rattle.rec_tools.specs.Attempts.{Answer, gots, puts, IsFront, StopsReading, StopsWriting, IsAnswered, Does, Attempts}
 use Rattle.rec_tools.proofs.FaultLemmas.{ok_is_no_err, same_fault, same_value}
 use Rattle.rec_tools.proofs.CallLemmas.{one_call, went_on}

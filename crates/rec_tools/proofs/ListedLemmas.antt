@@ -12,11 +12,11 @@ use Rattle.rec_select.proofs.InfoLemmas.{IsTakenTo, IsTakenTo-more, IsTakenTo-st
 use Rattle.rec_select.proofs.PutsLemmas.{PrintsAndCounts-prints}
 use Rattle.rec_journal.specs.declared.event.Revision.{Revision}
 use Rattle.rec_journal.specs.declared.event.Tool.{Tool}
-use Rattle.rec_journal.specs.declared.steps.Step.{Step}
+use Rattle.rec_journal.specs.declared.history.steps.Step.{Step}
 use Rattle.rec_journal.specs.History.{Opened, IsOpening}
 use Rattle.rec_journal.specs.Listing.{step_of, steps_of}
 use Rattle.rec_tools.specs.declared.request.Reply.TheVariants.{Shown}
-use Rattle.rec_tools.specs.Listed.{line_of}
+use Rattle.rec_tools.specs.proving.Listed.{line_of}
 use Rattle.rec_tools.specs.Printouts.{step_line, history_text, printed_history, IsHistory, IsShownText, PutsPrintout}
 use Rattle.rec_tools.proofs.FaultLemmas.{memory_or_weaker, ok_is_no_err}
 use Rattle.rec_tools.proofs.PutsLemmas.{PutsPrintout-err_shown, refused_before, refused_within, no_store_then}

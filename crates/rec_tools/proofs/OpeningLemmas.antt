@@ -7,7 +7,7 @@ use Rattle.rec_journal.specs.declared.event.Tool.{Tool}
 use Rattle.rec_journal.specs.History.{Opened, Opens}
 use Rattle.rec_journal.specs.Revisions.{one_pass, Leads}
 use Rattle.rec_journal.specs.Plans.{ShareDigest, edit_to}
-use Rattle.rec_journal.proofs.Countings.{Opens-digest}
+use Rattle.rec_journal.proofs.lemmas.histories.Countings.{Opens-digest}
 use Rattle.rec_edit.specs.declared.outcome.Edited.{Edited}
 use Rattle.rec_tools.specs.Home.{Contents}
 use Rattle.rec_tools.specs.Outcomes.{IsPlanned}

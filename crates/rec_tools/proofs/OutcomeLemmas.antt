@@ -3,12 +3,12 @@ use Rattle.std.proofs.Common.{◌≡◌, inl, inr, ℕ, Bool, Option, List, ◌�
 use Rattle.rec_text.specs.declared.fault.Fault.{Fault}
 use Rattle.rec_text.specs.declared.violations.Violation.{Violation}
 use Rattle.rec_text.specs.Elements.{Piece}
-use Rattle.rec_text.proofs.RecordLemmas.{OneListOfRecords-holds}
-use Rattle.rec_sex.specs.declared.field_list.Item.{Item}
-use Rattle.rec_sex.proofs.FieldListReading.{one_field_list}
+use Rattle.rec_text.proofs.lemmas.records.RecordLemmas.{OneListOfRecords-holds}
+use Rattle.rec_sex.specs.declared.lists.field_list.Item.{Item}
+use Rattle.rec_sex.proofs.lemmas.lists.FieldListReading.{one_field_list}
 use Rattle.rec_check.specs.declared.set.Set_.{Set_}
 use Rattle.rec_check.specs.DescribedTexts.{DescribedText}
-use Rattle.rec_check.proofs.CheckLemmas.{one_check}
+use Rattle.rec_check.proofs.lemmas.laws.CheckLemmas.{one_check}
 use Rattle.rec_check.specs.Violations.{AreViolationsOf}
 use Rattle.rec_select.specs.declared.info.InfoForm.{InfoForm}
 use Rattle.rec_select.specs.declared.records.Shape.{Shape}
@@ -24,8 +24,8 @@ use Rattle.rec_journal.specs.declared.event.Tool.{Tool}
 use Rattle.rec_journal.specs.declared.plan.Plan.{Plan}
 use Rattle.rec_journal.specs.History.{Opened, Opens, IsOpening}
 use Rattle.rec_journal.specs.Plans.{IsMovePlan}
-use Rattle.rec_journal.proofs.PlanLemmas.{one_move_plan}
-use Rattle.rec_journal.proofs.Openings.{one_opening}
+use Rattle.rec_journal.proofs.lemmas.plans.PlanLemmas.{one_move_plan}
+use Rattle.rec_journal.proofs.lemmas.histories.Openings.{one_opening}
 use Rattle.rec_edit.specs.declared.outcome.Edited.{Edited}
 use Rattle.rec_edit.specs.Task.{Task, insert, replace, delete, comment_out, set, auto_fill, fresh_by}
 use Rattle.rec_tools.specs.declared.request.Form.{Form}

@@ -12,8 +12,8 @@ use Rattle.rec_journal.specs.declared.plan.Plan.{Plan}
 use Rattle.rec_journal.specs.History.{Opened, Opens, IsOpening}
 use Rattle.rec_journal.specs.Revisions.{one_pass, Leads}
 use Rattle.rec_journal.specs.Plans.{edit_to, after_edit_plan}
-use Rattle.rec_journal.proofs.Countings.{drifted-empty}
-use Rattle.rec_journal.proofs.Openings.{one_opening}
+use Rattle.rec_journal.proofs.lemmas.histories.Countings.{drifted-empty}
+use Rattle.rec_journal.proofs.lemmas.histories.Openings.{one_opening}
 use Rattle.rec_edit.specs.declared.outcome.Edited.{Edited}
 use Rattle.rec_tools.specs.declared.request.Reply.TheVariants.{Shown}
 use Rattle.rec_tools.specs.Home.{Contents}

@@ -6,9 +6,9 @@ use Rattle.rec_journal.specs.declared.patch.Direction.{Direction}
 use Rattle.rec_journal.specs.declared.patch.Direction.TheVariants.{Forward, Backward}
 use Rattle.rec_journal.specs.declared.event.Tool.{Tool}
 use Rattle.rec_journal.specs.History.{Opened, Opens, IsRegular, open_at, spelled, start, newest_header}
-use Rattle.rec_journal.proofs.Headers.{length-header}
-use Rattle.rec_journal.proofs.Openings.{one_opening}
-use Rattle.rec_journal.proofs.StepLemmas.{edits_lead_to_one_text}
+use Rattle.rec_journal.proofs.lemmas.histories.Headers.{length-header}
+use Rattle.rec_journal.proofs.lemmas.histories.Openings.{one_opening}
+use Rattle.rec_journal.proofs.lemmas.patches.StepLemmas.{edits_lead_to_one_text}
 use Rattle.rec_tools.specs.Home.{Contents}
 use Rattle.rec_tools.specs.Laws.{OneState, FirstStands}
 use Rattle.rec_tools.specs.Machine.{Entry, State, AreEntries, Stands}

@@ -11,8 +11,8 @@ use Rattle.rec_journal.specs.declared.plan.Plan.{Plan}
 use Rattle.rec_journal.specs.History.{Opened, Opens, IsOpening}
 use Rattle.rec_journal.specs.Revisions.{one_pass, Leads}
 use Rattle.rec_journal.specs.Plans.{ShareDigest, edit_to, after_edit_plan, edits_on, after_move, LeadsNowhere}
-use Rattle.rec_journal.proofs.Openings.{one_opening}
-use Rattle.rec_journal.proofs.StepLemmas.{edits_lead_to_one_text}
+use Rattle.rec_journal.proofs.lemmas.histories.Openings.{one_opening}
+use Rattle.rec_journal.proofs.lemmas.patches.StepLemmas.{edits_lead_to_one_text}
 use Rattle.rec_check.specs.DescribedTexts.{IsDescribedText}
 use Rattle.rec_edit.specs.declared.outcome.Edited.{Edited}
 use Rattle.rec_edit.specs.Task.{Task}

@@ -2,8 +2,8 @@
 use Rattle.std.specs.Prelude.{◌≡◌, ℕ, List, Some, None, Result, Ok, Err}
 use Rattle.rec_text.specs.declared.fault.Fault.{Fault}
 use Rattle.rec_text.specs.declared.fault.Fault.TheVariants.{BadExpression, BadPattern}
-use Rattle.rec_sex.specs.declared.field_list.Item.{Item}
-use Rattle.rec_sex.specs.declared.index_list.Span.{Span}
+use Rattle.rec_sex.specs.declared.lists.field_list.Item.{Item}
+use Rattle.rec_sex.specs.declared.lists.index_list.Span.{Span}
 use Rattle.rec_sex.specs.Expressions.{IsExpression, ExpressionMayBeRefused}
 use Rattle.rec_sex.specs.Grammar.{Term, fault_of}
 use Rattle.rec_sex.specs.IndexList.{IsIndexList}

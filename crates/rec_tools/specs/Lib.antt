@@ -11,7 +11,4 @@ pub mod Guarantee
 pub mod Laws
 pub mod Memory
 -- what serves proofs
-pub mod ReadFiles
-pub mod Editing
-pub mod Listed
-pub mod Silently
+pub mod proving

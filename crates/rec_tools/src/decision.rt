@@ -2,12 +2,12 @@
 ghost use Rattle.std.specs.Prelude.{◌≡◌, ◌↔◌, IsTrue, [], Ok, Err, IfOk, IfErr, MatchOption};
 ghost use Rattle.rec_text.specs.Faults.{IsMemoryOr, UnlessMemory};
 ghost use Rattle.rec_text.specs.Elements.{text_of};
-ghost use Rattle.rec_tools.specs.ReadFiles.{described_file, BelongTogether};
+ghost use Rattle.rec_tools.specs.proving.ReadFiles.{described_file, BelongTogether};
 ghost use Rattle.rec_journal.specs.Plans.{nothing_there};
 ghost use Rattle.rec_tools.specs.Steps.{IsRefusal};
 ghost use Rattle.rec_tools.specs.Requests.{moving, asked_of, IsSilent};
 ghost use Rattle.rec_tools.specs.Outcomes.{Decides, IsMade, reply_of};
-ghost use Rattle.rec_tools.specs.Editing.{IsEditing, IsEditOf, IsChange, TellsChanges};
+ghost use Rattle.rec_tools.specs.proving.Editing.{IsEditing, IsEditOf, IsChange, TellsChanges};
 
 use crate::editing::edit_of;
 use crate::history::history_of;

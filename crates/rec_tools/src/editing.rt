@@ -3,7 +3,7 @@ ghost use Rattle.std.specs.Prelude.{Ok, Err, IfOk, IfErr};
 ghost use Rattle.rec_text.specs.Faults.{IsMemoryOr};
 ghost use Rattle.rec_edit.specs.Task.{task_of};
 ghost use Rattle.rec_tools.specs.Requests.{asked_of};
-ghost use Rattle.rec_tools.specs.Editing.{IsEditing, IsEditOf};
+ghost use Rattle.rec_tools.specs.proving.Editing.{IsEditing, IsEditOf};
 
 use crate::request::Request;
 use crate::selecting::selection_of;

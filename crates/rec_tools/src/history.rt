@@ -5,7 +5,7 @@ ghost use Rattle.rec_select.specs.Taken.{Prints, PrintsAndCounts};
 ghost use Rattle.rec_journal.specs.History.{IsOpening};
 ghost use Rattle.rec_tools.specs.Steps.{IsRefusal};
 ghost use Rattle.rec_tools.specs.Printouts.{IsHistory, IsShownText, PutsPrintout, printed_history};
-ghost use Rattle.rec_tools.specs.Listed.{line_of};
+ghost use Rattle.rec_tools.specs.proving.Listed.{line_of};
 
 use crate::request::Reply;
 use itoa::Buffer;

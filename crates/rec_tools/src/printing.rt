@@ -4,7 +4,7 @@ ghost use Rattle.rec_check.specs.Violations.{AreViolationsOf};
 ghost use Rattle.rec_select.specs.Selection.{filter_of};
 ghost use Rattle.rec_select.specs.Taken.{PrintsAndCounts};
 ghost use Rattle.rec_tools.specs.Steps.{IsRefusal};
-ghost use Rattle.rec_tools.specs.ReadFiles.{described_file, BelongTogether};
+ghost use Rattle.rec_tools.specs.proving.ReadFiles.{described_file, BelongTogether};
 ghost use Rattle.rec_tools.specs.Printouts.{IsShowOf, IsShow, IsInfoOf, IsShownText, IsReportText, PutsPrintout, verdict};
 
 use crate::rec_file::{ReadFile, read_file};

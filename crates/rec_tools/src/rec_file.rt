@@ -2,7 +2,7 @@
 ghost use Rattle.std.specs.Prelude.{Ok, Err, IfOk, IfErr};
 ghost use Rattle.rec_text.specs.Faults.{IsMemoryOr};
 ghost use Rattle.rec_check.specs.DescribedTexts.{IsDescribedText};
-ghost use Rattle.rec_tools.specs.ReadFiles.{described_file, BelongTogether};
+ghost use Rattle.rec_tools.specs.proving.ReadFiles.{described_file, BelongTogether};
 
 use rec_check::Schema;
 use rec_text::{Database, Fault, read};

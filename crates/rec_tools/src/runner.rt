@@ -11,7 +11,7 @@ ghost use Rattle.rec_tools.specs.Outcomes.{outcome_of, writes_of};
 ghost use Rattle.rec_tools.specs.Attempts.{AreRead, AreWritten, IsAnswered, IsCutShort, Attempts, AttemptsAll};
 ghost use Rattle.rec_tools.specs.Machine.{State, Stands};
 ghost use Rattle.rec_tools.specs.Guarantee.{RunsAsMachine};
-ghost use Rattle.rec_tools.specs.Silently.{ByCalls, DoesSilently};
+ghost use Rattle.rec_tools.specs.proving.Silently.{ByCalls, DoesSilently};
 
 use crate::decision::{Decision, decide};
 use crate::history::print_history;

@@ -2,7 +2,7 @@
 ghost use Rattle.std.specs.Prelude.{◌≡◌, false, fold, IfOk};
 ghost use Rattle.clap.specs.Words.{app_of, rule_of, with_rule};
 ghost use Rattle.clap.specs.declared.builder.command.Command.TheViews.{out-Command as fields_of};
-ghost use Rattle.rec_command.specs.Options.{rule_of_option, with_option};
+ghost use Rattle.rec_command.specs.proving.Options.{rule_of_option, with_option};
 ghost use Rattle.rec_command.specs.Usage.{journal_option, file_word, needed_file, recsel_usage, recinf_usage, recfix_usage, recins_usage, recdel_usage, recset_usage, paths_usage, plain_usage, selecting, usage};
 
 use super::help::{

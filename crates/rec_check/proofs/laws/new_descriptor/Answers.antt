@@ -1,4 +1,4 @@
-use Rattle.rec_check.proofs.SameDescriptorLemmas as lemma
+use Rattle.rec_check.proofs.lemmas.laws.SameDescriptorLemmas as lemma
 use Rattle.rec_check.proofs.laws.new_descriptor.Goals as goal
 
 pub returns : goal.returns

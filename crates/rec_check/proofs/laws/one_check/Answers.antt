@@ -1,4 +1,4 @@
-use Rattle.rec_check.proofs.CheckLemmas as lemma
+use Rattle.rec_check.proofs.lemmas.laws.CheckLemmas as lemma
 use Rattle.rec_check.proofs.laws.one_check.Goals as goal
 
 pub returns : goal.returns

@@ -1,4 +1,4 @@
-use Rattle.rec_check.proofs.MeaningLemmas as lemma
+use Rattle.rec_check.proofs.lemmas.field_types.MeaningLemmas as lemma
 use Rattle.rec_check.proofs.laws.one_meaning.Goals as goal
 
 pub returns : goal.returns

@@ -1,4 +1,4 @@
-use Rattle.rec_check.proofs.OneReportLemmas as lemma
+use Rattle.rec_check.proofs.lemmas.laws.OneReportLemmas as lemma
 use Rattle.rec_check.proofs.laws.one_report.Goals as goal
 
 pub returns : goal.returns

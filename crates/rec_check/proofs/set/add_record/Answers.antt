@@ -1,6 +1,6 @@
 use Rattle.std.proofs.Common.{◌∙◌, ◌-◌, ap, sym, arith, refl}
-use Rattle.rec_check.specs.Steps.{with_record}
-use Rattle.rec_check.proofs.SetLemmas.{with_member-set}
+use Rattle.rec_check.specs.proving.Steps.{with_record}
+use Rattle.rec_check.proofs.lemmas.SetLemmas.{with_member-set}
 use Rattle.rec_check.proofs.set.add_record.Goals as goal
 
 pub returns-in-Some-last_mut : goal.returns-in-Some-last_mut

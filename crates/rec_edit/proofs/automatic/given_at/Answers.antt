@@ -4,7 +4,7 @@ use Rattle.rec_check.specs.Counters.{AreCounters}
 use Rattle.rec_check.specs.Stored.{described}
 use Rattle.rec_check.specs.Violations.{members}
 use Rattle.rec_edit.specs.Task.{Pair}
-use Rattle.rec_edit.proofs.AutomaticLemmas.{set_there, rules_there, given_at, refused_at}
+use Rattle.rec_edit.proofs.lemmas.automatic.NumberLemmas.{set_there, rules_there, given_at, refused_at}
 use Rattle.rec_edit.proofs.automatic.given_at.Goals as goal
 
 pub returns-clause-given : goal.returns-clause-given

@@ -1,5 +1,5 @@
 use Rattle.std.proofs.Common.{◌≡◌, filter_map, slice_get, Ok, inr, ap, refl}
-use Rattle.rec_edit.proofs.ChosenRangeLemmas.{AreRanges-chosen, indexes_within, chosen_found}
+use Rattle.rec_edit.proofs.lemmas.records.MemberLemmas.{AreRanges-chosen, indexes_within, chosen_found}
 use Rattle.rec_edit.proofs.chosen.chosen_records.Goals as goal
 use Rattle.rec_edit.proofs.chosen.chosen_records.Goals.{In_ok-ranges_at}
 

@@ -1,5 +1,5 @@
 use Rattle.std.proofs.Common.{refl}
-use Rattle.rec_edit.proofs.ChosenRangeLemmas.{one_range_more}
+use Rattle.rec_edit.proofs.lemmas.records.MemberLemmas.{one_range_more}
 use Rattle.rec_edit.proofs.chosen.ranges_at.Goals as goal
 
 pub loop-index-preserved : goal.loop-index-preserved

@@ -1,5 +1,5 @@
 use Rattle.rec_text.specs.Places.{pieces_of}
-use Rattle.rec_edit.proofs.BeginLemmas.{Begins-heading}
+use Rattle.rec_edit.proofs.lemmas.insertions.SiteLemmas.{Begins-heading}
 use Rattle.rec_edit.proofs.insertion.begin.Goals as goal
 
 pub returns-in_ok-append_heading-in-None : goal.returns-in_ok-append_heading-in-None

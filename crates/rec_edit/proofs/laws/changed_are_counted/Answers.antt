@@ -1,4 +1,4 @@
-use Rattle.rec_edit.proofs.CountedLemmas as lemma
+use Rattle.rec_edit.proofs.lemmas.outcomes.CountedLemmas as lemma
 use Rattle.rec_edit.proofs.laws.changed_are_counted.Goals as goal
 
 pub returns : goal.returns

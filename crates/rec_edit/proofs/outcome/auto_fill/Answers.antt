@@ -1,9 +1,9 @@
 use Rattle.std.proofs.Common.{length, ap, sym, subst}
 use Rattle.std.proofs.lemmas.Result.{err_from_is_err_and}
 use Rattle.rec_check.specs.Stored.{described}
-use Rattle.rec_edit.specs.Drafts.{AreRanges}
-use Rattle.rec_edit.specs.Filling.{filled_of, ranges_of}
-use Rattle.rec_edit.proofs.FillMadeLemmas.{AreRanges-filled, auto_fill-refused, auto_fill-made}
+use Rattle.rec_edit.specs.proving.Drafts.{AreRanges}
+use Rattle.rec_edit.specs.proving.Filling.{filled_of, ranges_of}
+use Rattle.rec_edit.proofs.lemmas.automatic.FillLemmas.{AreRanges-filled, auto_fill-refused, auto_fill-made}
 use Rattle.rec_edit.proofs.outcome.auto_fill.Goals as goal
 
 pub returns-in_err-filled : goal.returns-in_err-filled

@@ -1,8 +1,8 @@
 use Rattle.std.proofs.lemmas.Result.{err_from_is_err_and}
 use Rattle.rec_check.specs.Stored.{described}
 use Rattle.rec_edit.specs.Task.{wanted_by}
-use Rattle.rec_edit.proofs.EditLemmas.{comment_out-refused, comment_out-made}
-use Rattle.rec_edit.proofs.LineLemmas.{LaysLines-commenting}
+use Rattle.rec_edit.proofs.lemmas.outcomes.EditLemmas.{comment_out-refused, comment_out-made}
+use Rattle.rec_edit.proofs.lemmas.scripts.LaidLemmas.{LaysLines-commenting}
 use Rattle.rec_edit.proofs.outcome.comment_out.Goals as goal
 
 pub returns-in_err-chosen : goal.returns-in_err-chosen

@@ -1,8 +1,8 @@
 use Rattle.std.proofs.lemmas.Result.{err_from_is_err_and}
 use Rattle.rec_check.specs.Stored.{described}
 use Rattle.rec_edit.specs.Task.{wanted_by}
-use Rattle.rec_edit.proofs.EditLemmas.{delete-refused, delete-made}
-use Rattle.rec_edit.proofs.LineLemmas.{LaysLines-taking_out}
+use Rattle.rec_edit.proofs.lemmas.outcomes.EditLemmas.{delete-refused, delete-made}
+use Rattle.rec_edit.proofs.lemmas.scripts.LaidLemmas.{LaysLines-taking_out}
 use Rattle.rec_edit.proofs.outcome.delete.Goals as goal
 
 pub returns-in_err-chosen : goal.returns-in_err-chosen

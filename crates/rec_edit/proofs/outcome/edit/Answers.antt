@@ -1,7 +1,7 @@
 use Rattle.rec_check.specs.Stored.{described}
 use Rattle.rec_edit.specs.Task.{task_of}
-use Rattle.rec_edit.proofs.EditLemmas.{only_outcome, outcome-leads, outcome-unchanged, outcome-whole, outcome-refusals, outcome-effect}
-use Rattle.rec_edit.proofs.EveryKindLemmas.{faithful}
+use Rattle.rec_edit.proofs.lemmas.outcomes.EditLemmas.{only_outcome, outcome-leads, outcome-unchanged, outcome-whole, outcome-refusals, outcome-effect}
+use Rattle.rec_edit.proofs.lemmas.outcomes.UnruledLemmas.{faithful}
 use Rattle.rec_edit.proofs.outcome.edit.Goals as goal
 
 pub returns-clause-only : goal.returns-clause-only

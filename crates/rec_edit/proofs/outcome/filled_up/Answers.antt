@@ -1,10 +1,10 @@
 use Rattle.std.proofs.Common.{◌≡◌, ◌∙◌, length, subst, sym}
 use Rattle.std.specs.Prelude.{IfOk}
-use Rattle.rec_edit.specs.Drafts.{AreRanges}
-use Rattle.rec_edit.specs.Filling.{filled_of, ranges_of}
+use Rattle.rec_edit.specs.proving.Drafts.{AreRanges}
+use Rattle.rec_edit.specs.proving.Filling.{filled_of, ranges_of}
 use Rattle.rec_edit.specs.Insertions.{filling}
 use Rattle.rec_edit.specs.Outcome.{edited_by, step_of}
-use Rattle.rec_edit.proofs.FillPlanLemmas.{LaysLines-filling}
+use Rattle.rec_edit.proofs.lemmas.automatic.FillLemmas.{LaysLines-filling}
 use Rattle.rec_edit.proofs.outcome.filled_up.Goals as goal
 
 pub of-requires : goal.of-requires

@@ -4,9 +4,9 @@ use Rattle.rec_text.specs.Faults.{IsMemoryOr}
 use Rattle.rec_check.specs.Stored.{described}
 use Rattle.rec_edit.specs.Task.{Pair, fresh_by}
 use Rattle.rec_edit.specs.Automatic.{AreAutomatic}
-use Rattle.rec_edit.specs.Given.{IsAutomaticText}
-use Rattle.rec_edit.specs.Sites.{IsRecordPut}
-use Rattle.rec_edit.proofs.InsertMadeLemmas.{insert-no_record, insert-no_number, LaysLines-insert, insert-made}
+use Rattle.rec_edit.specs.proving.Given.{IsAutomaticText}
+use Rattle.rec_edit.specs.proving.Sites.{IsRecordPut}
+use Rattle.rec_edit.proofs.lemmas.insertions.SiteLemmas.{insert-no_record, insert-no_number, LaysLines-insert, insert-made}
 use Rattle.rec_edit.proofs.outcome.insert.Goals as goal
 use Rattle.rec_edit.proofs.outcome.insert.Goals.{In_ok-plan}
 

@@ -2,7 +2,7 @@ use Rattle.std.proofs.Common.{refl}
 use Rattle.std.proofs.lemmas.Result.{err_from_is_err_and}
 use Rattle.rec_check.specs.Stored.{described}
 use Rattle.rec_edit.specs.Task.{task_of}
-use Rattle.rec_edit.proofs.EditLemmas.{outcome-forced, outcome-sound, outcome-unsound}
+use Rattle.rec_edit.proofs.lemmas.outcomes.EditLemmas.{outcome-forced, outcome-sound, outcome-unsound}
 use Rattle.rec_edit.proofs.outcome.outcome.Goals as goal
 use Rattle.rec_edit.proofs.outcome.outcome.Goals.{then-not-force+in_ok-require_kept_rules, else-not-force}
 

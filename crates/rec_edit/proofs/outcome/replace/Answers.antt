@@ -2,7 +2,7 @@ use Rattle.std.proofs.Common.{◌∙◌}
 use Rattle.std.proofs.lemmas.Result.{err_from_is_err_and}
 use Rattle.rec_check.specs.Stored.{described}
 use Rattle.rec_edit.specs.Task.{fresh_by, wanted_by}
-use Rattle.rec_edit.proofs.ReplacePlanLemmas.{LaysLines-replacement, replace-no_record, replace-none_chosen, replace-made}
+use Rattle.rec_edit.proofs.lemmas.outcomes.EditLemmas.{LaysLines-replacement, replace-no_record, replace-none_chosen, replace-made}
 use Rattle.rec_edit.proofs.outcome.replace.Goals as goal
 
 pub returns-in_err-pairs : goal.returns-in_err-pairs

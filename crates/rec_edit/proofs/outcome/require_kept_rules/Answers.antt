@@ -3,7 +3,7 @@ use Rattle.rec_text.specs.Faults.{UnlessMemory}
 use Rattle.rec_check.specs.Stored.{described}
 use Rattle.rec_edit.specs.Task.{task_of}
 use Rattle.rec_edit.specs.Outcome.{IsSound}
-use Rattle.rec_edit.proofs.EditLemmas.{outcome-unruled}
+use Rattle.rec_edit.proofs.lemmas.outcomes.EditLemmas.{outcome-unruled}
 use Rattle.rec_edit.proofs.outcome.require_kept_rules.Goals as goal
 
 pub returns-then-sets-eq1 : goal.returns-then-sets-eq1

@@ -1,8 +1,8 @@
 use Rattle.std.proofs.lemmas.Result.{err_from_is_err_and}
 use Rattle.rec_check.specs.Stored.{described}
 use Rattle.rec_edit.specs.Task.{wanted_by}
-use Rattle.rec_edit.proofs.EditLemmas.{set-no_items, set-none_chosen, set-made}
-use Rattle.rec_edit.proofs.LineLemmas.{LaysLines-setting}
+use Rattle.rec_edit.proofs.lemmas.outcomes.EditLemmas.{set-no_items, set-none_chosen, set-made}
+use Rattle.rec_edit.proofs.lemmas.scripts.LaidLemmas.{LaysLines-setting}
 use Rattle.rec_edit.proofs.outcome.set.Goals as goal
 
 pub returns-in_err-items : goal.returns-in_err-items

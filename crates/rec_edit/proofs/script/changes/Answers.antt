@@ -2,7 +2,7 @@ use Rattle.std.proofs.Common.{◌∙◌, List, ap}
 use Rattle.rec_text.specs.Elements.{Piece}
 use Rattle.rec_text.specs.Places.{pieces_of}
 use Rattle.rec_text.specs.Records.{elements_in}
-use Rattle.rec_edit.proofs.CountLemmas.{laid_is, changed_is}
+use Rattle.rec_edit.proofs.lemmas.scripts.PassLemmas.{laid_is, changed_is}
 use Rattle.rec_edit.proofs.script.changes.Goals as goal
 
 pub returns : goal.returns

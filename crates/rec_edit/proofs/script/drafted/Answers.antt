@@ -1,6 +1,6 @@
 use Rattle.std.proofs.Common.{[], ap, length, arith}
 use Rattle.rec_edit.specs.Script.{script_of}
-use Rattle.rec_edit.proofs.TieLemmas.{at_within, laid_end}
+use Rattle.rec_edit.proofs.lemmas.scripts.PassLemmas.{at_within, laid_end}
 use Rattle.rec_edit.proofs.script.drafted.Goals as goal
 
 pub lay_put-requires : goal.lay_put-requires

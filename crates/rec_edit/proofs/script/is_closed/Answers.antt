@@ -2,7 +2,7 @@ use Rattle.std.proofs.Common.{◌∙◌, [], ◌∷◌, None, Some, ap, sym}
 use Rattle.std.specs.Str.{bytes_eq}
 use Rattle.std.proofs.lemmas.Bool.Decides.{Decides-eqb}
 use Rattle.std.proofs.lemmas.Slice.Eq.{strip_suffix_is}
-use Rattle.rec_edit.proofs.CountLemmas.{closed_text-closed, closed_some, closed_none}
+use Rattle.rec_edit.proofs.lemmas.scripts.PassLemmas.{closed_text-closed, closed_some, closed_none}
 use Rattle.rec_edit.proofs.script.is_closed.Goals as goal
 
 pub returns-then-ends_newline : goal.returns-then-ends_newline

@@ -1,5 +1,5 @@
 use Rattle.std.proofs.Common.{◌-◌, ◌≤◌, length}
-use Rattle.rec_edit.specs.Drafts.{IsLaid}
+use Rattle.rec_edit.specs.proving.Drafts.{IsLaid}
 use Rattle.rec_edit.proofs.script.lay_all.Given as goal
 
 abbrev pub invariant-loop-index : goal.invariant-loop-index

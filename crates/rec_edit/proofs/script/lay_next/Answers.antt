@@ -1,5 +1,5 @@
 use Rattle.std.proofs.Common.{sym, append-nil, arith}
-use Rattle.rec_edit.proofs.TieLemmas.{kept_begun, element_within}
+use Rattle.rec_edit.proofs.lemmas.scripts.PassLemmas.{kept_begun, element_within}
 use Rattle.rec_edit.proofs.script.lay_next.Goals as goal
 
 pub keep-requires : goal.keep-requires

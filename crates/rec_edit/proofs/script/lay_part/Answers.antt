@@ -1,7 +1,7 @@
 use Rattle.std.proofs.Common.{◌∙◌, List, ap, length, arith}
 use Rattle.rec_text.specs.Elements.{Piece}
 use Rattle.rec_text.specs.Records.{elements_in}
-use Rattle.rec_edit.proofs.TieLemmas.{at_within, part_within, tie_begun, tie_laid}
+use Rattle.rec_edit.proofs.lemmas.scripts.PassLemmas.{at_within, part_within, tie_begun, tie_laid}
 use Rattle.rec_edit.proofs.script.lay_part.Goals as goal
 
 pub lay_put-requires : goal.lay_put-requires

@@ -2,8 +2,8 @@ use Rattle.std.proofs.Common.{◌≡◌, ◌≢◌, ◌∙◌, List, length, ref
 use Rattle.std.specs.Prelude.{vec_len}
 use Rattle.std.proofs.lemmas.Bool.{eqb-true, eqb-false}
 use Rattle.rec_edit.specs.Script.{Part}
-use Rattle.rec_edit.specs.Drafts.{IsDraft}
-use Rattle.rec_edit.proofs.PassLemmas.{laid_fresh, laid_nothing, laid_something, put_nothing, put_part}
+use Rattle.rec_edit.specs.proving.Drafts.{IsDraft}
+use Rattle.rec_edit.proofs.lemmas.scripts.PassLemmas.{laid_fresh, laid_nothing, laid_something, put_nothing, put_part}
 use Rattle.rec_edit.proofs.script.lay_put.Goals as goal
 
 pub returns-then-is_empty-clause-carried_out : goal.returns-then-is_empty-clause-carried_out

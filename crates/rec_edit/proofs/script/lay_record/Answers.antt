@@ -1,7 +1,7 @@
 use Rattle.std.proofs.Common.{◌++◌, List, ap}
 use Rattle.rec_text.specs.Elements.{Piece, text_of}
 use Rattle.rec_text.specs.Places.{pieces_of}
-use Rattle.rec_edit.proofs.CountLemmas.{laying_start, laying_next, laying_end}
+use Rattle.rec_edit.proofs.lemmas.scripts.PassLemmas.{laying_start, laying_next, laying_end}
 use Rattle.rec_edit.proofs.script.lay_record.Goals as goal
 
 pub loop-index-init : goal.loop-index-init

@@ -1,7 +1,7 @@
 use Rattle.std.proofs.Common.{◌≡◌, ◌+◌, ◌++◌, drop}
 use Rattle.rec_text.specs.Elements.{text_of}
 use Rattle.rec_text.specs.Places.{pieces_of}
-use Rattle.rec_edit.specs.Drafts.{laying}
+use Rattle.rec_edit.specs.proving.Drafts.{laying}
 use Rattle.rec_edit.proofs.script.lay_record.Given as goal
 
 abbrev pub invariant-loop-index : goal.invariant-loop-index

@@ -3,9 +3,8 @@ use Rattle.std.specs.Prelude.{vec_len}
 use Rattle.std.proofs.lemmas.Bool.{eqb-true, eqb-false}
 use Rattle.rec_text.specs.Elements.{text_of}
 use Rattle.rec_text.specs.Places.{pieces_of}
-use Rattle.rec_edit.specs.Drafts.{laying}
-use Rattle.rec_edit.proofs.PassLemmas.{laid_fresh, laid_nothing, laid_something, text_of-opened, settling-nothing, settling-something}
-use Rattle.rec_edit.proofs.TieLemmas.{AreLines-laying}
+use Rattle.rec_edit.specs.proving.Drafts.{laying}
+use Rattle.rec_edit.proofs.lemmas.scripts.PassLemmas.{laid_fresh, laid_nothing, laid_something, text_of-opened, settling-nothing, settling-something, AreLines-laying}
 use Rattle.rec_edit.proofs.script.lay_settled.Goals as goal
 
 pub returns-then-is_end : goal.returns-then-is_end

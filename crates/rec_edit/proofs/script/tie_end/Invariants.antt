@@ -1,4 +1,4 @@
-use Rattle.rec_edit.proofs.TieLemmas.{AreTied}
+use Rattle.rec_edit.proofs.lemmas.scripts.PassLemmas.{AreTied}
 use Rattle.rec_edit.proofs.script.tie_end.Given as goal
 
 abbrev pub invariant-loop-index : goal.invariant-loop-index

@@ -1,6 +1,6 @@
 use Rattle.std.proofs.Common.{◌∙◌, ◌==◌, ap, inr}
 use Rattle.rec_check.specs.Stored.{described}
-use Rattle.rec_edit.proofs.OutcomeLemmas.{none_of-some, none_of-none}
+use Rattle.rec_edit.proofs.lemmas.outcomes.OutcomeLemmas.{none_of-some, none_of-none}
 use Rattle.rec_edit.proofs.sound.require_sound.Goals as goal
 
 pub returns-then-not-is_empty : goal.returns-then-not-is_empty

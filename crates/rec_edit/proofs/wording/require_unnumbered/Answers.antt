@@ -1,7 +1,7 @@
 use Rattle.std.proofs.Common.{rules, tests, ◌≡◌, ◌∙◌, ◌==◌, position, sym}
 use Rattle.std.proofs.lemmas.Iterator.{YieldsList-from_slice}
 use Rattle.std.proofs.lemmas.Iterator.Search.{position_from_yields_List}
-use Rattle.rec_edit.proofs.WordingLemmas.{unnumbered-some, unnumbered-none}
+use Rattle.rec_edit.proofs.lemmas.outcomes.AnswerLemmas.{unnumbered-some, unnumbered-none}
 use Rattle.rec_edit.proofs.wording.require_unnumbered.Goals as goal
 use Rattle.rec_edit.proofs.wording.require_unnumbered.Goals.{After-position}
 

@@ -1,4 +1,4 @@
-use Rattle.rec_select.specs.Blocks.{spaced_value}
+use Rattle.rec_select.specs.proving.Blocks.{spaced_value}
 use Rattle.rec_select.proofs.PutsLemmas.{Prints-stopped, HasStopped-within}
 use Rattle.rec_select.proofs.BlockLemmas.{flat_map_at}
 use Rattle.rec_select.proofs.block.write_spaced_values.Goals as goal

@@ -1,6 +1,6 @@
 use Rattle.std.proofs.Common.{take, flat_map}
 use Rattle.rec_text.specs.Places.{pieces_of}
-use Rattle.rec_select.specs.Blocks.{spaced_value}
+use Rattle.rec_select.specs.proving.Blocks.{spaced_value}
 use Rattle.rec_select.specs.Taken.{HasTaken}
 use Rattle.rec_select.proofs.block.write_spaced_values.Given as goal
 

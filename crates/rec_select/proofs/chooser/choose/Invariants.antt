@@ -1,5 +1,5 @@
 use Rattle.std.proofs.Common.{◌≡◌, ◌+◌}
-use Rattle.rec_select.specs.Filters.{stands_for}
+use Rattle.rec_select.specs.proving.Filters.{stands_for}
 use Rattle.rec_select.specs.Selection.{filter_of}
 use Rattle.rec_select.proofs.SelectionLemmas.{IsChosenUpTo}
 use Rattle.rec_select.proofs.chooser.choose.Given as goal

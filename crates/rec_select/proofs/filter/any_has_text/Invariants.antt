@@ -1,7 +1,7 @@
 use Rattle.std.proofs.Common.{drop}
 use Rattle.std.specs.Prelude.{Any}
 use Rattle.rec_text.specs.Places.{pieces_of}
-use Rattle.rec_select.specs.Filters.{HasText}
+use Rattle.rec_select.specs.proving.Filters.{HasText}
 use Rattle.rec_select.proofs.filter.any_has_text.Given as goal
 
 -- an element that has the text stands among those that are left

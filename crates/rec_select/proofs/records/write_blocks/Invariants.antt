@@ -1,5 +1,5 @@
 use Rattle.std.proofs.Common.{◌≡◌, take}
-use Rattle.rec_select.specs.Blocks.{blocks_of, separated}
+use Rattle.rec_select.specs.proving.Blocks.{blocks_of, separated}
 use Rattle.rec_select.specs.Taken.{HasTaken}
 use Rattle.rec_select.proofs.PrintingLemmas.{lead}
 use Rattle.rec_select.proofs.records.write_blocks.Given as goal

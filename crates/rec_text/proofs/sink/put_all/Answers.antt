@@ -1,6 +1,6 @@
 use Rattle.std.proofs.Common.{ℕ, refl, subst, ◌∙◌}
 use Rattle.rec_text.specs.Sink.{HasRisen}
-use Rattle.rec_text.proofs.SinkLemmas.{HasPut-none, HasPut-more, Appends-all, AppendsFront-kept, OnErr-of, length-rest, is_some, is_none}
+use Rattle.rec_text.proofs.lemmas.SinkLemmas.{HasPut-none, HasPut-more, Appends-all, AppendsFront-kept, OnErr-of, length-rest, is_some, is_none}
 use Rattle.rec_text.proofs.sink.put_all.Goals as goal
 
 pub loop-rest-init : goal.loop-rest-init

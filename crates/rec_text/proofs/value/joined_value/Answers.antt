@@ -1,5 +1,5 @@
 use Rattle.std.proofs.Common.{◌++◌, ◌∷◌, [], ap, ◌∙◌}
-use Rattle.rec_text.proofs.ValueLemmas.{HasJoined-none, HasJoined-joined, HasJoined-next, HasJoined-last, HasJoined-all}
+use Rattle.rec_text.proofs.lemmas.values.ValueLemmas.{HasJoined-none, HasJoined-joined, HasJoined-next, HasJoined-last, HasJoined-all}
 use Rattle.rec_text.proofs.value.joined_value.Goals as goal
 use Rattle.rec_text.proofs.value.joined_value.Goals.{then-not-is_empty+in_ok-push, else-not-is_empty}
 

@@ -1,7 +1,7 @@
 use Rattle.std.proofs.lemmas.Result.{err_from_is_err_and}
 use Rattle.rec_edit.specs.Task.{task_of}
 use Rattle.rec_tools.specs.Requests.{asked_of}
-use Rattle.rec_tools.specs.ReadFiles.{described_file}
+use Rattle.rec_tools.specs.proving.ReadFiles.{described_file}
 use Rattle.rec_tools.proofs.DecideLemmas.{edit-no_task, edit-refused, edit-made}
 use Rattle.rec_tools.proofs.decision.edited_by.Goals as goal
 

@@ -1,6 +1,6 @@
 use Rattle.std.proofs.Common.{◌∙◌, ap, sym, flat_map}
 use Rattle.rec_select.proofs.PutsLemmas.{Prints-as}
-use Rattle.rec_tools.specs.Listed.{line_of}
+use Rattle.rec_tools.specs.proving.Listed.{line_of}
 use Rattle.rec_tools.proofs.ListedLemmas.{printed_history-open}
 use Rattle.rec_tools.proofs.history.write_history.Goals as goal
 

@@ -1,6 +1,6 @@
 use Rattle.std.proofs.Common.{flat_map}
 use Rattle.rec_select.proofs.InfoLemmas.{IsTakenTo}
-use Rattle.rec_tools.specs.Listed.{line_of}
+use Rattle.rec_tools.specs.proving.Listed.{line_of}
 use Rattle.rec_tools.proofs.history.write_steps.Given as goal
 
 -- the lines of the steps that are left are still to be put

@@ -1,7 +1,7 @@
 use Rattle.std.proofs.Common.{refl}
 use Rattle.std.proofs.lemmas.Result.{err_from_is_err_and}
 use Rattle.rec_select.specs.Selection.{filter_of}
-use Rattle.rec_tools.specs.ReadFiles.{described_file}
+use Rattle.rec_tools.specs.proving.ReadFiles.{described_file}
 use Rattle.rec_tools.proofs.PutsLemmas.{PutsPrintout-err_shown, refused_within, printed_all}
 use Rattle.rec_tools.proofs.ShowLemmas.{show_of-refused, show_of-printed}
 use Rattle.rec_tools.proofs.printing.print_wanted.Goals as goal

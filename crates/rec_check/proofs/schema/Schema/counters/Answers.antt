@@ -1,8 +1,8 @@
 use Rattle.std.proofs.Common.{◌∙◌, Some, ap, arith, option_map, sym}
 use Rattle.std.proofs.lemmas.Option.{slice_get-get_or, slice_get-map}
 use Rattle.rec_check.specs.Stored.{described, rules_stored}
-use Rattle.rec_check.proofs.CountLemmas.{counters_at}
-use Rattle.rec_check.proofs.CounterLemmas.{place_of_rules}
+use Rattle.rec_check.proofs.lemmas.automatic.CountLemmas.{counters_at}
+use Rattle.rec_check.proofs.lemmas.automatic.CounterLemmas.{place_of_rules}
 use Rattle.rec_check.proofs.schema.Schema.counters.Goals as goal
 
 pub index-requires : goal.index-requires

@@ -1,12 +1,12 @@
 use Rattle.std.proofs.Common.{◌≡◌, ◌∙◌, ◌≤◌, length, ap, refl, subst, sym}
 use Rattle.std.proofs.lemmas.Option.{same_Some, slice_get-get_or}
 use Rattle.rec_text.specs.Records.{AreRecords}
-use Rattle.rec_text.proofs.RecordLemmas.{OneListOfRecords-holds}
+use Rattle.rec_text.proofs.lemmas.records.RecordLemmas.{OneListOfRecords-holds}
 use Rattle.rec_check.specs.declared.set.Set_.{Set_}
 use Rattle.rec_check.specs.Violations.{members}
 use Rattle.rec_check.specs.Walking.{AreWithin}
-use Rattle.rec_check.proofs.AheadLemmas.{part_within}
-use Rattle.rec_check.proofs.DescribedLemmas.{records_within, set_ordered, set_within}
+use Rattle.rec_check.proofs.lemmas.checks.AheadLemmas.{part_within}
+use Rattle.rec_check.proofs.lemmas.DescribedLemmas.{records_within, set_ordered, set_within}
 use Rattle.rec_check.proofs.schema.Schema.members.Goals as goal
 use Rattle.rec_check.proofs.schema.Schema.members.Goals.{After-index}
 

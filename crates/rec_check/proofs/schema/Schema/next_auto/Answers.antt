@@ -1,5 +1,5 @@
 use Rattle.std.proofs.Common.{arith}
-use Rattle.rec_check.proofs.CounterLemmas.{automatic, place_of_rules}
+use Rattle.rec_check.proofs.lemmas.automatic.CounterLemmas.{automatic, place_of_rules}
 use Rattle.rec_check.proofs.schema.Schema.next_auto.Goals as goal
 
 pub index-requires : goal.index-requires

@@ -5,10 +5,10 @@ use Rattle.rec_text.specs.declared.element.Element.{Element}
 use Rattle.rec_text.specs.Elements.{text_of}
 use Rattle.rec_text.specs.Faults.{IsMemoryOr}
 use Rattle.rec_text.specs.Places.{piece_of}
-use Rattle.rec_check.specs.Reading.{IsRefusedRecord, drafted}
-use Rattle.rec_text.proofs.ElementLemmas.{few_pieces}
-use Rattle.rec_check.proofs.SchemaLemmas.{IsSchemaUpTo, schema_first, countable, record_within, schema_more, fields_within, schema_fault, schema_all}
-use Rattle.rec_check.proofs.TypeLemmas.{kinds-HaveTypes}
+use Rattle.rec_check.specs.proving.Reading.{IsRefusedRecord, drafted}
+use Rattle.rec_text.proofs.lemmas.elements.ElementLemmas.{few_pieces}
+use Rattle.rec_check.proofs.lemmas.descriptors.SchemaLemmas.{IsSchemaUpTo, schema_first, countable, record_within, schema_more, fields_within, schema_fault, schema_all}
+use Rattle.rec_check.proofs.lemmas.TypeLemmas.{kinds-HaveTypes}
 use Rattle.rec_check.proofs.schema.Schema.read.Goals as goal
 use Rattle.rec_check.proofs.schema.Schema.read.Goals.{After-into_iter-index-iterator, In-Some}
 

@@ -1,6 +1,6 @@
-use Rattle.rec_check.specs.Reading.{drafted}
-use Rattle.rec_check.specs.Steps.{HaveTypes}
-use Rattle.rec_check.proofs.SchemaLemmas.{IsSchemaUpTo}
+use Rattle.rec_check.specs.proving.Reading.{drafted}
+use Rattle.rec_check.specs.proving.Steps.{HaveTypes}
+use Rattle.rec_check.proofs.lemmas.descriptors.SchemaLemmas.{IsSchemaUpTo}
 use Rattle.rec_check.proofs.schema.Schema.read.Given as goal
 
 abbrev pub invariant-loop-index : goal.invariant-loop-index

@@ -1,6 +1,6 @@
 use Rattle.std.proofs.Common.{◌∙◌, ◌+◌, ap, sym}
 use Rattle.std.specs.Option.{option_map}
-use Rattle.rec_check.proofs.TypeLemmas.{position-HaveTypes}
+use Rattle.rec_check.proofs.lemmas.TypeLemmas.{position-HaveTypes}
 use Rattle.rec_check.proofs.schema.Schema.set_of_type.Goals as goal
 
 pub returns-in_err-place_of : goal.returns-in_err-place_of

@@ -1,4 +1,4 @@
-use Rattle.rec_check.proofs.DescribedLemmas.{violations_as}
+use Rattle.rec_check.proofs.lemmas.DescribedLemmas.{violations_as}
 use Rattle.rec_check.proofs.schema.Schema.violations.Goals as goal
 
 pub returns-clause-violations : goal.returns-clause-violations

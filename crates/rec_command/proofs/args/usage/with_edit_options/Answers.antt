@@ -2,7 +2,7 @@ use Rattle.std.proofs.Common.{◌∙◌, ap}
 use Rattle.std.specs.List.{fold}
 use Rattle.std.proofs.lemmas.Result.{IfOk-weaker}
 use Rattle.clap.specs.Words.{app_of}
-use Rattle.rec_command.specs.Options.{with_option}
+use Rattle.rec_command.specs.proving.Options.{with_option}
 use Rattle.rec_command.proofs.UsageLemmas.{arg_added, globals-added}
 use Rattle.rec_command.proofs.args.usage.with_edit_options.Goals as goal
 

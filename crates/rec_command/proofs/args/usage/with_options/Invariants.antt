@@ -2,7 +2,7 @@ use Rattle.std.proofs.Common.{◌≡◌, take}
 use Rattle.std.specs.List.{fold}
 use Rattle.clap.specs.Words.{app_of}
 use Rattle.clap.specs.declared.builder.command.Command.TheViews.{out-Command as fields_of}
-use Rattle.rec_command.specs.Options.{with_option}
+use Rattle.rec_command.specs.proving.Options.{with_option}
 use Rattle.rec_command.proofs.args.usage.with_options.Given as goal
 
 abbrev pub invariant-loop-option : goal.invariant-loop-option

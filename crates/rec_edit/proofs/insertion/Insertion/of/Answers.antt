@@ -1,4 +1,4 @@
-use Rattle.rec_edit.proofs.BeginLemmas.{IsRecordPut-text}
+use Rattle.rec_edit.proofs.lemmas.insertions.SiteLemmas.{IsRecordPut-text}
 use Rattle.rec_edit.proofs.insertion.Insertion.of.Goals as goal
 
 pub returns : goal.returns

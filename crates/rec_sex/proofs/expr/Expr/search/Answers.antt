@@ -1,7 +1,7 @@
 use Rattle.std.proofs.Common.{map, ap, ◌∙◌}
 use Rattle.std.proofs.lemmas.List.{take_all}
 use Rattle.regex.specs.Strings.{regex_pattern, matcher_pattern}
-use Rattle.rec_sex.proofs.SelectLemmas.{FindAlike-same, map_more}
+use Rattle.rec_sex.proofs.lemmas.meaning.SelectLemmas.{FindAlike-same, map_more}
 use Rattle.rec_sex.proofs.expr.Expr.search.Goals as goal
 
 pub invariant_of-result : goal.invariant_of-result

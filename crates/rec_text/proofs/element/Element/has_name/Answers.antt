@@ -10,8 +10,8 @@ use Rattle.rec_text.specs.declared.element.Kind.{Kind}
 use Rattle.rec_text.specs.declared.element.Kind.TheVariants.{Blank, Comment, Field}
 use Rattle.rec_text.specs.Elements.{colon_of, name_of}
 use Rattle.rec_text.specs.Places.{piece_of}
-use Rattle.rec_text.proofs.FieldLemmas.{colon_of-byte}
-use Rattle.rec_text.proofs.NameLemmas.{colon_is_within}
+use Rattle.rec_text.proofs.lemmas.elements.FieldLemmas.{colon_of-byte}
+use Rattle.rec_text.proofs.lemmas.elements.NameLemmas.{colon_is_within}
 use Rattle.rec_text.proofs.element.Element.has_name.Goals as goal
 
 -- a colon stands behind this many bytes

@@ -1,0 +1,3 @@
+pub mod CounterLemmas
+pub mod NextLemmas
+pub mod CountLemmas

@@ -1,0 +1,10 @@
+pub mod LineLemmas
+pub mod NameLemmas
+pub mod NamePlaceLemmas
+pub mod KeyLemmas
+pub mod SingularLemmas
+pub mod ConstraintLemmas
+pub mod UnresolvedLemmas
+pub mod ReportLemmas
+pub mod AheadLemmas
+pub mod MetLemmas

@@ -1,0 +1,6 @@
+pub mod WordLemmas
+pub mod DescriptorLemmas
+pub mod PlaceLemmas
+pub mod FlawLemmas
+pub mod SchemaLemmas
+pub mod BuiltLemmas

@@ -1,0 +1,7 @@
+pub mod SoundLemmas
+pub mod SameDescriptorLemmas
+pub mod SameLemmas
+pub mod SameTypeLemmas
+pub mod OneReportLemmas
+pub mod CheckLemmas
+pub mod SchemaExamples

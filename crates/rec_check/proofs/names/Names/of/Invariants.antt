@@ -1,6 +1,0 @@
-use Rattle.std.proofs.Common.{◌≡◌, take}
-use Rattle.rec_check.specs.Words.{distinct}
-use Rattle.rec_check.proofs.names.Names.of.Given as goal
-
-abbrev pub invariant-loop-name : goal.invariant-loop-name
-invariant-loop-name l = l.kept ≡ distinct (take l.name-index l.names)

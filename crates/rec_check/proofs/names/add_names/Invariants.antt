@@ -1,7 +1,0 @@
-use Rattle.std.proofs.Common.{◌≡◌, ◌||◌, ℕ, List, take}
-use Rattle.rec_check.specs.Names.{has_name}
-use Rattle.rec_check.specs.Words.{is_among}
-use Rattle.rec_check.proofs.names.add_names.Given as goal
-
-abbrev pub invariant-loop-name : goal.invariant-loop-name
-invariant-loop-name l = (name : List ℕ) → has_name l.names name ≡ (has_name l.fn.names name || is_among (take l.name-index l.more) name)

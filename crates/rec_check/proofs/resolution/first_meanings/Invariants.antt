@@ -1,7 +1,0 @@
-use Rattle.std.proofs.Common.{map}
-use Rattle.rec_check.specs.Stored.{definition_stored}
-use Rattle.rec_check.proofs.ResolvedLemmas.{AreRightSoFar}
-use Rattle.rec_check.proofs.resolution.first_meanings.Given as goal
-
-abbrev pub invariant-loop-definition : goal.invariant-loop-definition
-invariant-loop-definition l = AreRightSoFar (map definition_stored l.definitions) l.definition-index l.meanings.items

@@ -1,6 +1,0 @@
-use Rattle.std.proofs.Common.{take}
-use Rattle.rec_check.specs.Resolved.{AreSettledAt}
-use Rattle.rec_check.proofs.resolution.settle.Given as goal
-
-abbrev pub invariant-loop-place : goal.invariant-loop-place
-invariant-loop-place l = AreSettledAt (take l.place-index l.places) l.type_ l.fn.meanings l.meanings

@@ -1,9 +1,0 @@
-use Rattle.std.proofs.Common.{◌∙◌, ap, position, sym}
-use Rattle.std.specs.Str.{bytes_eq}
-use Rattle.rec_check.proofs.TypeLemmas.{position-map}
-use Rattle.rec_check.proofs.type_names.TypeNames.place_of.Goals as goal
-
-pub returns : goal.returns
-returns c =
-    c.get_index_of.ensures.index ∙ sym (position-map (bytes_eq c.args.name.now) (λ name. name.items) c.self.inside.names.keys)
-    ∙ ap (position (bytes_eq c.args.name.now)) c.self.view_is

@@ -1,8 +1,0 @@
-use Rattle.std.proofs.Common.{map, take}
-use Rattle.rec_check.specs.Fitting.{place_of, tested}
-use Rattle.rec_check.specs.Resolved.{meaning_by}
-use Rattle.rec_check.proofs.FittingLemmas.{LeadsTo, typing_meant}
-use Rattle.rec_check.proofs.types.Types.with.Given as goal
-
-abbrev pub invariant-loop-place : goal.invariant-loop-place
-invariant-loop-place l = LeadsTo (map (typing_meant (meaning_by l.resolver)) (take l.place l.typings)) (map tested l.tests.items) (place_of l.places)

@@ -1,7 +1,0 @@
-use Rattle.std.proofs.Common.{◌≡◌, ℕ, List, Some, cond, take}
-use Rattle.rec_check.specs.Fitting.{place_of}
-use Rattle.rec_check.specs.Words.{is_among}
-use Rattle.rec_check.proofs.types.place_names.Given as goal
-
-abbrev pub invariant-loop-name : goal.invariant-loop-name
-invariant-loop-name l = (name : List ℕ) → place_of l.places name ≡ cond (is_among (take l.name-index l.names) name) (Some l.place) (place_of l.fn.places name)

@@ -1,0 +1,9 @@
+//! Reads descriptors: their words, their types and their rules.
+mod descriptor;
+pub mod draft;
+pub mod patterns;
+pub mod refusal;
+pub mod special;
+pub mod type_names;
+mod typing;
+pub mod words;

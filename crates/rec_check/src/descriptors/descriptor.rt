@@ -1,0 +1,278 @@
+//! The fields of a descriptor.
+ghost use Rattle.std.specs.Prelude.{◌≡◌, ◌++◌, [], false, Some, option_map, slice_get, unwrap_or};
+ghost use Rattle.std.specs.List.{list_all};
+ghost use Rattle.std.specs.Option.{is_some};
+ghost use Rattle.rec_text.specs.Canonical.{is_field_name as may_name_a_field};
+ghost use Rattle.rec_text.specs.Places.{piece_of, pieces_of};
+ghost use Rattle.rec_sex.specs.Expressions.{ExpressionMayBeRefused};
+ghost use Rattle.rec_text.specs.Elements.{has_name};
+ghost use Rattle.rec_check.specs.Descriptors.{bad_unless, rec_flaw, first_word, rec_name, type_of, bound_in, special_flaw};
+ghost use Rattle.rec_check.specs.proving.Reading.{Answers, AddsDefinition, AddsTyping, AddsConstraint, refusal_for};
+ghost use Rattle.rec_check.specs.Types.{DefinitionMayBeRefused, TypeMayBeRefused};
+ghost use Rattle.rec_check.specs.Words.{words};
+
+use crate::descriptors::patterns::Patterns;
+use crate::descriptors::refusal::Refusal;
+use crate::descriptors::special::{Bound, Special, bound_in, special_of};
+use crate::descriptors::type_names::TypeNames;
+use crate::descriptors::typing::{definition_in, typing_in};
+use crate::descriptors::words::split_word;
+use crate::field_types::definition::Definition;
+use crate::field_types::field_type::Typing;
+use crate::rules::Rules;
+use rec_sex::Expr;
+use rec_text::{Bytes, Database, Element, Fault, is_field_name, is_plain_name};
+use std::alloc::Global;
+
+/// What the fields of a descriptor say.
+#[derive(Drop)]
+pub(crate) struct Descriptor {
+    /// The type of the set.
+    pub kind: Option<Bytes>,
+    pub rules: Rules,
+    /// The patterns built for its types, of use only while it is read.
+    pub patterns: Patterns,
+}
+
+fn is_rec(element: &Element) -> bool
+    ensures { result ≡ has_name rec_name (piece_of element.now) }
+{
+    element.has_name(b"%rec")
+}
+
+/// Whether one of a record's elements makes it a descriptor.
+pub(crate) fn is_descriptor(fields: &[Element]) -> bool
+    ensures { result ≡ is_some (type_of (pieces_of fields.now)) }
+{
+    fields.iter().any(is_rec)
+}
+
+/// Takes the type that a `%rec` field names, where these are named before.
+fn add_type(
+    alloc: Global,
+    kind: &mut Option<Bytes>,
+    types: &TypeNames,
+    value: &[u8],
+) -> Result<(), Refusal>
+    ensures { Answers (rec_flaw (is_some kind.old) types.now (words value.now))
+        (kind.new ≡ Some (first_word (words value.now))) ⊥ result }
+{
+    let Some((word, source)) = split_word(value) else {
+        return Err(Refusal::Bad);
+    };
+    if kind.is_some() || !is_plain_name(word) || types.contains(word) {
+        return Err(Refusal::Bad);
+    }
+    if split_word(source).is_some() {
+        return Err(Refusal::Unsupported);
+    }
+    *kind = Some(Bytes::copy_of(alloc, word)?);
+    Ok(())
+}
+
+/// Takes the one name of a `%key` field.
+fn add_key(alloc: Global, key: &mut Option<Bytes>, value: &[u8]) -> Result<(), Refusal>
+    ensures { Answers (special_flaw Special.Key (is_some key.old) [] value.now)
+        (key.new ≡ slice_get (words value.now) 0) ⊥ result }
+{
+    let Some((name, behind)) = split_word(value) else {
+        return Err(Refusal::Bad);
+    };
+    if key.is_some() || !is_field_name(name) || split_word(behind).is_some() {
+        return Err(Refusal::Bad);
+    }
+    *key = Some(Bytes::copy_of(alloc, name)?);
+    Ok(())
+}
+
+/// Takes the names of a field that lists some.
+fn add_names(alloc: Global, names: &mut Vec<Bytes>, value: &[u8]) -> Result<(), Refusal>
+    ensures { Answers (bad_unless (list_all may_name_a_field (words value.now)))
+        (names.new.items ≡ names.old.items ++ words value.now) ⊥ result }
+{
+    let mut rest = value;
+    while let Some((name, behind)) = split_word(rest) {
+        if !is_field_name(name) {
+            return Err(Refusal::Bad);
+        }
+        names.push(Bytes::copy_of(alloc, name)?)?;
+        rest = behind;
+    }
+    Ok(())
+}
+
+/// Takes the names of an `%allowed` field.
+fn add_allowed(alloc: Global, allowed: &mut Option<Vec<Bytes>>, value: &[u8]) -> Result<(), Refusal>
+    ensures { Answers (bad_unless (list_all may_name_a_field (words value.now)))
+        (option_map (λ names. names.items) allowed.new
+        ≡ Some (unwrap_or (option_map (λ names. names.items) allowed.old) [] ++ words value.now)) ⊥ result }
+{
+    let mut names = match allowed.take() {
+        Some(names) => names,
+        None => Vec::new(alloc),
+    };
+    let answer = add_names(alloc, &mut names, value);
+    *allowed = Some(names);
+    answer
+}
+
+/// Takes the type that a `%type` field gives.
+fn add_typing(
+    alloc: Global,
+    patterns: &mut Patterns,
+    types: &mut Vec<Typing>,
+    value: &[u8],
+) -> Result<(), Refusal>
+    ensures { Answers (special_flaw Special.Type_ false [] value.now)
+        (AddsTyping value.now types.old.items types.new.items)
+        (TypeMayBeRefused value.now) result }
+{
+    types.push(typing_in(alloc, patterns, value)?)?;
+    Ok(())
+}
+
+/// Takes what a `%typedef` field says of a kind.
+fn add_definition(
+    alloc: Global,
+    patterns: &mut Patterns,
+    definitions: &mut Vec<Definition>,
+    value: &[u8],
+) -> Result<(), Refusal>
+    ensures { Answers (special_flaw Special.Typedef false [] value.now)
+        (AddsDefinition value.now definitions.old.items definitions.new.items)
+        (DefinitionMayBeRefused value.now) result }
+{
+    definitions.push(definition_in(alloc, patterns, value)?)?;
+    Ok(())
+}
+
+/// Takes what a `%size` field says.
+fn add_bound(size: &mut Option<Bound>, value: &[u8]) -> Result<(), Refusal>
+    ensures { Answers (special_flaw Special.Size (is_some size.old) [] value.now)
+        (size.new ≡ bound_in value.now) ⊥ result }
+{
+    let None = size else {
+        return Err(Refusal::Bad);
+    };
+    *size = bound_in(value);
+    match size {
+        Some(_) => Ok(()),
+        None => Err(Refusal::Bad),
+    }
+}
+
+/// What is told of a constraint that is no expression.
+fn refusal_of(fault: Fault) -> Refusal
+    ensures { result ≡ refusal_for fault }
+{
+    match fault {
+        Fault::BadExpression { .. } => Refusal::Bad,
+        Fault::BadPattern => Refusal::Pattern,
+        _ => Refusal::OutOfMemory,
+    }
+}
+
+/// Takes the expression of a `%constraint` field.
+fn add_constraint(alloc: Global, constraints: &mut Vec<Expr>, value: &[u8]) -> Result<(), Refusal>
+    ensures { Answers (special_flaw Special.Constraint false [] value.now)
+        (AddsConstraint value.now constraints.old.items constraints.new.items)
+        (ExpressionMayBeRefused value.now) result }
+{
+    match Expr::parse(alloc, value) {
+        Ok(constraint) => {
+            constraints.push(constraint)?;
+            Ok(())
+        }
+        Err(fault) => Err(refusal_of(fault)),
+    }
+}
+
+impl Descriptor {
+    ghost use Rattle.std.specs.Prelude.{◌≡◌, ◌≤◌, All, length, Ok, Err, IfOk, IfErr};
+    ghost use Rattle.rec_text.specs.Elements.{text_of};
+    ghost use Rattle.rec_text.specs.Faults.{IsMemoryOr};
+    ghost use Rattle.rec_text.specs.Places.{piece_of};
+    ghost use Rattle.rec_check.specs.Descriptors.{special_flaw};
+    ghost use Rattle.rec_check.specs.proving.Reading.{Adds, Answers, AnswersField, IsRead, MayBeRefusedAs, bare, is_repeated, said};
+
+    fn new(alloc: Global) -> Descriptor
+        ensures { said result ≡ bare }
+    {
+        Descriptor {
+            kind: None,
+            rules: Rules::none(alloc),
+            patterns: Patterns::new(alloc),
+        }
+    }
+
+    /// Takes what a field of this kind says.
+    fn add(
+        &mut self,
+        alloc: Global,
+        types: &TypeNames,
+        special: Special,
+        value: &[u8],
+    ) -> Result<(), Refusal>
+        ensures { Answers (special_flaw special (is_repeated special (said self.old)) types.now value.now)
+            (Adds special value.now (said self.old) (said self.new)) (MayBeRefusedAs special value.now) result }
+    {
+        let patterns = &mut self.patterns;
+        match special {
+            Special::Rec => add_type(alloc, &mut self.kind, types, value),
+            Special::Key => add_key(alloc, &mut self.rules.key, value),
+            Special::Mandatory => add_names(alloc, &mut self.rules.mandatory, value),
+            Special::Prohibit => add_names(alloc, &mut self.rules.prohibited, value),
+            Special::Unique => add_names(alloc, &mut self.rules.unique, value),
+            Special::Singular => add_names(alloc, &mut self.rules.singular, value),
+            Special::Allowed => add_allowed(alloc, &mut self.rules.allowed, value),
+            Special::Auto => add_names(alloc, &mut self.rules.automatic, value),
+            Special::Type_ => add_typing(alloc, patterns, &mut self.rules.types, value),
+            Special::Typedef => add_definition(alloc, patterns, &mut self.rules.definitions, value),
+            Special::Size => add_bound(&mut self.rules.size, value),
+            Special::Constraint => add_constraint(alloc, &mut self.rules.constraints, value),
+            Special::Confidential => Err(Refusal::Unsupported),
+        }
+    }
+
+    /// Takes what an element says.
+    fn add_field(
+        &mut self,
+        alloc: Global,
+        types: &TypeNames,
+        field: &Element,
+    ) -> Result<(), Refusal>
+        ensures { AnswersField types.now (piece_of field.now) (said self.old) (said self.new) result }
+    {
+        let Some(special) = special_of(field.name()) else {
+            return Ok(());
+        };
+        let Ok(value) = field.value(alloc) else {
+            return Err(Refusal::OutOfMemory);
+        };
+        self.add(alloc, types, special, value.bytes())
+    }
+
+    /// Reads the fields of a descriptor, where these types are named before. The first faulty one is refused with
+    /// its line.
+    pub(crate) fn read(
+        alloc: Global,
+        database: &Database,
+        fields: &[Element],
+        types: &TypeNames,
+    ) -> Result<Descriptor, Fault>
+        requires { All (λ field. field.at ≤ length (text_of database.now)) fields.now }
+        ensures found { IfOk result (λ descriptor. IsRead (text_of database.now) types.now fields.now
+            (Ok (said descriptor))) }
+        ensures refused { IfErr result (λ fault. IsMemoryOr fault
+            (IsRead (text_of database.now) types.now fields.now (Err fault))) }
+    {
+        let mut descriptor = Descriptor::new(alloc);
+        for field in fields {
+            match descriptor.add_field(alloc, types, field) {
+                Ok(()) => {}
+                Err(refusal) => return Err(refusal.at_line(database.line_of(field.at))),
+            }
+        }
+        Ok(descriptor)
+    }
+}

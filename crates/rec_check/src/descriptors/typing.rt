@@ -1,0 +1,94 @@
+//! Reads the type of some fields, and what a kind means.
+ghost use Rattle.std.specs.Prelude.{◌≡◌, ◌⊎◌, ◌==◌, None, IfOk, IfErr, IsErrOf};
+ghost use Rattle.std.specs.List.{list_all, slice_split};
+ghost use Rattle.rec_text.specs.Canonical.{is_field_name as may_name_a_field};
+ghost use Rattle.rec_check.specs.proving.Kinds.{IsKindIn};
+ghost use Rattle.rec_check.specs.Stored.{definition_stored, typing_stored};
+ghost use Rattle.rec_check.specs.Types.{IsDefinition, IsTyping, DefinitionMayBeRefused, TypeMayBeRefused, definition_of, typing_of};
+
+use crate::descriptors::patterns::Patterns;
+use crate::descriptors::refusal::Refusal;
+use crate::descriptors::words::split_word;
+use crate::field_types::definition::Definition;
+use crate::field_types::field_type::{FieldType, Typing};
+use crate::field_types::kind::type_of_kind;
+use rec_text::{Bytes, is_field_name, is_plain_name};
+use std::alloc::{AllocError, Global};
+
+/// Copies of what stands between commas.
+fn split_names(alloc: Global, word: &[u8]) -> Result<Vec<Bytes>, AllocError>
+    ensures { IfOk result (λ names. names.items ≡ slice_split (λ b. b == 44) word.now) }
+{
+    let mut names = Vec::new(alloc);
+    for name in word.split(|byte| *byte == b',') {
+        names.push(Bytes::copy_of(alloc, name)?)?;
+    }
+    Ok(names)
+}
+
+fn are_names(names: &[Bytes]) -> bool
+    ensures { result ≡ list_all may_name_a_field names.now }
+{
+    names.iter().all(|name| is_field_name(name.as_slice()))
+}
+
+/// The kind that comes first, and its type, with the words of it that stand behind.
+fn kind_in(
+    alloc: Global,
+    patterns: &mut Patterns,
+    text: &[u8],
+) -> Result<(Bytes, FieldType), Refusal>
+    ensures { IsKindIn text.now result }
+{
+    let Some((kind, behind)) = split_word(text) else {
+        return Err(Refusal::Bad);
+    };
+    let type_ = type_of_kind(alloc, patterns, kind, behind)?;
+    Ok((Bytes::copy_of(alloc, kind)?, type_))
+}
+
+/// The names, the kind and the type that the value of a `%type` field gives.
+pub(crate) fn typing_in(
+    alloc: Global,
+    patterns: &mut Patterns,
+    value: &[u8],
+) -> Result<Typing, Refusal>
+    ensures found { IfOk result (λ typing. IsTyping value.now (typing_stored typing)) }
+    ensures bad { IsErrOf result Refusal.Bad → typing_of value.now ≡ None }
+    ensures pattern { IsErrOf result Refusal.Pattern → TypeMayBeRefused value.now }
+    ensures refusals { IfErr result (λ refusal. (refusal ≡ Refusal.Bad)
+        ⊎ ((refusal ≡ Refusal.Pattern) ⊎ (refusal ≡ Refusal.OutOfMemory))) }
+{
+    let Some((joined, behind)) = split_word(value) else {
+        return Err(Refusal::Bad);
+    };
+    let names = split_names(alloc, joined)?;
+    if !are_names(&names) {
+        return Err(Refusal::Bad);
+    }
+    let (kind, type_) = kind_in(alloc, patterns, behind)?;
+    Ok(Typing { names, kind, type_ })
+}
+
+/// The name, the kind and the type that the value of a `%typedef` field gives.
+pub(crate) fn definition_in(
+    alloc: Global,
+    patterns: &mut Patterns,
+    value: &[u8],
+) -> Result<Definition, Refusal>
+    ensures found { IfOk result (λ definition. IsDefinition value.now (definition_stored definition)) }
+    ensures bad { IsErrOf result Refusal.Bad → definition_of value.now ≡ None }
+    ensures pattern { IsErrOf result Refusal.Pattern → DefinitionMayBeRefused value.now }
+    ensures refusals { IfErr result (λ refusal. (refusal ≡ Refusal.Bad)
+        ⊎ ((refusal ≡ Refusal.Pattern) ⊎ (refusal ≡ Refusal.OutOfMemory))) }
+{
+    let Some((name, behind)) = split_word(value) else {
+        return Err(Refusal::Bad);
+    };
+    if !is_plain_name(name) {
+        return Err(Refusal::Bad);
+    }
+    let (kind, type_) = kind_in(alloc, patterns, behind)?;
+    let name = Bytes::copy_of(alloc, name)?;
+    Ok(Definition { name, kind, type_ })
+}

@@ -1,0 +1,10 @@
+use Rattle.std.proofs.Common.{ℕ, List}
+use Rattle.std.specs.declared.ops.Range.{Range}
+use Rattle.rec_text.specs.Records.{AreRecords}
+use Rattle.rec_check.specs.Stored.{described}
+use Rattle.rec_edit.specs.proving.Filling.{filled_of}
+use Rattle.rec_edit.proofs.lemmas.automatic.FillLemmas.{AreFilledUpTo}
+use Rattle.rec_edit.proofs.automatic.filled.filled_records.Given as goal
+
+abbrev pub invariant-loop-place : goal.invariant-loop-place
+invariant-loop-place l = (records : List (Range ℕ)) → AreRecords l.database records → AreFilledUpTo l.database records (described l.schema).sets (described l.schema).rules l.place (filled_of l.filled.items)

@@ -1,0 +1,12 @@
+use Rattle.std.proofs.Common.{rules, tests, ◌∙◌, sym}
+use Rattle.std.proofs.lemmas.Iterator.{YieldsList-from_slice}
+use Rattle.std.proofs.lemmas.Iterator.Search.{all_from_yields_List}
+use Rattle.std.proofs.lemmas.List.Folds.{list_all-map}
+use Rattle.rec_text.specs.Canonical.{is_foldable}
+use Rattle.rec_edit.proofs.insertion.fresh.have_foldable_values.Goals as goal
+
+pub returns : goal.returns
+returns c =
+    let pairs = c.args.pairs.now in
+    all_from_yields_List (λ pair. is_foldable 32 pair.value) _ _ _ c.all.ensures.ran (YieldsList-from_slice pairs cc) (λ x b q k. search (rules, tests))
+    ∙ sym (list_all-map (is_foldable 32) (λ pair. pair.value) pairs)

@@ -1,0 +1,7 @@
+pub mod layouts
+pub mod scripts
+pub mod outcomes
+pub mod examples
+pub mod records
+pub mod insertions
+pub mod automatic

@@ -1,0 +1,4 @@
+pub mod FilledLemmas
+pub mod AutoFillLemmas
+pub mod NumberLemmas
+pub mod FillLemmas

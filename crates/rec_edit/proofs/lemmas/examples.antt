@@ -1,0 +1,3 @@
+mod EditExamples
+mod InsertExamples
+pub mod WordingExamples

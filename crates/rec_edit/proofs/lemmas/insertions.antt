@@ -1,0 +1,4 @@
+pub mod NewRecordLemmas
+pub mod PlacedLemmas
+pub mod InsertLemmas
+pub mod SiteLemmas

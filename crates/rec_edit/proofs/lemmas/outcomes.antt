@@ -1,0 +1,6 @@
+pub mod OutcomeLemmas
+pub mod EffectLemmas
+pub mod CountedLemmas
+pub mod UnruledLemmas
+pub mod EditLemmas
+pub mod AnswerLemmas

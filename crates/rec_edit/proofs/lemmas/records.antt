@@ -1,0 +1,4 @@
+pub mod EntryLemmas
+pub mod FitLemmas
+pub mod ClosedLemmas
+pub mod MemberLemmas

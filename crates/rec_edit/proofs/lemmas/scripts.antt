@@ -1,0 +1,6 @@
+pub mod WellFormedLemmas
+pub mod ScriptLemmas
+pub mod LaidLemmas
+pub mod EqualLemmas
+pub mod OwnPartLemmas
+pub mod PassLemmas

@@ -1,0 +1,10 @@
+-- What serves proofs.
+pub mod Drafts
+pub mod Edits
+pub mod Marks
+pub mod Comments
+pub mod Endings
+pub mod Given
+pub mod Causes
+pub mod Sites
+pub mod Filling

@@ -1,0 +1,134 @@
+//! Records with the automatic fields that they get.
+ghost use Rattle.std.specs.Prelude.{◌≡◌, ◌<◌, ℕ, ℤ, List, Ok, Err, length, slice_get, Some, IfOk, IfErr, IsOkUnless, OnOk};
+ghost use Rattle.std.specs.declared.ops.Range.{Range};
+ghost use Rattle.rec_text.specs.Faults.{IsMemoryOr};
+ghost use Rattle.rec_text.specs.Places.{pieces_of};
+ghost use Rattle.rec_text.specs.Records.{AreRecords};
+ghost use Rattle.rec_check.specs.declared.set.Set_.{Set_};
+ghost use Rattle.rec_check.specs.Counters.{AreCounters};
+ghost use Rattle.rec_check.specs.Rules.{Rules};
+ghost use Rattle.rec_check.specs.Schemas.{IsSchema};
+ghost use Rattle.rec_check.specs.Stored.{described};
+ghost use Rattle.rec_check.specs.Violations.{names_of};
+ghost use Rattle.rec_check.specs.Walking.{AreWithin};
+ghost use Rattle.rec_edit.specs.Automatic.{AreFilled, AreFilledMembers, AreFilledOf};
+ghost use Rattle.rec_edit.specs.proving.Filling.{numbered, filled_of, AreNamesOf, IsGiven, IsRefused, FillsMore};
+
+use crate::automatic::numbered::{NumberedField, give};
+use rec_check::{Counter, Schema};
+use rec_text::{Database, Element, Fault, elements_in};
+use std::alloc::Global;
+use std::collections::HashSet;
+use std::ops::Range;
+
+/// A record, and the automatic fields that are put first in it.
+#[derive(Drop)]
+pub(crate) struct FilledRecord<'s> {
+    pub range: Range<usize>,
+    pub given: Vec<NumberedField<'s>>,
+}
+
+/// Puts the names of fields in the place of others.
+fn take_names<'t>(names: &mut HashSet<&'t [u8]>, fields: &[Element<'t>]) -> Result<(), Fault>
+    ensures names { OnOk result (AreNamesOf names.new (names_of (pieces_of fields.now))) }
+    ensures refusals { IsOkUnless result Fault.OutOfMemory }
+{
+    names.clear();
+    for field in fields {
+        if field.is_field() {
+            names.insert(field.name())?;
+        }
+    }
+    Ok(())
+}
+
+/// Gives a record of these fields what it lacks.
+fn fill_record<'s, 't>(
+    alloc: Global,
+    counters: &mut [Counter<'s>],
+    names: &mut HashSet<&'t [u8]>,
+    fields: &[Element<'t>],
+) -> Result<Vec<NumberedField<'s>>, Fault>
+    ensures given { (rules : Rules) (numbers : List ℕ → List ℤ) → AreCounters rules numbers counters.old
+        → IfOk result (λ given.
+        IsGiven rules numbers (names_of (pieces_of fields.now)) (numbered given.items) counters.new) }
+    ensures refused { (rules : Rules) (numbers : List ℕ → List ℤ) → AreCounters rules numbers counters.old
+        → IfErr result (λ fault. IsMemoryOr fault (IsRefused rules numbers (names_of (pieces_of fields.now)) fault)) }
+{
+    if counters.is_empty() {
+        return Ok(Vec::new(alloc));
+    }
+    take_names(names, fields)?;
+    give(alloc, counters, names)
+}
+
+/// Fills the records of a set, one after another.
+fn fill_records<'s, 't>(
+    alloc: Global,
+    counters: &mut [Counter<'s>],
+    elements: &[Element<'t>],
+    records: &[Range<usize>],
+    filled: &mut Vec<FilledRecord<'s>>,
+) -> Result<(), Fault>
+    requires { AreWithin (length elements.now) records.now }
+    ensures filled { (rules : Rules) (numbers : List ℕ → List ℤ) → AreCounters rules numbers counters.old
+        → OnOk result (FillsMore
+        (AreFilled (pieces_of elements.now) rules numbers records.now) filled.old.items filled.new.items) }
+    ensures refused { (rules : Rules) (numbers : List ℕ → List ℤ) → AreCounters rules numbers counters.old
+        → IfErr result (λ fault.
+        IsMemoryOr fault (AreFilled (pieces_of elements.now) rules numbers records.now (Err fault))) }
+{
+    let mut names = HashSet::new(alloc);
+    for record in records {
+        let fields = elements_in(elements, record);
+        let given = fill_record(alloc, counters, &mut names, fields)?;
+        let range = record.start..record.end;
+        filled.push(FilledRecord { range, given })?;
+    }
+    Ok(())
+}
+
+/// Fills the records of the set at this place.
+fn fill_set<'s>(
+    alloc: Global,
+    database: &Database,
+    schema: &'s Schema,
+    place: usize,
+    filled: &mut Vec<FilledRecord<'s>>,
+) -> Result<(), Fault>
+    requires schema { IsSchema database.now (Ok (described schema.now)) }
+    requires place { place < length (described schema.now).sets }
+    ensures filled { (records : List (Range ℕ)) (s : Set_) (rules : Rules) → AreRecords database.now records
+        → slice_get (described schema.now).sets place ≡ Some s
+        → slice_get (described schema.now).rules place ≡ Some rules
+        → OnOk result (FillsMore (AreFilledMembers database.now records s rules) filled.old.items filled.new.items) }
+    ensures refused { (records : List (Range ℕ)) (s : Set_) (rules : Rules) → AreRecords database.now records
+        → slice_get (described schema.now).sets place ≡ Some s
+        → slice_get (described schema.now).rules place ≡ Some rules
+        → IfErr result (λ fault. IsMemoryOr fault (AreFilledMembers database.now records s rules (Err fault))) }
+{
+    let mut counters = schema.counters(alloc, database, place)?;
+    let records = schema.members(database, place);
+    fill_records(alloc, &mut counters, database.elements(), records, filled)
+}
+
+/// All records but the descriptors, set by set, each with the automatic fields that it lacks.
+pub(crate) fn filled_records<'s>(
+    alloc: Global,
+    database: &Database,
+    schema: &'s Schema,
+) -> Result<Vec<FilledRecord<'s>>, Fault>
+    requires { IsSchema database.now (Ok (described schema.now)) }
+    ensures filled { (records : List (Range ℕ)) → AreRecords database.now records
+        → IfOk result (λ filled.
+        AreFilledOf database.now records (described schema.now) (Ok (filled_of filled.items))) }
+    ensures refused { (records : List (Range ℕ)) → AreRecords database.now records
+        → IfErr result (λ fault.
+        IsMemoryOr fault (AreFilledOf database.now records (described schema.now) (Err fault))) }
+{
+    let mut filled = Vec::new(alloc);
+    for place in 0..schema.sets().len() {
+        fill_set(alloc, database, schema, place, &mut filled)?;
+    }
+    Ok(filled)
+}

@@ -1,0 +1,2 @@
+-- What serves proofs.
+pub mod Files

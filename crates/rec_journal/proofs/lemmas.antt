@@ -1,0 +1,5 @@
+pub mod patches
+pub mod events
+pub mod OutcomeLemmas
+pub mod histories
+pub mod plans

@@ -1,0 +1,6 @@
+pub mod TextLemmas
+pub mod UniqueLemmas
+pub mod PartLemmas
+pub mod StretchLemmas
+pub mod EventLemmas
+pub mod BoundLemmas

@@ -1,0 +1,119 @@
+-- Choices of occurrences and matchers in memory, and the walk over all choices.
+use Rattle.std.specs.Prelude.{◌≡◌, ℕ, zero, suc, ◌+◌, Bool, false, ◌||◌, ◌&&◌, not, nat_lt, List, [], ◌∷◌, ◌++◌, length, map, if◌then◌else◌}
+use Rattle.std.specs.Borrow.{Bor}
+use Rattle.std.specs.List.{filter}
+use Rattle.std.specs.Str.{bytes_eq}
+use Rattle.regex.specs.Patterns.{Re}
+use Rattle.regex.specs.Strings.{matcher_pattern}
+use Rattle.regex.specs.declared.string.matcher.Matcher.{Matcher}
+use Rattle.rec_text.specs.Elements.{Piece}
+use Rattle.rec_sex.specs.declared.syntax.tree.Tree.{Tree, Integer, Literal, Name, Occurrence, Count, Not', Negate', Binary', Found', Choice'}
+use Rattle.rec_sex.specs.declared.meaning.occurrences.Chosen.{Chosen}
+use Rattle.rec_sex.specs.Grammar.{Term}
+use Rattle.rec_sex.specs.declared.meaning.sharing.Times.{Times}
+use Rattle.rec_sex.specs.declared.meaning.sharing.Times.TheVariants.{Never, Once, Often}
+use Rattle.rec_sex.specs.Meaning.{Choice_, values_of, is_found}
+use Rattle.rec_sex.specs.Expressions.{pattern_in, term_under}
+
+-- ---- expressions under a choice
+
+-- a name and its chosen occurrence
+abbrev pub Entry : Type 0
+Entry = List ℕ × ℕ
+
+abbrev pub entry_of : Chosen → Entry
+entry_of chosen = (chosen.name.now, chosen.occurrence)
+
+abbrev pub entries_of : List Chosen → List Entry
+entries_of chosen = map entry_of chosen
+
+-- the occurrence that is chosen for a name; the first one where none is
+abbrev pub chosen_in : List Entry → Choice_
+chosen_in [] name = 0
+chosen_in (entry ∷ entries) name = if bytes_eq entry.0 name then entry.1 else chosen_in entries name
+
+-- an occurrence is chosen for the name
+abbrev pub is_chosen : List Entry → List ℕ → Bool
+is_chosen [] name = false
+is_chosen (entry ∷ entries) name = bytes_eq entry.0 name || is_chosen entries name
+
+-- the pattern of each matcher
+abbrev pub patterns_of : List Matcher → List Re
+patterns_of matchers = map matcher_pattern matchers
+
+-- the expression that a tree stands for, with these matchers
+abbrev pub term_by : List Matcher → Tree → Term
+term_by matchers tree = term_under (patterns_of matchers) tree
+
+-- ---- the walk over choices
+
+-- the bytes of each name
+abbrev pub texts : List (Bor (List ℕ)) → List (List ℕ)
+texts names = map (λ name. name.now) names
+
+-- the name is among these
+abbrev pub is_among : List ℕ → List (List ℕ) → Bool
+is_among name [] = false
+is_among name (one ∷ more) = bytes_eq one name || is_among name more
+
+-- a name that occurs more than once and has no chosen occurrence comes behind the others, unless it is among them
+abbrev pub with_repeated : List Piece → List Entry → List (List ℕ) → List ℕ → List (List ℕ)
+with_repeated pieces entries names name =
+    if (nat_lt 1 (length (values_of name pieces)) && not (is_chosen entries name)) && not (is_among name names) then names ++ name ∷ [] else names
+
+-- the names for which an expression still has to choose among several occurrences, behind these
+abbrev pub repeated_names : List Piece → List Entry → List (List ℕ) → Tree → List (List ℕ)
+repeated_names pieces entries names (Integer n) = names
+repeated_names pieces entries names (Literal text) = names
+repeated_names pieces entries names (Name name) = with_repeated pieces entries names name
+repeated_names pieces entries names (Occurrence name i) = names
+repeated_names pieces entries names (Count name) = names
+repeated_names pieces entries names (Not' p a) = repeated_names pieces entries names a
+repeated_names pieces entries names (Negate' p a) = repeated_names pieces entries names a
+repeated_names pieces entries names (Binary' op p a q b) = repeated_names pieces entries (repeated_names pieces entries names a) b
+repeated_names pieces entries names (Found' p a i) = repeated_names pieces entries names a
+repeated_names pieces entries names (Choice' p c q a r b) =
+    repeated_names pieces entries (repeated_names pieces entries (repeated_names pieces entries names c) a) b
+
+-- how often a name stands in an expression without a subscript
+abbrev pub places_of : List ℕ → Tree → ℕ
+places_of name (Integer n) = 0
+places_of name (Literal text) = 0
+places_of name (Name one) = if bytes_eq one name then 1 else 0
+places_of name (Occurrence one i) = 0
+places_of name (Count one) = 0
+places_of name (Not' p a) = places_of name a
+places_of name (Negate' p a) = places_of name a
+places_of name (Binary' op p a q b) = places_of name a + places_of name b
+places_of name (Found' p a i) = places_of name a
+places_of name (Choice' p c q a r b) = (places_of name c + places_of name a) + places_of name b
+
+-- those of the names that stand in an expression more than once
+abbrev pub shared_names : Tree → List (List ℕ) → List (List ℕ)
+shared_names tree names = filter (λ name. nat_lt 1 (places_of name tree)) names
+
+-- never, once or more often
+abbrev pub times_of : ℕ → Times
+times_of zero = Never
+times_of (suc zero) = Once
+times_of (suc (suc n)) = Often
+
+abbrev pub times_in_both : Times → Times → Times
+times_in_both Never other = other
+times_in_both Once other = elim other [ Never ↦ Once | Once ↦ Often | Often ↦ Often ]
+times_in_both Often other = Often
+
+-- the test holds for a number below n
+abbrev pub any_below : ℕ → (ℕ → Bool) → Bool
+any_below zero test = false
+any_below (suc n) test = any_below n test || test n
+
+-- the test holds with these entries and some occurrences of the names
+abbrev pub any_choice : (List Entry → Bool) → List Piece → List (List ℕ) → List Entry → Bool
+any_choice test pieces [] entries = test entries
+any_choice test pieces (name ∷ names) entries =
+    any_below (length (values_of name pieces)) (λ i. any_choice test pieces names (entries ++ (name, i) ∷ []))
+
+-- the patterns of each number are found in the same texts
+abbrev pub FindAlike : List Re → List Re → Type 0
+FindAlike some other = (i : ℕ) (text : List ℕ) → is_found (pattern_in some i) text ≡ is_found (pattern_in other i) text

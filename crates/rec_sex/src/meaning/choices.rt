@@ -1,0 +1,149 @@
+//! The choices of occurrences that an expression has for a record, and whether it holds under one.
+ghost use Rattle.std.specs.Prelude.{◌≡◌, ◌↔◌, length, nat_lt, IsTrue, IfOk, IsOkUnless, OnOk};
+ghost use Rattle.rec_text.specs.Places.{pieces_of};
+ghost use Rattle.rec_sex.specs.Meaning.{values_of, Selects};
+ghost use Rattle.rec_sex.specs.proving.Choices.{is_among, is_chosen, with_repeated, repeated_names, any_choice, entries_of, patterns_of, term_by, texts};
+ghost use Rattle.rec_sex.specs.proving.Outcomes.{can_hold};
+
+use crate::meaning::conditions::outcomes_of;
+use crate::meaning::evaluation::evaluate;
+use crate::meaning::fields::Fields;
+use crate::meaning::occurrences::Chosen;
+use crate::meaning::operand::is_true;
+use crate::meaning::sharing::shared_names;
+use crate::syntax::tree::Tree;
+use rec_text::{Element, Fault};
+use regex::Matcher;
+use std::alloc::Global;
+
+fn is_among(name: &[u8], names: &[&[u8]]) -> bool
+    ensures { result ≡ is_among name.now (texts names.now) }
+{
+    for one in names {
+        if *one == name {
+            return true;
+        }
+    }
+    false
+}
+
+/// Whether a name occurs more than once.
+fn is_repeated(fields: &Fields<'_, '_>, name: &[u8]) -> bool
+    ensures { result ≡ nat_lt 1 (length (values_of name.now fields.now)) }
+{
+    fields.count(name) > 1
+}
+
+/// Whether an occurrence is chosen for a name.
+fn is_chosen(chosen: &[Chosen<'_>], name: &[u8]) -> bool
+    ensures { result ≡ is_chosen (entries_of chosen.now) name.now }
+{
+    for entry in chosen {
+        if entry.name == name {
+            return true;
+        }
+    }
+    false
+}
+
+/// A name that occurs more than once and has no chosen occurrence comes behind the others, unless it is among them.
+fn add_repeated<'e>(
+    fields: &Fields<'_, '_>,
+    chosen: &[Chosen<'_>],
+    names: &mut Vec<&'e [u8]>,
+    name: &'e [u8],
+) -> Result<(), Fault>
+    ensures names { OnOk result (texts names.new.items ≡
+        with_repeated fields.now (entries_of chosen.now) (texts names.old.items) name.now) }
+    ensures refusals { IsOkUnless result Fault.OutOfMemory }
+{
+    if is_repeated(fields, name) && !is_chosen(chosen, name) && !is_among(name, names) {
+        names.push(name)?;
+    }
+    Ok(())
+}
+
+/// The names for which an expression still has to choose among several occurrences, behind those that are there.
+pub(crate) fn add_repeated_names<'e>(
+    fields: &Fields<'_, '_>,
+    chosen: &[Chosen<'_>],
+    names: &mut Vec<&'e [u8]>,
+    tree: &'e Tree,
+) -> Result<(), Fault>
+    ensures names { OnOk result (texts names.new.items ≡
+        repeated_names fields.now (entries_of chosen.now) (texts names.old.items) tree.now) }
+    ensures refusals { IsOkUnless result Fault.OutOfMemory }
+{
+    match tree {
+        Tree::Integer(_) | Tree::Literal(_) | Tree::Occurrence(..) | Tree::Count(_) => Ok(()),
+        Tree::Name(name) => add_repeated(fields, chosen, names, name.as_slice()),
+        Tree::Not(operand) | Tree::Negate(operand) | Tree::Found(operand, _) => {
+            add_repeated_names(fields, chosen, names, operand)
+        }
+        Tree::Binary(_, left, right) => {
+            add_repeated_names(fields, chosen, names, left)?;
+            add_repeated_names(fields, chosen, names, right)
+        }
+        Tree::Choice(condition, yes, no) => {
+            add_repeated_names(fields, chosen, names, condition)?;
+            add_repeated_names(fields, chosen, names, yes)?;
+            add_repeated_names(fields, chosen, names, no)
+        }
+    }
+}
+
+/// Whether some occurrences of the names, beside those that are chosen, make the expression true.
+fn has_choice<'v>(
+    alloc: Global,
+    tree: &'v Tree,
+    fields: &Fields<'_, 'v>,
+    names: &[&'v [u8]],
+    chosen: &mut Vec<Chosen<'v>>,
+    matchers: &mut [Matcher<'_>],
+) -> Result<bool, Fault>
+    ensures answer { IfOk result (λ answer. answer ≡
+        any_choice (can_hold (patterns_of matchers.old) fields.now tree.now) fields.now
+        (texts names.now) (entries_of chosen.old.items)) }
+    ensures chosen { OnOk result (entries_of chosen.new.items ≡ entries_of chosen.old.items) }
+    ensures same { patterns_of matchers.new ≡ patterns_of matchers.old }
+    ensures refusals { IsOkUnless result Fault.OutOfMemory }
+{
+    let [name, rest @ ..] = names else {
+        let outcomes = outcomes_of(alloc, tree, fields, chosen, matchers)?;
+        return Ok(outcomes.holds);
+    };
+    for occurrence in 0..fields.count(name) {
+        chosen.push(Chosen { name, occurrence })?;
+        let found = has_choice(alloc, tree, fields, rest, chosen, matchers)?;
+        chosen.pop();
+        if found {
+            return Ok(true);
+        }
+    }
+    Ok(false)
+}
+
+/// Whether some choice of occurrences makes an expression true for a record with these elements.
+pub(crate) fn holds<'v>(
+    alloc: Global,
+    tree: &'v Tree,
+    elements: &[Element<'v>],
+    matchers: &mut [Matcher<'_>],
+) -> Result<bool, Fault>
+    ensures answer { IfOk result (λ answer. IsTrue answer ↔
+        Selects (term_by matchers.old tree.now) (pieces_of elements.now)) }
+    ensures same { patterns_of matchers.new ≡ patterns_of matchers.old }
+    ensures refusals { IsOkUnless result Fault.OutOfMemory }
+{
+    let fields = Fields::of(elements);
+    let mut names = Vec::new(alloc);
+    add_repeated_names(&fields, &[], &mut names, tree)?;
+    if names.is_empty() {
+        let meaning = evaluate(alloc, tree, &fields, &[], matchers)?;
+        return Ok(is_true(meaning));
+    }
+    let fields = Fields::listed(alloc, elements)?;
+    let shared = shared_names(alloc, tree, &names)?;
+    let mut chosen = Vec::new(alloc);
+    has_choice(alloc, tree, &fields, &shared, &mut chosen, matchers)
+}

@@ -1,0 +1,104 @@
+//! The meaning of an expression under one choice of occurrences.
+ghost use Rattle.std.specs.Prelude.{◌≡◌, IfOk, pos, length, IsOkUnless};
+ghost use Rattle.rec_sex.specs.Meaning.{is_found as is_found_in_text, sem, values_of};
+ghost use Rattle.rec_sex.specs.proving.Choices.{chosen_in, entries_of, patterns_of, term_by};
+ghost use Rattle.rec_sex.specs.Expressions.{pattern_in};
+ghost use Rattle.rec_sex.specs.proving.Operands.{meaning_in, text_in};
+
+use crate::meaning::fields::Fields;
+use crate::meaning::occurrences::Chosen;
+use crate::meaning::operand::{Operand, apply_operator, inverse, negated, reading, truth};
+use crate::pattern::is_found;
+use crate::syntax::tree::Tree;
+use itoa::Buffer;
+use rec_text::{Fault, Value};
+use regex::Matcher;
+use std::alloc::Global;
+
+/// The occurrence that is chosen for a name; the first one where none is.
+fn occurrence_of(chosen: &[Chosen<'_>], name: &[u8]) -> usize
+    ensures { result ≡ chosen_in (entries_of chosen.now) name.now }
+{
+    for entry in chosen {
+        if entry.name == name {
+            return entry.occurrence;
+        }
+    }
+    0
+}
+
+fn count(fields: &Fields<'_, '_>, name: &[u8]) -> i64
+    ensures { result ≡ pos (length (values_of name.now fields.now)) }
+{
+    fields.count(name) as i64
+}
+
+/// Whether the pattern of a number is found in an operand's text.
+fn is_found_at(matchers: &mut [Matcher<'_>], pattern: usize, operand: &Operand<'_>) -> bool
+    ensures found { result ≡ is_found_in_text (pattern_in (patterns_of matchers.old) pattern) (text_in operand.now) }
+    ensures same { patterns_of matchers.new ≡ patterns_of matchers.old }
+{
+    let mut buffer = Buffer::new();
+    let text = operand.text(&mut buffer);
+    // The empty pattern, which stands for one that is not there, is found in any text that is UTF-8.
+    if pattern >= matchers.len() {
+        return std::str::from_utf8(text).is_ok();
+    }
+    is_found(&mut matchers[pattern], text)
+}
+
+/// The meaning of an expression, where it is defined.
+pub(crate) fn evaluate<'v>(
+    alloc: Global,
+    tree: &'v Tree,
+    fields: &Fields<'_, 'v>,
+    chosen: &[Chosen<'_>],
+    matchers: &mut [Matcher<'_>],
+) -> Result<Option<Operand<'v>>, Fault>
+    ensures meaning { IfOk result (λ operand. meaning_in operand ≡
+        sem (term_by matchers.old tree.now) fields.now (chosen_in (entries_of chosen.now))) }
+    ensures same { patterns_of matchers.new ≡ patterns_of matchers.old }
+    ensures refusals { IsOkUnless result Fault.OutOfMemory }
+{
+    match tree {
+        Tree::Integer(integer) => Ok(Some(Operand::Integer(*integer))),
+        Tree::Literal(text) => Ok(Some(Operand::Text(Value::Part(text.as_slice())))),
+        Tree::Name(name) => {
+            let occurrence = occurrence_of(chosen, name.as_slice());
+            let value = fields.value_at(alloc, name.as_slice(), occurrence)?;
+            Ok(Some(Operand::Text(value)))
+        }
+        Tree::Occurrence(name, occurrence) => {
+            let value = fields.value_at(alloc, name.as_slice(), *occurrence)?;
+            Ok(Some(Operand::Text(value)))
+        }
+        Tree::Count(name) => Ok(Some(Operand::Integer(count(fields, name.as_slice())))),
+        Tree::Not(operand) => {
+            let operand = evaluate(alloc, operand, fields, chosen, matchers)?;
+            Ok(inverse(operand))
+        }
+        Tree::Negate(operand) => {
+            let operand = evaluate(alloc, operand, fields, chosen, matchers)?;
+            Ok(negated(operand))
+        }
+        Tree::Binary(operator, left, right) => {
+            let left = evaluate(alloc, left, fields, chosen, matchers)?;
+            let right = evaluate(alloc, right, fields, chosen, matchers)?;
+            apply_operator(alloc, *operator, left, right)
+        }
+        Tree::Found(operand, pattern) => {
+            match evaluate(alloc, operand, fields, chosen, matchers)? {
+                Some(operand) => Ok(Some(truth(is_found_at(matchers, *pattern, &operand)))),
+                None => Ok(None),
+            }
+        }
+        Tree::Choice(condition, yes, no) => {
+            let condition = evaluate(alloc, condition, fields, chosen, matchers)?;
+            match reading(condition) {
+                Some(0) => evaluate(alloc, no, fields, chosen, matchers),
+                Some(_) => evaluate(alloc, yes, fields, chosen, matchers),
+                None => Ok(None),
+            }
+        }
+    }
+}

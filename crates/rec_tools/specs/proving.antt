@@ -1,0 +1,5 @@
+-- What serves proofs.
+pub mod ReadFiles
+pub mod Editing
+pub mod Listed
+pub mod Silently

@@ -37,7 +37,7 @@ impl Limit {
     }
 
     /// Whether the fields of a name are too few, or too many.
-    #[tactic(auto, using(rec_sex::proofs::OccurrenceLemmas::occurrence_count))]
+    #[tactic(auto, using(rec_sex::proofs::lemmas::meaning::OccurrenceLemmas::occurrence_count))]
     fn is_broken(self, fields: &[Element], name: &[u8]) -> bool
         ensures { result ≡ breaks_limit self (occurrences (pieces_of fields.now) name.now) }
     {

@@ -85,7 +85,7 @@ impl<'r, 't> Fields<'r, 't> {
     }
 
     /// How many fields have a name.
-    #[tactic(auto, using(crate::proofs::OccurrenceLemmas::occurrence_count))]
+    #[tactic(auto, using(crate::proofs::lemmas::meaning::OccurrenceLemmas::occurrence_count))]
     pub fn count(&self, name: &[u8]) -> usize
         ensures count { result ≡ length (values_of name.now self.now) }
         ensures fits { result < 2 ^ 63 }

@@ -27,7 +27,7 @@ impl Times {
 }
 
 /// How often a name stands in an expression without a subscript.
-#[tactic(auto, using(crate::proofs::PlaceLemmas::times_of_sum))]
+#[tactic(auto, using(crate::proofs::lemmas::meaning::PlaceLemmas::times_of_sum))]
 fn how_often(tree: &Tree, name: &[u8]) -> Times
     ensures { result ≡ times_of (places_of name.now tree.now) }
 {
@@ -51,7 +51,7 @@ fn how_often(tree: &Tree, name: &[u8]) -> Times
 }
 
 /// Whether a name stands more than once in an expression without a subscript.
-#[tactic(auto, using(crate::proofs::PlaceLemmas::is_often))]
+#[tactic(auto, using(crate::proofs::lemmas::meaning::PlaceLemmas::is_often))]
 fn is_shared(tree: &Tree, name: &[u8]) -> bool
     ensures { result ≡ nat_lt 1 (places_of name.now tree.now) }
 {

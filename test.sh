@@ -134,7 +134,7 @@ compare() {
 
 quick() {
     local crate
-    echo 'test.sh: the quick part takes some 4 minutes on 2 processors'
+    echo 'test.sh: the quick part takes some 6 minutes on 2 processors'
     if layout; then passed=$((passed + 1)); else failed=$((failed + 1)); fi
     bodies
     # (two at a time: one takes some 2.5 GB of memory)

@@ -137,7 +137,8 @@ pub fn run<H: Home, S: Sink>(
 
     // Any answer but that a store failed keeps the counts of failures.
     ensures kept { IsErrOf result Fault.StoreFailed
-        ⊎ ((H.failure_count home.new ≡ H.failure_count home.old) × (S.failure_count out.new ≡ S.failure_count out.old)) }
+        ⊎ ((H.failure_count home.new ≡ H.failure_count home.old)
+        × (S.failure_count out.new ≡ S.failure_count out.old)) }
 
     // A store failed only where the failures of the home or of the sink rose.
     ensures store_failed { IsErrOf result Fault.StoreFailed

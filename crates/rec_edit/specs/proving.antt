@@ -8,3 +8,4 @@ pub mod Given
 pub mod Causes
 pub mod Sites
 pub mod Filling
+pub mod Files

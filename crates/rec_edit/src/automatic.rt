@@ -1,11 +1,9 @@
 //! The automatic fields of a new record.
 ghost use Rattle.std.specs.Prelude.{◌<◌, length, Err, Ok, IfOk, IfErr, IsOkUnless, MatchOption};
 ghost use Rattle.rec_text.specs.Faults.{IsMemoryOr};
-ghost use Rattle.rec_check.specs.Schemas.{IsSchema};
 ghost use Rattle.rec_check.specs.Stored.{described};
-ghost use Rattle.rec_edit.specs.Automatic.{AreAutomatic};
-ghost use Rattle.rec_edit.specs.proving.Filling.{numbered, AreNamesOf, AreLacking, GivesNone, GivesAt};
-ghost use Rattle.rec_edit.specs.proving.Given.{IsAutomaticText};
+ghost use Rattle.rec_edit.specs.proving.Files.{AreLackingIn, AreAutomaticIn, IsAutomaticTextIn};
+ghost use Rattle.rec_edit.specs.proving.Filling.{numbered, AreNamesOf, GivesNone, GivesAt};
 ghost use Rattle.rec_edit.specs.Wording.{names_in};
 
 pub mod filled;
@@ -14,16 +12,16 @@ mod numbered;
 
 use crate::automatic::numbered::{NumberedField, append_numbered, give};
 use crate::request::Pair;
-use rec_check::Schema;
-use rec_text::{Bytes, Database, Fault};
+use rec_check::RecFile;
+use rec_text::{Bytes, Fault};
 use std::alloc::Global;
 use std::collections::HashSet;
 
 /// The place of the set whose automatic fields a new record gets, if it gets any.
-fn set_for(schema: &Schema, kind: &Option<Bytes>, auto: bool) -> Option<usize>
+fn set_for(file: &RecFile, kind: &Option<Bytes>, auto: bool) -> Option<usize>
     ensures { MatchOption result
-        (GivesNone (described schema.now) kind.now auto)
-        (GivesAt (described schema.now) kind.now auto) }
+        (GivesNone (described file.now.schema) kind.now auto)
+        (GivesAt (described file.now.schema) kind.now auto) }
 {
     let Some(kind) = kind else {
         return None;
@@ -31,7 +29,7 @@ fn set_for(schema: &Schema, kind: &Option<Bytes>, auto: bool) -> Option<usize>
     if !auto {
         return None;
     }
-    schema.set_of_type(kind.as_slice())
+    file.schema().set_of_type(kind.as_slice())
 }
 
 /// The names of a new record.
@@ -49,43 +47,36 @@ fn names_of<'p>(alloc: Global, pairs: &'p [Pair]) -> Result<HashSet<&'p [u8]>, F
 /// The automatic fields of the set at a place that a new record lacks.
 fn given_at<'s>(
     alloc: Global,
-    database: &Database,
-    schema: &'s Schema,
+    file: &RecFile<'s, '_>,
     place: usize,
     pairs: &[Pair],
 ) -> Result<Vec<NumberedField<'s>>, Fault>
-    requires schema { IsSchema database.now (Ok (described schema.now)) }
-    requires place { place < length (described schema.now).sets }
-    ensures given { IfOk result (λ given.
-        AreLacking database.now (described schema.now) place (names_in pairs.now) (Ok (numbered given.items))) }
-    ensures refused { IfErr result (λ fault.
-        IsMemoryOr fault (AreLacking database.now (described schema.now) place (names_in pairs.now) (Err fault))) }
+    requires { place < length (described file.now.schema).sets }
+    ensures given { IfOk result (λ given. AreLackingIn file.now place pairs.now (Ok (numbered given.items))) }
+    ensures refused { IfErr result (λ fault. IsMemoryOr fault (AreLackingIn file.now place pairs.now (Err fault))) }
 {
     let names = names_of(alloc, pairs)?;
-    let mut counters = schema.counters(alloc, database, place)?;
+    let mut counters = file.schema().counters(alloc, file.database(), place)?;
     give(alloc, &mut counters, &names)
 }
 
 /// The text of the automatic fields that a new record of a type lacks; it is empty where none are asked for.
 pub(crate) fn automatic_fields(
     alloc: Global,
-    database: &Database,
-    schema: &Schema,
+    file: &RecFile,
     kind: &Option<Bytes>,
     auto: bool,
     pairs: &[Pair],
 ) -> Result<Vec<u8>, Fault>
-    requires { IsSchema database.now (Ok (described schema.now)) }
-    ensures found { IfOk result (λ text.
-        IsAutomaticText database.now (described schema.now) kind.now auto (names_in pairs.now) text.items) }
-    ensures refused { IfErr result (λ fault. IsMemoryOr fault
-        (AreAutomatic database.now (described schema.now) kind.now auto (names_in pairs.now) (Err fault))) }
+    ensures found { IfOk result (λ text. IsAutomaticTextIn file.now kind.now auto pairs.now text.items) }
+    ensures refused { IfErr result (λ fault.
+        IsMemoryOr fault (AreAutomaticIn file.now kind.now auto pairs.now (Err fault))) }
 {
     let mut text = Vec::new(alloc);
-    let Some(place) = set_for(schema, kind, auto) else {
+    let Some(place) = set_for(file, kind, auto) else {
         return Ok(text);
     };
-    let given = given_at(alloc, database, schema, place, pairs)?;
+    let given = given_at(alloc, file, place, pairs)?;
     append_numbered(&mut text, &given)?;
     Ok(text)
 }

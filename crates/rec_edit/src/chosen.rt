@@ -2,16 +2,14 @@
 ghost use Rattle.std.specs.Prelude.{◌≡◌, ◌<◌, filter_map, length, slice_get, Ok, Err, IfOk, IfErr, MatchResult};
 ghost use Rattle.std.specs.List.{AllByRecursion};
 ghost use Rattle.rec_text.specs.Faults.{IsMemoryOr};
-ghost use Rattle.rec_check.specs.Schemas.{IsSchema};
-ghost use Rattle.rec_check.specs.Stored.{described};
 ghost use Rattle.rec_edit.specs.proving.Drafts.{AreRanges};
-ghost use Rattle.rec_edit.specs.Task.{wanted_by};
+ghost use Rattle.rec_edit.specs.proving.Files.{AreChosenIn, AreRemovableIn};
 ghost use Rattle.rec_select.specs.Selection.{filter_of};
-ghost use Rattle.rec_edit.specs.Outcome.{allowed, AreChosen, AreRemovable};
+ghost use Rattle.rec_edit.specs.Outcome.{allowed};
 
-use rec_check::Schema;
+use rec_check::RecFile;
 use rec_select::{By, Selection, choose};
-use rec_text::{Database, Fault};
+use rec_text::Fault;
 use std::alloc::{AllocError, Global};
 use std::ops::Range;
 
@@ -35,18 +33,15 @@ fn ranges_at(
 /// The ranges of the elements of the records that a selection takes.
 pub(crate) fn chosen_records(
     alloc: Global,
-    database: &Database,
-    schema: &Schema,
+    file: &RecFile,
     selection: &Selection,
 ) -> Result<Vec<Range<usize>>, Fault>
-    requires { IsSchema database.now (Ok (described schema.now)) }
-    ensures found { IfOk result (λ chosen.
-        AreChosen database.now (described schema.now).sets (wanted_by selection.now) (Ok chosen.items)) }
-    ensures refused { IfErr result (λ fault. IsMemoryOr fault
-        (AreChosen database.now (described schema.now).sets (wanted_by selection.now) (Err fault))) }
-    ensures ranges { IfOk result (λ chosen. AreRanges (length database.now) chosen.items) }
+    ensures found { IfOk result (λ chosen. AreChosenIn file.now selection.now (Ok chosen.items)) }
+    ensures refused { IfErr result (λ fault. IsMemoryOr fault (AreChosenIn file.now selection.now (Err fault))) }
+    ensures ranges { IfOk result (λ chosen. AreRanges (length file.now.pieces) chosen.items) }
 {
-    let selected = choose(alloc, database, schema, selection)?;
+    let database = file.database();
+    let selected = choose(alloc, database, file.schema(), selection)?;
     Ok(ranges_at(alloc, database.records().as_slice(), &selected)?)
 }
 
@@ -65,19 +60,16 @@ fn require_allowed(by: &By, force: bool) -> Result<(), Fault>
 /// Those that a selection takes, where they may be taken out.
 pub(crate) fn removable_records(
     alloc: Global,
-    database: &Database,
-    schema: &Schema,
+    file: &RecFile,
     selection: &Selection,
     force: bool,
 ) -> Result<Vec<Range<usize>>, Fault>
-    requires { IsSchema database.now (Ok (described schema.now)) }
-    ensures found { IfOk result (λ chosen.
-        AreRemovable database.now (described schema.now).sets (wanted_by selection.now) force (Ok chosen.items)) }
-    ensures refused { IfErr result (λ fault. IsMemoryOr fault
-        (AreRemovable database.now (described schema.now).sets (wanted_by selection.now) force (Err fault))) }
-    ensures ranges { IfOk result (λ chosen. AreRanges (length database.now) chosen.items) }
+    ensures found { IfOk result (λ chosen. AreRemovableIn file.now selection.now force (Ok chosen.items)) }
+    ensures refused { IfErr result (λ fault.
+        IsMemoryOr fault (AreRemovableIn file.now selection.now force (Err fault))) }
+    ensures ranges { IfOk result (λ chosen. AreRanges (length file.now.pieces) chosen.items) }
 {
-    let chosen = chosen_records(alloc, database, schema, selection)?;
+    let chosen = chosen_records(alloc, file, selection)?;
     require_allowed(&selection.by, force)?;
     Ok(chosen)
 }

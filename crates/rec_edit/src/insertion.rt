@@ -4,7 +4,7 @@ ghost use Rattle.rec_text.specs.Elements.{text_of};
 ghost use Rattle.rec_check.specs.Stored.{described};
 ghost use Rattle.rec_edit.specs.Insertions.{inserting};
 ghost use Rattle.rec_edit.specs.Rules.{fields_of};
-ghost use Rattle.rec_edit.specs.proving.Sites.{line_before, line_behind, heading, block, Begins, IsRecordPut};
+ghost use Rattle.rec_edit.specs.proving.Sites.{line_before, line_behind, heading, block, Begins};
 
 pub mod fresh;
 mod site;
@@ -12,7 +12,7 @@ mod site;
 use crate::insertion::site::{Gap, Site, at_end, site_beside};
 use crate::request::Pair;
 use crate::script::plan::Plan;
-use rec_check::Schema;
+use rec_check::{RecFile, Schema};
 use rec_text::{Bytes, Database, Element, append_field};
 use std::alloc::{AllocError, Global};
 
@@ -96,23 +96,21 @@ pub(crate) struct Insertion {
 
 impl Insertion {
     ghost use Rattle.std.specs.Prelude.{IfOk};
-    ghost use Rattle.rec_check.specs.Stored.{described};
-    ghost use Rattle.rec_edit.specs.proving.Sites.{IsRecordPut};
+    ghost use Rattle.rec_edit.specs.proving.Files.{IsRecordPutIn};
 
     /// A new record with these fields, before which others stand that are given as a text.
     pub fn of(
         alloc: Global,
-        database: &Database,
-        schema: &Schema,
+        file: &RecFile,
         kind: &Option<Bytes>,
         automatic: &[u8],
         pairs: &[Pair],
     ) -> Result<Insertion, AllocError>
-        ensures { IfOk result (λ plan. IsRecordPut database.now (described schema.now).sets kind.now
-            automatic.now pairs.now plan.place plan.text.items) }
+        ensures { IfOk result (λ plan.
+            IsRecordPutIn file.now kind.now automatic.now pairs.now plan.place plan.text.items) }
     {
         let mut text = Vec::new(alloc);
-        let site = begin(&mut text, database, schema, kind)?;
+        let site = begin(&mut text, file.database(), file.schema(), kind)?;
         text.extend_from_slice(automatic)?;
         append_fields(&mut text, pairs)?;
         append_line_behind(&mut text, site.gap)?;

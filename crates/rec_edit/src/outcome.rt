@@ -10,7 +10,7 @@ ghost use Rattle.rec_check.specs.Stored.{described};
 ghost use Rattle.rec_journal.specs.Patch.{Splices};
 ghost use Rattle.rec_edit.specs.declared.outcome.Edited.{Edited as EditedOf};
 ghost use Rattle.rec_edit.specs.proving.Drafts.{AreRanges};
-ghost use Rattle.rec_edit.specs.proving.Edits.{IsEditOf};
+ghost use Rattle.rec_edit.specs.proving.Files.{IsEditIn, IsOutcomeIn};
 ghost use Rattle.rec_edit.specs.proving.Filling.{filled_of, ranges_of};
 ghost use Rattle.rec_edit.specs.Insertions.{filling};
 ghost use Rattle.rec_edit.specs.Task.{task_of, wanted_by, fresh_by, insert as inserting_one, replace as replacing, delete as deleting, comment_out as commenting_out, set as setting_fields, auto_fill as filling_all};
@@ -32,7 +32,7 @@ use crate::request::{Action, Edit, NewRecord};
 use crate::script::{carried_out, carried_out_on};
 use crate::sound::require_sound;
 use crate::wording::items_for;
-use rec_check::Schema;
+use rec_check::{RecFile, Schema};
 use rec_journal::Patch;
 use rec_select::Selection;
 use rec_text::{Bytes, Database, Fault};
@@ -49,139 +49,115 @@ pub struct Edited {
 /// A record of a type is put in, with its automatic fields where that is asked for.
 fn insert(
     alloc: Global,
-    database: &Database,
-    schema: &Schema,
+    file: &RecFile,
     kind: &Option<Bytes>,
     fresh: &NewRecord,
     auto: bool,
 ) -> Result<Edited, Fault>
-    requires { IsSchema database.now (Ok (described schema.now)) }
-    ensures { (force : Bool) → UnlessMemory result (IsEditOf database.now (described schema.now) force
-        (inserting_one kind.now (fresh_by fresh.now) auto)) }
+    ensures { (force : Bool)
+        → UnlessMemory result (IsEditIn file.now force (inserting_one kind.now (fresh_by fresh.now) auto)) }
 {
     let pairs = new_record(alloc, kind, fresh)?;
-    let automatic = automatic_fields(alloc, database, schema, kind, auto, &pairs)?;
-    let plan = Insertion::of(alloc, database, schema, kind, &automatic, &pairs)?;
-    Ok(carried_out_on(alloc, database, 1, &plan)?)
+    let automatic = automatic_fields(alloc, file, kind, auto, &pairs)?;
+    let plan = Insertion::of(alloc, file, kind, &automatic, &pairs)?;
+    Ok(carried_out_on(alloc, file, 1, &plan)?)
 }
 
 /// A new record is put in the place of each of a selection.
 fn replace(
     alloc: Global,
-    database: &Database,
-    schema: &Schema,
+    file: &RecFile,
     selection: &Selection,
     fresh: &NewRecord,
 ) -> Result<Edited, Fault>
-    requires { IsSchema database.now (Ok (described schema.now)) }
-    ensures { (force : Bool) → UnlessMemory result (IsEditOf database.now (described schema.now) force
-        (replacing (wanted_by selection.now) (fresh_by fresh.now))) }
+    ensures { (force : Bool)
+        → UnlessMemory result (IsEditIn file.now force (replacing (wanted_by selection.now) (fresh_by fresh.now))) }
 {
     let pairs = new_record(alloc, &None, fresh)?;
-    let chosen = chosen_records(alloc, database, schema, selection)?;
+    let chosen = chosen_records(alloc, file, selection)?;
     let plan = Replacement::of(alloc, &pairs, &chosen)?;
-    Ok(carried_out(alloc, database, &chosen, &plan)?)
+    Ok(carried_out(alloc, file, &chosen, &plan)?)
 }
 
 /// Records get these automatic fields.
-fn filled_up(
-    alloc: Global,
-    database: &Database,
-    filled: &[FilledRecord],
-) -> Result<Edited, AllocError>
-    requires { AreRanges (length database.now) (ranges_of (filled_of filled.now)) }
-    ensures { IfOk result (λ edited.
-        edited ≡ edited_by (step_of database.now (ranges_of (filled_of filled.now)) (filling (filled_of filled.now)))) }
+fn filled_up(alloc: Global, file: &RecFile, filled: &[FilledRecord]) -> Result<Edited, AllocError>
+    requires { AreRanges (length file.now.pieces) (ranges_of (filled_of filled.now)) }
+    ensures { IfOk result (λ edited. edited ≡ edited_by
+        (step_of file.now.pieces (ranges_of (filled_of filled.now)) (filling (filled_of filled.now)))) }
 {
     let ranges = record_ranges(alloc, filled)?;
     let plan = Filling::of(alloc, filled)?;
-    carried_out(alloc, database, &ranges, &plan)
+    carried_out(alloc, file, &ranges, &plan)
 }
 
 /// All records of typed sets get the automatic fields that they lack.
-fn auto_fill(alloc: Global, database: &Database, schema: &Schema) -> Result<Edited, Fault>
-    requires { IsSchema database.now (Ok (described schema.now)) }
-    ensures { (force : Bool) → UnlessMemory result (IsEditOf database.now (described schema.now) force filling_all) }
+fn auto_fill(alloc: Global, file: &RecFile) -> Result<Edited, Fault>
+    ensures { (force : Bool) → UnlessMemory result (IsEditIn file.now force filling_all) }
 {
-    let filled = filled_records(alloc, database, schema)?;
-    Ok(filled_up(alloc, database, &filled)?)
+    let filled = filled_records(alloc, file)?;
+    Ok(filled_up(alloc, file, &filled)?)
 }
 
 /// The records of a selection are deleted.
 fn delete(
     alloc: Global,
-    database: &Database,
-    schema: &Schema,
+    file: &RecFile,
     selection: &Selection,
     force: bool,
 ) -> Result<Edited, Fault>
-    requires { IsSchema database.now (Ok (described schema.now)) }
-    ensures { UnlessMemory result (IsEditOf database.now (described schema.now) force
-        (deleting (wanted_by selection.now))) }
+    ensures { UnlessMemory result (IsEditIn file.now force (deleting (wanted_by selection.now))) }
 {
-    let chosen = removable_records(alloc, database, schema, selection, force)?;
-    let plan = Deletion::of(alloc, database, &chosen)?;
-    Ok(carried_out(alloc, database, &chosen, &plan)?)
+    let chosen = removable_records(alloc, file, selection, force)?;
+    let plan = Deletion::of(alloc, file, &chosen)?;
+    Ok(carried_out(alloc, file, &chosen, &plan)?)
 }
 
 /// The records of a selection are commented out.
 fn comment_out(
     alloc: Global,
-    database: &Database,
-    schema: &Schema,
+    file: &RecFile,
     selection: &Selection,
     force: bool,
 ) -> Result<Edited, Fault>
-    requires { IsSchema database.now (Ok (described schema.now)) }
-    ensures { UnlessMemory result (IsEditOf database.now (described schema.now) force
-        (commenting_out (wanted_by selection.now))) }
+    ensures { UnlessMemory result (IsEditIn file.now force (commenting_out (wanted_by selection.now))) }
 {
-    let chosen = removable_records(alloc, database, schema, selection, force)?;
+    let chosen = removable_records(alloc, file, selection, force)?;
     let plan = Commenting::of(alloc, &chosen)?;
-    Ok(carried_out(alloc, database, &chosen, &plan)?)
+    Ok(carried_out(alloc, file, &chosen, &plan)?)
 }
 
 /// The fields that a list picks of the records of a selection are edited.
 fn set(
     alloc: Global,
-    database: &Database,
-    schema: &Schema,
+    file: &RecFile,
     selection: &Selection,
     list: &[u8],
     action: &Action,
 ) -> Result<Edited, Fault>
-    requires { IsSchema database.now (Ok (described schema.now)) }
-    ensures { (force : Bool) → UnlessMemory result (IsEditOf database.now (described schema.now) force
-        (setting_fields (wanted_by selection.now) list.now action.now)) }
+    ensures { (force : Bool)
+        → UnlessMemory result (IsEditIn file.now force (setting_fields (wanted_by selection.now) list.now action.now)) }
 {
     let items = items_for(alloc, action, list)?;
-    let chosen = chosen_records(alloc, database, schema, selection)?;
-    let plan = Setting::of(alloc, database, &chosen, &items, action)?;
-    Ok(carried_out(alloc, database, &chosen, &plan)?)
+    let chosen = chosen_records(alloc, file, selection)?;
+    let plan = Setting::of(alloc, file, &chosen, &items, action)?;
+    Ok(carried_out(alloc, file, &chosen, &plan)?)
 }
 
 /// The edited text may break rules.
-fn made(
-    alloc: Global,
-    database: &Database,
-    schema: &Schema,
-    edit: &Edit,
-    force: bool,
-) -> Result<Edited, Fault>
-    requires { IsSchema database.now (Ok (described schema.now)) }
-    ensures { UnlessMemory result (IsEditOf database.now (described schema.now) force (task_of edit.now)) }
+fn made(alloc: Global, file: &RecFile, edit: &Edit, force: bool) -> Result<Edited, Fault>
+    ensures { UnlessMemory result (IsEditIn file.now force (task_of edit.now)) }
 {
     match edit {
-        Edit::Insert { kind, fresh, auto } => insert(alloc, database, schema, kind, fresh, *auto),
-        Edit::Replace { selection, fresh } => replace(alloc, database, schema, selection, fresh),
-        Edit::Delete(selection) => delete(alloc, database, schema, selection, force),
-        Edit::CommentOut(selection) => comment_out(alloc, database, schema, selection, force),
+        Edit::Insert { kind, fresh, auto } => insert(alloc, file, kind, fresh, *auto),
+        Edit::Replace { selection, fresh } => replace(alloc, file, selection, fresh),
+        Edit::Delete(selection) => delete(alloc, file, selection, force),
+        Edit::CommentOut(selection) => comment_out(alloc, file, selection, force),
         Edit::Set {
             selection,
             list,
             action,
-        } => set(alloc, database, schema, selection, list, action),
-        Edit::AutoFill => auto_fill(alloc, database, schema),
+        } => set(alloc, file, selection, list, action),
+        Edit::AutoFill => auto_fill(alloc, file),
     }
 }
 
@@ -199,37 +175,28 @@ fn puts_no_descriptor_in(edit: &Edit) -> bool
 /// Refuses an edit after which the text breaks rules. A text without a descriptor has none, and most edits put none in.
 fn require_kept_rules(
     alloc: Global,
-    database: &Database,
-    schema: &Schema,
+    file: &RecFile,
     edit: &Edit,
     edited: &Edited,
 ) -> Result<(), Fault>
-    requires schema { IsSchema database.now (Ok (described schema.now)) }
-    requires made { IsEditOf database.now (described schema.now) false (task_of edit.now) (Ok edited.now) }
+    requires { IsEditIn file.now false (task_of edit.now) (Ok edited.now) }
     ensures { UnlessMemory result (IsSound edited.now.text) }
 {
     // These are the elements of a text.
-    let _text = database.text();
-    if puts_no_descriptor_in(edit) && schema.sets().len() == 1 {
+    let _text = file.database().text();
+    if puts_no_descriptor_in(edit) && file.schema().sets().len() == 1 {
         return Ok(());
     }
     require_sound(alloc, edited.text.as_slice())
 }
 
 /// The edited text must keep its rules, unless that is forced.
-fn outcome(
-    alloc: Global,
-    database: &Database,
-    schema: &Schema,
-    edit: &Edit,
-    force: bool,
-) -> Result<Edited, Fault>
-    requires { IsSchema database.now (Ok (described schema.now)) }
-    ensures { UnlessMemory result (IsOutcome database.now (described schema.now) force (task_of edit.now)) }
+fn outcome(alloc: Global, file: &RecFile, edit: &Edit, force: bool) -> Result<Edited, Fault>
+    ensures { UnlessMemory result (IsOutcomeIn file.now force (task_of edit.now)) }
 {
-    let edited = made(alloc, database, schema, edit, force)?;
+    let edited = made(alloc, file, edit, force)?;
     if !force {
-        require_kept_rules(alloc, database, schema, edit, &edited)?;
+        require_kept_rules(alloc, file, edit, &edited)?;
     }
     Ok(edited)
 }
@@ -262,5 +229,5 @@ pub fn edit(
 {
     // These are the elements of a text.
     let _text = database.text();
-    outcome(alloc, database, schema, edit, force)
+    outcome(alloc, &RecFile::new(database, schema), edit, force)
 }

@@ -14,6 +14,7 @@ pub mod plan;
 use crate::outcome::Edited;
 use crate::script::draft::Draft;
 use crate::script::plan::Plan;
+use rec_check::RecFile;
 use rec_text::{Database, Element, elements_in};
 use std::alloc::{AllocError, Global};
 use std::ops::Range;
@@ -291,15 +292,15 @@ fn changed_count<P: Plan>(
 /// What a plan makes of a text, where it is known how many records it changes.
 pub(crate) fn carried_out_on<P: Plan>(
     alloc: Global,
-    database: &Database,
+    file: &RecFile,
     changed: usize,
     plan: &P,
 ) -> Result<Edited, AllocError>
     requires { LaysLines (P.layout plan.now) }
     ensures { IfOk result (λ edited.
-        edited ≡ edited_by (record { script = script_of (P.layout plan.now) database.now; changed = changed })) }
+        edited ≡ edited_by (record { script = script_of (P.layout plan.now) file.now.pieces; changed = changed })) }
 {
-    let draft = drafted(alloc, database, plan)?;
+    let draft = drafted(alloc, file.database(), plan)?;
     let (patch, text) = draft.finish()?;
     Ok(Edited {
         patch,
@@ -311,14 +312,14 @@ pub(crate) fn carried_out_on<P: Plan>(
 /// What a plan makes of a text, and how many of the chosen records it changes.
 pub(crate) fn carried_out<P: Plan>(
     alloc: Global,
-    database: &Database,
+    file: &RecFile,
     chosen: &[Range<usize>],
     plan: &P,
 ) -> Result<Edited, AllocError>
-    requires chosen { AreRanges (length database.now) chosen.now }
+    requires chosen { AreRanges (length file.now.pieces) chosen.now }
     requires lines { LaysLines (P.layout plan.now) }
-    ensures { IfOk result (λ edited. edited ≡ edited_by (step_of database.now chosen.now (P.layout plan.now))) }
+    ensures { IfOk result (λ edited. edited ≡ edited_by (step_of file.now.pieces chosen.now (P.layout plan.now))) }
 {
-    let changed = changed_count(alloc, plan, database, chosen)?;
-    carried_out_on(alloc, database, changed, plan)
+    let changed = changed_count(alloc, plan, file.database(), chosen)?;
+    carried_out_on(alloc, file, changed, plan)
 }

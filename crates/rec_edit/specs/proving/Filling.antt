@@ -6,6 +6,7 @@ use Rattle.std.specs.List.{slice_index_or}
 use Rattle.std.specs.declared.ops.Range.{Range}
 use Rattle.rec_text.specs.declared.fault.Fault.{Fault}
 use Rattle.rec_text.specs.Elements.{Piece}
+use Rattle.rec_text.specs.Records.{AreRecords}
 use Rattle.rec_check.specs.declared.automatic.counter.Counter.{Counter}
 use Rattle.rec_check.specs.Automatic.{automatic_names, automatic_of, IsAutomatic, IsNext}
 use Rattle.rec_check.specs.Counters.{AreCounters}
@@ -15,7 +16,7 @@ use Rattle.rec_check.specs.Schemas.{Described}
 use Rattle.rec_check.specs.Words.{is_among}
 use Rattle.rec_edit.specs.declared.automatic.filled.FilledRecord.{FilledRecord}
 use Rattle.rec_edit.specs.declared.automatic.numbered.NumberedField.{NumberedField}
-use Rattle.rec_edit.specs.Automatic.{lacking, numbers_in, AreNumbered, AreAutomatic}
+use Rattle.rec_edit.specs.Automatic.{lacking, numbers_in, AreNumbered, AreAutomatic, AreFilledOf}
 use Rattle.rec_edit.specs.Insertions.{Numbered, numbered_fields, Filled, filling}
 
 -- ---- as they are kept
@@ -71,6 +72,10 @@ pub record AddsFilled (answer : Result (List Filled) Fault → Type 0) (old new 
 -- the same of records as they are kept
 abbrev pub FillsMore : (Result (List Filled) Fault → Type 0) → List FilledRecord → List FilledRecord → Type 0
 FillsMore answer old new = AddsFilled answer (filled_of old) (filled_of new)
+
+-- all records of a text are filled so
+abbrev pub AreAllFilled : List Piece → Described → Result (List Filled) Fault → Type 0
+AreAllFilled pieces schema answer = (records : List (Range ℕ)) × AreRecords pieces records × AreFilledOf pieces records schema answer
 
 -- ---- as they are found
 

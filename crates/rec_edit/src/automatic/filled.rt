@@ -1,22 +1,22 @@
 //! Records with the automatic fields that they get.
-ghost use Rattle.std.specs.Prelude.{◌≡◌, ◌<◌, ℕ, ℤ, List, Ok, Err, length, slice_get, Some, IfOk, IfErr, IsOkUnless, OnOk};
+ghost use Rattle.std.specs.Prelude.{◌<◌, ℕ, ℤ, List, Ok, Err, length, IfOk, IfErr, IsOkUnless, OnOk};
 ghost use Rattle.std.specs.declared.ops.Range.{Range};
 ghost use Rattle.rec_text.specs.Faults.{IsMemoryOr};
 ghost use Rattle.rec_text.specs.Places.{pieces_of};
-ghost use Rattle.rec_text.specs.Records.{AreRecords};
 ghost use Rattle.rec_check.specs.declared.set.Set_.{Set_};
 ghost use Rattle.rec_check.specs.Counters.{AreCounters};
 ghost use Rattle.rec_check.specs.Rules.{Rules};
-ghost use Rattle.rec_check.specs.Schemas.{IsSchema};
 ghost use Rattle.rec_check.specs.Stored.{described};
 ghost use Rattle.rec_check.specs.Violations.{names_of};
 ghost use Rattle.rec_check.specs.Walking.{AreWithin};
-ghost use Rattle.rec_edit.specs.Automatic.{AreFilled, AreFilledMembers, AreFilledOf};
-ghost use Rattle.rec_edit.specs.proving.Filling.{numbered, filled_of, AreNamesOf, IsGiven, IsRefused, FillsMore};
+ghost use Rattle.rec_edit.specs.Automatic.{AreFilled};
+ghost use Rattle.rec_edit.specs.proving.Drafts.{AreRanges};
+ghost use Rattle.rec_edit.specs.proving.Files.{AreFilledIn, AreFilledMembersIn, IsSetIn};
+ghost use Rattle.rec_edit.specs.proving.Filling.{numbered, filled_of, ranges_of, AreNamesOf, IsGiven, IsRefused, FillsMore};
 
 use crate::automatic::numbered::{NumberedField, give};
-use rec_check::{Counter, Schema};
-use rec_text::{Database, Element, Fault, elements_in};
+use rec_check::{Counter, RecFile};
+use rec_text::{Element, Fault, elements_in};
 use std::alloc::Global;
 use std::collections::HashSet;
 use std::ops::Range;
@@ -91,22 +91,17 @@ fn fill_records<'s, 't>(
 /// Fills the records of the set at this place.
 fn fill_set<'s>(
     alloc: Global,
-    database: &Database,
-    schema: &'s Schema,
+    file: &RecFile<'s, '_>,
     place: usize,
     filled: &mut Vec<FilledRecord<'s>>,
 ) -> Result<(), Fault>
-    requires schema { IsSchema database.now (Ok (described schema.now)) }
-    requires place { place < length (described schema.now).sets }
-    ensures filled { (records : List (Range ℕ)) (s : Set_) (rules : Rules) → AreRecords database.now records
-        → slice_get (described schema.now).sets place ≡ Some s
-        → slice_get (described schema.now).rules place ≡ Some rules
-        → OnOk result (FillsMore (AreFilledMembers database.now records s rules) filled.old.items filled.new.items) }
-    ensures refused { (records : List (Range ℕ)) (s : Set_) (rules : Rules) → AreRecords database.now records
-        → slice_get (described schema.now).sets place ≡ Some s
-        → slice_get (described schema.now).rules place ≡ Some rules
-        → IfErr result (λ fault. IsMemoryOr fault (AreFilledMembers database.now records s rules (Err fault))) }
+    requires { place < length (described file.now.schema).sets }
+    ensures filled { (records : List (Range ℕ)) (s : Set_) (rules : Rules) → IsSetIn file.now place records s rules
+        → OnOk result (FillsMore (AreFilledMembersIn file.now records s rules) filled.old.items filled.new.items) }
+    ensures refused { (records : List (Range ℕ)) (s : Set_) (rules : Rules) → IsSetIn file.now place records s rules
+        → IfErr result (λ fault. IsMemoryOr fault (AreFilledMembersIn file.now records s rules (Err fault))) }
 {
+    let (database, schema) = (file.database(), file.schema());
     let mut counters = schema.counters(alloc, database, place)?;
     let records = schema.members(database, place);
     fill_records(alloc, &mut counters, database.elements(), records, filled)
@@ -115,20 +110,15 @@ fn fill_set<'s>(
 /// All records but the descriptors, set by set, each with the automatic fields that it lacks.
 pub(crate) fn filled_records<'s>(
     alloc: Global,
-    database: &Database,
-    schema: &'s Schema,
+    file: &RecFile<'s, '_>,
 ) -> Result<Vec<FilledRecord<'s>>, Fault>
-    requires { IsSchema database.now (Ok (described schema.now)) }
-    ensures filled { (records : List (Range ℕ)) → AreRecords database.now records
-        → IfOk result (λ filled.
-        AreFilledOf database.now records (described schema.now) (Ok (filled_of filled.items))) }
-    ensures refused { (records : List (Range ℕ)) → AreRecords database.now records
-        → IfErr result (λ fault.
-        IsMemoryOr fault (AreFilledOf database.now records (described schema.now) (Err fault))) }
+    ensures filled { IfOk result (λ filled. AreFilledIn file.now (Ok (filled_of filled.items))) }
+    ensures refused { IfErr result (λ fault. IsMemoryOr fault (AreFilledIn file.now (Err fault))) }
+    ensures ranges { IfOk result (λ filled. AreRanges (length file.now.pieces) (ranges_of (filled_of filled.items))) }
 {
     let mut filled = Vec::new(alloc);
-    for place in 0..schema.sets().len() {
-        fill_set(alloc, database, schema, place, &mut filled)?;
+    for place in 0..file.schema().sets().len() {
+        fill_set(alloc, file, place, &mut filled)?;
     }
     Ok(filled)
 }

@@ -8,7 +8,8 @@ ghost use Rattle.rec_edit.specs.proving.Drafts.{AreRanges};
 
 use crate::layouts::covered::Covered;
 use crate::script::plan::Plan;
-use rec_text::{Database, Element};
+use rec_check::RecFile;
+use rec_text::Element;
 use std::alloc::{AllocError, Global};
 use std::ops::Range;
 
@@ -52,13 +53,13 @@ impl Deletion {
 
     pub fn of(
         alloc: Global,
-        database: &Database,
+        file: &RecFile,
         chosen: &[Range<usize>],
     ) -> Result<Deletion, AllocError>
-        requires { AreRanges (length database.now) chosen.now }
-        ensures { IfOk result (λ plan. plan.gone ≡ map (with_blanks database.now) chosen.now) }
+        requires { AreRanges (length file.now.pieces) chosen.now }
+        ensures { IfOk result (λ plan. plan.gone ≡ map (with_blanks file.now.pieces) chosen.now) }
     {
-        let ranges = ranges_with_blanks(alloc, database.elements(), chosen)?;
+        let ranges = ranges_with_blanks(alloc, file.database().elements(), chosen)?;
         let gone = Covered::of(alloc, ranges)?;
         Ok(Deletion { gone })
     }

@@ -13,8 +13,9 @@ use crate::layouts::commenting::append_commented;
 use crate::layouts::covered::{has_mark, mark};
 use crate::request::Action;
 use crate::script::plan::Plan;
+use rec_check::RecFile;
 use rec_sex::{FieldList, Item};
-use rec_text::{Database, Element, append_field, count_of, elements_in};
+use rec_text::{Element, append_field, count_of, elements_in};
 use std::alloc::{AllocError, Global};
 use std::marker::Model;
 use std::ops::Range;
@@ -212,16 +213,16 @@ impl<'s, 't> Setting<'s, 't> {
 
     pub fn of(
         alloc: Global,
-        database: &'s Database<'t>,
+        file: &RecFile<'s, 't>,
         chosen: &'s [Range<usize>],
         list: &'s FieldList,
         action: &'s Action,
     ) -> Result<Setting<'s, 't>, AllocError>
-        requires { AreRanges (length database.now) chosen.now }
+        requires { AreRanges (length file.now.pieces) chosen.now }
         ensures { IfOk result (λ plan.
-            plan ≡ record { action = action.now; items = list.now; pieces = database.now; chosen = chosen.now }) }
+            plan ≡ record { action = action.now; items = list.now; pieces = file.now.pieces; chosen = chosen.now }) }
     {
-        let elements = database.elements();
+        let elements = file.database().elements();
         let picked = picked_marks(alloc, elements, chosen, list)?;
         Ok(Setting {
             elements,

@@ -11,7 +11,7 @@ use Rattle.std.specs.Fmt.{signed_decimal}
 use Rattle.std.specs.Prelude.{OnOk}
 use Rattle.rec_text.specs.declared.fault.Fault.{Fault}
 use Rattle.rec_text.specs.Elements.{Piece, text_of}
-use Rattle.rec_text.specs.Records.{AreAscending, elements_in, AreRecords, IsRecord}
+use Rattle.rec_text.specs.Records.{AreAscending, elements_in, IsRecord}
 use Rattle.rec_check.specs.declared.automatic.counter.Counter.{Counter}
 use Rattle.rec_check.specs.declared.set.Set_.{Set_}
 use Rattle.rec_check.specs.Automatic.{readings}
@@ -22,7 +22,7 @@ use Rattle.rec_check.specs.Violations.{members, names_of}
 use Rattle.rec_check.specs.Walking.{AreWithin, IsNext}
 use Rattle.rec_edit.specs.Automatic.{AreFilled, AreFilledSets}
 use Rattle.rec_edit.specs.proving.Drafts.{AreRanges, LaysLines}
-use Rattle.rec_edit.specs.proving.Filling.{before, with_given, ranges_of, IsGiven, IsRefused, AddsFilled, numbered, filled_of, place_at, KeepsPlace, IsPlaced, ArePlaces}
+use Rattle.rec_edit.specs.proving.Filling.{before, with_given, ranges_of, AreAllFilled, IsGiven, IsRefused, AddsFilled, numbered, filled_of, place_at, KeepsPlace, IsPlaced, ArePlaces}
 use Rattle.rec_edit.specs.Insertions.{Numbered, Filled, filling, numbered_fields}
 use Rattle.rec_text.specs.Faults.{IsMemoryOr}
 use Rattle.rec_check.specs.Descriptors.{type_of}
@@ -195,18 +195,18 @@ module _ (pieces : List Piece) (schema : Described) where
       subst (AreRanges size) (sym (ranges-filled_sets pieces is.records schema.sets schema.rules filled are))
       (AreRanges-members size is.records within schema.sets is.sets.places (sets_within 0 schema.sets (length is.records) is.sets.places total) is.are.ascending)
 
-  module _ (force : Bool) (records : List (Range ℕ)) (are : AreRecords pieces records) where
-    pub auto_fill-refused : (fault : Fault) → IsMemoryOr fault (AreFilledSets pieces records schema.sets schema.rules (Err fault)) → IsMemoryOr fault (IsEditOf pieces schema force auto_fill (Err fault))
+  module _ (force : Bool) where
+    pub auto_fill-refused : (fault : Fault) → IsMemoryOr fault (AreAllFilled pieces schema (Err fault)) → IsMemoryOr fault (IsEditOf pieces schema force auto_fill (Err fault))
     auto_fill-refused fault is =
-        memory_or_weaker fault (AreFilledSets pieces records schema.sets schema.rules (Err fault)) (IsEditOf pieces schema force auto_fill (Err fault))
-        (λ refused. inl (fault, (records, are, inl (fault, refused, refl)), refl)) is
+        memory_or_weaker fault (AreAllFilled pieces schema (Err fault)) (IsEditOf pieces schema force auto_fill (Err fault))
+        (λ refused. inl (fault, (refused.0, refused.1, inl (fault, refused.2, refl)), refl)) is
 
-    pub auto_fill-made : (filled plan : List Filled) (given : List (Range ℕ)) (edited : Edited) → AreFilledSets pieces records schema.sets schema.rules (Ok filled) → plan ≡ filled → given ≡ ranges_of filled
+    pub auto_fill-made : (filled plan : List Filled) (given : List (Range ℕ)) (edited : Edited) → AreAllFilled pieces schema (Ok filled) → plan ≡ filled → given ≡ ranges_of filled
         → edited ≡ edited_by (step_of pieces given (filling plan)) → IsEditOf pieces schema force auto_fill (Ok edited)
     auto_fill-made filled plan given edited are_filled planned same is =
         inr (
           step_of pieces (ranges_of filled) (filling filled),
-          (records, are, inr (filled, are_filled, refl)),
+          (are_filled.0, are_filled.1, inr (filled, are_filled.2, refl)),
           ap Ok (is ∙ ap (λ ranges. edited_by (step_of pieces ranges (filling plan))) same ∙ ap (λ f. edited_by (step_of pieces (ranges_of filled) (filling f))) planned),
         )
 

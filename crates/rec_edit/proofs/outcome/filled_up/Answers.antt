@@ -8,17 +8,17 @@ use Rattle.rec_edit.proofs.lemmas.automatic.FillLemmas.{LaysLines-filling}
 use Rattle.rec_edit.proofs.outcome.filled_up.Goals as goal
 
 pub of-requires : goal.of-requires
-of-requires c = (length c.args.database.now, c.requires)
+of-requires c = (length c.args.file.now.pieces, c.requires)
 
 pub carried_out-requires-clause-chosen : goal.carried_out-requires-clause-chosen
-carried_out-requires-clause-chosen c = subst (AreRanges (length c.args.database.now)) (sym (c.deref.ensures.value ∙ c.in_ok-ranges.ensures)) c.requires
+carried_out-requires-clause-chosen c = subst (AreRanges (length c.args.file.now.pieces)) (sym (c.deref.ensures.value ∙ c.in_ok-ranges.ensures)) c.requires
 
 pub carried_out-requires-clause-lines : goal.carried_out-requires-clause-lines
 carried_out-requires-clause-lines c = LaysLines-filling c.in_ok-plan.plan
 
 pub returns : goal.returns
 returns c =
-    let pieces = c.args.database.now in
+    let pieces = c.args.file.now.pieces in
     let ranges = ranges_of (filled_of c.args.filled.now) in
     subst (λ plan. IfOk c.carried_out.result (λ edited. edited ≡ edited_by (step_of pieces ranges (filling plan)))) c.in_ok-plan.ensures
     (subst (λ given. IfOk c.carried_out.result (λ edited. edited ≡ edited_by (step_of pieces given (filling c.in_ok-plan.plan)))) (c.deref.ensures.value ∙ c.in_ok-ranges.ensures) c.carried_out.ensures)

@@ -8,12 +8,12 @@ use Rattle.rec_edit.proofs.outcome.set.Goals as goal
 pub returns-in_err-items : goal.returns-in_err-items
 returns-in_err-items c = λ force.
     let kept = err_from_is_err_and c.from_residual.result c.from_residual.ensures.1 in
-    rw (kept.1, kept.2) (set-no_items c.args.database.now (described c.args.schema.now) force (wanted_by c.args.selection.now) c.args.list.now c.args.action.now c.in_err-items.field-0.0 c.in_err-items.ensures)
+    rw (kept.1, kept.2) (set-no_items c.args.file.now.pieces (described c.args.file.now.schema) force (wanted_by c.args.selection.now) c.args.list.now c.args.action.now c.in_err-items.field-0.0 c.in_err-items.ensures)
 
 pub returns-in_err-chosen : goal.returns-in_err-chosen
 returns-in_err-chosen c = λ force.
     let kept = err_from_is_err_and c.from_residual-in_err-chosen.result c.from_residual-in_err-chosen.ensures.1 in
-    rw (kept.1, kept.2) (set-none_chosen c.args.database.now (described c.args.schema.now) force (wanted_by c.args.selection.now) c.args.list.now c.args.action.now _ c.in_err-chosen.field-0.0
+    rw (kept.1, kept.2) (set-none_chosen c.args.file.now.pieces (described c.args.file.now.schema) force (wanted_by c.args.selection.now) c.args.list.now c.args.action.now _ c.in_err-chosen.field-0.0
     c.in_ok-items.ensures c.in_err-chosen.ensures.refused)
 
 pub carried_out-requires-clause-lines : goal.carried_out-requires-clause-lines
@@ -21,5 +21,5 @@ carried_out-requires-clause-lines c = LaysLines-setting c.in_ok-plan.plan.action
 
 pub returns : goal.returns
 returns c = λ force.
-    set-made c.args.database.now (described c.args.schema.now) force (wanted_by c.args.selection.now) c.args.list.now c.args.action.now c.in_ok-items.items c.in_ok-chosen.chosen.items c.deref-2.result.now c.deref.result.now
+    set-made c.args.file.now.pieces (described c.args.file.now.schema) force (wanted_by c.args.selection.now) c.args.list.now c.args.action.now c.in_ok-items.items c.in_ok-chosen.chosen.items c.deref-2.result.now c.deref.result.now
     c.in_ok-plan.plan c.in_ok-carried_out.field-0 c.in_ok-items.ensures c.in_ok-chosen.ensures.found c.in_ok-plan.ensures c.deref.ensures.value c.deref-2.ensures.value c.in_ok-carried_out.ensures

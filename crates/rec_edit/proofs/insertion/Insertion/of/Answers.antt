@@ -3,5 +3,7 @@ use Rattle.rec_edit.proofs.insertion.Insertion.of.Goals as goal
 
 pub returns : goal.returns
 returns c =
-    IsRecordPut-text c.args.database.now c.args.schema.now.sets.items c.args.kind.now c.in_ok-site.site c.args.automatic.now c.args.pairs.now _ _ _ _ _
-    c.in_ok-site.ensures c.new-text.ensures.items c.in_ok-extend_from_slice.ensures.items c.in_ok-append_fields.ensures c.in_ok-append_line_behind.ensures
+    let pieces = c.database.ensures.elements in
+    let schema = c.schema.ensures.schema in
+    IsRecordPut-text c.args.file.now.pieces c.args.file.now.schema.sets.items c.args.kind.now c.in_ok-site.site c.args.automatic.now c.args.pairs.now _ _ _ _ _
+    (rw (pieces, schema) at c.in_ok-site.ensures) c.new-text.ensures.items c.in_ok-extend_from_slice.ensures.items c.in_ok-append_fields.ensures c.in_ok-append_line_behind.ensures

@@ -1,0 +1,66 @@
+-- What is said of the elements and the record sets of a text, said of a file that was read.
+use Rattle.std.specs.Prelude.{◌≡◌, ℕ, Bool, List, Option, Some, slice_get, Result}
+use Rattle.std.specs.declared.ops.Range.{Range}
+use Rattle.rec_text.specs.declared.fault.Fault.{Fault}
+use Rattle.rec_text.specs.Records.{AreRecords}
+use Rattle.rec_check.specs.DescribedTexts.{ReadText}
+use Rattle.rec_check.specs.declared.set.Set_.{Set_}
+use Rattle.rec_check.specs.Rules.{Rules}
+use Rattle.rec_check.specs.Stored.{described}
+use Rattle.rec_select.specs.declared.selection.Selection.{Selection}
+use Rattle.rec_edit.specs.declared.outcome.Edited.{Edited}
+use Rattle.rec_edit.specs.Automatic.{AreAutomatic, AreFilledMembers}
+use Rattle.rec_edit.specs.proving.Edits.{IsEditOf}
+use Rattle.rec_edit.specs.proving.Filling.{AreAllFilled, AreLacking}
+use Rattle.rec_edit.specs.proving.Given.{IsAutomaticText}
+use Rattle.rec_edit.specs.Insertions.{Numbered, Filled}
+use Rattle.rec_edit.specs.Outcome.{AreChosen, AreRemovable, IsOutcome}
+use Rattle.rec_edit.specs.proving.Sites.{IsRecordPut}
+use Rattle.rec_edit.specs.Task.{Pair, Task, wanted_by}
+use Rattle.rec_edit.specs.Wording.{names_in}
+
+-- ---- the records that are meant
+
+abbrev pub AreChosenIn : ReadText → Selection → Result (List (Range ℕ)) Fault → Type 0
+AreChosenIn file selection = AreChosen file.pieces (described file.schema).sets (wanted_by selection)
+
+abbrev pub AreRemovableIn : ReadText → Selection → Bool → Result (List (Range ℕ)) Fault → Type 0
+AreRemovableIn file selection force = AreRemovable file.pieces (described file.schema).sets (wanted_by selection) force
+
+-- ---- a new record
+
+-- the automatic fields of the set at a place that a new record lacks
+abbrev pub AreLackingIn : ReadText → ℕ → List Pair → Result (List Numbered) Fault → Type 0
+AreLackingIn file place pairs = AreLacking file.pieces (described file.schema) place (names_in pairs)
+
+abbrev pub AreAutomaticIn : ReadText → Option (List ℕ) → Bool → List Pair → Result (List Numbered) Fault → Type 0
+AreAutomaticIn file kind auto pairs = AreAutomatic file.pieces (described file.schema) kind auto (names_in pairs)
+
+abbrev pub IsAutomaticTextIn : ReadText → Option (List ℕ) → Bool → List Pair → List ℕ → Type 0
+IsAutomaticTextIn file kind auto pairs = IsAutomaticText file.pieces (described file.schema) kind auto (names_in pairs)
+
+abbrev pub IsRecordPutIn : ReadText → Option (List ℕ) → List ℕ → List Pair → ℕ → List ℕ → Type 0
+IsRecordPutIn file kind automatic pairs place text =
+    IsRecordPut file.pieces (described file.schema).sets kind automatic pairs place text
+
+-- ---- all records
+
+-- the set at a place, with its rules, where these are the records
+abbrev pub IsSetIn : ReadText → ℕ → List (Range ℕ) → Set_ → Rules → Type 0
+IsSetIn file place records s rules = AreRecords file.pieces records
+    × (slice_get (described file.schema).sets place ≡ Some s) × (slice_get (described file.schema).rules place ≡ Some rules)
+
+-- the records of such a set
+abbrev pub AreFilledMembersIn : ReadText → List (Range ℕ) → Set_ → Rules → Result (List Filled) Fault → Type 0
+AreFilledMembersIn file = AreFilledMembers file.pieces
+
+abbrev pub AreFilledIn : ReadText → Result (List Filled) Fault → Type 0
+AreFilledIn file = AreAllFilled file.pieces (described file.schema)
+
+-- ---- the edit
+
+abbrev pub IsEditIn : ReadText → Bool → Task → Result Edited Fault → Type 0
+IsEditIn file = IsEditOf file.pieces (described file.schema)
+
+abbrev pub IsOutcomeIn : ReadText → Bool → Task → Result Edited Fault → Type 0
+IsOutcomeIn file = IsOutcome file.pieces (described file.schema)

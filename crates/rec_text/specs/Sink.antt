@@ -41,7 +41,3 @@ KeptAtSuccess old new result = OnOk result (new ≡ old)
 -- 'the store failed' is answered only where a failure was counted in the call
 abbrev pub RisenAtStoreFailed : {X : Type 0} → ℕ → ℕ → Result X Fault → Type 0
 RisenAtStoreFailed old new result = IsErrOf result StoreFailed → HasRisen old new
-
--- the only refusal is that the store failed
-abbrev pub UnlessStoreFailed : {X : Type 0} → Result X Fault → Type 0
-UnlessStoreFailed result = MatchResult result (λ _. Unit {0}) (λ fault. fault ≡ StoreFailed)

@@ -337,9 +337,10 @@ fields_of-ended (pair ∷ pairs) = (canonical-ends pair.name pair.value, fields_
 abbrev PutsLines : Insertion → Type 0
 PutsLines insertion = AreEnded insertion.new
 
-by_option : {X : Type 0} (make : X → Insertion) (found : Option X) (other : Insertion) → ((x : X) → PutsLines (make x)) → PutsLines other → PutsLines (option_map_or make found other)
-by_option make None other each ended = ended
-by_option make (Some x) other each ended = each x
+by_option : {X : Type 0} (make : X → Insertion) (found : Option X) (fallback : Insertion)
+    → ((x : X) → PutsLines (make x)) → PutsLines fallback → PutsLines (option_map_or make found fallback)
+by_option make None fallback each ended = ended
+by_option make (Some x) fallback each ended = each x
 
 module _ (pieces : List Piece) (records : List (Range ℕ)) (sets : List Set_) where
   at_end-ended : (new : List Piece) → AreEnded new → PutsLines (at_end pieces new)

@@ -57,10 +57,12 @@ pub enum Fault {
     StoreFailed,
     #[error("bad usage")]
     BadUsage,
+    #[error("batch line {line}: not an edit")]
+    BadBatch { line: usize },
 }
 
 impl Fault {
-    /// The number of the refusal, from 1 to 24.
+    /// The number of the refusal, from 1 to 25.
     pub fn number(&self) -> u8
         ensures { result ≡ number_of self.now }
     {
@@ -89,6 +91,7 @@ impl Fault {
             Fault::Drifted => 22,
             Fault::StoreFailed => 23,
             Fault::BadUsage => 24,
+            Fault::BadBatch { .. } => 25,
         }
     }
 }

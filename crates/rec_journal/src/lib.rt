@@ -9,13 +9,14 @@ mod laws;
 mod patch;
 mod plan;
 
-pub use event::Tool;
 pub use event::event_laws::{events_are_bounded, one_spelling};
+pub use event::{EditStep, Tool};
 pub use hashed::Hashed;
 pub use history::History;
 pub use history::history_laws::{one_opening, outside_texts_drift};
 pub use history::steps::{Step, Steps};
 pub use laws::{edits_lead_to_one_text, leads_to_one_text, moves_are_converse};
+pub use patch::edit_steps::EditSteps;
 pub use patch::{Direction, Hunk, Patch};
-pub use plan::{Plan, plan_edit, plan_move, plan_redo, plan_undo};
+pub use plan::{Plan, plan_batch, plan_edit, plan_move, plan_redo, plan_undo};
 pub use rec_text::{Bytes, Fault};

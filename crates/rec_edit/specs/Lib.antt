@@ -7,5 +7,6 @@ pub mod Wording
 pub mod Automatic
 pub mod Outcome
 pub mod Effect
+pub mod Batch
 -- what serves proofs
 pub mod proving

@@ -16,7 +16,7 @@ use Rattle.rec_journal.specs.declared.event.Event.TheVariants.{Edited as Revised
 use Rattle.rec_journal.specs.declared.event.Revision.{Revision}
 use Rattle.rec_journal.specs.Bound.{most_bytes}
 use Rattle.rec_journal.specs.Event.{IsEditInRange, spelling}
-use Rattle.rec_journal.specs.Revisions.{hunks_of as hunks_in}
+use Rattle.rec_journal.specs.Revisions.{hunks_of as hunks_in, is_batch}
 use Rattle.rec_select.specs.Selection.{Filter, all, by_expression, at_places, with_text, IsSelection}
 use Rattle.rec_edit.specs.declared.outcome.Edited.{Edited}
 use Rattle.rec_edit.specs.Task.{Wanted, Task, insert, replace, delete, comment_out, set, auto_fill}
@@ -154,13 +154,13 @@ abbrev pub UnruledEditsAreSound : Type 0
 UnruledEditsAreSound = (pieces : List Piece) (schema : Described) (force : Bool) (task : Task) (step : Step) → AreElementsOf pieces (text_of pieces) → PutsNoDescriptorIn task
     → IsSchema pieces (Ok schema) → length schema.sets ≡ 1 → IsStep pieces schema force task (Ok step) → IsSound (edited_text step.script) (Ok tt)
 
--- The script has the elements of the text and those of the edited one, and the hunks are its changes; an event with these
--- hunks has at most 512 bytes, 64 for each hunk, and 4 for each byte that they take out or put in.
+-- The script has the elements of the text and those of the edited one, and the hunks are its changes; an event of an edit
+-- by one tool with these hunks has at most 512 bytes, 64 for each hunk, and 4 for each byte that they take out or put in.
 pub record IsToldByHunks (pieces : List Piece) (script : List Part) : Type 0 where
   pub old : old_pieces script ≡ pieces
   pub new : AreElementsOf (new_pieces script) (edited_text script)
   pub changes : AreChangesOf script (hunks_of script)
-  pub bounded : (event : Revision) → IsEditInRange event → hunks_in event.steps ≡ hunks_of script
+  pub bounded : (event : Revision) → IsEditInRange event → is_batch event.tool ≡ false → hunks_in event.steps ≡ hunks_of script
       → length (spelling (Revised event)) ≤ most_bytes (hunks_of script)
 
 -- the script of each edit is told so

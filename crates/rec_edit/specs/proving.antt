@@ -9,3 +9,4 @@ pub mod Causes
 pub mod Sites
 pub mod Filling
 pub mod Files
+pub mod Batches

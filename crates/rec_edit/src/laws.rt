@@ -1,9 +1,15 @@
 //! Laws of the definitions, which no function computes.
 ghost use Rattle.rec_edit.specs.Outcome.{ChangedAreCounted, HunksAreChanges, OneOutcome, UnruledEditsAreSound};
+ghost use Rattle.rec_edit.specs.Batch.{OneBatch};
 
 /// An edit has one outcome, whichever way the patterns of its text were built.
 pub fn one_outcome()
     ensures { OneOutcome }
+{}
+
+/// A batch has one outcome, whichever way the patterns of its texts were built.
+pub fn one_batch()
+    ensures { OneBatch }
 {}
 
 /// An edit that puts no descriptor into a text without one breaks no rule, so what it makes needn't be read and checked.

@@ -3,6 +3,7 @@
 #![tactic(auto)]
 
 mod automatic;
+mod batches;
 mod chosen;
 mod insertion;
 mod laws;
@@ -13,7 +14,10 @@ mod script;
 mod sound;
 mod wording;
 
-pub use laws::{changed_are_counted, hunks_are_changes, one_outcome, unruled_edits_are_sound};
+pub use batches::{BatchEdited, batch};
+pub use laws::{
+    changed_are_counted, hunks_are_changes, one_batch, one_outcome, unruled_edits_are_sound,
+};
 pub use outcome::{Edited, edit};
 pub use rec_check::Schema;
 pub use rec_journal::{Patch, Tool};

@@ -144,7 +144,7 @@ fn set(
 }
 
 /// The edited text may break rules.
-fn made(alloc: Global, file: &RecFile, edit: &Edit, force: bool) -> Result<Edited, Fault>
+pub(crate) fn made(alloc: Global, file: &RecFile, edit: &Edit, force: bool) -> Result<Edited, Fault>
     ensures { UnlessMemory result (IsEditIn file.now force (task_of edit.now)) }
 {
     match edit {

@@ -85,7 +85,7 @@ module _ (P : Set_ → Type 0) where
   of_set_of_type kind (t ∷ sets) s all is = of_either (is_of_type kind t) t s (find (is_of_type kind) sets) all.0 (of_set_of_type kind sets s all.1) is
 
   -- what holds of all sets holds of the one that is selected from
-  of_set_for : (kind : Option (List ℕ)) (sets : List Set_) (s : Set_) → AllByRecursion P sets → set_for kind sets ≡ Ok s → P s
+  pub of_set_for : (kind : Option (List ℕ)) (sets : List Set_) (s : Set_) → AllByRecursion P sets → set_for kind sets ≡ Ok s → P s
   of_set_for None sets s all is = of_set_without_type sets s all is
   of_set_for (Some kind) sets s all is = of_set_of_type kind sets s all is
 

@@ -1,3 +1,4 @@
 mod EditExamples
 mod InsertExamples
 pub mod WordingExamples
+pub mod BatchExamples

@@ -4,3 +4,5 @@ pub mod CountedLemmas
 pub mod UnruledLemmas
 pub mod EditLemmas
 pub mod AnswerLemmas
+pub mod BatchLemmas
+pub mod OneBatchLemmas

@@ -68,7 +68,7 @@ HasOneBut-of step has_one one other is is_too _ _ = has_one one other is is_too
 pub HasOne-same : {A : Type 0} (outcome : Result A Fault) → HasOne (λ answer. answer ≡ outcome)
 HasOne-same outcome one other is is_too = is ∙ sym is_too
 
-refused_too : {A B : Type 0} (answer : Result B Fault) (fault : Fault) → answer ≡ Err fault → answer ≢ Err BadPattern
+pub refused_too : {A B : Type 0} (answer : Result B Fault) (fault : Fault) → answer ≡ Err fault → answer ≢ Err BadPattern
     → ◌≢◌ {A = Result A Fault} (Err fault) (Err BadPattern)
 refused_too answer fault e built k = built (e ∙ ap Err (same_fault fault BadPattern k))
 
@@ -170,10 +170,10 @@ MayBe (Err fault) = IsEditRefusal fault
 abbrev pub RefusesSo : {A : Type 0} → (Result A Fault → Type 0) → Type 0
 RefusesSo {A} step = (answer : Result A Fault) → step answer → MayBe answer
 
-RefusesSo-same : {A : Type 0} (outcome : Result A Fault) → MayBe outcome → RefusesSo (λ answer. answer ≡ outcome)
+pub RefusesSo-same : {A : Type 0} (outcome : Result A Fault) → MayBe outcome → RefusesSo (λ answer. answer ≡ outcome)
 RefusesSo-same outcome may answer is = subst MayBe (sym is) may
 
-RefusesSo-Then : {A B : Type 0} (first : Result A Fault → Type 0) (next : A → Result B Fault → Type 0) → RefusesSo first → ((a : A) → RefusesSo (next a)) → RefusesSo (Then first next)
+pub RefusesSo-Then : {A B : Type 0} (first : Result A Fault → Type 0) (next : A → Result B Fault → Type 0) → RefusesSo first → ((a : A) → RefusesSo (next a)) → RefusesSo (Then first next)
 RefusesSo-Then {B = B} first next first_so next_so answer (inl (fault, is, e)) = subst (λ r. MayBe {A = B} r) (sym e) (first_so (Err fault) is)
 RefusesSo-Then first next first_so next_so answer (inr (a, is, h)) = next_so a answer h
 
@@ -336,7 +336,7 @@ MayBe-none_of [] = tt
 MayBe-none_of (violation ∷ violations) = tt
 
 -- where the descriptors are sound, only a pattern is refused
-schema_refusal : (pieces : List Piece) (same : Described) → IsSchema pieces (Ok same) → (fault : Fault) → IsSchema pieces (Err fault) → IsEditRefusal fault
+pub schema_refusal : (pieces : List Piece) (same : Described) → IsSchema pieces (Ok same) → (fault : Fault) → IsSchema pieces (Err fault) → IsEditRefusal fault
 schema_refusal pieces same is BadPattern is_too = tt
 schema_refusal pieces same is (BadDescriptor line) is_too = absurd (one_schema pieces (Ok same) (Err (BadDescriptor line)) is is_too (λ e. cc) (λ e. cc))
 schema_refusal pieces same is (Unsupported line) is_too = absurd (one_schema pieces (Ok same) (Err (Unsupported line)) is is_too (λ e. cc) (λ e. cc))

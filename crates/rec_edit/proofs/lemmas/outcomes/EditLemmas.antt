@@ -9,7 +9,8 @@ use Rattle.std.specs.declared.ops.Range.{Range}
 use Rattle.rec_text.specs.Elements.{Piece, IsElement, text_of, AreElementsOf}
 use Rattle.rec_journal.specs.declared.event.Event.TheVariants.{Edited as Revised}
 use Rattle.rec_journal.specs.declared.patch.Hunk.{Hunk}
-use Rattle.rec_journal.specs.Bound.{most_bytes}
+use Rattle.rec_journal.specs.Bound.{most_bytes, most_of_batch}
+use Rattle.rec_journal.specs.Revisions.{hunks_of as hunks_in}
 use Rattle.rec_journal.specs.Event.{spelling}
 use Rattle.rec_edit.specs.Outcome.{HunksAreChanges, AreChosen, AreRemovable, Step, step_of, IsStep, IsSound, IsSoundUnlessForced, edited_by, IsOutcome, IsEditRefusal, PutsNoDescriptorIn}
 use Rattle.rec_edit.specs.Script.{Part, Layout, closed, putting, changing, parts_from, script_of, is_kept, old_pieces, new_pieces, edited_text, changes_from, joining, joined, real_changes, hunks_of, as_one, AreInTurn, AreChangesOf, TakesWhole}
@@ -266,7 +267,8 @@ hunks_are_changes pieces schema force task step elements is_schema is =
       old = old;
       new = told.read;
       changes = changes_of_script step.script (full_parts step.script (subst (AllByRecursion IsElement) (sym old) elements.well_formed) told.read.well_formed some);
-      bounded = λ event fits same. subst (λ hunks. length (spelling (Revised event)) ≤ most_bytes hunks) same (events_are_bounded (Revised event) fits);
+      bounded = λ event fits one same. subst (λ hunks. length (spelling (Revised event)) ≤ most_bytes hunks) same
+          (subst (λ batch. length (spelling (Revised event)) ≤ (if batch then most_of_batch event.steps else most_bytes (hunks_in event.steps))) one (events_are_bounded (Revised event) fits));
     }
 
 -- ---- what an edit makes of a text, by its kind, and the outcome that it comes to
@@ -370,7 +372,7 @@ module _ (pieces : List Piece) (schema : Described) (task : Task) where
 -- ---- what follows from the outcome
 
 -- memory is one of them
-fault_is : (fault : Fault) → IsMemoryOr fault (IsEditRefusal fault) → IsEditRefusal fault
+pub fault_is : (fault : Fault) → IsMemoryOr fault (IsEditRefusal fault) → IsEditRefusal fault
 fault_is OutOfMemory is = tt
 fault_is _ is = is
 

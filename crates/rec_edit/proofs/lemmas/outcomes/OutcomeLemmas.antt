@@ -389,12 +389,12 @@ AreOne-step_of pieces sets rules others force (set wanted list action) alike =
     HasOne-Then _ _ (HasOne-items action list) (λ items. HasOne-Then _ _ (HasOne-chosen pieces sets wanted) (λ _. HasOne-same _))
 AreOne-step_of pieces sets rules others force auto_fill alike = AreOne-auto_fill pieces sets rules others alike
 
-AreOne-step : (pieces : List Piece) (schema same : Described) (force : Bool) (task : Task) → AreSameSchemas (Ok schema) (Ok same)
+pub AreOne-step : (pieces : List Piece) (schema same : Described) (force : Bool) (task : Task) → AreSameSchemas (Ok schema) (Ok same)
     → AreOne (IsStep pieces schema force task) (IsStep pieces same force task)
 AreOne-step pieces schema same force task (sets, rules) =
     subst (λ ss. AreOne (IsStep pieces schema force task) (IsStep pieces (ruled ss same.rules) force task)) sets (AreOne-step_of pieces schema.sets schema.rules same.rules force task rules)
 
-HasOneBut-sound : (force : Bool) (text : List ℕ) → HasOneBut (IsSoundUnlessForced force text)
+pub HasOneBut-sound : (force : Bool) (text : List ℕ) → HasOneBut (IsSoundUnlessForced force text)
 HasOneBut-sound true text = HasOneBut-of _ (HasOne-same _)
 HasOneBut-sound false text = HasOneBut-before (AreViolationsOf text) _ (one_check text) (λ found. HasOne-same _)
 

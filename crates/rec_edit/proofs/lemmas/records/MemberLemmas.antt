@@ -1,5 +1,5 @@
 -- The records that a selection takes, their ranges, and the sets that they belong to.
-use Rattle.std.proofs.Common.{◌≡◌, ◌∙◌, ℕ, zero, suc, ◌<◌, ◌≤◌, Bool, true, false, ◌==◌, ◌&&◌, ◌||◌, List, [], ◌∷◌, ◌++◌, Option, Some, None, length, get_or, refl, ap, ap₂, sym, subst, arith, filter_map, slice_get, ◌+◌, take, drop, ◌-◌, cond, Result, Ok, Err, replicate, inl, inr}
+use Rattle.std.proofs.Common.{◌≡◌, ◌∙◌, ℕ, zero, suc, ◌<◌, ◌≤◌, Bool, true, false, ◌==◌, ◌&&◌, ◌||◌, List, [], ◌∷◌, ◌++◌, Option, Some, None, length, get_or, refl, ap, ap₂, sym, subst, arith, filter_map, slice_get, ◌+◌, take, drop, ◌-◌, Ok, replicate, inl, inr}
 use Rattle.std.specs.Prelude.{AllPairs, flat_map, if◌then◌else◌, Contains, find, nat_lt}
 use Rattle.std.specs.List.{AllByRecursion, list_any, cons_option}
 use Rattle.std.specs.Option.{option_map_or, is_some}
@@ -16,12 +16,11 @@ use Rattle.rec_text.specs.Elements.{Piece}
 use Rattle.rec_text.specs.Records.{AreAscending, AreRecords, IsRecord}
 use Rattle.rec_select.specs.Printing.{AreIndexes}
 use Rattle.rec_edit.specs.proving.Drafts.{AreRanges}
-use Rattle.rec_text.specs.declared.fault.Fault.{Fault}
-use Rattle.rec_text.specs.declared.fault.Fault.TheVariants.{TypeNeeded, NoSuchType}
 use Rattle.rec_check.specs.declared.set.Set_.{Set_}
 use Rattle.rec_check.specs.Schemas.{Described, IsDescribed}
 use Rattle.rec_check.specs.Sets.{is_of_type, named_in, AreFrom, BeginsAt}
-use Rattle.rec_select.specs.Selection.{Filter, only_set, has_members, set_without_type, set_of_type, set_for, IsSelection}
+use Rattle.rec_select.specs.Selection.{Filter, IsSelection}
+use Rattle.rec_select.proofs.SelectionLemmas.{of_set_for}
 use Rattle.rec_edit.specs.Insertions.{last_of}
 use Rattle.rec_text.proofs.lemmas.ListLemmas.{AllByRecursion-get_or, AllByRecursion-weaker, Contains-head, Contains-later, same_bytes}
 use Rattle.rec_text.proofs.lemmas.records.RecordLemmas.{OneListOfRecords-holds, one_list_of_records}
@@ -239,46 +238,6 @@ pub chosen_found : (records shown found : List (Range ℕ)) (selected indexes : 
 chosen_found records shown found selected indexes is same listed = is ∙ ap (λ rs. filter_map (slice_get rs) indexes) same ∙ ap (filter_map (slice_get records)) listed
 
 -- ---- the records that a selection takes: each once, and none of them a descriptor
-
--- ---- one of the sets is selected from
-
-abbrev set_or_none : Option Set_ → Result Set_ Fault
-set_or_none found = elim found [ None ↦ Err NoSuchType | Some s ↦ Ok s ]
-
-same_set : (s t : Set_) → ◌≡◌ {A = Result Set_ Fault} (Ok s) (Ok t) → s ≡ t
-same_set s t e = cc
-
-no_set : (s : Set_) (fault : Fault) → ◌≡◌ {A = Result Set_ Fault} (Err fault) (Ok s) → ⊥
-no_set s fault e = cc
-
-module _ (P : Set_ → Type 0) where
-  of_found : (s t : Set_) → P s → ◌≡◌ {A = Result Set_ Fault} (Ok s) (Ok t) → P t
-  of_found s t holds e = subst P (same_set s t e) holds
-
-  of_only_set : (untyped : Set_) (typed : List Set_) (s : Set_) → P untyped → AllByRecursion P typed → only_set untyped typed ≡ Ok s → P s
-  of_only_set untyped [] s first all is = of_found untyped s first is
-  of_only_set untyped (t ∷ []) s first all is = of_found t s all.0 is
-  of_only_set untyped (t ∷ u ∷ typed) s first all is = absurd (no_set s TypeNeeded is)
-
-  of_set_without_type : (sets : List Set_) (s : Set_) → AllByRecursion P sets → set_without_type sets ≡ Ok s → P s
-  of_set_without_type [] s all is = absurd (no_set s TypeNeeded is)
-  of_set_without_type (untyped ∷ typed) s all is = elim (cases_Bool (has_members untyped)) [
-    | inl some ↦ of_found untyped s all.0 (rw some at is)
-    | inr none ↦ of_only_set untyped typed s all.0 all.1 (rw none at is)
-  ]
-
-  of_either : (own : Bool) (t s : Set_) (later : Option Set_) → P t → (set_or_none later ≡ Ok s → P s) → set_or_none (cond own (Some t) later) ≡ Ok s → P s
-  of_either true t s later here there is = of_found t s here is
-  of_either false t s later here there is = there is
-
-  of_set_of_type : (kind : List ℕ) (sets : List Set_) (s : Set_) → AllByRecursion P sets → set_of_type kind sets ≡ Ok s → P s
-  of_set_of_type kind [] s all is = absurd (no_set s NoSuchType is)
-  of_set_of_type kind (t ∷ sets) s all is = of_either (is_of_type kind t) t s (find (is_of_type kind) sets) all.0 (of_set_of_type kind sets s all.1) is
-
-  -- what holds of all sets holds of the one that is selected from
-  of_set_for : (kind : Option (List ℕ)) (sets : List Set_) (s : Set_) → AllByRecursion P sets → set_for kind sets ≡ Ok s → P s
-  of_set_for None sets s all is = of_set_without_type sets s all is
-  of_set_for (Some kind) sets s all is = of_set_of_type kind sets s all is
 
 -- ---- members name no type
 

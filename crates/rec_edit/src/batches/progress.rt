@@ -1,0 +1,81 @@
+//! What edits made so far, one after another.
+ghost use Rattle.std.specs.Prelude.{◌≡◌, ◌++◌, OnOk};
+ghost use Rattle.rec_edit.specs.Batch.{step_with};
+
+use crate::batches::BatchEdited;
+use crate::outcome::Edited;
+use rec_journal::{EditStep, EditSteps, Patch, Tool};
+use rec_text::Bytes;
+use std::alloc::{AllocError, Global};
+use std::marker::Model;
+
+/// The steps of the edits so far, the text after them, and how many records they changed.
+#[derive(Drop)]
+pub(crate) struct Progress {
+    steps: Vec<EditStep>,
+    text: Bytes,
+    changed: usize,
+}
+
+impl Model for Progress {
+    ghost use Rattle.rec_edit.specs.declared.batches.BatchEdited.{BatchEdited};
+
+    ghost Value = { BatchEdited };
+
+    ghost view = { λ p. record { steps = p.steps.items; text = p.text; changed = p.changed } };
+}
+
+/// Appends an edit as a step, if it changes something.
+fn append_step(steps: &mut Vec<EditStep>, tool: Tool, patch: Patch) -> Result<(), AllocError>
+    ensures { OnOk result (steps.new.items ≡ steps.old.items ++ step_with tool patch) }
+{
+    if patch.hunks().is_empty() {
+        return Ok(());
+    }
+    steps.push(EditStep { tool, patch })?;
+    Ok(())
+}
+
+impl Progress {
+    ghost use Rattle.std.specs.Prelude.{◌≡◌, OnOk};
+    ghost use Rattle.rec_edit.specs.proving.Batches.{after_edit, untouched};
+
+    /// No edit is made yet, of this text.
+    pub fn start(alloc: Global, text: Bytes) -> Progress
+        ensures { result ≡ untouched text }
+    {
+        Progress {
+            steps: Vec::new(alloc),
+            text,
+            changed: 0,
+        }
+    }
+
+    /// The text after the edits.
+    pub fn text(&self) -> &[u8]
+        ensures { result.now ≡ self.now.text }
+    {
+        self.text.as_slice()
+    }
+
+    /// Adds an edit of that text by a tool.
+    pub fn add(&mut self, tool: Tool, edited: Edited) -> Result<(), AllocError>
+        ensures { OnOk result (self.new ≡ after_edit self.old tool edited) }
+    {
+        append_step(&mut self.steps, tool, edited.patch)?;
+        self.text = edited.text;
+        self.changed = self.changed.saturating_add(edited.changed);
+        Ok(())
+    }
+
+    /// What the edits made, as one.
+    pub fn finish(self) -> BatchEdited
+        ensures { result ≡ self }
+    {
+        BatchEdited {
+            steps: EditSteps::from_vec(self.steps),
+            text: self.text,
+            changed: self.changed,
+        }
+    }
+}

@@ -194,24 +194,65 @@ alike_of ask wanted other is is_too = record {
   allowed_too = same_allowed ask wanted other is is_too;
 }
 
--- steps after the filter agree where they agree on each, and are the same for filters that are alike
-pub AgreeBut-filter : {B : Type 0} (ask : Ask) (next last : Filter → Result B Fault → Type 0)
-    → ((wanted other : Filter) → AreAlike wanted other → (r : Result B Fault) → next wanted r → next other r)
-    → ((wanted : Filter) → AgreeBut (next wanted) (last wanted)) → AgreeBut (Then (IsFilter ask) next) (Then (IsFilter ask) last)
-AgreeBut-filter ask next last same agree one other (inl (f, is, e)) (inl (g, is_too, k)) built built_too =
-    e ∙ ap Err (filter_fault ask f g is is_too (not_refused one f e built) (not_refused other g k built_too)) ∙ sym k
-AgreeBut-filter ask next last same agree one other (inl (f, is, e)) (inr (b, is_too, k)) built built_too =
-    absurd (filter_or_fault ask b f is_too is (not_refused one f e built))
-AgreeBut-filter ask next last same agree one other (inr (a, is, e)) (inl (g, is_too, k)) built built_too =
-    absurd (filter_or_fault ask a g is is_too (not_refused other g k built_too))
-AgreeBut-filter ask next last same agree one other (inr (a, is, e)) (inr (b, is_too, k)) built built_too =
-    agree b one other (same a b (alike_of ask a b is is_too) one e) k built built_too
+-- ---- answers that are alike
+
+-- the same refusal, or values that are alike
+abbrev pub AreLike : {A : Type 0} → (A → A → Type 0) → Result A Fault → Result A Fault → Type 0
+AreLike R (Ok a) (Ok b) = R a b
+AreLike R (Ok a) (Err fault) = ⊥
+AreLike R (Err fault) (Ok b) = ⊥
+AreLike R (Err fault) (Err other) = fault ≡ other
+
+-- two steps have answers that are alike, a refused pattern aside
+abbrev pub AgreeLike : {A : Type 0} → (A → A → Type 0) → (Result A Fault → Type 0) → (Result A Fault → Type 0) → Type 0
+AgreeLike {A} R step same =
+    (one other : Result A Fault) → step one → same other → one ≢ Err BadPattern → other ≢ Err BadPattern → AreLike R one other
+
+like_on : {A : Type 0} (R : A → A → Type 0) (one other like also : Result A Fault) → one ≡ like → other ≡ also → AreLike R like also → AreLike R one other
+like_on R one other like also e k alike = subst (λ x. AreLike R x other) (sym e) (subst (λ x. AreLike R like x) (sym k) alike)
+
+pub AgreeLike-value : {A : Type 0} (R : A → A → Type 0) (a b : A) → R a b → AgreeLike R (λ answer. answer ≡ Ok a) (λ answer. answer ≡ Ok b)
+AgreeLike-value R a b alike one other e k _ _ = like_on R one other (Ok a) (Ok b) e k alike
+
+-- steps that are alike, and later steps that are alike where their values are
+pub AgreeLike-Then : {A B : Type 0} (R : A → A → Type 0) (S : B → B → Type 0) (first same : Result A Fault → Type 0) (next last : A → Result B Fault → Type 0)
+    → AgreeLike R first same → ((a b : A) → R a b → AgreeLike S (next a) (last b)) → AgreeLike S (Then first next) (Then same last)
+AgreeLike-Then R S first same next last agree later one other (inl (f, is, e)) (inl (g, is_too, k)) built built_too =
+    like_on S one other (Err f) (Err g) e k (agree (Err f) (Err g) is is_too (refused_too one f e built) (refused_too other g k built_too))
+AgreeLike-Then R S first same next last agree later one other (inl (f, is, e)) (inr (b, is_too, k)) built built_too =
+    absurd (agree (Err f) (Ok b) is is_too (refused_too one f e built) (no_both b BadPattern))
+AgreeLike-Then R S first same next last agree later one other (inr (a, is, e)) (inl (g, is_too, k)) built built_too =
+    absurd (agree (Ok a) (Err g) is is_too (no_both a BadPattern) (refused_too other g k built_too))
+AgreeLike-Then R S first same next last agree later one other (inr (a, is, e)) (inr (b, is_too, k)) built built_too =
+    later a b (agree (Ok a) (Ok b) is is_too (no_both a BadPattern) (no_both b BadPattern)) one other e k built built_too
+
+-- steps that are alike, and later steps that agree where their values are alike
+pub AgreeBut-like : {A B : Type 0} (R : A → A → Type 0) (first same : Result A Fault → Type 0) (next last : A → Result B Fault → Type 0)
+    → AgreeLike R first same → ((a b : A) → R a b → AgreeBut (next a) (last b)) → AgreeBut (Then first next) (Then same last)
+AgreeBut-like R first same next last agree later one other (inl (f, is, e)) (inl (g, is_too, k)) built built_too =
+    e ∙ ap Err (agree (Err f) (Err g) is is_too (refused_too one f e built) (refused_too other g k built_too)) ∙ sym k
+AgreeBut-like R first same next last agree later one other (inl (f, is, e)) (inr (b, is_too, k)) built built_too =
+    absurd (agree (Err f) (Ok b) is is_too (refused_too one f e built) (no_both b BadPattern))
+AgreeBut-like R first same next last agree later one other (inr (a, is, e)) (inl (g, is_too, k)) built built_too =
+    absurd (agree (Ok a) (Err g) is is_too (no_both a BadPattern) (refused_too other g k built_too))
+AgreeBut-like R first same next last agree later one other (inr (a, is, e)) (inr (b, is_too, k)) built built_too =
+    later a b (agree (Ok a) (Ok b) is is_too (no_both a BadPattern) (no_both b BadPattern)) one other e k built built_too
+
+-- the filters that are asked for are alike
+pub AgreeLike-filter : (ask : Ask) → AgreeLike AreAlike (IsFilter ask) (IsFilter ask)
+AgreeLike-filter ask (Ok a) (Ok b) is is_too built built_too = alike_of ask a b is is_too
+AgreeLike-filter ask (Ok a) (Err g) is is_too built built_too = filter_or_fault ask a g is is_too (not_refused (Err g) g refl built_too)
+AgreeLike-filter ask (Err f) (Ok b) is is_too built built_too = filter_or_fault ask b f is_too is (not_refused (Err f) f refl built)
+AgreeLike-filter ask (Err f) (Err g) is is_too built built_too =
+    filter_fault ask f g is is_too (not_refused (Err f) f refl built) (not_refused (Err g) g refl built_too)
 
 -- a step after the filter has one answer
 pub HasOneBut-filter : {B : Type 0} (ask : Ask) (next : Filter → Result B Fault → Type 0)
     → ((wanted other : Filter) → AreAlike wanted other → (r : Result B Fault) → next wanted r → next other r)
     → ((wanted : Filter) → HasOneBut (next wanted)) → HasOneBut (Then (IsFilter ask) next)
-HasOneBut-filter ask next same next_one = AgreeBut-filter ask next next same next_one
+HasOneBut-filter ask next same next_one =
+    AgreeBut-like AreAlike (IsFilter ask) (IsFilter ask) next next (AgreeLike-filter ask)
+    (λ a b alike one other h k. next_one b one other (same a b alike one h) k)
 
 -- ---- the text
 

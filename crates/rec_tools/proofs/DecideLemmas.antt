@@ -4,62 +4,118 @@ use Rattle.std.specs.Prelude.{◌↔◌, IsTrue, MatchOption}
 use Rattle.rec_text.specs.declared.fault.Fault.{Fault}
 use Rattle.rec_text.specs.declared.fault.Fault.TheVariants.{DigestClash}
 use Rattle.rec_text.specs.Elements.{text_of}
-use Rattle.rec_text.specs.Faults.{IsMemoryOr}
+use Rattle.rec_text.specs.Faults.{IsMemoryOr, UnlessMemory}
 use Rattle.rec_journal.specs.declared.patch.Hunk.{Hunk}
 use Rattle.rec_journal.specs.declared.patch.Direction.{Direction}
-use Rattle.rec_journal.specs.declared.event.Pass.{Pass}
+use Rattle.rec_journal.specs.declared.event.EditStep.{EditStep}
 use Rattle.rec_journal.specs.declared.event.Revision.{Revision}
 use Rattle.rec_journal.specs.declared.event.Tool.{Tool}
+use Rattle.rec_journal.specs.declared.event.Tool.TheVariants.{Batch as ByBatch}
 use Rattle.rec_journal.specs.declared.plan.Plan.{Plan}
 use Rattle.rec_journal.specs.History.{Opened, Opens, IsOpening}
-use Rattle.rec_journal.specs.Revisions.{one_pass}
+use Rattle.rec_journal.specs.Patch.{Splices}
+use Rattle.rec_journal.specs.Revisions.{single_step, is_batch, LeadsBy}
 use Rattle.rec_journal.specs.Plans.{ShareDigest, IsEditPlan, IsMovePlan, after_edit_plan, after_move, edits_on, nothing_there}
 use Rattle.rec_journal.specs.Stops.{IsSafe}
 use Rattle.rec_journal.proofs.lemmas.histories.Countings.{Opens-digest}
 use Rattle.rec_edit.specs.declared.outcome.Edited.{Edited}
-use Rattle.rec_edit.specs.Task.{Task, tool_of}
+use Rattle.rec_edit.specs.declared.batches.BatchEdited.{BatchEdited}
+use Rattle.rec_edit.specs.Task.{Task, insert, replace, delete, comment_out, set, auto_fill, tool_of}
+use Rattle.rec_edit.specs.Batch.{IsBatchOutcome}
 use Rattle.rec_edit.specs.Outcome.{IsOutcome as IsOutcomeOf}
 use Rattle.rec_check.specs.DescribedTexts.{DescribedText, IsDescribedText}
+use Rattle.rec_tools.specs.declared.decision.Decision.{Decision}
+use Rattle.rec_tools.specs.declared.making.Made.{Made}
+use Rattle.rec_tools.specs.declared.making.Made.TheVariants.{One}
+use Rattle.rec_tools.specs.declared.request.Request.{Request}
+use Rattle.rec_tools.specs.declared.request.Request.TheVariants.{Insert, Replace, Delete, CommentOut, Set, AutoFill}
 use Rattle.rec_tools.specs.declared.request.Reply.{Reply}
 use Rattle.rec_tools.specs.declared.request.Reply.TheVariants.{Edited as EditedReply, Unchanged}
 use Rattle.rec_tools.specs.Home.{Contents}
 use Rattle.rec_tools.specs.Steps.{Then}
-use Rattle.rec_tools.specs.Requests.{Asked, looking, listing, editing, moving}
-use Rattle.rec_tools.specs.Outcomes.{Outcome, IsMade, IsEditOutcome, IsOutcome, staying, putting, reply_of}
-use Rattle.rec_tools.specs.proving.Editing.{IsEditing, IsEditOf, TellsChanges, IsChange}
+use Rattle.rec_tools.specs.Batches.{AreEdits}
+use Rattle.rec_tools.specs.Requests.{Edits, one_edit, batch_of, Asked, looking, listing, editing, moving, asked_of, IsTaskOf, AreTasks, IsOneEdit, IsBatch}
+use Rattle.rec_tools.specs.Outcomes.{Outcome, by_one, IsMade, IsEditOutcome, IsOutcome, Decides, staying, putting, outcome_of, reply_of}
+use Rattle.rec_tools.specs.proving.Editing.{IsEditing, IsEditOf, IsOne, force_of, IsMadeBy, IsPut, told_by, TellsChanges, IsChange}
 use Rattle.rec_tools.proofs.FaultLemmas.{memory_or_weaker, ok_is_no_err, same_value}
 
 -- ---- two texts that share a digest
 
 -- a plan that is refused, is so where the texts share a digest
-clash-digest : (file journal text : List ℕ) (o : Opened) (tool : Tool) (steps : List Pass) → Opens file journal o → IsEditPlan o journal tool steps text (Err DigestClash) → ShareDigest file text
+clash-digest : (file journal text : List ℕ) (o : Opened) (tool : Tool) (steps : List EditStep) → Opens file journal o → IsEditPlan o journal tool steps text (Err DigestClash) → ShareDigest file text
 clash-digest file journal text o tool steps opens same = sym (Opens-digest file journal o opens) ∙ same
 
-only-clash : (o : Opened) (journal : List ℕ) (tool : Tool) (steps : List Pass) (text : List ℕ) (fault : Fault) → IsEditPlan o journal tool steps text (Err fault) → fault ≡ DigestClash
+only-clash : (o : Opened) (journal : List ℕ) (tool : Tool) (steps : List EditStep) (text : List ℕ) (fault : Fault) → IsEditPlan o journal tool steps text (Err fault) → fault ≡ DigestClash
 only-clash o journal tool steps text DigestClash h = refl
 only-clash o journal tool steps text _ h = absurd h
 
 true_is_not_false : ◌≡◌ {A = Bool} true false → ⊥
 true_is_not_false e = cc
 
--- an edit with a hunk changes the text
-pub differs : (b : Bool) (patch : List Hunk) (text file : List ℕ) → IsTrue b ↔ (patch ≡ []) → b ≡ false → (patch ≡ []) ↔ (text ≡ file) → text ≢ file
-differs b patch text file idle is_false same e = true_is_not_false (sym (idle.1 (same.1 e)) ∙ is_false)
+-- where the two texts aren't found equal, they differ
+pub differs : (b : Bool) (text file : List ℕ) → IsTrue b ↔ (text ≡ file) → b ≡ false → text ≢ file
+differs b text file idle is_false same = true_is_not_false (sym (idle.1 same) ∙ is_false)
 
--- ---- an edit of a text
+-- ---- one edit of a text
 
-module _ (asked : Asked) (text : DescribedText) where
-  pub edit-no_task : (fault : Fault) → IsMemoryOr fault (IsEditOf asked (Err fault)) → IsMemoryOr fault (IsMade (IsEditOf asked) text (Err fault))
-  edit-no_task fault h = memory_or_weaker fault _ _ (λ none. inl (fault, none, refl)) h
+-- the one edit of a request is what it asks for
+told_one : (request : Request) → IsOne request → (r : Result (Edits × Bool) Fault) → IsOneEdit request (force_of request) r → IsEditOf (asked_of request) r
+told_one (Insert kind fresh auto force) one r h = h
+told_one (Replace pick fresh force) one r h = h
+told_one (Delete pick force) one r h = h
+told_one (CommentOut pick force) one r h = h
+told_one (Set pick list action force) one r h = h
+told_one (AutoFill force) one r h = h
+told_one _ one r h = absurd one
 
-  module _ (told : Task × Bool) (is : IsEditOf asked (Ok told)) where
-    pub edit-refused : (fault : Fault) → IsMemoryOr fault (IsOutcomeOf text.pieces text.schema told.1 told.0 (Err fault))
-        → IsMemoryOr fault (IsMade (IsEditOf asked) text (Err fault))
-    edit-refused fault h = memory_or_weaker fault _ _ (λ none. inr (told, is, inl (fault, none, refl))) h
+-- no task is done by a batch
+by_one_tool : (task : Task) → is_batch (tool_of task) ≡ false
+by_one_tool (insert kind fresh auto) = refl
+by_one_tool (replace wanted fresh) = refl
+by_one_tool (delete wanted) = refl
+by_one_tool (comment_out wanted) = refl
+by_one_tool (set wanted list action) = refl
+by_one_tool auto_fill = refl
 
-    pub edit-made : (edited : Edited) → IsOutcomeOf text.pieces text.schema told.1 told.0 (Ok edited) → (tool : Tool) → tool ≡ tool_of told.0
-        → IsMade (IsEditOf asked) text (Ok (tool, edited))
-    edit-made edited made tool by = inr (told, is, inr (edited, made, ap (λ t. Ok (t, edited)) by))
+module _ (request : Request) (one : IsOne request) (text : DescribedText) where
+  pub edit-no_task : (fault : Fault) → IsMemoryOr fault (IsTaskOf request (Err fault)) → IsMemoryOr fault (IsMadeBy (asked_of request) text (Err fault))
+  edit-no_task fault h =
+      memory_or_weaker fault _ _ (λ none. inl (fault, told_one request one (Err fault) (inl (fault, none, refl)), refl)) h
+
+  module _ (task : Task) (is : IsTaskOf request (Ok task)) (force : Bool) (forced : force ≡ force_of request) where
+    told : IsEditOf (asked_of request) (Ok (one_edit task, force))
+    told = told_one request one (Ok (one_edit task, force)) (inr (task, is, ap (λ f. Ok (one_edit task, f)) forced))
+
+    pub edit-refused : (fault : Fault) → IsMemoryOr fault (IsOutcomeOf text.pieces text.schema force task (Err fault))
+        → IsMemoryOr fault (IsMadeBy (asked_of request) text (Err fault))
+    edit-refused fault h = memory_or_weaker fault _ _ (λ none. inr ((one_edit task, force), told, inl (fault, none, refl))) h
+
+    module _ (edited : Edited) (tool : Tool) (by : tool ≡ tool_of task) where
+      pub edit-made : IsOutcomeOf text.pieces text.schema force task (Ok edited) → IsMadeBy (asked_of request) text (Ok (One tool edited))
+      edit-made made = inr ((one_edit task, force), told, inr (edited, made, ap (λ t. Ok (t, by_one t edited)) by))
+
+      pub edit-tells : (before : List ℕ) → Splices edited.patch before edited.text → TellsChanges before (One tool edited)
+      edit-tells before leads = record { leads = (edited.text, leads, refl); done = ap is_batch by ∙ by_one_tool task }
+
+-- ---- a batch of edits of a text
+
+module _ (text : List ℕ) (force : Bool) (described : DescribedText) where
+  pub batch-no_edits : (fault : Fault) → IsMemoryOr fault (AreEdits text (Err fault)) → IsMemoryOr fault (IsMade (IsBatch text force) described (Err fault))
+  batch-no_edits fault h = memory_or_weaker fault _ _ (λ none. inl (fault, inl (fault, none, refl), refl)) h
+
+  module _ (requests : List Request) (are : AreEdits text (Ok requests)) where
+    pub batch-no_tasks : (fault : Fault) → IsMemoryOr fault (AreTasks requests (Err fault)) → IsMemoryOr fault (IsMade (IsBatch text force) described (Err fault))
+    batch-no_tasks fault h = memory_or_weaker fault _ _ (λ none. inl (fault, inr (requests, are, inl (fault, none, refl)), refl)) h
+
+    module _ (tasks : List Task) (told : AreTasks requests (Ok tasks)) where
+      pub batch-refused : (fault : Fault) → IsMemoryOr fault (IsBatchOutcome force tasks (text_of described.pieces) (Err fault))
+          → IsMemoryOr fault (IsMade (IsBatch text force) described (Err fault))
+      batch-refused fault h =
+          memory_or_weaker fault _ _ (λ none. inr ((batch_of tasks, force), inr (requests, are, inr (tasks, told, refl)), inl (fault, none, refl))) h
+
+      pub batch-made : (made : BatchEdited) → IsBatchOutcome force tasks (text_of described.pieces) (Ok made)
+          → IsMade (IsBatch text force) described (Ok (ByBatch, made))
+      batch-made made is = inr ((batch_of tasks, force), inr (requests, are, inr (tasks, told, refl)), inr (made, is, refl))
 
 -- ---- what was read of the text of a file was read of the file
 
@@ -79,8 +135,8 @@ module _ (text file : List ℕ) (same : text ≡ file) where
       of_read (inr (pieces, elements, inl (fault, refused, e))) = ok_is_no_err read fault _ (sym e)
       of_read (inr (pieces, elements, inr (schema, is, e))) = ap (λ (t : DescribedText). text_of t.pieces) (same_value read _ e) ∙ elements.joined
 
-    pub tells_on_file : (edited : Edited) → TellsChanges (text_of read.pieces) edited → TellsChanges file edited
-    tells_on_file edited tells = subst (λ t. TellsChanges t edited) (read_text ∙ same) tells
+    pub tells_on_file : (made : Made) → TellsChanges (text_of read.pieces) made → TellsChanges file made
+    tells_on_file made tells = subst (λ t. TellsChanges t made) (read_text ∙ same) tells
 
 -- ---- an edit of a file with its history
 
@@ -112,35 +168,51 @@ module _ (file journal : List ℕ) (asked : Asked) (edits : IsEditing asked) whe
         → IsMemoryOr fault (IsOutcome on asked (Err fault))
     change-no_edit o opens fault h = memory_or_weaker fault _ _ (λ none. by_steps (Err fault) (inr (text, is, inr (o, opens, inl (fault, none, refl))))) h
 
-  module _ (o : Opened) (tool : Tool) (edited : Edited) (change : IsChange file journal asked (o, tool, edited)) where
+  module _ (o : Opened) (made : Made) (change : IsChange file journal asked (o, made)) where
     -- what becomes of the edit
-    edit-ends : (r : Result Outcome Fault) → IsEditOutcome o on tool edited r → IsOutcome on asked r
-    edit-ends r h = by_steps r (inr (change.text, change.is, inr (o, change.opens, inr ((tool, edited), change.made, h))))
+    edit-ends : (r : Result Outcome Fault) → IsEditOutcome o on (told_by made).0 (told_by made).1 r → IsOutcome on asked r
+    edit-ends r h = by_steps r (inr (change.text, change.is, inr (o, change.opens, inr (told_by made, change.made, h))))
 
-    pub edit-unchanged : edited.text ≡ file → IsOutcome on asked (Ok (staying Unchanged))
+    pub edit-unchanged : ((told_by made).1).text ≡ file → IsOutcome on asked (Ok (staying Unchanged))
     edit-unchanged same = edit-ends (Ok (staying Unchanged)) (inl (same, refl))
 
-    module _ (other : edited.text ≢ file) where
-      clashing : (fault : Fault) → IsEditPlan o journal tool (one_pass tool edited.patch) edited.text (Err fault) → IsOutcome on asked (Err fault)
-      clashing fault refused =
-          let e = only-clash o journal tool (one_pass tool edited.patch) edited.text fault refused in
-          edit-ends (Err fault) (
-            other,
-            e,
-            clash-digest file journal edited.text o tool (one_pass tool edited.patch) change.opens
-                (subst (λ f. IsEditPlan o journal tool (one_pass tool edited.patch) edited.text (Err f)) e refused),
-          )
+    pub edit-put : (r : Result Decision Fault) → UnlessMemory r (IsPut o file journal made) → UnlessMemory r (Decides file journal asked)
+    edit-put (Ok decision) h = edit-ends (Ok (outcome_of decision)) h
+    edit-put (Err fault) h = memory_or_weaker fault _ _ (edit-ends (Err fault)) h
 
-      pub edit-clash : (fault : Fault) → IsMemoryOr fault (IsEditPlan o journal tool (one_pass tool edited.patch) edited.text (Err fault))
-          → IsMemoryOr fault (IsOutcome on asked (Err fault))
-      edit-clash fault h = memory_or_weaker fault _ _ (clashing fault) h
+-- ---- the plan of an edit
 
-      pub edit-planned : (plan : Plan) → IsEditPlan o journal tool (one_pass tool edited.patch) edited.text (Ok plan)
-          → IsSafe file journal o (after_edit_plan o journal tool (one_pass tool edited.patch) edited.text) plan
-          → IsOutcome on asked (Ok (putting plan (EditedReply edited.changed)))
-      edit-planned plan planned safe =
-          edit-ends (Ok (putting plan (EditedReply edited.changed)))
-          (inr (other, (plan, record { leads = change.tells.leads; planned = planned; safe = safe }, refl)))
+-- steps that lead to another text are there, and so are hunks
+pub some_steps : (steps : List EditStep) (file text : List ℕ) → LeadsBy steps file text → text ≢ file → steps ≢ []
+some_steps steps file text leads other none = other (sym (subst (λ ss. LeadsBy ss file text) none leads))
+
+pub some_hunks : (hunks : List Hunk) (file text : List ℕ) → Splices hunks file text → text ≢ file → hunks ≢ []
+some_hunks hunks file text leads other none = other (sym (subst (λ hs. Splices hs file text) none leads))
+
+-- the patch of one step leads where the step does
+pub one_leads : (tool : Tool) (edited : Edited) (file : List ℕ) → LeadsBy (single_step tool edited.patch) file edited.text → Splices edited.patch file edited.text
+one_leads tool edited file (between, leads, same) = subst (λ t. Splices edited.patch file t) same leads
+
+module _ (o : Opened) (file journal : List ℕ) (opens : IsOpening file journal (Ok o)) (tool : Tool) (made : BatchEdited) (other : made.text ≢ file) where
+  abbrev contents_of : Contents
+  contents_of = record { file = file; journal = journal }
+
+  clashing : (fault : Fault) → IsEditPlan o journal tool made.steps made.text (Err fault) → IsEditOutcome o contents_of tool made (Err fault)
+  clashing fault refused =
+      let e = only-clash o journal tool made.steps made.text fault refused in (
+        other,
+        e,
+        clash-digest file journal made.text o tool made.steps opens (subst (λ f. IsEditPlan o journal tool made.steps made.text (Err f)) e refused),
+      )
+
+  pub put-clash : (fault : Fault) → IsMemoryOr fault (IsEditPlan o journal tool made.steps made.text (Err fault))
+      → IsMemoryOr fault (IsEditOutcome o contents_of tool made (Err fault))
+  put-clash fault h = memory_or_weaker fault _ _ (clashing fault) h
+
+  pub put-planned : (plan : Plan) → LeadsBy made.steps file made.text → IsEditPlan o journal tool made.steps made.text (Ok plan)
+      → IsSafe file journal o (after_edit_plan o journal tool made.steps made.text) plan
+      → IsEditOutcome o contents_of tool made (Ok (putting plan (EditedReply made.changed)))
+  put-planned plan leads planned safe = inr (other, (plan, record { leads = leads; planned = planned; safe = safe }, refl))
 
 -- ---- a move
 

@@ -1,41 +1,51 @@
 -- An edit has one outcome, also that of the records that a pick selects, and it is never refused because a store failed.
 use Rattle.std.proofs.Common.{◌≡◌, ℕ, Bool, true, false, Option, Some, None, List, [], ◌∷◌, Result, Ok, Err, refl, subst, ◌∙◌}
-use Rattle.std.specs.Prelude.{position, ◌==◌, ◌++◌, map, filter_map, slice_get}
+use Rattle.std.specs.List.{AllZip}
+use Rattle.std.specs.Prelude.{◌+◌, position, ◌==◌, ◌++◌, map, filter_map, slice_get}
 use Rattle.std.specs.Option.{option_map_or}
 use Rattle.std.specs.declared.ops.Range.{Range}
 use Rattle.rec_text.specs.declared.fault.Fault.{Fault}
 use Rattle.rec_text.specs.declared.fault.Fault.TheVariants.{BadFieldList, StoreFailed}
 use Rattle.rec_text.specs.declared.violations.Violation.{Violation}
-use Rattle.rec_text.specs.Elements.{Piece}
+use Rattle.rec_text.specs.Elements.{Piece, text_of}
 use Rattle.rec_text.specs.Records.{AreRecords}
 use Rattle.rec_sex.specs.declared.lists.field_list.Item.{Item}
 use Rattle.rec_sex.specs.Lists.{IsFieldList}
 use Rattle.rec_check.specs.declared.set.Set_.{Set_}
 use Rattle.rec_check.specs.Schemas.{Described}
-use Rattle.rec_check.specs.DescribedTexts.{DescribedText}
+use Rattle.rec_check.specs.DescribedTexts.{DescribedText, IsDescribedText}
 use Rattle.rec_journal.specs.declared.event.Tool.{Tool}
+use Rattle.rec_journal.specs.declared.event.Tool.TheVariants.{Batch as ByBatch}
 use Rattle.rec_check.specs.Violations.{AreViolationsOf}
 use Rattle.rec_select.specs.Selection.{Filter, all as all_members, by_expression, at_places, with_text, IsSelection}
 use Rattle.rec_edit.specs.declared.request.Pair.{Pair}
 use Rattle.rec_edit.specs.declared.request.Action.{Action}
 use Rattle.rec_edit.specs.declared.request.Action.TheVariants.{Set, Add, SetAdd, Rename, Delete, Comment as CommentFields}
-use Rattle.rec_edit.specs.declared.outcome.Edited.{Edited}
-use Rattle.rec_edit.specs.Task.{NewRecord, Wanted, Task, insert, replace, delete, comment_out, set, auto_fill, tool_of}
+use Rattle.rec_edit.specs.declared.batches.BatchEdited.{BatchEdited}
+use Rattle.rec_edit.specs.Batch.{IsStepOn, step_with, at_most_greatest, AreSteps, IsBatchOutcome}
+use Rattle.rec_edit.specs.Task.{NewRecord, Wanted, Task, insert, replace, delete, comment_out, set, auto_fill, fresh_by, tool_of}
 use Rattle.rec_edit.specs.Insertions.{Numbered, Filled, numbered_fields, filling}
 use Rattle.rec_edit.specs.Automatic.{AreAutomatic, AreFilledSets}
-use Rattle.rec_edit.specs.Script.{Layout, edited_text}
+use Rattle.rec_edit.specs.Script.{Layout, edited_text, hunks_of}
 use Rattle.rec_edit.specs.Rules.{fields_of, deletion, commenting, replacement, setting}
 use Rattle.rec_edit.specs.Wording.{unnumbered, names_of_action, values_of_action, written, AreItemsFor, IsNewRecord}
 use Rattle.rec_edit.specs.Outcome.{AreChosen, AreRemovable, allowed, Step, step_of, step_of_insert, IsStep, none_of, IsSoundUnlessForced, edited_by, IsOutcome}
+use Rattle.rec_edit.proofs.lemmas.outcomes.OneBatchLemmas.{one_batch}
 use Rattle.rec_edit.proofs.lemmas.outcomes.OutcomeLemmas.{one_outcome}
 use Rattle.rec_tools.specs.declared.request.Pick.{Pick}
+use Rattle.rec_tools.specs.declared.request.Request.{Request}
+use Rattle.rec_tools.specs.declared.request.Request.TheVariants.{Insert, Replace, Delete, CommentOut, Set as SetFields, AutoFill}
 use Rattle.rec_tools.specs.Steps.{Then}
 use Rattle.rec_tools.specs.Asking.{IsFilter}
-use Rattle.rec_tools.specs.Requests.{IsTask, IsTaskBy}
-use Rattle.rec_tools.specs.Outcomes.{IsMade}
+use Rattle.rec_tools.specs.Batches.{AsksFor, AreEdits, Agree}
+use Rattle.rec_tools.specs.Requests.{Edits, one_edit, batch_of, IsTaskBy, IsTaskOf, AreTasks, IsOneEdit, IsBatch}
+use Rattle.rec_tools.specs.Outcomes.{by_one, Makes, IsMade}
 use Rattle.rec_tools.proofs.FaultLemmas.{ok_is_no_err}
-use Rattle.rec_tools.proofs.AnswerLemmas.{HasOne-same, HasOneBut-of, Then-first, Then-next, Then-parts, Then-value, AreAlike, AgreeBut-before, AgreeBut-filter, with_schema, AgreeOnSchemas, same_selection}
-use Rattle.rec_tools.proofs.PutsLemmas.{no_store_then}
+use Rattle.rec_tools.proofs.AnswerLemmas.{HasOne-same, HasOneBut, HasOneBut-of, Then-first, Then-next, Then-parts, Then-value, AreAlike, AgreeBut, AgreeBut-before, AreLike, AgreeLike, AgreeLike-value, AgreeLike-Then, AgreeLike-filter, AgreeBut-like, with_schema, AgreeOnSchemas, same_selection}
+use Rattle.rec_tools.proofs.BatchLemmas.{one_answer}
+use Rattle.rec_tools.proofs.SameTaskLemmas.{same_tasks}
+use Rattle.rec_tools.proofs.TaskLemmas.{no_store_edits}
+use Rattle.rec_tools.proofs.PutsLemmas.{no_store_then, no_store_text}
 use Rattle.rec_tools.proofs.ShowLemmas.{no_store_filter, no_store_selection}
 use Rattle.rec_tools.proofs.CheckLemmas.{no_store_report}
 use Rattle.rec_tools.proofs.FreshLemmas.{no_store_written, no_store_new_record, no_store_automatic, no_store_filled_sets}
@@ -101,53 +111,170 @@ replace_alike fresh = record {
   tool = λ wanted other. refl;
 }
 
--- ---- an edit that is told
+-- ---- tasks that are alike
 
--- what a task, with force or without, makes of a text, and its tool
-abbrev Makes : DescribedText → Task × Bool → Result (Tool × Edited) Fault → Type 0
-Makes text told = Then (IsOutcome text.pieces text.schema told.1 told.0) (λ edited answer. answer ≡ Ok (tool_of told.0, edited))
+-- both are done by one tool, and make the same of each text
+pub record AreDoneAlike (task other : Task) : Type 0 where
+  pub step : (pieces : List Piece) (schema : Described) (force : Bool) (r : Result Step Fault)
+      → IsStep pieces schema force task r → IsStep pieces schema force other r
+  pub tool : tool_of task ≡ tool_of other
 
--- it is the same on any two schemas that the elements have
-agree_on_task : (told : Task × Bool) (pieces : List Piece) → AgreeOnSchemas pieces (λ text. Makes text told)
-agree_on_task (task, force) pieces schema same is is_too =
-    AgreeBut-before (IsOutcome pieces schema force task) (IsOutcome pieces same force task) (λ edited answer. answer ≡ Ok (tool_of task, edited))
+itself_alike : (task : Task) → AreDoneAlike task task
+itself_alike task = record { step = λ pieces schema force r h. h; tool = refl }
+
+told_alike : (task : Task) → AgreeLike AreDoneAlike (λ answer. answer ≡ Ok task) (λ answer. answer ≡ Ok task)
+told_alike task = AgreeLike-value AreDoneAlike task task (itself_alike task)
+
+module _ (task_for : Wanted → Task) (same : IsSameTask task_for) (pick : Pick) where
+  abbrev task_by : Filter → Task
+  task_by filter = task_for (by_filter pick.kind filter)
+
+  done_alike : (wanted other : Filter) → AreAlike wanted other → AreDoneAlike (task_by wanted) (task_by other)
+  done_alike wanted other alike = record {
+    step = λ pieces schema force. same.step pieces schema force pick.kind wanted other alike;
+    tool = same.tool (by_filter pick.kind wanted) (by_filter pick.kind other);
+  }
+
+  picked_alike : AgreeLike AreDoneAlike (IsTaskBy task_for pick) (IsTaskBy task_for pick)
+  picked_alike =
+      AgreeLike-Then AreAlike AreDoneAlike (IsFilter pick.by) (IsFilter pick.by) (λ filter answer. answer ≡ Ok (task_by filter)) (λ filter answer. answer ≡ Ok (task_by filter))
+      (AgreeLike-filter pick.by) (λ wanted other alike. AgreeLike-value AreDoneAlike (task_by wanted) (task_by other) (done_alike wanted other alike))
+
+-- the tasks of a request are alike
+pub tasks_of_one : (request : Request) → AgreeLike AreDoneAlike (IsTaskOf request) (IsTaskOf request)
+tasks_of_one (Insert kind fresh auto force) = told_alike (insert kind (fresh_by fresh) auto)
+tasks_of_one (Replace pick fresh force) = picked_alike (λ wanted. replace wanted (fresh_by fresh)) (replace_alike (fresh_by fresh)) pick
+tasks_of_one (Delete pick force) = picked_alike delete delete_alike pick
+tasks_of_one (CommentOut pick force) = picked_alike comment_out comment_out_alike pick
+tasks_of_one (SetFields pick list action force) = picked_alike (λ wanted. set wanted list action) (set_alike list action) pick
+tasks_of_one (AutoFill force) = told_alike auto_fill
+tasks_of_one _ = λ one other none. absurd none
+
+-- and so are those of a list of requests
+tasks_of_all : (requests : List Request) → AgreeLike (AllZip AreDoneAlike) (AreTasks requests) (AreTasks requests)
+tasks_of_all [] = AgreeLike-value (AllZip AreDoneAlike) [] [] tt
+tasks_of_all (request ∷ requests) =
+    let more : Task → Result (List Task) Fault → Type 0 = λ task. Then (AreTasks requests) (λ tasks answer. answer ≡ Ok (task ∷ tasks)) in
+    AgreeLike-Then AreDoneAlike (AllZip AreDoneAlike) (IsTaskOf request) (IsTaskOf request) more more (tasks_of_one request) (λ a b alike.
+    AgreeLike-Then (AllZip AreDoneAlike) (AllZip AreDoneAlike) (AreTasks requests) (AreTasks requests)
+    (λ tasks answer. answer ≡ Ok (a ∷ tasks)) (λ tasks answer. answer ≡ Ok (b ∷ tasks)) (tasks_of_all requests) (λ xs ys alike_too.
+    AgreeLike-value (AllZip AreDoneAlike) (a ∷ xs) (b ∷ ys) (alike, alike_too)))
+
+-- the same records ask for both
+abbrev AreAskedAlike : List Request → List Request → Type 0
+AreAskedAlike = AllZip (λ one other. (own : List Piece) × AsksFor own one × AsksFor own other)
+
+tasks_alike : (requests others : List Request) → AreAskedAlike requests others → AgreeLike (AllZip AreDoneAlike) (AreTasks requests) (AreTasks others)
+tasks_alike requests others alike one other is is_too =
+    tasks_of_all requests one other is (same_tasks requests others alike other is_too)
+
+-- ---- what tasks make of a text
+
+-- tasks that are alike make the same
+module _ (task other : Task) (alike : AreDoneAlike task other) (force : Bool) where
+  one_alike : (text : DescribedText) (r : Result (Tool × BatchEdited) Fault) → Makes text (one_edit task, force) r → Makes text (one_edit other, force) r
+  one_alike text r h =
+      subst (λ tool. Then (IsOutcome text.pieces text.schema force other) (λ edited answer. answer ≡ Ok (tool, by_one tool edited)) r) alike.tool
+      (Then-first (IsOutcome text.pieces text.schema force task) (IsOutcome text.pieces text.schema force other)
+      (λ edited answer. answer ≡ Ok (tool_of task, by_one (tool_of task) edited))
+      (Then-first (IsStep text.pieces text.schema force task) (IsStep text.pieces text.schema force other) _ (alike.step text.pieces text.schema force)) r h)
+
+  step_alike : (text : List ℕ) (r : Result Step Fault) → IsStepOn force task text r → IsStepOn force other text r
+  step_alike text = Then-next (IsDescribedText text) (λ described. IsStep described.pieces described.schema force task)
+      (λ described. IsStep described.pieces described.schema force other) (λ described. alike.step described.pieces described.schema force)
+
+-- what an edit by a tool and those after it make of a text
+abbrev joined_by : Tool → Step → BatchEdited → BatchEdited
+joined_by tool step rest = record {
+  steps = step_with tool (hunks_of step.script) ++ rest.steps;
+  text = rest.text;
+  changed = at_most_greatest (step.changed + rest.changed);
+}
+
+-- what becomes of a step and of those after it
+abbrev Joins : Bool → Tool → List Task → Step → Result BatchEdited Fault → Type 0
+Joins force tool tasks step = Then (AreSteps force tasks (edited_text step.script)) (λ rest answer. answer ≡ Ok (joined_by tool step rest))
+
+steps_alike : (force : Bool) (tasks others : List Task) → AllZip AreDoneAlike tasks others → (text : List ℕ) (r : Result BatchEdited Fault)
+    → AreSteps force tasks text r → AreSteps force others text r
+steps_alike force [] [] alike text r h = h
+steps_alike force [] (other ∷ others) alike text r h = absurd alike
+steps_alike force (task ∷ tasks) [] alike text r h = absurd alike
+steps_alike force (task ∷ tasks) (other ∷ others) (alike, rest) text r h =
+    Then-first (IsStepOn force task text) (IsStepOn force other text) (Joins force (tool_of other) others) (step_alike task other alike force text) r
+    (Then-next (IsStepOn force task text) (Joins force (tool_of task) tasks) (Joins force (tool_of other) others)
+    (λ step s is. subst (λ tool. Joins force tool others step s) alike.tool
+    (Then-first (AreSteps force tasks (edited_text step.script)) (AreSteps force others (edited_text step.script))
+    (λ made answer. answer ≡ Ok (joined_by (tool_of task) step made)) (steps_alike force tasks others rest (edited_text step.script)) s is)) r h)
+
+batch_alike : (force : Bool) (tasks others : List Task) → AllZip AreDoneAlike tasks others → (text : List ℕ) (r : Result BatchEdited Fault)
+    → IsBatchOutcome force tasks text r → IsBatchOutcome force others text r
+batch_alike force tasks others alike text = Then-first (AreSteps force tasks text) (AreSteps force others text) _ (steps_alike force tasks others alike text)
+
+-- a batch of tasks has one outcome
+one_batch_of : (force : Bool) (tasks : List Task) (text : List ℕ) → HasOneBut (IsBatchOutcome force tasks text)
+one_batch_of force tasks text = one_batch force tasks text
+
+-- ---- edits that are told
+
+-- what a task makes is the same on any two schemas that the elements have
+agree_on_task : (task : Task) (force : Bool) (pieces : List Piece) → AgreeOnSchemas pieces (λ text. Makes text (one_edit task, force))
+agree_on_task task force pieces schema same is is_too =
+    AgreeBut-before (IsOutcome pieces schema force task) (IsOutcome pieces same force task) (λ edited answer. answer ≡ Ok (tool_of task, by_one (tool_of task) edited))
     (λ one other h k built built_too. one_outcome pieces schema same force task one other is is_too h k built built_too)
-    (λ edited. HasOneBut-of (λ answer. answer ≡ Ok (tool_of task, edited)) (HasOne-same (Ok (tool_of task, edited))))
+    (λ edited. HasOneBut-of (λ answer. answer ≡ Ok (tool_of task, by_one (tool_of task) edited)) (HasOne-same (Ok (tool_of task, by_one (tool_of task) edited))))
 
-pub agree_on_told : (task : Task) (force : Bool) (pieces : List Piece) → AgreeOnSchemas pieces (IsMade (IsTask task force))
-agree_on_told task force pieces schema same is is_too one other h k =
-    agree_on_task (task, force) pieces schema same is is_too one other
-    (Then-value (task, force) (Makes (with_schema pieces schema)) one h) (Then-value (task, force) (Makes (with_schema pieces same)) other k)
+-- what tasks make that are alike is the same, whatever the schemas
+agree_on_tasks : (force : Bool) (tasks others : List Task) → AllZip AreDoneAlike tasks others → (pieces : List Piece) (schema same : Described)
+    → AgreeBut (Makes (with_schema pieces schema) (batch_of tasks, force)) (Makes (with_schema pieces same) (batch_of others, force))
+agree_on_tasks force tasks others alike pieces schema same =
+    AgreeBut-before (IsBatchOutcome force tasks (text_of pieces)) (IsBatchOutcome force others (text_of pieces)) (λ made answer. answer ≡ Ok (ByBatch, made))
+    (λ one other h k. one_batch_of force others (text_of pieces) one other (batch_alike force tasks others alike (text_of pieces) one h) k)
+    (λ made. HasOneBut-of (λ answer. answer ≡ Ok (ByBatch, made)) (HasOne-same (Ok (ByBatch, made))))
 
-module _ (task_for : Wanted → Task) (same_task : IsSameTask task_for) (pick : Pick) (force : Bool) where
-  abbrev told_for : Filter → Task × Bool
-  told_for filter = (task_for (by_filter pick.kind filter), force)
+-- steps that find a value, of which edits are made
+module _ {A : Type 0} (first : Result A Fault → Type 0) (edits_for : A → Edits × Bool) (text : DescribedText) where
+  pub made_of_edits : (r : Result (Tool × BatchEdited) Fault) → Then (Then first (λ a answer. answer ≡ Ok (edits_for a))) (Makes text) r
+      → Then first (λ a. Makes text (edits_for a)) r
+  made_of_edits r h =
+      Then-next first (λ a. Then (λ given. given ≡ Ok (edits_for a)) (Makes text)) (λ a. Makes text (edits_for a))
+      (λ a. Then-value (edits_for a) (Makes text)) r
+      (Then-parts first (λ a answer. answer ≡ Ok (edits_for a)) (Makes text) r h)
 
-  -- what is told by a filter
-  by_filter_first : (text : DescribedText) (r : Result (Tool × Edited) Fault) → IsMade (IsTaskBy task_for pick force) text r
-      → Then (IsFilter pick.by) (λ filter. Makes text (told_for filter)) r
-  by_filter_first text r h =
-      Then-next (IsFilter pick.by) (λ filter. Then (λ given. given ≡ Ok (told_for filter)) (Makes text)) (λ filter. Makes text (told_for filter))
-      (λ filter s. Then-value (told_for filter) (Makes text) s) r
-      (Then-parts (IsFilter pick.by) (λ filter given. given ≡ Ok (told_for filter)) (Makes text) r h)
+pub agree_on_one : (request : Request) (force : Bool) (pieces : List Piece) → AgreeOnSchemas pieces (IsMade (IsOneEdit request force))
+agree_on_one request force pieces schema same is is_too one other h k =
+    let edits : Task → Edits × Bool = λ task. (one_edit task, force) in
+    AgreeBut-like AreDoneAlike (IsTaskOf request) (IsTaskOf request)
+    (λ task. Makes (with_schema pieces schema) (edits task)) (λ task. Makes (with_schema pieces same) (edits task)) (tasks_of_one request)
+    (λ a b alike r s m n. agree_on_task b force pieces schema same is is_too r s (one_alike a b alike force (with_schema pieces schema) r m) n) one other
+    (made_of_edits (IsTaskOf request) edits (with_schema pieces schema) one h) (made_of_edits (IsTaskOf request) edits (with_schema pieces same) other k)
 
-  makes_alike : (text : DescribedText) (wanted other : Filter) → AreAlike wanted other → (r : Result (Tool × Edited) Fault)
-      → Makes text (told_for wanted) r → Makes text (told_for other) r
-  makes_alike text wanted other alike r h =
-      subst (λ tool. Then (IsOutcome text.pieces text.schema force (task_for (by_filter pick.kind other))) (λ edited answer. answer ≡ Ok (tool, edited)) r)
-      (same_task.tool (by_filter pick.kind wanted) (by_filter pick.kind other))
-      (Then-first (IsOutcome text.pieces text.schema force (task_for (by_filter pick.kind wanted)))
-      (IsOutcome text.pieces text.schema force (task_for (by_filter pick.kind other)))
-      (λ edited answer. answer ≡ Ok (tool_of (task_for (by_filter pick.kind wanted)), edited))
-      (Then-first (IsStep text.pieces text.schema force (task_for (by_filter pick.kind wanted)))
-      (IsStep text.pieces text.schema force (task_for (by_filter pick.kind other))) _
-      (same_task.step text.pieces text.schema force pick.kind wanted other alike)) r h)
+-- the edits that a text lists are asked for by the same records
+edits_alike : (text : List ℕ) → AgreeLike AreAskedAlike (AreEdits text) (AreEdits text)
+edits_alike text one other is is_too _ _ = like one other (one_answer text one other is is_too) where
+  like : (one other : Result (List Request) Fault) → Agree one other → AreLike AreAskedAlike one other
+  like (Ok requests) (Ok others) agree = agree
+  like (Ok requests) (Err fault) agree = agree
+  like (Err fault) (Ok others) agree = agree
+  like (Err fault) (Err other) agree = agree
 
-  pub agree_on_edits : (pieces : List Piece) → AgreeOnSchemas pieces (IsMade (IsTaskBy task_for pick force))
-  agree_on_edits pieces schema same is is_too one other h k =
-      AgreeBut-filter pick.by (λ filter. Makes (with_schema pieces schema) (told_for filter)) (λ filter. Makes (with_schema pieces same) (told_for filter))
-      (makes_alike (with_schema pieces schema)) (λ wanted. agree_on_task (told_for wanted) pieces schema same is is_too) one other
-      (by_filter_first (with_schema pieces schema) one h) (by_filter_first (with_schema pieces same) other k)
+made_of_batch : (text : List ℕ) (force : Bool) (described : DescribedText) (r : Result (Tool × BatchEdited) Fault) → IsMade (IsBatch text force) described r
+    → Then (AreEdits text) (λ requests. Then (AreTasks requests) (λ tasks. Makes described (batch_of tasks, force))) r
+made_of_batch text force described r h =
+    let edits : List Task → Edits × Bool = λ tasks. (batch_of tasks, force) in
+    Then-next (AreEdits text) (λ requests. Then (Then (AreTasks requests) (λ tasks answer. answer ≡ Ok (edits tasks))) (Makes described))
+    (λ requests. Then (AreTasks requests) (λ tasks. Makes described (edits tasks)))
+    (λ requests. made_of_edits (AreTasks requests) edits described) r
+    (Then-parts (AreEdits text) (λ requests. Then (AreTasks requests) (λ tasks answer. answer ≡ Ok (edits tasks))) (Makes described) r h)
+
+pub agree_on_batch : (text : List ℕ) (force : Bool) (pieces : List Piece) → AgreeOnSchemas pieces (IsMade (IsBatch text force))
+agree_on_batch text force pieces schema same is is_too one other h k =
+    let made : Described → List Task → Result (Tool × BatchEdited) Fault → Type 0 = λ described tasks. Makes (with_schema pieces described) (batch_of tasks, force) in
+    AgreeBut-like AreAskedAlike (AreEdits text) (AreEdits text)
+    (λ requests. Then (AreTasks requests) (made schema)) (λ requests. Then (AreTasks requests) (made same)) (edits_alike text)
+    (λ requests others alike. AgreeBut-like (AllZip AreDoneAlike) (AreTasks requests) (AreTasks others) (made schema) (made same) (tasks_alike requests others alike)
+    (λ tasks more alike_too. agree_on_tasks force tasks more alike_too pieces schema same)) one other
+    (made_of_batch text force (with_schema pieces schema) one h) (made_of_batch text force (with_schema pieces same) other k)
 
 -- ---- no refusal because a store failed
 
@@ -249,17 +376,63 @@ no_store_task task force text =
     no_store_then (IsSoundUnlessForced force (edited_text step.script)) (λ _ answer. answer ≡ Ok (edited_by step)) (no_store_sound force (edited_text step.script))
     (λ _. ok_is_no_err (edited_by step) StoreFailed ⊥))
 
-pub no_store_made : (IsEdit : Result (Task × Bool) Fault → Type 0) → (IsEdit (Err StoreFailed) → ⊥) → (text : DescribedText)
+no_store_step_on : (force : Bool) (task : Task) (text : List ℕ) → IsStepOn force task text (Err StoreFailed) → ⊥
+no_store_step_on force task text =
+    no_store_then (IsDescribedText text) (λ described. IsStep described.pieces described.schema force task) (no_store_text text)
+    (λ described. no_store_step described force task)
+
+no_store_steps : (force : Bool) (tasks : List Task) (text : List ℕ) → AreSteps force tasks text (Err StoreFailed) → ⊥
+no_store_steps force [] text = ok_is_no_err (record { steps = []; text = text; changed = 0 }) StoreFailed ⊥
+no_store_steps force (task ∷ tasks) text =
+    no_store_then (IsStepOn force task text) (Joins force (tool_of task) tasks) (no_store_step_on force task text) (λ step.
+    no_store_then (AreSteps force tasks (edited_text step.script)) (λ rest answer. answer ≡ Ok (joined_by (tool_of task) step rest))
+    (no_store_steps force tasks (edited_text step.script)) (λ rest. ok_is_no_err (joined_by (tool_of task) step rest) StoreFailed ⊥))
+
+no_store_batch : (force : Bool) (tasks : List Task) (text : List ℕ) → IsBatchOutcome force tasks text (Err StoreFailed) → ⊥
+no_store_batch force tasks text =
+    no_store_then (AreSteps force tasks text) (λ made. Then (IsSoundUnlessForced force made.text) (λ _ answer. answer ≡ Ok made)) (no_store_steps force tasks text) (λ made.
+    no_store_then (IsSoundUnlessForced force made.text) (λ _ answer. answer ≡ Ok made) (no_store_sound force made.text) (λ _. ok_is_no_err made StoreFailed ⊥))
+
+no_store_makes : (text : DescribedText) (told : Edits × Bool) → Makes text told (Err StoreFailed) → ⊥
+no_store_makes text (one_edit task, force) =
+    no_store_then (IsOutcome text.pieces text.schema force task) (λ edited answer. answer ≡ Ok (tool_of task, by_one (tool_of task) edited)) (no_store_task task force text)
+    (λ edited. ok_is_no_err (tool_of task, by_one (tool_of task) edited) StoreFailed ⊥)
+no_store_makes text (batch_of tasks, force) =
+    no_store_then (IsBatchOutcome force tasks (text_of text.pieces)) (λ made answer. answer ≡ Ok (ByBatch, made)) (no_store_batch force tasks (text_of text.pieces))
+    (λ made. ok_is_no_err (ByBatch, made) StoreFailed ⊥)
+
+pub no_store_made : (IsEdit : Result (Edits × Bool) Fault → Type 0) → (IsEdit (Err StoreFailed) → ⊥) → (text : DescribedText)
     → IsMade IsEdit text (Err StoreFailed) → ⊥
-no_store_made IsEdit never text =
-    no_store_then IsEdit (Makes text) never (λ told.
-    no_store_then (IsOutcome text.pieces text.schema told.1 told.0) (λ edited answer. answer ≡ Ok (tool_of told.0, edited)) (no_store_task told.0 told.1 text)
-    (λ edited. ok_is_no_err (tool_of told.0, edited) StoreFailed ⊥))
+no_store_made IsEdit never text = no_store_then IsEdit (Makes text) never (no_store_makes text)
 
-pub no_store_told : (task : Task) (force : Bool) → IsTask task force (Err StoreFailed) → ⊥
-no_store_told task force e = ok_is_no_err (task, force) StoreFailed ⊥ e
+no_store_picked : (task_for : Wanted → Task) (pick : Pick) → IsTaskBy task_for pick (Err StoreFailed) → ⊥
+no_store_picked task_for pick =
+    no_store_then (IsFilter pick.by) (λ filter answer. answer ≡ Ok (task_for (by_filter pick.kind filter))) (no_store_filter pick.by)
+    (λ filter. ok_is_no_err (task_for (by_filter pick.kind filter)) StoreFailed ⊥)
 
-pub no_store_told_by : (task_for : Wanted → Task) (pick : Pick) (force : Bool) → IsTaskBy task_for pick force (Err StoreFailed) → ⊥
-no_store_told_by task_for pick force =
-    no_store_then (IsFilter pick.by) (λ filter. IsTask (task_for (by_filter pick.kind filter)) force) (no_store_filter pick.by)
-    (λ filter. no_store_told (task_for (by_filter pick.kind filter)) force)
+no_store_told : (request : Request) → IsTaskOf request (Err StoreFailed) → ⊥
+no_store_told (Insert kind fresh auto force) e = ok_is_no_err (insert kind (fresh_by fresh) auto) StoreFailed ⊥ e
+no_store_told (Replace pick fresh force) h = no_store_picked (λ wanted. replace wanted (fresh_by fresh)) pick h
+no_store_told (Delete pick force) h = no_store_picked delete pick h
+no_store_told (CommentOut pick force) h = no_store_picked comment_out pick h
+no_store_told (SetFields pick list action force) h = no_store_picked (λ wanted. set wanted list action) pick h
+no_store_told (AutoFill force) e = ok_is_no_err auto_fill StoreFailed ⊥ e
+no_store_told _ h = h
+
+no_store_tasks : (requests : List Request) → AreTasks requests (Err StoreFailed) → ⊥
+no_store_tasks [] = ok_is_no_err {A = List Task} [] StoreFailed ⊥
+no_store_tasks (request ∷ requests) =
+    no_store_then (IsTaskOf request) (λ task. Then (AreTasks requests) (λ tasks answer. answer ≡ Ok (task ∷ tasks))) (no_store_told request) (λ task.
+    no_store_then (AreTasks requests) (λ tasks answer. answer ≡ Ok (task ∷ tasks)) (no_store_tasks requests) (λ tasks.
+    ok_is_no_err (task ∷ tasks) StoreFailed ⊥))
+
+pub no_store_one : (request : Request) (force : Bool) → IsOneEdit request force (Err StoreFailed) → ⊥
+no_store_one request force =
+    no_store_then (IsTaskOf request) (λ task answer. answer ≡ Ok (one_edit task, force)) (no_store_told request)
+    (λ task. ok_is_no_err (one_edit task, force) StoreFailed ⊥)
+
+pub no_store_listed : (text : List ℕ) (force : Bool) → IsBatch text force (Err StoreFailed) → ⊥
+no_store_listed text force =
+    no_store_then (AreEdits text) (λ requests. Then (AreTasks requests) (λ tasks answer. answer ≡ Ok (batch_of tasks, force))) (no_store_edits text) (λ requests.
+    no_store_then (AreTasks requests) (λ tasks answer. answer ≡ Ok (batch_of tasks, force)) (no_store_tasks requests)
+    (λ tasks. ok_is_no_err (batch_of tasks, force) StoreFailed ⊥))

@@ -8,6 +8,9 @@ pub mod PutsLemmas
 pub mod ShowLemmas
 pub mod InformLemmas
 pub mod CheckLemmas
+pub mod BatchLemmas
+pub mod SameTaskLemmas
+pub mod TaskLemmas
 pub mod DecideLemmas
 pub mod StandsLemmas
 pub mod StepLemmas

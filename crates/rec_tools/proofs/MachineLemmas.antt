@@ -3,7 +3,7 @@ use Rattle.std.proofs.Common.{◌≡◌, ◌≢◌, inl, inr, ℕ, List, [], ◌
 use Rattle.rec_text.specs.declared.fault.Fault.{Fault}
 use Rattle.rec_text.specs.declared.fault.Fault.TheVariants.{BadPattern}
 use Rattle.rec_journal.specs.declared.event.Tool.{Tool}
-use Rattle.rec_edit.specs.declared.outcome.Edited.{Edited}
+use Rattle.rec_edit.specs.declared.batches.BatchEdited.{BatchEdited}
 use Rattle.rec_journal.specs.declared.patch.Direction.{Direction}
 use Rattle.rec_tools.specs.Printouts.{Printout, IsShown}
 use Rattle.rec_tools.specs.Requests.{Asked, looking, listing, editing, moving, asked_of}
@@ -29,7 +29,7 @@ shown_of_built (Err fault) answer printed is built = refused_too answer fault is
 -- ---- an edit steps in one way
 
 module _ (s : State) where
-  one_edit_step : (outcome : Result (Tool × Edited) Fault) (one other : Answer) (t u : State)
+  one_edit_step : (outcome : Result (Tool × BatchEdited) Fault) (one other : Answer) (t u : State)
       → IsEditStep s outcome one t → IsEditStep s outcome other u → (one ≡ other) × (t ≡ u)
   one_edit_step (Err fault) one other t u is is_too = (is.0 ∙ sym is_too.0, is.1 ∙ sym is_too.1)
   one_edit_step (Ok made) one other t u (inl is) (inl is_too) = (is.1 ∙ sym is_too.1, is.2 ∙ sym is_too.2)
@@ -37,7 +37,7 @@ module _ (s : State) where
   one_edit_step (Ok made) one other t u (inr is) (inl is_too) = absurd (is.0 is_too.0)
   one_edit_step (Ok made) one other t u (inr is) (inr is_too) = (is.1 ∙ sym is_too.1, is.2 ∙ sym is_too.2)
 
-  edit_of_built : (outcome : Result (Tool × Edited) Fault) (answer : Answer) (t : State) → IsEditStep s outcome answer t
+  edit_of_built : (outcome : Result (Tool × BatchEdited) Fault) (answer : Answer) (t : State) → IsEditStep s outcome answer t
       → answer ≢ Err BadPattern → outcome ≢ Err BadPattern
   edit_of_built (Ok made) answer t is built = no_both made BadPattern
   edit_of_built (Err fault) answer t is built = refused_too answer fault is.0 built

@@ -1,5 +1,5 @@
 -- A request comes to one outcome on two contents at most.
-use Rattle.std.proofs.Common.{◌≡◌, inl, inr, ℕ, Bool, Option, List, ◌∷◌, Result, Ok, Err, sym, ap, refl, ◌∙◌}
+use Rattle.std.proofs.Common.{◌≡◌, inl, inr, ℕ, Bool, Option, List, ◌∷◌, Result, Ok, Err, sym, ap, ◌∙◌}
 use Rattle.rec_text.specs.declared.fault.Fault.{Fault}
 use Rattle.rec_text.specs.declared.violations.Violation.{Violation}
 use Rattle.rec_text.specs.Elements.{Piece}
@@ -26,24 +26,23 @@ use Rattle.rec_journal.specs.History.{Opened, Opens, IsOpening}
 use Rattle.rec_journal.specs.Plans.{IsMovePlan}
 use Rattle.rec_journal.proofs.lemmas.plans.PlanLemmas.{one_move_plan}
 use Rattle.rec_journal.proofs.lemmas.histories.Openings.{one_opening}
-use Rattle.rec_edit.specs.declared.outcome.Edited.{Edited}
-use Rattle.rec_edit.specs.Task.{Task, insert, replace, delete, comment_out, set, auto_fill, fresh_by}
+use Rattle.rec_edit.specs.declared.batches.BatchEdited.{BatchEdited}
 use Rattle.rec_tools.specs.declared.request.Form.{Form}
 use Rattle.rec_tools.specs.declared.request.Form.TheVariants.{Blocks, Print, Values, Row, Count}
 use Rattle.rec_tools.specs.declared.request.Pick.{Pick}
 use Rattle.rec_tools.specs.declared.request.Request.{Request}
-use Rattle.rec_tools.specs.declared.request.Request.TheVariants.{Show, Info, Check, Insert, Replace, Delete, CommentOut, Set, AutoFill, Undo, Redo, History}
+use Rattle.rec_tools.specs.declared.request.Request.TheVariants.{Show, Info, Check, Insert, Replace, Delete, CommentOut, Set, AutoFill, Batch, Undo, Redo, History}
 use Rattle.rec_tools.specs.declared.request.Reply.{Reply}
 use Rattle.rec_tools.specs.declared.request.Reply.TheVariants.{Shown, Edited as EditedReply}
 use Rattle.rec_tools.specs.Home.{Contents}
 use Rattle.rec_tools.specs.Steps.{Then}
 use Rattle.rec_tools.specs.Asking.{IsFilter, IsListed, IsShape}
 use Rattle.rec_tools.specs.Printouts.{Printout, printed_history, IsShow, IsInfoOf, IsShownText, IsReportText, verdict}
-use Rattle.rec_tools.specs.Requests.{Asked, looking, listing, editing, moving, asked_of}
-use Rattle.rec_tools.specs.Outcomes.{Outcome, IsOutcome, IsPrinting, IsMade, IsEditOutcome, IsMove, Moves, OneOutcome, printing, putting, reply_of}
+use Rattle.rec_tools.specs.Requests.{Edits, Asked, looking, listing, editing, moving, asked_of}
+use Rattle.rec_tools.specs.Outcomes.{Outcome, IsOutcome, IsPrinting, IsMade, IsEditOutcome, IsMove, OneOutcome, printing, putting, reply_of}
 use Rattle.rec_tools.proofs.FaultLemmas.{same_fault, same_value}
 use Rattle.rec_tools.proofs.OpeningLemmas.{no_clash, same_plan_of}
-use Rattle.rec_tools.proofs.EditLemmas.{replace_alike, delete_alike, comment_out_alike, set_alike, agree_on_told, agree_on_edits}
+use Rattle.rec_tools.proofs.EditLemmas.{agree_on_one, agree_on_batch}
 use Rattle.rec_tools.proofs.AnswerLemmas.{no_both, HasOne, HasOneBut, HasOneBut-of, one_value, no_value, one_fault, HasOne-Then, AgreeBut-after, AgreeBut-before, Then-first, Then-next, HasOneBut-filter, AgreeOnSchemas, with_schema, HasOneBut-text, agree_by_sets, same_selection}
 
 -- ---- printed texts
@@ -145,29 +144,30 @@ pub one_meaning : (request : Request) → MeansOne (asked_of request)
 one_meaning (Show pick form collapse) = λ file. HasOneBut-shown _ (HasOneBut-show file pick form collapse)
 one_meaning (Info kind form) = λ file. HasOneBut-shown _ (HasOneBut-info_of file kind form)
 one_meaning Check = λ file. HasOneBut-reported _ (HasOneBut-check file)
-one_meaning (Insert kind fresh auto force) = agree_on_told (insert kind (fresh_by fresh) auto) force
-one_meaning (Replace pick fresh force) = agree_on_edits (λ wanted. replace wanted (fresh_by fresh)) (replace_alike (fresh_by fresh)) pick force
-one_meaning (Delete pick force) = agree_on_edits delete delete_alike pick force
-one_meaning (CommentOut pick force) = agree_on_edits comment_out comment_out_alike pick force
-one_meaning (Set pick list action force) = agree_on_edits (λ wanted. set wanted list action) (set_alike list action) pick force
-one_meaning (AutoFill force) = agree_on_told auto_fill force
+one_meaning (Insert kind fresh auto force) = agree_on_one (Insert kind fresh auto force) force
+one_meaning (Replace pick fresh force) = agree_on_one (Replace pick fresh force) force
+one_meaning (Delete pick force) = agree_on_one (Delete pick force) force
+one_meaning (CommentOut pick force) = agree_on_one (CommentOut pick force) force
+one_meaning (Set pick list action force) = agree_on_one (Set pick list action force) force
+one_meaning (AutoFill force) = agree_on_one (AutoFill force) force
+one_meaning (Batch text force) = agree_on_batch text force
 one_meaning Undo = tt
 one_meaning Redo = tt
 one_meaning History = tt
 
 -- ---- an edit
 
-module _ (o : Opened) (c : Contents) (opens : Opens c.file c.journal o) (tool : Tool) (edited : Edited) where
-  HasOne-edit_outcome : HasOne (IsEditOutcome o c tool edited)
+module _ (o : Opened) (c : Contents) (opens : Opens c.file c.journal o) (tool : Tool) (made : BatchEdited) where
+  HasOne-edit_outcome : HasOne (IsEditOutcome o c tool made)
   HasOne-edit_outcome (Ok one) (Ok other) (inl (same, e)) (inl (same_too, k)) = ap Ok (e ∙ sym k)
   HasOne-edit_outcome (Ok one) (Ok other) (inl (same, e)) (inr (differs, is_too)) = absurd (differs same)
   HasOne-edit_outcome (Ok one) (Ok other) (inr (differs, is)) (inl (same, k)) = absurd (differs same)
   HasOne-edit_outcome (Ok one) (Ok other) (inr (differs, (plan, planned, e))) (inr (differs_too, (also, planned_too, k))) =
-      ap Ok (e ∙ ap (λ p. putting p (EditedReply edited.changed)) (same_plan_of c o tool edited plan also planned planned_too) ∙ sym k)
+      ap Ok (e ∙ ap (λ p. putting p (EditedReply made.changed)) (same_plan_of c o tool made plan also planned planned_too) ∙ sym k)
   HasOne-edit_outcome (Ok one) (Err fault) (inl (same, e)) is_too = absurd (is_too.0 same)
-  HasOne-edit_outcome (Ok one) (Err fault) (inr (differs, (plan, planned, e))) is_too = absurd (no_clash c o tool edited plan opens planned is_too.2)
+  HasOne-edit_outcome (Ok one) (Err fault) (inr (differs, (plan, planned, e))) is_too = absurd (no_clash c o tool made plan opens planned is_too.2)
   HasOne-edit_outcome (Err fault) (Ok other) is (inl (same, k)) = absurd (is.0 same)
-  HasOne-edit_outcome (Err fault) (Ok other) is (inr (differs, (plan, planned, k))) = absurd (no_clash c o tool edited plan opens planned is.2)
+  HasOne-edit_outcome (Err fault) (Ok other) is (inr (differs, (plan, planned, k))) = absurd (no_clash c o tool made plan opens planned is.2)
   HasOne-edit_outcome (Err fault) (Err other) is is_too = ap Err (is.1 ∙ sym is_too.1)
 
 -- ---- a move
@@ -199,10 +199,10 @@ module _ (direction : Direction) (o : Opened) (c : Contents) where
 -- ---- outcomes
 
 module _ (c : Contents) where
-  HasOneBut-edit : (IsEdit : Result (Task × Bool) Fault → Type 0) → ((pieces : List Piece) → AgreeOnSchemas pieces (IsMade IsEdit))
+  HasOneBut-edit : (IsEdit : Result (Edits × Bool) Fault → Type 0) → ((pieces : List Piece) → AgreeOnSchemas pieces (IsMade IsEdit))
       → HasOneBut (IsOutcome c (editing IsEdit))
   HasOneBut-edit IsEdit agree =
-      let last : Opened → Tool × Edited → Result Outcome Fault → Type 0 = λ o made. IsEditOutcome o c made.0 made.1 in
+      let last : Opened → Tool × BatchEdited → Result Outcome Fault → Type 0 = λ o told. IsEditOutcome o c told.0 told.1 in
       let next : DescribedText → Opened → Result Outcome Fault → Type 0 = λ text o. Then (IsMade IsEdit text) (last o) in
       HasOneBut-text c.file (λ text. Then (IsOpening c.file c.journal) (next text)) (λ pieces schema same is is_too.
       AgreeBut-after (IsOpening c.file c.journal) (next (with_schema pieces schema)) (next (with_schema pieces same)) (one_opening c.file c.journal) (λ o opens.

@@ -1,5 +1,5 @@
 -- A file that was changed outside, and what requests then come to.
-use Rattle.std.proofs.Common.{◌≡◌, ◌⊎◌, inl, inr, ℕ, ◌+◌, true, false, List, [], Result, Ok, Err, sym, ap, subst, refl, ◌∙◌}
+use Rattle.std.proofs.Common.{◌≡◌, ◌⊎◌, inl, inr, true, false, [], Result, Ok, Err, sym, ap, subst, refl, ◌∙◌}
 use Rattle.std.specs.Prelude.{codes, if◌then◌else◌, map}
 use Rattle.std.proofs.lemmas.Bool.{false≢true}
 use Rattle.rec_text.specs.declared.fault.Fault.{Fault}
@@ -10,19 +10,19 @@ use Rattle.rec_journal.specs.declared.event.Revision.{Revision}
 use Rattle.rec_journal.specs.declared.event.Tool.{Tool}
 use Rattle.rec_journal.specs.declared.plan.Plan.{Plan}
 use Rattle.rec_journal.specs.History.{Opened, Opens, IsOpening}
-use Rattle.rec_journal.specs.Revisions.{one_pass, Leads}
+use Rattle.rec_journal.specs.Revisions.{Leads}
 use Rattle.rec_journal.specs.Plans.{edit_to, after_edit_plan}
 use Rattle.rec_journal.proofs.lemmas.histories.Countings.{drifted-empty}
 use Rattle.rec_journal.proofs.lemmas.histories.Openings.{one_opening}
-use Rattle.rec_edit.specs.declared.outcome.Edited.{Edited}
+use Rattle.rec_edit.specs.declared.batches.BatchEdited.{BatchEdited}
 use Rattle.rec_tools.specs.declared.request.Reply.TheVariants.{Shown}
 use Rattle.rec_tools.specs.Home.{Contents}
-use Rattle.rec_tools.specs.Printouts.{printed_history, history_text}
+use Rattle.rec_tools.specs.Printouts.{history_text}
 use Rattle.rec_tools.specs.Requests.{Asked, looking, listing, editing, moving, asked_of}
 use Rattle.rec_tools.specs.Outcomes.{Outcome, IsOutcome, IsPlanned, printing, writes_of}
 use Rattle.rec_tools.specs.Attempts.{written}
 use Rattle.rec_tools.specs.Machine.{AreEntries, Stands}
-use Rattle.rec_tools.specs.Laws.{outside_state, IsNoticed, OutsideIsNoticed}
+use Rattle.rec_tools.specs.Laws.{outside_state, OutsideIsNoticed}
 use Rattle.rec_tools.proofs.FaultLemmas.{ok_is_no_err, same_value}
 use Rattle.rec_tools.proofs.OpeningLemmas.{edit_leads_back}
 use Rattle.rec_tools.proofs.RunLemmas.{writes_nothing}
@@ -50,18 +50,18 @@ module _ (c : Contents) (o : Opened) (opens : Opens c.file c.journal o) (drifted
       e ∙ ap (λ b. Ok (printing (if b then codes "drifted\n" else history_text (map (λ (x : Revision). (x.number, x.tool)) p.past) (map (λ (x : Revision). (x.number, x.tool)) p.future)) Shown)) is
 
   -- the history after an edit has that edit alone
-  begun : (tool : Tool) (edited : Edited) (plan : Plan) → IsPlanned o c tool edited plan → Stands (written c (writes_of plan)) (outside_state c o tool plan.file)
-  begun tool edited plan planned =
-      let edit : Revision = edit_to o tool edited.text (one_pass tool edited.patch) in
+  begun : (tool : Tool) (made : BatchEdited) (plan : Plan) → IsPlanned o c tool made plan → Stands (written c (writes_of plan)) (outside_state c o tool plan.file)
+  begun tool made plan planned =
+      let edit : Revision = edit_to o tool made.text made.steps in
       record {
-        opened = after_edit_plan o c.journal tool (one_pass tool edited.patch) edited.text;
+        opened = after_edit_plan o c.journal tool made.steps made.text;
         opens = planned.safe.next;
         settled = refl;
         present = refl;
         past = (
           refl,
           refl,
-          subst (λ t. Leads Backward edit t c.file) (sym planned.planned.1) (edit_leads_back c o tool edited plan opens planned),
+          subst (λ t. Leads Backward edit t c.file) (sym planned.planned.1) (edit_leads_back c o tool made plan opens planned),
           subst (λ es. AreEntries Backward es [] c.file) (sym (drifted-empty c.file c.journal o opens drifted).0) tt,
         );
         future = tt;
@@ -76,9 +76,9 @@ module _ (c : Contents) (o : Opened) (opens : Opens c.file c.journal o) (drifted
   begins_anew (editing IsEdit) outcome (inr (text, is, inl refused)) = let e = refused.2 in cc
   begins_anew (editing IsEdit) outcome (inr (text, is, inr (p, opened, inl refused))) = let e = refused.2 in cc
   begins_anew (editing IsEdit) outcome (inr (text, is, inr (p, opened, inr (made, done, inl (same, e))))) = inl (ap (λ (x : Outcome). x.writes) e)
-  begins_anew (editing IsEdit) outcome (inr (text, is, inr (p, opened, inr ((tool, edited), done, inr (differs, (plan, planned, e)))))) =
-      let here : IsPlanned o c tool edited plan = subst (λ x. IsPlanned x c tool edited plan) (same_opening p opened) planned in
-      inr (tool, subst (λ ws. Stands (written c ws) (outside_state c o tool (written c ws).file)) (sym (ap (λ (x : Outcome). x.writes) e)) (begun tool edited plan here))
+  begins_anew (editing IsEdit) outcome (inr (text, is, inr (p, opened, inr ((tool, made), done, inr (differs, (plan, planned, e)))))) =
+      let here : IsPlanned o c tool made plan = subst (λ x. IsPlanned x c tool made plan) (same_opening p opened) planned in
+      inr (tool, subst (λ ws. Stands (written c ws) (outside_state c o tool (written c ws).file)) (sym (ap (λ (x : Outcome). x.writes) e)) (begun tool made plan here))
   begins_anew (moving direction) outcome is = absurd (ok_is_no_err outcome Drifted ⊥ (sym (no_move direction (Ok outcome) is)))
 
 pub outside_is_noticed : OutsideIsNoticed

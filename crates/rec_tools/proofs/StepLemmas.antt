@@ -9,18 +9,17 @@ use Rattle.rec_journal.specs.declared.patch.Direction.TheVariants.{Forward, Back
 use Rattle.rec_journal.specs.declared.event.Tool.{Tool}
 use Rattle.rec_journal.specs.declared.plan.Plan.{Plan}
 use Rattle.rec_journal.specs.History.{Opened, Opens, IsOpening}
-use Rattle.rec_journal.specs.Revisions.{one_pass, Leads}
+use Rattle.rec_journal.specs.Revisions.{Leads}
 use Rattle.rec_journal.specs.Plans.{ShareDigest, edit_to, after_edit_plan, edits_on, after_move, LeadsNowhere}
 use Rattle.rec_journal.proofs.lemmas.histories.Openings.{one_opening}
 use Rattle.rec_journal.proofs.lemmas.patches.StepLemmas.{edits_lead_to_one_text}
 use Rattle.rec_check.specs.DescribedTexts.{IsDescribedText}
-use Rattle.rec_edit.specs.declared.outcome.Edited.{Edited}
-use Rattle.rec_edit.specs.Task.{Task}
+use Rattle.rec_edit.specs.declared.batches.BatchEdited.{BatchEdited}
 use Rattle.rec_tools.specs.declared.request.Reply.TheVariants.{Shown, Edited as EditedReply}
 use Rattle.rec_tools.specs.Home.{Contents}
 use Rattle.rec_tools.specs.Steps.{Then}
 use Rattle.rec_tools.specs.Printouts.{Printout, history_text, printed_history}
-use Rattle.rec_tools.specs.Requests.{Asked, looking, listing, editing, moving, asked_of}
+use Rattle.rec_tools.specs.Requests.{Edits, Asked, looking, listing, editing, moving, asked_of}
 use Rattle.rec_tools.specs.Outcomes.{Outcome, IsOutcome, IsPrinting, IsMade, IsEditOutcome, IsPlanned, IsMove, Moves, printing, writes_of, reply_of}
 use Rattle.rec_tools.specs.Attempts.{written}
 use Rattle.rec_tools.specs.Machine.{Entry, State, AreEntries, Stands, IsStep, IsMoveStep, Clashes, entries_on, listed, state_after_edit, state_after_move}
@@ -151,38 +150,38 @@ module _ (c : Contents) (s : State) (stands : Stands c s) where
 
   -- ---- an edit
 
-  module _ (IsEdit : Result (Task × Bool) Fault → Type 0) where
+  module _ (IsEdit : Result (Edits × Bool) Fault → Type 0) where
     -- what the edit makes of the file it makes of the state's text
-    on_present : (r : Result (Tool × Edited) Fault) → Then (IsDescribedText c.file) (IsMade IsEdit) r → Then (IsDescribedText s.present) (IsMade IsEdit) r
+    on_present : (r : Result (Tool × BatchEdited) Fault) → Then (IsDescribedText c.file) (IsMade IsEdit) r → Then (IsDescribedText s.present) (IsMade IsEdit) r
     on_present r is = subst (λ text. Then (IsDescribedText text) (IsMade IsEdit) r) (sym stands.present) is
 
     edit_refused : (fault : Fault) → Then (IsDescribedText c.file) (IsMade IsEdit) (Err fault) → StepsAsMachine c s (editing IsEdit) (Err fault)
     edit_refused fault is = inl (Err fault, on_present (Err fault) is, (refl, refl), refl)
 
-    module _ (tool : Tool) (edited : Edited) (is : Then (IsDescribedText c.file) (IsMade IsEdit) (Ok (tool, edited))) where
-      module _ (differs : edited.text ≢ c.file) where
-        other : edited.text ≢ s.present
+    module _ (tool : Tool) (made : BatchEdited) (is : Then (IsDescribedText c.file) (IsMade IsEdit) (Ok (tool, made))) where
+      module _ (differs : made.text ≢ c.file) where
+        other : made.text ≢ s.present
         other same = differs (same ∙ stands.present)
 
-        step : IsStep s (editing IsEdit) (Ok (EditedReply edited.changed)) [] (state_after_edit s tool edited.text)
-        step = (Ok (tool, edited), on_present (Ok (tool, edited)) is, inr (other, refl, refl), refl)
+        step : IsStep s (editing IsEdit) (Ok (EditedReply made.changed)) [] (state_after_edit s tool made.text)
+        step = (Ok (tool, made), on_present (Ok (tool, made)) is, inr (other, refl, refl), refl)
 
-        clashes : ShareDigest c.file edited.text → Clashes s (editing IsEdit)
+        clashes : ShareDigest c.file made.text → Clashes s (editing IsEdit)
         clashes same = record {
-          reply = EditedReply edited.changed;
-          later = state_after_edit s tool edited.text;
+          reply = EditedReply made.changed;
+          later = state_after_edit s tool made.text;
           step = step;
           differ = other;
-          same_digest = subst (λ t. ShareDigest t edited.text) (sym stands.present) same;
+          same_digest = subst (λ t. ShareDigest t made.text) (sym stands.present) same;
         }
 
-      stands_after_edit : (o : Opened) (plan : Plan) → Opens c.file c.journal o → IsPlanned o c tool edited plan
-          → Stands (written c (writes_of plan)) (state_after_edit s tool edited.text)
+      stands_after_edit : (o : Opened) (plan : Plan) → Opens c.file c.journal o → IsPlanned o c tool made plan
+          → Stands (written c (writes_of plan)) (state_after_edit s tool made.text)
       stands_after_edit o plan opens planned =
           let by = by_opening o opens in
-          let edit = edit_to o tool edited.text (one_pass tool edited.patch) in
+          let edit = edit_to o tool made.text made.steps in
           record {
-            opened = after_edit_plan o c.journal tool (one_pass tool edited.patch) edited.text;
+            opened = after_edit_plan o c.journal tool made.steps made.text;
             opens = planned.safe.next;
             settled = refl;
             present = sym planned.planned.1;
@@ -190,32 +189,32 @@ module _ (c : Contents) (s : State) (stands : Stands c s) where
               sym by.next,
               refl,
               subst (λ t. Leads Backward edit t s.present) (sym planned.planned.1)
-                  (subst (λ t. Leads Backward edit edited.text t) (sym by.present) (edit_leads_back c o tool edited plan opens planned)),
+                  (subst (λ t. Leads Backward edit made.text t) (sym by.present) (edit_leads_back c o tool made plan opens planned)),
               subst (λ t. AreEntries Backward o.past s.past t) (sym by.present) by.past,
             );
             future = tt;
             next = ap (λ n. n + 1) by.next;
           }
 
-      edit_steps : (o : Opened) (r : Result Outcome Fault) → Opens c.file c.journal o → IsEditOutcome o c tool edited r
+      edit_steps : (o : Opened) (r : Result Outcome Fault) → Opens c.file c.journal o → IsEditOutcome o c tool made r
           → StepsAsMachine c s (editing IsEdit) r
       edit_steps o (Ok outcome) opens (inl (same, e)) =
           subst (λ x. StepsAsMachine c s (editing IsEdit) (Ok x)) (sym e)
-          (s, (Ok (tool, edited), on_present (Ok (tool, edited)) is, inl (same ∙ sym stands.present, refl, refl), refl), stands)
+          (s, (Ok (tool, made), on_present (Ok (tool, made)) is, inl (same ∙ sym stands.present, refl, refl), refl), stands)
       edit_steps o (Ok outcome) opens (inr (differs, (plan, planned, e))) =
           subst (λ x. StepsAsMachine c s (editing IsEdit) (Ok x)) (sym e)
-          (state_after_edit s tool edited.text, step differs, stands_after_edit o plan opens planned)
+          (state_after_edit s tool made.text, step differs, stands_after_edit o plan opens planned)
       edit_steps o (Err fault) opens (differs, e, same) = inr (e, clashes differs same)
 
     edits_step : (r : Result Outcome Fault)
-        → Then (IsDescribedText c.file) (λ text. Then (IsOpening c.file c.journal) (λ o. Then (IsMade IsEdit text) (λ made. IsEditOutcome o c made.0 made.1))) r
+        → Then (IsDescribedText c.file) (λ text. Then (IsOpening c.file c.journal) (λ o. Then (IsMade IsEdit text) (λ told. IsEditOutcome o c told.0 told.1))) r
         → StepsAsMachine c s (editing IsEdit) r
     edits_step r (inl (fault, refused, e)) =
         subst (λ x. StepsAsMachine c s (editing IsEdit) x) (sym e) (edit_refused fault (inl (fault, refused, refl)))
     edits_step r (inr (text, is, inl (fault, refused, e))) = absurd (no_refusal fault refused)
     edits_step r (inr (text, is, inr (o, opens, inl (fault, refused, e)))) =
         subst (λ x. StepsAsMachine c s (editing IsEdit) x) (sym e) (edit_refused fault (inr (text, is, refused)))
-    edits_step r (inr (text, is, inr (o, opens, inr ((tool, edited), done, last)))) = edit_steps tool edited (inr (text, is, done)) o r opens last
+    edits_step r (inr (text, is, inr (o, opens, inr ((tool, made), done, last)))) = edit_steps tool made (inr (text, is, done)) o r opens last
 
   -- ---- a move
 

@@ -1,5 +1,5 @@
 -- What an outcome writes, where a write fails and where none does.
-use Rattle.std.proofs.Common.{◌≡◌, ◌⊎◌, inl, inr, ℕ, ◌+◌, zero, suc, List, [], length, take, Result, Ok, Err, ap, sym, subst, refl, ◌∙◌, arith}
+use Rattle.std.proofs.Common.{◌≡◌, ◌⊎◌, inl, inr, ℕ, ◌+◌, zero, suc, List, [], length, take, Ok, ap, sym, subst, refl, ◌∙◌, arith}
 use Rattle.std.proofs.lemmas.List.{take_all}
 use Rattle.rec_journal.specs.declared.plan.Plan.{Plan}
 use Rattle.rec_journal.specs.History.{Opened, Opens, IsRegular}

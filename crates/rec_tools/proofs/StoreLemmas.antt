@@ -4,11 +4,10 @@ use Rattle.rec_text.specs.declared.fault.Fault.{Fault}
 use Rattle.rec_text.specs.declared.fault.Fault.TheVariants.{StoreFailed}
 use Rattle.rec_journal.specs.declared.event.Tool.{Tool}
 use Rattle.rec_journal.specs.History.{Opened, IsOpening}
-use Rattle.rec_edit.specs.declared.outcome.Edited.{Edited}
-use Rattle.rec_edit.specs.Task.{Task, insert, replace, delete, comment_out, set, auto_fill, fresh_by}
+use Rattle.rec_edit.specs.declared.batches.BatchEdited.{BatchEdited}
 use Rattle.rec_tools.specs.declared.request.Reply.TheVariants.{Shown}
 use Rattle.rec_tools.specs.declared.request.Request.{Request}
-use Rattle.rec_tools.specs.declared.request.Request.TheVariants.{Show, Info, Check, Insert, Replace, Delete, CommentOut, Set, AutoFill, Undo, Redo, History}
+use Rattle.rec_tools.specs.declared.request.Request.TheVariants.{Show, Info, Check, Insert, Replace, Delete, CommentOut, Set, AutoFill, Batch, Undo, Redo, History}
 use Rattle.rec_tools.specs.Home.{Contents}
 use Rattle.rec_tools.specs.Steps.{Then}
 use Rattle.rec_journal.specs.declared.patch.Direction.{Direction}
@@ -17,23 +16,23 @@ use Rattle.rec_journal.specs.Plans.{nothing_there}
 use Rattle.rec_check.specs.DescribedTexts.{DescribedText, IsDescribedText}
 use Rattle.rec_tools.specs.Printouts.{printed_history}
 use Rattle.rec_select.specs.Info.{IsInfo}
-use Rattle.rec_tools.specs.Requests.{IsTask, IsTaskBy, editing, moving, asked_of}
+use Rattle.rec_tools.specs.Requests.{Edits, IsOneEdit, IsBatch, editing, moving, asked_of}
 use Rattle.rec_tools.specs.Outcomes.{Outcome, IsMade, IsEditOutcome, IsMove, IsOutcome, printing}
 use Rattle.rec_tools.proofs.FaultLemmas.{ok_is_no_err}
 use Rattle.rec_tools.proofs.PutsLemmas.{no_store_then, no_store_text}
 use Rattle.rec_tools.proofs.ShowLemmas.{no_store_show}
 use Rattle.rec_tools.proofs.InformLemmas.{no_store_info}
 use Rattle.rec_tools.proofs.CheckLemmas.{no_store_report}
-use Rattle.rec_tools.proofs.EditLemmas.{no_store_made, no_store_told, no_store_told_by}
+use Rattle.rec_tools.proofs.EditLemmas.{no_store_made, no_store_one, no_store_listed}
 
 -- ---- edits
 
-no_store_edit : (o : Opened) (c : Contents) (tool : Tool) (edited : Edited) → IsEditOutcome o c tool edited (Err StoreFailed) → ⊥
-no_store_edit o c tool edited h = let e = h.1 in cc
+no_store_edit : (o : Opened) (c : Contents) (tool : Tool) (made : BatchEdited) → IsEditOutcome o c tool made (Err StoreFailed) → ⊥
+no_store_edit o c tool made h = let e = h.1 in cc
 
-never_edits : (c : Contents) (IsEdit : Result (Task × Bool) Fault → Type 0) → (IsEdit (Err StoreFailed) → ⊥) → IsOutcome c (editing IsEdit) (Err StoreFailed) → ⊥
+never_edits : (c : Contents) (IsEdit : Result (Edits × Bool) Fault → Type 0) → (IsEdit (Err StoreFailed) → ⊥) → IsOutcome c (editing IsEdit) (Err StoreFailed) → ⊥
 never_edits c IsEdit never =
-    let last : Opened → Tool × Edited → Result Outcome Fault → Type 0 = λ o made. IsEditOutcome o c made.0 made.1 in
+    let last : Opened → Tool × BatchEdited → Result Outcome Fault → Type 0 = λ o told. IsEditOutcome o c told.0 told.1 in
     let next : DescribedText → Opened → Result Outcome Fault → Type 0 = λ text o. Then (IsMade IsEdit text) (last o) in
     no_store_then (IsDescribedText c.file) (λ text. Then (IsOpening c.file c.journal) (next text)) (no_store_text c.file) (λ text.
     no_store_then (IsOpening c.file c.journal) (next text) (λ h. h) (λ o.
@@ -59,15 +58,13 @@ never_store (Show pick form collapse) c is = no_store_show c.file pick form coll
 never_store (Info kind form) c is =
     no_store_then (IsDescribedText c.file) (λ text. IsInfo text.pieces text.schema.sets kind form) (no_store_text c.file) (λ text. no_store_info text kind form) is
 never_store Check c is = no_store_report c.file is
-never_store (Insert kind fresh auto force) c is =
-    never_edits c (IsTask (insert kind (fresh_by fresh) auto) force) (no_store_told (insert kind (fresh_by fresh) auto) force) is
-never_store (Replace pick fresh force) c is =
-    never_edits c (IsTaskBy (λ wanted. replace wanted (fresh_by fresh)) pick force) (no_store_told_by (λ wanted. replace wanted (fresh_by fresh)) pick force) is
-never_store (Delete pick force) c is = never_edits c (IsTaskBy delete pick force) (no_store_told_by delete pick force) is
-never_store (CommentOut pick force) c is = never_edits c (IsTaskBy comment_out pick force) (no_store_told_by comment_out pick force) is
-never_store (Set pick list action force) c is =
-    never_edits c (IsTaskBy (λ wanted. set wanted list action) pick force) (no_store_told_by (λ wanted. set wanted list action) pick force) is
-never_store (AutoFill force) c is = never_edits c (IsTask auto_fill force) (no_store_told auto_fill force) is
+never_store (Insert kind fresh auto force) c is = never_edits c (IsOneEdit (Insert kind fresh auto force) force) (no_store_one (Insert kind fresh auto force) force) is
+never_store (Replace pick fresh force) c is = never_edits c (IsOneEdit (Replace pick fresh force) force) (no_store_one (Replace pick fresh force) force) is
+never_store (Delete pick force) c is = never_edits c (IsOneEdit (Delete pick force) force) (no_store_one (Delete pick force) force) is
+never_store (CommentOut pick force) c is = never_edits c (IsOneEdit (CommentOut pick force) force) (no_store_one (CommentOut pick force) force) is
+never_store (Set pick list action force) c is = never_edits c (IsOneEdit (Set pick list action force) force) (no_store_one (Set pick list action force) force) is
+never_store (AutoFill force) c is = never_edits c (IsOneEdit (AutoFill force) force) (no_store_one (AutoFill force) force) is
+never_store (Batch text force) c is = never_edits c (IsBatch text force) (no_store_listed text force) is
 never_store Undo c is = never_moves Backward c is
 never_store Redo c is = never_moves Forward c is
 never_store History c is =

@@ -3,6 +3,7 @@ pub mod Home
 pub mod Steps
 pub mod Asking
 pub mod Printouts
+pub mod Batches
 pub mod Requests
 pub mod Outcomes
 pub mod Attempts

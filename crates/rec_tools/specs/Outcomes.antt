@@ -5,17 +5,20 @@ use Rattle.rec_text.specs.declared.fault.Fault.TheVariants.{BadPattern, DigestCl
 use Rattle.rec_journal.specs.declared.patch.Direction.{Direction}
 use Rattle.rec_journal.specs.declared.patch.Direction.TheVariants.{Forward, Backward}
 use Rattle.rec_journal.specs.declared.event.Tool.{Tool}
+use Rattle.rec_journal.specs.declared.event.Tool.TheVariants.{Batch}
 use Rattle.rec_journal.specs.declared.plan.Plan.{Plan}
-use Rattle.rec_journal.specs.Patch.{Splices}
 use Rattle.rec_journal.specs.History.{Opened, IsOpening}
-use Rattle.rec_journal.specs.Revisions.{one_pass}
+use Rattle.rec_journal.specs.Revisions.{single_step, LeadsBy}
 use Rattle.rec_journal.specs.Plans.{ShareDigest, IsEditPlan, after_edit_plan, MovesByNearest, after_move, IsMovePlan}
 use Rattle.rec_journal.specs.Stops.{IsSafe}
 use Rattle.rec_tools.specs.declared.decision.Decision.{Decision}
 use Rattle.rec_tools.specs.declared.decision.Decision.TheVariants.{Stay, Put}
+use Rattle.rec_edit.specs.declared.batches.BatchEdited.{BatchEdited}
 use Rattle.rec_edit.specs.declared.outcome.Edited.{Edited}
-use Rattle.rec_edit.specs.Task.{Task, tool_of}
+use Rattle.rec_edit.specs.Task.{tool_of}
 use Rattle.rec_edit.specs.Outcome.{IsOutcome as IsOutcomeOf}
+use Rattle.rec_edit.specs.Batch.{IsBatchOutcome}
+use Rattle.rec_text.specs.Elements.{text_of}
 use Rattle.rec_check.specs.DescribedTexts.{DescribedText, IsDescribedText}
 use Rattle.rec_tools.specs.declared.home.Which.{Which}
 use Rattle.rec_tools.specs.declared.home.Which.TheVariants.{Base as TheFile, Journal as TheJournal}
@@ -25,7 +28,7 @@ use Rattle.rec_tools.specs.declared.request.Reply.TheVariants.{Shown, Edited as 
 use Rattle.rec_tools.specs.Home.{Contents}
 use Rattle.rec_tools.specs.Steps.{Then}
 use Rattle.rec_tools.specs.Printouts.{Printout, printed_history}
-use Rattle.rec_tools.specs.Requests.{Asked, looking, listing, editing, moving, asked_of}
+use Rattle.rec_tools.specs.Requests.{Edits, one_edit, batch_of, Asked, looking, listing, editing, moving, asked_of}
 
 -- ---- outcomes
 
@@ -61,28 +64,39 @@ abbrev pub outcome_of : Decision → Outcome
 outcome_of (Stay reply) = staying reply
 outcome_of (Put plan reply) = putting plan reply
 
--- ---- an edit
+-- ---- edits
 
--- what the edit of a task makes of a text, and the tool that does it; or the first refusal
-abbrev pub IsMade : (Result (Task × Bool) Fault → Type 0) → DescribedText → Result (Tool × Edited) Fault → Type 0
-IsMade IsEdit text =
-    Then IsEdit (λ (task, force).
-    Then (IsOutcomeOf text.pieces text.schema force task) (λ edited answer. answer ≡ Ok (tool_of task, edited)))
+-- what one edit makes of a text, as its only step
+abbrev pub by_one : Tool → Edited → BatchEdited
+by_one tool edited = record { steps = single_step tool edited.patch; text = edited.text; changed = edited.changed }
 
--- The plan of an edit: its patch leads from the file to the text, and a stop leaves the history before or the one with the edit.
-pub record IsPlanned (o : Opened) (c : Contents) (tool : Tool) (edited : Edited) (plan : Plan) : Type 0 where
-  pub leads : Splices edited.patch c.file edited.text
-  pub planned : IsEditPlan o c.journal tool (one_pass tool edited.patch) edited.text (Ok plan)
-  pub safe : IsSafe c.file c.journal o (after_edit_plan o c.journal tool (one_pass tool edited.patch) edited.text) plan
+-- what edits, with force or without, make of a text, and the tool that does them; or the first refusal
+abbrev pub Makes : DescribedText → Edits × Bool → Result (Tool × BatchEdited) Fault → Type 0
+Makes text (one_edit task, force) =
+    Then (IsOutcomeOf text.pieces text.schema force task) (λ edited answer.
+    answer ≡ Ok (tool_of task, by_one (tool_of task) edited))
+Makes text (batch_of tasks, force) =
+    Then (IsBatchOutcome force tasks (text_of text.pieces)) (λ made answer.
+    answer ≡ Ok (Batch, made))
+
+-- the same of edits that are told, unless they can't be
+abbrev pub IsMade : (Result (Edits × Bool) Fault → Type 0) → DescribedText → Result (Tool × BatchEdited) Fault → Type 0
+IsMade IsEdit text = Then IsEdit (Makes text)
+
+-- The plan of an edit: its steps lead from the file to the text, and a stop leaves the history before or the one with the edit.
+pub record IsPlanned (o : Opened) (c : Contents) (tool : Tool) (made : BatchEdited) (plan : Plan) : Type 0 where
+  pub leads : LeadsBy made.steps c.file made.text
+  pub planned : IsEditPlan o c.journal tool made.steps made.text (Ok plan)
+  pub safe : IsSafe c.file c.journal o (after_edit_plan o c.journal tool made.steps made.text) plan
 
 -- an edit that leaves the text as it is writes nothing; every other one is put in place, unless the two texts share a digest
-abbrev pub IsEditOutcome : Opened → Contents → Tool → Edited → Result Outcome Fault → Type 0
-IsEditOutcome o c tool edited (Ok outcome) =
-    ((edited.text ≡ c.file) × (outcome ≡ staying Unchanged))
-    ⊎ ((edited.text ≢ c.file)
-    × ((plan : Plan) × IsPlanned o c tool edited plan × (outcome ≡ putting plan (EditedReply edited.changed))))
-IsEditOutcome o c tool edited (Err fault) =
-    (edited.text ≢ c.file) × (fault ≡ DigestClash) × ShareDigest c.file edited.text
+abbrev pub IsEditOutcome : Opened → Contents → Tool → BatchEdited → Result Outcome Fault → Type 0
+IsEditOutcome o c tool made (Ok outcome) =
+    ((made.text ≡ c.file) × (outcome ≡ staying Unchanged))
+    ⊎ ((made.text ≢ c.file)
+    × ((plan : Plan) × IsPlanned o c tool made plan × (outcome ≡ putting plan (EditedReply made.changed))))
+IsEditOutcome o c tool made (Err fault) =
+    (made.text ≢ c.file) × (fault ≡ DigestClash) × ShareDigest c.file made.text
 
 -- ---- a move
 
@@ -118,8 +132,8 @@ IsOutcome c listing answer =
 IsOutcome c (editing IsEdit) answer =
     Then (IsDescribedText c.file) (λ text.
     Then (IsOpening c.file c.journal) (λ o.
-    Then (IsMade IsEdit text) (λ (tool, edited).
-    IsEditOutcome o c tool edited))) answer
+    Then (IsMade IsEdit text) (λ (tool, made).
+    IsEditOutcome o c tool made))) answer
 IsOutcome c (moving direction) answer = Then (IsOpening c.file c.journal) (λ o. IsMove direction o c) answer
 
 -- a decision is what is asked for on a file and a journal, or it is refused so

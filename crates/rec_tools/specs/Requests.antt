@@ -9,11 +9,17 @@ use Rattle.rec_tools.specs.declared.home.Which.{Which}
 use Rattle.rec_tools.specs.declared.home.Which.TheVariants.{Base as TheFile, Journal as TheJournal}
 use Rattle.rec_tools.specs.declared.request.Pick.{Pick}
 use Rattle.rec_tools.specs.declared.request.Request.{Request}
-use Rattle.rec_tools.specs.declared.request.Request.TheVariants.{Show, Info, Check, Insert, Replace, Delete, CommentOut, Set, AutoFill, Undo, Redo, History}
+use Rattle.rec_tools.specs.declared.request.Request.TheVariants.{Show, Info, Check, Insert, Replace, Delete, CommentOut, Set, AutoFill, Batch, Undo, Redo, History}
 use Rattle.rec_check.specs.Violations.{AreViolationsOf}
 use Rattle.rec_tools.specs.Steps.{Then}
 use Rattle.rec_tools.specs.Asking.{IsFilter}
+use Rattle.rec_tools.specs.Batches.{AreEdits}
 use Rattle.rec_tools.specs.Printouts.{Printout, IsShownText, IsReportText, IsShow, IsInfoOf}
+
+-- one edit, or several in turn that are one
+pub data Edits : Type 0 where
+  one_edit : Task → Edits
+  batch_of : List Task → Edits
 
 -- what a request asks for
 pub data Asked : Type 1 where
@@ -21,31 +27,61 @@ pub data Asked : Type 1 where
   looking : (List ℕ → Result Printout Fault → Type 0) → Asked
   -- the history is printed
   listing : Asked
-  -- the edit of this task is made, with force or without, unless the task can't be told
-  editing : (Result (Task × Bool) Fault → Type 0) → Asked
+  -- these edits are made, with force or without, unless they can't be told
+  editing : (Result (Edits × Bool) Fault → Type 0) → Asked
   -- the nearest edit that way is taken back or made again
   moving : Direction → Asked
 
--- this task, with force or without
-abbrev pub IsTask : Task → Bool → Result (Task × Bool) Fault → Type 0
-IsTask task force answer = answer ≡ Ok (task, force)
+-- ---- edits
 
 -- the task of the records that a pick selects
-abbrev pub IsTaskBy : (Wanted → Task) → Pick → Bool → Result (Task × Bool) Fault → Type 0
-IsTaskBy task_for pick force =
-    Then (IsFilter pick.by) (λ filter. IsTask (task_for (record { kind = pick.kind; filter = filter })) force)
+abbrev pub IsTaskBy : (Wanted → Task) → Pick → Result Task Fault → Type 0
+IsTaskBy task_for pick =
+    Then (IsFilter pick.by) (λ filter answer. answer ≡ Ok (task_for (record { kind = pick.kind; filter = filter })))
+
+-- the task of a request that is one edit
+abbrev pub IsTaskOf : Request → Result Task Fault → Type 0
+IsTaskOf (Insert kind fresh auto force) answer = answer ≡ Ok (insert kind (fresh_by fresh) auto)
+IsTaskOf (Replace pick fresh force) answer = IsTaskBy (λ wanted. replace wanted (fresh_by fresh)) pick answer
+IsTaskOf (Delete pick force) answer = IsTaskBy delete pick answer
+IsTaskOf (CommentOut pick force) answer = IsTaskBy comment_out pick answer
+IsTaskOf (Set pick list action force) answer = IsTaskBy (λ wanted. set wanted list action) pick answer
+IsTaskOf (AutoFill force) answer = answer ≡ Ok auto_fill
+IsTaskOf _ answer = ⊥
+
+-- the tasks of requests, each of which is one edit
+abbrev pub AreTasks : List Request → Result (List Task) Fault → Type 0
+AreTasks [] answer = answer ≡ Ok []
+AreTasks (request ∷ requests) answer =
+    Then (IsTaskOf request) (λ task.
+    Then (AreTasks requests) (λ tasks answer.
+    answer ≡ Ok (task ∷ tasks))) answer
+
+-- the one edit of a request, with force or without
+abbrev pub IsOneEdit : Request → Bool → Result (Edits × Bool) Fault → Type 0
+IsOneEdit request force = Then (IsTaskOf request) (λ task answer. answer ≡ Ok (one_edit task, force))
+
+-- the edits that a text lists, with force or without
+abbrev pub IsBatch : List ℕ → Bool → Result (Edits × Bool) Fault → Type 0
+IsBatch text force =
+    Then (AreEdits text) (λ requests.
+    Then (AreTasks requests) (λ tasks answer.
+    answer ≡ Ok (batch_of tasks, force)))
+
+-- ---- requests
 
 -- the requests
 abbrev pub asked_of : Request → Asked
 asked_of (Show pick form collapse) = looking (λ file. IsShownText (IsShow file pick form collapse))
 asked_of (Info kind form) = looking (λ file. IsShownText (IsInfoOf file kind form))
 asked_of Check = looking (λ file. IsReportText (AreViolationsOf file))
-asked_of (Insert kind fresh auto force) = editing (IsTask (insert kind (fresh_by fresh) auto) force)
-asked_of (Replace pick fresh force) = editing (IsTaskBy (λ wanted. replace wanted (fresh_by fresh)) pick force)
-asked_of (Delete pick force) = editing (IsTaskBy delete pick force)
-asked_of (CommentOut pick force) = editing (IsTaskBy comment_out pick force)
-asked_of (Set pick list action force) = editing (IsTaskBy (λ wanted. set wanted list action) pick force)
-asked_of (AutoFill force) = editing (IsTask auto_fill force)
+asked_of (Insert kind fresh auto force) = editing (IsOneEdit (Insert kind fresh auto force) force)
+asked_of (Replace pick fresh force) = editing (IsOneEdit (Replace pick fresh force) force)
+asked_of (Delete pick force) = editing (IsOneEdit (Delete pick force) force)
+asked_of (CommentOut pick force) = editing (IsOneEdit (CommentOut pick force) force)
+asked_of (Set pick list action force) = editing (IsOneEdit (Set pick list action force) force)
+asked_of (AutoFill force) = editing (IsOneEdit (AutoFill force) force)
+asked_of (Batch text force) = editing (IsBatch text force)
 asked_of Undo = moving Backward
 asked_of Redo = moving Forward
 asked_of History = listing

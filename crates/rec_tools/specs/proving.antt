@@ -3,3 +3,4 @@ pub mod ReadFiles
 pub mod Editing
 pub mod Listed
 pub mod Silently
+pub mod Finding

@@ -1,20 +1,20 @@
 //! What a request makes of a file and a journal, before anything is replaced.
-ghost use Rattle.std.specs.Prelude.{◌≡◌, ◌↔◌, IsTrue, [], Ok, Err, IfOk, IfErr, MatchOption};
+ghost use Rattle.std.specs.Prelude.{◌≡◌, ◌≢◌, ◌↔◌, IsTrue, Ok, Err, IfOk, IfErr, MatchOption};
 ghost use Rattle.rec_text.specs.Faults.{IsMemoryOr, UnlessMemory};
-ghost use Rattle.rec_text.specs.Elements.{text_of};
-ghost use Rattle.rec_tools.specs.proving.ReadFiles.{described_file, BelongTogether};
+ghost use Rattle.rec_journal.specs.History.{IsOpening};
 ghost use Rattle.rec_journal.specs.Plans.{nothing_there};
 ghost use Rattle.rec_tools.specs.Steps.{IsRefusal};
 ghost use Rattle.rec_tools.specs.Requests.{moving, asked_of, IsSilent};
-ghost use Rattle.rec_tools.specs.Outcomes.{Decides, IsMade, reply_of};
-ghost use Rattle.rec_tools.specs.proving.Editing.{IsEditing, IsEditOf, IsChange, TellsChanges};
+ghost use Rattle.rec_tools.specs.Outcomes.{Decides, reply_of};
+ghost use Rattle.rec_tools.specs.declared.making.Made.TheVariants.{One, Several};
+ghost use Rattle.rec_tools.specs.proving.Editing.{IsEditing, IsChange, IsPut, TellsChanges, told_by};
 
-use crate::editing::edit_of;
 use crate::history::history_of;
-use crate::rec_file::{ReadFile, read_file};
+use crate::making::{Made, made_by, text_made};
+use crate::rec_file::read_file;
 use crate::request::{Reply, Request};
-use rec_edit::{Edited, edit};
-use rec_journal::{Direction, Hashed, History, Plan, Tool, plan_edit, plan_move};
+use rec_edit::{BatchEdited, Edited};
+use rec_journal::{Direction, Hashed, History, Plan, Tool, plan_batch, plan_edit, plan_move};
 use rec_text::Fault;
 use std::alloc::Global;
 
@@ -25,19 +25,6 @@ pub enum Decision {
     Put(Plan, Reply),
 }
 
-/// What a request makes of a file, and the tool that does it.
-fn edited_by(alloc: Global, file: &ReadFile, request: &Request) -> Result<(Tool, Edited), Fault>
-    requires edits { IsEditing (asked_of request.now) }
-    requires together { BelongTogether file.now }
-    ensures found { UnlessMemory result (IsMade (IsEditOf (asked_of request.now)) (described_file file.now)) }
-    ensures refusals { IfErr result IsRefusal }
-    ensures tells { IfOk result (λ made. TellsChanges (text_of file.now.database) made.1) }
-{
-    let (asked, force) = edit_of(alloc, request)?;
-    let edited = edit(alloc, &file.database, &file.schema, &asked, force)?;
-    Ok((asked.tool(), edited))
-}
-
 /// The history of a file, and what a request makes of the file. The elements of the file are let go here, before a plan is
 /// made, which needs memory too.
 fn change_by(
@@ -45,7 +32,7 @@ fn change_by(
     file: &Hashed<'_>,
     journal: &[u8],
     request: &Request,
-) -> Result<(History, Tool, Edited), Fault>
+) -> Result<(History, Made), Fault>
     requires { IsEditing (asked_of request.now) }
     ensures found { IfOk result (λ change. IsChange file.now journal.now (asked_of request.now) change) }
     ensures refused { IfErr result (λ fault.
@@ -54,15 +41,82 @@ fn change_by(
 {
     let read = read_file(alloc, file.text())?;
     let history = History::load(alloc, file, journal)?;
-    let (tool, edited) = edited_by(alloc, &read, request)?;
-    Ok((history, tool, edited))
+    let made = made_by(alloc, &read, request)?;
+    Ok((history, made))
 }
 
-/// Whether an edit changes nothing.
-fn is_idle(edited: &Edited) -> bool
-    ensures { IsTrue result ↔ (edited.now.patch ≡ []) }
+/// Whether edits leave a text as it is.
+fn is_idle(made: &Made, file: &[u8]) -> bool
+    ensures { IsTrue result ↔ (((told_by made.now).1).text ≡ file.now) }
 {
-    edited.patch.hunks().is_empty()
+    text_made(made) == file
+}
+
+/// Plans what a tool made of a file.
+fn put_one(
+    alloc: Global,
+    history: &History,
+    file: &Hashed<'_>,
+    journal: &[u8],
+    tool: Tool,
+    edited: Edited,
+) -> Result<Decision, Fault>
+    requires opened { IsOpening file.now journal.now (Ok history.now) }
+    requires differs { edited.text ≢ file.now }
+    requires tells { TellsChanges file.now (One tool edited) }
+    ensures found { UnlessMemory result (IsPut history.now file.now journal.now (One tool edited)) }
+    ensures refusals { IfErr result IsRefusal }
+{
+    let Edited {
+        patch,
+        text,
+        changed,
+    } = edited;
+    let plan = plan_edit(alloc, history, file, journal, tool, &patch, text)?;
+    Ok(Decision::Put(plan, Reply::Edited(changed)))
+}
+
+/// Plans what a batch made of a file.
+fn put_batch(
+    alloc: Global,
+    history: &History,
+    file: &Hashed<'_>,
+    journal: &[u8],
+    edited: BatchEdited,
+) -> Result<Decision, Fault>
+    requires opened { IsOpening file.now journal.now (Ok history.now) }
+    requires differs { edited.text ≢ file.now }
+    requires tells { TellsChanges file.now (Several edited) }
+    ensures found { UnlessMemory result (IsPut history.now file.now journal.now (Several edited)) }
+    ensures refusals { IfErr result IsRefusal }
+{
+    let BatchEdited {
+        steps,
+        text,
+        changed,
+    } = edited;
+    let plan = plan_batch(alloc, history, file, journal, &steps, text)?;
+    Ok(Decision::Put(plan, Reply::Edited(changed)))
+}
+
+/// Plans what was made of a file.
+fn put_made(
+    alloc: Global,
+    history: &History,
+    file: &Hashed<'_>,
+    journal: &[u8],
+    made: Made,
+) -> Result<Decision, Fault>
+    requires opened { IsOpening file.now journal.now (Ok history.now) }
+    requires differs { ((told_by made).1).text ≢ file.now }
+    requires tells { TellsChanges file.now made }
+    ensures found { UnlessMemory result (IsPut history.now file.now journal.now made) }
+    ensures refusals { IfErr result IsRefusal }
+{
+    match made {
+        Made::One(tool, edited) => put_one(alloc, history, file, journal, tool, edited),
+        Made::Several(edited) => put_batch(alloc, history, file, journal, edited),
+    }
 }
 
 /// Decides an edit on a file that was hashed and a journal.
@@ -76,17 +130,11 @@ fn decide_on(
     ensures found { UnlessMemory result (Decides file.now journal.now (asked_of request.now)) }
     ensures refusals { IfErr result IsRefusal }
 {
-    let (history, tool, edited) = change_by(alloc, file, journal, request)?;
-    if is_idle(&edited) {
+    let (history, made) = change_by(alloc, file, journal, request)?;
+    if is_idle(&made, file.text()) {
         return Ok(Decision::Stay(Reply::Unchanged));
     }
-    let Edited {
-        patch,
-        text,
-        changed,
-    } = edited;
-    let plan = plan_edit(alloc, &history, file, journal, tool, &patch, text)?;
-    Ok(Decision::Put(plan, Reply::Edited(changed)))
+    put_made(alloc, &history, file, journal, made)
 }
 
 /// Decides an edit on a file and a journal.

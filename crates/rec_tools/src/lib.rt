@@ -2,11 +2,13 @@
 //! `docs/guarantees.md` says what is promised, and `specs/` states it, from `Home` to `Guarantee`.
 #![tactic(auto)]
 
+mod batches;
 mod decision;
 mod editing;
 mod history;
 mod home;
 mod laws;
+mod making;
 mod memory;
 mod printing;
 mod rec_file;
@@ -14,6 +16,7 @@ mod request;
 mod runner;
 mod selecting;
 
+pub use batches::batch_requests;
 pub use home::{Home, Which};
 pub use laws::{
     first_stands, one_outcome, one_state, one_step, outcomes_are_steps, outside_is_noticed,

@@ -93,6 +93,12 @@ pub enum Request {
     AutoFill {
         force: bool,
     },
+    /// Makes the edits that a rec text lists, one after another, as one edit. Only with `force` may one of them delete all
+    /// records of a set, and may the file break the rules of its record sets after the last.
+    Batch {
+        text: Bytes,
+        force: bool,
+    },
     /// Takes the newest edit back.
     Undo,
     /// Makes the edit that was taken back last again.

@@ -115,6 +115,7 @@ fn attempt<H: Home, S: Sink>(
         | Request::CommentOut { .. }
         | Request::Set { .. }
         | Request::AutoFill { .. }
+        | Request::Batch { .. }
         | Request::Undo
         | Request::Redo => make_change(alloc, home, request),
     }

@@ -1,0 +1,28 @@
+use Rattle.std.specs.Prelude.{Ok, Err}
+use Rattle.rec_text.specs.Faults.{IsMemoryOr}
+use Rattle.rec_tools.specs.Batches.{AreEdits}
+use Rattle.rec_tools.specs.proving.Finding.{AreEditsIn}
+use Rattle.rec_tools.proofs.FaultLemmas.{memory_or_weaker}
+use Rattle.rec_tools.proofs.BatchLemmas.{one_answer, read_edits, IfOk-weaker, IfErr-weaker}
+use Rattle.rec_tools.proofs.batches.batch_requests.Goals as goal
+
+pub returns-in-Ok-clause-found : goal.returns-in-Ok-clause-found
+returns-in-Ok-clause-found c =
+    let pieces = c.in-Ok.database in
+    IfOk-weaker (λ requests. AreEditsIn pieces (Ok requests.items)) (λ requests. AreEdits c.args.text.now (Ok requests.items))
+    (λ requests edits. read_edits c.args.text.now pieces (Ok requests.items) c.in-Ok.ensures.found edits)
+    c.edits_of.result c.edits_of.ensures.found
+
+pub returns-in-Ok-clause-refused : goal.returns-in-Ok-clause-refused
+returns-in-Ok-clause-refused c =
+    let pieces = c.in-Ok.database in
+    IfErr-weaker (λ fault. IsMemoryOr fault (AreEditsIn pieces (Err fault)))
+    (λ fault. IsMemoryOr fault (AreEdits c.args.text.now (Err fault)))
+    (λ fault edits. memory_or_weaker fault _ _ (λ edits. read_edits c.args.text.now pieces (Err fault) c.in-Ok.ensures.found edits) edits)
+    c.edits_of.result c.edits_of.ensures.refused
+
+pub returns-in-Ok-clause-only : goal.returns-in-Ok-clause-only
+returns-in-Ok-clause-only c = one_answer c.args.text.now
+
+pub returns-in-Err-clause-only : goal.returns-in-Err-clause-only
+returns-in-Err-clause-only c = one_answer c.args.text.now

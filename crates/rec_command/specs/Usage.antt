@@ -23,6 +23,13 @@ flag letter name = record (new_rule name) {
   action = Some SetTrue;
 }
 
+-- `-b PATH`
+abbrev pub batch_option : Rule
+batch_option = record (new_rule (codes "batch")) {
+  short = slice_get (codes "b") 0;
+  value_names = 1;
+}
+
 -- `--journal PATH`
 abbrev pub journal_option : Rule
 journal_option = record (new_rule (codes "journal")) {
@@ -115,6 +122,14 @@ recset_usage = tool_with (codes "recset") (
     ∷ needed_file
     ∷ [])
 
+abbrev pub batch_usage : App
+batch_usage = tool_with (codes "batch") (
+    batch_option
+    ∷ flag [] (codes "force")
+    ∷ journal_option
+    ∷ needed_file
+    ∷ [])
+
 -- a tool that only takes the paths of the file and its journal
 abbrev pub paths_usage : Text → App
 paths_usage name = tool_with name (journal_option ∷ needed_file ∷ [])
@@ -140,6 +155,7 @@ tools =
     ∷ recins_usage
     ∷ recdel_usage
     ∷ recset_usage
+    ∷ batch_usage
     ∷ paths_usage (codes "undo")
     ∷ paths_usage (codes "redo")
     ∷ paths_usage (codes "history")

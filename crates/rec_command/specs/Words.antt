@@ -15,7 +15,7 @@ use Rattle.rec_tools.specs.declared.request.Form.{Form}
 use Rattle.rec_tools.specs.declared.request.Form.TheVariants.{Blocks, Print, Values, Row as OneRow, Count}
 use Rattle.rec_tools.specs.declared.request.Pick.{Pick}
 use Rattle.rec_tools.specs.declared.request.Request.{Request}
-use Rattle.rec_tools.specs.declared.request.Request.TheVariants.{Show, Info, Check, Insert, Replace, Delete, CommentOut, Set, AutoFill, Undo, Redo, History}
+use Rattle.rec_tools.specs.declared.request.Request.TheVariants.{Show, Info, Check, Insert, Replace, Delete, CommentOut, Set, AutoFill, Batch, Undo, Redo, History}
 use Rattle.rec_files.specs.Paths.{journal_of, AreApart}
 use Rattle.rec_command.specs.declared.args.Asked.{Asked}
 use Rattle.rec_command.specs.Usage.{usage}
@@ -132,9 +132,18 @@ Asks tool options (Set pick list action force) =
 Asks tool options (AutoFill force) =
     (tool ≡ codes "recfix") × (has_flag (codes "auto") options ≡ true) × (has_flag (codes "check") options ≡ false)
     × (force ≡ has_flag (codes "force") options)
+-- the text of a batch stands in the file that `-b` names: none of it is here yet
+Asks tool options (Batch text force) =
+    (tool ≡ codes "batch") × (first_of (codes "batch") options ≢ None) × (text ≡ [])
+    × (force ≡ has_flag (codes "force") options)
 Asks tool options Undo = tool ≡ codes "undo"
 Asks tool options Redo = tool ≡ codes "redo"
 Asks tool options History = tool ≡ codes "history"
+
+-- a batch with this text as its own; another request stays as it is
+abbrev pub with_text : List ℕ → Request → Request
+with_text text (Batch given force) = Batch text force
+with_text text request = request
 
 -- ---- the paths
 
@@ -163,6 +172,7 @@ pub record IsAsked (words : List Text) (asked : Asked) : Type 0 where
   pub options : List Row
   pub named : subcommand_of usage words ≡ Some (tool, options)
   pub request : Asks tool options asked.request
+  pub batch : option_map string_bytes asked.batch ≡ first_of (codes "batch") options
   pub file : option_map string_bytes asked.file ≡ first_of (codes "file") options
   pub journal : IsJournal asked.request (first_of (codes "file") options) (first_of (codes "journal") options)
       (option_map string_bytes asked.journal)

@@ -2,7 +2,7 @@
 ghost use Rattle.std.specs.Prelude.{◌≡◌, map, IfOk};
 ghost use Rattle.clap.specs.Words.{found_of, rows_of};
 ghost use Rattle.rec_text.specs.Faults.{IsOkUnlessEither};
-ghost use Rattle.rec_command.specs.Words.{Asks, IsAsked};
+ghost use Rattle.rec_command.specs.Words.{Asks, IsAsked, with_text};
 
 mod editing;
 mod found;
@@ -13,9 +13,10 @@ mod selecting;
 mod usage;
 
 use clap::ArgMatches;
-use editing::{recdel_request, recfix_request, recins_request, recset_request};
+use editing::{batch_request, recdel_request, recfix_request, recins_request, recset_request};
+use found::given;
 use paths::{copied, journal};
-use rec_tools::{Fault, Request};
+use rec_tools::{Bytes, Fault, Request};
 pub use refusal::Refusal;
 use selecting::{recinf_request, recsel_request};
 use std::alloc::Global;
@@ -24,10 +25,13 @@ use std::rt::Env;
 use std::{env, io};
 use usage::command;
 
-/// What the words ask for, and the two files that it is asked of.
+/// What the words ask for, and the two files that it is asked of. A batch has no text yet: `with_batch` gives it that of the
+/// file that the words name.
 #[derive(Drop)]
 pub struct Asked {
     pub request: Request,
+    /// The path of a batch.
+    pub batch: Option<String>,
     pub file: Option<String>,
     pub journal: Option<String>,
 }
@@ -55,10 +59,11 @@ pub fn parse<S: AsStr>(alloc: Global, words: &[S]) -> Result<Asked, Refusal>
         return Err(Refusal::Rule("a tool is needed"));
     };
     let request = request(alloc, tool, options)?;
-    let file = options.get_str("file");
-    let journal = journal(alloc, &request, file, options.get_str("journal"))?;
+    let file = given(options, "file");
+    let journal = journal(alloc, &request, file, given(options, "journal"))?;
     Ok(Asked {
         request,
+        batch: copied(alloc, given(options, "batch"))?,
         file: copied(alloc, file)?,
         journal,
     })
@@ -75,6 +80,16 @@ pub fn request_of<S: AsStr>(alloc: Global, words: &[S]) -> Result<Asked, Fault>
     }
 }
 
+/// The request, with this text as that of its batch.
+pub fn with_batch(request: Request, text: Bytes) -> Request
+    ensures { result ≡ with_text text request }
+{
+    match request {
+        Request::Batch { force, .. } => Request::Batch { text, force },
+        request => request,
+    }
+}
+
 /// The request of a tool, from the options that were found.
 fn request(alloc: Global, tool: &str, options: &ArgMatches) -> Result<Request, Refusal>
     ensures { IfOk result (Asks tool.now (rows_of (found_of options.now))) }
@@ -86,6 +101,7 @@ fn request(alloc: Global, tool: &str, options: &ArgMatches) -> Result<Request, R
         "recins" => recins_request(alloc, options),
         "recdel" => recdel_request(alloc, options),
         "recset" => recset_request(alloc, options),
+        "batch" => batch_request(alloc, options),
         "undo" => Ok(Request::Undo),
         "redo" => Ok(Request::Redo),
         "history" => Ok(Request::History),

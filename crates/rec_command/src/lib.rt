@@ -7,4 +7,4 @@ mod args;
 mod hints;
 mod options;
 
-pub use args::{Asked, Refusal, parse, request_of, words};
+pub use args::{Asked, Refusal, parse, request_of, with_batch, words};

@@ -220,3 +220,10 @@ pub static RECSET: [ToolOption; 8] = [
         help: "Edit also where the rules of a record set are broken then",
     },
 ];
+
+pub static BATCH: [ToolOption; 1] = [ToolOption {
+    letter: None,
+    name: "force",
+    takes: Takes::Nothing,
+    help: "Edit also where a deletion has no selection, and where the rules of a record set are broken then",
+}];

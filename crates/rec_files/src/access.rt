@@ -27,6 +27,7 @@ pub fn access_of(request: &Request) -> Access
         | Request::CommentOut { .. }
         | Request::Set { .. }
         | Request::AutoFill { .. }
+        | Request::Batch { .. }
         | Request::Undo
         | Request::Redo => Access::Change,
     }

@@ -204,7 +204,7 @@ fn path_in<'p>(file: &'p Option<String>, journal: &'p String, which: Which) -> &
 }
 
 /// Memory was refused here, and not in the system.
-fn is_want_of_memory(error: &Error) -> bool
+pub fn is_want_of_memory(error: &Error) -> bool
     ensures { IsTrue result ↔ ((error_kind error.now ≡ ErrorKind.OutOfMemory) × IsNone (raw_os_error error.now)) }
 {
     error.kind() == ErrorKind::OutOfMemory && error.raw_os_error().is_none()

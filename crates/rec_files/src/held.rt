@@ -1,9 +1,9 @@
 //! A file as it was read, locked to the end of the program's work, and whether it still stands at its path.
-ghost use Rattle.std.specs.Prelude.{◌≡◌, IsTrue};
+ghost use Rattle.std.specs.Prelude.{◌≡◌, ◌≤◌, length, IsTrue, IfOk};
 ghost use Rattle.std.specs.Fs.{metadata_len};
 
 use crate::causes::{changed, locked, one_file};
-use crate::reading::read_whole;
+use crate::reading::{LIMIT, read_whole};
 use rec_tools::Which;
 use std::alloc::Global;
 use std::fs::{File, Metadata, OpenOptions, TryLockError};
@@ -29,7 +29,9 @@ impl Held {
     }
 
     /// Its bytes, where nobody writes it meanwhile.
-    pub fn read(&self, alloc: Global, which: Which) -> io::Result<Vec<u8>> {
+    pub fn read(&self, alloc: Global, which: Which) -> io::Result<Vec<u8>>
+        ensures { IfOk result (λ bytes. length bytes.items ≤ LIMIT) }
+    {
         let bytes = read_whole(alloc, which, &self.file)?;
         if self.is_disturbed()? {
             return Err(changed());

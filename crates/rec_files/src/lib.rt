@@ -1,8 +1,9 @@
-//! The home of real files: a file and its journal on disk, with the paths under which they stand.
+//! The home of real files: a file and its journal on disk, with the paths under which they stand, and the text of a batch.
 //! `docs/journal.md` says how they are replaced, and `specs/` defines their paths and rights.
 #![tactic(auto)]
 
 mod access;
+mod batch;
 mod causes;
 mod claim;
 mod files;
@@ -16,5 +17,6 @@ mod rights;
 mod spot;
 
 pub use access::{Access, access_of};
+pub use batch::batch_text;
 pub use files::FileHome;
 pub use paths::{are_apart, journal_path};

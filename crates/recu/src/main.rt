@@ -5,8 +5,8 @@ mod output;
 mod status;
 
 use output::{StandardOutput, room_for};
-use rec_command::{Asked, Refusal, parse, words};
-use rec_files::{FileHome, access_of};
+use rec_command::{Asked, Refusal, parse, with_batch, words};
+use rec_files::{FileHome, access_of, batch_text};
 use rec_tools::{Fault, Output, Reply};
 use std::io;
 use std::process::ExitCode;
@@ -49,9 +49,14 @@ fn explain(rt: &HostRuntime, refusal: &Refusal, words: &[String]) -> Result<(), 
 fn run(rt: &HostRuntime, asked: Asked) -> Result<Reply, Fault> {
     let Asked {
         request,
+        batch,
         file,
         journal,
     } = asked;
+    let request = match batch {
+        Some(path) => with_batch(request, batch_text(rt, path.as_str())?),
+        None => request,
+    };
     let access = access_of(&request);
     let mut home = FileHome::new(rt, file, journal, access);
     let Ok(mut out) = StandardOutput::new(rt.alloc(), room_for(access), rt.stdout()) else {

@@ -1,9 +1,9 @@
-//! What recfix, recins, recdel and recset are asked for.
+//! What recfix, recins, recdel, recset and batch are asked for.
 ghost use Rattle.std.specs.Prelude.{◌≡◌, map, length, IfOk, codes};
 ghost use Rattle.clap.specs.Words.{found_of, rows_of};
 ghost use Rattle.rec_command.specs.Words.{action_given, action_for, IsFresh, Asks};
 
-use super::found::{is_given, text, texts};
+use super::found::{given, is_given, text, texts};
 use super::refusal::Refusal;
 use super::selecting::pick;
 use clap::ArgMatches;
@@ -133,5 +133,18 @@ fn action(alloc: Global, options: &ArgMatches) -> Result<Action, Refusal>
         _ => Err(Refusal::Rule(
             "recset: exactly one of --set, --add, --set-add, --rename, --delete and --comment is needed",
         )),
+    }
+}
+
+/// What batch is asked for. Its text is that of a file, so it isn't here.
+pub fn batch_request(alloc: Global, options: &ArgMatches) -> Result<Request, Refusal>
+    ensures { IfOk result (Asks (codes "batch") (rows_of (found_of options.now))) }
+{
+    match given(options, "batch") {
+        Some(_) => Ok(Request::Batch {
+            text: Bytes::from_vec(Vec::new(alloc)),
+            force: is_given(options, "force"),
+        }),
+        None => Err(Refusal::Rule("batch: -b is needed")),
     }
 }

@@ -1,5 +1,5 @@
 //! What the words give of an option.
-ghost use Rattle.std.specs.Prelude.{◌≡◌, map, IfOk};
+ghost use Rattle.std.specs.Prelude.{◌≡◌, map, IfOk, option_map};
 ghost use Rattle.clap.specs.Words.{first_of, found_of, rows_of};
 ghost use Rattle.rec_command.specs.Words.{has_flag, texts_given};
 
@@ -7,11 +7,18 @@ use clap::ArgMatches;
 use rec_tools::Bytes;
 use std::alloc::{AllocError, Global};
 
-/// The text of an option.
+/// The text of an option or of a word, as it stands there.
+pub fn given<'m>(options: &'m ArgMatches, name: &str) -> Option<&'m str>
+    ensures { option_map (λ text. text.now) result ≡ first_of name.now (rows_of (found_of options.now)) }
+{
+    options.get_str(name)
+}
+
+/// A copy of the text of an option.
 pub fn text(alloc: Global, options: &ArgMatches, name: &str) -> Result<Option<Bytes>, AllocError>
     ensures { IfOk result (λ text. text ≡ first_of name.now (rows_of (found_of options.now))) }
 {
-    match options.get_str(name) {
+    match given(options, name) {
         Some(text) => Ok(Some(Bytes::copy_of(alloc, text.as_bytes())?)),
         None => Ok(None),
     }

@@ -37,6 +37,12 @@ pub const RECSET_ABOUT: &str =
 pub const RECSET_HELP: &str =
     "Examples:\n  recu recset -n 0 -f Email -s ada@example.net contacts.rec\n  recu recset -e '!#Phone' -f Phone -a unknown contacts.rec\n  recu recset -n 2 -f Note --set=-5 contacts.rec";
 
+pub const BATCH_ABOUT: &str =
+    "Makes the edits of PATH one after another, as one edit: where one of them is refused none is made,\nand one undo takes them all back. -b is needed.";
+
+pub const BATCH_HELP: &str =
+    "PATH is a rec file, and each of its records is an edit:\n\n  Tool: recset\n  Expression: Name ~ 'Ada'\n  Fields: Phone\n  SetAdd: 555 0199\n\n  Tool: recdel\n  Number: 1\n\nTool is recins, recdel, recset, or recfix, which gives automatic fields. The other fields are called as\nthe tool's options are: Type and one of Expression, Number and Quick; for recins Field and Value, or\nRecord, and Auto: no; for recdel Comment: yes; for recset Fields and one of Set, Add, SetAdd, Rename,\nDelete: yes and Comment: yes. With --force it is forced as a whole.\n\nExamples:\n  recu batch -b changes.rec contacts.rec\n  recu batch -b changes.rec --force --journal edits.rec contacts.rec";
+
 pub const UNDO_HELP: &str =
     "Examples:\n  recu undo contacts.rec\n  recu undo --journal edits.rec contacts.rec";
 

@@ -3,15 +3,15 @@ ghost use Rattle.std.specs.Prelude.{◌≡◌, false, fold, IfOk};
 ghost use Rattle.clap.specs.Words.{app_of, rule_of, with_rule};
 ghost use Rattle.clap.specs.declared.builder.command.Command.TheViews.{out-Command as fields_of};
 ghost use Rattle.rec_command.specs.proving.Options.{rule_of_option, with_option};
-ghost use Rattle.rec_command.specs.Usage.{journal_option, file_word, needed_file, recsel_usage, recinf_usage, recfix_usage, recins_usage, recdel_usage, recset_usage, paths_usage, plain_usage, selecting, usage};
+ghost use Rattle.rec_command.specs.Usage.{batch_option, journal_option, file_word, needed_file, recsel_usage, recinf_usage, recfix_usage, recins_usage, recdel_usage, recset_usage, batch_usage, paths_usage, plain_usage, selecting, usage};
 
 use super::help::{
-    ABOUT, HISTORY_HELP, RECDEL_ABOUT, RECDEL_HELP, RECFIX_ABOUT, RECFIX_HELP, RECINF_HELP,
-    RECINS_ABOUT, RECINS_HELP, RECSEL_HELP, RECSET_ABOUT, RECSET_HELP, REDO_HELP, UNDO_HELP,
-    VERSION, WORKING_NAMES,
+    ABOUT, BATCH_ABOUT, BATCH_HELP, HISTORY_HELP, RECDEL_ABOUT, RECDEL_HELP, RECFIX_ABOUT,
+    RECFIX_HELP, RECINF_HELP, RECINS_ABOUT, RECINS_HELP, RECSEL_HELP, RECSET_ABOUT, RECSET_HELP,
+    REDO_HELP, UNDO_HELP, VERSION, WORKING_NAMES,
 };
 use crate::options::{
-    PRINTING, RECDEL, RECFIX, RECINF, RECINS, RECSET, SELECTION, Takes, ToolOption,
+    BATCH, PRINTING, RECDEL, RECFIX, RECINF, RECINS, RECSET, SELECTION, Takes, ToolOption,
 };
 use clap::{Arg, ArgAction, Command};
 use std::alloc::{AllocError, Global};
@@ -47,6 +47,7 @@ pub fn command<'a>(alloc: Global) -> Result<Command<'a>, AllocError>
         .subcommand(recins(alloc)?)?
         .subcommand(recdel(alloc)?)?
         .subcommand(recset(alloc)?)?
+        .subcommand(batch(alloc)?)?
         .subcommand(with_paths(alloc, "undo", "Takes the newest edit back", UNDO_HELP)?)?
         .subcommand(with_paths(
             alloc,
@@ -145,6 +146,28 @@ fn recset<'a>(alloc: Global) -> Result<Command<'a>, AllocError>
     with_edit_options(alloc, tool, RECSET.as_slice())
 }
 
+fn batch<'a>(alloc: Global) -> Result<Command<'a>, AllocError>
+    ensures usage { IfOk result (λ command. app_of command ≡ batch_usage) }
+    ensures alone { IfOk result (λ command. (fields_of command).has_globals ≡ false) }
+{
+    let tool = Command::new(alloc, "batch")
+        .about("Makes several edits as one")
+        .long_about(BATCH_ABOUT)
+        .after_help(BATCH_HELP);
+    let tool = with_batch(alloc, tool)?;
+    with_options(alloc, tool, BATCH.as_slice())?
+        .arg(journal_arg(alloc))?
+        .arg(file_arg(alloc))
+}
+
+/// A tool with the path of a batch after what it has.
+fn with_batch<'a>(alloc: Global, tool: Command<'a>) -> Result<Command<'a>, AllocError>
+    ensures usage { IfOk result (λ command. app_of command ≡ with_rule (app_of tool.entry) batch_option) }
+    ensures alone { IfOk result (λ command. (fields_of command).has_globals ≡ (fields_of tool.entry).has_globals) }
+{
+    tool.arg(batch_arg(alloc))
+}
+
 /// A tool that edits the records of a selection, with these options of its own.
 fn with_edit_options<'a>(
     alloc: Global,
@@ -191,6 +214,15 @@ fn with_options<'a>(
         tool = tool.arg(option.arg(alloc))?;
     }
     Ok(tool)
+}
+
+fn batch_arg<'a>(alloc: Global) -> Arg<'a>
+    ensures rule { rule_of result ≡ batch_option }
+    ensures alone { result.global ≡ false }
+{
+    Arg::new(alloc, "batch").short('b').value_name("PATH").help(
+        "The edits, each a record; PATH is only read, before FILE is",
+    )
 }
 
 fn journal_arg<'a>(alloc: Global) -> Arg<'a>

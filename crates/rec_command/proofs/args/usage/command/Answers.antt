@@ -10,6 +10,7 @@ returns c =
     let recins = c.in_ok-recins in
     let recdel = c.in_ok-recdel in
     let recset = c.in_ok-recset in
+    let batch = c.in_ok-batch in
     let undo = c.in_ok-with_paths in
     let redo = c.in_ok-with_paths-2 in
     let history = c.in_ok-with_paths-3 in
@@ -19,6 +20,7 @@ returns c =
     let four = tool_added _ _ _ _ _ c.in_ok-subcommand-4.ensures three recins.ensures.usage recins.ensures.alone in
     let five = tool_added _ _ _ _ _ c.in_ok-subcommand-5.ensures four recdel.ensures.usage recdel.ensures.alone in
     let six = tool_added _ _ _ _ _ c.in_ok-subcommand-6.ensures five recset.ensures.usage recset.ensures.alone in
-    let seven = tool_added _ _ _ _ _ c.in_ok-subcommand-7.ensures six undo.ensures.usage undo.ensures.alone in
-    let eight = tool_added _ _ _ _ _ c.in_ok-subcommand-8.ensures seven redo.ensures.usage redo.ensures.alone in
-    IfOk-weaker c.subcommand-9.result _ _ (λ command adds. tool_added _ _ command _ _ adds eight history.ensures.usage history.ensures.alone) c.subcommand-9.ensures
+    let seven = tool_added _ _ _ _ _ c.in_ok-subcommand-7.ensures six batch.ensures.usage batch.ensures.alone in
+    let eight = tool_added _ _ _ _ _ c.in_ok-subcommand-8.ensures seven undo.ensures.usage undo.ensures.alone in
+    let nine = tool_added _ _ _ _ _ c.in_ok-subcommand-9.ensures eight redo.ensures.usage redo.ensures.alone in
+    IfOk-weaker c.subcommand-10.result _ _ (λ command adds. tool_added _ _ command _ _ adds nine history.ensures.usage history.ensures.alone) c.subcommand-10.ensures

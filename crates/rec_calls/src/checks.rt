@@ -4,6 +4,10 @@ ghost use Rattle.std.specs.Prelude.{Ok};
 ghost use Rattle.rec_check.specs.Schemas.{IsSchema};
 ghost use Rattle.rec_check.specs.Stored.{described};
 
+pub mod counters;
+pub mod plain;
+pub mod reports;
+
 use crate::log::Log;
 use rec_check::Schema;
 use rec_text::{Database, Fault, Rule, Violation, read};

@@ -4,8 +4,11 @@ ghost use Rattle.std.specs.Prelude.{Ok};
 ghost use Rattle.rec_check.specs.Schemas.{IsSchema};
 ghost use Rattle.rec_check.specs.Stored.{described};
 
+pub mod batches;
+pub mod plain_edit;
+
+use crate::edits::plain_edit::{Change, Item, Run, plain_parts, plain_runs, plain_text};
 use crate::log::Log;
-use crate::plain_edit::{Change, Item, Run, plain_parts, plain_runs, plain_text};
 use rec_check::Schema;
 use rec_edit::{Action, Edit, Edited, NewRecord, Pair, edit};
 use rec_journal::Hunk;
@@ -76,7 +79,7 @@ No: 4
 ";
 
 /// The text of a number. Every third lacks its last newline.
-fn made(alloc: Global, number: u64) -> Result<Vec<u8>, AllocError> {
+pub fn made(alloc: Global, number: u64) -> Result<Vec<u8>, AllocError> {
     let mut text = Vec::new(alloc);
     let mut seed = number;
     for _ in 0..8 {
@@ -95,7 +98,7 @@ fn made(alloc: Global, number: u64) -> Result<Vec<u8>, AllocError> {
 /// Which records are chosen: a list of places, and the same as numbers.
 const CHOSEN: [(&str, &[usize]); 3] = [("0", &[0]), ("1-2", &[1, 2]), ("0,2", &[0, 2])];
 
-fn selection(alloc: Global, list: &str) -> Result<Selection, Fault> {
+pub fn selection(alloc: Global, list: &str) -> Result<Selection, Fault> {
     let by = By::Index(IndexList::parse(alloc, list.as_bytes())?);
     Ok(Selection { kind: None, by })
 }
@@ -123,7 +126,7 @@ fn is_run(hunk: &Hunk, run: &Run) -> bool {
 }
 
 /// The hunks of an edit are the runs of the plain program.
-fn are_runs(hunks: &[Hunk], runs: &[Run]) -> bool {
+pub fn are_runs(hunks: &[Hunk], runs: &[Run]) -> bool {
     for (hunk, run) in hunks.iter().zip(runs) {
         if !is_run(hunk, run) {
             return false;

@@ -1,5 +1,10 @@
 //! Calls that are made again where a growth was refused, as `tests/growth.bats` has it of each growth in turn: the first
 //! answer is the row's or that memory ran out, and the second is the row's.
+pub mod field_lists;
+pub mod index_lists;
+pub mod integers;
+pub mod patterns;
+
 use crate::log::Log;
 use rec_sex::{Expr, FieldList, IndexList, Search};
 use rec_text::{Element, Fault, Kind};

@@ -4,6 +4,10 @@ ghost use Rattle.std.specs.Prelude.{◌≢◌, [], Ok, IfOk};
 ghost use Rattle.rec_journal.specs.History.{IsOpening};
 ghost use Rattle.rec_journal.specs.Patch.{Splices};
 
+pub mod hashes;
+pub mod histories;
+pub mod patches;
+
 use crate::log::Log;
 use rec_journal::{
     Direction, Hashed, History, Hunk, Patch, Plan, Tool, plan_edit, plan_move, plan_redo, plan_undo,
@@ -32,7 +36,7 @@ const B_ALONE: &[u8] = b"B: 2\n\n";
 
 /// The journal of the deletion of the second, with the digests that `sha256sum` prints.
 const B_DELETED: &[u8] = b"%rec: RecEdit
-%doc: recu journal, format 1
+%doc: recu journal, format 2
 %key: Number
 
 Number: 1

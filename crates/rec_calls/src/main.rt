@@ -14,31 +14,14 @@ macro_rules! cases {
 }
 
 mod checks;
-mod counters;
 mod edits;
-mod elements;
 mod expressions;
-mod field_lists;
-mod hashes;
-mod histories;
-mod index_lists;
-mod integers;
 mod journals;
 mod log;
-mod order;
-mod parts;
-mod patches;
-mod paths;
-mod patterns;
-mod plain;
-mod plain_edit;
-mod records;
-mod reports;
 mod requests;
 mod rows;
 mod selections;
 mod texts;
-mod values;
 
 use log::{Choice, Log};
 use std::alloc::Global;
@@ -49,27 +32,29 @@ use std::{env, io};
 /// Runs the cases that are chosen.
 fn run(alloc: Global, log: &mut Log) {
     texts::run(alloc, log);
-    elements::run(alloc, log);
-    values::run(alloc, log);
-    records::run(alloc, log);
-    parts::run(alloc, log);
-    integers::run(alloc, log);
-    patterns::run(alloc, log);
+    texts::elements::run(alloc, log);
+    texts::values::run(alloc, log);
+    texts::records::run(alloc, log);
+    texts::parts::run(alloc, log);
+    expressions::integers::run(alloc, log);
+    expressions::patterns::run(alloc, log);
     expressions::run(alloc, log);
-    field_lists::run(alloc, log);
-    index_lists::run(alloc, log);
+    expressions::field_lists::run(alloc, log);
+    expressions::index_lists::run(alloc, log);
     checks::run(alloc, log);
-    counters::run(alloc, log);
-    reports::run(alloc, log);
+    checks::counters::run(alloc, log);
+    checks::reports::run(alloc, log);
     selections::run(alloc, log);
-    order::run(alloc, log);
-    patches::run(alloc, log);
-    hashes::run(alloc, log);
-    histories::run(alloc, log);
+    selections::order::run(alloc, log);
+    journals::patches::run(alloc, log);
+    journals::hashes::run(alloc, log);
+    journals::histories::run(alloc, log);
     journals::run(alloc, log);
     edits::run(alloc, log);
+    edits::batches::run(alloc, log);
+    requests::batch_texts::run(alloc, log);
     requests::run(alloc, log);
-    paths::run(alloc, log);
+    requests::paths::run(alloc, log);
     log.close();
 }
 

@@ -1,6 +1,9 @@
 //! Requests on a home in memory that are made again where a growth was refused, as `tests/growth.bats` has it of each growth
 //! in turn: the first answer is the row's, or that memory ran out, or that the home had no room; what stands then is what may
 //! stand after that answer; and the second answer, into a fresh output, is the row's.
+pub mod batch_texts;
+pub mod paths;
+
 use crate::log::Log;
 use rec_edit::Action;
 use rec_select::InfoForm;
@@ -208,7 +211,35 @@ fn check_edits(
     check_request(alloc, log, home, &Request::History, &row)
 }
 
+/// Sets the field of the first record, and deletes the second.
+const BATCH: &[u8] = b"Tool: recset
+Number: 0
+Fields: A
+Set: 5
+
+Tool: recdel
+Number: 1
+";
+
+fn check_batch(alloc: Global, log: &mut Log) -> Result<(), Fault> {
+    let Ok(mut home) = home_of(alloc, b"A: 1\n\nB: 2\n") else {
+        return Ok(());
+    };
+    let Ok(text) = Bytes::copy_of(alloc, BATCH) else {
+        return Ok(());
+    };
+    log.at("batch");
+    let row = Row {
+        reply: Reply::Edited(2),
+        text: b"",
+        file: b"A: 5\n\n",
+    };
+    let request = Request::Batch { text, force: false };
+    check_request(alloc, log, &mut home, &request, &row)
+}
+
 fn growth_of_run(alloc: Global, log: &mut Log) -> Result<(), Fault> {
+    check_batch(alloc, log)?;
     if let Ok(mut home) = home_of(alloc, b"%rec: P\n%mandatory: N\n\nA: 1\n") {
         check_prints(alloc, log, &mut home)?;
     }

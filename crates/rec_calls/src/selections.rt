@@ -6,6 +6,8 @@ ghost use Rattle.rec_check.specs.Schemas.{IsSchema};
 ghost use Rattle.rec_check.specs.Stored.{described};
 ghost use Rattle.rec_select.specs.Printing.{AreIndexes};
 
+pub mod order;
+
 use crate::log::Log;
 use rec_check::Schema;
 use rec_select::{

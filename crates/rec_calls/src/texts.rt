@@ -1,5 +1,10 @@
 //! Calls that are made again where a growth was refused, as `tests/growth.bats` has it of each growth in turn: the first
 //! answer is the row's or that memory ran out, and then the arguments are as they were and the second is the row's.
+pub mod elements;
+pub mod parts;
+pub mod records;
+pub mod values;
+
 use crate::log::Log;
 use rec_text::Kind::{Blank, Comment, Field};
 use rec_text::{

@@ -12,6 +12,7 @@ fn options_of(tool: &str) -> (&'static str, &'static str) {
         "recins" => ("-t -e -n -q -f -v -r", "--no-auto --force"),
         "recdel" => ("-t -e -n -q", "-c --force"),
         "recset" => ("-t -e -n -q -f -s -a -S -r", "-d -c --force"),
+        "batch" => ("-b", "--force"),
         _ => ("", ""),
     }
 }
@@ -252,6 +253,14 @@ fn set(alloc: Global, options: Options<'_>) -> Result<Request, Fault> {
     })
 }
 
+fn batch(alloc: Global, options: Options<'_>) -> Result<Request, Fault> {
+    let Some(text) = options.value(alloc, "-b")? else {
+        return Err(Fault::BadUsage);
+    };
+    let force = options.has("--force");
+    Ok(Request::Batch { text, force })
+}
+
 fn request_in(alloc: Global, words: &[&str], word: &[u8]) -> Result<Request, Fault> {
     let Some((tool, words)) = words.split_first() else {
         return Err(Fault::BadUsage);
@@ -268,6 +277,7 @@ fn request_in(alloc: Global, words: &[&str], word: &[u8]) -> Result<Request, Fau
         "recins" => Ok(insert(alloc, options)?),
         "recdel" => Ok(delete(alloc, options)?),
         "recset" => set(alloc, options),
+        "batch" => batch(alloc, options),
         "undo" => Ok(Request::Undo),
         "redo" => Ok(Request::Redo),
         "history" => Ok(Request::History),

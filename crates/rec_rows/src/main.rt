@@ -2,6 +2,7 @@
 //! otherwise than it is written. `README.md` beside `src/` says how a case is written.
 #![tactic(auto)]
 
+mod batches;
 mod cases;
 mod cells;
 mod command;

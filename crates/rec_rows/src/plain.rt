@@ -1,8 +1,9 @@
 //! A plain machine: it keeps the whole texts of a file, and journals none of its edits.
+use crate::batches::Batch;
 use crate::command::request_of;
 use crate::log::Log;
 use crate::tester::Tester;
-use rec_tools::{Bytes, Fault};
+use rec_tools::{Bytes, Fault, Request};
 use std::alloc::{AllocError, Global};
 use std::mem;
 
@@ -49,11 +50,6 @@ fn copies(alloc: Global, steps: &[Step]) -> Result<Vec<Step>, AllocError> {
         })?;
     }
     Ok(copies)
-}
-
-fn answer_of(alloc: Global, tester: &mut Tester, line: &str) -> Result<String, Fault> {
-    let request = request_of(alloc, line, &[])?;
-    Ok(tester.answer(&request, usize::MAX)?)
 }
 
 impl Plain {
@@ -164,10 +160,34 @@ impl Plain {
         Ok(())
     }
 
+    /// Makes the edits of a batch one by one, beside the batch.
+    fn compare(
+        &self,
+        request: &Request,
+        tester: &Tester,
+        answer: &str,
+        log: &mut Log,
+    ) -> Result<(), Fault> {
+        let Request::Batch { text, force } = request else {
+            return Ok(());
+        };
+        let batch = Batch {
+            text: text.as_slice(),
+            force: *force,
+            answer,
+            before: self.text.as_slice(),
+            after: tester.home.file(),
+        };
+        let is = batch.is_as_its_edits(self.alloc, &mut self.fresh()?)?;
+        Ok(log.expect("the edits of the batch, one by one", is)?)
+    }
+
     /// Runs any other request by itself.
-    fn run(&mut self, line: &str) -> Result<(), Fault> {
+    fn run(&mut self, line: &str, log: &mut Log) -> Result<(), Fault> {
+        let request = request_of(self.alloc, line, &[])?;
         let mut tester = self.fresh()?;
-        let answer = answer_of(self.alloc, &mut tester, line)?;
+        let answer = tester.answer(&request, usize::MAX)?;
+        self.compare(&request, &tester, answer.as_str(), log)?;
         Ok(self.follow(&tester, line, answer.as_str())?)
     }
 
@@ -178,7 +198,7 @@ impl Plain {
             "undo" => Ok(self.undo()?),
             "redo" => Ok(self.redo()?),
             "history" => Ok(self.print_history()?),
-            _ => self.run(line),
+            _ => self.run(line, log),
         }
     }
 }

@@ -85,6 +85,12 @@ impl Tester {
         Ok(said)
     }
 
+    /// The reply to a request that has ample room for its output.
+    pub fn reply(&mut self, request: &Request) -> Result<Reply, Fault> {
+        self.clear(usize::MAX);
+        run(self.alloc, &mut self.home, &mut self.out, request)
+    }
+
     /// What the last request printed.
     pub fn printed(&self) -> &[u8] {
         self.out.writer.taken.as_slice()

@@ -1,7 +1,8 @@
 //! Histories and plans of a journal that was written by hand. `crates/rec_rows/data/journals.rec` has what an undo answers
 //! of other journals.
-ghost use Rattle.std.specs.Prelude.{◌≢◌, [], Ok, IfOk};
+ghost use Rattle.std.specs.Prelude.{◌≡◌, ◌≢◌, [], Ok, IfOk, false};
 ghost use Rattle.rec_journal.specs.History.{IsOpening};
+ghost use Rattle.rec_journal.specs.Revisions.{is_batch};
 
 use crate::log::Log;
 use rec_journal::{
@@ -25,7 +26,7 @@ pub fn run(alloc: Global, log: &mut Log) {
 /// The file `A: 1` becomes `A: 2` and `A: 3`, both edits are undone, and then it becomes `A: 4`. The header has 57 bytes,
 /// and the events end at 259, 461, 634, 807 and 1009. The digests are those that `sha256sum` prints.
 const JOURNAL: &[u8] = b"%rec: RecEdit
-%doc: recu journal, format 1
+%doc: recu journal, format 2
 %key: Number
 
 Number: 1
@@ -199,7 +200,9 @@ fn planned(
     tool: Tool,
     old: u8,
     new: u8,
-) -> Result<Plan, Fault> {
+) -> Result<Plan, Fault>
+    requires { is_batch tool ≡ false }
+{
     let hashed = Hashed::of(alloc, file)?;
     let history = History::load(alloc, &hashed, journal)?;
     let patch = patch_to(alloc, old, new)?;
@@ -285,17 +288,20 @@ fn is_edit_by(journal: &[u8], tool: &str) -> bool {
     }
 }
 
-fn an_edit_names_its_tool(alloc: Global, log: &mut Log) -> Result<(), Fault> {
-    for (tool, name) in [
-        (Tool::RecIns, "recins"),
-        (Tool::RecDel, "recdel"),
-        (Tool::RecSet, "recset"),
-        (Tool::RecFix, "recfix"),
-    ] {
-        let plan = planned(alloc, &file_of(b'1'), b"", tool, b'1', b'2')?;
-        log.at(name);
-        log.holds("the journal", is_edit_by(plan.journal.as_slice(), name));
-        log.same("the tool's name", tool.name(), name.as_bytes());
-    }
+/// An edit by this tool has its name in the journal.
+fn check_tool(alloc: Global, log: &mut Log, tool: Tool, name: &str) -> Result<(), Fault>
+    requires { is_batch tool ≡ false }
+{
+    let plan = planned(alloc, &file_of(b'1'), b"", tool, b'1', b'2')?;
+    log.at(name);
+    log.holds("the journal", is_edit_by(plan.journal.as_slice(), name));
+    log.same("the tool's name", tool.name(), name.as_bytes());
     Ok(())
+}
+
+fn an_edit_names_its_tool(alloc: Global, log: &mut Log) -> Result<(), Fault> {
+    check_tool(alloc, log, Tool::RecIns, "recins")?;
+    check_tool(alloc, log, Tool::RecDel, "recdel")?;
+    check_tool(alloc, log, Tool::RecSet, "recset")?;
+    check_tool(alloc, log, Tool::RecFix, "recfix")
 }

@@ -1,7 +1,7 @@
 //! The reports of the plain program and of a schema, on the same texts: some that are told by hand, and longer ones.
 //! `crates/rec_rows` has more reports that are told by hand.
+use crate::checks::plain::plain_report;
 use crate::log::Log;
-use crate::plain::plain_report;
 use crate::rows::text_in;
 use rec_check::Schema;
 use rec_text::{Fault, Rule, Violation, read};

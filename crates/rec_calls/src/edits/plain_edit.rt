@@ -1,5 +1,5 @@
 //! A plain, slow program beside `edit`: it lists what each element of a text gives way to. Both are tried on the same files.
-use crate::plain::count;
+use crate::checks::plain::count;
 use rec_edit::Action;
 use rec_text::{Database, Element, Fault};
 use std::alloc::{AllocError, Global};

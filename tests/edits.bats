@@ -28,7 +28,7 @@ C: 3
 REC
     has db.rec.journal <<REC
 %rec: RecEdit
-%doc: recu journal, format 1
+%doc: recu journal, format 2
 %key: Number
 
 Number: 1

@@ -211,7 +211,7 @@ have_modes() {
 # alone, with the text after the last event.
 @test "what a stop left before the renames is removed" {
     local journal file
-    for journal in '' '%' '%rec: RecEdit¶%doc: recu journal, format 1¶%key: Number¶' "$header" "${header}Number: 1¶Kind: ed"; do
+    for journal in '' '%' '%rec: RecEdit¶%doc: recu journal, format 2¶%key: Number¶' "$header" "$old_header" "${header}Number: 1¶Kind: ed"; do
         for file in none '' 'half a fi'; do
             put db.rec "$three"
             rm -f db.rec.journal
@@ -311,7 +311,7 @@ stays() {
         stays db.rec.new
     done
     rm db.rec.new
-    for own in 'my own work¶' '%rec: RecEdix¶' "%rec: RecEdit¶%doc: recu journal, format 2¶%key: Number¶¶" "¶$header"; do
+    for own in 'my own work¶' '%rec: RecEdix¶' "%rec: RecEdit¶%doc: recu journal, format 3¶%key: Number¶¶" "¶$header"; do
         put db.rec.journal.new "$own"
         stays db.rec.journal.new
     done

@@ -10,7 +10,8 @@ as_user=()
 recu=$program
 
 store_failed='recu: a file could not be read or written¶'
-header='%rec: RecEdit¶%doc: recu journal, format 1¶%key: Number¶¶'
+header='%rec: RecEdit¶%doc: recu journal, format 2¶%key: Number¶¶'
+old_header='%rec: RecEdit¶%doc: recu journal, format 1¶%key: Number¶¶'
 three='A: 1¶¶B: 2¶¶C: 3¶'
 
 setup_file() {

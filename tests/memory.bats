@@ -137,6 +137,41 @@ is_edited() {
     fast each_allocation is_edited recfix --auto db.rec
 }
 
+@test "memory for a batch" {
+    mkdir start
+    put start/db.rec '%rec: P¶%key: Id¶%auto: Id¶¶Id: 1¶N: a\¶b¶¶Id: 2'
+    put changes <<'REC'
+Tool: recset
+Type: P
+Expression: Id < 2 && N ~ '^a'
+Fields: N,M[0]
+SetAdd: x
++ y
+
+# the second one goes
+Tool: recdel
+Number: 1
+
+Tool: recins
+Type: P
+Field: N
+Value: z
+
+Tool: recins
+Type: P
+Number: 1
+Record: N: w
+
+Tool: recfix
+
+Tool: recdel
+Quick: nothing
+Comment: yes
+REC
+    put after.rec '%rec: P¶%key: Id¶%auto: Id¶¶Id: 1¶N: x¶+ y¶M: x¶+ y¶¶Id: 2¶N: w¶¶'
+    fast each_allocation is_edited batch -b changes db.rec
+}
+
 # is_printed WORD..: judges a run that prints the file printed, and ends with the status $wanted
 is_printed() {
     case "$status/$(tail -n 1 err)" in
@@ -288,10 +323,16 @@ tells() {
     tells 1 recset -f A -s -2 db.rec
 }
 
+@test "memory for a batch that is refused" {
+    put db.rec "$three"
+    put changes 'Tool: recdel¶Number: 0¶¶Tool: recset¶Fields: A¶'
+    tells 1 batch -b changes db.rec
+}
+
 @test "each command has a case here" {
     local commands command
     commands=$("$program" --help | sed -n '/^Commands:/,/^$/s/^  \([a-z]*\)  .*/\1/p')
-    [ "$(wc -w <<< "$commands")" -ge 9 ] || fail "the help names too few commands: $commands"
+    [ "$(wc -w <<< "$commands")" -ge 10 ] || fail "the help names too few commands: $commands"
     for command in $commands; do
         [ "$command" != help ] || continue
         grep -Eq "^ +(fast each_allocation|prints_people|tells) .*[ ]$command( |$)" "$BATS_TEST_FILENAME" || fail "$command has no case"

@@ -16,6 +16,15 @@ teardown() {
 
 edited='A: 9¶¶B: 2¶¶C: 3¶'
 
+# The edit that is held up, or whose calls fail.
+words=(recset -n 0 -f A -S 9)
+
+# as_batch: it is made by two steps
+as_batch() {
+    words=(batch -b changes)
+    put changes 'Tool: recset¶Number: 0¶Fields: A¶SetAdd: 7¶¶Tool: recset¶Number: 0¶Fields: A¶SetAdd: 9¶'
+}
+
 # at NUMBER WHAT WORD..: recu with these words; what becomes of the call of this number is told in calls.c
 at() {
     AT=$1 DO=$2 LD_PRELOAD=$BATS_FILE_TMPDIR/calls.so "$program" "${@:3}" > out 2> err 3>&-
@@ -87,7 +96,7 @@ each_pause() {
     for ((number = 1; number <= 1000; number++)); do
         rm -rf db.rec db.rec.journal other rival.err hit paused go
         put db.rec "$three"
-        at "$number" pause recset -n 0 -f A -S 9 db.rec &
+        at "$number" pause "${words[@]}" db.rec &
         pid=$!
         for ((tries = 0; tries < 4000; tries++)); do
             if [ -e paused ] || ! kill -0 "$pid" 2> /dev/null; then break; fi
@@ -128,6 +137,11 @@ both_stand() {
     fast each_pause another_recu both_stand
 }
 
+@test "another recu edits the file while a batch is made" {
+    as_batch
+    fast each_pause another_recu both_stand
+}
+
 saved='A: 5¶¶X: 1¶'
 edited_save='A: 9¶¶X: 1¶'
 
@@ -149,6 +163,12 @@ save_stands() {
 
 @test "another program writes the file meanwhile" {
     fast each_pause save save_stands
+}
+
+@test "another program saves the file while a batch is made" {
+    as_batch
+    fast each_pause save save_stands
+    fast each_pause save_by_rename save_stands
 }
 
 @test "another program puts a file in its place meanwhile" {
@@ -190,7 +210,7 @@ each_call() {
         rm -rf db.rec db.rec.journal hit ./*.new
         put db.rec "$three"
         status=0
-        at "$number" "$1" recset -n 0 -f A -S 9 db.rec || status=$?
+        at "$number" "$1" "${words[@]}" db.rec || status=$?
         if ! met; then
             [ "$number" -gt 10 ] || fail 'no call failed'
             return 0
@@ -204,7 +224,7 @@ each_call() {
 whole() {
     if fast has db.rec "$three" 2> /dev/null; then
         [ "$status" != 0 ] || wrong 'the edit is lost'
-        "$program" recset -n 0 -f A -S 9 db.rec > out 2> err || wrong 'the next edit is refused'
+        "$program" "${words[@]}" db.rec > out 2> err || wrong 'the next edit is refused'
     fi
     fast has db.rec "$edited" || wrong 'neither the old text nor the new one'
     [ "$1" = end ] || [ "$call" = unlink ] || no_leftovers
@@ -255,6 +275,13 @@ each_stop() {
     fast each_stop recset recset -n 0 -f A -S 9
 }
 
+@test "after each stop of a batch the next edit goes through" {
+    second=$edited
+    as_batch
+    fast each_stop first "${words[@]}"
+    fast each_stop between "${words[@]}"
+}
+
 @test "after each stop of an undo or a redo the next edit goes through" {
     fast each_stop undo undo
     fast each_stop redo redo
@@ -267,6 +294,8 @@ each_stop() {
 }
 
 @test "each call of the system fails" {
+    fast each_call 5
+    as_batch
     fast each_call 5
 }
 

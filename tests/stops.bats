@@ -1,4 +1,4 @@
-# An edit, an undo, a redo and a first edit whose calls of the system fail or find no room, or at which the program ends: the
+# An edit, a batch, an undo, a redo and a first edit whose calls of the system fail or find no room, or at which the program ends: the
 # next command finds the history before or the one after, and both contents are whole. A file system without room, a file of
 # several MB, and a closed pipe. A loop over the numbers of calls.c ends with a run that has no such call.
 
@@ -30,6 +30,11 @@ move() {
     echo "Number: $1¶Kind: $2¶Of: $3¶Before: $(digest "$4")¶After: $(digest "$5")¶¶"
 }
 
+# steps: those of the batch, which leads over a third text
+steps() {
+    echo "Step: recset¶At: 0¶Old: A: 8\$¶+ \$¶New: A: 7\$¶+ \$¶Step: recset¶At: 0¶Old: A: 7\$¶+ \$¶New: A: 9\$¶+ \$¶"
+}
+
 # state FOLDER FILE JOURNAL HISTORY: what stands in a folder
 state() {
     mkdir -p "$1"
@@ -57,6 +62,13 @@ prepare() {
             state before 8 "$events" 'done 1 recset¶'
             state after 9 "$events$(edit 2 8 9 'A: 8' 'A: 9')" 'done 1 recset¶done 2 recset¶'
             ;;
+        batch)
+            words=(batch -b changes)
+            put changes 'Tool: recset¶Number: 0¶Fields: A¶Set: 7¶¶Tool: recset¶Number: 0¶Fields: A¶Set: 9¶'
+            events=$old_header$(edit 1 1 8 'A: 1' 'A: 8')
+            state before 8 "$events" 'done 1 recset¶'
+            state after 9 "${events}Number: 2¶Kind: batch¶Before: $(digest 8)¶After: $(digest 9)¶$(steps)¶" 'done 1 recset¶done 2 batch¶'
+            ;;
         undo)
             words=(undo)
             events=$header$(edit 1 1 8 'A: 1' 'A: 8')$(edit 2 8 9 'A: 8' 'A: 9')
@@ -65,7 +77,7 @@ prepare() {
             ;;
         redo)
             words=(redo)
-            events=$header$(edit 1 1 8 'A: 1' 'A: 8')$(edit 2 8 9 'A: 8' 'A: 9')$(move 3 undo 2 9 8)
+            events=$old_header$(edit 1 1 8 'A: 1' 'A: 8')$(edit 2 8 9 'A: 8' 'A: 9')$(move 3 undo 2 9 8)
             state before 8 "$events" 'done 1 recset¶undone 2 recset¶'
             state after 9 "$events$(move 4 redo 2 8 9)" 'done 1 recset¶done 2 recset¶'
             ;;
@@ -158,6 +170,10 @@ each_call() {
     fast each_call edit 5
 }
 
+@test "each call of a batch fails" {
+    fast each_call batch 5
+}
+
 @test "each call of an undo fails" {
     fast each_call undo 5
 }
@@ -172,6 +188,10 @@ each_call() {
 
 @test "there is no room at each call of an edit" {
     fast each_call edit 28
+}
+
+@test "there is no room at each call of a batch" {
+    fast each_call batch 28
 }
 
 @test "there is no room at each call of an undo" {
@@ -190,6 +210,10 @@ each_call() {
     fast each_call edit end
 }
 
+@test "the program ends at each call of a batch" {
+    fast each_call batch end
+}
+
 @test "the program ends at each call of an undo" {
     fast each_call undo end
 }
@@ -205,7 +229,7 @@ each_half() {
 
 @test "the program ends within each write" {
     local command
-    for command in first edit undo redo; do
+    for command in first edit batch undo redo; do
         fast each_half "$command"
     done
 }

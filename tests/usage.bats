@@ -19,8 +19,8 @@ silent() {
 
 @test "help" {
     local words
-    for words in --help -h help 'help recins' 'help recdel' 'help recset' 'help undo' 'help redo' 'help history' \
-        'recins --help' 'recins -h' 'recdel --help' 'recdel -h' 'recset --help' 'recset -h' 'undo --help' 'undo -h' \
+    for words in --help -h help 'help recins' 'help recdel' 'help recset' 'help batch' 'help undo' 'help redo' 'help history' \
+        'recins --help' 'recins -h' 'recdel --help' 'recdel -h' 'recset --help' 'recset -h' 'batch --help' 'batch -h' 'undo --help' 'undo -h' \
         'undo f -hx' 'redo --help' 'redo -h' 'history --help' 'history -h'; do
         recu 0 $words
         out | grep -q 'Usage: recu' || fail "recu $words prints no usage"
@@ -43,7 +43,7 @@ silent() {
         prints 'recu 0.1.0¶' ''
     done
     for words in 'recsel --version' 'recsel -V' 'recinf --version' 'recinf -V' 'recfix --version' 'recfix -V' \
-        'recins --version' 'recins -V' 'recdel --version' 'recdel -V' 'recset --version' 'recset -V' 'undo --version' \
+        'recins --version' 'recins -V' 'recdel --version' 'recdel -V' 'recset --version' 'recset -V' 'batch --version' 'batch -V' 'undo --version' \
         'undo -V' 'redo --version' 'redo -V' 'history --version' 'history -V'; do
         recu 0 $words
         [ -n "$(out)" ] || fail "recu $words prints no version"
@@ -62,7 +62,7 @@ silent() {
 example() {
     local journal=()
     rm -f -- library.rec* contacts.rec* edits.rec*
-    cp -- "$top/sample/library.rec" "$top/sample/contacts.rec" .
+    cp -- "$top/sample/library.rec" "$top/sample/contacts.rec" "$top/sample/changes.rec" .
     [[ $2 != *' --journal '* ]] || journal=(--journal edits.rec)
     case $1 in
         undo | redo | history) does recset -n 0 -f Name -s Ada "${journal[@]}" contacts.rec ;;
@@ -73,7 +73,7 @@ example() {
     silent
     case $1 in
         recsel | recinf | history) [ -n "$(out)" ] || fail "$2 prints nothing" ;;
-        recins | recdel | recset | undo | redo)
+        recins | recdel | recset | batch | undo | redo)
             ! cmp -s contacts.rec contacts.rec.before || ! cmp -s library.rec "$top/sample/library.rec" || fail "$2 changes nothing"
             ;;
     esac
@@ -81,7 +81,7 @@ example() {
 
 @test "the examples of help" {
     local tool line number
-    for tool in recsel recinf recfix recins recdel recset undo redo history; do
+    for tool in recsel recinf recfix recins recdel recset batch undo redo history; do
         recu 0 help "$tool"
         out > help
         tail -n 1 help | grep -q '^  recu ' || fail "the help of $tool ends with no example"
@@ -99,7 +99,7 @@ example() {
 @test "the list of tools is the explanation where there is none" {
     recu 1
     is_bad_usage
-    grep -q '\[subcommands: recsel, recinf, recfix, recins, recdel, recset, undo, redo, history, help\]' "$BATS_TEST_TMPDIR/err"
+    grep -q '\[subcommands: recsel, recinf, recfix, recins, recdel, recset, batch, undo, redo, history, help\]' "$BATS_TEST_TMPDIR/err"
 }
 
 # hints WORDS HINT: the line before the last one

@@ -154,14 +154,14 @@ fn batch<'a>(alloc: Global) -> Result<Command<'a>, AllocError>
         .about("Makes several edits as one")
         .long_about(BATCH_ABOUT)
         .after_help(BATCH_HELP);
-    let tool = with_batch(alloc, tool)?;
+    let tool = with_batch_path(alloc, tool)?;
     with_options(alloc, tool, BATCH.as_slice())?
         .arg(journal_arg(alloc))?
         .arg(file_arg(alloc))
 }
 
 /// A tool with the path of a batch after what it has.
-fn with_batch<'a>(alloc: Global, tool: Command<'a>) -> Result<Command<'a>, AllocError>
+fn with_batch_path<'a>(alloc: Global, tool: Command<'a>) -> Result<Command<'a>, AllocError>
     ensures usage { IfOk result (λ command. app_of command ≡ with_rule (app_of tool.entry) batch_option) }
     ensures alone { IfOk result (λ command. (fields_of command).has_globals ≡ (fields_of tool.entry).has_globals) }
 {

@@ -1,6 +1,6 @@
 use Rattle.std.proofs.lemmas.Result.{IfOk-weaker}
 use Rattle.rec_command.proofs.UsageLemmas.{globals-added}
-use Rattle.rec_command.proofs.args.usage.with_batch.Goals as goal
+use Rattle.rec_command.proofs.args.usage.with_batch_path.Goals as goal
 
 pub returns-clause-alone : goal.returns-clause-alone
 returns-clause-alone c =

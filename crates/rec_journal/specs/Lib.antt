@@ -1,4 +1,4 @@
--- what patches, events, histories and plans are, and what a stop leaves
+-- what patches, events, histories and plans are, what a stop leaves, and what forgetting does
 pub mod Direction
 pub mod Patch
 pub mod Revisions
@@ -9,5 +9,6 @@ pub mod Plans
 pub mod Stops
 pub mod Bound
 pub mod Moves
+pub mod Forgetting
 -- what serves proofs
 pub mod proving

@@ -3,6 +3,7 @@
 #![tactic(auto)]
 
 mod event;
+mod forgetting;
 mod hashed;
 mod history;
 mod laws;
@@ -11,9 +12,10 @@ mod plan;
 
 pub use event::event_laws::{events_are_bounded, one_spelling};
 pub use event::{EditStep, Tool};
+pub use forgetting::plan_forget;
 pub use hashed::Hashed;
 pub use history::History;
-pub use history::history_laws::{one_opening, outside_texts_drift};
+pub use history::history_laws::{edits_hang_together, one_opening, outside_texts_drift};
 pub use history::steps::{Step, Steps};
 pub use laws::{edits_lead_to_one_text, leads_to_one_text, moves_are_converse};
 pub use patch::edit_steps::EditSteps;

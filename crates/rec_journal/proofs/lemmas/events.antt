@@ -4,5 +4,6 @@ pub mod UniqueLemmas
 pub mod PartLemmas
 pub mod StretchLemmas
 pub mod EventLemmas
+pub mod SpellingLemmas
 pub mod BoundLemmas
 pub mod BatchExamples

@@ -5,3 +5,4 @@ pub mod Scans
 pub mod Pieces
 pub mod Countings
 pub mod Openings
+pub mod Chains

@@ -2,3 +2,6 @@ pub mod FrontLemmas
 pub mod KeptLemmas
 pub mod StopLemmas
 pub mod PlanLemmas
+pub mod NumberLemmas
+pub mod ReplayLemmas
+pub mod ForgettingLemmas

@@ -6,9 +6,10 @@ use Rattle.std.specs.Prelude.{IsOkUnless}
 use Rattle.rec_journal.specs.declared.plan.Plan.{Plan}
 use Rattle.rec_tools.specs.declared.home.Which.{Which}
 use Rattle.rec_tools.specs.declared.home.Which.TheVariants.{Base as TheFile, Journal as TheJournal}
+use Rattle.rec_tools.specs.declared.request.Reply.{Reply}
 use Rattle.rec_tools.specs.Home.{Call, got, was_put, read_call, IsReplaceCall}
-use Rattle.rec_tools.specs.Outcomes.{Write, writes_of}
-use Rattle.rec_tools.specs.Attempts.{StopsReading, AreWritten}
+use Rattle.rec_tools.specs.Outcomes.{Write, rewriting, writes_of}
+use Rattle.rec_tools.specs.Attempts.{StopsReading, AreWritten, IsAnswered}
 use Rattle.rec_tools.specs.proving.Silently.{ByCalls}
 use Rattle.rec_tools.proofs.CallLemmas.{one_call}
 
@@ -77,3 +78,18 @@ both-written goes old mid new plan journal file result same_journal same_file fi
     let put : goes old (was_put TheJournal plan.journal) mid = subst (λ call. goes old call mid) (first.1 ∙ ap (was_put TheJournal) same_journal) first.2 in
     write_before goes old mid new (record { which = TheJournal; bytes = plan.journal }) (record { which = TheFile; bytes = plan.file } ∷ []) result put
     (last_write goes mid new (record { which = TheFile; bytes = plan.file }) result why (subst (λ b. IsReplaced goes mid new TheFile b result) same_file step))
+
+-- ---- the journal alone
+
+module _ {H : Type 0} (goes : H → Call → H → Type 0) (old new : H) (journal bytes : List ℕ) (same : bytes ≡ journal) (reply : Reply) where
+  pub rewrite-stopped : (X : Type 0) (fault : Fault) → fault ≡ StoreFailed → IsReplaced {X = X} goes old new TheJournal bytes (Err fault)
+      → ByCalls goes old new (IsAnswered (rewriting journal reply) (Err fault))
+  rewrite-stopped X fault why step =
+      let known : IsReplaced {X = X} goes old new TheJournal journal (Err fault) = subst (λ b. IsReplaced {X = X} goes old new TheJournal b (Err fault)) same step in
+      (known.0 ∷ [], one_call goes old new _ known.2, inr (ap Err why, inl (known.1, refl)))
+
+  pub rewritten : (X : Type 0) (x : X) → IsReplaced goes old new TheJournal bytes (Ok x)
+      → ByCalls goes old new (IsAnswered (rewriting journal reply) (Ok reply))
+  rewritten X x step =
+      let known : IsReplaced goes old new TheJournal journal (Ok x) = subst (λ b. IsReplaced goes old new TheJournal b (Ok x)) same step in
+      (known.0 ∷ [], one_call goes old new _ known.2, inl (refl, ap (λ call. call ∷ []) known.1))

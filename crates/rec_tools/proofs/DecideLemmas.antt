@@ -34,7 +34,7 @@ use Rattle.rec_tools.specs.declared.request.Reply.TheVariants.{Edited as EditedR
 use Rattle.rec_tools.specs.Home.{Contents}
 use Rattle.rec_tools.specs.Steps.{Then}
 use Rattle.rec_tools.specs.Batches.{AreEdits}
-use Rattle.rec_tools.specs.Requests.{Edits, one_edit, batch_of, Asked, looking, listing, editing, moving, asked_of, IsTaskOf, AreTasks, IsOneEdit, IsBatch}
+use Rattle.rec_tools.specs.Requests.{Edits, one_edit, batch_of, Asked, looking, listing, editing, moving, forgetting, asked_of, IsTaskOf, AreTasks, IsOneEdit, IsBatch}
 use Rattle.rec_tools.specs.Outcomes.{Outcome, by_one, IsMade, IsEditOutcome, IsOutcome, Decides, staying, putting, outcome_of, reply_of}
 use Rattle.rec_tools.specs.proving.Editing.{IsEditing, IsEditOf, IsOne, force_of, IsMadeBy, IsPut, told_by, TellsChanges, IsChange}
 use Rattle.rec_tools.proofs.FaultLemmas.{memory_or_weaker, ok_is_no_err, same_value}
@@ -156,6 +156,7 @@ module _ (file journal : List ℕ) (asked : Asked) (edits : IsEditing asked) whe
     of_edit listing none r h = absurd none
     of_edit (editing IsEdit) edits r h = h
     of_edit (moving direction) none r h = absurd none
+    of_edit (forgetting n) none r h = absurd none
 
   pub change-no_text : (fault : Fault) → IsMemoryOr fault (IsDescribedText file (Err fault)) → IsMemoryOr fault (IsOutcome on asked (Err fault))
   change-no_text fault h = memory_or_weaker fault _ _ (λ none. by_steps (Err fault) (inl (fault, none, refl))) h

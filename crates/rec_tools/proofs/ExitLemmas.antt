@@ -9,11 +9,11 @@ use Rattle.rec_text.specs.Faults.{IsMemoryOr}
 use Rattle.rec_text.specs.Sink.{HasRisen}
 use Rattle.rec_select.specs.Taken.{PrintsAndCounts}
 use Rattle.rec_tools.specs.declared.decision.Decision.{Decision}
-use Rattle.rec_tools.specs.declared.decision.Decision.TheVariants.{Stay, Put}
+use Rattle.rec_tools.specs.declared.decision.Decision.TheVariants.{Stay, Put, Rewrite}
 use Rattle.rec_tools.specs.declared.home.Which.TheVariants.{Base as TheFile, Journal as TheJournal}
 use Rattle.rec_tools.specs.Home.{Contents, Call, got, with_content, TellAll, Went}
 use Rattle.rec_tools.specs.Printouts.{Printout, Printed, PutsPrintout, WentOut, IsSilence, IsShownText, IsHistory, printed_history}
-use Rattle.rec_tools.specs.Requests.{Asked, looking, listing, editing, moving, reads_of, IsSilent}
+use Rattle.rec_tools.specs.Requests.{Asked, looking, listing, editing, moving, forgetting, reads_of, IsSilent}
 use Rattle.rec_tools.specs.Outcomes.{Write, Outcome, printing, outcome_of, IsPrinting, IsOutcome}
 use Rattle.rec_tools.specs.proving.Silently.{ByCalls, DoesSilently}
 use Rattle.rec_tools.specs.Attempts.{Answer, gots, puts, IsFront, StopsReading, StopsWriting, IsAnswered, Does, Attempts}
@@ -68,6 +68,7 @@ stopped-tells (looking IsText) calls fault stops = stopped-tells_one calls fault
 stopped-tells listing calls fault stops = stopped-tells_both calls fault stops
 stopped-tells (editing IsEdit) calls fault stops = stopped-tells_both calls fault stops
 stopped-tells (moving direction) calls fault stops = stopped-tells_both calls fault stops
+stopped-tells (forgetting n) calls fault stops = stopped-tells_both calls fault stops
 
 module _ {H : Type 0} (goes : H → Call → H → Type 0) where
   pub silently-unread : (old new : H) (asked : Asked) (fault : Fault) → ByCalls goes old new (λ calls. StopsReading (reads_of asked) calls fault)
@@ -179,6 +180,7 @@ silent-reads_both (looking IsText) silent = absurd silent
 silent-reads_both listing silent = absurd silent
 silent-reads_both (editing IsEdit) silent = refl
 silent-reads_both (moving direction) silent = refl
+silent-reads_both (forgetting n) silent = refl
 
 does-refused : (asked : Asked) (c : Contents) (fault : Fault) (p : Printed) → ReadsBoth asked → IsMemoryOr fault (IsOutcome c asked (Err fault)) → IsSilence p
     → Does c asked (Err fault) (got TheFile c.file ∷ got TheJournal c.journal ∷ []) p
@@ -202,6 +204,7 @@ does-carried asked c o answer later p both found answered printed kept = inr (in
 outcome_of-silent : (decision : Decision) → (outcome_of decision).text ≡ []
 outcome_of-silent (Stay reply) = refl
 outcome_of-silent (Put plan reply) = refl
+outcome_of-silent (Rewrite journal reply) = refl
 
 -- what holds of the contents that were read holds of those of which the reads tell
 of_told : (file journal : List ℕ) (later : List Call) (P : Contents → List Call → Type 0)

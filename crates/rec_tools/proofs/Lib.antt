@@ -13,6 +13,7 @@ pub mod SameTaskLemmas
 pub mod TaskLemmas
 pub mod DecideLemmas
 pub mod StandsLemmas
+pub mod ForgettingLemmas
 pub mod StepLemmas
 pub mod AnswerLemmas
 pub mod OutcomeLemmas

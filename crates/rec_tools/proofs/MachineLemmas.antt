@@ -1,15 +1,15 @@
 -- The machine's step is a function of the state and the request.
-use Rattle.std.proofs.Common.{◌≡◌, ◌≢◌, inl, inr, ℕ, List, [], ◌∷◌, Result, Ok, Err, sym, subst, ◌∙◌}
+use Rattle.std.proofs.Common.{arith, ◌≡◌, ◌≢◌, inl, inr, ℕ, List, [], ◌∷◌, Result, Ok, Err, sym, subst, ◌∙◌}
 use Rattle.rec_text.specs.declared.fault.Fault.{Fault}
 use Rattle.rec_text.specs.declared.fault.Fault.TheVariants.{BadPattern}
 use Rattle.rec_journal.specs.declared.event.Tool.{Tool}
 use Rattle.rec_edit.specs.declared.batches.BatchEdited.{BatchEdited}
 use Rattle.rec_journal.specs.declared.patch.Direction.{Direction}
 use Rattle.rec_tools.specs.Printouts.{Printout, IsShown}
-use Rattle.rec_tools.specs.Requests.{Asked, looking, listing, editing, moving, asked_of}
+use Rattle.rec_tools.specs.Requests.{Asked, looking, listing, editing, moving, forgetting, asked_of}
 use Rattle.rec_tools.specs.Outcomes.{IsMade}
 use Rattle.rec_tools.specs.Attempts.{Answer}
-use Rattle.rec_tools.specs.Machine.{Entry, State, IsStep, IsEditStep, IsMoveStep, entries_on}
+use Rattle.rec_tools.specs.Machine.{Entry, State, IsStep, IsEditStep, IsMoveStep, IsForgettingStep, entries_on}
 use Rattle.rec_tools.specs.Laws.{OneStep}
 use Rattle.rec_tools.proofs.AnswerLemmas.{no_both, refused_too, HasOneBut-text}
 use Rattle.rec_tools.proofs.OutcomeLemmas.{MeansOne, one_meaning}
@@ -49,6 +49,15 @@ one_move_step : (direction : Direction) (s : State) (entries : List Entry) (one 
 one_move_step direction s [] one other t u is is_too = (is.0 ∙ sym is_too.0, is.1 ∙ sym is_too.1)
 one_move_step direction s (nearest ∷ others) one other t u is is_too = (is.0 ∙ sym is_too.0, is.1 ∙ sym is_too.1)
 
+-- ---- forgetting steps in one way
+
+one_forgetting_step : (n : ℕ) (s : State) (one other : Answer) (t u : State)
+    → IsForgettingStep n s one t → IsForgettingStep n s other u → (one ≡ other) × (t ≡ u)
+one_forgetting_step n s one other t u (inl is) (inl is_too) = (is.1 ∙ sym is_too.1, is.2 ∙ sym is_too.2)
+one_forgetting_step n s one other t u (inl is) (inr is_too) = absurd (omega (arith, is.0, is_too.0))
+one_forgetting_step n s one other t u (inr is) (inl is_too) = absurd (omega (arith, is.0, is_too.0))
+one_forgetting_step n s one other t u (inr is) (inr is_too) = (is.1 ∙ sym is_too.1, is.2 ∙ sym is_too.2)
+
 -- ---- one step
 
 module _ (s : State) (one other : Answer) (text printed : List ℕ) (t u : State) (built : one ≢ Err BadPattern) (built_too : other ≢ Err BadPattern) where
@@ -68,6 +77,9 @@ module _ (s : State) (one other : Answer) (text printed : List ℕ) (t u : State
       (both.0, e ∙ sym k, both.1)
   one_step_of (moving direction) means (step, e) (step_too, k) =
       let both = one_move_step direction s (entries_on direction s) one other t u step step_too in
+      (both.0, e ∙ sym k, both.1)
+  one_step_of (forgetting n) means (step, e) (step_too, k) =
+      let both = one_forgetting_step n s one other t u step step_too in
       (both.0, e ∙ sym k, both.1)
 
 pub one_step : OneStep

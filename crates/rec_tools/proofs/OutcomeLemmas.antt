@@ -1,5 +1,6 @@
 -- A request comes to one outcome on two contents at most.
-use Rattle.std.proofs.Common.{◌≡◌, inl, inr, ℕ, Bool, Option, List, ◌∷◌, Result, Ok, Err, sym, ap, ◌∙◌}
+use Rattle.std.proofs.Common.{arith, ◌≡◌, inl, inr, ℕ, Bool, Option, List, ◌∷◌, Result, Ok, Err, sym, ap, ◌∙◌}
+use Rattle.std.proofs.lemmas.Bool.{false≢true}
 use Rattle.rec_text.specs.declared.fault.Fault.{Fault}
 use Rattle.rec_text.specs.declared.violations.Violation.{Violation}
 use Rattle.rec_text.specs.Elements.{Piece}
@@ -31,15 +32,15 @@ use Rattle.rec_tools.specs.declared.request.Form.{Form}
 use Rattle.rec_tools.specs.declared.request.Form.TheVariants.{Blocks, Print, Values, Row, Count}
 use Rattle.rec_tools.specs.declared.request.Pick.{Pick}
 use Rattle.rec_tools.specs.declared.request.Request.{Request}
-use Rattle.rec_tools.specs.declared.request.Request.TheVariants.{Show, Info, Check, Insert, Replace, Delete, CommentOut, Set, AutoFill, Batch, Undo, Redo, History}
+use Rattle.rec_tools.specs.declared.request.Request.TheVariants.{Show, Info, Check, Insert, Replace, Delete, CommentOut, Set, AutoFill, Batch, Undo, Redo, Forget, History}
 use Rattle.rec_tools.specs.declared.request.Reply.{Reply}
 use Rattle.rec_tools.specs.declared.request.Reply.TheVariants.{Shown, Edited as EditedReply}
 use Rattle.rec_tools.specs.Home.{Contents}
 use Rattle.rec_tools.specs.Steps.{Then}
 use Rattle.rec_tools.specs.Asking.{IsFilter, IsListed, IsShape}
 use Rattle.rec_tools.specs.Printouts.{Printout, printed_history, IsShow, IsInfoOf, IsShownText, IsReportText, verdict}
-use Rattle.rec_tools.specs.Requests.{Edits, Asked, looking, listing, editing, moving, asked_of}
-use Rattle.rec_tools.specs.Outcomes.{Outcome, IsOutcome, IsPrinting, IsMade, IsEditOutcome, IsMove, OneOutcome, printing, putting, reply_of}
+use Rattle.rec_tools.specs.Requests.{Edits, Asked, looking, listing, editing, moving, forgetting, asked_of}
+use Rattle.rec_tools.specs.Outcomes.{Outcome, IsOutcome, IsPrinting, IsMade, IsEditOutcome, IsMove, IsForgetting, OneOutcome, printing, putting, reply_of}
 use Rattle.rec_tools.proofs.FaultLemmas.{same_fault, same_value}
 use Rattle.rec_tools.proofs.OpeningLemmas.{no_clash, same_plan_of}
 use Rattle.rec_tools.proofs.EditLemmas.{agree_on_one, agree_on_batch}
@@ -139,6 +140,7 @@ MeansOne (looking IsText) = (file : List ℕ) → HasOneBut (IsText file)
 MeansOne listing = Unit {0}
 MeansOne (editing IsEdit) = (pieces : List Piece) → AgreeOnSchemas pieces (IsMade IsEdit)
 MeansOne (moving direction) = Unit {0}
+MeansOne (forgetting n) = Unit {0}
 
 pub one_meaning : (request : Request) → MeansOne (asked_of request)
 one_meaning (Show pick form collapse) = λ file. HasOneBut-shown _ (HasOneBut-show file pick form collapse)
@@ -153,6 +155,7 @@ one_meaning (AutoFill force) = agree_on_one (AutoFill force) force
 one_meaning (Batch text force) = agree_on_batch text force
 one_meaning Undo = tt
 one_meaning Redo = tt
+one_meaning (Forget n) = tt
 one_meaning History = tt
 
 -- ---- an edit
@@ -196,6 +199,18 @@ module _ (direction : Direction) (o : Opened) (c : Contents) where
       absurd (no_both is_too.1.plan fault (one_plan (Ok is_too.1.plan) (Err fault) (is_planned other is_too) is))
   HasOne-move (Err fault) (Err other) is is_too = ap Err (same_fault fault other (one_plan (Err fault) (Err other) is is_too))
 
+-- ---- forgetting
+
+module _ (n : ℕ) (o : Opened) (c : Contents) where
+  HasOne-forgetting : HasOne (IsForgetting n o c)
+  HasOne-forgetting (Ok one) (Ok other) (settled, inl (few, e)) (settled_too, inl (few_too, k)) = ap Ok (e ∙ sym k)
+  HasOne-forgetting (Ok one) (Ok other) (settled, inl (few, e)) (settled_too, inr (more, f)) = absurd (omega (arith, few, more))
+  HasOne-forgetting (Ok one) (Ok other) (settled, inr (more, f)) (settled_too, inl (few, k)) = absurd (omega (arith, few, more))
+  HasOne-forgetting (Ok one) (Ok other) (settled, inr (more, f)) (settled_too, inr (more_too, g)) = ap Ok (f.is ∙ sym g.is)
+  HasOne-forgetting (Ok one) (Err fault) is is_too = absurd (false≢true (sym is.0 ∙ is_too.1))
+  HasOne-forgetting (Err fault) (Ok other) is is_too = absurd (false≢true (sym is_too.0 ∙ is.1))
+  HasOne-forgetting (Err fault) (Err other) is is_too = ap Err (is.0 ∙ sym is_too.0)
+
 -- ---- outcomes
 
 module _ (c : Contents) where
@@ -219,6 +234,9 @@ module _ (c : Contents) where
   one_outcome_of (editing IsEdit) means one other is is_too built built_too = HasOneBut-edit IsEdit means one other is is_too built built_too
   one_outcome_of (moving direction) means one other is is_too built built_too =
       HasOne-Then (IsOpening c.file c.journal) (λ o. IsMove direction o c) (one_opening c.file c.journal) (λ o _. HasOne-move direction o c)
+      one other is is_too
+  one_outcome_of (forgetting n) means one other is is_too built built_too =
+      HasOne-Then (IsOpening c.file c.journal) (λ o. IsForgetting n o c) (one_opening c.file c.journal) (λ o _. HasOne-forgetting n o c)
       one other is is_too
 
 pub one_outcome : OneOutcome

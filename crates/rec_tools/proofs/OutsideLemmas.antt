@@ -1,5 +1,5 @@
 -- A file that was changed outside, and what requests then come to.
-use Rattle.std.proofs.Common.{◌≡◌, ◌⊎◌, inl, inr, true, false, [], Result, Ok, Err, sym, ap, subst, refl, ◌∙◌}
+use Rattle.std.proofs.Common.{◌≡◌, ◌⊎◌, inl, inr, ℕ, true, false, [], Result, Ok, Err, sym, ap, subst, refl, ◌∙◌}
 use Rattle.std.specs.Prelude.{codes, if◌then◌else◌, map}
 use Rattle.std.proofs.lemmas.Bool.{false≢true}
 use Rattle.rec_text.specs.declared.fault.Fault.{Fault}
@@ -18,7 +18,7 @@ use Rattle.rec_edit.specs.declared.batches.BatchEdited.{BatchEdited}
 use Rattle.rec_tools.specs.declared.request.Reply.TheVariants.{Shown}
 use Rattle.rec_tools.specs.Home.{Contents}
 use Rattle.rec_tools.specs.Printouts.{history_text}
-use Rattle.rec_tools.specs.Requests.{Asked, looking, listing, editing, moving, asked_of}
+use Rattle.rec_tools.specs.Requests.{Asked, looking, listing, editing, moving, forgetting, asked_of}
 use Rattle.rec_tools.specs.Outcomes.{Outcome, IsOutcome, IsPlanned, printing, writes_of}
 use Rattle.rec_tools.specs.Attempts.{written}
 use Rattle.rec_tools.specs.Machine.{AreEntries, Stands}
@@ -42,6 +42,11 @@ module _ (c : Contents) (o : Opened) (opens : Opens c.file c.journal o) (drifted
   no_move direction (Ok outcome) (inr (p, opened, (settled, m))) = absurd (not_settled p opened settled)
   no_move direction (Err fault) (inr (p, opened, inl (is, why))) = ap Err is
   no_move direction (Err fault) (inr (p, opened, inr (is, settled, none))) = absurd (not_settled p opened settled)
+
+  nothing_forgotten : (n : ℕ) (r : Result Outcome Fault) → IsOutcome c (forgetting n) r → r ≡ Err Drifted
+  nothing_forgotten n r (inl (fault, refused, e)) = absurd (no_refusal fault refused)
+  nothing_forgotten n (Ok outcome) (inr (p, opened, (settled, forgets))) = absurd (not_settled p opened settled)
+  nothing_forgotten n (Err fault) (inr (p, opened, (is, why))) = ap Err is
 
   told_drifted : (r : Result Outcome Fault) → IsOutcome c listing r → r ≡ Ok (printing (codes "drifted\n") Shown)
   told_drifted r (inl (fault, refused, e)) = absurd (no_refusal fault refused)
@@ -80,12 +85,14 @@ module _ (c : Contents) (o : Opened) (opens : Opens c.file c.journal o) (drifted
       let here : IsPlanned o c tool made plan = subst (λ x. IsPlanned x c tool made plan) (same_opening p opened) planned in
       inr (tool, subst (λ ws. Stands (written c ws) (outside_state c o tool (written c ws).file)) (sym (ap (λ (x : Outcome). x.writes) e)) (begun tool made plan here))
   begins_anew (moving direction) outcome is = absurd (ok_is_no_err outcome Drifted ⊥ (sym (no_move direction (Ok outcome) is)))
+  begins_anew (forgetting n) outcome is = absurd (ok_is_no_err outcome Drifted ⊥ (sym (nothing_forgotten n (Ok outcome) is)))
 
 pub outside_is_noticed : OutsideIsNoticed
 outside_is_noticed c o opens drifted =
     record {
       undo = no_move c o opens drifted Backward;
       redo = no_move c o opens drifted Forward;
+      forgetting = nothing_forgotten c o opens drifted;
       history = told_drifted c o opens drifted;
       edits = λ request outcome is. begins_anew c o opens drifted (asked_of request) outcome is;
     }

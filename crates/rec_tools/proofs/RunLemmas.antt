@@ -8,7 +8,7 @@ use Rattle.rec_tools.specs.declared.home.Which.{Which}
 use Rattle.rec_tools.specs.declared.request.Request.{Request}
 use Rattle.rec_tools.specs.Home.{Contents, Call, got, lacked, was_put, left_by, left_by_all, Tells, TellAll, HasFailed, Counts}
 use Rattle.rec_tools.specs.Printouts.{Printed}
-use Rattle.rec_tools.specs.Requests.{Asked, looking, listing, editing, moving, asked_of, reads_of, WritesNothing}
+use Rattle.rec_tools.specs.Requests.{Asked, looking, listing, editing, moving, forgetting, asked_of, reads_of, WritesNothing}
 use Rattle.rec_tools.specs.Outcomes.{Write, Outcome, IsOutcome}
 use Rattle.rec_tools.specs.Attempts.{Answer, gots, puts, written, StopsReading, StopsWriting, IsAnswered, IsCutShort, IsUnread, IsCarriedOut, Does}
 use Rattle.rec_tools.proofs.CallLemmas.{Follows, HasFailed-rest, HasFailed-parts, left_by_all-append, failures_stay, failures_rise, contents_follow}
@@ -102,6 +102,7 @@ writes_nothing c listing o nothing (inl refused) = let e = refused.2 in cc
 writes_nothing c listing o nothing (inr listed) = ap (λ (x : Outcome). x.writes) (same_value o _ listed.2)
 writes_nothing c (editing IsEdit) o nothing is = absurd nothing
 writes_nothing c (moving direction) o nothing is = absurd nothing
+writes_nothing c (forgetting n) o nothing is = absurd nothing
 
 none-written : (o : Outcome) (answer : Answer) (calls : List Call) → o.writes ≡ [] → IsAnswered o answer calls → calls ≡ []
 none-written o answer calls none (inl put) = put.1 ∙ ap puts none

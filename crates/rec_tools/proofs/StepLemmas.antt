@@ -1,5 +1,5 @@
 -- What a request comes to on contents that stand for a state is what the machine does in that state.
-use Rattle.std.proofs.Common.{◌≡◌, ◌≢◌, ◌⊎◌, inl, inr, ℕ, ◌+◌, Bool, List, [], ◌∷◌, map, Result, Ok, Err, sym, ap, ap₂, subst, refl, ◌∙◌}
+use Rattle.std.proofs.Common.{arith, ◌≡◌, ◌≢◌, ◌⊎◌, inl, inr, ℕ, ◌+◌, ◌-◌, ◌<◌, Bool, List, [], ◌∷◌, length, map, Result, Ok, Err, sym, ap, ap₂, subst, refl, ◌∙◌}
 use Rattle.std.proofs.lemmas.Bool.{false≢true}
 use Rattle.std.specs.Prelude.{true, false, codes, if◌then◌else◌}
 use Rattle.rec_text.specs.declared.fault.Fault.{Fault}
@@ -15,18 +15,19 @@ use Rattle.rec_journal.proofs.lemmas.histories.Openings.{one_opening}
 use Rattle.rec_journal.proofs.lemmas.patches.StepLemmas.{edits_lead_to_one_text}
 use Rattle.rec_check.specs.DescribedTexts.{IsDescribedText}
 use Rattle.rec_edit.specs.declared.batches.BatchEdited.{BatchEdited}
-use Rattle.rec_tools.specs.declared.request.Reply.TheVariants.{Shown, Edited as EditedReply}
+use Rattle.rec_tools.specs.declared.request.Reply.TheVariants.{Shown, Edited as EditedReply, Forgotten}
 use Rattle.rec_tools.specs.Home.{Contents}
 use Rattle.rec_tools.specs.Steps.{Then}
 use Rattle.rec_tools.specs.Printouts.{Printout, history_text, printed_history}
-use Rattle.rec_tools.specs.Requests.{Edits, Asked, looking, listing, editing, moving, asked_of}
-use Rattle.rec_tools.specs.Outcomes.{Outcome, IsOutcome, IsPrinting, IsMade, IsEditOutcome, IsPlanned, IsMove, Moves, printing, writes_of, reply_of}
+use Rattle.rec_tools.specs.Requests.{Edits, Asked, looking, listing, editing, moving, forgetting, asked_of}
+use Rattle.rec_tools.specs.Outcomes.{Outcome, IsOutcome, IsPrinting, IsMade, IsEditOutcome, IsPlanned, IsMove, Moves, IsForgetting, Forgets, printing, writes_of, reply_of}
 use Rattle.rec_tools.specs.Attempts.{written}
-use Rattle.rec_tools.specs.Machine.{Entry, State, AreEntries, Stands, IsStep, IsMoveStep, Clashes, entries_on, listed, state_after_edit, state_after_move}
+use Rattle.rec_tools.specs.Machine.{Entry, State, AreEntries, Stands, IsStep, IsMoveStep, Clashes, entries_on, listed, state_after_edit, state_after_move, state_after_forgetting}
 use Rattle.rec_tools.specs.Guarantee.{StepsAsMachine, OutcomesAreSteps}
 use Rattle.rec_tools.proofs.FaultLemmas.{ok_is_no_err}
 use Rattle.rec_tools.proofs.StandsLemmas.{StandsBy, stands_by}
 use Rattle.rec_tools.proofs.OpeningLemmas.{edit_leads_back, leads_on, leads_back}
+use Rattle.rec_tools.proofs.ForgettingLemmas.{as_many_edits, stands_after_forgetting}
 
 -- ---- the history that is printed
 
@@ -257,6 +258,34 @@ module _ (c : Contents) (s : State) (stands : Stands c s) where
   moves_step direction r (inl (fault, refused, e)) = absurd (no_refusal fault refused)
   moves_step direction r (inr (o, opens, move)) = move_steps direction o opens r move
 
+  -- ---- forgetting
+
+  module _ (n : ℕ) (o : Opened) (opens : Opens c.file c.journal o) where
+    history : StandsBy o c s
+    history = by_opening o opens
+
+    as_many : length o.past ≡ length s.past
+    as_many = as_many_edits Backward o.past s.past c.file history.past
+
+    forgotten : (outcome : Outcome) → n < length o.past → Forgets n o c outcome → StepsAsMachine c s (forgetting n) (Ok outcome)
+    forgotten outcome more f =
+        subst (λ x. StepsAsMachine c s (forgetting n) (Ok x)) (sym f.is) (
+          state_after_forgetting n s,
+          (inr (omega (arith, more, as_many), ap (λ k. Ok (Forgotten (k - n))) as_many, refl), refl),
+          stands_after_forgetting n o c s history f.opens,
+        )
+
+    forgetting_steps : (r : Result Outcome Fault) → IsForgetting n o c r → StepsAsMachine c s (forgetting n) r
+    forgetting_steps (Ok outcome) (settled, inl (few, e)) =
+        subst (λ x. StepsAsMachine c s (forgetting n) (Ok x)) (sym e) (s, (inl (omega (arith, few, as_many), refl, refl), refl), stands)
+    forgetting_steps (Ok outcome) (settled, inr (more, f)) = forgotten outcome more f
+    forgetting_steps (Err fault) (e, drifted) = absurd (false≢true (sym history.settled ∙ drifted))
+
+  forgets_step : (n : ℕ) (r : Result Outcome Fault) → Then (IsOpening c.file c.journal) (λ o. IsForgetting n o c) r
+      → StepsAsMachine c s (forgetting n) r
+  forgets_step n r (inl (fault, refused, e)) = absurd (no_refusal fault refused)
+  forgets_step n r (inr (o, opens, forgets)) = forgetting_steps n o opens r forgets
+
 -- whatever it comes to on contents that stand for a state, the machine steps so
 pub outcomes_are_steps : (c : Contents) (s : State) (asked : Asked) (r : Result Outcome Fault)
     → Stands c s → IsOutcome c asked r → StepsAsMachine c s asked r
@@ -264,6 +293,7 @@ outcomes_are_steps c s (looking IsText) r stands is = looks_step c s stands IsTe
 outcomes_are_steps c s listing r stands is = lists_step c s stands r is
 outcomes_are_steps c s (editing IsEdit) r stands is = edits_step c s stands IsEdit r is
 outcomes_are_steps c s (moving direction) r stands is = moves_step c s stands direction r is
+outcomes_are_steps c s (forgetting n) r stands is = forgets_step c s stands n r is
 
 pub of_requests : OutcomesAreSteps
 of_requests c s request r stands is = outcomes_are_steps c s (asked_of request) r stands is

@@ -1,134 +1,130 @@
 -- What an outcome writes, where a write fails and where none does.
-use Rattle.std.proofs.Common.{◌≡◌, ◌⊎◌, inl, inr, ℕ, ◌+◌, zero, suc, List, [], length, take, Ok, ap, sym, subst, refl, ◌∙◌, arith}
+use Rattle.std.proofs.Common.{◌≡◌, ◌⊎◌, inl, inr, ℕ, ◌+◌, zero, suc, List, [], ◌∷◌, length, take, Ok, ap, sym, subst, refl, ◌∙◌, arith}
 use Rattle.std.proofs.lemmas.List.{take_all}
 use Rattle.rec_journal.specs.declared.plan.Plan.{Plan}
 use Rattle.rec_journal.specs.History.{Opened, Opens, IsRegular}
 use Rattle.rec_journal.specs.Stops.{keep_in, IsSafe}
+use Rattle.rec_journal.specs.Forgetting.{forgotten_journal}
+use Rattle.rec_tools.specs.declared.home.Which.TheVariants.{Journal as TheJournal}
 use Rattle.rec_tools.specs.Home.{Contents, Call, left_by_all}
 use Rattle.rec_tools.specs.Printouts.{Printed}
-use Rattle.rec_tools.specs.Requests.{Asked, looking, listing, editing, moving, asked_of, reads_of}
-use Rattle.rec_tools.specs.Outcomes.{Outcome, IsOutcome, writes_of}
+use Rattle.rec_tools.specs.Requests.{Asked, looking, listing, editing, moving, forgetting, asked_of, reads_of}
+use Rattle.rec_tools.specs.Outcomes.{Write, Outcome, IsOutcome, writes_of}
 use Rattle.rec_tools.specs.Attempts.{Answer, written, StopsWriting, IsAnswered, IsCarriedOut, Does}
 use Rattle.rec_tools.specs.Machine.{State, IsOldOrNext, Stands}
 use Rattle.rec_tools.specs.Guarantee.{StopsAreSteps, WritesAreRegular}
 use Rattle.rec_tools.proofs.StandsLemmas.{StandsBy, stands_by}
 use Rattle.rec_tools.proofs.StepLemmas.{outcomes_are_steps}
-use Rattle.rec_tools.proofs.RunLemmas.{no_cut, cut_left, left-stopped, left-carried, gots-left, writes_nothing}
+use Rattle.rec_tools.proofs.RunLemmas.{cut_left, left-stopped, left-carried, gots-left, writes_nothing}
 
--- ---- what is written
+-- ---- what writes leave
 
--- a plan from these contents, put in place
-pub record Writes (c : Contents) (outcome : Outcome) : Type 0 where
-  pub opened : Opened
-  pub opens : Opens c.file c.journal opened
-  pub after : Opened
-  pub plan : Plan
-  pub safe : IsSafe c.file c.journal opened after plan
-  pub are : outcome.writes ≡ writes_of plan
+-- these contents stand for what those stood for, and their journal is regular
+pub record StandsAgain (c left : Contents) : Type 0 where
+  pub regular : IsRegular left.journal
+  pub stands : (s : State) → Stands c s → Stands left s
 
--- an outcome writes nothing, or a plan
-writes : (c : Contents) (asked : Asked) (outcome : Outcome) → IsOutcome c asked (Ok outcome) → (outcome.writes ≡ []) ⊎ Writes c outcome
-writes c (looking IsText) outcome is = inl (writes_nothing c (looking IsText) outcome tt is)
-writes c listing outcome is = inl (writes_nothing c listing outcome tt is)
-writes c (editing IsEdit) outcome (inl refused) = let e = refused.2 in cc
-writes c (editing IsEdit) outcome (inr (text, is, inl refused)) = let e = refused.2 in cc
-writes c (editing IsEdit) outcome (inr (text, is, inr (o, opens, inl refused))) = let e = refused.2 in cc
-writes c (editing IsEdit) outcome (inr (text, is, inr (o, opens, inr (made, done, inl (same, e))))) = inl (ap (λ (x : Outcome). x.writes) e)
-writes c (editing IsEdit) outcome (inr (text, is, inr (o, opens, inr (made, done, inr (differs, (plan, planned, e)))))) =
-    inr (record { opened = o; opens = opens; after = _; plan = plan; safe = planned.safe; are = ap (λ (x : Outcome). x.writes) e })
-writes c (moving direction) outcome (inl refused) = let e = refused.2 in cc
-writes c (moving direction) outcome (inr (o, opens, (settled, m))) =
-    inr (record { opened = o; opens = opens; after = _; plan = m.plan; safe = m.safe; are = ap (λ (x : Outcome). x.writes) m.is })
+-- all writes leave a regular journal; and where the first k are there, the same stands again, or they are all
+pub record Leaves (c : Contents) (writes : List Write) : Type 0 where
+  pub regular : IsRegular (written c writes).journal
+  pub parts : (k : ℕ) → StandsAgain c (written c (take k writes)) ⊎ (written c (take k writes) ≡ written c writes)
 
--- ---- a part of a plan
+module _ (c : Contents) (regular : IsRegular c.journal) where
+  as_it_was : StandsAgain c c
+  as_it_was = record { regular = regular; stands = λ s stands. stands }
 
--- the first writes of a plan: none, the journal's, or both
-part_of_plan : (c : Contents) (plan : Plan) (k : ℕ)
-    → (written c (take k (writes_of plan)) ≡ c)
-    ⊎ ((written c (take k (writes_of plan)) ≡ record { file = c.file; journal = plan.journal })
-    ⊎ (written c (take k (writes_of plan)) ≡ written c (writes_of plan)))
-part_of_plan c plan zero = inl refl
-part_of_plan c plan (suc zero) = inr (inl refl)
-part_of_plan c plan (suc (suc k)) = inr (inr (ap (written c) (take_all (suc (suc k)) (writes_of plan) (omega arith))))
+  leaves-nothing : (writes : List Write) → writes ≡ [] → Leaves c writes
+  leaves-nothing writes none =
+      subst (Leaves c) (sym none) (record { regular = regular; parts = λ k. inr (ap (written c) (take_all k [] (omega arith))) })
 
--- with the journal written alone the same state stands
-stands_again : (c : Contents) (s : State) (o : Opened) (journal : List ℕ) (keep : ℕ) → StandsBy o c s → Opens c.file journal (record o { keep = keep })
-    → Stands (record { file = c.file; journal = journal }) s
-stands_again c s o journal keep by opens =
-    record { opened = record o { keep = keep }; opens = opens; settled = by.settled; present = by.present; past = by.past; future = by.future; next = by.next }
+  -- ---- the journal alone
 
-module _ (c : Contents) (outcome : Outcome) (made : Writes c outcome) (regular : IsRegular c.journal) where
-  -- a number of bytes that is enough for all of the plan's journal
-  abbrev enough : ℕ
-  enough = made.opened.keep + length made.plan.journal
+  leaves-journal : (journal : List ℕ) → IsRegular journal → Leaves c (record { which = TheJournal; bytes = journal } ∷ [])
+  leaves-journal journal anew = record { regular = anew; parts = parts } where
+    parts : (k : ℕ) → StandsAgain c (written c (take k (record { which = TheJournal; bytes = journal } ∷ [])))
+        ⊎ (written c (take k (record { which = TheJournal; bytes = journal } ∷ [])) ≡ record { file = c.file; journal = journal })
+    parts zero = inl as_it_was
+    parts (suc k) = inr (ap (written c) (take_all (suc k) (record { which = TheJournal; bytes = journal } ∷ []) (omega arith)))
 
-  whole : take enough made.plan.journal ≡ made.plan.journal
-  whole = take_all enough made.plan.journal (omega arith)
+  -- ---- a plan
 
-  plan_regular : IsRegular made.plan.journal
-  plan_regular = subst IsRegular whole ((made.safe.stops regular).regular enough (omega arith))
+  module _ (o after : Opened) (opens : Opens c.file c.journal o) (plan : Plan) (safe : IsSafe c.file c.journal o after plan) where
+    -- a number of bytes that is enough for all of the plan's journal
+    abbrev enough : ℕ
+    enough = o.keep + length plan.journal
 
-  half_stands : (s : State) → Stands c s → Stands (record { file = c.file; journal = made.plan.journal }) s
-  half_stands s stands =
-      let keep : ℕ = keep_in made.opened enough in
-      stands_again c s made.opened made.plan.journal keep (stands_by c s made.opened stands made.opens)
-      (subst (λ j. Opens c.file j (record made.opened { keep = keep })) whole ((made.safe.stops regular).opens enough (omega arith)))
+    whole : take enough plan.journal ≡ plan.journal
+    whole = take_all enough plan.journal (omega arith)
+
+    plan_regular : IsRegular plan.journal
+    plan_regular = subst IsRegular whole ((safe.stops regular).regular enough (omega arith))
+
+    -- with the journal written alone the same state stands
+    half_stands : (s : State) → Stands c s → Stands (record { file = c.file; journal = plan.journal }) s
+    half_stands s stands =
+        let by : StandsBy o c s = stands_by c s o stands opens in
+        record {
+          opened = record o { keep = keep_in o enough };
+          opens = subst (λ j. Opens c.file j (record o { keep = keep_in o enough })) whole ((safe.stops regular).opens enough (omega arith));
+          settled = by.settled;
+          present = by.present;
+          past = by.past;
+          future = by.future;
+          next = by.next;
+        }
+
+    leaves-plan : Leaves c (writes_of plan)
+    leaves-plan = record { regular = plan_regular; parts = parts } where
+      parts : (k : ℕ) → StandsAgain c (written c (take k (writes_of plan))) ⊎ (written c (take k (writes_of plan)) ≡ written c (writes_of plan))
+      parts zero = inl as_it_was
+      parts (suc zero) = inl (record { regular = plan_regular; stands = half_stands })
+      parts (suc (suc k)) = inr (ap (written c) (take_all (suc (suc k)) (writes_of plan) (omega arith)))
+
+  -- ---- an outcome
+
+  leaves : (asked : Asked) (outcome : Outcome) → IsOutcome c asked (Ok outcome) → Leaves c outcome.writes
+  leaves (looking IsText) outcome is = leaves-nothing outcome.writes (writes_nothing c (looking IsText) outcome tt is)
+  leaves listing outcome is = leaves-nothing outcome.writes (writes_nothing c listing outcome tt is)
+  leaves (editing IsEdit) outcome (inl refused) = let e = refused.2 in cc
+  leaves (editing IsEdit) outcome (inr (text, is, inl refused)) = let e = refused.2 in cc
+  leaves (editing IsEdit) outcome (inr (text, is, inr (o, opens, inl refused))) = let e = refused.2 in cc
+  leaves (editing IsEdit) outcome (inr (text, is, inr (o, opens, inr (made, done, inl (same, e))))) =
+      leaves-nothing outcome.writes (ap (λ (x : Outcome). x.writes) e)
+  leaves (editing IsEdit) outcome (inr (text, is, inr (o, opens, inr (made, done, inr (differs, (plan, planned, e)))))) =
+      subst (λ (x : Outcome). Leaves c x.writes) (sym e) (leaves-plan o _ opens plan planned.safe)
+  leaves (moving direction) outcome (inl refused) = let e = refused.2 in cc
+  leaves (moving direction) outcome (inr (o, opens, (settled, m))) =
+      subst (λ (x : Outcome). Leaves c x.writes) (sym m.is) (leaves-plan o _ opens m.plan m.safe)
+  leaves (forgetting n) outcome (inl refused) = let e = refused.2 in cc
+  leaves (forgetting n) outcome (inr (o, opens, (settled, inl (few, e)))) = leaves-nothing outcome.writes (ap (λ (x : Outcome). x.writes) e)
+  leaves (forgetting n) outcome (inr (o, opens, (settled, inr (more, f)))) =
+      subst (λ (x : Outcome). Leaves c x.writes) (sym f.is) (leaves-journal (forgotten_journal n o) f.regular)
 
 -- ---- an outcome's writes
 
 module _ (c : Contents) (asked : Asked) (outcome : Outcome) (is : IsOutcome c asked (Ok outcome)) (regular : IsRegular c.journal) where
   pub written_regular : IsRegular (written c outcome.writes).journal
-  written_regular =
-      elim (writes c asked outcome is) [
-        | inl none ↦ subst (λ ws. IsRegular (written c ws).journal) (sym none) regular
-        | inr made ↦ subst (λ ws. IsRegular (written c ws).journal) (sym made.are) (plan_regular c outcome made regular)
-      ]
+  written_regular = (leaves c regular asked outcome is).regular
 
   module _ (calls : List Call) (stops : StopsWriting outcome.writes calls) where
-    -- nothing, the journal alone, or all was written
-    pub record IsPart (made : Writes c outcome) : Type 0 where
-      pub left : (left_by_all c calls ≡ c)
-          ⊎ ((left_by_all c calls ≡ record { file = c.file; journal = made.plan.journal })
-          ⊎ (left_by_all c calls ≡ written c outcome.writes))
-
-    part : (made : Writes c outcome) → IsPart made
-    part made =
+    -- the same stands again, or all was written
+    left : StandsAgain c (left_by_all c calls) ⊎ (left_by_all c calls ≡ written c outcome.writes)
+    left =
         let cut = cut_left c outcome.writes calls stops in
-        let left : left_by_all c calls ≡ written c (take cut.0 (writes_of made.plan)) = cut.1 ∙ ap (λ ws. written c (take cut.0 ws)) made.are in
-        record {
-          left = elim (part_of_plan c made.plan cut.0) [
-            | inl none ↦ inl (left ∙ none)
-            | inr (inl half) ↦ inr (inl (left ∙ half))
-            | inr (inr all) ↦ inr (inr (left ∙ all ∙ ap (written c) (sym made.are)))
-          ];
-        }
-
-    no_writes : outcome.writes ≡ [] → ⊥
-    no_writes none = no_cut calls (subst (λ ws. StopsWriting ws calls) none stops)
+        subst (λ d. StandsAgain c d ⊎ (d ≡ written c outcome.writes)) (sym cut.1) ((leaves c regular asked outcome is).parts cut.0)
 
     pub cut_regular : IsRegular (left_by_all c calls).journal
     cut_regular =
-        elim (writes c asked outcome is) [
-          | inl none ↦ absurd (no_writes none)
-          | inr made ↦ elim (part made).left [
-            | inl same ↦ subst (λ (d : Contents). IsRegular d.journal) (sym same) regular
-            | inr (inl half) ↦ subst (λ (d : Contents). IsRegular d.journal) (sym half) (plan_regular c outcome made regular)
-            | inr (inr all) ↦ subst (λ (d : Contents). IsRegular d.journal) (sym all) written_regular
-          ]
-        ]
+        elim left [ inl again ↦ again.regular | inr all ↦ subst (λ (d : Contents). IsRegular d.journal) (sym all) written_regular ]
 
     pub cut_stands : (s : State) → Stands c s → (t : State) × IsOldOrNext s asked t × Stands (left_by_all c calls) t
     cut_stands s stands =
-        elim (writes c asked outcome is) [
-          | inl none ↦ absurd (no_writes none)
-          | inr made ↦ elim (part made).left [
-            | inl same ↦ (s, inl refl, subst (λ d. Stands d s) (sym same) stands)
-            | inr (inl half) ↦ (s, inl refl, subst (λ d. Stands d s) (sym half) (half_stands c outcome made regular s stands))
-            | inr (inr all) ↦ (
-                let step = outcomes_are_steps c s asked (Ok outcome) stands is in
-                (step.0, inr (outcome.reply, outcome.text, step.1), subst (λ d. Stands d step.0) (sym all) step.2)
-                )
-          ]
+        elim left [
+          | inl again ↦ (s, inl refl, again.stands s stands)
+          | inr all ↦ (
+              let step = outcomes_are_steps c s asked (Ok outcome) stands is in
+              (step.0, inr (outcome.reply, outcome.text, step.1), subst (λ d. Stands d step.0) (sym all) step.2)
+              )
         ]
 
 pub stops_are_steps : StopsAreSteps

@@ -1,5 +1,5 @@
 -- What is asked for is never refused because a store failed: that comes of calls alone.
-use Rattle.std.proofs.Common.{◌≡◌, inl, inr, Bool, Result, Ok, Err}
+use Rattle.std.proofs.Common.{◌≡◌, inl, inr, ℕ, Bool, Result, Ok, Err}
 use Rattle.rec_text.specs.declared.fault.Fault.{Fault}
 use Rattle.rec_text.specs.declared.fault.Fault.TheVariants.{StoreFailed}
 use Rattle.rec_journal.specs.declared.event.Tool.{Tool}
@@ -7,7 +7,7 @@ use Rattle.rec_journal.specs.History.{Opened, IsOpening}
 use Rattle.rec_edit.specs.declared.batches.BatchEdited.{BatchEdited}
 use Rattle.rec_tools.specs.declared.request.Reply.TheVariants.{Shown}
 use Rattle.rec_tools.specs.declared.request.Request.{Request}
-use Rattle.rec_tools.specs.declared.request.Request.TheVariants.{Show, Info, Check, Insert, Replace, Delete, CommentOut, Set, AutoFill, Batch, Undo, Redo, History}
+use Rattle.rec_tools.specs.declared.request.Request.TheVariants.{Show, Info, Check, Insert, Replace, Delete, CommentOut, Set, AutoFill, Batch, Undo, Redo, Forget, History}
 use Rattle.rec_tools.specs.Home.{Contents}
 use Rattle.rec_tools.specs.Steps.{Then}
 use Rattle.rec_journal.specs.declared.patch.Direction.{Direction}
@@ -16,8 +16,8 @@ use Rattle.rec_journal.specs.Plans.{nothing_there}
 use Rattle.rec_check.specs.DescribedTexts.{DescribedText, IsDescribedText}
 use Rattle.rec_tools.specs.Printouts.{printed_history}
 use Rattle.rec_select.specs.Info.{IsInfo}
-use Rattle.rec_tools.specs.Requests.{Edits, IsOneEdit, IsBatch, editing, moving, asked_of}
-use Rattle.rec_tools.specs.Outcomes.{Outcome, IsMade, IsEditOutcome, IsMove, IsOutcome, printing}
+use Rattle.rec_tools.specs.Requests.{Edits, IsOneEdit, IsBatch, editing, moving, forgetting, asked_of}
+use Rattle.rec_tools.specs.Outcomes.{Outcome, IsMade, IsEditOutcome, IsMove, IsForgetting, IsOutcome, printing}
 use Rattle.rec_tools.proofs.FaultLemmas.{ok_is_no_err}
 use Rattle.rec_tools.proofs.PutsLemmas.{no_store_then, no_store_text}
 use Rattle.rec_tools.proofs.ShowLemmas.{no_store_show}
@@ -51,6 +51,14 @@ no_store_move direction o c (inr none) = no_store_there direction none.0
 never_moves : (direction : Direction) (c : Contents) → IsOutcome c (moving direction) (Err StoreFailed) → ⊥
 never_moves direction c = no_store_then (IsOpening c.file c.journal) (λ o. IsMove direction o c) (λ h. h) (λ o. no_store_move direction o c)
 
+-- ---- forgetting
+
+no_store_forgetting : (n : ℕ) (o : Opened) (c : Contents) → IsForgetting n o c (Err StoreFailed) → ⊥
+no_store_forgetting n o c h = let e = h.0 in cc
+
+never_forgets : (n : ℕ) (c : Contents) → IsOutcome c (forgetting n) (Err StoreFailed) → ⊥
+never_forgets n c = no_store_then (IsOpening c.file c.journal) (λ o. IsForgetting n o c) (λ h. h) (λ o. no_store_forgetting n o c)
+
 -- ---- requests
 
 pub never_store : (request : Request) (c : Contents) → IsOutcome c (asked_of request) (Err StoreFailed) → ⊥
@@ -67,6 +75,7 @@ never_store (AutoFill force) c is = never_edits c (IsOneEdit (AutoFill force) fo
 never_store (Batch text force) c is = never_edits c (IsBatch text force) (no_store_listed text force) is
 never_store Undo c is = never_moves Backward c is
 never_store Redo c is = never_moves Forward c is
+never_store (Forget n) c is = never_forgets n c is
 never_store History c is =
     no_store_then (IsOpening c.file c.journal) (λ o given. given ≡ Ok (printing (printed_history o) Shown)) (λ h. h)
     (λ o. ok_is_no_err (printing (printed_history o) Shown) StoreFailed ⊥) is

@@ -6,7 +6,7 @@ use Rattle.rec_journal.specs.declared.event.Tool.{Tool}
 use Rattle.rec_journal.specs.History.{Opened, Opens}
 use Rattle.rec_tools.specs.declared.request.Reply.TheVariants.{Shown}
 use Rattle.rec_tools.specs.declared.request.Request.{Request}
-use Rattle.rec_tools.specs.declared.request.Request.TheVariants.{Undo, Redo, History}
+use Rattle.rec_tools.specs.declared.request.Request.TheVariants.{Undo, Redo, Forget, History}
 use Rattle.rec_tools.specs.Home.{Contents}
 use Rattle.rec_tools.specs.Requests.{asked_of}
 use Rattle.rec_tools.specs.Outcomes.{Outcome, IsOutcome, printing}
@@ -36,10 +36,11 @@ abbrev pub outside_state : Contents → Opened → Tool → List ℕ → State
 outside_state c o tool text =
     record { past = record { number = o.next; tool = tool; text = c.file } ∷ []; present = text; future = []; next = o.next + 1 }
 
--- nothing is taken back or made again, and the history says so; an edit that changes the text begins it anew
+-- nothing is taken back, made again or forgotten, and the history says so; an edit that changes the text begins it anew
 pub record IsNoticed (c : Contents) (o : Opened) : Type 0 where
   pub undo : (r : Result Outcome Fault) → IsOutcome c (asked_of Undo) r → r ≡ Err Drifted
   pub redo : (r : Result Outcome Fault) → IsOutcome c (asked_of Redo) r → r ≡ Err Drifted
+  pub forgetting : (n : ℕ) (r : Result Outcome Fault) → IsOutcome c (asked_of (Forget n)) r → r ≡ Err Drifted
   pub history : (r : Result Outcome Fault) → IsOutcome c (asked_of History) r → r ≡ Ok (printing (codes "drifted\n") Shown)
   pub edits : (request : Request) (outcome : Outcome) → IsOutcome c (asked_of request) (Ok outcome)
       → (outcome.writes ≡ [])

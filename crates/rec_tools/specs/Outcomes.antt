@@ -1,18 +1,19 @@
 -- What a request comes to on any two contents: its refusals in their order, or what it prints, what it writes, and its reply.
-use Rattle.std.specs.Prelude.{◌≡◌, ◌≢◌, ◌⊎◌, ℕ, Bool, false, List, [], ◌∷◌, Result, Ok, Err}
+use Rattle.std.specs.Prelude.{◌≡◌, ◌≢◌, ◌⊎◌, ℕ, ◌-◌, ◌≤◌, ◌<◌, Bool, true, false, List, [], ◌∷◌, length, Result, Ok, Err}
 use Rattle.rec_text.specs.declared.fault.Fault.{Fault}
-use Rattle.rec_text.specs.declared.fault.Fault.TheVariants.{BadPattern, DigestClash}
+use Rattle.rec_text.specs.declared.fault.Fault.TheVariants.{BadPattern, DigestClash, Drifted}
 use Rattle.rec_journal.specs.declared.patch.Direction.{Direction}
 use Rattle.rec_journal.specs.declared.patch.Direction.TheVariants.{Forward, Backward}
 use Rattle.rec_journal.specs.declared.event.Tool.{Tool}
 use Rattle.rec_journal.specs.declared.event.Tool.TheVariants.{Batch}
 use Rattle.rec_journal.specs.declared.plan.Plan.{Plan}
-use Rattle.rec_journal.specs.History.{Opened, IsOpening}
+use Rattle.rec_journal.specs.History.{Opened, Opens, IsOpening, IsRegular}
 use Rattle.rec_journal.specs.Revisions.{single_step, LeadsBy}
 use Rattle.rec_journal.specs.Plans.{ShareDigest, IsEditPlan, after_edit_plan, MovesByNearest, after_move, IsMovePlan}
 use Rattle.rec_journal.specs.Stops.{IsSafe}
+use Rattle.rec_journal.specs.Forgetting.{forgotten_journal, after_forgetting}
 use Rattle.rec_tools.specs.declared.decision.Decision.{Decision}
-use Rattle.rec_tools.specs.declared.decision.Decision.TheVariants.{Stay, Put}
+use Rattle.rec_tools.specs.declared.decision.Decision.TheVariants.{Stay, Put, Rewrite}
 use Rattle.rec_edit.specs.declared.batches.BatchEdited.{BatchEdited}
 use Rattle.rec_edit.specs.declared.outcome.Edited.{Edited}
 use Rattle.rec_edit.specs.Task.{tool_of}
@@ -24,11 +25,11 @@ use Rattle.rec_tools.specs.declared.home.Which.{Which}
 use Rattle.rec_tools.specs.declared.home.Which.TheVariants.{Base as TheFile, Journal as TheJournal}
 use Rattle.rec_tools.specs.declared.request.Request.{Request}
 use Rattle.rec_tools.specs.declared.request.Reply.{Reply}
-use Rattle.rec_tools.specs.declared.request.Reply.TheVariants.{Shown, Edited as EditedReply, Unchanged, Undone, Redone}
+use Rattle.rec_tools.specs.declared.request.Reply.TheVariants.{Shown, Edited as EditedReply, Unchanged, Undone, Redone, Forgotten}
 use Rattle.rec_tools.specs.Home.{Contents}
 use Rattle.rec_tools.specs.Steps.{Then}
 use Rattle.rec_tools.specs.Printouts.{Printout, printed_history}
-use Rattle.rec_tools.specs.Requests.{Edits, one_edit, batch_of, Asked, looking, listing, editing, moving, asked_of}
+use Rattle.rec_tools.specs.Requests.{Edits, one_edit, batch_of, Asked, looking, listing, editing, moving, forgetting, asked_of}
 
 -- ---- outcomes
 
@@ -59,10 +60,15 @@ writes_of plan = record { which = TheJournal; bytes = plan.journal } ∷ record 
 abbrev pub putting : Plan → Reply → Outcome
 putting plan reply = record { text = []; writes = writes_of plan; reply = reply }
 
+-- the journal alone is written
+abbrev pub rewriting : List ℕ → Reply → Outcome
+rewriting journal reply = record { text = []; writes = record { which = TheJournal; bytes = journal } ∷ []; reply = reply }
+
 -- a decision as an outcome
 abbrev pub outcome_of : Decision → Outcome
 outcome_of (Stay reply) = staying reply
 outcome_of (Put plan reply) = putting plan reply
+outcome_of (Rewrite journal reply) = rewriting journal reply
 
 -- ---- edits
 
@@ -117,6 +123,20 @@ abbrev pub IsMove : Direction → Opened → Contents → Result Outcome Fault �
 IsMove direction o c (Ok outcome) = (o.drifted ≡ false) × Moves direction o c outcome
 IsMove direction o c (Err fault) = IsMovePlan direction o c.file c.journal (Err fault)
 
+-- ---- forgetting
+
+-- the journal is written anew: with the file it stands for the history without what is forgotten, and it is regular
+pub record Forgets (n : ℕ) (o : Opened) (c : Contents) (outcome : Outcome) : Type 0 where
+  pub opens : Opens c.file (forgotten_journal n o) (after_forgetting n o)
+  pub regular : IsRegular (forgotten_journal n o)
+  pub is : outcome ≡ rewriting (forgotten_journal n o) (Forgotten (length o.past - n))
+
+-- refused where the file has drifted; where no more than n edits can be taken back, nothing is written
+abbrev pub IsForgetting : ℕ → Opened → Contents → Result Outcome Fault → Type 0
+IsForgetting n o c (Ok outcome) = (o.drifted ≡ false)
+    × (((length o.past ≤ n) × (outcome ≡ staying (Forgotten 0))) ⊎ ((n < length o.past) × Forgets n o c outcome))
+IsForgetting n o c (Err fault) = (fault ≡ Drifted) × (o.drifted ≡ true)
+
 -- ---- requests
 
 -- what is printed, with nothing written
@@ -135,6 +155,7 @@ IsOutcome c (editing IsEdit) answer =
     Then (IsMade IsEdit text) (λ (tool, made).
     IsEditOutcome o c tool made))) answer
 IsOutcome c (moving direction) answer = Then (IsOpening c.file c.journal) (λ o. IsMove direction o c) answer
+IsOutcome c (forgetting n) answer = Then (IsOpening c.file c.journal) (λ o. IsForgetting n o c) answer
 
 -- a decision is what is asked for on a file and a journal, or it is refused so
 abbrev pub Decides : List ℕ → List ℕ → Asked → Result Decision Fault → Type 0

@@ -1,5 +1,5 @@
--- What each request asks for: a look at the file or at its history, an edit, or a move through the history. Each kind has one
--- case in what follows, and each request one row here.
+-- What each request asks for: a look at the file or at its history, an edit, a move through the history, or that old edits are
+-- forgotten. Each kind has one case in what follows, and each request one row here.
 use Rattle.std.specs.Prelude.{◌≡◌, ℕ, Bool, List, [], ◌∷◌, Result, Ok}
 use Rattle.rec_text.specs.declared.fault.Fault.{Fault}
 use Rattle.rec_journal.specs.declared.patch.Direction.{Direction}
@@ -9,7 +9,7 @@ use Rattle.rec_tools.specs.declared.home.Which.{Which}
 use Rattle.rec_tools.specs.declared.home.Which.TheVariants.{Base as TheFile, Journal as TheJournal}
 use Rattle.rec_tools.specs.declared.request.Pick.{Pick}
 use Rattle.rec_tools.specs.declared.request.Request.{Request}
-use Rattle.rec_tools.specs.declared.request.Request.TheVariants.{Show, Info, Check, Insert, Replace, Delete, CommentOut, Set, AutoFill, Batch, Undo, Redo, History}
+use Rattle.rec_tools.specs.declared.request.Request.TheVariants.{Show, Info, Check, Insert, Replace, Delete, CommentOut, Set, AutoFill, Batch, Undo, Redo, Forget, History}
 use Rattle.rec_check.specs.Violations.{AreViolationsOf}
 use Rattle.rec_tools.specs.Steps.{Then}
 use Rattle.rec_tools.specs.Asking.{IsFilter}
@@ -31,6 +31,8 @@ pub data Asked : Type 1 where
   editing : (Result (Edits × Bool) Fault → Type 0) → Asked
   -- the nearest edit that way is taken back or made again
   moving : Direction → Asked
+  -- all but the newest n of the edits that can be taken back are forgotten
+  forgetting : ℕ → Asked
 
 -- ---- edits
 
@@ -84,6 +86,7 @@ asked_of (AutoFill force) = editing (IsOneEdit (AutoFill force) force)
 asked_of (Batch text force) = editing (IsBatch text force)
 asked_of Undo = moving Backward
 asked_of Redo = moving Forward
+asked_of (Forget n) = forgetting n
 asked_of History = listing
 
 -- the contents that are read for it, in this order
@@ -92,6 +95,7 @@ reads_of (looking IsText) = TheFile ∷ []
 reads_of listing = TheFile ∷ TheJournal ∷ []
 reads_of (editing IsEdit) = TheFile ∷ TheJournal ∷ []
 reads_of (moving direction) = TheFile ∷ TheJournal ∷ []
+reads_of (forgetting n) = TheFile ∷ TheJournal ∷ []
 
 -- nothing is printed for it
 abbrev pub IsSilent : Asked → Type 0
@@ -99,6 +103,7 @@ IsSilent (looking IsText) = ⊥
 IsSilent listing = ⊥
 IsSilent (editing IsEdit) = Unit {0}
 IsSilent (moving direction) = Unit {0}
+IsSilent (forgetting n) = Unit {0}
 
 -- nothing is written for it
 abbrev pub WritesNothing : Asked → Type 0
@@ -106,3 +111,4 @@ WritesNothing (looking IsText) = Unit {0}
 WritesNothing listing = Unit {0}
 WritesNothing (editing IsEdit) = ⊥
 WritesNothing (moving direction) = ⊥
+WritesNothing (forgetting n) = ⊥

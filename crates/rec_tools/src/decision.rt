@@ -4,7 +4,7 @@ ghost use Rattle.rec_text.specs.Faults.{IsMemoryOr, UnlessMemory};
 ghost use Rattle.rec_journal.specs.History.{IsOpening};
 ghost use Rattle.rec_journal.specs.Plans.{nothing_there};
 ghost use Rattle.rec_tools.specs.Steps.{IsRefusal};
-ghost use Rattle.rec_tools.specs.Requests.{moving, asked_of, IsSilent};
+ghost use Rattle.rec_tools.specs.Requests.{moving, forgetting, asked_of, IsSilent};
 ghost use Rattle.rec_tools.specs.Outcomes.{Decides, reply_of};
 ghost use Rattle.rec_tools.specs.declared.making.Made.TheVariants.{One, Several};
 ghost use Rattle.rec_tools.specs.proving.Editing.{IsEditing, IsChange, IsPut, TellsChanges, told_by};
@@ -14,15 +14,18 @@ use crate::making::{Made, made_by, text_made};
 use crate::rec_file::read_file;
 use crate::request::{Reply, Request};
 use rec_edit::{BatchEdited, Edited};
-use rec_journal::{Direction, Hashed, History, Plan, Tool, plan_batch, plan_edit, plan_move};
-use rec_text::Fault;
+use rec_journal::{
+    Direction, Hashed, History, Plan, Tool, plan_batch, plan_edit, plan_forget, plan_move,
+};
+use rec_text::{Bytes, Fault};
 use std::alloc::Global;
 
-/// Either a reply alone, or a plan that is to be put in place first.
+/// A reply, and what is to be put in place first: nothing, a plan, or a journal alone.
 #[derive(Drop)]
 pub enum Decision {
     Stay(Reply),
     Put(Plan, Reply),
+    Rewrite(Bytes, Reply),
 }
 
 /// The history of a file, and what a request makes of the file. The elements of the file are let go here, before a plan is
@@ -181,6 +184,28 @@ fn decide_move(
     Ok(Decision::Put(plan, reply))
 }
 
+/// Decides what is forgotten, on a file and a journal.
+fn decide_forgetting(
+    alloc: Global,
+    file: &[u8],
+    journal: &[u8],
+    n: usize,
+) -> Result<Decision, Fault>
+    ensures found { UnlessMemory result (Decides file.now journal.now (forgetting n)) }
+    ensures refusals { IfErr result IsRefusal }
+{
+    let history = history_of(alloc, file, journal)?;
+    if history.is_drifted() {
+        return Err(Fault::Drifted);
+    }
+    let undos = history.undos();
+    if undos <= n {
+        return Ok(Decision::Stay(Reply::Forgotten(0)));
+    }
+    let left = plan_forget(alloc, &history, file, journal, n)?;
+    Ok(Decision::Rewrite(left, Reply::Forgotten(undos - n)))
+}
+
 /// Decides a request that prints nothing, on a file and a journal.
 pub fn decide(
     alloc: Global,
@@ -195,6 +220,7 @@ pub fn decide(
     match request {
         Request::Undo => decide_move(alloc, file, journal, Direction::Backward),
         Request::Redo => decide_move(alloc, file, journal, Direction::Forward),
+        Request::Forget(n) => decide_forgetting(alloc, file, journal, *n as usize),
         _ => decide_edit(alloc, file, journal, request),
     }
 }

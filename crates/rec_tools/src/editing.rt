@@ -51,7 +51,8 @@ pub fn edit_of(alloc: Global, request: &Request) -> Result<Edit<'_>, Fault>
         }
         Request::AutoFill { .. } => Edit::AutoFill,
         Request::Show { .. } | Request::Info { .. } | Request::Check => unreachable!(),
-        Request::Batch { .. } | Request::Undo | Request::Redo | Request::History => unreachable!(),
+        Request::Batch { .. } | Request::Undo | Request::Redo => unreachable!(),
+        Request::Forget(_) | Request::History => unreachable!(),
     })
 }
 

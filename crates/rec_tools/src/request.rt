@@ -103,6 +103,8 @@ pub enum Request {
     Undo,
     /// Makes the edit that was taken back last again.
     Redo,
+    /// Forgets all but the newest n of the edits that can be taken back; those that can be made again stay.
+    Forget(u32),
     /// Prints the edits: those that stand, the oldest first, and then those that can be made again, the nearest first; or
     /// that the file was changed outside.
     History,
@@ -123,4 +125,6 @@ pub enum Reply {
     Undone(usize),
     /// The edit of this number was made again.
     Redone(usize),
+    /// The number of edits that were forgotten.
+    Forgotten(usize),
 }

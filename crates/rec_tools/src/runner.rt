@@ -53,6 +53,10 @@ fn carry_out<H: Home>(home: &mut H, decision: Decision) -> Result<Reply, Fault>
             put_in_place(home, &plan)?;
             Ok(reply)
         }
+        Decision::Rewrite(journal, reply) => {
+            home.replace(Which::Journal, journal.as_slice())?;
+            Ok(reply)
+        }
     }
 }
 
@@ -117,7 +121,8 @@ fn attempt<H: Home, S: Sink>(
         | Request::AutoFill { .. }
         | Request::Batch { .. }
         | Request::Undo
-        | Request::Redo => make_change(alloc, home, request),
+        | Request::Redo
+        | Request::Forget(_) => make_change(alloc, home, request),
     }
 }
 

@@ -12,7 +12,7 @@ use Rattle.rec_tools.specs.declared.making.Made.{Made}
 use Rattle.rec_tools.specs.declared.making.Made.TheVariants.{One, Several}
 use Rattle.rec_tools.specs.declared.request.Request.{Request}
 use Rattle.rec_tools.specs.declared.request.Request.TheVariants.{Insert, Replace, Delete, CommentOut, Set, AutoFill}
-use Rattle.rec_tools.specs.Requests.{Edits, Asked, looking, listing, editing, moving}
+use Rattle.rec_tools.specs.Requests.{Edits, Asked, looking, listing, editing, moving, forgetting}
 use Rattle.rec_tools.specs.Outcomes.{by_one, IsMade, IsEditOutcome, outcome_of}
 
 -- an edit is asked for
@@ -21,6 +21,7 @@ IsEditing (looking IsText) = ⊥
 IsEditing listing = ⊥
 IsEditing (editing IsEdit) = Unit {0}
 IsEditing (moving direction) = ⊥
+IsEditing (forgetting n) = ⊥
 
 -- its tasks, with force or without, or why they can't be told
 abbrev pub IsEditOf : Asked → Result (Edits × Bool) Fault → Type 0
@@ -28,6 +29,7 @@ IsEditOf (looking IsText) answer = ⊥
 IsEditOf listing answer = ⊥
 IsEditOf (editing IsEdit) answer = IsEdit answer
 IsEditOf (moving direction) answer = ⊥
+IsEditOf (forgetting n) answer = ⊥
 
 -- a request that is one edit
 abbrev pub IsOne : Request → Type 0

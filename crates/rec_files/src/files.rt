@@ -20,7 +20,8 @@ use std::rt::Files;
 use std::{fs, io};
 
 /// A file and its journal on disk. A replace of the journal waits under its working name until the file's, by which both
-/// are put in place. It keeps the last failure, for `explain`.
+/// are put in place; where the journal alone may be replaced it is put in place at once. The last failure is kept, for
+/// `explain`.
 #[derive(Drop)]
 pub struct FileHome<'r, R> {
     rt: &'r R,
@@ -118,7 +119,7 @@ impl<'r, R: Files<File = File> + Input + AllocGlobal> FileHome<'r, R> {
         }
         match self.access {
             Access::Look => self.look_at(alloc, which),
-            Access::Change => self.take(alloc, which),
+            Access::Change | Access::Rewrite => self.take(alloc, which),
         }
     }
 
@@ -178,7 +179,7 @@ impl<'r, R: Files<File = File> + Input + AllocGlobal> Home for FileHome<'r, R> {
     }
 
     fn replace(&mut self, which: Which, bytes: &[u8]) -> Result<(), Fault> {
-        match self.pair.put(self.rt, which, bytes) {
+        match self.pair.replace(self.rt, self.access, which, bytes) {
             Ok(()) => Ok(()),
             Err(failure) => {
                 self.let_go();

@@ -45,6 +45,13 @@ file_word = record (new_rule (codes "file")) { value_names = 1 }
 abbrev pub needed_file : Rule
 needed_file = record file_word { required = true }
 
+-- N, which has to be there
+abbrev pub needed_number : Rule
+needed_number = record (new_rule (codes "n")) {
+  value_names = 1;
+  required = true;
+}
+
 -- a tool with these rules, in their order
 abbrev pub tool_with : Text → List Rule → App
 tool_with name rules = fold with_rule (new_app name) rules
@@ -134,6 +141,9 @@ batch_usage = tool_with (codes "batch") (
 abbrev pub paths_usage : Text → App
 paths_usage name = tool_with name (journal_option ∷ needed_file ∷ [])
 
+abbrev pub forget_usage : App
+forget_usage = tool_with (codes "forget") (journal_option ∷ needed_number ∷ needed_file ∷ [])
+
 -- the words are those behind the program's name, and the first of them is a tool
 abbrev pub plain_usage : App
 plain_usage = record {
@@ -159,6 +169,7 @@ tools =
     ∷ paths_usage (codes "undo")
     ∷ paths_usage (codes "redo")
     ∷ paths_usage (codes "history")
+    ∷ forget_usage
     ∷ []
 
 abbrev pub usage : App

@@ -1,7 +1,8 @@
 -- What a command line asks for, and the paths that it names.
-use Rattle.std.specs.Prelude.{◌≡◌, ◌≢◌, ℕ, Bool, true, false, not, List, [], map, codes, Option, Some, None, option_map, string_bytes}
+use Rattle.std.specs.Prelude.{◌≡◌, ◌≢◌, ℕ, ◌^◌, ◌<◌, Bool, true, false, not, List, [], map, codes, Option, Some, None, option_map, string_bytes}
 use Rattle.std.specs.Option.{option_map_or, unwrap_or}
 use Rattle.std.specs.Str.{bytes_eq}
+use Rattle.std.specs.Str.Parse.{IsNumeral, digits_value}
 use Rattle.clap.specs.Words.{Row, Text, all_of, first_of, one_of, subcommand_of}
 use Rattle.rec_select.specs.declared.info.InfoForm.{InfoForm}
 use Rattle.rec_select.specs.declared.info.InfoForm.TheVariants.{Counts, Names, Descriptors}
@@ -15,7 +16,7 @@ use Rattle.rec_tools.specs.declared.request.Form.{Form}
 use Rattle.rec_tools.specs.declared.request.Form.TheVariants.{Blocks, Print, Values, Row as OneRow, Count}
 use Rattle.rec_tools.specs.declared.request.Pick.{Pick}
 use Rattle.rec_tools.specs.declared.request.Request.{Request}
-use Rattle.rec_tools.specs.declared.request.Request.TheVariants.{Show, Info, Check, Insert, Replace, Delete, CommentOut, Set, AutoFill, Batch, Undo, Redo, History}
+use Rattle.rec_tools.specs.declared.request.Request.TheVariants.{Show, Info, Check, Insert, Replace, Delete, CommentOut, Set, AutoFill, Batch, Undo, Redo, Forget, History}
 use Rattle.rec_files.specs.Paths.{journal_of, AreApart}
 use Rattle.rec_command.specs.declared.args.Asked.{Asked}
 use Rattle.rec_command.specs.Usage.{usage}
@@ -105,6 +106,10 @@ IsFresh options (Pairs pairs) = (first_of (codes "record") options ≡ None)
 IsFresh options (TextOfIt text) = (first_of (codes "record") options ≡ Some text)
     × (texts_given (codes "field") options ≡ []) × (texts_given (codes "value") options ≡ [])
 
+-- the decimal digits, one or more, write this number of 32 bits
+abbrev pub IsNumber : Text → ℕ → Type 0
+IsNumber digits n = IsNumeral 10 digits × (digits_value 10 digits ≡ n) × (n < 2 ^ 32)
+
 -- the request of a tool and of the options that are found
 abbrev pub Asks : Text → List Row → Request → Type 0
 Asks tool options (Show pick form collapse) =
@@ -138,6 +143,8 @@ Asks tool options (Batch text force) =
     × (force ≡ has_flag (codes "force") options)
 Asks tool options Undo = tool ≡ codes "undo"
 Asks tool options Redo = tool ≡ codes "redo"
+Asks tool options (Forget n) =
+    (tool ≡ codes "forget") × ((digits : Text) × (first_of (codes "n") options ≡ Some digits) × IsNumber digits n)
 Asks tool options History = tool ≡ codes "history"
 
 -- a batch with this text as its own; another request stays as it is

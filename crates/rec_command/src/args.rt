@@ -5,6 +5,7 @@ ghost use Rattle.rec_text.specs.Faults.{IsOkUnlessEither};
 ghost use Rattle.rec_command.specs.Words.{Asks, IsAsked, with_text};
 
 mod editing;
+mod forgetting;
 mod found;
 mod help;
 mod paths;
@@ -14,6 +15,7 @@ mod usage;
 
 use clap::ArgMatches;
 use editing::{batch_request, recdel_request, recfix_request, recins_request, recset_request};
+use forgetting::forget_request;
 use found::given;
 use paths::{copied, journal};
 use rec_tools::{Bytes, Fault, Request};
@@ -105,6 +107,7 @@ fn request(alloc: Global, tool: &str, options: &ArgMatches) -> Result<Request, R
         "undo" => Ok(Request::Undo),
         "redo" => Ok(Request::Redo),
         "history" => Ok(Request::History),
+        "forget" => forget_request(options),
         _ => Err(Refusal::Rule("no such tool")),
     }
 }

@@ -17,7 +17,7 @@ const PIECE: usize = 65_536;
 pub fn room_for(access: Access) -> usize {
     match access {
         Access::Look => PIECE,
-        Access::Change => 0,
+        Access::Change | Access::Rewrite => 0,
     }
 }
 

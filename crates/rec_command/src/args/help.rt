@@ -51,3 +51,9 @@ pub const REDO_HELP: &str =
 
 pub const HISTORY_HELP: &str =
     "Each edit that can be undone is a line, done NUMBER TOOL, the oldest first; behind them each that can\nbe redone is one, undone NUMBER TOOL, the nearest first. For a file that was changed outside it is the\nline drifted.\n\nExamples:\n  recu history contacts.rec\n  recu history --journal edits.rec contacts.rec";
+
+pub const FORGET_ABOUT: &str =
+    "Forgets all but the newest N of the edits that can be undone, which makes the journal shorter. FILE\nstays as it is. What is forgotten can't be undone any more, and nothing brings it back.";
+
+pub const FORGET_HELP: &str =
+    "All edits that can be redone are kept too. What is kept is numbered from 1 on. Where no more than N\nedits can be undone, nothing is forgotten, and nothing is written.\n\nExamples:\n  recu forget 100 contacts.rec\n  recu forget 0 --journal edits.rec contacts.rec";

@@ -3,12 +3,12 @@ ghost use Rattle.std.specs.Prelude.{◌≡◌, false, fold, IfOk};
 ghost use Rattle.clap.specs.Words.{app_of, rule_of, with_rule};
 ghost use Rattle.clap.specs.declared.builder.command.Command.TheViews.{out-Command as fields_of};
 ghost use Rattle.rec_command.specs.proving.Options.{rule_of_option, with_option};
-ghost use Rattle.rec_command.specs.Usage.{batch_option, journal_option, file_word, needed_file, recsel_usage, recinf_usage, recfix_usage, recins_usage, recdel_usage, recset_usage, batch_usage, paths_usage, plain_usage, selecting, usage};
+ghost use Rattle.rec_command.specs.Usage.{batch_option, journal_option, file_word, needed_file, needed_number, recsel_usage, recinf_usage, recfix_usage, recins_usage, recdel_usage, recset_usage, batch_usage, forget_usage, paths_usage, plain_usage, selecting, usage};
 
 use super::help::{
-    ABOUT, BATCH_ABOUT, BATCH_HELP, HISTORY_HELP, RECDEL_ABOUT, RECDEL_HELP, RECFIX_ABOUT,
-    RECFIX_HELP, RECINF_HELP, RECINS_ABOUT, RECINS_HELP, RECSEL_HELP, RECSET_ABOUT, RECSET_HELP,
-    REDO_HELP, UNDO_HELP, VERSION, WORKING_NAMES,
+    ABOUT, BATCH_ABOUT, BATCH_HELP, FORGET_ABOUT, FORGET_HELP, HISTORY_HELP, RECDEL_ABOUT,
+    RECDEL_HELP, RECFIX_ABOUT, RECFIX_HELP, RECINF_HELP, RECINS_ABOUT, RECINS_HELP, RECSEL_HELP,
+    RECSET_ABOUT, RECSET_HELP, REDO_HELP, UNDO_HELP, VERSION, WORKING_NAMES,
 };
 use crate::options::{
     BATCH, PRINTING, RECDEL, RECFIX, RECINF, RECINS, RECSET, SELECTION, Takes, ToolOption,
@@ -60,7 +60,8 @@ pub fn command<'a>(alloc: Global) -> Result<Command<'a>, AllocError>
             "history",
             "Prints the edits that can be undone and redone",
             HISTORY_HELP,
-        )?)
+        )?)?
+        .subcommand(forget(alloc)?)
 }
 
 /// The program without its tools.
@@ -184,6 +185,19 @@ fn with_edit_options<'a>(
         .arg(file_arg(alloc))
 }
 
+fn forget<'a>(alloc: Global) -> Result<Command<'a>, AllocError>
+    ensures usage { IfOk result (λ command. app_of command ≡ forget_usage) }
+    ensures alone { IfOk result (λ command. (fields_of command).has_globals ≡ false) }
+{
+    Command::new(alloc, "forget")
+        .about("Forgets the oldest edits that can be undone")
+        .long_about(FORGET_ABOUT)
+        .after_help(FORGET_HELP)
+        .arg(journal_arg(alloc))?
+        .arg(number_arg(alloc))?
+        .arg(file_arg(alloc))
+}
+
 /// A tool that only takes the paths of the file and its journal.
 fn with_paths<'a>(
     alloc: Global,
@@ -233,6 +247,15 @@ fn journal_arg<'a>(alloc: Global) -> Arg<'a>
         .long("journal")
         .value_name("PATH")
         .help("The journal of the file's edits [default: FILE.journal]")
+}
+
+fn number_arg<'a>(alloc: Global) -> Arg<'a>
+    ensures rule { rule_of result ≡ needed_number }
+    ensures alone { result.global ≡ false }
+{
+    Arg::new(alloc, "n").value_name("N").required(true).help(
+        "How many of the edits that can be undone are kept, up to 4294967295",
+    )
 }
 
 fn file_arg<'a>(alloc: Global) -> Arg<'a>

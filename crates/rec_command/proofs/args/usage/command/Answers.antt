@@ -14,6 +14,7 @@ returns c =
     let undo = c.in_ok-with_paths in
     let redo = c.in_ok-with_paths-2 in
     let history = c.in_ok-with_paths-3 in
+    let forget = c.in_ok-forget in
     let one = tool_added _ _ _ _ _ c.in_ok-subcommand.ensures c.in_ok-program.ensures recsel.ensures.usage recsel.ensures.alone in
     let two = tool_added _ _ _ _ _ c.in_ok-subcommand-2.ensures one recinf.ensures.usage recinf.ensures.alone in
     let three = tool_added _ _ _ _ _ c.in_ok-subcommand-3.ensures two recfix.ensures.usage recfix.ensures.alone in
@@ -23,4 +24,5 @@ returns c =
     let seven = tool_added _ _ _ _ _ c.in_ok-subcommand-7.ensures six batch.ensures.usage batch.ensures.alone in
     let eight = tool_added _ _ _ _ _ c.in_ok-subcommand-8.ensures seven undo.ensures.usage undo.ensures.alone in
     let nine = tool_added _ _ _ _ _ c.in_ok-subcommand-9.ensures eight redo.ensures.usage redo.ensures.alone in
-    IfOk-weaker c.subcommand-10.result _ _ (λ command adds. tool_added _ _ command _ _ adds nine history.ensures.usage history.ensures.alone) c.subcommand-10.ensures
+    let ten = tool_added _ _ _ _ _ c.in_ok-subcommand-10.ensures nine history.ensures.usage history.ensures.alone in
+    IfOk-weaker c.subcommand-11.result _ _ (λ command adds. tool_added _ _ command _ _ adds ten forget.ensures.usage forget.ensures.alone) c.subcommand-11.ensures

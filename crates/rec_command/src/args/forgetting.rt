@@ -1,0 +1,35 @@
+//! What forget is asked for.
+ghost use Rattle.std.specs.Prelude.{ℕ, IfOk, MatchOption, codes};
+ghost use Rattle.clap.specs.Words.{found_of, rows_of};
+ghost use Rattle.rec_command.specs.Words.{Asks, IsNumber};
+
+use super::found::given;
+use super::refusal::Refusal;
+use clap::ArgMatches;
+use rec_tools::Request;
+
+/// What forget is asked for: how many of the edits that can be undone it keeps.
+pub fn forget_request(options: &ArgMatches) -> Result<Request, Refusal>
+    ensures { IfOk result (Asks (codes "forget") (rows_of (found_of options.now))) }
+{
+    let Some(digits) = given(options, "n") else {
+        return Err(Refusal::Rule("forget: N is needed"));
+    };
+    match number_of(digits) {
+        Some(n) => Ok(Request::Forget(n)),
+        None => Err(Refusal::Rule(
+            "forget: N must be a number from 0 to 4294967295, in digits alone",
+        )),
+    }
+}
+
+/// The number that decimal digits write.
+fn number_of(digits: &str) -> Option<u32>
+    ensures { MatchOption result ((n : ℕ) → ¬ IsNumber digits.now n) (IsNumber digits.now) }
+{
+    // `parse` would take a plus sign before them.
+    if digits.starts_with('+') {
+        return None;
+    }
+    digits.parse().ok()
+}

@@ -4,6 +4,7 @@ ghost use Rattle.std.specs.Prelude.{◌≢◌, [], Ok, IfOk};
 ghost use Rattle.rec_journal.specs.History.{IsOpening};
 ghost use Rattle.rec_journal.specs.Patch.{Splices};
 
+pub mod forgetting;
 pub mod hashes;
 pub mod histories;
 pub mod patches;

@@ -50,6 +50,7 @@ fn run(alloc: Global, log: &mut Log) {
     journals::hashes::run(alloc, log);
     journals::histories::run(alloc, log);
     journals::run(alloc, log);
+    journals::forgetting::run(alloc, log);
     edits::run(alloc, log);
     edits::batches::run(alloc, log);
     requests::batch_texts::run(alloc, log);

@@ -61,6 +61,7 @@ fn cells_of(reply: &Reply) -> (&'static str, usize) {
         Reply::Unchanged => ("unchanged", 0),
         Reply::Undone(number) => ("undone", *number),
         Reply::Redone(number) => ("redone", *number),
+        Reply::Forgotten(number) => ("forgotten", *number),
     }
 }
 
@@ -211,6 +212,31 @@ fn check_edits(
     check_request(alloc, log, home, &Request::History, &row)
 }
 
+/// The edit is forgotten, and then there is none.
+fn check_forgetting(alloc: Global, log: &mut Log, home: &mut MemoryHome) -> Result<(), Fault> {
+    let mut row = Row {
+        reply: Reply::Forgotten(1),
+        text: b"",
+        file: b"A: 2\n",
+    };
+    log.at("forget");
+    check_request(alloc, log, home, &Request::Forget(0), &row)?;
+    log.at("history after forget");
+    row.reply = Reply::Shown;
+    check_request(alloc, log, home, &Request::History, &row)
+}
+
+/// All that writes: the edits, and what is forgotten of them.
+fn check_changes(
+    alloc: Global,
+    log: &mut Log,
+    home: &mut MemoryHome,
+    edit: &Request,
+) -> Result<(), Fault> {
+    check_edits(alloc, log, home, edit)?;
+    check_forgetting(alloc, log, home)
+}
+
 /// Sets the field of the first record, and deletes the second.
 const BATCH: &[u8] = b"Tool: recset
 Number: 0
@@ -247,7 +273,7 @@ fn growth_of_run(alloc: Global, log: &mut Log) -> Result<(), Fault> {
         return Ok(());
     };
     match set_to(alloc, b"2") {
-        Ok(edit) => check_edits(alloc, log, &mut home, &edit),
+        Ok(edit) => check_changes(alloc, log, &mut home, &edit),
         Err(_) => Ok(()),
     }
 }

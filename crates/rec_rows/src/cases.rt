@@ -1,6 +1,6 @@
 //! The cases of a file: its records.
 use crate::cells::bytes_in;
-use crate::drawn::run_lists;
+use crate::drawn::{Lists, run_lists};
 use crate::log::Log;
 use crate::stops::run_stops;
 use crate::trial::{Trial, Way};
@@ -147,15 +147,28 @@ fn fields(alloc: Global, case: &[Element<'_>], name: &str) -> Result<Vec<String>
     Ok(texts)
 }
 
-/// Runs the lists that a case asks for: their number, and their length.
-fn run_drawn(alloc: Global, case: &[Element<'_>], lists: &str, log: &mut Log) -> Result<(), Fault> {
+/// How many lists a case asks for, how long they are, and how many requests follow after each number of edits is forgotten.
+fn lists_of(lists: &str, after: &str) -> Result<Lists, Fault> {
     let (lists, len) = lists.split_once(' ').unwrap_or((lists, ""));
-    let len = number_in(len)?;
-    let lists = number_in(lists)?;
+    Ok(Lists {
+        lists: number_in(lists)?,
+        len: number_in(len)?,
+        after: if after.is_empty() {
+            0
+        } else {
+            number_in(after)?
+        },
+    })
+}
+
+/// Runs the lists that a case asks for.
+fn run_drawn(alloc: Global, case: &[Element<'_>], lists: &str, log: &mut Log) -> Result<(), Fault> {
+    let after = field(alloc, case, "Forgetting")?;
+    let lists = lists_of(lists, after.as_str())?;
     let cell = field(alloc, case, "File")?;
     let file = bytes_in(alloc, cell.as_str())?;
     let pool = fields(alloc, case, "Pool")?;
-    run_lists(alloc, file.as_slice(), pool.as_slice(), lists, len, log)
+    run_lists(alloc, file.as_slice(), pool.as_slice(), lists, log)
 }
 
 /// Runs the requests of a case on homes of whose first calls one or two fail, and on journals that are cut.

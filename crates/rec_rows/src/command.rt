@@ -261,10 +261,24 @@ fn batch(alloc: Global, options: Options<'_>) -> Result<Request, Fault> {
     Ok(Request::Batch { text, force })
 }
 
+/// Its one word is how many edits that can be undone are kept.
+fn forget(words: &[&str]) -> Result<Request, Fault> {
+    let [word] = words else {
+        return Err(Fault::BadUsage);
+    };
+    match word.parse::<u32>() {
+        Ok(kept) => Ok(Request::Forget(kept)),
+        Err(_) => Err(Fault::BadUsage),
+    }
+}
+
 fn request_in(alloc: Global, words: &[&str], word: &[u8]) -> Result<Request, Fault> {
     let Some((tool, words)) = words.split_first() else {
         return Err(Fault::BadUsage);
     };
+    if *tool == "forget" {
+        return forget(words);
+    }
     let options = Options { words, word };
     if !options.are_of(tool) {
         return Err(Fault::BadUsage);

@@ -78,9 +78,20 @@ impl Plain {
         })
     }
 
+    /// Empties what was answered and printed.
+    pub fn clear_answers(&mut self) {
+        self.answers.clear();
+        self.prints.clear();
+    }
+
     /// How many edits are done.
     pub fn undos(&self) -> usize {
         self.past.len()
+    }
+
+    /// How many edits are undone.
+    pub fn redos(&self) -> usize {
+        self.future.len()
     }
 
     /// The text on the other side of a step is present, and the step leads back.
@@ -127,6 +138,29 @@ impl Plain {
         self.answers.push_str("shown\n")
     }
 
+    /// Numbers the edits anew: as if those that are done had been made, then those that are undone, the nearest first, and
+    /// these had been undone after that.
+    fn number_anew(&mut self) {
+        for (place, step) in self.past.iter_mut().enumerate() {
+            step.number = place.saturating_add(1);
+        }
+        let edits = self.past.len().saturating_add(self.future.len());
+        for (place, step) in self.future.iter_mut().enumerate() {
+            step.number = edits.saturating_sub(place);
+        }
+        self.events = edits.saturating_add(self.future.len());
+    }
+
+    /// Forgets the edits that are done, but for the newest n.
+    fn forget(&mut self, n: usize) -> Result<(), AllocError> {
+        let forgotten = self.past.len().saturating_sub(n);
+        if forgotten > 0 {
+            self.past = self.past.split_off(forgotten)?;
+            self.number_anew();
+        }
+        write!(self.answers, "forgotten {forgotten}\n")
+    }
+
     /// An edit led from the present text to another.
     fn keep(&mut self, line: &str, after: &[u8]) -> Result<(), AllocError> {
         self.events = self.events.saturating_add(1);
@@ -144,9 +178,7 @@ impl Plain {
 
     /// A home that has the present text alone.
     fn fresh(&self) -> Result<Tester, AllocError> {
-        let mut tester = Tester::new(self.alloc);
-        tester.home.file = Bytes::copy_of(self.alloc, self.text.as_slice())?;
-        Ok(tester)
+        Tester::with(self.alloc, self.text.as_slice(), &[])
     }
 
     /// Takes what a request answered and printed there, and the text that an edit led to.
@@ -185,15 +217,41 @@ impl Plain {
     /// Runs any other request by itself.
     fn run(&mut self, line: &str, log: &mut Log) -> Result<(), Fault> {
         let request = request_of(self.alloc, line, &[])?;
+        self.run_alone(&request, line, log)
+    }
+
+    /// Runs a request on the present text alone.
+    fn run_alone(&mut self, request: &Request, line: &str, log: &mut Log) -> Result<(), Fault> {
         let mut tester = self.fresh()?;
-        let answer = tester.answer(&request, usize::MAX)?;
-        self.compare(&request, &tester, answer.as_str(), log)?;
-        Ok(self.follow(&tester, line, answer.as_str())?)
+        self.run_on(&mut tester, request, line, log)
+    }
+
+    fn run_on(
+        &mut self,
+        tester: &mut Tester,
+        request: &Request,
+        line: &str,
+        log: &mut Log,
+    ) -> Result<(), Fault> {
+        let answer = tester.answer(request, usize::MAX)?;
+        self.compare(request, tester, answer.as_str(), log)?;
+        Ok(self.follow(tester, line, answer.as_str())?)
+    }
+
+    /// Forgets as a line asks for.
+    fn forget_by(&mut self, n: &str) -> Result<(), Fault> {
+        match n.parse::<usize>() {
+            Ok(n) => Ok(self.forget(n)?),
+            Err(_) => Err(Fault::BadUsage),
+        }
     }
 
     /// Runs the request of a line.
     pub fn take(&mut self, line: &str, log: &mut Log) -> Result<(), Fault> {
         log.count();
+        if let Some(n) = line.strip_prefix("forget ") {
+            return self.forget_by(n);
+        }
         match line {
             "undo" => Ok(self.undo()?),
             "redo" => Ok(self.redo()?),

@@ -45,14 +45,6 @@ impl Failing {
     }
 }
 
-/// A home with these contents, none of whose calls fails.
-fn home_of(alloc: Global, file: &[u8], journal: &[u8]) -> Result<Tester, AllocError> {
-    let mut tester = Tester::new(alloc);
-    tester.home.file = Bytes::copy_of(alloc, file)?;
-    tester.home.journal = Bytes::copy_of(alloc, journal)?;
-    Ok(tester)
-}
-
 /// The answer is the last one of a plain machine.
 fn compare_answer(
     alloc: Global,
@@ -84,22 +76,15 @@ impl Run {
         }
     }
 
-    fn copy_of_home(&self) -> Result<Tester, AllocError> {
-        home_of(
-            self.alloc,
-            self.tester.home.file(),
-            self.tester.home.journal(),
-        )
-    }
-
     /// The same contents, of which no call fails, and the same machine.
     fn copy(&self) -> Result<Run, AllocError> {
-        Ok(Run::new(self.alloc, self.copy_of_home()?, self.plain.copy()?))
+        let tester = self.tester.copy_of_home()?;
+        Ok(Run::new(self.alloc, tester, self.plain.copy()?))
     }
 
     /// Whether the contents stand for the state of a plain machine: its text, and the history that it prints.
     fn stands_for(&self, plain: &Plain) -> Result<bool, AllocError> {
-        let mut opened = self.copy_of_home()?;
+        let mut opened = self.tester.copy_of_home()?;
         let answer = opened.answer(&Request::History, usize::MAX)?;
         let history = plain.history()?;
         Ok(
@@ -114,7 +99,7 @@ impl Run {
     fn step(&mut self, request: &Request, line: &str, log: &mut Log) -> Result<(), Fault> {
         let mut next = self.plain.copy()?;
         next.take(line, log)?;
-        let before = self.copy_of_home()?;
+        let before = self.tester.copy_of_home()?;
         let failures = self.tester.home.failures();
         let answer = self.tester.answer(request, usize::MAX)?;
         write!(self.answers, "{answer}\n")?;
@@ -144,7 +129,7 @@ impl Run {
         request: &Request,
         log: &mut Log,
     ) -> Result<(), AllocError> {
-        let mut after = home_of(self.alloc, before.home.file(), before.home.journal())?;
+        let mut after = Tester::with(self.alloc, before.home.file(), before.home.journal())?;
         after.answer(request, usize::MAX)?;
         let home = &self.tester.home;
         let has_old_file = home.file() == before.home.file();
@@ -158,22 +143,26 @@ impl Run {
     }
 
     /// Each edit that is done is undone, with no failure, and then there is none.
-    fn undo_all(&mut self, first: &[u8], log: &mut Log) -> Result<(), Fault> {
-        let mut home = self.copy_of_home()?;
+    fn undo_all(&mut self, log: &mut Log) -> Result<(), Fault> {
+        let mut home = self.tester.copy_of_home()?;
         for _ in 0..=self.plain.undos() {
             self.plain.answers.clear();
             self.plain.take("undo", log)?;
             let answer = home.answer(&Request::Undo, usize::MAX)?;
             compare_answer(self.alloc, &answer, &self.plain, log)?;
         }
-        Ok(log.compare("the first text", home.home.file(), first)?)
+        Ok(log.compare(
+            "the first text",
+            home.home.file(),
+            self.plain.text.as_slice(),
+        )?)
     }
 }
 
 impl<'c> Case<'c> {
     /// A run from the case's file, with these failing calls.
     fn begin(&self, fails: &[Failing]) -> Result<Run, AllocError> {
-        let mut tester = home_of(self.alloc, self.file, &[])?;
+        let mut tester = Tester::with(self.alloc, self.file, &[])?;
         for failing in fails {
             tester.home.fail(failing.call, failing.fault)?;
         }
@@ -193,7 +182,7 @@ impl<'c> Case<'c> {
         }
         run.is_as_told("the history at the end", log)?;
         self.run_together(fails, &run, log)?;
-        run.undo_all(self.file, log)
+        run.undo_all(log)
     }
 
     /// All requests in one call give the same.
@@ -231,7 +220,7 @@ impl<'c> Case<'c> {
             run.step(request, line.as_str(), log)?;
             self.cut_each(&before, &run, request, log)?;
             run.is_as_told("the history after", log)?;
-            run.copy()?.undo_all(self.file, log)?;
+            run.copy()?.undo_all(log)?;
         }
         Ok(())
     }
@@ -248,7 +237,7 @@ impl<'c> Case<'c> {
         for cut in before.tester.home.journal().len()..=journal.len() {
             log.cut = cut;
             let front = journal.get(..cut).unwrap_or(journal);
-            let home = home_of(self.alloc, before.tester.home.file(), front)?;
+            let home = Tester::with(self.alloc, before.tester.home.file(), front)?;
             let stopped = Run::new(self.alloc, home, before.plain.copy()?);
             self.go_on(stopped, after, request, log)?;
         }
@@ -265,7 +254,7 @@ impl<'c> Case<'c> {
         log: &mut Log,
     ) -> Result<(), Fault> {
         stopped.is_as_told("the history before", log)?;
-        stopped.copy()?.undo_all(self.file, log)?;
+        stopped.copy()?.undo_all(log)?;
         let answer = stopped.tester.answer(request, usize::MAX)?;
         compare_answer(self.alloc, &answer, &after.plain, log)?;
         let home = &stopped.tester.home;

@@ -39,6 +39,7 @@ fn say(said: &mut String, answer: &Result<Reply, Fault>) -> Result<(), AllocErro
         Ok(Reply::Unchanged) => said.push_str("unchanged"),
         Ok(Reply::Undone(number)) => write!(said, "undone {number}"),
         Ok(Reply::Redone(number)) => write!(said, "redone {number}"),
+        Ok(Reply::Forgotten(count)) => write!(said, "forgotten {count}"),
         Err(fault) => write!(said, "{} {fault}", fault.number()),
     }
 }
@@ -67,6 +68,19 @@ impl Tester {
             failures: 0,
             fails: false,
         }
+    }
+
+    /// A home with these contents, none of whose calls fails.
+    pub fn with(alloc: Global, file: &[u8], journal: &[u8]) -> Result<Tester, AllocError> {
+        let mut tester = Tester::new(alloc);
+        tester.home.file = Bytes::copy_of(alloc, file)?;
+        tester.home.journal = Bytes::copy_of(alloc, journal)?;
+        Ok(tester)
+    }
+
+    /// The same contents, of which no call fails.
+    pub fn copy_of_home(&self) -> Result<Tester, AllocError> {
+        Tester::with(self.alloc, self.home.file(), self.home.journal())
     }
 
     /// Empties the output, and leaves it so much room.

@@ -56,9 +56,8 @@ fn front(bytes: &[u8], len: usize) -> &[u8] {
 }
 
 fn is_change(answer: &str) -> bool {
-    ["edited ", "undone ", "redone "]
-        .iter()
-        .any(|front| answer.starts_with(front))
+    ["edited ", "undone ", "redone ", "forgotten "].iter().any(|front| answer.starts_with(front)
+        && answer != "forgotten 0")
 }
 
 impl Taken {

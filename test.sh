@@ -148,7 +148,7 @@ quick() {
 }
 
 program() {
-    cases "${1-}" tests/{edits,batches,usage,files,rivals,stops,rights,streams,selecting,rules,sessions}.bats
+    cases "${1-}" tests/{edits,batches,forgetting,usage,files,rivals,stops,rights,streams,selecting,rules,sessions}.bats
 }
 
 memory() {

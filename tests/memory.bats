@@ -172,6 +172,40 @@ REC
     fast each_allocation is_edited batch -b changes db.rec
 }
 
+# is_forgotten WORD..: judges a run that gives the journal of the folder `after`, and leaves the file
+is_forgotten() {
+    cmp -s db.rec start/db.rec || wrong 'the file was changed'
+    case "$status/$(tail -n 1 err)" in
+        0/) cmp -s db.rec.journal after/db.rec.journal || wrong 'another journal' ;;
+        '1/recu: out of memory') cmp -s db.rec.journal start/db.rec.journal || wrong 'the journal was changed' ;;
+        1/ | '1/recu: a file could not be read or written')
+            cmp -s db.rec.journal start/db.rec.journal || cmp -s db.rec.journal after/db.rec.journal || wrong 'another journal'
+            ;;
+        *) wrong 'no such end' ;;
+    esac
+    [ ! -e db.rec.new ] && [ ! -e db.rec.journal.new ] || wrong 'a working file is left'
+    if [ ! -e hit ]; then
+        [ "$status" = 0 ] || wrong 'refused without a failing allocation'
+    elif ! cmp -s db.rec.journal after/db.rec.journal; then
+        "$program" "$@" > out 2> err || wrong 'the same again is refused'
+        cmp -s db.rec.journal after/db.rec.journal || wrong 'the same again gives another journal'
+    fi
+}
+
+@test "memory for forgetting" {
+    local value
+    mkdir start
+    put start/db.rec 'A: 1¶'
+    put changes 'Tool: recset¶Fields: A¶Set: 4¶¶Tool: recset¶Fields: B¶SetAdd: 5¶'
+    for value in 2 3; do (cd start && "$program" recset -f A -s "$value" db.rec); done
+    (cd start && "$program" batch -b ../changes db.rec && "$program" recset -f A -s 6 db.rec)
+    (cd start && "$program" undo db.rec && "$program" undo db.rec)
+    cp -r start after
+    (cd after && "$program" forget 1 db.rec)
+    ! cmp -s start/db.rec.journal after/db.rec.journal || fail 'nothing was forgotten'
+    fast each_allocation is_forgotten forget 1 db.rec
+}
+
 # is_printed WORD..: judges a run that prints the file printed, and ends with the status $wanted
 is_printed() {
     case "$status/$(tail -n 1 err)" in

@@ -268,3 +268,62 @@ says() {
     has db.rec "$three"
     only db.rec held
 }
+
+# edited_twice: the file with two edits in its journal
+edited_twice() {
+    put db.rec "$three"
+    [ ${#as_user[@]} = 0 ] || chown 65534:65534 db.rec
+    does recset -n 0 -f A -s 8 db.rec
+    does recset -n 0 -f A -s 9 db.rec
+}
+
+# What is forgotten changes the journal alone, so that has to be one that may be replaced; the file need not be.
+@test "a journal that is written anew keeps its rights" {
+    [ "$(id -u)" = 0 ] || skip 'only root can give files away'
+    edited_twice
+    chown 1234:12345 db.rec.journal
+    chmod 640 db.rec.journal
+    cp -p db.rec "$BATS_TEST_TMPDIR/file"
+    does forget 1 db.rec
+    is 640:1234:12345 db.rec.journal
+    [ "$(stat -c '%a %u %g %Y' db.rec)" = "$(stat -c '%a %u %g %Y' "$BATS_TEST_TMPDIR/file")" ] || fail 'the file has other rights'
+    has db.rec < "$BATS_TEST_TMPDIR/file"
+}
+
+@test "a journal of another group that is written anew" {
+    as_other
+    edited_twice
+    chown 65534:12345 db.rec.journal
+    chmod 664 db.rec.journal
+    does forget 1 db.rec
+    is 644:65534:65534 db.rec.journal
+}
+
+@test "a file that may only be read, and what is forgotten of its journal" {
+    as_other
+    edited_twice
+    chown 0:0 db.rec
+    chmod 444 db.rec
+    recu 1 recdel -n 0 db.rec
+    says 'db.rec: Permission denied (os error 13)'
+    does forget 1 db.rec
+    recu 0 history db.rec
+    prints 'done 1 recset¶' ''
+    is 444:0:0 db.rec
+    chown 0:0 db.rec.journal
+    chmod 444 db.rec.journal
+    cp db.rec.journal "$BATS_TEST_TMPDIR/journal"
+    recu 1 forget 0 db.rec
+    says 'db.rec.journal: Permission denied (os error 13)'
+    has db.rec.journal < "$BATS_TEST_TMPDIR/journal"
+    chmod 666 db.rec.journal
+    chmod 1777 .
+    recu 1 forget 0 db.rec
+    says 'db.rec.journal: Operation not permitted (os error 1)'
+    has db.rec.journal < "$BATS_TEST_TMPDIR/journal"
+    chmod 755 .
+    recu 1 forget 0 db.rec
+    says 'db.rec.journal.new: Permission denied (os error 13)'
+    has db.rec.journal < "$BATS_TEST_TMPDIR/journal"
+    only db.rec db.rec.journal
+}

@@ -96,6 +96,7 @@ each_pause() {
     for ((number = 1; number <= 1000; number++)); do
         rm -rf db.rec db.rec.journal other rival.err hit paused go
         put db.rec "$three"
+        if [ -d start ]; then cp start/* .; fi
         at "$number" pause "${words[@]}" db.rec &
         pid=$!
         for ((tries = 0; tries < 4000; tries++)); do
@@ -202,6 +203,75 @@ stays_away() {
 
 @test "the file is removed meanwhile" {
     fast each_pause remove stays_away
+}
+
+# as_forgetting: of two edits the older one is forgotten. What stands before it and after it lies in two folders.
+as_forgetting() {
+    words=(forget 1)
+    put db.rec "$three"
+    does recset -n 0 -f A -s 8 db.rec
+    does recset -n 0 -f A -s 9 db.rec
+    mkdir start forgotten
+    cp db.rec db.rec.journal start
+    does forget 1 db.rec
+    has db.rec "$edited"
+    ! cmp -s db.rec.journal start/db.rec.journal || fail 'nothing was forgotten'
+    mv db.rec db.rec.journal forgotten
+}
+
+# Either of the two came first, or alone, and each edit that is left can be undone.
+both_count() {
+    local oldest='A: 8¶¶B: 2¶¶C: 3¶'
+    "$program" history db.rec > history
+    case $status/$rival_status/$(tr '\n' ' ' < history) in
+        '0/1/done 1 recset ' | '0/0/done 1 recset done 2 recdel ') ;;
+        '0/0/done 1 recdel ') oldest=$edited ;;
+        '1/0/done 1 recset done 2 recset done 3 recdel ') oldest=$three ;;
+        *) wrong "the rival's status is $rival_status, the history: $(< history)" ;;
+    esac
+    can_be_taken_back "$oldest"
+}
+
+@test "another recu edits the file while edits are forgotten" {
+    as_forgetting
+    fast each_pause another_recu both_count
+}
+
+# stays_saved: who saves loses nothing, and the journal is one of the two
+stays_saved() {
+    fast has db.rec "$saved" || wrong 'what was saved is lost'
+    cmp -s db.rec.journal start/db.rec.journal || cmp -s db.rec.journal forgotten/db.rec.journal || wrong 'another journal'
+    [ "$status" != 0 ] || cmp -s db.rec.journal forgotten/db.rec.journal || wrong 'nothing was forgotten'
+}
+
+remains_away() {
+    [ ! -e db.rec ] || wrong 'the file is there again'
+}
+
+@test "another program saves the file while edits are forgotten" {
+    as_forgetting
+    fast each_pause save stays_saved
+    fast each_pause save_by_rename stays_saved
+    fast each_pause link stays_saved
+    fast each_pause remove remains_away
+}
+
+# another_journal: another program puts a journal in place
+another_journal() {
+    put other "$header"
+    mv other db.rec.journal
+}
+
+# Whoever puts it in place between the last look of recu and its rename loses it.
+journal_stands() {
+    [ "$call" != rename ] || return 0
+    fast has db.rec "$edited" || wrong 'the file was changed'
+    fast has db.rec.journal "$header" || wrong 'what was put in place is lost'
+}
+
+@test "another program writes the journal while edits are forgotten" {
+    as_forgetting
+    fast each_pause another_journal journal_stands
 }
 
 # each_call WHAT: the run's calls fail so in turn, or it ends at them

@@ -1,5 +1,5 @@
-# An edit, a batch, an undo, a redo and a first edit whose calls of the system fail or find no room, or at which the program ends: the
-# next command finds the history before or the one after, and both contents are whole. A file system without room, a file of
+# An edit, a batch, an undo, a redo, a first edit and forgetting, whose calls of the system fail or find no room, or at which the
+# program ends: the next command finds the history before or the one after, and both contents are whole. A file system without room, a file of
 # several MB, and a closed pipe. A loop over the numbers of calls.c ends with a run that has no such call.
 
 load helpers
@@ -46,7 +46,7 @@ state() {
 
 # The words of each command, its contents before and after, and the first text. The file `rest` has what follows the field.
 prepare() {
-    local digit events
+    local digit events first=1
     [ -e rest ] || put rest '¶B: 2¶¶C: 3¶'
     for digit in 1 8 9; do
         { bytes "A: $digit¶" && cat rest; } > "$digit"
@@ -81,9 +81,25 @@ prepare() {
             state before 8 "$events" 'done 1 recset¶undone 2 recset¶'
             state after 9 "$events$(move 4 redo 2 8 9)" 'done 1 recset¶done 2 recset¶'
             ;;
+        forget)
+            # what was forgotten can't be undone
+            first=8
+            words=(forget 1)
+            events=$(edit 1 1 8 'A: 1' 'A: 8')$(edit 2 8 9 'A: 8' 'A: 9')
+            state before 9 "$old_header$events" 'done 1 recset¶done 2 recset¶'
+            state after 9 "$header$(edit 1 8 9 'A: 8' 'A: 9')" 'done 1 recset¶'
+            ;;
+        forget_redone)
+            # the edit that was undone can still be made again
+            words=(forget 0)
+            first=8
+            events=$(edit 1 1 8 'A: 1' 'A: 8')$(edit 2 8 9 'A: 8' 'A: 9')$(move 3 undo 2 9 8)
+            state before 8 "$header$events" 'done 1 recset¶undone 2 recset¶'
+            state after 8 "$header$(edit 1 8 9 'A: 8' 'A: 9')$(move 2 undo 1 9 8)" 'undone 1 recset¶'
+            ;;
     esac
-    mv 1 first.rec
-    rm 8 9
+    mv "$first" first.rec
+    rm -f 1 8 9
 }
 
 wrong() {
@@ -182,6 +198,11 @@ each_call() {
     fast each_call redo 5
 }
 
+@test "each call of forgetting fails" {
+    fast each_call forget 5
+    fast each_call forget_redone 5
+}
+
 @test "there is no room at each call of a first edit" {
     fast each_call first 28
 }
@@ -200,6 +221,11 @@ each_call() {
 
 @test "there is no room at each call of a redo" {
     fast each_call redo 28
+}
+
+@test "there is no room at each call of forgetting" {
+    fast each_call forget 28
+    fast each_call forget_redone 28
 }
 
 @test "the program ends at each call of a first edit" {
@@ -222,15 +248,23 @@ each_call() {
     fast each_call redo end
 }
 
-# each_half COMMAND: the program ends within each of its two writes
+@test "the program ends at each call of forgetting" {
+    fast each_call forget end
+    fast each_call forget_redone end
+}
+
+# each_half COMMAND [WRITES]: the program ends within each of its writes, which are two
 each_half() {
-    ONLY=write each_call "$1" half 2
+    ONLY=write each_call "$1" half "${2-2}"
 }
 
 @test "the program ends within each write" {
     local command
     for command in first edit batch undo redo; do
         fast each_half "$command"
+    done
+    for command in forget forget_redone; do
+        fast each_half "$command" 1
     done
 }
 

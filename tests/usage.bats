@@ -19,9 +19,9 @@ silent() {
 
 @test "help" {
     local words
-    for words in --help -h help 'help recins' 'help recdel' 'help recset' 'help batch' 'help undo' 'help redo' 'help history' \
+    for words in --help -h help 'help recins' 'help recdel' 'help recset' 'help batch' 'help undo' 'help redo' 'help history' 'help forget' \
         'recins --help' 'recins -h' 'recdel --help' 'recdel -h' 'recset --help' 'recset -h' 'batch --help' 'batch -h' 'undo --help' 'undo -h' \
-        'undo f -hx' 'redo --help' 'redo -h' 'history --help' 'history -h'; do
+        'undo f -hx' 'redo --help' 'redo -h' 'history --help' 'history -h' 'forget --help' 'forget -h' 'forget 1 -h'; do
         recu 0 $words
         out | grep -q 'Usage: recu' || fail "recu $words prints no usage"
         out | grep -q 'FILE.new' || fail "recu $words does not name FILE.new"
@@ -44,7 +44,7 @@ silent() {
     done
     for words in 'recsel --version' 'recsel -V' 'recinf --version' 'recinf -V' 'recfix --version' 'recfix -V' \
         'recins --version' 'recins -V' 'recdel --version' 'recdel -V' 'recset --version' 'recset -V' 'batch --version' 'batch -V' 'undo --version' \
-        'undo -V' 'redo --version' 'redo -V' 'history --version' 'history -V'; do
+        'undo -V' 'redo --version' 'redo -V' 'history --version' 'history -V' 'forget --version' 'forget -V'; do
         recu 0 $words
         [ -n "$(out)" ] || fail "recu $words prints no version"
         silent
@@ -65,7 +65,7 @@ example() {
     cp -- "$top/sample/library.rec" "$top/sample/contacts.rec" "$top/sample/changes.rec" .
     [[ $2 != *' --journal '* ]] || journal=(--journal edits.rec)
     case $1 in
-        undo | redo | history) does recset -n 0 -f Name -s Ada "${journal[@]}" contacts.rec ;;
+        undo | redo | history | forget) does recset -n 0 -f Name -s Ada "${journal[@]}" contacts.rec ;;
     esac
     [ "$1" != redo ] || does undo "${journal[@]}" contacts.rec
     cp contacts.rec contacts.rec.before
@@ -76,12 +76,16 @@ example() {
         recins | recdel | recset | batch | undo | redo)
             ! cmp -s contacts.rec contacts.rec.before || ! cmp -s library.rec "$top/sample/library.rec" || fail "$2 changes nothing"
             ;;
+        forget)
+            prints '' ''
+            cmp contacts.rec contacts.rec.before
+            ;;
     esac
 }
 
 @test "the examples of help" {
     local tool line number
-    for tool in recsel recinf recfix recins recdel recset batch undo redo history; do
+    for tool in recsel recinf recfix recins recdel recset batch undo redo history forget; do
         recu 0 help "$tool"
         out > help
         tail -n 1 help | grep -q '^  recu ' || fail "the help of $tool ends with no example"
@@ -99,7 +103,7 @@ example() {
 @test "the list of tools is the explanation where there is none" {
     recu 1
     is_bad_usage
-    grep -q '\[subcommands: recsel, recinf, recfix, recins, recdel, recset, batch, undo, redo, history, help\]' "$BATS_TEST_TMPDIR/err"
+    grep -q '\[subcommands: recsel, recinf, recfix, recins, recdel, recset, batch, undo, redo, history, forget, help\]' "$BATS_TEST_TMPDIR/err"
 }
 
 # hints WORDS HINT: the line before the last one
@@ -116,7 +120,7 @@ hints() {
 @test "how a value is given that begins with a hyphen" {
     local words
     each hints hints.rows
-    for words in 'recset -f A -s -d f' 'recdel -n -x f' 'undo -5 f' 'recdel --comment -5 f' 'recfix --check -5'; do
+    for words in 'recset -f A -s -d f' 'recdel -n -x f' 'undo -5 f' 'forget -5 f' 'recdel --comment -5 f' 'recfix --check -5'; do
         recu 1 $words
         is_bad_usage
         ! grep -q hint "$BATS_TEST_TMPDIR/err" || fail "recu $words has a hint"
@@ -224,11 +228,11 @@ edits() {
     eval "fails_to_store '$3: not a regular file' $1"
     rmdir -- "$3"
     case $1 in
-        undo* | redo*)
+        undo* | redo* | forget*)
             rm -- "$2"
             put f "$three"
             does recdel -n 1 f
-            [[ $1 = undo* ]] || does undo f
+            [[ $1 != redo* ]] || does undo f
             mv -T -- f "./$2" 2> /dev/null || [ -s "$2" ]
             mv -T -- f.journal "./$3" 2> /dev/null || [ -s "$3" ]
             ;;

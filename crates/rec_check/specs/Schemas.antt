@@ -92,7 +92,7 @@ AreSameSchemas (Ok one) (Err fault) = ⊥
 AreSameSchemas (Err fault) (Ok other) = ⊥
 AreSameSchemas (Err fault) (Err other) = fault ≡ other
 
--- a text has one schema; only where `regex` may refuse a pattern, that refusal may stand in the place of the other answer
+-- a text has one schema; only where `regex` may refuse a pattern, that refusal may stand instead of the other answer
 abbrev pub OneSchema : Type 0
 OneSchema = (pieces : List Piece) (one other : Result Described Fault) → IsSchema pieces one → IsSchema pieces other
     → (one ≢ Err BadPattern) → (other ≢ Err BadPattern) → AreSameSchemas one other

@@ -60,7 +60,7 @@ HaveEffects (task ∷ tasks) text last = (described : DescribedText) × (next : 
     × HaveEffects tasks next last
 
 -- A batch has one outcome, whichever way the patterns of its texts were built; only where `regex` may refuse a pattern of one
--- of the texts, that refusal may stand in the place of the other answer.
+-- of the texts, that refusal may stand instead of the other answer.
 abbrev pub OneBatch : Type 0
 OneBatch = (force : Bool) (tasks : List Task) (text : List ℕ) (one other : Result BatchEdited Fault)
     → IsBatchOutcome force tasks text one → IsBatchOutcome force tasks text other

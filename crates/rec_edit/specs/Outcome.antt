@@ -138,7 +138,7 @@ IsEditRefusal AutoImpossible = Unit {0}
 IsEditRefusal _ = ⊥
 
 -- An edit has one outcome, whichever way the patterns of the text were built; only where `regex` may refuse a pattern of the
--- edited text, that refusal may stand in the place of the other answer.
+-- edited text, that refusal may stand instead of the other answer.
 abbrev pub OneOutcome : Type 0
 OneOutcome = (pieces : List Piece) (schema same : Described) (force : Bool) (task : Task) (one other : Result Edited Fault)
     → IsSchema pieces (Ok schema) → IsSchema pieces (Ok same) → IsOutcome pieces schema force task one → IsOutcome pieces same force task other

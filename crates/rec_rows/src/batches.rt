@@ -19,7 +19,7 @@ pub struct Batch<'b> {
 /// What edits came to, one by one.
 #[derive(Clone, Copy)]
 enum End {
-    /// Each was answered, and together they changed so many records.
+    /// Each was answered, and together they changed this number of records.
     Changed(usize),
     /// One was refused, by this number.
     Refused(u8),

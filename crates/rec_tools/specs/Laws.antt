@@ -14,7 +14,7 @@ use Rattle.rec_tools.specs.Attempts.{Answer, written}
 use Rattle.rec_tools.specs.Machine.{State, IsStep, Stands, first_state}
 
 -- The machine's step is a function of the state and the request; only where `regex` may refuse a pattern, that refusal may
--- stand in the place of the other answer.
+-- stand instead of the other answer.
 abbrev pub OneStep : Type 0
 OneStep = (s : State) (request : Request) (one other : Answer) (text printed : List ℕ) (t u : State)
     → IsStep s (asked_of request) one text t → IsStep s (asked_of request) other printed u

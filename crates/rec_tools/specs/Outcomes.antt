@@ -163,7 +163,7 @@ Decides file journal asked (Ok decision) = IsOutcome (record { file = file; jour
 Decides file journal asked (Err fault) = IsOutcome (record { file = file; journal = journal }) asked (Err fault)
 
 -- A request comes to one outcome on two contents at most; only where `regex` may refuse a pattern of its expression or of
--- a descriptor, that refusal may stand in the place of the other answer.
+-- a descriptor, that refusal may stand instead of the other answer.
 abbrev pub OneOutcome : Type 0
 OneOutcome = (c : Contents) (request : Request) (one other : Result Outcome Fault)
     → IsOutcome c (asked_of request) one → IsOutcome c (asked_of request) other

@@ -1,5 +1,7 @@
+pub mod FaultLemmas
 pub mod ListLemmas
 pub mod SinkLemmas
+pub mod StepLemmas
 pub mod elements
 pub mod records
 pub mod reading

@@ -1,5 +1,5 @@
 -- Classes of bytes, and tests on the ends of a text. 9 is a tab, 10 a newline, 32 a space, 35 `#`, 37 `%`, 43 `+`, 58 `:`, 92 a backslash.
-use Rattle.std.specs.Prelude.{ℕ, Bool, true, false, List, [], ◌∷◌, ◌==◌, ◌||◌, ◌&&◌, nat_le}
+use Rattle.std.specs.Prelude.{ℕ, Bool, true, false, List, [], ◌∷◌, ◌++◌, ◌==◌, ◌||◌, ◌&&◌, if◌then◌else◌, nat_le}
 
 -- a space or a tab
 abbrev pub is_blank : ℕ → Bool
@@ -21,18 +21,26 @@ begins_name b = is_letter b || b == 37
 abbrev pub continues_name : ℕ → Bool
 continues_name b = is_letter b || (nat_le 48 b && nat_le b 57) || b == 95
 
--- there is no byte
+-- the text is empty
 abbrev pub is_nil : List ℕ → Bool
 is_nil [] = true
 is_nil (b ∷ bs) = false
 
--- a `+` comes first
+-- the first byte passes
+abbrev pub begins : (ℕ → Bool) → List ℕ → Bool
+begins passes [] = false
+begins passes (b ∷ bs) = passes b
+
+-- the first byte is a `+`
 abbrev pub begins_plus : List ℕ → Bool
-begins_plus [] = false
-begins_plus (b ∷ bs) = b == 43
+begins_plus text = begins (λ b. b == 43) text
 
 -- the last byte is a newline
 abbrev pub ends_newline : List ℕ → Bool
 ends_newline [] = false
 ends_newline (b ∷ []) = b == 10
 ends_newline (b ∷ c ∷ cs) = ends_newline (c ∷ cs)
+
+-- the text, with a newline added where it doesn't end in one
+abbrev pub closed_text : List ℕ → List ℕ
+closed_text text = if ends_newline text then text else text ++ 10 ∷ []

@@ -31,14 +31,14 @@ folded (b ∷ bs) = if b == 10 then 10 ∷ 43 ∷ 32 ∷ folded bs else b ∷ fo
 abbrev pub field_of : List ℕ → List ℕ → List ℕ
 field_of name value = name ++ (58 ∷ 32 ∷ (folded value ++ 10 ∷ []))
 
--- the element that it is
+-- the canonical field as an element
 abbrev pub canonical : List ℕ → List ℕ → Piece
 canonical name value = record { kind = Field; bytes = field_of name value }
 
--- whether a field can be written, and else why not
+-- Ok where the field can be written, else the reason
 abbrev pub put_outcome : List ℕ → List ℕ → Result (Unit {0}) Fault
 put_outcome name value = if is_plain_name name then (if is_foldable 32 value then Ok tt else Err BadValue) else Err BadName
 
--- the bytes have grown at their end, or not at all
+-- the old bytes are a prefix of the new ones
 abbrev pub Extends : List ℕ → List ℕ → Type 0
 Extends old new = (more : List ℕ) × (new ≡ old ++ more)

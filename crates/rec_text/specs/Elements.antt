@@ -22,7 +22,7 @@ abbrev pub is_comment : List ℕ → Bool
 is_comment [] = false
 is_comment (b ∷ bs) = b == 35 && is_line (λ _. true) bs
 
--- Behind a field's colon: each newline stands behind a backslash, at the end, or before the `+` of a plus line.
+-- After a field's colon: each newline stands after a backslash, at the end, or before the `+` of a plus line.
 -- `before` is the byte before the text.
 abbrev pub is_joined : ℕ → List ℕ → Bool
 is_joined before [] = true
@@ -33,7 +33,7 @@ abbrev pub is_dangling : ℕ → List ℕ → Bool
 is_dangling before [] = before == 92
 is_dangling before (b ∷ bs) = (before == 92 && b == 10 && is_nil bs) || is_dangling b bs
 
--- the place of the colon behind what goes on with a name
+-- the place of the colon after what goes on with a name
 abbrev pub name_end : List ℕ → Option ℕ
 name_end [] = None
 name_end (b ∷ bs) = if b == 58 then Some 0 else if continues_name b then option_map suc (name_end bs) else None
@@ -43,11 +43,11 @@ abbrev pub colon_of : List ℕ → Option ℕ
 colon_of [] = None
 colon_of (b ∷ bs) = if begins_name b then option_map suc (name_end bs) else None
 
--- a name and a colon come first, and what stands behind passes the test
+-- a name and a colon come first, and what stands after passes the test
 abbrev pub is_named : (List ℕ → Bool) → List ℕ → Bool
 is_named test bs = option_map_or (λ c. test (drop (c + 1) bs)) (colon_of bs) false
 
--- what stands behind the colon of a whole field, and of one that a backslash leaves open
+-- what stands after the colon of a whole field, and of one that a backslash leaves open
 abbrev pub is_body : List ℕ → Bool
 is_body bs = is_joined 58 bs && not (is_dangling 58 bs)
 

@@ -16,17 +16,17 @@ abbrev pub begins_element : List ℕ → Bool
 begins_element [] = false
 begins_element (b ∷ bs) = begins_blank_line (b ∷ bs) || b == 35 || is_named (λ _. true) (b ∷ bs)
 
--- the number of the physical line at which the bytes behind these begin, counted from 1
+-- the number of the physical line at which the bytes after these begin, counted from 1
 abbrev pub line_after : List ℕ → ℕ
 line_after bytes = count_by (λ b. b == 10) bytes + 1
 
--- the elements that stand before a place where more follows: each ends in a newline, and no field has left a plus line over
+-- elements that stand before more text: each ends in a newline, and no field is directly followed by a `+`, which would be its own
 abbrev pub AreBefore : List Piece → List ℕ → Type 0
 AreBefore [] rest = Unit {0}
 AreBefore (piece ∷ pieces) rest = IsElement piece × IsTrue (ends_newline piece.bytes)
     × (piece.kind ≡ Field → begins_plus (text_of pieces ++ rest) ≡ false) × AreBefore pieces rest
 
--- behind elements stands a line that begins none
+-- after elements stands a line that begins none
 pub record HasBadLine (text : List ℕ) (line : ℕ) : Type 0 where
   pub before : List Piece
   pub rest : List ℕ
@@ -36,7 +36,7 @@ pub record HasBadLine (text : List ℕ) (line : ℕ) : Type 0 where
   pub bad : begins_element rest ≡ false
   pub number : line ≡ line_after (text_of before)
 
--- Behind elements stands a field up to the end of the text, and its last byte is a backslash, or its last two are a
+-- After elements stands a field up to the end of the text, and its last byte is a backslash, or its last two are a
 -- backslash and a newline. The line is that of the last byte.
 pub record HasOpenLine (text : List ℕ) (line : ℕ) : Type 0 where
   pub before : List Piece
@@ -54,6 +54,6 @@ IsReading text (Err (BadLine line)) = HasBadLine text line
 IsReading text (Err (OpenLine line)) = HasOpenLine text line
 IsReading text (Err _) = ⊥
 
--- a text has one reading
+-- a text has at most one reading
 abbrev pub OneReading : Type 0
 OneReading = (text : List ℕ) (one other : Result (List Piece) Fault) → IsReading text one → IsReading text other → one ≡ other

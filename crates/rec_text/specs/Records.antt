@@ -39,13 +39,15 @@ is_blank_piece piece = elim piece.kind [ Blank ↦ true | Comment ↦ false | Fi
 abbrev pub is_field_piece : Piece → Bool
 is_field_piece piece = elim piece.kind [ Blank ↦ false | Comment ↦ false | Field ↦ true ]
 
--- the element of this index is there and is blank, is a field, is there and isn't blank
+-- the element of this index is there and is blank
 abbrev pub is_blank_at : List Piece → ℕ → Bool
 is_blank_at pieces i = option_map_or is_blank_piece (slice_get pieces i) false
 
+-- it is there and is a field
 abbrev pub is_field_at : List Piece → ℕ → Bool
 is_field_at pieces i = option_map_or is_field_piece (slice_get pieces i) false
 
+-- it is there and isn't blank
 abbrev pub is_full_at : List Piece → ℕ → Bool
 is_full_at pieces i = option_map_or (λ piece. not (is_blank_piece piece)) (slice_get pieces i) false
 
@@ -65,7 +67,7 @@ pub record IsRecord (pieces : List Piece) (fields : Range ℕ) : Type 0 where
   pub first : is_field_at pieces fields.start ≡ true
   pub last : is_field_at pieces (fields.end - 1) ≡ true
   pub before : (i : ℕ) → paragraph.start ≤ i → i < fields.start → is_field_at pieces i ≡ false
-  pub behind : (i : ℕ) → fields.end ≤ i → i < paragraph.end → is_field_at pieces i ≡ false
+  pub following : (i : ℕ) → fields.end ≤ i → i < paragraph.end → is_field_at pieces i ≡ false
 
 -- all records, in order: each field lies in one
 pub record AreRecords (pieces : List Piece) (records : List (Range ℕ)) : Type 0 where

@@ -11,9 +11,9 @@ Took old new result bytes = MatchResult result
     (λ n. (n ≤ length bytes) × (0 < length bytes → 0 < n) × Appends old new (take n bytes))
     (λ _. Keeps old new)
 
--- known bytes grow by a front of these
-abbrev pub AppendsFront : Option (List ℕ) → Option (List ℕ) → List ℕ → Type 0
-AppendsFront old new bytes = (n : ℕ) × (n ≤ length bytes) × Appends old new (take n bytes)
+-- known bytes grow by a prefix of these
+abbrev pub AppendsPrefix : Option (List ℕ) → Option (List ℕ) → List ℕ → Type 0
+AppendsPrefix old new bytes = (n : ℕ) × (n ≤ length bytes) × Appends old new (take n bytes)
 
 -- a count of failures rose; at its greatest value it stays, which counts as risen
 abbrev pub HasRisen : ℕ → ℕ → Type 0

@@ -1,8 +1,9 @@
 -- How a field is spelled, line by line, and what its value then is.
-use Rattle.std.specs.Prelude.{◌≡◌, ℕ, Bool, false, IsTrue, List, [], ◌∷◌, ◌++◌, ◌==◌, ◌&&◌, ◌⊎◌, map}
-use Rattle.std.specs.List.{AllByRecursion, concat, flat_map, join_with_byte, list_all}
+use Rattle.std.specs.Prelude.{◌≡◌, ℕ, Bool, false, IsTrue, List, [], ◌∷◌, ◌++◌, ◌==◌, ◌⊎◌, map}
+use Rattle.std.specs.List.{AllByRecursion, concat, flat_map, join_with_byte}
 use Rattle.rec_text.specs.declared.element.Kind.TheVariants.{Field}
-use Rattle.rec_text.specs.Bytes.{is_blank, begins_name, continues_name}
+use Rattle.rec_text.specs.Bytes.{is_blank, begins}
+use Rattle.rec_text.specs.Canonical.{is_field_name}
 use Rattle.rec_text.specs.Lines.{HasNoNewline, ends_backslash}
 use Rattle.rec_text.specs.Elements.{Piece}
 
@@ -20,30 +21,21 @@ joined (part ∷ next ∷ parts) = part ++ 92 ∷ 10 ∷ joined (next ∷ parts)
 abbrev pub line_bytes : LogicalLine → List ℕ
 line_bytes line = line.mark ++ joined line.parts
 
--- each behind a newline and a plus
+-- each after a newline and a plus
 abbrev pub plus_bytes : List LogicalLine → List ℕ
 plus_bytes lines = flat_map (λ line. 10 ∷ 43 ∷ line_bytes line) lines
-
--- the first byte passes the test
-abbrev pub begins_with : (ℕ → Bool) → List ℕ → Bool
-begins_with test [] = false
-begins_with test (b ∷ bs) = test b
 
 -- the parts hold no newline, no backslash stands at the end, and a blank of this kind is dropped, if one comes first
 pub record IsLogicalLine (dropped : ℕ → Bool) (line : LogicalLine) : Type 0 where
   pub unbroken : AllByRecursion HasNoNewline line.parts
   pub ends : ends_backslash (joined line.parts) ≡ false
-  pub mark : ((b : ℕ) × (line.mark ≡ b ∷ []) × IsTrue (dropped b)) ⊎ ((line.mark ≡ []) × (begins_with dropped (joined line.parts) ≡ false))
-
-abbrev pub is_name : List ℕ → Bool
-is_name [] = false
-is_name (b ∷ bs) = begins_name b && list_all continues_name bs
+  pub mark : ((b : ℕ) × (line.mark ≡ b ∷ []) × IsTrue (dropped b)) ⊎ ((line.mark ≡ []) × (begins dropped (joined line.parts) ≡ false))
 
 -- the element is a name, a colon, a logical line and plus lines, and a newline or the end
 pub record Spells (piece : Piece) (name : List ℕ) (first : LogicalLine) (plus : List LogicalLine) (close : List ℕ) : Type 0 where
   pub is_field : piece.kind ≡ Field
   pub bytes : piece.bytes ≡ name ++ 58 ∷ (line_bytes first ++ (plus_bytes plus ++ close))
-  pub named : IsTrue (is_name name)
+  pub named : IsTrue (is_field_name name)
   pub first_line : IsLogicalLine is_blank first
   pub plus_lines : AllByRecursion (IsLogicalLine (λ b. b == 32)) plus
   pub closed : (close ≡ []) ⊎ (close ≡ 10 ∷ [])

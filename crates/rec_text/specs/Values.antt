@@ -13,7 +13,7 @@ abbrev pub on_first : ℕ → List (List ℕ) → List (List ℕ)
 on_first b [] = (b ∷ []) ∷ []
 on_first b (line ∷ lines) = (b ∷ line) ∷ lines
 
--- the logical lines: a text cut behind each newline that has no backslash before it; `before` is the byte before the text
+-- the logical lines: a text cut after each newline that has no backslash before it; `before` is the byte before the text
 abbrev pub logical_lines : ℕ → List ℕ → List (List ℕ)
 logical_lines before [] = []
 logical_lines before (b ∷ bs) = if b == 10 && not (before == 92) then (b ∷ []) ∷ logical_lines b bs else on_first b (logical_lines b bs)
@@ -29,7 +29,7 @@ abbrev pub without_first : (ℕ → Bool) → List ℕ → List ℕ
 without_first test [] = []
 without_first test (b ∷ bs) = if test b then bs else b ∷ bs
 
--- without the `+` of a plus line, and without one space behind that
+-- without the `+` of a plus line, and without one space after that
 abbrev pub without_mark : List ℕ → List ℕ
 without_mark line = without_first (λ b. b == 32) (without_first (λ b. b == 43) line)
 
@@ -41,7 +41,7 @@ abbrev pub lines_value : List (List ℕ) → List (List ℕ)
 lines_value [] = []
 lines_value (line ∷ lines) = unfolded (without_first is_blank line) ∷ map plus_value lines
 
--- what stands behind the colon: each logical line without its mark, joined by newlines
+-- what stands after the colon: each logical line without its mark, joined by newlines
 abbrev pub body_value : List ℕ → List ℕ
 body_value body = join_with_byte 10 (lines_value (logical_lines 58 body))
 
@@ -53,7 +53,7 @@ value_of piece = elim piece.kind [
   | Field ↦ option_map_or (λ c. body_value (drop (c + 1) piece.bytes)) (colon_of piece.bytes) []
 ]
 
--- behind a colon no newline stands but one at the end, with no backslash before it; `before` is the byte before the text
+-- after a colon no newline stands but one at the end, with no backslash before it; `before` is the byte before the text
 abbrev pub is_single : ℕ → List ℕ → Bool
 is_single before [] = true
 is_single before (b ∷ bs) = if b == 10 then is_nil bs && not (before == 92) else is_single b bs

@@ -44,11 +44,11 @@ pub fn is_foldable(value: &[u8]) -> bool
     ensures { result ≡ can_be_folded 32 value.now }
 {
     let mut rest = value;
-    while let Some((line, behind)) = split_line(rest) {
+    while let Some((line, following)) = split_line(rest) {
         if strip_backslash(line).is_some() {
             return false;
         }
-        rest = behind;
+        rest = following;
     }
     strip_backslash(rest).is_none()
 }
@@ -56,13 +56,13 @@ pub fn is_foldable(value: &[u8]) -> bool
 /// Appends a value, each newline of it as a newline, a plus and a space.
 fn append_folded(out: &mut Vec<u8>, value: &[u8]) -> Result<(), AllocError>
     ensures value { OnOk result (out.new.items ≡ out.old.items ++ folded value.now) }
-    ensures front { Extends out.old.items out.new.items }
+    ensures prefix { Extends out.old.items out.new.items }
 {
     let mut rest = value;
-    while let Some((line, behind)) = split_line(rest) {
+    while let Some((line, following)) = split_line(rest) {
         out.extend_from_slice(line)?;
         out.extend_from_slice(b"\n+ ")?;
-        rest = behind;
+        rest = following;
     }
     out.extend_from_slice(rest)
 }
@@ -70,7 +70,7 @@ fn append_folded(out: &mut Vec<u8>, value: &[u8]) -> Result<(), AllocError>
 /// Appends the parts of a field. Where memory ends, the first of them have been appended.
 fn append_parts(out: &mut Vec<u8>, name: &[u8], value: &[u8]) -> Result<(), AllocError>
     ensures field { OnOk result (out.new.items ≡ out.old.items ++ field_of name.now value.now) }
-    ensures front { Extends out.old.items out.new.items }
+    ensures prefix { Extends out.old.items out.new.items }
 {
     out.extend_from_slice(name)?;
     out.extend_from_slice(b": ")?;

@@ -58,38 +58,38 @@ fn without_mark(text: &[u8]) -> &[u8]
     without_byte(b' ', without_byte(b'+', text))
 }
 
-/// The value of what stands behind a colon, where it stands in one piece.
+/// The value of what stands after a colon, where it stands in one piece.
 fn whole_value(body: &[u8]) -> Option<&[u8]>
     ensures variant { is_some result ≡ is_single 58 body.now }
     ensures value { IfSome result (λ part. part.now ≡ body_value body.now) }
 {
     let text = without_blank(body);
-    let Some((line, behind)) = split_line(text) else {
+    let Some((line, following)) = split_line(text) else {
         return Some(text);
     };
-    if !behind.is_empty() || strip_backslash(line).is_some() {
+    if !following.is_empty() || strip_backslash(line).is_some() {
         return None;
     }
     Some(line)
 }
 
-/// The value of what stands behind a colon, put together line by line.
+/// The value of what stands after a colon, put together line by line.
 fn joined_value(alloc: Global, body: &[u8]) -> Result<Bytes, AllocError>
     ensures { IfOk result (λ value. value ≡ body_value body.now) }
 {
     let mut value = Vec::with_capacity(alloc, body.len())?;
     let mut rest = without_blank(body);
-    while let Some((line, behind)) = split_line(rest) {
-        if let Some(front) = strip_backslash(line) {
-            value.extend_from_slice(front)?;
-            rest = behind;
+    while let Some((line, following)) = split_line(rest) {
+        if let Some(prefix) = strip_backslash(line) {
+            value.extend_from_slice(prefix)?;
+            rest = following;
             continue;
         }
         value.extend_from_slice(line)?;
-        if !behind.is_empty() {
+        if !following.is_empty() {
             value.push(b'\n')?;
         }
-        rest = without_mark(behind);
+        rest = without_mark(following);
     }
     value.extend_from_slice(rest)?;
     Ok(Bytes::from_vec(value))

@@ -1,5 +1,5 @@
 -- What several crates need of lists.
-use Rattle.std.proofs.Common.{◌≡◌, ◌∙◌, ℕ, suc, zero, ◌+◌, ◌<◌, true, false, List, [], ◌∷◌, ◌++◌, ◌==◌, Result, Ok, Err, OnOk, Some, length, take, drop, get_or, refl, ap, sym, subst, append-nil, arith}
+use Rattle.std.proofs.Common.{◌≡◌, ◌∙◌, ◌⊎◌, inl, inr, ℕ, suc, zero, ◌+◌, ◌<◌, true, false, List, [], ◌∷◌, ◌++◌, ◌==◌, Result, Ok, Err, OnOk, Some, length, take, drop, get_or, refl, ap, sym, subst, append-nil, arith}
 use Rattle.std.specs.Prelude.{if◌then◌else◌, flat_map}
 use Rattle.std.specs.List.{AllByRecursion, Contains, join_with_byte, slice_get}
 use Rattle.std.specs.Result.{is_ok}
@@ -19,20 +19,24 @@ AllByRecursion-both P Q R f [] ps qs = tt
 AllByRecursion-both P Q R f (x ∷ xs) ps qs = (f x ps.0 qs.0, AllByRecursion-both P Q R f xs ps.1 qs.1)
 
 module _ {X : Type 0} (P : X → Type 0) where
-  pub AllByRecursion-front : (xs ys : List X) → AllByRecursion P (xs ++ ys) → AllByRecursion P xs
-  AllByRecursion-front [] ys all = tt
-  AllByRecursion-front (x ∷ xs) ys all = (all.0, AllByRecursion-front xs ys all.1)
+  pub AllByRecursion-prefix : (xs ys : List X) → AllByRecursion P (xs ++ ys) → AllByRecursion P xs
+  AllByRecursion-prefix [] ys all = tt
+  AllByRecursion-prefix (x ∷ xs) ys all = (all.0, AllByRecursion-prefix xs ys all.1)
 
-  pub AllByRecursion-behind : (xs ys : List X) → AllByRecursion P (xs ++ ys) → AllByRecursion P ys
-  AllByRecursion-behind [] ys all = all
-  AllByRecursion-behind (x ∷ xs) ys all = AllByRecursion-behind xs ys all.1
+  pub AllByRecursion-following : (xs ys : List X) → AllByRecursion P (xs ++ ys) → AllByRecursion P ys
+  AllByRecursion-following [] ys all = all
+  AllByRecursion-following (x ∷ xs) ys all = AllByRecursion-following xs ys all.1
+
+  pub AllByRecursion-append : (xs ys : List X) → AllByRecursion P xs → AllByRecursion P ys → AllByRecursion P (xs ++ ys)
+  AllByRecursion-append [] ys all others = others
+  AllByRecursion-append (x ∷ xs) ys all others = (all.0, AllByRecursion-append xs ys all.1 others)
 
   pub AllByRecursion-push : (xs : List X) (last : X) → AllByRecursion P xs → P last → AllByRecursion P (xs ++ last ∷ [])
   AllByRecursion-push [] last all h = (h, tt)
   AllByRecursion-push (x ∷ xs) last all h = (all.0, AllByRecursion-push xs last all.1 h)
 
   pub AllByRecursion-split : (xs : List X) (last : X) → AllByRecursion P (xs ++ last ∷ []) → AllByRecursion P xs × P last
-  AllByRecursion-split xs last all = (AllByRecursion-front xs (last ∷ []) all, (AllByRecursion-behind xs (last ∷ []) all).0)
+  AllByRecursion-split xs last all = (AllByRecursion-prefix xs (last ∷ []) all, (AllByRecursion-following xs (last ∷ []) all).0)
 
   pub AllByRecursion-get_or : (xs : List X) (i : ℕ) (d : X) → i < length xs → AllByRecursion P xs → P (get_or xs i d)
   AllByRecursion-get_or [] i d within all = absurd (omega arith)
@@ -63,6 +67,15 @@ Contains-head x xs = (0, omega arith, refl)
 pub Contains-later : {X : Type 0} (x y : X) (xs : List X) → Contains xs y → Contains (x ∷ xs) y
 Contains-later x y xs (k, within, at) = (suc k, omega arith, at)
 
+-- a list is empty, or has a last element
+pub last_cases : {X : Type 0} (xs : List X) → (xs ≡ []) ⊎ ((ys : List X) × (y : X) × (xs ≡ ys ++ y ∷ []))
+last_cases [] = inl refl
+last_cases (x ∷ xs) =
+    elim (last_cases xs) [
+      | inl none ↦ inr ([], x, ap (λ t. x ∷ t) none)
+      | inr w ↦ inr (x ∷ w.0, w.1, ap (λ t. x ∷ t) w.2)
+    ]
+
 -- ---- texts
 
 pub is_nil-length : (bytes : List ℕ) → is_nil bytes ≡ (length bytes == 0)
@@ -79,7 +92,7 @@ bytes_eq-self a = (bytes_eq-Decides a a).1 refl
 pub same_bytes : (a b : List ℕ) → bytes_eq a b ≡ true → a ≡ b
 same_bytes a b e = (bytes_eq-Decides a b).0 e
 
--- texts joined by a byte: the first, and each other one behind the byte
+-- texts joined by a byte: the first, and each other one after the byte
 pub join_with_byte-cons : (c : ℕ) (x : List ℕ) (xs : List (List ℕ)) → join_with_byte c (x ∷ xs) ≡ x ++ flat_map (λ y. c ∷ y) xs
 join_with_byte-cons c x [] = sym (append-nil x)
 join_with_byte-cons c x (y ∷ ys) = ap (λ t. x ++ c ∷ t) (join_with_byte-cons c y ys)

@@ -13,7 +13,7 @@ abbrev pub line_len : List ℕ → ℕ
 line_len [] = 0
 line_len (b ∷ bs) = if b == 10 then 1 else suc (line_len bs)
 
--- what belongs to a field behind a byte of it
+-- what belongs to a field after a byte of it
 abbrev pub body_len : ℕ → List ℕ → ℕ
 body_len before [] = 0
 body_len before (b ∷ bs) = if b == 10 && (not (before == 92) && not (begins_plus bs)) then 1 else suc (body_len b bs)

@@ -13,7 +13,7 @@ pub record IsFirstIn (test : ℕ → Bool) (from to found : ℕ) : Type 0 where
 abbrev pub range : ℕ → ℕ → Range ℕ
 range start end = record { start = start; end = end }
 
--- one more index before the first run, which takes it in where it begins right behind
+-- one more index before the first run, which takes it in where it begins right after
 abbrev pub extended : ℕ → List (Range ℕ) → List (Range ℕ)
 extended i [] = range i (i + 1) ∷ []
 extended i (run ∷ runs) = if run.start == i + 1 then range i run.end ∷ runs else range i (i + 1) ∷ run ∷ runs

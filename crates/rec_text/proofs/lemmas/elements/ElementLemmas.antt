@@ -1,15 +1,17 @@
 -- Elements, and where they lie in their text.
-use Rattle.std.proofs.Common.{◌≡◌, ◌∙◌, ℕ, suc, zero, ◌+◌, ◌-◌, ◌<◌, ◌≤◌, List, [], ◌∷◌, ◌++◌, length, take, drop, get_or, refl, ap, sym, arith}
+use Rattle.std.proofs.Common.{◌≡◌, ◌∙◌, true, false, ℕ, suc, zero, ◌+◌, ◌-◌, ◌<◌, ◌≤◌, List, [], ◌∷◌, ◌++◌, length, take, drop, get_or, refl, ap, sym, arith}
 use Rattle.std.proofs.lemmas.List.{append_assoc, length-append, length-map, take-append-drop, take-take, take_at, drop_at, take-map, drop-map, drop-take}
 use Rattle.std.specs.declared.ops.Range.{Range}
 use Rattle.rec_text.specs.declared.element.Element.{Element}
+use Rattle.rec_text.specs.declared.element.Kind.{Kind}
+use Rattle.rec_text.specs.declared.element.Kind.TheVariants.{Blank, Comment, Field}
 use Rattle.rec_text.specs.Elements.{Piece, text_of}
 use Rattle.rec_text.specs.Places.{piece_of, pieces_of, AreFrom}
-use Rattle.rec_text.specs.Records.{elements_in}
+use Rattle.rec_text.specs.Records.{elements_in, is_field_piece}
 
-pub text_of-append : (front rest : List Piece) → text_of (front ++ rest) ≡ text_of front ++ text_of rest
+pub text_of-append : (prefix rest : List Piece) → text_of (prefix ++ rest) ≡ text_of prefix ++ text_of rest
 text_of-append [] rest = refl
-text_of-append (piece ∷ front) rest = ap (λ t. piece.bytes ++ t) (text_of-append front rest) ∙ sym (append_assoc piece.bytes (text_of front) (text_of rest))
+text_of-append (piece ∷ prefix) rest = ap (λ t. piece.bytes ++ t) (text_of-append prefix rest) ∙ sym (append_assoc piece.bytes (text_of prefix) (text_of rest))
 
 pub few_pieces : (pieces : List Piece) (elements : List Element) (top : ℕ) → pieces_of elements ≡ pieces → length elements < top → length pieces < top
 few_pieces pieces elements top same short = omega (arith, ap length same, length-map elements piece_of)
@@ -22,7 +24,7 @@ elements_in-slice elements range ordered =
     sym (take-map piece_of (range.end - range.start) (drop range.start elements)) ∙ ap (take (range.end - range.start)) (sym (drop-map piece_of range.start elements))
     ∙ sym (drop-take range.start (range.end - range.start) (pieces_of elements)) ∙ ap (λ n. drop range.start (take n (pieces_of elements))) size
 
--- the element of an index stands behind the text of those before it
+-- the element of an index stands after the text of those before it
 pub AreFrom-at : (place : ℕ) (elements : List Element) (i : ℕ) (d : Element) → AreFrom place elements → i < length elements
     → (get_or elements i d).at ≡ place + length (text_of (take i (pieces_of elements)))
 AreFrom-at place [] i d are within = absurd (omega arith)
@@ -35,7 +37,7 @@ AreFrom-at place (element ∷ elements) (suc i) d are within =
 
 -- the elements up to an index are those up to an earlier one and those between
 pub take-between : (i j : ℕ) (pieces : List Piece) → i ≤ j → take j pieces ≡ take i pieces ++ drop i (take j pieces)
-take-between i j pieces ordered = sym (take-append-drop i (take j pieces)) ∙ ap (λ front. front ++ drop i (take j pieces)) (take-take i j pieces ordered)
+take-between i j pieces ordered = sym (take-append-drop i (take j pieces)) ∙ ap (λ prefix. prefix ++ drop i (take j pieces)) (take-take i j pieces ordered)
 
 pub text_of-split : (n : ℕ) (pieces : List Piece) → text_of pieces ≡ text_of (take n pieces) ++ text_of (drop n pieces)
 text_of-split n pieces = ap text_of (sym (take-append-drop n pieces)) ∙ text_of-append (take n pieces) (drop n pieces)
@@ -49,18 +51,18 @@ text_of-take n pieces =
 pub text_of-between : (i j : ℕ) (pieces : List Piece) → i ≤ j
     → take (length (text_of (take j pieces)) - length (text_of (take i pieces))) (drop (length (text_of (take i pieces))) (text_of pieces)) ≡ text_of (drop i (take j pieces))
 text_of-between i j pieces ordered =
-    let front = take i pieces in
+    let prefix = take i pieces in
     let middle = drop i (take j pieces) in
-    let cut : text_of (take j pieces) ≡ text_of front ++ text_of middle = ap text_of (take-between i j pieces ordered) ∙ text_of-append front middle in
-    let whole : text_of pieces ≡ text_of front ++ (text_of middle ++ text_of (drop j pieces)) =
-    text_of-split j pieces ∙ ap (λ t. t ++ text_of (drop j pieces)) cut ∙ append_assoc (text_of front) (text_of middle) (text_of (drop j pieces)) in
-    let behind : drop (length (text_of front)) (text_of pieces) ≡ text_of middle ++ text_of (drop j pieces) =
-    ap (drop (length (text_of front))) whole ∙ drop_at (text_of front) (text_of middle ++ text_of (drop j pieces)) (length (text_of front)) refl in
-    let size : length (text_of (take j pieces)) - length (text_of front) ≡ length (text_of middle) = omega (arith, ap length cut, length-append (text_of front) (text_of middle)) in
-    ap (λ n. take n (drop (length (text_of front)) (text_of pieces))) size ∙ ap (take (length (text_of middle))) behind
+    let cut : text_of (take j pieces) ≡ text_of prefix ++ text_of middle = ap text_of (take-between i j pieces ordered) ∙ text_of-append prefix middle in
+    let whole : text_of pieces ≡ text_of prefix ++ (text_of middle ++ text_of (drop j pieces)) =
+    text_of-split j pieces ∙ ap (λ t. t ++ text_of (drop j pieces)) cut ∙ append_assoc (text_of prefix) (text_of middle) (text_of (drop j pieces)) in
+    let following : drop (length (text_of prefix)) (text_of pieces) ≡ text_of middle ++ text_of (drop j pieces) =
+    ap (drop (length (text_of prefix))) whole ∙ drop_at (text_of prefix) (text_of middle ++ text_of (drop j pieces)) (length (text_of prefix)) refl in
+    let size : length (text_of (take j pieces)) - length (text_of prefix) ≡ length (text_of middle) = omega (arith, ap length cut, length-append (text_of prefix) (text_of middle)) in
+    ap (λ n. take n (drop (length (text_of prefix)) (text_of pieces))) size ∙ ap (take (length (text_of middle))) following
     ∙ take_at (text_of middle) (text_of (drop j pieces)) (length (text_of middle)) refl
 
--- a later place isn't before an earlier one, and none is behind the end
+-- a later place isn't before an earlier one, and none is after the end
 pub length-text_of-take-le : (i j : ℕ) (pieces : List Piece) → i ≤ j → length (text_of (take i pieces)) ≤ length (text_of (take j pieces))
 length-text_of-take-le i j pieces ordered =
     omega (arith, ap length (ap text_of (take-between i j pieces ordered) ∙ text_of-append (take i pieces) (drop i (take j pieces))), length-append (text_of (take i pieces)) (text_of (drop i (take j pieces))))
@@ -78,3 +80,13 @@ pub text_of-elements_in : (pieces : List Piece) (range : Range ℕ) (at end : �
     → text ≡ text_of pieces → take (end - at) (drop at text) ≡ text_of (elements_in pieces range)
 text_of-elements_in pieces range at end text ordered at_is end_is text_is =
     rw (at_is, end_is, text_is) (text_of-between range.start range.end pieces ordered)
+
+-- ---- whether an element is a field
+
+pub field_test : (piece : Piece) → piece.kind ≡ Field → is_field_piece piece ≡ true
+field_test piece is = ap (λ kind. is_field_piece (record piece { kind = kind })) is
+
+pub no_field_test : (kind : Kind) (bytes : List ℕ) → (kind ≡ Field → ⊥) → is_field_piece (record { kind = kind; bytes = bytes }) ≡ false
+no_field_test Blank bytes other = refl
+no_field_test Comment bytes other = refl
+no_field_test Field bytes other = absurd (other refl)

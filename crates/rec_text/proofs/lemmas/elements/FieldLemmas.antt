@@ -63,14 +63,14 @@ name_end-take (suc n) [] c e within = absurd (cc)
 name_end-take (suc n) (b ∷ bs) c e within =
     colon_step-kept (eqb b 58) (continues_name b) (name_end bs) (name_end (take n bs)) c e (λ d h place. name_end-take n bs d h (omega arith))
 
--- a front that holds the colon has it at its place
+-- a prefix that holds the colon has it at its place
 pub colon_of-take : (n : ℕ) (bs : List ℕ) (c : ℕ) → colon_of bs ≡ Some c → c < n → colon_of (take n bs) ≡ Some c
 colon_of-take zero bs c e within = absurd (omega arith)
 colon_of-take (suc n) [] c e within = absurd (cc)
 colon_of-take (suc n) (b ∷ bs) c e within =
     colon_step-kept false (begins_name b) (name_end bs) (name_end (take n bs)) c e (λ d h place. name_end-take n bs d h (omega arith))
 
--- a name and a colon come first, and what stands behind passes the test
+-- a name and a colon come first, and what stands after passes the test
 pub is_named-at : (test : List ℕ → Bool) (bs : List ℕ) (c : ℕ) → colon_of bs ≡ Some c → is_named test bs ≡ test (drop (c + 1) bs)
 is_named-at test bs c e = ap (λ o. option_map_or (λ k. test (drop (k + 1) bs)) o false) e
 
@@ -80,9 +80,14 @@ pub ends_newline-cons : (b : ℕ) (bs : List ℕ) → ends_newline bs ≡ true �
 ends_newline-cons b [] e = absurd (false≢true e)
 ends_newline-cons b (c ∷ cs) e = e
 
-pub ends_newline-append : (front bs : List ℕ) → ends_newline bs ≡ true → ends_newline (front ++ bs) ≡ true
+pub ends_newline-last : (prefix : List ℕ) (b : ℕ) → ends_newline (prefix ++ b ∷ []) ≡ eqb b 10
+ends_newline-last [] b = refl
+ends_newline-last (x ∷ []) b = refl
+ends_newline-last (x ∷ y ∷ ys) b = ends_newline-last (y ∷ ys) b
+
+pub ends_newline-append : (prefix bs : List ℕ) → ends_newline bs ≡ true → ends_newline (prefix ++ bs) ≡ true
 ends_newline-append [] bs e = e
-ends_newline-append (b ∷ front) bs e = ends_newline-cons b (front ++ bs) (ends_newline-append front bs e)
+ends_newline-append (b ∷ prefix) bs e = ends_newline-cons b (prefix ++ bs) (ends_newline-append prefix bs e)
 
 begins_plus-take : (n : ℕ) (bs : List ℕ) → 0 < n → begins_plus (take n bs) ≡ begins_plus bs
 begins_plus-take zero bs some = absurd (omega arith)
@@ -98,7 +103,7 @@ is_nil-take zero bs some more = absurd (omega arith)
 is_nil-take (suc n) [] some more = absurd (omega arith)
 is_nil-take (suc n) (b ∷ bs) some more = refl
 
--- the first n bytes are what belongs to the body of a field, which begins behind the byte `before`
+-- the first n bytes are what belongs to the body of a field, which begins after the byte `before`
 pub record IsBody (before : ℕ) (bs : List ℕ) (n : ℕ) : Type 0 where
   pub fits : n ≤ length bs
   pub some : 0 < length bs → 0 < n
@@ -114,16 +119,16 @@ last_joined false = refl
 IsBody-last : (before b : ℕ) (bs : List ℕ) → (eqb b 10 && (not (eqb before 92) && not (begins_plus bs))) ≡ true → IsBody before (b ∷ bs) 1
 IsBody-last before b bs test =
     let parts = and_parts (eqb b 10) (not (eqb before 92) && not (begins_plus bs)) test in
-    let behind = and_parts (not (eqb before 92)) (not (begins_plus bs)) parts.1 in
+    let following = and_parts (not (eqb before 92)) (not (begins_plus bs)) parts.1 in
     let newline : b ≡ 10 = eqb-true b 10 parts.0 in
-    let plain : eqb before 92 ≡ false = not-true (eqb before 92) behind.0 in
+    let plain : eqb before 92 ≡ false = not-true (eqb before 92) following.0 in
     record {
       fits = omega arith;
       some = λ _. omega arith;
       joined = last_joined (not (eqb b 10) || eqb before 92);
       closed = λ _. rw (newline, plain) refl;
       ends = λ _. parts.0;
-      apart = not-true (begins_plus bs) behind.1;
+      apart = not-true (begins_plus bs) following.1;
     }
 
 newline_joined : (newline backslash plus next nil : Bool) → (newline && (not backslash && not plus)) ≡ false → (plus ≡ true → next ≡ true)

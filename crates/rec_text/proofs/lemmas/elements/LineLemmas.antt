@@ -29,12 +29,12 @@ body_len-none before (b ∷ bs) h =
     let plain = ne_eqb b 10 (h 0 (omega arith)) in
     rw plain (ap suc (body_len-none b bs (λ k l. h (suc k) (omega arith))))
 
--- whether a field ends with the newline behind this byte
-abbrev pub ends_behind : ℕ → List ℕ → Bool
-ends_behind before bs = not (eqb before 92) && not (begins_plus bs)
+-- whether a field ends with the newline after this byte
+abbrev pub ends_after : ℕ → List ℕ → Bool
+ends_after before bs = not (eqb before 92) && not (begins_plus bs)
 
 pub body_len-ends : (before : ℕ) (bs : List ℕ) (i : ℕ) → NoNewline i bs → i < length bs → get_or bs i 0 ≡ 10
-    → ends_behind (get_or (before ∷ bs) i 0) (drop (suc i) bs) ≡ true → body_len before bs ≡ suc i
+    → ends_after (get_or (before ∷ bs) i 0) (drop (suc i) bs) ≡ true → body_len before bs ≡ suc i
 body_len-ends before [] i h l e t = absurd (omega arith)
 body_len-ends before (b ∷ bs) zero h l e t = rw (eq-eqb b 10 e) (cond-true _ _ _ t)
 body_len-ends before (b ∷ bs) (suc i) h l e t =
@@ -42,7 +42,7 @@ body_len-ends before (b ∷ bs) (suc i) h l e t =
     rw plain (ap suc (body_len-ends b bs i (λ k m. h (suc k) (omega arith)) (omega arith) e t))
 
 pub body_len-goes_on : (before : ℕ) (bs : List ℕ) (i : ℕ) → NoNewline i bs → i < length bs → get_or bs i 0 ≡ 10
-    → ends_behind (get_or (before ∷ bs) i 0) (drop (suc i) bs) ≡ false
+    → ends_after (get_or (before ∷ bs) i 0) (drop (suc i) bs) ≡ false
     → body_len before bs ≡ suc i + body_len 10 (drop (suc i) bs)
 body_len-goes_on before [] i h l e t = absurd (omega arith)
 body_len-goes_on before (b ∷ bs) zero h l e t =
@@ -59,7 +59,7 @@ module _ (bs : List ℕ) where
       line_len-at bs i (λ k l e. found.0.before k (omega arith) l (eq-eqb _ 10 e)) found.0.high (eqb-true _ 10 found.1)
       ∙ sym (add-one i)
 
--- the byte before the place that lies i bytes behind `at`, looked up among the bytes from `at` on and the one before them
+-- the byte before the place that lies i bytes after `at`, looked up among the bytes from `at` on and the one before them
 get_or-before : (text : List ℕ) (at i : ℕ) → 1 ≤ at
     → get_or (get_or text (at - 1) 0 ∷ drop at text) i 0 ≡ get_or text (at + i - 1) 0
 get_or-before text at zero some = ap (λ k. get_or text k 0) (omega arith)
@@ -76,7 +76,7 @@ left_of_field-none text at fits none =
     let all = body_len-none (get_or text (at - 1) 0) (drop at text) (λ k l e. rest k (omega arith) l (eq-eqb _ 10 e)) in
     omega (arith, length-drop at text)
 
--- the first newline from a place on stands `line` bytes behind it
+-- the first newline from a place on stands `line` bytes after it
 pub record HasLine (text : List ℕ) (at line : ℕ) : Type 0 where
   pub plain : NoNewline line (drop at text)
   pub fits : line < length (drop at text)
@@ -93,14 +93,14 @@ HasLine-found text at line found =
 
 -- whether a field ends with the newline at a place
 abbrev pub ends_at : List ℕ → ℕ → Bool
-ends_at text newline = ends_behind (get_or text (newline - 1) 0) (drop (newline + 1) text)
+ends_at text newline = ends_after (get_or text (newline - 1) 0) (drop (newline + 1) text)
 
 module _ (text : List ℕ) (at line : ℕ) (some : 1 ≤ at) (has : HasLine text at line) where
   pub newline_fits : at + line < length text
   newline_fits = let fits = has.fits in omega (arith, length-drop at text)
 
-  ends_at-relative : ends_behind (get_or (get_or text (at - 1) 0 ∷ drop at text) line 0) (drop (suc line) (drop at text)) ≡ ends_at text (at + line)
-  ends_at-relative = rw (get_or-before text at line some, drop-drop (suc line) at text) (ap (λ n. ends_behind (get_or text (at + line - 1) 0) (drop n text)) (omega arith))
+  ends_at-relative : ends_after (get_or (get_or text (at - 1) 0 ∷ drop at text) line 0) (drop (suc line) (drop at text)) ≡ ends_at text (at + line)
+  ends_at-relative = rw (get_or-before text at line some, drop-drop (suc line) at text) (ap (λ n. ends_after (get_or text (at + line - 1) 0) (drop n text)) (omega arith))
 
   pub left_of_field-ends : ends_at text (at + line) ≡ true → at + left_of_field text at ≡ at + line + 1
   left_of_field-ends ends =

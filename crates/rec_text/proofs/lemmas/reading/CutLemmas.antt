@@ -179,7 +179,7 @@ element_is_apart kind (b ∷ bs) rest whole = ne_eqb b 43 (begins_no_plus kind b
 
 -- ---- the length
 
--- a name, a colon, and what stands behind passes the test
+-- a name, a colon, and what stands after passes the test
 pub record IsNamed (test : List ℕ → Bool) (bs : List ℕ) : Type 0 where
   pub colon : ℕ
   pub found : colon_of bs ≡ Some colon
@@ -204,7 +204,7 @@ ends_newline-drop (suc n) [] ends more = absurd (omega arith)
 ends_newline-drop (suc n) (b ∷ []) ends more = absurd (omega arith)
 ends_newline-drop (suc n) (b ∷ c ∷ cs) ends more = ends_newline-drop n (c ∷ cs) ends (omega arith)
 
--- a field that ends in a newline has it behind its colon
+-- a field that ends in a newline has it after its colon
 ends_newline-body : (bs : List ℕ) (c : ℕ) → colon_of bs ≡ Some c → c < length bs → ends_newline bs ≡ true → ends_newline (drop (c + 1) bs) ≡ true
 ends_newline-body bs c found within ends =
     let rest = ends_newline-drop c bs ends within in
@@ -231,8 +231,8 @@ field_len bs rest whole closed apart =
       | inr nil ↦ rw (nil, append-nil) (body_len-joined 58 (drop (c + 1) bs) parts.0)
     ] in
     let fits : c + 1 ≤ length bs = omega arith in
-    let behind = drop-append-le (c + 1) bs rest fits in
-    rw (colon_of-append bs rest c named.found, behind, body) (omega arith)
+    let following = drop-append-le (c + 1) bs rest fits in
+    rw (colon_of-append bs rest c named.found, following, body) (omega arith)
 
 comment_len : (bs rest : List ℕ) → is_comment bs ≡ true → (ends_newline bs ≡ true) ⊎ (rest ≡ []) → line_len (bs ++ rest) ≡ length bs
 comment_len [] rest whole closed = absurd (false≢true whole)

@@ -56,15 +56,15 @@ begins_open_field (b ∷ bs) is_open =
     let named = IsNamed-true is_open_body (b ∷ bs) is_open in
     or_right _ _ (is_named-at (λ _. true) (b ∷ bs) named.colon named.found)
 
--- an open field has no whole field for a front
+-- an open field has no whole field for a prefix
 open_is_no_field : (bs rest : List ℕ) → is_field bs ≡ true → length bs ≡ len_of Field (bs ++ rest) → is_open_field (bs ++ rest) ≡ true → ⊥
 open_is_no_field bs rest whole len is_open =
     let named = IsNamed-true is_body bs whole in
     let c = named.colon in
     let found = colon_of-append bs rest c named.found in
-    let behind = drop (c + 1) (bs ++ rest) in
-    let parts = and_parts (is_joined 58 behind) (is_dangling 58 behind) (sym (is_named-at is_open_body (bs ++ rest) c found) ∙ is_open) in
-    let reach : length bs ≡ c + 1 + length behind = len ∙ rw found (ap (λ n. c + 1 + n) (body_len-joined 58 behind parts.0)) in
+    let following = drop (c + 1) (bs ++ rest) in
+    let parts = and_parts (is_joined 58 following) (is_dangling 58 following) (sym (is_named-at is_open_body (bs ++ rest) c found) ∙ is_open) in
+    let reach : length bs ≡ c + 1 + length following = len ∙ rw found (ap (λ n. c + 1 + n) (body_len-joined 58 following parts.0)) in
     let within = named.within in
     let none : length rest ≡ 0 = omega (arith, length-drop (c + 1) (bs ++ rest), length-append bs rest) in
     let nil : rest ≡ [] = nil_from_length rest none in
@@ -97,7 +97,7 @@ abbrev pub AreCuts : List Piece → List ℕ → Type 0
 AreCuts [] rest = Unit {0}
 AreCuts (piece ∷ pieces) rest = IsCut piece (text_of pieces ++ rest) × AreCuts pieces rest
 
--- elements, and behind them a rest that no element begins
+-- elements, and after them a rest that no element begins
 pub record IsWalk (text : List ℕ) (before : List Piece) (rest : List ℕ) : Type 0 where
   pub parts : text ≡ text_of before ++ rest
   pub cuts : AreCuts before rest

@@ -207,9 +207,9 @@ module _ (pieces : List Piece) (p : Piece) where
         first = field-old r.start (omega (arith, h.some, h.high)) ∙ h.first;
         last = field-old (r.end - 1) (omega (arith, h.some, h.high)) ∙ h.last;
         before = λ i low high. field-old i (omega (arith, h.some, h.high)) ∙ h.before i (omega arith) high;
-        behind = λ i low high.
+        following = λ i low high.
             elim (cases_lt i h.paragraph.end) [
-              | inl lt ↦ field-old i (omega arith) ∙ h.behind i low lt
+              | inl lt ↦ field-old i (omega arith) ∙ h.following i low lt
               | inr ge ↦ fresh i ge high
             ];
       }
@@ -300,7 +300,7 @@ module _ (pieces : List Piece) (p : Piece) where
       let start_low : fields.start < length pieces = omega (arith, own.some, own.high, run.within) in
       let apart : (r : Range ℕ) → IsRecord pieces r → r.end ≤ fields.start → IsRecord more r =
       λ r is ends. record-apart r is (λ e.
-      absurd (false≢true (sym (is.behind fields.start ends (omega arith)) ∙ own.first))) in
+      absurd (false≢true (sym (is.following fields.start ends (omega arith)) ∙ own.first))) in
       record {
         are = record {
           each = AllByRecursion-push (IsRecord more) closed (range fields.start (length pieces + 1))
@@ -321,7 +321,7 @@ module _ (pieces : List Piece) (p : Piece) where
                     let here : length pieces + 1 - 1 ≡ length pieces = omega arith in
                     rw here (holds_at-new is_field_piece pieces p ∙ holds);
                 before = λ i low high. field-old i (omega arith) ∙ own.before i low high;
-                behind = λ i low high. absurd (omega arith);
+                following = λ i low high. absurd (omega arith);
               });
           ascending = AreAscending-longer 0 closed fields (length pieces + 1) h.are.ascending;
           complete = λ i field.
@@ -363,7 +363,7 @@ module _ (pieces : List Piece) (p : Piece) where
                       | inl field ↦ absurd (h.goes_on i field (λ j above below. tail.1.passes j (omega arith) below))
                       | inr none ↦ none
                     ];
-                behind = λ i low high. absurd (omega arith);
+                following = λ i low high. absurd (omega arith);
               });
           ascending = AreAscending-push 0 closed (range (length pieces) (length pieces + 1)) (omega arith) ends are.ascending;
           complete = λ i field.

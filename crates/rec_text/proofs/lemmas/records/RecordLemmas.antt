@@ -22,7 +22,7 @@ pub record IsSpan (test : ℕ → Bool) (from to : ℕ) (span : Range ℕ) : Typ
   pub first : test span.start ≡ true
   pub last : test (span.end - 1) ≡ true
   pub before : (i : ℕ) → from ≤ i → i < span.start → test i ≡ false
-  pub behind : (i : ℕ) → span.end ≤ i → i < to → test i ≡ false
+  pub following : (i : ℕ) → span.end ≤ i → i < to → test i ≡ false
 
 abbrev pub IsNarrowed : (ℕ → Bool) → ℕ → ℕ → Option (Range ℕ) → Type 0
 IsNarrowed test from to None = (i : ℕ) → from ≤ i → i < to → test i ≡ false
@@ -44,7 +44,7 @@ module _ (test : ℕ → Bool) (to : ℕ) where
                   let same : i ≡ from = omega arith in
                   rw same fails
             ];
-        behind = h.behind;
+        following = h.following;
       }
 
   IsNarrowed-skip : (from : ℕ) (rest : Option (Range ℕ)) → test from ≡ false → IsNarrowed test (from + 1) to rest → IsNarrowed test from to rest
@@ -67,7 +67,7 @@ module _ (test : ℕ → Bool) (to : ℕ) where
         first = holds;
         last = rw back holds;
         before = λ i low high. absurd (omega arith);
-        behind = λ i low high. h i low high;
+        following = λ i low high. h i low high;
       }
   IsSpan-reaching from (Some span) lt holds h =
       record {
@@ -77,7 +77,7 @@ module _ (test : ℕ → Bool) (to : ℕ) where
         first = holds;
         last = h.last;
         before = λ i low high. absurd (omega arith);
-        behind = h.behind;
+        following = h.following;
       }
 
   IsNarrowed-narrowed_from : (from count : ℕ) → from + count ≡ to → IsNarrowed test from to (narrowed_from test from count)
@@ -126,7 +126,7 @@ module _ (pieces : List Piece) where
         first = k.first;
         last = k.last;
         before = k.before;
-        behind = k.behind;
+        following = k.following;
       }
 
   narrows : (paragraph : Range ℕ) → IsRun (is_full_at pieces) (length pieces) paragraph → IsNarrowed (is_field_at pieces) paragraph.start paragraph.end (narrowed (is_field_at pieces) paragraph)
@@ -159,7 +159,7 @@ module _ (pieces : List Piece) where
         | inr from ↦
             elim (cases_lt i span.end) [
               | inl within ↦ LiesIn-here span records i from within
-              | inr over ↦ absurd (false≢true (sym (k.behind i over high) ∙ field))
+              | inr over ↦ absurd (false≢true (sym (k.following i over high) ∙ field))
             ]
       ]
 
@@ -198,7 +198,7 @@ module _ (pieces : List Piece) where
       runs_share_end (is_full_at pieces) (length pieces) h.paragraph k.paragraph fields.start h.is_paragraph k.is_paragraph
       h.low (omega (arith, h.some, h.high)) (omega (arith, k.low)) (omega (arith, k.some, k.high)) in
       elim (cases_lt fields.end other.end) [
-        | inl less ↦ absurd (false≢true (sym (h.behind (other.end - 1) (omega arith) (omega (arith, k.high))) ∙ k.last))
+        | inl less ↦ absurd (false≢true (sym (h.following (other.end - 1) (omega arith) (omega (arith, k.high))) ∙ k.last))
         | inr more ↦ more
       ]
 

@@ -46,7 +46,7 @@ module _ (test : ℕ → Bool) (size : ℕ) where
     pub ascending : AreAscending low runs
     pub complete : (i : ℕ) → low ≤ i → i < size → test i ≡ true → LiesIn runs i
 
-  -- a bound one lower, where the test fails at the index before the runs, or no run begins right behind it
+  -- a bound one lower, where the test fails at the index before the runs, or no run begins right after it
   IsRunFrom-lower : (low : ℕ) (run : Range ℕ) → (low + 1 ≡ run.start → test low ≡ false) → IsRunFrom (low + 1) run → IsRunFrom low run
   IsRunFrom-lower low run before h =
       record {

@@ -11,7 +11,7 @@ use Rattle.rec_text.specs.Canonical.{is_plain_name, is_foldable, folded, field_o
 use Rattle.rec_text.proofs.lemmas.values.FoldLemmas.{is_foldable-same}
 use Rattle.rec_text.proofs.lemmas.values.ValueLemmas.{rest_value, begins_newline, body_value-rest, rest_value-newline, rest_value-byte, passes_apart}
 
--- ---- the colon stands behind the name
+-- ---- the colon stands after the name
 
 pub name_end-all : (bs rest : List ℕ) → IsTrue (list_all continues_name bs) → name_end (bs ++ 58 ∷ rest) ≡ Some (length bs)
 name_end-all [] rest all = refl
@@ -25,13 +25,13 @@ colon_of-name (x ∷ xs) rest plain =
     let parts = and_parts (is_letter x) _ plain in
     rw (or_left (is_letter x) (x == 37) parts.0) (ap (option_map suc) (name_end-all xs rest parts.1))
 
-pub behind_colon : (name rest : List ℕ) → drop (length name + 1) (name ++ 58 ∷ rest) ≡ rest
-behind_colon name rest =
+pub after_colon : (name rest : List ℕ) → drop (length name + 1) (name ++ 58 ∷ rest) ≡ rest
+after_colon name rest =
     ap (drop (length name + 1)) (sym (append_assoc name (58 ∷ []) rest)) ∙ drop_at (name ++ 58 ∷ []) rest (length name + 1) (length_push name 58)
 
--- ---- what stands behind it is well formed
+-- ---- what follows it is well formed
 
--- what is written of a value behind a space
+-- what is written of a value after a space
 abbrev written : List ℕ → List ℕ
 written value = folded value ++ 10 ∷ []
 
@@ -102,7 +102,7 @@ rest_value-written before (x ∷ xs) foldable = rest_value-step before x xs (x =
 
 -- ---- the canonical field
 
--- what stands behind the colon of a canonical field is the value, written behind a space
+-- what stands after the colon of a canonical field is the value, written after a space
 at_colon : {X : Type 0} (f : ℕ → X) (none : X) (name value : List ℕ) → IsTrue (is_plain_name name) → option_map_or f (colon_of (field_of name value)) none ≡ f (length name)
 at_colon f none name value plain = ap (λ colon. option_map_or f colon none) (colon_of-name name (32 ∷ written value) plain)
 
@@ -110,7 +110,7 @@ module _ (name value : List ℕ) (plain : IsTrue (is_plain_name name)) (foldable
   pub is_field-field_of : IsTrue (is_field (field_of name value))
   is_field-field_of =
       at_colon (λ c. is_body (drop (c + 1) (field_of name value))) false name value plain
-      ∙ ap is_body (behind_colon name (32 ∷ written value))
+      ∙ ap is_body (after_colon name (32 ∷ written value))
       ∙ and_from (is_joined 32 (written value)) _ (is_joined-written 32 value) (not_from_false _ (is_dangling-written 32 value foldable))
 
   pub name_of-field_of : name_of (canonical name value) ≡ name
@@ -119,6 +119,6 @@ module _ (name value : List ℕ) (plain : IsTrue (is_plain_name name)) (foldable
   pub value_of-field_of : value_of (canonical name value) ≡ value
   value_of-field_of =
       at_colon (λ c. body_value (drop (c + 1) (field_of name value))) [] name value plain
-      ∙ ap body_value (behind_colon name (32 ∷ written value))
+      ∙ ap body_value (after_colon name (32 ∷ written value))
       ∙ body_value-rest (32 ∷ written value)
       ∙ rest_value-written 10 value (is_foldable-same 10 32 value refl ∙ foldable)

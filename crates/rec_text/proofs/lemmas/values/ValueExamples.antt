@@ -21,11 +21,11 @@ bare = refl
 bare_stands_whole : stands_whole (field (codes "A:bar")) ≡ true
 bare_stands_whole = refl
 
--- a tab behind the colon is dropped
+-- a tab after the colon is dropped
 tab : value_of (field (codes "A:" ++ 9 ∷ codes "bar" ++ 10 ∷ [])) ≡ codes "bar"
 tab = refl
 
--- a backslash and a newline directly behind the colon: the blank in the next line stays
+-- a backslash and a newline directly after the colon: the blank in the next line stays
 joined_at_colon : value_of (field (codes "A:" ++ 92 ∷ 10 ∷ codes " b" ++ 10 ∷ [])) ≡ codes " b"
 joined_at_colon = refl
 
@@ -39,7 +39,7 @@ backslash_at_end = refl
 joined_empty_line : value_of (field (codes "A: x" ++ 92 ∷ 10 ∷ 10 ∷ [])) ≡ codes "x"
 joined_empty_line = refl
 
--- of two spaces behind a `+` one stays
+-- of two spaces after a `+` one stays
 plus_line : value_of (field (codes "A: 1" ++ 10 ∷ codes "+  2" ++ 10 ∷ [])) ≡ codes "1" ++ 10 ∷ codes " 2"
 plus_line = refl
 

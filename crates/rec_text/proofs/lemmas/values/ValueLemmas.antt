@@ -1,4 +1,4 @@
--- The value of what stands behind a colon, line by line.
+-- The value of what stands after a colon, line by line.
 use Rattle.std.proofs.Common.{◌≡◌, ℕ, Bool, true, false, List, [], ◌∷◌, ◌++◌, ◌==◌, ◌&&◌, not, map, length, sym, ap, refl, ◌∙◌, append_assoc, append-nil, arith}
 use Rattle.std.specs.Prelude.{if◌then◌else◌}
 use Rattle.std.specs.List.{join_with_byte}
@@ -17,7 +17,7 @@ abbrev pub first_value : (List ℕ → List ℕ) → List (List ℕ) → List �
 first_value f [] = []
 first_value f (line ∷ lines) = join_with_byte 10 (f line ∷ map plus_value lines)
 
--- the value of what stands behind a mark or behind a joined line
+-- the value of what stands after a mark or after a joined line
 abbrev pub rest_value : ℕ → List ℕ → List ℕ
 rest_value before text = first_value unfolded (logical_lines before text)
 
@@ -81,7 +81,7 @@ plus_value-rest text =
 
 -- ---- the value, byte by byte
 
--- what a newline that ends a logical line, with the text behind it, adds to the value
+-- what a newline that ends a logical line, with the text after it, adds to the value
 abbrev pub next_value : List ℕ → List ℕ
 next_value [] = []
 next_value (b ∷ bs) = 10 ∷ rest_value 10 (without_mark (b ∷ bs))
@@ -147,22 +147,22 @@ unbroken_head : (xs : List ℕ) → HasNoNewline xs → begins_newline xs ≡ fa
 unbroken_head [] unbroken = refl
 unbroken_head (x ∷ xs) unbroken = ne_eqb x 10 unbroken.0
 
-pub rest_value-joined : (before : ℕ) (front behind : List ℕ) → HasNoNewline front → rest_value before (front ++ 92 ∷ 10 ∷ behind) ≡ front ++ rest_value 10 behind
-rest_value-joined before [] behind unbroken = rest_value-joint before behind
-rest_value-joined before (x ∷ xs) behind unbroken =
-    rest_value-byte before x (xs ++ 92 ∷ 10 ∷ behind) (ne_eqb x 10 unbroken.0) (and_right _ _ (unbroken_begins xs (10 ∷ behind) 92 unbroken.1 refl))
-    ∙ ap (λ value. x ∷ value) (rest_value-joined x xs behind unbroken.1)
+pub rest_value-joined : (before : ℕ) (prefix following : List ℕ) → HasNoNewline prefix → rest_value before (prefix ++ 92 ∷ 10 ∷ following) ≡ prefix ++ rest_value 10 following
+rest_value-joined before [] following unbroken = rest_value-joint before following
+rest_value-joined before (x ∷ xs) following unbroken =
+    rest_value-byte before x (xs ++ 92 ∷ 10 ∷ following) (ne_eqb x 10 unbroken.0) (and_right _ _ (unbroken_begins xs (10 ∷ following) 92 unbroken.1 refl))
+    ∙ ap (λ value. x ∷ value) (rest_value-joined x xs following unbroken.1)
 
 -- a line of at least one byte either goes on with a byte, or a newline follows one that is no backslash
-plain_before : (x : ℕ) (xs behind : List ℕ) → HasNoNewline xs → ends_backslash (x ∷ xs) ≡ false → (x == 92 && begins_newline (xs ++ 10 ∷ behind)) ≡ false
-plain_before x [] behind unbroken ends = and_left _ _ ends
-plain_before x (y ∷ ys) behind unbroken ends = and_right (x == 92) (y == 10) (unbroken_head (y ∷ ys) unbroken)
+plain_before : (x : ℕ) (xs following : List ℕ) → HasNoNewline xs → ends_backslash (x ∷ xs) ≡ false → (x == 92 && begins_newline (xs ++ 10 ∷ following)) ≡ false
+plain_before x [] following unbroken ends = and_left _ _ ends
+plain_before x (y ∷ ys) following unbroken ends = and_right (x == 92) (y == 10) (unbroken_head (y ∷ ys) unbroken)
 
-pub rest_value-line : (before : ℕ) (line behind : List ℕ) → HasNoNewline line → ends_backslash (before ∷ line) ≡ false → rest_value before (line ++ 10 ∷ behind) ≡ line ++ next_value behind
-rest_value-line before [] behind unbroken ends = rest_value-newline before behind ends
-rest_value-line before (x ∷ xs) behind unbroken ends =
-    rest_value-byte before x (xs ++ 10 ∷ behind) (ne_eqb x 10 unbroken.0) (plain_before x xs behind unbroken.1 ends)
-    ∙ ap (λ value. x ∷ value) (rest_value-line x xs behind unbroken.1 ends)
+pub rest_value-line : (before : ℕ) (line following : List ℕ) → HasNoNewline line → ends_backslash (before ∷ line) ≡ false → rest_value before (line ++ 10 ∷ following) ≡ line ++ next_value following
+rest_value-line before [] following unbroken ends = rest_value-newline before following ends
+rest_value-line before (x ∷ xs) following unbroken ends =
+    rest_value-byte before x (xs ++ 10 ∷ following) (ne_eqb x 10 unbroken.0) (plain_before x xs following unbroken.1 ends)
+    ∙ ap (λ value. x ∷ value) (rest_value-line x xs following unbroken.1 ends)
 
 pub rest_value-end : (before : ℕ) (line : List ℕ) → HasNoNewline line → rest_value before line ≡ line
 rest_value-end before [] unbroken = refl
@@ -170,21 +170,21 @@ rest_value-end before (x ∷ xs) unbroken =
     rest_value-byte before x xs (ne_eqb x 10 unbroken.0) (and_right _ _ (unbroken_head xs unbroken.1))
     ∙ ap (λ value. x ∷ value) (rest_value-end x xs unbroken.1)
 
-HasNoNewline-front : (front back : List ℕ) → HasNoNewline (front ++ back) → HasNoNewline front
-HasNoNewline-front [] back unbroken = tt
-HasNoNewline-front (x ∷ xs) back unbroken = (unbroken.0, HasNoNewline-front xs back unbroken.1)
+pub HasNoNewline-prefix : (prefix back : List ℕ) → HasNoNewline (prefix ++ back) → HasNoNewline prefix
+HasNoNewline-prefix [] back unbroken = tt
+HasNoNewline-prefix (x ∷ xs) back unbroken = (unbroken.0, HasNoNewline-prefix xs back unbroken.1)
 
-next_value-more : (behind : List ℕ) → false ≡ (length behind == 0) → next_value behind ≡ 10 ∷ rest_value 10 (without_mark behind)
+next_value-more : (following : List ℕ) → false ≡ (length following == 0) → next_value following ≡ 10 ∷ rest_value 10 (without_mark following)
 next_value-more [] more = absurd (false≢true more)
 next_value-more (b ∷ bs) more = refl
 
-next_value-none : (behind : List ℕ) → true ≡ (length behind == 0) → next_value behind ≡ rest_value 10 (without_mark behind)
+next_value-none : (following : List ℕ) → true ≡ (length following == 0) → next_value following ≡ rest_value 10 (without_mark following)
 next_value-none [] none = refl
 next_value-none (b ∷ bs) none = absurd (omega (arith, eqb-true _ _ (sym none)))
 
 -- ---- a loop over the lines
 
--- what is done, with the value of the rest behind it, is the value
+-- what is done, with the value of the rest after it, is the value
 pub record HasJoined (body done rest : List ℕ) : Type 0 where
   pub whole : done ++ rest_value 10 rest ≡ body_value body
 
@@ -193,40 +193,40 @@ HasJoined-none body done rest none text = record {
   whole = ap (λ value. value ++ rest_value 10 rest) none ∙ ap (rest_value 10) text ∙ sym (body_value-rest body);
 }
 
-module _ {body done rest line behind : List ℕ} (so_far : HasJoined body done rest) (first : BeginsWithLine rest line behind) where
-  pub HasJoined-joined : (front new : List ℕ) → line ≡ front ++ 92 ∷ [] → new ≡ done ++ front → HasJoined body new behind
-  HasJoined-joined front new joined now =
-      let clean = HasNoNewline-front front (92 ∷ []) (rw joined at first.first) in
-      let cut : rest ≡ front ++ 92 ∷ 10 ∷ behind =
-      first.whole ∙ ap (λ l. l ++ 10 ∷ behind) joined ∙ append_assoc front (92 ∷ []) (10 ∷ behind) in
+module _ {body done rest line following : List ℕ} (so_far : HasJoined body done rest) (first : BeginsWithLine rest line following) where
+  pub HasJoined-joined : (prefix new : List ℕ) → line ≡ prefix ++ 92 ∷ [] → new ≡ done ++ prefix → HasJoined body new following
+  HasJoined-joined prefix new joined now =
+      let clean = HasNoNewline-prefix prefix (92 ∷ []) (rw joined at first.first) in
+      let cut : rest ≡ prefix ++ 92 ∷ 10 ∷ following =
+      first.whole ∙ ap (λ l. l ++ 10 ∷ following) joined ∙ append_assoc prefix (92 ∷ []) (10 ∷ following) in
       record {
-        whole = ap (λ value. value ++ rest_value 10 behind) now
-            ∙ append_assoc done front (rest_value 10 behind)
-            ∙ ap (λ value. done ++ value) (sym (ap (rest_value 10) cut ∙ rest_value-joined 10 front behind clean))
+        whole = ap (λ value. value ++ rest_value 10 following) now
+            ∙ append_assoc done prefix (rest_value 10 following)
+            ∙ ap (λ value. done ++ value) (sym (ap (rest_value 10) cut ∙ rest_value-joined 10 prefix following clean))
             ∙ so_far.whole;
       }
 
-  ended : ends_backslash line ≡ false → done ++ (line ++ next_value behind) ≡ body_value body
+  ended : ends_backslash line ≡ false → done ++ (line ++ next_value following) ≡ body_value body
   ended ends =
-      ap (λ value. done ++ value) (sym (ap (rest_value 10) first.whole ∙ rest_value-line 10 line behind first.first (ends_backslash-newline line ∙ ends)))
+      ap (λ value. done ++ value) (sym (ap (rest_value 10) first.whole ∙ rest_value-line 10 line following first.first (ends_backslash-newline line ∙ ends)))
       ∙ so_far.whole
 
-  pub HasJoined-next : (new after : List ℕ) → ends_backslash line ≡ false → false ≡ (length behind == 0) → new ≡ (done ++ line) ++ 10 ∷ [] → after ≡ without_mark behind → HasJoined body new after
+  pub HasJoined-next : (new after : List ℕ) → ends_backslash line ≡ false → false ≡ (length following == 0) → new ≡ (done ++ line) ++ 10 ∷ [] → after ≡ without_mark following → HasJoined body new after
   HasJoined-next new after ends more now gone =
       record {
         whole = ap (λ value. value ++ rest_value 10 after) now
             ∙ append_assoc (done ++ line) (10 ∷ []) (rest_value 10 after)
             ∙ append_assoc done line (10 ∷ rest_value 10 after)
-            ∙ ap (λ value. done ++ (line ++ value)) (ap (λ text. 10 ∷ rest_value 10 text) gone ∙ sym (next_value-more behind more))
+            ∙ ap (λ value. done ++ (line ++ value)) (ap (λ text. 10 ∷ rest_value 10 text) gone ∙ sym (next_value-more following more))
             ∙ ended ends;
       }
 
-  pub HasJoined-last : (new after : List ℕ) → ends_backslash line ≡ false → true ≡ (length behind == 0) → new ≡ done ++ line → after ≡ without_mark behind → HasJoined body new after
+  pub HasJoined-last : (new after : List ℕ) → ends_backslash line ≡ false → true ≡ (length following == 0) → new ≡ done ++ line → after ≡ without_mark following → HasJoined body new after
   HasJoined-last new after ends none now gone =
       record {
         whole = ap (λ value. value ++ rest_value 10 after) now
             ∙ append_assoc done line (rest_value 10 after)
-            ∙ ap (λ value. done ++ (line ++ value)) (ap (rest_value 10) gone ∙ sym (next_value-none behind none))
+            ∙ ap (λ value. done ++ (line ++ value)) (ap (rest_value 10) gone ∙ sym (next_value-none following none))
             ∙ ended ends;
       }
 
@@ -254,10 +254,10 @@ is_single-end before [] unbroken = refl
 is_single-end before (x ∷ xs) unbroken =
     rw (ne_eqb x 10 unbroken.0) (is_single-end x xs unbroken.1)
 
-is_single-line : (before : ℕ) (line behind : List ℕ) → HasNoNewline line → is_single before (line ++ 10 ∷ behind) ≡ (is_nil behind && not (ends_backslash (before ∷ line)))
-is_single-line before [] behind unbroken = refl
-is_single-line before (x ∷ xs) behind unbroken =
-    rw (ne_eqb x 10 unbroken.0) (is_single-line x xs behind unbroken.1)
+is_single-line : (before : ℕ) (line following : List ℕ) → HasNoNewline line → is_single before (line ++ 10 ∷ following) ≡ (is_nil following && not (ends_backslash (before ∷ line)))
+is_single-line before [] following unbroken = refl
+is_single-line before (x ∷ xs) following unbroken =
+    rw (ne_eqb x 10 unbroken.0) (is_single-line x xs following unbroken.1)
 
 pub unbroken_is_single : (body text : List ℕ) → text ≡ without_first is_blank body → HasNoNewline text → true ≡ is_single 58 body
 unbroken_is_single body text e unbroken = sym (is_single-rest body ∙ ap (is_single 10) (sym e) ∙ is_single-end 10 text unbroken)
@@ -265,29 +265,29 @@ unbroken_is_single body text e unbroken = sym (is_single-rest body ∙ ap (is_si
 pub unbroken_value : (body text : List ℕ) → text ≡ without_first is_blank body → HasNoNewline text → text ≡ body_value body
 unbroken_value body text e unbroken = sym (body_value-rest body ∙ ap (rest_value 10) (sym e) ∙ rest_value-end 10 text unbroken)
 
-module _ (body : List ℕ) {text line behind : List ℕ} (e : text ≡ without_first is_blank body) (first : BeginsWithLine text line behind) where
-  is_single_by_line : is_single 58 body ≡ ((length behind == 0) && not (ends_backslash line))
+module _ (body : List ℕ) {text line following : List ℕ} (e : text ≡ without_first is_blank body) (first : BeginsWithLine text line following) where
+  is_single_by_line : is_single 58 body ≡ ((length following == 0) && not (ends_backslash line))
   is_single_by_line =
       is_single-rest body
       ∙ ap (is_single 10) (sym e ∙ first.whole)
-      ∙ is_single-line 10 line behind first.first
-      ∙ ap (λ ends. is_nil behind && not ends) (ends_backslash-newline line)
-      ∙ ap (λ none. none && not (ends_backslash line)) (is_nil-length behind)
+      ∙ is_single-line 10 line following first.first
+      ∙ ap (λ ends. is_nil following && not ends) (ends_backslash-newline line)
+      ∙ ap (λ none. none && not (ends_backslash line)) (is_nil-length following)
 
-  pub more_is_not_single : false ≡ (length behind == 0) → false ≡ is_single 58 body
+  pub more_is_not_single : false ≡ (length following == 0) → false ≡ is_single 58 body
   more_is_not_single more = sym (is_single_by_line ∙ and_left _ _ (sym more))
 
   pub joined_is_not_single : true ≡ ends_backslash line → false ≡ is_single 58 body
   joined_is_not_single ends = sym (is_single_by_line ∙ and_right _ _ (not_from_true _ (sym ends)))
 
-  pub line_is_single : true ≡ (length behind == 0) → false ≡ ends_backslash line → true ≡ is_single 58 body
+  pub line_is_single : true ≡ (length following == 0) → false ≡ ends_backslash line → true ≡ is_single 58 body
   line_is_single none ends = sym (is_single_by_line ∙ and_from _ _ (sym none) (not_from_false _ (sym ends)))
 
-  pub line_is_value : true ≡ (length behind == 0) → false ≡ ends_backslash line → line ≡ body_value body
+  pub line_is_value : true ≡ (length following == 0) → false ≡ ends_backslash line → line ≡ body_value body
   line_is_value none ends =
-      let nothing : behind ≡ [] = nil_from_length behind (eqb-true _ _ (sym none)) in
+      let nothing : following ≡ [] = nil_from_length following (eqb-true _ _ (sym none)) in
       sym (body_value-rest body
       ∙ ap (rest_value 10) (sym e ∙ first.whole)
-      ∙ rest_value-line 10 line behind first.first (ends_backslash-newline line ∙ sym ends)
+      ∙ rest_value-line 10 line following first.first (ends_backslash-newline line ∙ sym ends)
       ∙ ap (λ bs. line ++ next_value bs) nothing
       ∙ append-nil line)

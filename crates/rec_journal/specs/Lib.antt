@@ -8,7 +8,7 @@ pub mod Listing
 pub mod Plans
 pub mod Stops
 pub mod Bound
-pub mod Moves
+pub mod Promises
 pub mod Forgetting
 -- what serves proofs
 pub mod proving

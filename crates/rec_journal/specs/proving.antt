@@ -1,6 +1,6 @@
 -- What serves proofs.
-pub mod Weave
-pub mod Fronts
+pub mod Splicing
+pub mod Prefixes
 pub mod Head
 pub mod Reading
 pub mod Scan

@@ -2,7 +2,7 @@ pub mod OneByOneLemmas
 pub mod TextLemmas
 pub mod UniqueLemmas
 pub mod PartLemmas
-pub mod StretchLemmas
+pub mod TextLineLemmas
 pub mod EventLemmas
 pub mod SpellingLemmas
 pub mod BoundLemmas

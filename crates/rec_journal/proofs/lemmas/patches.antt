@@ -1,5 +1,5 @@
 pub mod AppendLemmas
 pub mod PatchLemmas
-pub mod WeaveLemmas
+pub mod SplicingLemmas
 pub mod StepLemmas
 pub mod PatchExamples

@@ -1,4 +1,4 @@
-pub mod FrontLemmas
+pub mod PrefixLemmas
 pub mod KeptLemmas
 pub mod StopLemmas
 pub mod PlanLemmas

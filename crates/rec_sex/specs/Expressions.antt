@@ -15,9 +15,9 @@ use Rattle.rec_sex.specs.Patterns.{PatternMayBeRefused}
 use Rattle.rec_sex.specs.Meaning.{Selects}
 use Rattle.rec_sex.specs.Grammar.{Term, Derives, AreTokens, fault_of, number, literal, field, occurrence, count, inverse, negated, binary, found, choice}
 
--- the pattern of a number; the empty one where there is none
-abbrev pub pattern_in : List Re → ℕ → Re
-pattern_in patterns i = unwrap_or (slice_get patterns i) empty
+-- the pattern of this index; the empty one where there is none
+abbrev pub pattern_at : List Re → ℕ → Re
+pattern_at patterns i = unwrap_or (slice_get patterns i) empty
 
 -- the expression that a tree stands for, with these patterns
 abbrev pub term_under : List Re → Tree → Term
@@ -29,7 +29,7 @@ term_under patterns (Count name) = count name
 term_under patterns (Not' p a) = inverse (term_under patterns a)
 term_under patterns (Negate' p a) = negated (term_under patterns a)
 term_under patterns (Binary' op p a q b) = binary op (term_under patterns a) (term_under patterns b)
-term_under patterns (Found' p a i) = found (term_under patterns a) (pattern_in patterns i)
+term_under patterns (Found' p a i) = found (term_under patterns a) (pattern_at patterns i)
 term_under patterns (Choice' p c q a r b) = choice (term_under patterns c) (term_under patterns a) (term_under patterns b)
 
 -- the same, with the patterns as they stand in memory
@@ -55,13 +55,13 @@ AreSame (found a pattern) (found b other) = AreSame a b × SameCaptures pattern 
 AreSame (choice c a b) (choice d e f) = AreSame c d × AreSame a e × AreSame b f
 AreSame a b = a ≡ b
 
--- A text is at most one expression, so it selects a record or it doesn't; and then it has no fault.
+-- Two expressions of one text are the same and select the same records; and a text that is an expression has no fault.
 pub record OneExpression : Type 0 where
   pub same : (text : List ℕ) (one other : Term) → IsExpression text one → IsExpression text other → AreSame one other
   pub selects : (text : List ℕ) (one other : Term) (pieces : List Piece) → IsExpression text one → IsExpression text other → Selects one pieces → Selects other pieces
   pub faultless : (text : List ℕ) (term : Term) → IsExpression text term → fault_of text ≡ None
 
--- the place of an expression's fault is refused
+-- the refusal is that of a bad expression, at some place
 abbrev pub IsBadExpression : Fault → Type 0
 IsBadExpression fault = (place : ℕ) × (fault ≡ BadExpression place)
 
@@ -69,12 +69,12 @@ IsBadExpression fault = (place : ℕ) × (fault ≡ BadExpression place)
 abbrev pub RefusesItsFault : {X : Type 0} → List ℕ → Result X Fault → Type 0
 RefusesItsFault text result = (place : ℕ) → IsErrOf result (BadExpression place) → fault_of text ≡ Some place
 
--- the text behind some `~` is one that `regex` may refuse as a pattern, for another cause than memory
+-- the text after some `~` is one that `regex` may refuse as a pattern, for a reason other than memory
 pub record ExpressionMayBeRefused (text : List ℕ) : Type 0 where
   pub tokens : List Token
   pub are : AreTokens (lexemes text) tokens
-  pub front : List Token
+  pub prefix : List Token
   pub pattern : List ℕ
   pub rest : List Token
-  pub parts : tokens ≡ front ++ Found ∷ (Literal pattern ∷ rest)
+  pub parts : tokens ≡ prefix ++ Found ∷ (Literal pattern ∷ rest)
   pub refused : PatternMayBeRefused pattern

@@ -3,7 +3,7 @@ use Rattle.std.specs.Prelude.{◌≡◌, ◌⊎◌, ℕ, ◌+◌, ◌<◌, List,
 use Rattle.rec_sex.specs.declared.lists.index_list.Span.{Span}
 use Rattle.rec_sex.specs.declared.lists.field_list.Item.{Item}
 use Rattle.rec_sex.specs.IndexList as indexes
-use Rattle.rec_sex.specs.IndexList.{AreDigits, value_of, greatest}
+use Rattle.rec_sex.specs.IndexList.{AreDigits, decimal_number, greatest}
 use Rattle.rec_sex.specs.Lists as fields
 
 -- a list of indexes, whatever they are
@@ -20,13 +20,13 @@ BeginsList IsList bytes = (rest : List ℕ) × IsList (bytes ++ rest)
 
 -- what stands here ends in a number and a hyphen, and the digits write a lesser one
 abbrev pub IsLess : List ℕ → List ℕ → Type 0
-IsLess before digits = (front first : List ℕ) × (before ≡ front ++ (first ++ 45 ∷ [])) × AreDigits first [] × (value_of digits < value_of first)
+IsLess before digits = (prefix first : List ℕ) × (before ≡ prefix ++ (first ++ 45 ∷ [])) × AreDigits first [] × (decimal_number digits < decimal_number first)
 
--- A number begins at the place that is too large, and with all its digits the bytes begin no list; or one that is less
--- than that before the hyphen, and with its digits and the byte behind them, if one is there, they begin none.
+-- A number begins at the place. Either it is too large, and no list begins with the bytes up to its last digit; or it is less than
+-- the number before the hyphen, and no list begins with the bytes up to the one that follows it, if there is one.
 abbrev pub HasBadNumber : (List ℕ → Type 0) → List ℕ → ℕ → Type 0
 HasBadNumber IsList text place = (digits rest : List ℕ) × (drop place text ≡ digits ++ rest) × AreDigits digits rest
-    × (((greatest < value_of digits) × ¬ BeginsList IsList (take (place + length digits) text))
+    × (((greatest < decimal_number digits) × ¬ BeginsList IsList (take (place + length digits) text))
     ⊎ (IsLess (take place text) digits × ((rest ≡ []) ⊎ ¬ BeginsList IsList (take (place + (length digits + 1)) text))))
 
 -- The text is no list, the bytes before the place begin one, and with the byte at the place they begin none. Two places

@@ -11,7 +11,7 @@ use Rattle.rec_sex.specs.declared.syntax.token.Token.TheVariants.{Integer, Liter
 -- what comes next: an operand; a binary operator or an end; the same without those that bind more strongly than a
 -- comparison; a pattern
 pub use Rattle.rec_sex.specs.declared.syntax.walk.Want.{Want}
-pub use Rattle.rec_sex.specs.declared.syntax.walk.Want.TheVariants.{Operand, Operator as Operator_, Comparison, Pattern}
+pub use Rattle.rec_sex.specs.declared.syntax.walk.Want.TheVariants.{Operand, Operator as Infix, Comparison, Pattern}
 -- what is open: a parenthesis, or a `?` without its `:`
 pub use Rattle.rec_sex.specs.declared.syntax.walk.Opened.{Opened}
 pub use Rattle.rec_sex.specs.declared.syntax.walk.Opened.TheVariants.{Parenthesis, Question}
@@ -57,8 +57,8 @@ IsPatternOf text pattern = (r : Regex) × (regex_source r ≡ text) × (regex_co
 -- These tokens are an expression of this level: 0 with a choice, 1 to 7 by the operators, 8 with a sign, 9 an operand.
 pub data Derives : ℕ → List Token → Term → Type 0 where
   -- expr = imp [ "?" expr ":" expr ]
-  by_choice : (tokens condition yes_ no_ : List Token) (c a b : Term) → tokens ≡ condition ++ Then ∷ (yes_ ++ Else ∷ no_)
-      → Derives 1 condition c → Derives 0 yes_ a → Derives 0 no_ b → Derives 0 tokens (choice c a b)
+  by_choice : (tokens condition yes_part no_part : List Token) (c a b : Term) → tokens ≡ condition ++ Then ∷ (yes_part ++ Else ∷ no_part)
+      → Derives 1 condition c → Derives 0 yes_part a → Derives 0 no_part b → Derives 0 tokens (choice c a b)
   -- imp = or [ "=>" imp ]
   by_implication : (tokens left right : List Token) (a b : Term) → tokens ≡ left ++ Binary Implies ∷ right
       → Derives 2 left a → Derives 1 right b → Derives 1 tokens (binary Implies a b)
@@ -92,50 +92,50 @@ abbrev pub walk_start : Walk
 walk_start = record { want = Operand; stack = [] }
 
 -- a token where an operand is wanted
-abbrev pub behind_operand_wanted : List Opened → Token → Option Walk
-behind_operand_wanted stack Not = Some (record { want = Operand; stack = stack })
-behind_operand_wanted stack (Binary op) = elim op [
+abbrev pub after_operand_wanted : List Opened → Token → Option Walk
+after_operand_wanted stack Not = Some (record { want = Operand; stack = stack })
+after_operand_wanted stack (Binary op) = elim op [
   | Subtract ↦ Some (record { want = Operand; stack = stack })
   | _ ↦ None
 ]
-behind_operand_wanted stack Open = Some (record { want = Operand; stack = Parenthesis ∷ stack })
-behind_operand_wanted stack (Integer n) = Some (record { want = Operator_; stack = stack })
-behind_operand_wanted stack (Literal text) = Some (record { want = Operator_; stack = stack })
-behind_operand_wanted stack (Name name) = Some (record { want = Operator_; stack = stack })
-behind_operand_wanted stack (Occurrence name i) = Some (record { want = Operator_; stack = stack })
-behind_operand_wanted stack (Count name) = Some (record { want = Operator_; stack = stack })
-behind_operand_wanted stack _ = None
+after_operand_wanted stack Open = Some (record { want = Operand; stack = Parenthesis ∷ stack })
+after_operand_wanted stack (Integer n) = Some (record { want = Infix; stack = stack })
+after_operand_wanted stack (Literal text) = Some (record { want = Infix; stack = stack })
+after_operand_wanted stack (Name name) = Some (record { want = Infix; stack = stack })
+after_operand_wanted stack (Occurrence name i) = Some (record { want = Infix; stack = stack })
+after_operand_wanted stack (Count name) = Some (record { want = Infix; stack = stack })
+after_operand_wanted stack _ = None
 
 -- a closing parenthesis and a `:` take their openings off the top
-abbrev pub behind_close : List Opened → Option Walk
-behind_close (Parenthesis ∷ stack) = Some (record { want = Operator_; stack = stack })
-behind_close _ = None
+abbrev pub after_close : List Opened → Option Walk
+after_close (Parenthesis ∷ stack) = Some (record { want = Infix; stack = stack })
+after_close _ = None
 
-abbrev pub behind_else : List Opened → Option Walk
-behind_else (Question ∷ stack) = Some (record { want = Operand; stack = stack })
-behind_else _ = None
+abbrev pub after_else : List Opened → Option Walk
+after_else (Question ∷ stack) = Some (record { want = Operand; stack = stack })
+after_else _ = None
 
--- a token behind an operand; after a pattern no operator that binds more strongly than a comparison
-abbrev pub behind_operand : Bool → List Opened → Token → Option Walk
-behind_operand any stack (Binary op) = if nat_le (level_of op) (if any then 7 else 4) then Some (record { want = Operand; stack = stack }) else None
-behind_operand any stack Then = Some (record { want = Operand; stack = Question ∷ stack })
-behind_operand any stack Else = behind_else stack
-behind_operand any stack Close = behind_close stack
-behind_operand any stack Found = Some (record { want = Pattern; stack = stack })
-behind_operand any stack _ = None
+-- a token after an operand; after a pattern no operator that binds more strongly than a comparison
+abbrev pub after_operand : Bool → List Opened → Token → Option Walk
+after_operand any stack (Binary op) = if nat_le (level_of op) (if any then 7 else 4) then Some (record { want = Operand; stack = stack }) else None
+after_operand any stack Then = Some (record { want = Operand; stack = Question ∷ stack })
+after_operand any stack Else = after_else stack
+after_operand any stack Close = after_close stack
+after_operand any stack Found = Some (record { want = Pattern; stack = stack })
+after_operand any stack _ = None
 
--- the pattern behind a `~` is a text that is UTF-8
-abbrev pub behind_found : List Opened → Token → Option Walk
-behind_found stack (Literal text) = if is_utf8 text then Some (record { want = Comparison; stack = stack }) else None
-behind_found stack _ = None
+-- the pattern after a `~` is a text that is UTF-8
+abbrev pub after_found : List Opened → Token → Option Walk
+after_found stack (Literal text) = if is_utf8 text then Some (record { want = Comparison; stack = stack }) else None
+after_found stack _ = None
 
--- the walk behind a token, if it isn't a fault
-abbrev pub behind : Walk → Token → Option Walk
-behind walk token = elim walk.want [
-  | Operand ↦ behind_operand_wanted walk.stack token
-  | Operator_ ↦ behind_operand true walk.stack token
-  | Comparison ↦ behind_operand false walk.stack token
-  | Pattern ↦ behind_found walk.stack token
+-- the walk after a token, if it isn't a fault
+abbrev pub following : Walk → Token → Option Walk
+following walk token = elim walk.want [
+  | Operand ↦ after_operand_wanted walk.stack token
+  | Infix ↦ after_operand true walk.stack token
+  | Comparison ↦ after_operand false walk.stack token
+  | Pattern ↦ after_found walk.stack token
 ]
 
 abbrev pub is_nothing : List Opened → Bool
@@ -146,21 +146,21 @@ is_nothing (opened ∷ stack) = false
 abbrev pub may_end : Walk → Bool
 may_end walk = elim walk.want [
   | Operand ↦ false
-  | Operator_ ↦ is_nothing walk.stack
+  | Infix ↦ is_nothing walk.stack
   | Comparison ↦ is_nothing walk.stack
   | Pattern ↦ false
 ]
 
 -- how far inside a broken token the fault lies: only where an operand is wanted
 abbrev pub fault_inside : Walk → ℕ → ℕ
-fault_inside walk at = elim walk.want [ Operand ↦ at | Operator_ ↦ 0 | Comparison ↦ 0 | Pattern ↦ 0 ]
+fault_inside walk at = elim walk.want [ Operand ↦ at | Infix ↦ 0 | Comparison ↦ 0 | Pattern ↦ 0 ]
 
--- the place of the leftmost fault; so many more tokens may come, and the text has this length
+-- the place of the leftmost fault; n more tokens may come, and the text has this length
 abbrev pub fault_from : ℕ → ℕ → Walk → List Placed → Option ℕ
 fault_from end more walk [] = if may_end walk then None else Some end
 fault_from end zero walk (placed ∷ rest) = Some placed.place
 fault_from end (suc more) walk (placed ∷ rest) = elim placed.lexeme [
-  | Whole token len ↦ elim (behind walk token) [ None ↦ Some placed.place | Some next ↦ fault_from end more next rest ]
+  | Whole token len ↦ elim (following walk token) [ None ↦ Some placed.place | Some next ↦ fault_from end more next rest ]
   | Broken at ↦ Some (placed.place + fault_inside walk at)
 ]
 
@@ -175,10 +175,10 @@ AreTokens (placed ∷ rest) (token ∷ tokens) = ((len : ℕ) × (placed.lexeme 
 AreTokens [] (token ∷ tokens) = ⊥
 AreTokens (placed ∷ rest) [] = ⊥
 
--- the walk behind these tokens, if none is a fault
+-- the walk after these tokens, if none is a fault
 abbrev pub walked : Walk → List Token → Option Walk
 walked walk [] = Some walk
-walked walk (token ∷ tokens) = elim (behind walk token) [ None ↦ None | Some next ↦ walked next tokens ]
+walked walk (token ∷ tokens) = elim (following walk token) [ None ↦ None | Some next ↦ walked next tokens ]
 
 -- the walk takes the tokens
 pub record AreTaken (tokens : List Token) : Type 0 where
@@ -187,9 +187,9 @@ pub record AreTaken (tokens : List Token) : Type 0 where
   pub ends : may_end last ≡ true
   pub few : length tokens ≤ 1000
 
--- each text behind a `~` builds a pattern
+-- each text after a `~` builds a pattern
 abbrev pub HaveGoodPatterns : List Token → Type 0
-HaveGoodPatterns tokens = (front rest : List Token) (text : List ℕ) → tokens ≡ front ++ Found ∷ (Literal text ∷ rest) → (pattern : Re) × IsPatternOf text pattern
+HaveGoodPatterns tokens = (prefix rest : List Token) (text : List ℕ) → tokens ≡ prefix ++ Found ∷ (Literal text ∷ rest) → (pattern : Re) × IsPatternOf text pattern
 
 -- The walk, which only looks for a fault, takes exactly the tokens that the grammar derives.
 pub record WalkIsGrammar : Type 0 where

@@ -4,17 +4,13 @@ use Rattle.std.specs.Char.{is_ascii_digit}
 use Rattle.std.specs.List.{list_all, list_any}
 use Rattle.rec_text.specs.declared.fault.Fault.{Fault}
 use Rattle.rec_text.specs.declared.fault.Fault.TheVariants.{BadIndexList}
+pub use Rattle.rec_text.specs.Bytes.{begins}
 use Rattle.rec_sex.specs.declared.lists.index_list.Span.{Span}
 use Rattle.rec_sex.specs.Joined.{AreJoined, HasFaultyItem, ends_item}
 
 -- the number that decimal digits write, leading zeros included
-abbrev pub value_of : List ℕ → ℕ
-value_of digits = fold (λ n digit. n * 10 + (digit - 48)) 0 digits
-
--- a byte that passes comes first
-abbrev pub begins : (ℕ → Bool) → List ℕ → Bool
-begins passes [] = false
-begins passes (b ∷ bs) = passes b
+abbrev pub decimal_number : List ℕ → ℕ
+decimal_number digits = fold (λ n digit. n * 10 + (digit - 48)) 0 digits
 
 -- a digit comes first
 abbrev pub begins_digit : List ℕ → Bool
@@ -36,9 +32,9 @@ begins_with c text = begins (λ b. b == c) text
 
 -- an index, in all the digits that stand there
 abbrev pub IsIndex : List ℕ → ℕ → List ℕ → Type 0
-IsIndex digits index rest = AreDigits digits rest × (value_of digits ≡ index) × (index ≤ greatest)
+IsIndex digits index rest = AreDigits digits rest × (decimal_number digits ≡ index) × (index ≤ greatest)
 
--- a span, as far as it goes on: one index with no hyphen behind it, or a pair `i-j` with i at most j
+-- a span, as far as it goes on: one index with no hyphen after it, or a pair `i-j` with i at most j
 abbrev pub IsSpan : List ℕ → Span → List ℕ → Type 0
 IsSpan text span rest =
     (IsIndex text span.first rest × (span.last ≡ span.first) × (begins_with 45 rest ≡ false))
@@ -48,9 +44,9 @@ IsSpan text span rest =
 abbrev pub LacksIndex : ℕ → List ℕ → Type 0
 LacksIndex least text =
     (begins_digit text ≡ false)
-    ⊎ ((digits rest : List ℕ) × (text ≡ digits ++ rest) × AreDigits digits rest × ((value_of digits < least) ⊎ (greatest < value_of digits)))
+    ⊎ ((digits rest : List ℕ) × (text ≡ digits ++ rest) × AreDigits digits rest × ((decimal_number digits < least) ⊎ (greatest < decimal_number digits)))
 
--- a span lacks an index at this place: its first, or behind that and the hyphen one that is at least the first
+-- a span lacks an index at this place: its first, or after that and the hyphen one that is at least the first
 abbrev pub IsSpanFault : List ℕ → ℕ → Type 0
 IsSpanFault text place =
     (LacksIndex 0 text × (place ≡ 0))
@@ -69,7 +65,7 @@ AreItems text spans = AreJoined IsItem text spans
 abbrev pub IsItemFault : List ℕ → ℕ → Type 0
 IsItemFault text place =
     IsSpanFault text place
-    ⊎ ((front rest : List ℕ) × (span : Span) × (text ≡ front ++ rest) × IsSpan front span rest × (ends_item rest ≡ false) × (place ≡ length front))
+    ⊎ ((prefix rest : List ℕ) × (span : Span) × (text ≡ prefix ++ rest) × IsSpan prefix span rest × (ends_item rest ≡ false) × (place ≡ length prefix))
 
 -- an item of the list has a fault at this place, and those before it have none
 abbrev pub HasFault : List ℕ → ℕ → Type 0

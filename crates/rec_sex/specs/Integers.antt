@@ -1,4 +1,4 @@
--- The integers of values and expressions: 64 bits, decimal, octal behind a leading zero, hexadecimal behind 0x.
+-- The integers of values and expressions: 64 bits, decimal, octal after a leading zero, hexadecimal after 0x.
 use Rattle.std.specs.Prelude.{ℕ, zero, suc, ℤ, pos, negsuc, ◌+◌, ◌-◌, ◌*◌, ◌^◌, ◌==◌, ◌||◌, ◌&&◌, nat_le, nat_lt, List, [], ◌∷◌, Option, Some, None, if◌then◌else◌}
 use Rattle.std.specs.Option.{option_and_then}
 use Rattle.rec_text.specs.Bytes.{is_blank, is_nil}
@@ -8,27 +8,27 @@ use Rattle.rec_text.specs.Spaces.{without_ends}
 abbrev pub trimmed : List ℕ → List ℕ
 trimmed text = without_ends is_blank text
 
--- the value of a digit, of up to 16 digits
+-- the value of a hexadecimal digit
 abbrev pub digit_of : ℕ → Option ℕ
 digit_of b = if nat_le 48 b && nat_le b 57 then Some (b - 48)
     else if nat_le 97 b && nat_le b 102 then Some (b - 87)
     else if nat_le 65 b && nat_le b 70 then Some (b - 55)
     else None
 
--- the number that digits of this base write, behind the number so far
+-- the number that digits of this base write, after the number so far
 abbrev pub number_from : ℕ → ℕ → List ℕ → Option ℕ
 number_from base n [] = Some n
 number_from base n (b ∷ bs) = option_and_then (λ digit. if nat_lt digit base then number_from base (n * base + digit) bs else None) (digit_of b)
 
--- behind a zero: hexadecimal digits behind an x, at least one, or octal digits, possibly none
-abbrev pub behind_zero : List ℕ → Option ℕ
-behind_zero [] = Some 0
-behind_zero (b ∷ bs) = if b == 120 || b == 88 then (if is_nil bs then None else number_from 16 0 bs) else number_from 8 0 (b ∷ bs)
+-- after a zero: hexadecimal digits after an x, at least one, or octal digits, possibly none
+abbrev pub after_zero : List ℕ → Option ℕ
+after_zero [] = Some 0
+after_zero (b ∷ bs) = if b == 120 || b == 88 then (if is_nil bs then None else number_from 16 0 bs) else number_from 8 0 (b ∷ bs)
 
 -- a number without a sign
 abbrev pub magnitude_of : List ℕ → Option ℕ
 magnitude_of [] = None
-magnitude_of (b ∷ bs) = if b == 48 then behind_zero bs else number_from 10 0 (b ∷ bs)
+magnitude_of (b ∷ bs) = if b == 48 then after_zero bs else number_from 10 0 (b ∷ bs)
 
 abbrev pub negative : ℕ → ℤ
 negative zero = pos 0

@@ -7,23 +7,23 @@ use Rattle.rec_sex.specs.declared.lists.joined.Unread.TheVariants.{FaultAt, OutO
 abbrev pub AreJoined : {I : Type 0} → (List ℕ → I → Type 0) → List ℕ → List I → Type 0
 AreJoined IsItem text [] = ⊥
 AreJoined IsItem text (item ∷ []) = IsItem text item
-AreJoined IsItem text (item ∷ next ∷ items) = (front rest : List ℕ) × (text ≡ front ++ 44 ∷ rest) × IsItem front item × AreJoined IsItem rest (next ∷ items)
+AreJoined IsItem text (item ∷ next ∷ items) = (prefix rest : List ℕ) × (text ≡ prefix ++ 44 ∷ rest) × IsItem prefix item × AreJoined IsItem rest (next ∷ items)
 
 -- whole items, each with its comma
 abbrev pub AreWithCommas : {I : Type 0} → (List ℕ → I → Type 0) → List ℕ → List I → Type 0
 AreWithCommas IsItem text [] = text ≡ []
-AreWithCommas IsItem text (item ∷ items) = (front rest : List ℕ) × (text ≡ front ++ 44 ∷ rest) × IsItem front item × AreWithCommas IsItem rest items
+AreWithCommas IsItem text (item ∷ items) = (prefix rest : List ℕ) × (text ≡ prefix ++ 44 ∷ rest) × IsItem prefix item × AreWithCommas IsItem rest items
 
 -- nothing more, or a comma
 abbrev pub ends_item : List ℕ → Bool
 ends_item [] = true
 ends_item (b ∷ bs) = b == 44
 
--- a whole item comes first, and what stands behind it ends it
+-- a whole item comes first, and what follows it ends it
 abbrev pub BeginsWhole : {I : Type 0} → (List ℕ → I → Type 0) → List ℕ → I → List ℕ → Type 0
-BeginsWhole IsItem text item rest = (front : List ℕ) × (text ≡ front ++ rest) × IsItem front item × (ends_item rest ≡ true)
+BeginsWhole IsItem text item rest = (prefix : List ℕ) × (text ≡ prefix ++ rest) × IsItem prefix item × (ends_item rest ≡ true)
 
--- behind whole items, each with its comma, stands one with a fault
+-- after whole items, each with its comma, stands one with a fault
 pub record HasFaultyItem {I : Type 0} (IsItem : List ℕ → I → Type 0) (IsFault : List ℕ → ℕ → Type 0) (text : List ℕ) (place : ℕ) : Type 0 where
   pub before : List ℕ
   pub items : List I
@@ -32,7 +32,7 @@ pub record HasFaultyItem {I : Type 0} (IsItem : List ℕ → I → Type 0) (IsFa
   pub parts : text ≡ before ++ rest
   pub whole : AreWithCommas IsItem before items
   pub bad : IsFault rest at
-  pub behind : place ≡ length before + at
+  pub following : place ≡ length before + at
 
 -- where nothing was read, there is a fault at the place that is told; or memory ran out
 abbrev pub IsUnread : (ℕ → Type 0) → Unread → Type 0

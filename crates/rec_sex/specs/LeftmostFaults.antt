@@ -10,19 +10,19 @@ use Rattle.rec_sex.specs.Grammar.{Term, Derives, AreTokens, HaveGoodPatterns, Is
 abbrev pub AreExpression : List Token → Type 0
 AreExpression tokens = (term : Term) × Derives 0 tokens term
 
--- some tokens behind these make them an expression
+-- some tokens after these make them an expression
 abbrev pub BeginExpression : List Token → Type 0
 BeginExpression tokens = (more : List Token) × AreExpression (tokens ++ more)
 
 -- a `~` stands last
 abbrev pub EndInFound : List Token → Type 0
-EndInFound tokens = (front : List Token) × (tokens ≡ front ++ Found ∷ [])
+EndInFound tokens = (prefix : List Token) × (tokens ≡ prefix ++ Found ∷ [])
 
 -- some text builds a pattern
 abbrev pub ThereIsAPattern : Type 0
 ThereIsAPattern = (text : List ℕ) × (pattern : Re) × IsPatternOf text pattern
 
--- Behind these tokens, of which there may be 1,000, stands what no expression goes on with. The fault is there; only that of
+-- These are at most 1,000 tokens, and no expression goes on with what follows them. The fault is there; only that of
 -- a broken token may lie inside it, and does where a name may stand.
 abbrev pub IsRefusedAt : ℕ → List Token → Lexeme → ℕ → Type 0
 IsRefusedAt here tokens (Whole token len) place = (place ≡ here) × ((length tokens ≡ 1000) ⊎ (BeginExpression (tokens ++ token ∷ []) → ⊥))
@@ -32,14 +32,14 @@ IsRefusedAt here tokens (Broken inside) place =
     × ((name : List ℕ) → BeginExpression (tokens ++ Name name ∷ []) → place ≡ here + inside)
     × (HaveGoodPatterns tokens → ((name : List ℕ) → BeginExpression (tokens ++ Name name ∷ []) → ⊥) → place ≡ here))
 
--- Or the text, which has this length, ends behind them too early.
+-- Or the text, which has this length, ends after them too early.
 abbrev pub IsStoppedBy : ℕ → List Token → List Placed → ℕ → Type 0
 IsStoppedBy end tokens [] place = (place ≡ end) × (AreExpression tokens → ⊥)
 IsStoppedBy end tokens (placed ∷ rest) place = IsRefusedAt placed.place tokens placed.lexeme place
 
 -- What stands before the fault's place begins an expression, and with what stands there it doesn't. Whether a text is one
 -- that `regex` builds a pattern of is no matter of the fault's place, so what comes before is to have good patterns; and
--- behind a `~` there is to be some text that builds one.
+-- after a `~` there is to be some text that builds one.
 pub record IsLeftmostFault (text : List ℕ) (place : ℕ) : Type 0 where
   pub before : List Placed
   pub rest : List Placed

@@ -34,17 +34,17 @@ IsItem text item = (subscript : List ℕ) × (text ≡ item.name ++ subscript) �
 abbrev pub AreItems : List ℕ → List Item → Type 0
 AreItems text items = AreJoined IsItem text items
 
--- behind the span of a subscript the closing bracket is missing, or something else than the end or a comma follows it
+-- after the span of a subscript the closing bracket is missing, or something else than the end or a comma follows it
 abbrev pub IsClosingFault : List ℕ → ℕ → Type 0
 IsClosingFault text place =
     ((begins_with 93 text ≡ false) × (place ≡ 0))
     ⊎ ((rest : List ℕ) × (text ≡ 93 ∷ rest) × (ends_item rest ≡ false) × (place ≡ 1))
 
--- a subscript has a fault at this place, counted behind its opening bracket
+-- a subscript has a fault at this place, counted after its opening bracket
 abbrev pub IsSubscriptFault : List ℕ → ℕ → Type 0
 IsSubscriptFault text place =
     IsSpanFault text place
-    ⊎ ((front rest : List ℕ) × (span : Span) × (at : ℕ) × (text ≡ front ++ rest) × IsSpan front span rest × IsClosingFault rest at × (place ≡ length front + at))
+    ⊎ ((prefix rest : List ℕ) × (span : Span) × (at : ℕ) × (text ≡ prefix ++ rest) × IsSpan prefix span rest × IsClosingFault rest at × (place ≡ length prefix + at))
 
 -- An item has a fault at this place: the first byte that can't go on, or its end where it ends too early; or the first
 -- digit of a number that is too large or, in a pair, less than the one before it.

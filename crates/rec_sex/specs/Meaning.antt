@@ -35,14 +35,15 @@ abbrev pub reading_of : Meaning → Option ℤ
 reading_of (integer z) = Some z
 reading_of (text bytes) = int_of bytes
 
-abbrev pub text_of : Meaning → List ℕ
-text_of (integer z) = signed_decimal z
-text_of (text bytes) = bytes
+abbrev pub as_text : Meaning → List ℕ
+as_text (integer z) = signed_decimal z
+as_text (text bytes) = bytes
 
--- an integer of 64 bits, or undefined
+-- the integer has at most 64 bits
 abbrev pub fits : ℤ → Bool
 fits z = not (int_lt z (negsuc (2 ^ 63 - 1))) && int_lt z (pos (2 ^ 63))
 
+-- an integer of 64 bits, or undefined
 abbrev pub in_range : ℤ → Option Meaning
 in_range z = if fits z then Some (integer z) else None
 
@@ -78,7 +79,7 @@ apply_operator Less a b = on_readings (λ x y. Some (truth (int_lt x y))) a b
 apply_operator Greater a b = on_readings (λ x y. Some (truth (int_lt y x))) a b
 apply_operator LessOrEqual a b = on_readings (λ x y. Some (truth (not (int_lt y x)))) a b
 apply_operator GreaterOrEqual a b = on_readings (λ x y. Some (truth (not (int_lt x y)))) a b
-apply_operator Join a b = Some (text (text_of a ++ text_of b))
+apply_operator Join a b = Some (text (as_text a ++ as_text b))
 apply_operator Add a b = on_readings (λ x y. in_range (x +ℤ y)) a b
 apply_operator Subtract a b = on_readings (λ x y. in_range (x -ℤ y)) a b
 apply_operator Multiply a b = on_readings (λ x y. in_range (x *ℤ y)) a b
@@ -104,12 +105,12 @@ is_found pattern bytes = is_utf8 bytes && is_some (find_str pattern bytes 0)
 
 -- ---- expressions
 
--- a choice gives each name one of its occurrences
-abbrev pub Choice_ : Type 0
-Choice_ = List ℕ → ℕ
+-- a number for each name: that of the occurrence which stands for the name
+abbrev pub Assignment : Type 0
+Assignment = List ℕ → ℕ
 
 -- what an expression means for a record, under a choice
-abbrev pub sem : Term → List Piece → Choice_ → Option Meaning
+abbrev pub sem : Term → List Piece → Assignment → Option Meaning
 sem (number z) pieces c = Some (integer z)
 sem (literal bytes) pieces c = Some (text bytes)
 sem (field name) pieces c = Some (text (value_at pieces name (c name)))
@@ -118,11 +119,11 @@ sem (count name) pieces c = Some (integer (pos (length (values_of name pieces)))
 sem (inverse a) pieces c = inverted (sem a pieces c)
 sem (negated a) pieces c = negation_of (sem a pieces c)
 sem (binary op a b) pieces c = applied op (sem a pieces c) (sem b pieces c)
-sem (found a pattern) pieces c = option_map (λ x. truth (is_found pattern (text_of x))) (sem a pieces c)
+sem (found a pattern) pieces c = option_map (λ x. truth (is_found pattern (as_text x))) (sem a pieces c)
 sem (choice condition a b) pieces c = option_and_then (λ x. option_and_then (λ z. if is_zero z then sem b pieces c else sem a pieces c) (reading_of x)) (sem condition pieces c)
 
 -- the occurrence chosen for each name is one that the record has
-abbrev pub IsChoice : List Piece → Choice_ → Type 0
+abbrev pub IsChoice : List Piece → Assignment → Type 0
 IsChoice pieces c = (name : List ℕ) → (c name < length (values_of name pieces)) ⊎ ((values_of name pieces ≡ []) × (c name ≡ 0))
 
 -- the reading is defined and not 0
@@ -132,6 +133,6 @@ is_true (Some x) = option_map_or (λ z. not (is_zero z)) (reading_of x) false
 
 -- some choice makes the expression true
 pub record Selects (term : Term) (pieces : List Piece) : Type 0 where
-  pub chosen : Choice_
+  pub chosen : Assignment
   pub is_choice : IsChoice pieces chosen
   pub holds : is_true (sem term pieces chosen) ≡ true

@@ -1,19 +1,15 @@
 -- How tokens are written, and a text as blanks and the longest tokens in turn.
 use Rattle.std.specs.Prelude.{◌≡◌, ◌≢◌, ◌⊎◌, ℕ, pos, ◌+◌, ◌^◌, ◌<◌, ◌≤◌, ◌==◌, ◌||◌, ◌&&◌, Bool, true, false, List, [], ◌∷◌, ◌++◌, length, Option, Some, None}
 use Rattle.std.specs.List.{list_all}
-use Rattle.rec_text.specs.Bytes.{is_space, is_letter, continues_name}
+use Rattle.rec_text.specs.Bytes.{is_space, continues_name}
+use Rattle.rec_text.specs.Canonical.{is_plain_name}
 use Rattle.rec_sex.specs.declared.syntax.token.Token.{Token}
 use Rattle.rec_sex.specs.declared.syntax.token.Token.TheVariants.{Integer, Literal, Name, Occurrence, Count}
-use Rattle.rec_sex.specs.IndexList.{AreDigits, begins_digit, value_of, greatest}
+use Rattle.rec_sex.specs.IndexList.{AreDigits, begins_digit, decimal_number, greatest}
 use Rattle.rec_sex.specs.Integers.{magnitude_of}
 use Rattle.rec_sex.specs.Tokens.{Whole, Broken, Placed, token_of_one, token_of_two, lexemes}
 
 -- ---- one token
-
--- a letter, and letters, digits and _ behind it
-abbrev pub is_word : List ℕ → Bool
-is_word [] = false
-is_word (b ∷ bs) = is_letter b && list_all continues_name bs
 
 -- `'` or `"`
 abbrev pub is_quote : ℕ → Bool
@@ -25,8 +21,8 @@ begins_escape [] = false
 begins_escape (b ∷ []) = false
 begins_escape (b ∷ c ∷ bs) = b == 92 && is_quote c
 
--- These bytes write the text, behind its opening quote and with the closing one: each byte itself, where it isn't that
--- quote or a backslash before a quote, and each quote also behind a backslash.
+-- These bytes write the text, after its opening quote and with the closing one: each byte itself, where it isn't that
+-- quote or a backslash before a quote, and each quote also after a backslash.
 abbrev pub Closes : ℕ → List ℕ → List ℕ → Type 0
 Closes quote bytes [] = bytes ≡ quote ∷ []
 Closes quote bytes (c ∷ text) = (rest : List ℕ) × Closes quote rest text
@@ -42,15 +38,14 @@ operator_of (b ∷ c ∷ d ∷ bs) = None
 -- these bytes, and no others, write the token
 pub data Spells : List ℕ → Token → Type 0 where
   by_integer : (bytes : List ℕ) (n : ℕ) → magnitude_of bytes ≡ Some n → n < 2 ^ 63 → Spells bytes (Integer (pos n))
-  by_literal : (bytes behind text : List ℕ) (quote : ℕ) → bytes ≡ quote ∷ behind → is_quote quote ≡ true → Closes quote behind text → Spells bytes (Literal text)
-  by_name : (name : List ℕ) → is_word name ≡ true → Spells name (Name name)
-  by_occurrence : (bytes name digits : List ℕ) → bytes ≡ name ++ 91 ∷ (digits ++ 93 ∷ []) → is_word name ≡ true → AreDigits digits [] → value_of digits ≤ greatest
-      → Spells bytes (Occurrence name (value_of digits))
-  by_count : (bytes name : List ℕ) → bytes ≡ 35 ∷ name → is_word name ≡ true → Spells bytes (Count name)
+  by_literal : (bytes following text : List ℕ) (quote : ℕ) → bytes ≡ quote ∷ following → is_quote quote ≡ true → Closes quote following text → Spells bytes (Literal text)
+  by_name : (name : List ℕ) → is_plain_name name ≡ true → Spells name (Name name)
+  by_occurrence : (bytes name digits : List ℕ) → bytes ≡ name ++ 91 ∷ (digits ++ 93 ∷ []) → is_plain_name name ≡ true → AreDigits digits [] → decimal_number digits ≤ greatest
+      → Spells bytes (Occurrence name (decimal_number digits))
+  by_count : (bytes name : List ℕ) → bytes ≡ 35 ∷ name → is_plain_name name ≡ true → Spells bytes (Count name)
   by_operator : (bytes : List ℕ) (token : Token) → operator_of bytes ≡ Some token → Spells bytes token
 
--- A number and a name go on with letters, digits and _, and a name with a bracket: such a byte directly behind is written
--- together with them.
+-- A number, a name or a count isn't complete while a letter, a digit or _ follows directly; nor is a name while `[` does.
 abbrev pub is_continued : Token → List ℕ → Bool
 is_continued token [] = false
 is_continued (Integer n) (b ∷ bs) = continues_name b
@@ -58,34 +53,34 @@ is_continued (Name name) (b ∷ bs) = continues_name b || b == 91
 is_continued (Count name) (b ∷ bs) = continues_name b
 is_continued token (b ∷ bs) = false
 
--- These bytes are a token, which doesn't go on behind them, and no more of the text from their beginning on is one.
+-- These bytes are a token, which doesn't go on after them, and no more of the text from their beginning on is one.
 pub record IsLongest (bytes rest : List ℕ) (token : Token) : Type 0 where
   pub spells : Spells bytes token
   pub ended : is_continued token rest ≡ false
-  pub longest : (other : Token) (front behind : List ℕ) → bytes ++ rest ≡ front ++ behind → Spells front other → length front ≤ length bytes
+  pub longest : (other : Token) (prefix following : List ℕ) → bytes ++ rest ≡ prefix ++ following → Spells prefix other → length prefix ≤ length bytes
 
 -- ---- the whole text
 
--- Where a subscript can't go on, behind its opening bracket: at the first byte, where that is no digit, and also where the
--- number is too large; else behind the digits.
+-- Where a subscript can't go on, after its opening bracket: at the first byte, where that is no digit, and also where the
+-- number is too large; else after the digits.
 abbrev pub IsSubscriptFault : List ℕ → ℕ → Type 0
 IsSubscriptFault text at =
     ((begins_digit text ≡ false) × (at ≡ 0))
     ⊎ ((digits rest : List ℕ) × (text ≡ digits ++ rest) × AreDigits digits rest
-    × (((greatest < value_of digits) × (at ≡ 0)) ⊎ ((value_of digits ≤ greatest) × (at ≡ length digits))))
+    × (((greatest < decimal_number digits) × (at ≡ 0)) ⊎ ((decimal_number digits ≤ greatest) × (at ≡ length digits))))
 
--- How far behind the first byte the fault of something that is no token lies: in a subscript, where that can't go on; of
+-- How far after the first byte the fault of something that is no token lies: in a subscript, where that can't go on; of
 -- all else it is the first byte.
 abbrev pub IsFaultInside : List ℕ → ℕ → Type 0
 IsFaultInside text at =
-    ((name rest : List ℕ) × (inside : ℕ) × (text ≡ name ++ 91 ∷ rest) × (is_word name ≡ true) × IsSubscriptFault rest inside × (at ≡ length name + 1 + inside))
-    ⊎ (((name rest : List ℕ) → text ≡ name ++ 91 ∷ rest → is_word name ≡ true → ⊥) × (at ≡ 0))
+    ((name rest : List ℕ) × (inside : ℕ) × (text ≡ name ++ 91 ∷ rest) × (is_plain_name name ≡ true) × IsSubscriptFault rest inside × (at ≡ length name + 1 + inside))
+    ⊎ (((name rest : List ℕ) → text ≡ name ++ 91 ∷ rest → is_plain_name name ≡ true → ⊥) × (at ≡ 0))
 
 -- something that is no blank stands here, and no token; its fault lies so far inside
 pub record IsNoToken (text : List ℕ) (at : ℕ) : Type 0 where
   pub first : ℕ
-  pub behind : List ℕ
-  pub parts : text ≡ first ∷ behind
+  pub following : List ℕ
+  pub parts : text ≡ first ∷ following
   pub no_blank : is_space first ≡ false
   pub none : (bytes rest : List ℕ) (token : Token) → text ≡ bytes ++ rest → IsLongest bytes rest token → ⊥
   pub fault : IsFaultInside text at
@@ -94,10 +89,10 @@ pub record IsNoToken (text : List ℕ) (at : ℕ) : Type 0 where
 -- stands at. Each token is the longest there, and all have their places.
 abbrev pub AreLexemes : ℕ → List ℕ → List Placed → Type 0
 AreLexemes place text [] = list_all is_space text ≡ true
-AreLexemes place text (placed ∷ places) = (blanks behind : List ℕ) × (text ≡ blanks ++ behind) × (list_all is_space blanks ≡ true) × (placed.place ≡ place + length blanks)
+AreLexemes place text (placed ∷ places) = (blanks following : List ℕ) × (text ≡ blanks ++ following) × (list_all is_space blanks ≡ true) × (placed.place ≡ place + length blanks)
     × (elim placed.lexeme [
-      | Whole token len ↦ (bytes rest : List ℕ) × (behind ≡ bytes ++ rest) × (len ≡ length bytes) × IsLongest bytes rest token × AreLexemes (placed.place + len) rest places
-      | Broken at ↦ IsNoToken behind at
+      | Whole token len ↦ (bytes rest : List ℕ) × (following ≡ bytes ++ rest) × (len ≡ length bytes) × IsLongest bytes rest token × AreLexemes (placed.place + len) rest places
+      | Broken at ↦ IsNoToken following at
     ])
 
 -- the same tokens at the same places, up to and with the first place that no token stands at
@@ -110,7 +105,7 @@ AreSameTokens (placed ∷ places) (other ∷ others) = (placed.place ≡ other.p
 AreSameTokens [] (other ∷ others) = ⊥
 AreSameTokens (placed ∷ places) [] = ⊥
 
--- The tokens of a text are those that stand in it one behind another with blanks between them, each the longest; there is
+-- The tokens of a text are those that stand in it one after another with blanks between them, each the longest; there is
 -- one way to read a text so.
 pub record TokensAreLongest : Type 0 where
   pub are : (text : List ℕ) → AreLexemes 0 text (lexemes text)

@@ -1,4 +1,4 @@
--- The tokens of an expression, and the place of its leftmost fault.
+-- The tokens of an expression, as they are found from its start on.
 use Rattle.std.specs.Prelude.{ℕ, pos, zero, suc, ◌+◌, ◌-◌, ◌^◌, ◌==◌, ◌||◌, ◌&&◌, nat_lt, List, [], ◌∷◌, length, drop, codes, Option, Some, None, if◌then◌else◌, take_while}
 use Rattle.std.specs.Char.{is_ascii_digit}
 use Rattle.std.specs.Option.{option_map}
@@ -10,7 +10,7 @@ use Rattle.rec_sex.specs.declared.syntax.token.Token.TheVariants.{Integer, Liter
 -- a token and its length in bytes; or a fault, at this offset where an operand is wanted, and at the first byte elsewhere
 pub use Rattle.rec_sex.specs.declared.syntax.lexeme.Lexeme.{Lexeme}
 pub use Rattle.rec_sex.specs.declared.syntax.lexeme.Lexeme.TheVariants.{Whole, Broken}
-use Rattle.rec_sex.specs.IndexList.{value_of, greatest}
+use Rattle.rec_sex.specs.IndexList.{decimal_number, greatest}
 use Rattle.rec_sex.specs.Integers.{magnitude_of}
 
 -- ---- one token
@@ -19,7 +19,7 @@ use Rattle.rec_sex.specs.Integers.{magnitude_of}
 abbrev pub with_byte : ℕ → Option (List ℕ × ℕ) → Option (List ℕ × ℕ)
 with_byte b found = option_map (λ x. (b ∷ x.0, x.1 + 1)) found
 
--- A text literal behind its opening quote: its text, and its bytes up to and with the closing quote. A backslash directly
+-- A text literal after its opening quote: its text, and its bytes up to and with the closing quote. A backslash directly
 -- before either quote is dropped, and that quote is part of the text.
 abbrev pub literal_from : ℕ → List ℕ → Option (List ℕ × ℕ)
 literal_from quote [] = None
@@ -40,27 +40,27 @@ integer_at text = elim (magnitude_of (take_while continues_name text)) [
   | Some n ↦ if nat_lt n (2 ^ 63) then Whole (Integer (pos n)) (length (take_while continues_name text)) else Broken 0
 ]
 
--- a subscript's closing bracket, behind so many bytes
+-- the closing bracket of the subscript n, before which `len` bytes of the token stand
 abbrev pub closing_at : List ℕ → ℕ → List ℕ → ℕ → Lexeme
 closing_at name n [] len = Broken len
 closing_at name n (b ∷ bs) len = if b == 93 then Whole (Occurrence name n) (len + 1) else Broken len
 
--- a subscript behind a name and its opening bracket, which have so many bytes
+-- a subscript after a name and its opening bracket, which have `len` bytes
 abbrev pub subscript_at : List ℕ → List ℕ → ℕ → Lexeme
 subscript_at name text len =
     let digits = take_while is_ascii_digit text in
-    if length digits == 0 || nat_lt greatest (value_of digits) then Broken len
-    else closing_at name (value_of digits) (drop (length digits) text) (len + length digits)
+    if length digits == 0 || nat_lt greatest (decimal_number digits) then Broken len
+    else closing_at name (decimal_number digits) (drop (length digits) text) (len + length digits)
 
--- behind a name: its subscript, where a bracket stands directly behind it
-abbrev pub behind_name : List ℕ → List ℕ → Lexeme
-behind_name name [] = Whole (Name name) (length name)
-behind_name name (b ∷ bs) = if b == 91 then subscript_at name bs (length name + 1) else Whole (Name name) (length name)
+-- after a name: its subscript, where a bracket stands directly after it
+abbrev pub token_after_name : List ℕ → List ℕ → Lexeme
+token_after_name name [] = Whole (Name name) (length name)
+token_after_name name (b ∷ bs) = if b == 91 then subscript_at name bs (length name + 1) else Whole (Name name) (length name)
 
 abbrev pub name_at : List ℕ → Lexeme
-name_at text = let name = take_while continues_name text in behind_name name (drop (length name) text)
+name_at text = let name = take_while continues_name text in token_after_name name (drop (length name) text)
 
--- `#` and a name directly behind it
+-- `#` and a name directly after it
 abbrev pub count_at : List ℕ → Lexeme
 count_at [] = Broken 0
 count_at (b ∷ bs) = if is_letter b then (let name = take_while continues_name (b ∷ bs) in Whole (Count name) (length name + 1)) else Broken 0
@@ -93,7 +93,7 @@ operator_at [] = Broken 0
 operator_at (b ∷ []) = of_one b
 operator_at (b ∷ c ∷ bs) = elim (token_of_two b c) [ None ↦ of_one b | Some token ↦ Whole token 2 ]
 
--- the token at the front of a text that begins with no space
+-- the token at the start of a text that begins with no space
 abbrev pub lexeme_at : List ℕ → Lexeme
 lexeme_at [] = Broken 0
 lexeme_at (b ∷ bs) =

@@ -9,41 +9,37 @@ use Rattle.regex.specs.declared.string.matcher.Matcher.{Matcher}
 use Rattle.rec_text.specs.Elements.{Piece}
 use Rattle.rec_sex.specs.declared.syntax.tree.Tree.{Tree, Integer, Literal, Name, Occurrence, Count, Not', Negate', Binary', Found', Choice'}
 use Rattle.rec_sex.specs.declared.meaning.occurrences.Chosen.{Chosen}
-use Rattle.rec_sex.specs.Grammar.{Term}
 use Rattle.rec_sex.specs.declared.meaning.sharing.Times.{Times}
 use Rattle.rec_sex.specs.declared.meaning.sharing.Times.TheVariants.{Never, Once, Often}
-use Rattle.rec_sex.specs.Meaning.{Choice_, values_of, is_found}
-use Rattle.rec_sex.specs.Expressions.{pattern_in, term_under}
+use Rattle.rec_sex.specs.Grammar.{Term}
+use Rattle.rec_sex.specs.Meaning.{Assignment, values_of, sem, is_true, is_found}
+use Rattle.rec_sex.specs.Expressions.{pattern_at}
 
 -- ---- expressions under a choice
 
 -- a name and its chosen occurrence
-abbrev pub Entry : Type 0
-Entry = List ℕ × ℕ
+abbrev pub NameChoice : Type 0
+NameChoice = List ℕ × ℕ
 
-abbrev pub entry_of : Chosen → Entry
+abbrev pub entry_of : Chosen → NameChoice
 entry_of chosen = (chosen.name.now, chosen.occurrence)
 
-abbrev pub entries_of : List Chosen → List Entry
+abbrev pub entries_of : List Chosen → List NameChoice
 entries_of chosen = map entry_of chosen
 
 -- the occurrence that is chosen for a name; the first one where none is
-abbrev pub chosen_in : List Entry → Choice_
+abbrev pub chosen_in : List NameChoice → Assignment
 chosen_in [] name = 0
 chosen_in (entry ∷ entries) name = if bytes_eq entry.0 name then entry.1 else chosen_in entries name
 
 -- an occurrence is chosen for the name
-abbrev pub is_chosen : List Entry → List ℕ → Bool
+abbrev pub is_chosen : List NameChoice → List ℕ → Bool
 is_chosen [] name = false
 is_chosen (entry ∷ entries) name = bytes_eq entry.0 name || is_chosen entries name
 
 -- the pattern of each matcher
 abbrev pub patterns_of : List Matcher → List Re
 patterns_of matchers = map matcher_pattern matchers
-
--- the expression that a tree stands for, with these matchers
-abbrev pub term_by : List Matcher → Tree → Term
-term_by matchers tree = term_under (patterns_of matchers) tree
 
 -- ---- the walk over choices
 
@@ -56,13 +52,13 @@ abbrev pub is_among : List ℕ → List (List ℕ) → Bool
 is_among name [] = false
 is_among name (one ∷ more) = bytes_eq one name || is_among name more
 
--- a name that occurs more than once and has no chosen occurrence comes behind the others, unless it is among them
-abbrev pub with_repeated : List Piece → List Entry → List (List ℕ) → List ℕ → List (List ℕ)
+-- a name that occurs more than once and has no chosen occurrence comes after the others, unless it is among them
+abbrev pub with_repeated : List Piece → List NameChoice → List (List ℕ) → List ℕ → List (List ℕ)
 with_repeated pieces entries names name =
     if (nat_lt 1 (length (values_of name pieces)) && not (is_chosen entries name)) && not (is_among name names) then names ++ name ∷ [] else names
 
--- the names for which an expression still has to choose among several occurrences, behind these
-abbrev pub repeated_names : List Piece → List Entry → List (List ℕ) → Tree → List (List ℕ)
+-- the names for which an expression still has to choose among several occurrences, after these
+abbrev pub repeated_names : List Piece → List NameChoice → List (List ℕ) → Tree → List (List ℕ)
 repeated_names pieces entries names (Integer n) = names
 repeated_names pieces entries names (Literal text) = names
 repeated_names pieces entries names (Name name) = with_repeated pieces entries names name
@@ -74,6 +70,19 @@ repeated_names pieces entries names (Binary' op p a q b) = repeated_names pieces
 repeated_names pieces entries names (Found' p a i) = repeated_names pieces entries names a
 repeated_names pieces entries names (Choice' p c q a r b) =
     repeated_names pieces entries (repeated_names pieces entries (repeated_names pieces entries names c) a) b
+
+-- a name that occurs more than once stands in an expression without a subscript
+abbrev pub has_repeated : List Piece → Tree → Bool
+has_repeated pieces (Integer n) = false
+has_repeated pieces (Literal text) = false
+has_repeated pieces (Name name) = nat_lt 1 (length (values_of name pieces))
+has_repeated pieces (Occurrence name i) = false
+has_repeated pieces (Count name) = false
+has_repeated pieces (Not' p a) = has_repeated pieces a
+has_repeated pieces (Negate' p a) = has_repeated pieces a
+has_repeated pieces (Binary' op p a q b) = has_repeated pieces a || has_repeated pieces b
+has_repeated pieces (Found' p a i) = has_repeated pieces a
+has_repeated pieces (Choice' p c q a r b) = (has_repeated pieces c || has_repeated pieces a) || has_repeated pieces b
 
 -- how often a name stands in an expression without a subscript
 abbrev pub places_of : List ℕ → Tree → ℕ
@@ -109,11 +118,15 @@ any_below zero test = false
 any_below (suc n) test = any_below n test || test n
 
 -- the test holds with these entries and some occurrences of the names
-abbrev pub any_choice : (List Entry → Bool) → List Piece → List (List ℕ) → List Entry → Bool
+abbrev pub any_choice : (List NameChoice → Bool) → List Piece → List (List ℕ) → List NameChoice → Bool
 any_choice test pieces [] entries = test entries
 any_choice test pieces (name ∷ names) entries =
     any_below (length (values_of name pieces)) (λ i. any_choice test pieces names (entries ++ (name, i) ∷ []))
 
+-- the expression is true with some occurrence of the name, and with the first one of the others
+abbrev pub holds_for_some : Term → List Piece → List ℕ → Bool
+holds_for_some term pieces name = any_below (length (values_of name pieces)) (λ i. is_true (sem term pieces (chosen_in ((name, i) ∷ []))))
+
 -- the patterns of each number are found in the same texts
 abbrev pub FindAlike : List Re → List Re → Type 0
-FindAlike some other = (i : ℕ) (text : List ℕ) → is_found (pattern_in some i) text ≡ is_found (pattern_in other i) text
+FindAlike some other = (i : ℕ) (text : List ℕ) → is_found (pattern_at some i) text ≡ is_found (pattern_at other i) text

@@ -6,19 +6,19 @@ use Rattle.rec_sex.specs.proving.IndexItems.{BeginsSpan}
 use Rattle.rec_sex.specs.Lists.{IsName, IsItem}
 use Rattle.rec_sex.specs.Joined.{BeginsWhole, ends_item}
 
--- a name comes first, with all that it goes on with, and this stands behind it
+-- a name comes first, with all that it goes on with, and this stands after it
 abbrev pub BeginsName : List ℕ → List ℕ → List ℕ → Type 0
 BeginsName text name rest = (text ≡ name ++ rest) × IsName name rest
 
--- a closing bracket comes first, and what stands behind it ends the item
+-- a closing bracket comes first, and what follows it ends the item
 abbrev pub Closes : List ℕ → List ℕ → Type 0
 Closes text rest = (text ≡ 93 ∷ rest) × (ends_item rest ≡ true)
 
--- behind its opening bracket the rest of a subscript comes first: a span, and the closing bracket
+-- after its opening bracket the rest of a subscript comes first: a span, and the closing bracket
 abbrev pub BeginsSubscript : List ℕ → Span → List ℕ → Type 0
-BeginsSubscript text span rest = (behind : List ℕ) × BeginsSpan text span behind × Closes behind rest
+BeginsSubscript text span rest = (following : List ℕ) × BeginsSpan text span following × Closes following rest
 
--- a whole item comes first, and what stands behind it ends it
+-- a whole item comes first, and what follows it ends it
 abbrev pub BeginsItem : List ℕ → Item → List ℕ → Type 0
 BeginsItem text item rest = BeginsWhole IsItem text item rest
 

@@ -4,13 +4,13 @@ use Rattle.std.specs.List.Sorted.{IsNonDecreasingBy}
 use Rattle.rec_sex.specs.declared.lists.index_list.Span.{Span}
 use Rattle.rec_sex.specs.IndexList.{IsIndex, IsSpan, has}
 
--- an index of at least this comes first, and this stands behind it
+-- an index of at least this comes first, and this stands after it
 abbrev pub BeginsIndex : ℕ → List ℕ → ℕ → List ℕ → Type 0
 BeginsIndex least text index rest = (digits : List ℕ) × (text ≡ digits ++ rest) × IsIndex digits index rest × (least ≤ index)
 
--- a span comes first, and this stands behind it
+-- a span comes first, and this stands after it
 abbrev pub BeginsSpan : List ℕ → Span → List ℕ → Type 0
-BeginsSpan text span rest = (front : List ℕ) × (text ≡ front ++ rest) × IsSpan front span rest
+BeginsSpan text span rest = (prefix : List ℕ) × (text ≡ prefix ++ rest) × IsSpan prefix span rest
 
 -- the spans have the indexes of those that were written, and none begins or ends before an earlier one
 pub record AreSorted (sorted written : List Span) : Type 0 where

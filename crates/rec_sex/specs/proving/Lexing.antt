@@ -3,14 +3,14 @@ use Rattle.std.specs.Prelude.{ℕ, ◌==◌, ◌||◌, ◌&&◌, Bool, true, fal
 use Rattle.std.specs.Char.{is_ascii_digit}
 use Rattle.rec_sex.specs.declared.syntax.token.Token.{Token}
 use Rattle.rec_sex.specs.declared.syntax.walk.Walk.{Walk as TakenWalk}
-use Rattle.rec_sex.specs.IndexList.{value_of, greatest}
-use Rattle.rec_sex.specs.Grammar.{Want, Opened, Parenthesis, Question, Walk, behind}
+use Rattle.rec_sex.specs.IndexList.{decimal_number, greatest}
+use Rattle.rec_sex.specs.Grammar.{Want, Opened, Parenthesis, Question, Walk, following}
 
 -- the index that all digits write which come first, and their number; none where there is no digit, or it is too large
 abbrev pub index_at : List ℕ → Option (ℕ × ℕ)
 index_at text =
     let digits = take_while is_ascii_digit text in
-    if length digits == 0 || nat_lt greatest (value_of digits) then None else Some (value_of digits, length digits)
+    if length digits == 0 || nat_lt greatest (decimal_number digits) then None else Some (decimal_number digits, length digits)
 
 -- the byte that a literal goes on with, and how many bytes write it
 abbrev pub literal_byte : List ℕ → ℕ × ℕ
@@ -38,11 +38,11 @@ next_of None opened = None
 next_of (Some want) opened = Some (record { want = want; stack = stack_of opened })
 
 -- whether the walk takes a token, and how it stands then
-abbrev pub IsStep : Walk → Token → Bool → Walk → Type 0
-IsStep before token true after = behind before token ≡ Some after
-IsStep before token false after = behind before token ≡ None
+abbrev pub IsWalkStep : Walk → Token → Bool → Walk → Type 0
+IsWalkStep before token true after = following before token ≡ Some after
+IsWalkStep before token false after = following before token ≡ None
 
--- the walk behind a token that closes what was opened last, if it was this
-abbrev pub behind_closed : Opened → Want → List Opened → Option Walk
-behind_closed opened want [] = None
-behind_closed opened want (last ∷ stack) = if is_opened opened last then Some (record { want = want; stack = stack }) else None
+-- the walk after a token that closes what was opened last, if it was this
+abbrev pub after_closed : Opened → Want → List Opened → Option Walk
+after_closed opened want [] = None
+after_closed opened want (last ∷ stack) = if is_opened opened last then Some (record { want = want; stack = stack }) else None

@@ -1,12 +1,12 @@
 -- Operands in memory, and the operators that work on their readings.
-use Rattle.std.specs.Prelude.{ℕ, ℤ, pos, ◌+ℤ◌, ◌-ℤ◌, ◌*ℤ◌, Bool, ◌||◌, ◌&&◌, not, List, Option, Some, None, if◌then◌else◌, int_lt, int_div, int_rem}
-use Rattle.std.specs.Option.{option_map, option_and_then}
+use Rattle.std.specs.Prelude.{ℕ, ℤ, pos, ◌+ℤ◌, ◌-ℤ◌, ◌*ℤ◌, Bool, true, false, ◌||◌, ◌&&◌, not, List, Option, Some, None, if◌then◌else◌, int_lt, int_div, int_rem}
+use Rattle.std.specs.Option.{option_map, option_map_or, option_and_then}
 use Rattle.rec_text.specs.Values.{bytes_of}
 use Rattle.rec_sex.specs.declared.syntax.token.Operator.{Operator}
 use Rattle.rec_sex.specs.declared.syntax.token.Operator.TheVariants.{Equal, NotEqual, Less, Greater, LessOrEqual, GreaterOrEqual, Join, Add, Subtract, Multiply, Divide, Remainder, And, Or, Implies}
 use Rattle.rec_sex.specs.declared.meaning.operand.Operand.{Operand}
 use Rattle.rec_sex.specs.declared.meaning.operand.Operand.TheVariants.{Integer, Text}
-use Rattle.rec_sex.specs.Meaning.{Meaning, integer, text, fits, is_zero, reading_of, text_of}
+use Rattle.rec_sex.specs.Meaning.{Meaning, integer, text, fits, is_zero, as_text}
 
 -- what an operand means
 abbrev pub meaning_of : Operand → Meaning
@@ -19,7 +19,7 @@ meaning_in operand = option_map meaning_of operand
 
 -- the text of an operand
 abbrev pub text_in : Operand → List ℕ
-text_in operand = text_of (meaning_of operand)
+text_in operand = as_text (meaning_of operand)
 
 -- the integer, if it has 64 bits
 abbrev pub fitting : ℤ → Option ℤ
@@ -47,6 +47,17 @@ combined And x y = Some (one_if (not (is_zero x) && not (is_zero y)))
 combined Or x y = Some (one_if (not (is_zero x) || not (is_zero y)))
 combined Implies x y = Some (one_if (is_zero x || not (is_zero y)))
 
--- the same on the readings of two meanings, where both have one
-abbrev pub combined_readings : Operator → Meaning → Meaning → Option ℤ
-combined_readings op a b = option_and_then (λ x. option_and_then (λ y. combined op x y) (reading_of b)) (reading_of a)
+-- the same on two readings, where there are both
+abbrev pub combined_readings : Operator → Option ℤ → Option ℤ → Option ℤ
+combined_readings op a b = option_and_then (λ x. option_and_then (λ y. combined op x y) b) a
+
+-- the operators that work on the readings of their operands
+abbrev pub takes_readings : Operator → Bool
+takes_readings Equal = false
+takes_readings NotEqual = false
+takes_readings Join = false
+takes_readings _ = true
+
+-- there is a reading, and it is not 0
+abbrev pub is_nonzero : Option ℤ → Bool
+is_nonzero reading = option_map_or (λ z. not (is_zero z)) reading false

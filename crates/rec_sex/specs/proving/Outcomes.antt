@@ -10,8 +10,8 @@ use Rattle.rec_sex.specs.declared.meaning.outcomes.Outcome.TheVariants.{Undefine
 use Rattle.rec_sex.specs.declared.meaning.outcomes.Outcomes.{Outcomes}
 use Rattle.rec_sex.specs.declared.syntax.tree.Tree.{Tree, Not', Binary', Choice'}
 use Rattle.rec_sex.specs.Grammar.{Term}
-use Rattle.rec_sex.specs.Meaning.{Meaning, Choice_, IsChoice, values_of, sem, is_zero, reading_of}
-use Rattle.rec_sex.specs.proving.Choices.{Entry, chosen_in, is_chosen, repeated_names}
+use Rattle.rec_sex.specs.Meaning.{Meaning, Assignment, IsChoice, values_of, sem, is_zero, reading_of}
+use Rattle.rec_sex.specs.proving.Choices.{NameChoice, chosen_in, is_chosen, repeated_names}
 use Rattle.rec_sex.specs.Expressions.{term_under}
 
 -- ---- conditions
@@ -61,6 +61,13 @@ is_connective Or = true
 is_connective Implies = true
 is_connective _ = false
 
+-- the expressions whose operands are looked at apart
+abbrev pub has_parts : Tree → Bool
+has_parts (Not' p a) = true
+has_parts (Binary' op p a q b) = is_connective op
+has_parts (Choice' p c q a r b) = true
+has_parts tree = false
+
 -- a connective of two conditions that share no choice
 abbrev pub joined_by : Operator → Outcomes → Outcomes → Outcomes
 joined_by And a b = both_of a b
@@ -83,17 +90,17 @@ union_below zero outcomes = nothing
 union_below (suc n) outcomes = union (union_below n outcomes) (outcomes n)
 
 -- what an expression is with these entries and any occurrences of the names
-abbrev pub outcomes_over : Term → List Piece → List (List ℕ) → List Entry → Outcomes
+abbrev pub outcomes_over : Term → List Piece → List (List ℕ) → List NameChoice → Outcomes
 outcomes_over term pieces [] entries = only (outcome_of (sem term pieces (chosen_in entries)))
 outcomes_over term pieces (name ∷ names) entries =
     union_below (length (values_of name pieces)) (λ i. outcomes_over term pieces names (entries ++ (name, i) ∷ []))
 
 -- the same for all names of the expression that have no entry
-abbrev pub outcomes_of_part : List Re → List Piece → List Entry → Tree → Outcomes
+abbrev pub outcomes_of_part : List Re → List Piece → List NameChoice → Tree → Outcomes
 outcomes_of_part patterns pieces entries tree = outcomes_over (term_under patterns tree) pieces (repeated_names pieces entries [] tree) entries
 
 -- the same, where a connective's operands are looked at apart
-abbrev pub outcomes_in : List Re → List Piece → List Entry → Tree → Outcomes
+abbrev pub outcomes_in : List Re → List Piece → List NameChoice → Tree → Outcomes
 outcomes_in patterns pieces entries (Not' p a) = inverse_of (outcomes_in patterns pieces entries a)
 outcomes_in patterns pieces entries (Binary' op p a q b) =
     if is_connective op then joined_by op (outcomes_in patterns pieces entries a) (outcomes_in patterns pieces entries b)
@@ -103,12 +110,12 @@ outcomes_in patterns pieces entries (Choice' p c q a r b) =
 outcomes_in patterns pieces entries tree = outcomes_of_part patterns pieces entries tree
 
 -- with these entries the expression can hold
-abbrev pub can_hold : List Re → List Piece → Tree → List Entry → Bool
+abbrev pub can_hold : List Re → List Piece → Tree → List NameChoice → Bool
 can_hold patterns pieces tree entries = (outcomes_in patterns pieces entries tree).holds
 
 -- some choice with the occurrences of these entries makes the expression this
-pub record CanBe (term : Term) (pieces : List Piece) (entries : List Entry) (outcome : Outcome) : Type 0 where
-  pub chosen : Choice_
+pub record CanBe (term : Term) (pieces : List Piece) (entries : List NameChoice) (outcome : Outcome) : Type 0 where
+  pub chosen : Assignment
   pub is_choice : IsChoice pieces chosen
   pub agrees : (name : List ℕ) → is_chosen entries name ≡ true → chosen name ≡ chosen_in entries name
   pub is : outcome_of (sem term pieces chosen) ≡ outcome

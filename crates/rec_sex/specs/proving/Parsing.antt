@@ -8,16 +8,16 @@ use Rattle.rec_sex.specs.declared.syntax.token.Token.{Token}
 use Rattle.rec_sex.specs.declared.syntax.token.Token.TheVariants.{Literal, Binary, Found, Then}
 use Rattle.rec_sex.specs.declared.syntax.tree.Tree.{Tree}
 use Rattle.rec_sex.specs.declared.syntax.parser.Parser.{Parser}
-use Rattle.rec_sex.specs.Grammar.{Walk, Want, Opened, Operand, Operator_, behind, may_end, level_of, Derives, IsPatternOf, found}
-use Rattle.rec_sex.specs.Expressions.{pattern_in, term_with}
+use Rattle.rec_sex.specs.Grammar.{Walk, Want, Opened, Operand, Infix, following, may_end, level_of, Derives, IsPatternOf, found}
+use Rattle.rec_sex.specs.Expressions.{pattern_at, term_with}
 use Rattle.rec_sex.specs.Patterns.{IsBuiltFrom}
 
 -- ---- where the walk stands
 
--- the walk takes all of these tokens, and may end behind them
+-- the walk takes all of these tokens, and may end after them
 abbrev pub takes : Walk → List Token → Bool
 takes walk [] = may_end walk
-takes walk (token ∷ tokens) = elim (behind walk token) [ None ↦ false | Some next ↦ takes next tokens ]
+takes walk (token ∷ tokens) = elim (following walk token) [ None ↦ false | Some next ↦ takes next tokens ]
 
 -- the walk takes them from here, with this open
 abbrev pub takes_from : Want → List Opened → List Token → Bool
@@ -30,7 +30,7 @@ pub record MayStand (want : Want) (tokens : List Token) : Type 0 where
 
 -- ---- operators
 
--- how strongly the operator at the front binds; 0 where there is none
+-- how strongly the operator at the start binds; 0 where there is none
 abbrev pub level_at : List Token → ℕ
 level_at [] = 0
 level_at (Binary op ∷ rest) = level_of op
@@ -61,31 +61,31 @@ AreBuiltFrom (text ∷ texts) [] = ⊥
 
 -- each of the texts stands after a `~`
 abbrev pub AreAmong : List Token → List (List ℕ) → Type 0
-AreAmong tokens texts = AllByRecursion (λ text. (front rest : List Token) × (tokens ≡ front ++ Found ∷ (Literal text ∷ rest)) × (is_utf8 text ≡ true)) texts
+AreAmong tokens texts = AllByRecursion (λ text. (prefix rest : List Token) × (tokens ≡ prefix ++ Found ∷ (Literal text ∷ rest)) × (is_utf8 text ≡ true)) texts
 
 -- each text's pattern has the text's number
 abbrev pub AreNumbered : List (List ℕ) → List Regex → Type 0
-AreNumbered texts patterns = (i : ℕ) → i < length texts → IsPatternOf (slice_index_or texts i []) (pattern_in (map regex_pattern patterns) i)
+AreNumbered texts patterns = (i : ℕ) → i < length texts → IsPatternOf (slice_index_or texts i []) (pattern_at (map regex_pattern patterns) i)
 
--- the tokens up to the rest are taken, and the texts of their patterns stand behind those of before
+-- the tokens up to the rest are taken, and the texts of their patterns stand after those of before
 pub record Passes (tokens rest : List Token) (texts more : List (List ℕ)) : Type 0 where
   pub used : List Token
   pub parts : tokens ≡ used ++ rest
   pub numbered : (patterns : List Regex) → AreNumbered more patterns → AreNumbered texts patterns
-  pub among : (whole front : List Token) → whole ≡ front ++ tokens → AreAmong whole texts → AreAmong whole more
+  pub among : (whole prefix : List Token) → whole ≡ prefix ++ tokens → AreAmong whole texts → AreAmong whole more
 
 -- the tree is that of the tokens up to the rest, which are an expression of this level
 pub record IsTree (level : ℕ) (tokens rest : List Token) (texts more : List (List ℕ)) (tree : Tree) : Type 0 where
   pub passes : Passes tokens rest texts more
   pub derived : (patterns : List Regex) → AreNumbered more patterns → Derives level passes.used (term_with patterns tree)
-  pub goes_on : (stack : List Opened) → takes_from Operand stack tokens ≡ true → takes_from Operator_ stack rest ≡ true
+  pub goes_on : (stack : List Opened) → takes_from Operand stack tokens ≡ true → takes_from Infix stack rest ≡ true
 
 -- the tree is that of the left operand and of the operator and right operand up to the rest
 pub record Extends (tokens rest : List Token) (texts more : List (List ℕ)) (left tree : Tree) : Type 0 where
   pub passes : Passes tokens rest texts more
-  pub derived : (patterns : List Regex) → AreNumbered more patterns → (front : List Token)
-      → Derives (left_level (level_at tokens)) front (term_with patterns left) → Derives (level_at tokens) (front ++ passes.used) (term_with patterns tree)
-  pub goes_on : (stack : List Opened) → takes_from Operator_ stack tokens ≡ true → takes_from Operator_ stack rest ≡ true
+  pub derived : (patterns : List Regex) → AreNumbered more patterns → (prefix : List Token)
+      → Derives (left_level (level_at tokens)) prefix (term_with patterns left) → Derives (level_at tokens) (prefix ++ passes.used) (term_with patterns tree)
+  pub goes_on : (stack : List Opened) → takes_from Infix stack tokens ≡ true → takes_from Infix stack rest ≡ true
   pub stops : level_at rest < right_level (level_at tokens)
   pub shorter : length rest < length tokens
 
@@ -95,7 +95,7 @@ pub record IsFoundTree (tokens rest : List Token) (texts more : List (List ℕ))
   pub parts : tokens ≡ Literal text ∷ rest
   pub utf8 : is_utf8 text ≡ true
   pub collected : more ≡ texts ++ text ∷ []
-  pub term : (patterns : List Regex) → term_with patterns tree ≡ found (term_with patterns operand) (pattern_in (map regex_pattern patterns) (length texts))
+  pub term : (patterns : List Regex) → term_with patterns tree ≡ found (term_with patterns operand) (pattern_at (map regex_pattern patterns) (length texts))
 
 -- the tree is that of the tokens up to the rest, some level at least this strong, and no stronger operator follows
 pub record IsBoundAbove (level : ℕ) (tokens rest : List Token) (texts more : List (List ℕ)) (tree : Tree) : Type 0 where

@@ -17,7 +17,7 @@ use std::alloc::{AllocError, Global};
 use std::collections::HashMap;
 use std::marker::Model;
 
-/// So many items are few: each of them then looks at all fields.
+/// At most this number of items are few: each of them then looks at all fields.
 const FEW: usize = 32;
 
 /// A field by its name: all its occurrences in a record, or some of them, counted from 0.
@@ -53,20 +53,20 @@ fn begins_name(byte: u8) -> bool
     byte.is_ascii_alphabetic() || byte == b'%'
 }
 
-/// The name that a text begins with, and what stands behind it.
+/// The name that a text begins with, and what follows it.
 fn leading_name(text: &[u8]) -> Option<(&[u8], &[u8])>
     ensures { MatchOption result (begins_field text.now ≡ false)
         (λ (name, rest). BeginsName text.now name.now rest.now) }
 {
-    let (first, behind) = text.split_first()?;
+    let (first, following) = text.split_first()?;
     if !begins_name(*first) {
         return None;
     }
-    Some(text.split_at(1 + word_at(behind).len()))
+    Some(text.split_at(1 + word_at(following).len()))
 }
 
-/// What stands behind the opening bracket, where one comes first.
-fn behind_opening(rest: &[u8]) -> Option<&[u8]>
+/// What stands after the opening bracket, where one comes first.
+fn after_opening(rest: &[u8]) -> Option<&[u8]>
     ensures { MatchOption result (begins_with 91 rest.now ≡ false) (λ inside. rest.now ≡ 91 ∷ inside.now) }
 {
     match rest.split_first() {
@@ -75,8 +75,8 @@ fn behind_opening(rest: &[u8]) -> Option<&[u8]>
     }
 }
 
-/// What stands behind the bracket that closes a subscript; or the place of the fault.
-fn behind_bracket(text: &[u8]) -> Result<&[u8], usize>
+/// What stands after the bracket that closes a subscript; or the place of the fault.
+fn after_bracket(text: &[u8]) -> Result<&[u8], usize>
     ensures { MatchResult result (λ rest. Closes text.now rest.now) (λ place. IsClosingFault text.now place) }
 {
     let Some((b']', rest)) = text.split_first() else {
@@ -88,31 +88,31 @@ fn behind_bracket(text: &[u8]) -> Result<&[u8], usize>
     Ok(rest)
 }
 
-/// The occurrences that a subscript names, behind its opening bracket, and what stands behind it; or the place of the fault.
+/// The occurrences that a subscript names, after its opening bracket, and what follows it; or the place of the fault.
 fn subscript(text: &[u8]) -> Result<(Span, &[u8]), usize>
     ensures { MatchResult result (λ (span, rest). BeginsSubscript text.now span rest.now)
         (λ place. IsSubscriptFault text.now place) }
 {
-    let (span, behind) = leading_span(text)?;
-    match behind_bracket(behind) {
+    let (span, following) = leading_span(text)?;
+    match after_bracket(following) {
         Ok(rest) => Ok((span, rest)),
-        Err(place) => Err(text.len() - behind.len() + place),
+        Err(place) => Err(text.len() - following.len() + place),
     }
 }
 
-/// The item that a text begins with, its name and its occurrences, and what stands behind it; or the place of its fault.
+/// The item that a text begins with, its name and its occurrences, and what follows it; or the place of its fault.
 fn leading_item(text: &[u8]) -> Result<(&[u8], Option<Span>, &[u8]), usize>
     ensures { MatchResult result (λ (name, occurrences, rest).
         BeginsItem text.now (record { name = name.now; occurrences = occurrences }) rest.now)
         (λ place. IsItemFault text.now place) }
 {
-    let Some((name, behind)) = leading_name(text) else {
+    let Some((name, following)) = leading_name(text) else {
         return Err(0);
     };
-    if ends_item(behind) {
-        return Ok((name, None, behind));
+    if ends_item(following) {
+        return Ok((name, None, following));
     }
-    let Some(inside) = behind_opening(behind) else {
+    let Some(inside) = after_opening(following) else {
         return Err(name.len());
     };
     match subscript(inside) {

@@ -3,7 +3,7 @@ ghost use Rattle.std.specs.Prelude.{◌≡◌, ◌≤◌, ◌∷◌, true, false
 ghost use Rattle.std.specs.Char.{is_ascii_digit};
 ghost use Rattle.std.specs.List.{list_all, prefix_len};
 ghost use Rattle.std.specs.Option.{SomeIff};
-ghost use Rattle.rec_sex.specs.IndexList.{value_of, greatest, begins_with, LacksIndex, IsSpanFault, IsItem, IsItemFault};
+ghost use Rattle.rec_sex.specs.IndexList.{decimal_number, greatest, begins_with, LacksIndex, IsSpanFault, IsItem, IsItemFault};
 ghost use Rattle.rec_sex.specs.Joined.{ends_item};
 ghost use Rattle.rec_sex.specs.proving.IndexItems.{BeginsIndex, BeginsSpan, AreSorted, reach_from};
 
@@ -43,7 +43,7 @@ impl Model for IndexList {
 /// The number that digits write, if it is an index.
 fn index_of(digits: &[u8]) -> Option<usize>
     requires { list_all is_ascii_digit digits.now ≡ true }
-    ensures { SomeIff result (value_of digits.now ≤ greatest) (value_of digits.now) }
+    ensures { SomeIff result (decimal_number digits.now ≤ greatest) (decimal_number digits.now) }
 {
     let mut value = 0;
     for digit in digits {
@@ -64,7 +64,7 @@ fn digit_count(text: &[u8]) -> usize
         .unwrap_or(text.len())
 }
 
-/// The index that a text begins with, if it is at least this, and what stands behind it.
+/// The index that a text begins with, if it is at least this, and what follows it.
 fn leading_index(least: usize, text: &[u8]) -> Option<(usize, &[u8])>
     ensures { MatchOption result (LacksIndex least text.now)
         (λ (index, rest). BeginsIndex least text.now index rest.now) }
@@ -87,8 +87,8 @@ pub(crate) fn ends_item(rest: &[u8]) -> bool
     matches!(rest.first(), None | Some(b','))
 }
 
-/// What stands behind the hyphen, where one comes first.
-fn behind_hyphen(rest: &[u8]) -> Option<&[u8]>
+/// What stands after the hyphen, where one comes first.
+fn after_hyphen(rest: &[u8]) -> Option<&[u8]>
     ensures { MatchOption result (begins_with 45 rest.now ≡ false) (λ second. rest.now ≡ 45 ∷ second.now) }
 {
     match rest.split_first() {
@@ -97,16 +97,16 @@ fn behind_hyphen(rest: &[u8]) -> Option<&[u8]>
     }
 }
 
-/// The span that a text begins with, and what stands behind it; or the place of its fault.
+/// The span that a text begins with, and what follows it; or the place of its fault.
 pub(crate) fn leading_span(text: &[u8]) -> Result<(Span, &[u8]), usize>
     ensures { MatchResult result (λ (span, rest). BeginsSpan text.now span rest.now)
         (λ place. IsSpanFault text.now place) }
 {
-    let Some((first, behind)) = leading_index(0, text) else {
+    let Some((first, following)) = leading_index(0, text) else {
         return Err(0);
     };
-    let Some(second) = behind_hyphen(behind) else {
-        return Ok((Span { first, last: first }, behind));
+    let Some(second) = after_hyphen(following) else {
+        return Ok((Span { first, last: first }, following));
     };
     match leading_index(first, second) {
         Some((last, rest)) => Ok((Span { first, last }, rest)),

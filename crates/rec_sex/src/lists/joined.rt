@@ -42,7 +42,7 @@ pub(crate) trait ListItem: Drop {
     /// The item that a text begins with has a fault at this place.
     ghost is_fault: { List ℕ → ℕ → Type 0 };
 
-    /// The item that a text begins with, and what stands behind it; or the place of its fault.
+    /// The item that a text begins with, and what follows it; or the place of its fault.
     fn leading(alloc: Global, text: &[u8]) -> Result<(Self, &[u8]), Unread>
         ensures leads { MatchResult result (λ (item, rest). BeginsWhole is_item text.now item rest.now)
             (IsUnread (is_fault text.now)) }
@@ -57,7 +57,7 @@ pub(crate) fn items_of<I: ListItem>(alloc: Global, text: &[u8]) -> Result<Vec<I>
     let mut items = Vec::new(alloc);
     let mut rest = text;
     loop {
-        let (item, behind) = match I::leading(alloc, rest) {
+        let (item, following) = match I::leading(alloc, rest) {
             Ok(found) => found,
             Err(Unread::FaultAt(place)) => {
                 return Err(Unread::FaultAt(text.len() - rest.len() + place));
@@ -65,7 +65,7 @@ pub(crate) fn items_of<I: ListItem>(alloc: Global, text: &[u8]) -> Result<Vec<I>
             Err(Unread::OutOfMemory) => return Err(Unread::OutOfMemory),
         };
         items.push(item)?;
-        match behind.split_first() {
+        match following.split_first() {
             None => return Ok(items),
             Some((_, next)) => rest = next,
         }

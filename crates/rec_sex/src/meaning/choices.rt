@@ -2,14 +2,16 @@
 ghost use Rattle.std.specs.Prelude.{◌≡◌, ◌↔◌, length, nat_lt, IsTrue, IfOk, IsOkUnless, OnOk};
 ghost use Rattle.rec_text.specs.Places.{pieces_of};
 ghost use Rattle.rec_sex.specs.Meaning.{values_of, Selects};
-ghost use Rattle.rec_sex.specs.proving.Choices.{is_among, is_chosen, with_repeated, repeated_names, any_choice, entries_of, patterns_of, term_by, texts};
+ghost use Rattle.rec_sex.specs.Expressions.{term_under};
+ghost use Rattle.rec_sex.specs.proving.Choices.{is_among, is_chosen, with_repeated, has_repeated, repeated_names, any_choice, holds_for_some, entries_of, patterns_of, texts};
 ghost use Rattle.rec_sex.specs.proving.Outcomes.{can_hold};
 
 use crate::meaning::conditions::outcomes_of;
-use crate::meaning::evaluation::evaluate;
+use crate::meaning::evaluation::evaluate_reading;
 use crate::meaning::fields::Fields;
 use crate::meaning::occurrences::Chosen;
 use crate::meaning::operand::is_true;
+use crate::meaning::outcomes::has_parts;
 use crate::meaning::sharing::shared_names;
 use crate::syntax::tree::Tree;
 use rec_text::{Element, Fault};
@@ -46,7 +48,7 @@ fn is_chosen(chosen: &[Chosen<'_>], name: &[u8]) -> bool
     false
 }
 
-/// A name that occurs more than once and has no chosen occurrence comes behind the others, unless it is among them.
+/// A name that occurs more than once and has no chosen occurrence comes after the others, unless it is among them.
 fn add_repeated<'e>(
     fields: &Fields<'_, '_>,
     chosen: &[Chosen<'_>],
@@ -63,7 +65,24 @@ fn add_repeated<'e>(
     Ok(())
 }
 
-/// The names for which an expression still has to choose among several occurrences, behind those that are there.
+/// Whether a name that occurs more than once stands in an expression without a subscript.
+fn has_repeated(fields: &Fields<'_, '_>, tree: &Tree) -> bool
+    ensures { result ≡ has_repeated fields.now tree.now }
+{
+    match tree {
+        Tree::Integer(_) | Tree::Literal(_) | Tree::Occurrence(..) | Tree::Count(_) => false,
+        Tree::Name(name) => is_repeated(fields, name.as_slice()),
+        Tree::Not(operand) | Tree::Negate(operand) | Tree::Found(operand, _) => {
+            has_repeated(fields, operand)
+        }
+        Tree::Binary(_, left, right) => has_repeated(fields, left) || has_repeated(fields, right),
+        Tree::Choice(condition, yes, no) => {
+            has_repeated(fields, condition) || has_repeated(fields, yes) || has_repeated(fields, no)
+        }
+    }
+}
+
+/// The names for which an expression still has to choose among several occurrences, after those that are there.
 pub(crate) fn add_repeated_names<'e>(
     fields: &Fields<'_, '_>,
     chosen: &[Chosen<'_>],
@@ -123,6 +142,29 @@ fn has_choice<'v>(
     Ok(false)
 }
 
+/// Whether some occurrence of a name, and the first one of the others, make the expression true.
+fn holds_for_some<'v>(
+    alloc: Global,
+    tree: &'v Tree,
+    fields: &Fields<'_, 'v>,
+    name: &[u8],
+    matchers: &mut [Matcher<'_>],
+) -> Result<bool, Fault>
+    ensures answer { IfOk result (λ answer. answer ≡
+        holds_for_some (term_under (patterns_of matchers.old) tree.now) fields.now name.now) }
+    ensures same { patterns_of matchers.new ≡ patterns_of matchers.old }
+    ensures refusals { IsOkUnless result Fault.OutOfMemory }
+{
+    for occurrence in 0..fields.count(name) {
+        let chosen = [Chosen { name, occurrence }];
+        let reading = evaluate_reading(alloc, tree, fields, &chosen, matchers)?;
+        if is_true(reading) {
+            return Ok(true);
+        }
+    }
+    Ok(false)
+}
+
 /// Whether some choice of occurrences makes an expression true for a record with these elements.
 pub(crate) fn holds<'v>(
     alloc: Global,
@@ -131,18 +173,23 @@ pub(crate) fn holds<'v>(
     matchers: &mut [Matcher<'_>],
 ) -> Result<bool, Fault>
     ensures answer { IfOk result (λ answer. IsTrue answer ↔
-        Selects (term_by matchers.old tree.now) (pieces_of elements.now)) }
+        Selects (term_under (patterns_of matchers.old) tree.now) (pieces_of elements.now)) }
     ensures same { patterns_of matchers.new ≡ patterns_of matchers.old }
     ensures refusals { IsOkUnless result Fault.OutOfMemory }
 {
     let fields = Fields::of(elements);
-    let mut names = Vec::new(alloc);
-    add_repeated_names(&fields, &[], &mut names, tree)?;
-    if names.is_empty() {
-        let meaning = evaluate(alloc, tree, &fields, &[], matchers)?;
-        return Ok(is_true(meaning));
+    if !has_repeated(&fields, tree) {
+        let reading = evaluate_reading(alloc, tree, &fields, &[], matchers)?;
+        return Ok(is_true(reading));
     }
     let fields = Fields::listed(alloc, elements)?;
+    let mut names = Vec::new(alloc);
+    add_repeated_names(&fields, &[], &mut names, tree)?;
+    if !has_parts(tree) {
+        if let [name] = names.as_slice() {
+            return holds_for_some(alloc, tree, &fields, name, matchers);
+        }
+    }
     let shared = shared_names(alloc, tree, &names)?;
     let mut chosen = Vec::new(alloc);
     has_choice(alloc, tree, &fields, &shared, &mut chosen, matchers)

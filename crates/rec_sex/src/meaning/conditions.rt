@@ -1,10 +1,11 @@
 //! What a condition can be for a record, over all choices of occurrences.
 ghost use Rattle.std.specs.Prelude.{◌≡◌, IfOk, IsOkUnless, OnOk};
+ghost use Rattle.rec_sex.specs.Expressions.{term_under};
 ghost use Rattle.rec_sex.specs.proving.Outcomes.{outcomes_over, outcomes_of_part, outcomes_in};
-ghost use Rattle.rec_sex.specs.proving.Choices.{entries_of, patterns_of, term_by, texts};
+ghost use Rattle.rec_sex.specs.proving.Choices.{entries_of, patterns_of, texts};
 
 use crate::meaning::choices::add_repeated_names;
-use crate::meaning::evaluation::evaluate;
+use crate::meaning::evaluation::evaluate_reading;
 use crate::meaning::fields::Fields;
 use crate::meaning::occurrences::Chosen;
 use crate::meaning::outcomes::{Outcomes, is_connective, outcome_of};
@@ -23,14 +24,14 @@ fn outcomes_over<'v>(
     matchers: &mut [Matcher<'_>],
 ) -> Result<Outcomes, Fault>
     ensures outcomes { IfOk result (λ outcomes. outcomes ≡
-        outcomes_over (term_by matchers.old tree.now) fields.now (texts names.now) (entries_of chosen.old.items)) }
+        outcomes_over (term_under (patterns_of matchers.old) tree.now) fields.now (texts names.now) (entries_of chosen.old.items)) }
     ensures chosen { OnOk result (entries_of chosen.new.items ≡ entries_of chosen.old.items) }
     ensures same { patterns_of matchers.new ≡ patterns_of matchers.old }
     ensures refusals { IsOkUnless result Fault.OutOfMemory }
 {
     let [name, rest @ ..] = names else {
-        let meaning = evaluate(alloc, tree, fields, chosen, matchers)?;
-        return Ok(Outcomes::only(outcome_of(meaning)));
+        let reading = evaluate_reading(alloc, tree, fields, chosen, matchers)?;
+        return Ok(Outcomes::only(outcome_of(reading)));
     };
     let mut outcomes = Outcomes::nothing();
     for occurrence in 0..fields.count(name) {

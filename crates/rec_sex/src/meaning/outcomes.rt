@@ -1,11 +1,9 @@
 //! What a condition can be, and what that makes of the connectives.
 ghost use Rattle.std.specs.Prelude.{◌≡◌};
-ghost use Rattle.std.specs.Option.{option_map};
-ghost use Rattle.rec_sex.specs.proving.Operands.{meaning_of};
-ghost use Rattle.rec_sex.specs.proving.Outcomes.{outcome_of as outcome_of_meaning, nothing, only, union, inverse_of, both_of, is_connective, joined_by, branch_of};
+ghost use Rattle.rec_sex.specs.proving.Outcomes.{outcome_of_reading, nothing, only, union, inverse_of, both_of, is_connective, has_parts, joined_by, branch_of};
 
-use crate::meaning::operand::{Operand, reading};
 use crate::syntax::token::Operator;
+use crate::syntax::tree::Tree;
 
 /// What a condition is under one choice of occurrences.
 #[derive(Clone, Copy)]
@@ -23,10 +21,10 @@ pub(crate) struct Outcomes {
     pub holds: bool,
 }
 
-pub(crate) fn outcome_of(operand: Option<Operand<'_>>) -> Outcome
-    ensures { result ≡ outcome_of_meaning (option_map meaning_of operand.entry) }
+pub(crate) fn outcome_of(reading: Option<i64>) -> Outcome
+    ensures { result ≡ outcome_of_reading reading }
 {
-    match reading(operand) {
+    match reading {
         None => Outcome::Undefined,
         Some(0) => Outcome::Fails,
         Some(_) => Outcome::Holds,
@@ -39,6 +37,17 @@ pub(crate) fn is_connective(operator: Operator) -> bool
 {
     match operator {
         Operator::And | Operator::Or | Operator::Implies => true,
+        _ => false,
+    }
+}
+
+/// Whether the operands of an expression are looked at apart.
+pub(crate) fn has_parts(tree: &Tree) -> bool
+    ensures { result ≡ has_parts tree.now }
+{
+    match tree {
+        Tree::Not(_) | Tree::Choice(..) => true,
+        Tree::Binary(operator, ..) => is_connective(*operator),
         _ => false,
     }
 }

@@ -1,7 +1,7 @@
 //! Builds the syntax tree of tokens.
 ghost use Rattle.std.specs.Prelude.{◌≡◌, ◌<◌, ◌≤◌, List, false, IfOk, OnOk, IsOkUnless};
 ghost use Rattle.regex.specs.declared.string.regex.Regex.{Regex};
-ghost use Rattle.rec_sex.specs.Grammar.{AreTaken, Operand, Operator_, Pattern, Derives, level_of, inverse, negated, binary, choice};
+ghost use Rattle.rec_sex.specs.Grammar.{AreTaken, Operand, Infix, Pattern, Derives, level_of, inverse, negated, binary, choice};
 ghost use Rattle.rec_sex.specs.Expressions.{term_with};
 ghost use Rattle.rec_sex.specs.proving.Parsing.{AreBuiltFrom, AreAmong, MayStand, level_at, right_level, begins_choice, Reads, ReadsMore, ReadsPattern};
 
@@ -75,7 +75,7 @@ struct Parser {
 }
 
 impl Parser {
-    /// An expression: one of operators, or a choice behind it.
+    /// An expression: one of operators, or a choice after it.
     #[cycle(expressions)]
     fn expression(&mut self) -> Result<Tree, Fault>
         requires { MayStand Operand self.old.rest.items }
@@ -115,7 +115,7 @@ impl Parser {
     #[cycle(expressions)]
     fn extended(&mut self, left: Tree) -> Result<Tree, Fault>
         requires operator { 0 < level_at self.old.rest.items }
-        requires taken { MayStand Operator_ self.old.rest.items }
+        requires taken { MayStand Infix self.old.rest.items }
         ensures tree { IfOk result (ReadsMore self.old self.new left) }
         ensures refusals { IsOkUnless result Fault.OutOfMemory }
     {
@@ -160,7 +160,7 @@ impl Parser {
         }
     }
 
-    /// The operand with the pattern that comes next, behind a `~`.
+    /// The operand with the pattern that comes next, after a `~`.
     fn found(&mut self, operand: Tree) -> Result<Tree, Fault>
         requires { MayStand Pattern self.old.rest.items }
         ensures tree { IfOk result (ReadsPattern self.old self.new operand) }

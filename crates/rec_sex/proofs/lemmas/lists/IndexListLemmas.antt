@@ -8,7 +8,7 @@ use Rattle.std.proofs.lemmas.Bool.{and_from, and_parts, cases_lt, cases_Bool, co
 use Rattle.std.specs.Char.{is_ascii_digit}
 use Rattle.std.specs.List.{list_all, prefix_len, position_or_len}
 use Rattle.rec_sex.specs.declared.lists.index_list.Span.{Span}
-use Rattle.rec_sex.specs.IndexList.{AreDigits, IsIndex, IsSpan, LacksIndex, IsSpanFault, value_of, begins, begins_digit, begins_with, greatest}
+use Rattle.rec_sex.specs.IndexList.{AreDigits, IsIndex, IsSpan, LacksIndex, IsSpanFault, decimal_number, begins, begins_digit, begins_with, greatest}
 use Rattle.rec_sex.specs.proving.IndexItems.{BeginsIndex, BeginsSpan}
 
 -- one more digit makes a number no smaller
@@ -16,16 +16,16 @@ pub value-le-fold : (n : ℕ) (digits : List ℕ) → n ≤ fold (λ n digit. n 
 value-le-fold n [] = omega arith
 value-le-fold n (d ∷ digits) = omega (arith, value-le-fold (n * 10 + (d - 48)) digits)
 
-pub value_of-take-le : (i : ℕ) (digits : List ℕ) → value_of (take i digits) ≤ value_of digits
-value_of-take-le i digits =
+pub decimal_number-take-le : (i : ℕ) (digits : List ℕ) → decimal_number (take i digits) ≤ decimal_number digits
+decimal_number-take-le i digits =
     let e = fold-append (λ n digit. n * 10 + (digit - 48)) 0 (take i digits) (drop i digits) in
-    let f = ap value_of (take-append-drop i digits) in
-    omega (arith, e, f, value-le-fold (value_of (take i digits)) (drop i digits))
+    let f = ap decimal_number (take-append-drop i digits) in
+    omega (arith, e, f, value-le-fold (decimal_number (take i digits)) (drop i digits))
 
--- digits whose front already writes too large a number write one
-pub too_large : (digits : List ℕ) (i : ℕ) → i < length digits → greatest < value_of (take i digits) * 10 + (get_or digits i 0 - 48) → value_of digits ≤ greatest → ⊥
+-- digits whose prefix already writes too large a number write one
+pub too_large : (digits : List ℕ) (i : ℕ) → i < length digits → greatest < decimal_number (take i digits) * 10 + (get_or digits i 0 - 48) → decimal_number digits ≤ greatest → ⊥
 too_large digits i within above small =
-    omega (arith, value_of-take-le (i + 1) digits, fold_more (λ n digit. n * 10 + (digit - 48)) 0 digits i 0 within)
+    omega (arith, decimal_number-take-le (i + 1) digits, fold_more (λ n digit. n * 10 + (digit - 48)) 0 digits i 0 within)
 
 -- ---- runs of bytes that pass
 
@@ -55,15 +55,15 @@ pub digit_count_is : (bytes : List ℕ) (place : Option ℕ) (count : ℕ)
 digit_count_is bytes place count found answered =
     count_from_place place count _ _ (length bytes) found answered (prefix_len-not_not is_ascii_digit bytes) (prefix_len-le-length is_ascii_digit bytes)
 
-pub list_all-front : (test : ℕ → Bool) (bytes : List ℕ) → list_all test (take (prefix_len test bytes) bytes) ≡ true
-list_all-front test [] = refl
-list_all-front test (b ∷ bytes) =
+pub list_all-prefix : (test : ℕ → Bool) (bytes : List ℕ) → list_all test (take (prefix_len test bytes) bytes) ≡ true
+list_all-prefix test [] = refl
+list_all-prefix test (b ∷ bytes) =
     elim (cases_Bool (test b)) [
-      | inl passes ↦ rw (passes, one-add) (and_from _ _ passes (list_all-front test bytes))
+      | inl passes ↦ rw (passes, one-add) (and_from _ _ passes (list_all-prefix test bytes))
       | inr fails ↦ rw fails refl
     ]
 
--- the bytes that pass are all of those in front of one that doesn't
+-- the bytes that pass are all of those before one that doesn't
 pub prefix_len-all : (test : ℕ → Bool) (bytes rest : List ℕ) → list_all test bytes ≡ true → begins test rest ≡ false → prefix_len test (bytes ++ rest) ≡ length bytes
 prefix_len-all test [] [] all ended = refl
 prefix_len-all test [] (b ∷ rest) all ended = rw ended refl
@@ -72,33 +72,33 @@ prefix_len-all test (b ∷ bytes) rest all ended =
     let more = prefix_len-all test bytes rest parts.1 ended in
     rw (parts.0, more) (omega arith)
 
-pub begins-behind : (test : ℕ → Bool) (bytes : List ℕ) → begins test (drop (prefix_len test bytes) bytes) ≡ false
-begins-behind test [] = refl
-begins-behind test (b ∷ bytes) =
+pub begins-following : (test : ℕ → Bool) (bytes : List ℕ) → begins test (drop (prefix_len test bytes) bytes) ≡ false
+begins-following test [] = refl
+begins-following test (b ∷ bytes) =
     elim (cases_Bool (test b)) [
-      | inl passes ↦ rw (passes, one-add) (begins-behind test bytes)
+      | inl passes ↦ rw (passes, one-add) (begins-following test bytes)
       | inr fails ↦ rw fails fails
     ]
 
--- the digits at the front of a text, and what stands behind them
-pub AreDigits-front : (text : List ℕ) (count : ℕ) → count ≡ prefix_len is_ascii_digit text → 0 < count → AreDigits (take count text) (drop count text)
-AreDigits-front text count is some = record {
+-- the digits at the start of a text, and what follows them
+pub AreDigits-prefix : (text : List ℕ) (count : ℕ) → count ≡ prefix_len is_ascii_digit text → 0 < count → AreDigits (take count text) (drop count text)
+AreDigits-prefix text count is some = record {
   some = λ none. let size : length (take count text) ≡ count = rw is (length-prefix_len is_ascii_digit text) in absurd (omega (arith, ap length none));
-  all = rw is (list_all-front is_ascii_digit text);
-  ended = rw is (begins-behind is_ascii_digit text);
+  all = rw is (list_all-prefix is_ascii_digit text);
+  ended = rw is (begins-following is_ascii_digit text);
 }
 
--- a text cut behind the digits at its front
-pub cut_behind_digits : (text front back : List ℕ) (count : ℕ) → count ≡ prefix_len is_ascii_digit text → front ≡ take count text → back ≡ drop count text → 0 < length front
-    → (text ≡ front ++ back) × AreDigits front back
-cut_behind_digits text front back count is front_is back_is some =
+-- a text cut after the digits at its prefix
+pub cut_after_digits : (text prefix back : List ℕ) (count : ℕ) → count ≡ prefix_len is_ascii_digit text → prefix ≡ take count text → back ≡ drop count text → 0 < length prefix
+    → (text ≡ prefix ++ back) × AreDigits prefix back
+cut_after_digits text prefix back count is prefix_is back_is some =
     let within = prefix_len-le-length is_ascii_digit text in
     let counted : 0 < count = elim (cases_lt 0 count) [
       | inl more ↦ more
-      | inr none ↦ let zero : count ≡ 0 = omega arith in let empty : length front ≡ 0 = ap length (front_is ∙ ap (λ n. take n text) zero) in absurd (omega arith)
+      | inr none ↦ let zero : count ≡ 0 = omega arith in let empty : length prefix ≡ 0 = ap length (prefix_is ∙ ap (λ n. take n text) zero) in absurd (omega arith)
     ] in (
-      sym (take-append-drop count text) ∙ ap (λ f. f ++ drop count text) (sym front_is) ∙ ap (λ b. front ++ b) (sym back_is),
-      rw (front_is, back_is) (AreDigits-front text count is counted),
+      sym (take-append-drop count text) ∙ ap (λ f. f ++ drop count text) (sym prefix_is) ∙ ap (λ b. prefix ++ b) (sym back_is),
+      rw (prefix_is, back_is) (AreDigits-prefix text count is counted),
     )
 
 -- the digits again, before something else that begins with none
@@ -116,28 +116,28 @@ pub index_before : (digits : List ℕ) (index : ℕ) (rest other : List ℕ) →
 index_before digits index rest other (are, value, small) ended = (digits_before digits rest other are ended, value, small)
 
 -- a span again, before something else that goes on with none
-pub span_before : (front : List ℕ) (span : Span) (rest other : List ℕ) → IsSpan front span rest → begins_digit other ≡ false → begins_with 45 other ≡ false → IsSpan front span other
-span_before front span rest other (inl (index, same, alone)) ended no_hyphen = inl (index_before front span.first rest other index ended, same, no_hyphen)
-span_before front span rest other (inr (a, b, halves, first, last, ordered)) ended no_hyphen = inr (a, b, halves, first, index_before b span.last rest other last ended, ordered)
+pub span_before : (prefix : List ℕ) (span : Span) (rest other : List ℕ) → IsSpan prefix span rest → begins_digit other ≡ false → begins_with 45 other ≡ false → IsSpan prefix span other
+span_before prefix span rest other (inl (index, same, alone)) ended no_hyphen = inl (index_before prefix span.first rest other index ended, same, no_hyphen)
+span_before prefix span rest other (inr (a, b, halves, first, last, ordered)) ended no_hyphen = inr (a, b, halves, first, index_before b span.last rest other last ended, ordered)
 
 -- a span again, before something else that begins with the same byte
-pub span_before_same : (front : List ℕ) (span : Span) (b : ℕ) (rest other : List ℕ) → IsSpan front span (b ∷ rest) → IsSpan front span (b ∷ other)
-span_before_same front span b rest other (inl (index, same, alone)) = inl (index_before front span.first (b ∷ rest) (b ∷ other) index index.0.ended, same, alone)
-span_before_same front span b rest other (inr (x, y, halves, first, last, ordered)) =
+pub span_before_same : (prefix : List ℕ) (span : Span) (b : ℕ) (rest other : List ℕ) → IsSpan prefix span (b ∷ rest) → IsSpan prefix span (b ∷ other)
+span_before_same prefix span b rest other (inl (index, same, alone)) = inl (index_before prefix span.first (b ∷ rest) (b ∷ other) index index.0.ended, same, alone)
+span_before_same prefix span b rest other (inr (x, y, halves, first, last, ordered)) =
     inr (x, y, halves, first, index_before y span.last (b ∷ rest) (b ∷ other) last last.0.ended, ordered)
 
 -- a pair comes first where its first index, a hyphen and its second index do
-pub pair_begins : (text : List ℕ) (first : ℕ) (behind second : List ℕ) (last : ℕ) (rest : List ℕ) → BeginsIndex 0 text first behind → behind ≡ 45 ∷ second
+pub pair_begins : (text : List ℕ) (first : ℕ) (following second : List ℕ) (last : ℕ) (rest : List ℕ) → BeginsIndex 0 text first following → following ≡ 45 ∷ second
     → BeginsIndex first second last rest → BeginsSpan text (record { first = first; last = last }) rest
-pair_begins text first behind second last rest (a, parts, index, _) hyphen (b, second_parts, second_index, ordered) = (
+pair_begins text first following second last rest (a, parts, index, _) hyphen (b, second_parts, second_index, ordered) = (
   a ++ 45 ∷ b,
   parts ∙ ap (λ r. a ++ r) (hyphen ∙ ap (λ s. 45 ∷ s) second_parts) ∙ sym (append_assoc a (45 ∷ b) rest),
-  inr (a, b, refl, index_before a first behind [] index refl, second_index, ordered),
+  inr (a, b, refl, index_before a first following [] index refl, second_index, ordered),
 )
 
 -- a pair has a fault where its second index should begin
-pub pair_fails : (text : List ℕ) (first : ℕ) (behind second : List ℕ) → BeginsIndex 0 text first behind → behind ≡ 45 ∷ second → LacksIndex first second
+pub pair_fails : (text : List ℕ) (first : ℕ) (following second : List ℕ) → BeginsIndex 0 text first following → following ≡ 45 ∷ second → LacksIndex first second
     → IsSpanFault text (length text - length second)
-pair_fails text first behind second (a, parts, index, _) hyphen lacks =
+pair_fails text first following second (a, parts, index, _) hyphen lacks =
     let whole : text ≡ a ++ 45 ∷ second = parts ∙ ap (λ r. a ++ r) hyphen in
-    inr (a, second, first, whole, index_before a first behind [] index refl, lacks, omega (arith, ap length whole, length-append a (45 ∷ second)))
+    inr (a, second, first, whole, index_before a first following [] index refl, lacks, omega (arith, ap length whole, length-append a (45 ∷ second)))

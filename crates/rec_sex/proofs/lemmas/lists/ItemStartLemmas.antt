@@ -86,11 +86,11 @@ pub has_more : (i : ℕ) (indexes : List ℕ) (k d : ℕ) (old before after : Bo
     → after ≡ cond (is_at (nat_cmp (get_or indexes k d)) i) true before → after ≡ (has_index (take (k + 1) indexes) i || old)
 has_more i indexes k d old before after within so_far added =
     let own = get_or indexes k d in
-    let front = has_index (take k indexes) i in
+    let prefix = has_index (take k indexes) i in
     added ∙ ap (λ b. cond b true before) (at_sym own i) ∙ ap (cond (is_at (nat_cmp i) own) true) so_far
     ∙ elim (cases_Bool (is_at (nat_cmp i) own)) [
-      | inl is ↦ rw is (sym (or_left (front || true) old (or_right front true refl)))
-      | inr other ↦ rw other (ap (λ b. b || old) (sym (or-false front)))
+      | inl is ↦ rw is (sym (or_left (prefix || true) old (or_right prefix true refl)))
+      | inr other ↦ rw other (ap (λ b. b || old) (sym (or-false prefix)))
     ]
     ∙ ap (λ b. b || old) (sym (ap (λ l. has_index l i) (take_more indexes k d within) ∙ has_index-push i own (take k indexes)))
 
@@ -102,7 +102,7 @@ none_before low (k ∷ keys) above = rw above.0 (none_before low keys above.1)
 -- ---- a table with one item more
 
 module _ {K : Type 0} (eq : K → K → Bool) (same : (x y : K) → eq x y ≡ true → x ≡ y) where
-  -- one more index at a key, behind its others
+  -- one more index at a key, after its others
   pub one_index_more : (old new : K → Option (Vec ℕ)) (key : K) (indexes : Vec ℕ) (index : ℕ) → indexes.items ≡ kept (old key) ++ index ∷ []
       → ((other : K) → new other ≡ cond (eq key other) (Some indexes) (old other))
       → (other : K) → kept (new other) ≡ cond (eq key other) (kept (old other) ++ index ∷ []) (kept (old other))
@@ -144,7 +144,7 @@ slice_get_push (first ∷ items) last (suc i) item is = elim (slice_get_push ite
 abbrev Has : (List ℕ → ℕ → List ℕ) → List Item → Type 0
 Has indexes items = (i : ℕ) (item : Item) → slice_get items i ≡ Some item → has_index (indexes item.name (first_of item.occurrences)) i ≡ true
 
--- an index stays where another one may be added behind it
+-- an index stays where another one may be added after it
 has_index-kept : (one other : Bool) (i k : ℕ) (indexes : List ℕ) → has_index indexes i ≡ true → has_index (cond one (cond other (indexes ++ k ∷ []) indexes) indexes) i ≡ true
 has_index-kept true true i k indexes has = has_index-push i k indexes ∙ or_left (has_index indexes i) (is_at (nat_cmp i) k) has
 has_index-kept true false i k indexes has = has
@@ -169,20 +169,20 @@ covers_more old new items k d name first within name_is first_is added has i ite
 
 -- ---- the fields that items start at
 
--- a name's occurrence stands at a field of that name, behind as many of its fields as its number says
+-- a name's occurrence stands at a field of that name, after as many of its fields as its number says
 pub record StandsAt (at : ℕ) (name : List ℕ) (fields : List Element) (occurrence place : ℕ) (d : Element) (j : ℕ) : Type 0 where
   pub is_place : place ≡ at + j
   pub within : j < length fields
   pub has_name : bytes_eq (name_of (piece_of (get_or fields j d))) name ≡ true
   pub before : length (places_from at name (pieces_of (take j fields))) ≡ occurrence
 
-stands_behind : (at : ℕ) (name : List ℕ) (field : Element) (fields : List Element) (occurrence place : ℕ) (d : Element) (j seen : ℕ) → StandsAt (at + 1) name fields occurrence place d j
+stands_after : (at : ℕ) (name : List ℕ) (field : Element) (fields : List Element) (occurrence place : ℕ) (d : Element) (j seen : ℕ) → StandsAt (at + 1) name fields occurrence place d j
     → length (cond (bytes_eq (name_of (piece_of field)) name) (at ∷ places_from (at + 1) name (pieces_of (take j fields))) (places_from (at + 1) name (pieces_of (take j fields)))) ≡ seen
     → StandsAt at name (field ∷ fields) seen place d (suc j)
-stands_behind at name field fields occurrence place d j seen behind counted = record {
-  is_place = omega (arith, behind.is_place);
-  within = omega (arith, behind.within);
-  has_name = behind.has_name;
+stands_after at name field fields occurrence place d j seen following counted = record {
+  is_place = omega (arith, following.is_place);
+  within = omega (arith, following.within);
+  has_name = following.has_name;
   before = counted;
 }
 
@@ -203,21 +203,21 @@ occurrence_at at name (field ∷ fields) zero place d found =
             },
           )
       | inr other ↦
-          let behind = occurrence_at (at + 1) name fields 0 place d (sym (ap (λ b. slice_get (cond b (at ∷ more) more) 0) other) ∙ found) in
-          let before = places_from (at + 1) name (pieces_of (take behind.0 fields)) in
-          (suc behind.0, stands_behind at name field fields 0 place d behind.0 0 behind.1 (ap (λ b. length (cond b (at ∷ before) before)) other ∙ behind.1.before))
+          let following = occurrence_at (at + 1) name fields 0 place d (sym (ap (λ b. slice_get (cond b (at ∷ more) more) 0) other) ∙ found) in
+          let before = places_from (at + 1) name (pieces_of (take following.0 fields)) in
+          (suc following.0, stands_after at name field fields 0 place d following.0 0 following.1 (ap (λ b. length (cond b (at ∷ before) before)) other ∙ following.1.before))
     ]
 occurrence_at at name (field ∷ fields) (suc k) place d found =
     let more = places_from (at + 1) name (pieces_of fields) in
     elim (cases_Bool (bytes_eq (name_of (piece_of field)) name)) [
       | inl same ↦
-          let behind = occurrence_at (at + 1) name fields k place d (sym (ap (λ b. slice_get (cond b (at ∷ more) more) (suc k)) same) ∙ found) in
-          let before = places_from (at + 1) name (pieces_of (take behind.0 fields)) in
-          (suc behind.0, stands_behind at name field fields k place d behind.0 (suc k) behind.1 (ap (λ b. length (cond b (at ∷ before) before)) same ∙ ap suc behind.1.before))
+          let following = occurrence_at (at + 1) name fields k place d (sym (ap (λ b. slice_get (cond b (at ∷ more) more) (suc k)) same) ∙ found) in
+          let before = places_from (at + 1) name (pieces_of (take following.0 fields)) in
+          (suc following.0, stands_after at name field fields k place d following.0 (suc k) following.1 (ap (λ b. length (cond b (at ∷ before) before)) same ∙ ap suc following.1.before))
       | inr other ↦
-          let behind = occurrence_at (at + 1) name fields (suc k) place d (sym (ap (λ b. slice_get (cond b (at ∷ more) more) (suc k)) other) ∙ found) in
-          let before = places_from (at + 1) name (pieces_of (take behind.0 fields)) in
-          (suc behind.0, stands_behind at name field fields (suc k) place d behind.0 (suc k) behind.1 (ap (λ b. length (cond b (at ∷ before) before)) other ∙ behind.1.before))
+          let following = occurrence_at (at + 1) name fields (suc k) place d (sym (ap (λ b. slice_get (cond b (at ∷ more) more) (suc k)) other) ∙ found) in
+          let before = places_from (at + 1) name (pieces_of (take following.0 fields)) in
+          (suc following.0, stands_after at name field fields (suc k) place d following.0 (suc k) following.1 (ap (λ b. length (cond b (at ∷ before) before)) other ∙ following.1.before))
     ]
 
 module _ {S T : Type 0} (table : HashMap (Vec ℕ) (HashMap ℕ (Vec ℕ) T) S) (fields : List Element) where
@@ -343,8 +343,8 @@ module _ (pick : Item → List ℕ) where
       | inr has ↦ absurd (false≢true (sym lacks ∙ ap (has_index keys) (sym here) ∙ has))
     ]
 
-    found_behind : (at : ℕ) (items : List Item) (keys : List ℕ) → AreFound (at + 1) items (at ∷ keys) → AreFound (at + 1) items keys
-    found_behind at items keys found i item is = elim (found i item is) [
+    found_after : (at : ℕ) (items : List Item) (keys : List ℕ) → AreFound (at + 1) items (at ∷ keys) → AreFound (at + 1) items keys
+    found_after at items keys found i item is = elim (found i item is) [
       | inl none ↦ inl none
       | inr has ↦
           let greater : nat_cmp (at + 1 + i) at ≡ Greater = sym (nat_cmp_is (at + 1 + i) at Greater (omega arith)) in
@@ -358,22 +358,22 @@ module _ (pick : Item → List ℕ) where
     picked_from at (item ∷ items) [] stand sorted from found =
         ap₂ (λ l m. l ++ m) (sym (first_picks at item items [] found refl)) (picked_from (at + 1) items [] (others_stand at item items stand) sorted tt (others_found at item items [] found))
     picked_from at (item ∷ items) (k ∷ keys) stand sorted from found = elim (cases_lt at k) [
-      | inl behind ↦
-          let before : nat_cmp at k ≡ Less = sym (nat_cmp_is at k Less behind) in
-          let lacks : has_index (k ∷ keys) at ≡ false = none_before at (k ∷ keys) (before, before_all at k keys behind sorted.0) in
+      | inl following ↦
+          let before : nat_cmp at k ≡ Less = sym (nat_cmp_is at k Less following) in
+          let lacks : has_index (k ∷ keys) at ≡ false = none_before at (k ∷ keys) (before, before_all at k keys following sorted.0) in
           ap₂ (λ l m. l ++ m) (sym (first_picks at item items (k ∷ keys) found lacks))
-          (picked_from (at + 1) items (k ∷ keys) (others_stand at item items stand) sorted (omega (arith, behind), from_above k keys (at + 1) (omega (arith, behind)) sorted.0) (others_found at item items (k ∷ keys) found))
+          (picked_from (at + 1) items (k ∷ keys) (others_stand at item items stand) sorted (omega (arith, following), from_above k keys (at + 1) (omega (arith, following)) sorted.0) (others_found at item items (k ∷ keys) found))
       | inr level ↦
           let here : k ≡ at = omega (arith, level, from.0) in
           let none : at ≡ at + 0 = omega arith in
           let own : slice_get all k ≡ Some item = ap (slice_get all) (here ∙ none) ∙ stand 0 in
           let left : AreFound (at + 1) items (at ∷ keys) = subst (λ n. AreFound (at + 1) items (n ∷ keys)) here (others_found at item items (k ∷ keys) found) in
           ap₂ (λ l m. l ++ m) (ap (λ o. option_map_or pick o []) own)
-          (picked_from (at + 1) items keys (others_stand at item items stand) sorted.1 (from_above k keys (at + 1) (omega (arith, here)) sorted.0) (found_behind at items keys left))
+          (picked_from (at + 1) items keys (others_stand at item items stand) sorted.1 (from_above k keys (at + 1) (omega (arith, here)) sorted.0) (found_after at items keys left))
     ] where
       before_all : (at k : ℕ) (keys : List ℕ) → at < k → AllByRecursion (λ y. nat_cmp k y ≡ Less) keys → AllByRecursion (λ y. nat_cmp at y ≡ Less) keys
-      before_all at k [] behind above = tt
-      before_all at k (y ∷ keys) behind above = (sym (nat_cmp_is at y Less (omega (arith, behind, less k y above.0))), before_all at k keys behind above.1)
+      before_all at k [] following above = tt
+      before_all at k (y ∷ keys) following above = (sym (nat_cmp_is at y Less (omega (arith, following, less k y above.0))), before_all at k keys following above.1)
 
     all_from : (keys : List ℕ) → AreFrom 0 keys
     all_from [] = tt

@@ -7,56 +7,56 @@ use Rattle.rec_sex.specs.Joined.{AreJoined, AreWithCommas, BeginsWhole, HasFault
 -- ---- items joined by commas, read one by one
 
 -- one more item, with its comma
-pub AreWithCommas-push : {I : Type 0} (IsItem : List ℕ → I → Type 0) (before : List ℕ) (items : List I) (front : List ℕ) (item : I) → AreWithCommas IsItem before items → IsItem front item
-    → AreWithCommas IsItem (before ++ (front ++ 44 ∷ [])) (items ++ item ∷ [])
-AreWithCommas-push IsItem before [] front item none is =
-    (front, [], ap (λ b. b ++ (front ++ 44 ∷ [])) none, is, refl)
-AreWithCommas-push IsItem before (first ∷ items) front item (first_front, rest, parts, first_is, whole) is = (
-  first_front,
-  rest ++ (front ++ 44 ∷ []),
-  ap (λ b. b ++ (front ++ 44 ∷ [])) parts ∙ append_assoc first_front (44 ∷ rest) (front ++ 44 ∷ []),
+pub AreWithCommas-push : {I : Type 0} (IsItem : List ℕ → I → Type 0) (before : List ℕ) (items : List I) (prefix : List ℕ) (item : I) → AreWithCommas IsItem before items → IsItem prefix item
+    → AreWithCommas IsItem (before ++ (prefix ++ 44 ∷ [])) (items ++ item ∷ [])
+AreWithCommas-push IsItem before [] prefix item none is =
+    (prefix, [], ap (λ b. b ++ (prefix ++ 44 ∷ [])) none, is, refl)
+AreWithCommas-push IsItem before (first ∷ items) prefix item (first_prefix, rest, parts, first_is, whole) is = (
+  first_prefix,
+  rest ++ (prefix ++ 44 ∷ []),
+  ap (λ b. b ++ (prefix ++ 44 ∷ [])) parts ∙ append_assoc first_prefix (44 ∷ rest) (prefix ++ 44 ∷ []),
   first_is,
-  AreWithCommas-push IsItem rest items front item whole is,
+  AreWithCommas-push IsItem rest items prefix item whole is,
 )
 
 -- the last item, with no comma
-pub AreJoined-push : {I : Type 0} (IsItem : List ℕ → I → Type 0) (before : List ℕ) (items : List I) (front : List ℕ) (item : I) → AreWithCommas IsItem before items → IsItem front item
-    → AreJoined IsItem (before ++ front) (items ++ item ∷ [])
-AreJoined-push IsItem before [] front item none is = let P : List ℕ → Type 0 = λ b. IsItem (b ++ front) item in subst P (sym none) is
-AreJoined-push IsItem before (first ∷ []) front item (first_front, rest, parts, first_is, whole) is =
-    (first_front, rest ++ front, ap (λ b. b ++ front) parts ∙ append_assoc first_front (44 ∷ rest) front, first_is, AreJoined-push IsItem rest [] front item whole is)
-AreJoined-push IsItem before (first ∷ next ∷ items) front item (first_front, rest, parts, first_is, whole) is =
-    (first_front, rest ++ front, ap (λ b. b ++ front) parts ∙ append_assoc first_front (44 ∷ rest) front, first_is, AreJoined-push IsItem rest (next ∷ items) front item whole is)
+pub AreJoined-push : {I : Type 0} (IsItem : List ℕ → I → Type 0) (before : List ℕ) (items : List I) (prefix : List ℕ) (item : I) → AreWithCommas IsItem before items → IsItem prefix item
+    → AreJoined IsItem (before ++ prefix) (items ++ item ∷ [])
+AreJoined-push IsItem before [] prefix item none is = let P : List ℕ → Type 0 = λ b. IsItem (b ++ prefix) item in subst P (sym none) is
+AreJoined-push IsItem before (first ∷ []) prefix item (first_prefix, rest, parts, first_is, whole) is =
+    (first_prefix, rest ++ prefix, ap (λ b. b ++ prefix) parts ∙ append_assoc first_prefix (44 ∷ rest) prefix, first_is, AreJoined-push IsItem rest [] prefix item whole is)
+AreJoined-push IsItem before (first ∷ next ∷ items) prefix item (first_prefix, rest, parts, first_is, whole) is =
+    (first_prefix, rest ++ prefix, ap (λ b. b ++ prefix) parts ∙ append_assoc first_prefix (44 ∷ rest) prefix, first_is, AreJoined-push IsItem rest (next ∷ items) prefix item whole is)
 
 -- whole items stand before what is left to read
 abbrev pub ReadUpTo : {I : Type 0} → (List ℕ → I → Type 0) → List ℕ → List ℕ → List I → Type 0
 ReadUpTo IsItem text rest items = (before : List ℕ) × (text ≡ before ++ rest) × AreWithCommas IsItem before items
 
-pub read_all : {I : Type 0} (IsItem : List ℕ → I → Type 0) (text rest : List ℕ) (items : List I) (item : I) (behind : List ℕ) (more : List I) → ReadUpTo IsItem text rest items
-    → BeginsWhole IsItem rest item behind → length behind ≡ 0 → more ≡ items ++ item ∷ [] → AreJoined IsItem text more
-read_all IsItem text rest items item behind more (before, parts, whole) (front, halves, is, ended) none pushed =
-    let last : text ≡ before ++ front = parts ∙ ap (λ r. before ++ r) (halves ∙ ap (λ b. front ++ b) (nil_from_length behind none) ∙ append-nil front) in
+pub read_all : {I : Type 0} (IsItem : List ℕ → I → Type 0) (text rest : List ℕ) (items : List I) (item : I) (following : List ℕ) (more : List I) → ReadUpTo IsItem text rest items
+    → BeginsWhole IsItem rest item following → length following ≡ 0 → more ≡ items ++ item ∷ [] → AreJoined IsItem text more
+read_all IsItem text rest items item following more (before, parts, whole) (prefix, halves, is, ended) none pushed =
+    let last : text ≡ before ++ prefix = parts ∙ ap (λ r. before ++ r) (halves ∙ ap (λ b. prefix ++ b) (nil_from_length following none) ∙ append-nil prefix) in
     let P : List _ → Type 0 = AreJoined IsItem text in
     let Q : List ℕ → Type 0 = λ t. AreJoined IsItem t (items ++ item ∷ []) in
-    subst P (sym pushed) (subst Q (sym last) (AreJoined-push IsItem before items front item whole is))
+    subst P (sym pushed) (subst Q (sym last) (AreJoined-push IsItem before items prefix item whole is))
 
-pub read_more : {I : Type 0} (IsItem : List ℕ → I → Type 0) (text rest : List ℕ) (items : List I) (item : I) (behind : List ℕ) (b : ℕ) (next : List ℕ) (more : List I)
-    → ReadUpTo IsItem text rest items → BeginsWhole IsItem rest item behind → behind ≡ b ∷ next → more ≡ items ++ item ∷ [] → ReadUpTo IsItem text next more
-read_more IsItem text rest items item behind b next more (before, parts, whole) (front, halves, is, ended) follows pushed =
+pub read_more : {I : Type 0} (IsItem : List ℕ → I → Type 0) (text rest : List ℕ) (items : List I) (item : I) (following : List ℕ) (b : ℕ) (next : List ℕ) (more : List I)
+    → ReadUpTo IsItem text rest items → BeginsWhole IsItem rest item following → following ≡ b ∷ next → more ≡ items ++ item ∷ [] → ReadUpTo IsItem text next more
+read_more IsItem text rest items item following b next more (before, parts, whole) (prefix, halves, is, ended) follows pushed =
     let comma : b ≡ 44 = eqb-true b 44 (ap ends_item (sym follows) ∙ ended) in
-    let P : List _ → Type 0 = AreWithCommas IsItem (before ++ (front ++ 44 ∷ [])) in (
-      before ++ (front ++ 44 ∷ []),
-      parts ∙ ap (λ r. before ++ r) (halves ∙ ap (λ r. front ++ r) (follows ∙ ap (λ c. c ∷ next) comma) ∙ sym (append_assoc front (44 ∷ []) next)) ∙ sym (append_assoc before (front ++ 44 ∷ []) next),
-      subst P (sym pushed) (AreWithCommas-push IsItem before items front item whole is),
+    let P : List _ → Type 0 = AreWithCommas IsItem (before ++ (prefix ++ 44 ∷ [])) in (
+      before ++ (prefix ++ 44 ∷ []),
+      parts ∙ ap (λ r. before ++ r) (halves ∙ ap (λ r. prefix ++ r) (follows ∙ ap (λ c. c ∷ next) comma) ∙ sym (append_assoc prefix (44 ∷ []) next)) ∙ sym (append_assoc before (prefix ++ 44 ∷ []) next),
+      subst P (sym pushed) (AreWithCommas-push IsItem before items prefix item whole is),
     )
 
 -- how much is left to read
 pub read_within : {I : Type 0} (IsItem : List ℕ → I → Type 0) (text rest : List ℕ) (items : List I) → ReadUpTo IsItem text rest items → length rest ≤ length text
 read_within IsItem text rest items (before, parts, whole) = omega (arith, ap length parts, length-append before rest)
 
-pub less_is_left : {I : Type 0} (IsItem : List ℕ → I → Type 0) (rest : List ℕ) (item : I) (behind : List ℕ) (b : ℕ) (next : List ℕ) → BeginsWhole IsItem rest item behind
-    → behind ≡ b ∷ next → length next < length rest
-less_is_left IsItem rest item behind b next (front, halves, is, ended) follows = omega (arith, ap length halves, length-append front behind, ap length follows)
+pub less_is_left : {I : Type 0} (IsItem : List ℕ → I → Type 0) (rest : List ℕ) (item : I) (following : List ℕ) (b : ℕ) (next : List ℕ) → BeginsWhole IsItem rest item following
+    → following ≡ b ∷ next → length next < length rest
+less_is_left IsItem rest item following b next (prefix, halves, is, ended) follows = omega (arith, ap length halves, length-append prefix following, ap length follows)
 
 -- what is left has a fault
 pub read_faulty : {I : Type 0} (IsItem : List ℕ → I → Type 0) (IsFault : List ℕ → ℕ → Type 0) (text rest : List ℕ) (items : List I) (at place : ℕ) → ReadUpTo IsItem text rest items
@@ -69,7 +69,7 @@ read_faulty IsItem IsFault text rest items at place (before, parts, whole) bad t
   parts = parts;
   whole = whole;
   bad = bad;
-  behind = omega (arith, ap length parts, length-append before rest);
+  following = omega (arith, ap length parts, length-append before rest);
 }
 
 -- ---- where a text begins with at most one item, or has one fault there, it has at most one reading as items joined by commas
@@ -106,9 +106,9 @@ module _ {I : Type 0} (IsItem : List ℕ → I → Type 0) (IsFault : List ℕ �
   list_of-ok (suc bytes) start text [] short are = absurd are
   list_of-ok (suc bytes) start text (item ∷ []) short is =
       ap (list_from (list_of item_of bytes) start (length text)) (reads text item [] (text, sym (append-nil text), is, refl))
-  list_of-ok (suc bytes) start text (item ∷ next ∷ items) short (front, rest, parts, is, more) =
-      let shorter : length rest < bytes = omega (arith, short, ap length parts, length-append front (44 ∷ rest)) in
-      ap (list_from (list_of item_of bytes) start (length text)) (reads text item (44 ∷ rest) (front, parts, is, refl))
+  list_of-ok (suc bytes) start text (item ∷ next ∷ items) short (prefix, rest, parts, is, more) =
+      let shorter : length rest < bytes = omega (arith, short, ap length parts, length-append prefix (44 ∷ rest)) in
+      ap (list_from (list_of item_of bytes) start (length text)) (reads text item (44 ∷ rest) (prefix, parts, is, refl))
       ∙ ap (list_with item) (list_of-ok bytes (start + (length text - length rest)) rest (next ∷ items) shorter more)
 
   list_of-err : (bytes start : ℕ) (text before : List ℕ) (items : List I) (rest : List ℕ) (at : ℕ) → length text < bytes → text ≡ before ++ rest
@@ -118,12 +118,12 @@ module _ {I : Type 0} (IsItem : List ℕ → I → Type 0) (IsFault : List ℕ �
       let P : List ℕ → Type 0 = λ t. IsFault t at in
       let place_is : start + at ≡ start + (length before + at) = omega (arith, ap length none) in
       ap (list_from (list_of item_of bytes) start (length text)) (refuses text at (subst P (sym (parts ∙ ap (λ b. b ++ rest) none)) fault)) ∙ ap Err place_is
-  list_of-err (suc bytes) start text before (item ∷ items) rest at short parts (front, more, halves, is, whole) fault =
-      let cut : text ≡ front ++ (44 ∷ (more ++ rest)) = parts ∙ ap (λ b. b ++ rest) halves ∙ append_assoc front (44 ∷ more) rest in
-      let size : length text ≡ length front + suc (length (more ++ rest)) = ap length cut ∙ length-append front (44 ∷ (more ++ rest)) in
-      let size_before : length before ≡ length front + suc (length more) = ap length halves ∙ length-append front (44 ∷ more) in
+  list_of-err (suc bytes) start text before (item ∷ items) rest at short parts (prefix, more, halves, is, whole) fault =
+      let cut : text ≡ prefix ++ (44 ∷ (more ++ rest)) = parts ∙ ap (λ b. b ++ rest) halves ∙ append_assoc prefix (44 ∷ more) rest in
+      let size : length text ≡ length prefix + suc (length (more ++ rest)) = ap length cut ∙ length-append prefix (44 ∷ (more ++ rest)) in
+      let size_before : length before ≡ length prefix + suc (length more) = ap length halves ∙ length-append prefix (44 ∷ more) in
       let place_is : start + (length text - length (more ++ rest)) + (length more + at) ≡ start + (length before + at) = omega arith in
-      ap (list_from (list_of item_of bytes) start (length text)) (reads text item (44 ∷ (more ++ rest)) (front, cut, is, refl))
+      ap (list_from (list_of item_of bytes) start (length text)) (reads text item (44 ∷ (more ++ rest)) (prefix, cut, is, refl))
       ∙ ap (list_with item) (list_of-err bytes (start + (length text - length (more ++ rest))) (more ++ rest) more items rest at (omega arith) refl whole fault)
       ∙ ap Err place_is
 
@@ -131,7 +131,7 @@ module _ {I : Type 0} (IsItem : List ℕ → I → Type 0) (IsFault : List ℕ �
   is_list_of text (Ok items) are = list_of-ok (length text + 1) 0 text items (omega arith) are
   is_list_of text (Err place) has =
       list_of-err (length text + 1) 0 text has.before has.items has.rest has.at (omega arith) has.parts has.whole has.bad
-      ∙ ap Err (let e : 0 + (length has.before + has.at) ≡ place = omega (arith, has.behind) in e)
+      ∙ ap Err (let e : 0 + (length has.before + has.at) ≡ place = omega (arith, has.following) in e)
 
   -- a text has at most one answer, where each is a list or tells the place of a fault
   pub one_answer : {F : Type 0} (fault : ℕ → F) (text : List ℕ) (IsAnswer : Result (List I) F → Type 0)

@@ -58,11 +58,11 @@ reach_from-has end (span ∷ spans) index h =
 abbrev Above : ℕ → List Span → Type 0
 Above low spans = (i : ℕ) (d : Span) → i < length spans → low ≤ (get_or spans i d).first
 
-behind_first : (span : Span) (spans : List Span) → IsNonDecreasingBy (λ s. s.first) (span ∷ spans) → Above span.first spans
-behind_first span spans order = λ i d h. order 0 (suc i) d (omega arith) (omega arith)
+after_first : (span : Span) (spans : List Span) → IsNonDecreasingBy (λ s. s.first) (span ∷ spans) → Above span.first spans
+after_first span spans order = λ i d h. order 0 (suc i) d (omega arith) (omega arith)
 
-in_order_behind : (span : Span) (spans : List Span) → IsNonDecreasingBy (λ s. s.first) (span ∷ spans) → IsNonDecreasingBy (λ s. s.first) spans
-in_order_behind span spans order = λ i j d h k. order (suc i) (suc j) d (omega arith) (omega arith)
+in_order_after : (span : Span) (spans : List Span) → IsNonDecreasingBy (λ s. s.first) (span ∷ spans) → IsNonDecreasingBy (λ s. s.first) spans
+in_order_after span spans order = λ i j d h k. order (suc i) (suc j) d (omega arith) (omega arith)
 
 -- what is in a span now was in one before, or lies between the first and the end
 has-reach_from : (low end : ℕ) (spans : List Span) (index : ℕ) → IsNonDecreasingBy (λ s. s.first) spans → Above low spans → has (reach_from end spans) index ≡ true
@@ -76,7 +76,7 @@ has-reach_from low end (span ∷ spans) index order above h =
     (λ (there : has (reach_from (max span.last end) spans) index ≡ true). ⊎_elim
     (λ (in_spans : has spans index ≡ true). inl (or_there (is_in index span) _ in_spans))
     (λ within. reached within.0 within.1)
-    (has-reach_from span.first (max span.last end) spans index (in_order_behind span spans order) (behind_first span spans order) there))
+    (has-reach_from span.first (max span.last end) spans index (in_order_after span spans order) (after_first span spans order) there))
     (or_cases _ _ h)
   where
     reached : span.first ≤ index → index ≤ max span.last end → (has (span ∷ spans) index ≡ true) ⊎ ((low ≤ index) × (index ≤ end))
@@ -95,7 +95,7 @@ has-reach (span ∷ spans) index order h =
     (λ (there : has (reach_from (max span.last 0) spans) index ≡ true). ⊎_elim
     (λ (in_spans : has spans index ≡ true). or_there (is_in index span) _ in_spans)
     (λ within. or_here _ _ (is_in-within span.first span.last index within.0 (omega arith)))
-    (has-reach_from span.first (max span.last 0) spans index (in_order_behind span spans order) (behind_first span spans order) there))
+    (has-reach_from span.first (max span.last 0) spans index (in_order_after span spans order) (after_first span spans order) there))
     (or_cases _ _ h)
 
 length-reach_from : (end : ℕ) (spans : List Span) → length (reach_from end spans) ≡ length spans

@@ -13,12 +13,12 @@ use Rattle.rec_sex.specs.declared.meaning.outcomes.Outcome.TheVariants.{Undefine
 use Rattle.rec_sex.specs.declared.meaning.outcomes.Outcomes.{Outcomes}
 use Rattle.rec_sex.specs.declared.syntax.token.Operator.{Operator}
 use Rattle.rec_sex.specs.Grammar.{inverse, binary, choice}
-use Rattle.rec_sex.specs.Meaning.{Meaning, Choice_, values_of, value_at, text, sem, is_true, is_zero, is_found, text_of, truth, in_range, reading_of, IsChoice, Selects}
-use Rattle.rec_sex.specs.Expressions.{pattern_in, term_under}
-use Rattle.rec_sex.specs.proving.Choices.{Entry, chosen_in, is_chosen, is_among, repeated_names, places_of, shared_names, any_below, any_choice}
+use Rattle.rec_sex.specs.Meaning.{Meaning, Assignment, values_of, value_at, text, sem, is_true, is_zero, is_found, as_text, truth, in_range, reading_of, IsChoice, Selects}
+use Rattle.rec_sex.specs.Expressions.{pattern_at, term_under}
+use Rattle.rec_sex.specs.proving.Choices.{NameChoice, chosen_in, is_chosen, is_among, repeated_names, places_of, shared_names, any_below, any_choice}
 use Rattle.rec_sex.specs.proving.Outcomes.{outcome_of, can_be, only, inverse_of, is_connective, joined_by, branch_of, outcomes_over, outcomes_of_part, outcomes_in, can_hold, CanBe}
 use Rattle.rec_text.proofs.lemmas.ListLemmas.{bytes_eq-self}
-use Rattle.rec_sex.proofs.lemmas.meaning.EntryLemmas.{chosen_in-none, chosen_in-front, chosen_in-behind, HasEntries, any_choice-entries, any_choice-chosen, entries_of, chosen_among, not_among, agrees_with_own, is_among-names, has_chosen, is_among-shared, has_chosen-shared}
+use Rattle.rec_sex.proofs.lemmas.meaning.EntryLemmas.{chosen_in-none, chosen_in-prefix, chosen_in-following, HasEntries, any_choice-entries, any_choice-chosen, entries_of, chosen_among, not_among, agrees_with_own, is_among-names, has_chosen, is_among-shared, has_chosen-shared}
 use Rattle.rec_sex.proofs.lemmas.meaning.OutcomeLemmas.{inverted, joined, branched, outcome_of-inverse, outcome_of-joined, outcome_of-branched, true_holds, holds_true, can_be-only, only_one, can_be-union_below, inverse_can_be, inverse_part, joined_can_be, joined_parts, Parts, branch_can_be, branch_part, by_condition, by_yes, by_no}
 
 if_true : {A : Type 0} (b : Bool) (x y : A) → b ≡ true → (if b then x else y) ≡ x
@@ -31,7 +31,7 @@ if_false false x y e = refl
 
 -- ---- occurrences that a choice has
 
-module _ (pieces : List Piece) (c : Choice_) (is_choice : IsChoice pieces c) where
+module _ (pieces : List Piece) (c : Assignment) (is_choice : IsChoice pieces c) where
   below_several : (name : List ℕ) → 1 < length (values_of name pieces) → c name < length (values_of name pieces)
   below_several name several = elim (is_choice name) [
     | inl below ↦ below
@@ -46,7 +46,7 @@ module _ (pieces : List Piece) (c : Choice_) (is_choice : IsChoice pieces c) whe
   ]
 
 module _ (pieces : List Piece) (patterns : List Re) where
-  abbrev under : Tree → Choice_ → Option Meaning
+  abbrev under : Tree → Assignment → Option Meaning
   under tree c = sem (term_under patterns tree) pieces c
 
   -- ---- a meaning depends on the names that stand in the expression alone
@@ -54,7 +54,7 @@ module _ (pieces : List Piece) (patterns : List Re) where
   own_place : (name : List ℕ) → 0 < places_of name (Name name)
   own_place name = rw (bytes_eq-self name) (lit< tt)
 
-  module _ (c d : Choice_) where
+  module _ (c d : Assignment) where
     same_under : (tree : Tree) → ((name : List ℕ) → 0 < places_of name tree → c name ≡ d name) → under tree c ≡ under tree d
     same_under (Integer n) same = refl
     same_under (Literal bytes) same = refl
@@ -67,42 +67,33 @@ module _ (pieces : List Piece) (patterns : List Re) where
         let left : under a c ≡ under a d = same_under a (λ name h. same name (omega arith)) in
         let right : under b c ≡ under b d = same_under b (λ name h. same name (omega arith)) in
         rw (left, right) refl
-    same_under (Found' p a i) same = ap (λ m. option_map (λ x. truth (is_found (pattern_in patterns i) (text_of x))) m) (same_under a same)
+    same_under (Found' p a i) same = ap (λ m. option_map (λ x. truth (is_found (pattern_at patterns i) (as_text x))) m) (same_under a same)
     same_under (Choice' p k q a r b) same =
         let condition : under k c ≡ under k d = same_under k (λ name h. same name (omega arith)) in
-        let yes_ : under a c ≡ under a d = same_under a (λ name h. same name (omega arith)) in
-        let no_ : under b c ≡ under b d = same_under b (λ name h. same name (omega arith)) in
-        rw (condition, yes_, no_) refl
-
-  -- where no name occurs more than once, each choice is the same
-  pub only_choice_selects : (tree : Tree) → repeated_names pieces [] [] tree ≡ [] → Selects (term_under patterns tree) pieces → is_true (under tree (chosen_in [])) ≡ true
-  only_choice_selects tree none selects =
-      ap is_true (same_under (chosen_in []) selects.chosen tree (λ name stands. elim (cases_lt 1 (length (values_of name pieces))) [
-        | inl several ↦ absurd (false≢true (sym (ap (is_among name) none) ∙ is_among-names pieces [] name several refl tree [] stands))
-        | inr few ↦ only_first pieces selects.chosen selects.is_choice name few
-      ]))
-      ∙ selects.holds
+        let yes_part : under a c ≡ under a d = same_under a (λ name h. same name (omega arith)) in
+        let no_part : under b c ≡ under b d = same_under b (λ name h. same name (omega arith)) in
+        rw (condition, yes_part, no_part) refl
 
   -- ---- a part that is looked at as a whole
 
   -- with these entries the part is this
-  abbrev is_with : Tree → Outcome → List Entry → Bool
+  abbrev is_with : Tree → Outcome → List NameChoice → Bool
   is_with tree o entries = can_be (only (outcome_of (under tree (chosen_in entries)))) o
 
-  can_be-over : (tree : Tree) (names : List (List ℕ)) (entries : List Entry) (o : Outcome)
+  can_be-over : (tree : Tree) (names : List (List ℕ)) (entries : List NameChoice) (o : Outcome)
       → can_be (outcomes_over (term_under patterns tree) pieces names entries) o ≡ any_choice (is_with tree o) pieces names entries
   can_be-over tree [] entries o = refl
   can_be-over tree (name ∷ names) entries o =
       can_be-union_below (length (values_of name pieces)) (λ i. outcomes_over (term_under patterns tree) pieces names (entries ++ (name, i) ∷ [])) o
       ∙ ap (any_below (length (values_of name pieces))) (fun_ext (λ i. can_be-over tree names (entries ++ (name, i) ∷ []) o))
 
-  module _ (entries : List Entry) where
+  module _ (entries : List NameChoice) where
     abbrev outcomes : Tree → Outcomes
     outcomes tree = outcomes_in patterns pieces entries tree
 
     -- ---- what an expression is under a choice, it can be
 
-    module _ (c : Choice_) (is_choice : IsChoice pieces c) (agrees : (name : List ℕ) → is_chosen entries name ≡ true → c name ≡ chosen_in entries name) where
+    module _ (c : Assignment) (is_choice : IsChoice pieces c) (agrees : (name : List ℕ) → is_chosen entries name ≡ true → c name ≡ chosen_in entries name) where
       abbrev names_of : Tree → List (List ℕ)
       names_of tree = repeated_names pieces entries [] tree
 
@@ -117,18 +108,20 @@ module _ (pieces : List Piece) (patterns : List Re) where
 
       chosen_own : (tree : Tree) (name : List ℕ) → 0 < places_of name tree → chosen_in (entries ++ entries_of pieces c (names_of tree)) name ≡ c name
       chosen_own tree name stands = elim (cases_Bool (is_chosen entries name)) [
-        | inl chosen ↦ chosen_in-front entries (entries_of pieces c (names_of tree)) name chosen ∙ sym (agrees name chosen)
-        | inr free ↦ chosen_in-behind entries (entries_of pieces c (names_of tree)) name free ∙ chosen_free tree name stands free
+        | inl chosen ↦ chosen_in-prefix entries (entries_of pieces c (names_of tree)) name chosen ∙ sym (agrees name chosen)
+        | inr free ↦ chosen_in-following entries (entries_of pieces c (names_of tree)) name free ∙ chosen_free tree name stands free
       ]
+
+      -- the occurrences chosen for the names that occur more than once make the meaning
+      pub under-own : (tree : Tree) → under tree (chosen_in (entries ++ entries_of pieces c (names_of tree))) ≡ under tree c
+      under-own tree = same_under (chosen_in (entries ++ entries_of pieces c (names_of tree))) c tree (chosen_own tree)
 
       part_is : (tree : Tree) → can_be (outcomes_of_part patterns pieces entries tree) (outcome_of (under tree c)) ≡ true
       part_is tree =
           let o = outcome_of (under tree c) in
-          let same : under tree (chosen_in (entries ++ entries_of pieces c (names_of tree))) ≡ under tree c =
-          same_under (chosen_in (entries ++ entries_of pieces c (names_of tree))) c tree (chosen_own tree) in
           can_be-over tree (names_of tree) entries o
           ∙ any_choice-chosen pieces c (is_with tree o) (names_of tree) entries (has_chosen pieces entries c (below_several pieces c is_choice) tree)
-          (ap (λ m. can_be (only (outcome_of m)) o) same ∙ can_be-only o)
+          (ap (λ m. can_be (only (outcome_of m)) o) (under-own tree) ∙ can_be-only o)
 
       pub expression_is : (tree : Tree) → can_be (outcomes tree) (outcome_of (under tree c)) ≡ true
       expression_is (Not' p a) = ap (can_be (inverse_of (outcomes a))) (outcome_of-inverse (under a c)) ∙ inverse_can_be (outcomes a) (outcome_of (under a c)) (expression_is a)
@@ -157,7 +150,7 @@ module _ (pieces : List Piece) (patterns : List Re) where
 
     -- a choice makes one part this, and the other one that
     record CanBeBoth (a b : Tree) (x y : Outcome) : Type 0 where
-      chosen : Choice_
+      chosen : Assignment
       is_choice : IsChoice pieces chosen
       agrees : (name : List ℕ) → is_chosen entries name ≡ true → chosen name ≡ chosen_in entries name
       left : outcome_of (under a chosen) ≡ x
@@ -165,7 +158,7 @@ module _ (pieces : List Piece) (patterns : List Re) where
 
     module _ (a b : Tree) (x y : Outcome) (one : Can a x) (other : Can b y) where
       -- the one choice for the names of the one part, and the other one for all others
-      abbrev merged : Choice_
+      abbrev merged : Assignment
       merged name = if nat_lt 0 (places_of name a) then one.chosen name else other.chosen name
 
       merged_one : (name : List ℕ) → 0 < places_of name a → merged name ≡ one.chosen name
@@ -204,7 +197,7 @@ module _ (pieces : List Piece) (patterns : List Re) where
 
         merged_other : (name : List ℕ) → 0 < places_of name b → merged name ≡ other.chosen name
         merged_other name stands = elim (cases_lt 0 (places_of name a)) [
-          | inl both_ ↦ merged_one name both_ ∙ same_choice name both_ stands
+          | inl in_both ↦ merged_one name in_both ∙ same_choice name in_both stands
           | inr alone ↦ elim (merged_cases name) [
             | inl first ↦ (
                 let missing : nat_lt 0 (places_of name a) ≡ false = grind (arith, nat_tests) in
@@ -231,7 +224,7 @@ module _ (pieces : List Piece) (patterns : List Re) where
         record {
           chosen = chosen_in (entries ++ found.more);
           is_choice = found.is_choice;
-          agrees = λ name chosen. chosen_in-front entries found.more name chosen;
+          agrees = λ name chosen. chosen_in-prefix entries found.more name chosen;
           is = only_one (outcome_of (under tree (chosen_in (entries ++ found.more)))) o found.holds;
         }
 
@@ -257,7 +250,7 @@ module _ (pieces : List Piece) (patterns : List Re) where
       abbrev CanBranch : Type 0
       CanBranch = CanBe (choice (term_under patterns k) (term_under patterns a) (term_under patterns b)) pieces entries o
 
-      branched_is : (c : Choice_) (x : Outcome) → outcome_of (under k c) ≡ x → branched x (outcome_of (under a c)) (outcome_of (under b c)) ≡ o
+      branched_is : (c : Assignment) (x : Outcome) → outcome_of (under k c) ≡ x → branched x (outcome_of (under a c)) (outcome_of (under b c)) ≡ o
           → outcome_of (sem (choice (term_under patterns k) (term_under patterns a) (term_under patterns b)) pieces c) ≡ o
       branched_is c x condition make = outcome_of-branched (under a c) (under b c) (under k c) ∙ ap (λ z. branched z (outcome_of (under a c)) (outcome_of (under b c))) condition ∙ make
 
@@ -282,26 +275,43 @@ module _ (pieces : List Piece) (patterns : List Re) where
           inverse_can a part.0 o part.2 (expression_can_be a once part.0 part.1)
       expression_can_be (Binary' op p a q b) once o e = elim (cases_Bool (is_connective op)) [
         | inl connective ↦ (
-            let both_ : can_be (joined_by op (outcomes a) (outcomes b)) o ≡ true = ap (λ s. can_be s o) (sym (if_true (is_connective op) (joined_by op (outcomes a) (outcomes b)) (outcomes_of_part patterns pieces entries (Binary' op p a q b)) connective)) ∙ e in
+            let in_both : can_be (joined_by op (outcomes a) (outcomes b)) o ≡ true = ap (λ s. can_be s o) (sym (if_true (is_connective op) (joined_by op (outcomes a) (outcomes b)) (outcomes_of_part patterns pieces entries (Binary' op p a q b)) connective)) ∙ e in
             let parts : Parts (joined op) (outcomes a) (outcomes b) o =
-            joined_parts op (outcomes a) (outcomes b) (outcome_of (under a (chosen_in entries))) (outcome_of (under b (chosen_in entries))) o (is_own a) (is_own b) both_ in
+            joined_parts op (outcomes a) (outcomes b) (outcome_of (under a (chosen_in entries))) (outcome_of (under b (chosen_in entries))) o (is_own a) (is_own b) in_both in
             let left : Can a parts.left = expression_can_be a (λ name several free. omega (arith, once name several free)) parts.left parts.left_can_be in
             let right : Can b parts.right = expression_can_be b (λ name several free. omega (arith, once name several free)) parts.right parts.right_can_be in
             joined_can op a b parts.left parts.right o connective parts.make (can_be_both a b parts.left parts.right left right once))
         | inr other ↦ part_can_be own_is_choice (Binary' op p a q b) o (ap (λ s. can_be s o) (sym (if_false (is_connective op) (joined_by op (outcomes a) (outcomes b)) (outcomes_of_part patterns pieces entries (Binary' op p a q b)) other)) ∙ e)
       ]
       expression_can_be (Choice' p k q a r b) once o e = elim (branch_part (outcomes k) (outcomes a) (outcomes b) o e) [
-        | by_condition undefined_ is_undefined ↦ undefined_can k a b o is_undefined (expression_can_be k (λ name several free. omega (arith, once name several free)) Undefined undefined_)
-        | by_yes holds_ yes_ ↦ (
-            let condition : Can k Holds = expression_can_be k (λ name several free. omega (arith, once name several free)) Holds holds_ in
-            let branch : Can a o = expression_can_be a (λ name several free. omega (arith, once name several free)) o yes_ in
+        | by_condition no_value is_undefined ↦ undefined_can k a b o is_undefined (expression_can_be k (λ name several free. omega (arith, once name several free)) Undefined no_value)
+        | by_yes does_hold yes_part ↦ (
+            let condition : Can k Holds = expression_can_be k (λ name several free. omega (arith, once name several free)) Holds does_hold in
+            let branch : Can a o = expression_can_be a (λ name several free. omega (arith, once name several free)) o yes_part in
             yes_can k a b o (can_be_both k a Holds o condition branch (λ name several free. omega (arith, once name several free))))
-        | by_no fails_ no_ ↦ (
-            let condition : Can k Fails = expression_can_be k (λ name several free. omega (arith, once name several free)) Fails fails_ in
-            let branch : Can b o = expression_can_be b (λ name several free. omega (arith, once name several free)) o no_ in
+        | by_no can_fail no_part ↦ (
+            let condition : Can k Fails = expression_can_be k (λ name several free. omega (arith, once name several free)) Fails can_fail in
+            let branch : Can b o = expression_can_be b (λ name several free. omega (arith, once name several free)) o no_part in
             no_can k a b o (can_be_both k b Fails o condition branch (λ name several free. omega (arith, once name several free))))
       ]
       expression_can_be tree once o e = part_can_be own_is_choice tree o e
+
+  -- ---- the walk over the names that occur more than once
+
+  module _ (tree : Tree) where
+    abbrev pub is_true_with : List NameChoice → Bool
+    is_true_with entries = is_true (under tree (chosen_in entries))
+
+    pub selects_by_names : any_choice is_true_with pieces (repeated_names pieces [] [] tree) [] ≡ true → Selects (term_under patterns tree) pieces
+    selects_by_names e =
+        let found : HasEntries is_true_with pieces (repeated_names pieces [] [] tree) [] = any_choice-entries is_true_with pieces (repeated_names pieces [] [] tree) [] (chosen_in-none pieces) e in
+        record { chosen = chosen_in found.more; is_choice = found.is_choice; holds = found.holds }
+
+    pub selected_by_names : Selects (term_under patterns tree) pieces → any_choice is_true_with pieces (repeated_names pieces [] [] tree) [] ≡ true
+    selected_by_names selects =
+        let c = selects.chosen in
+        any_choice-chosen pieces c is_true_with (repeated_names pieces [] [] tree) [] (has_chosen pieces [] c (below_several pieces c selects.is_choice) tree)
+        (ap is_true (under-own [] c selects.is_choice (λ name chosen. absurd (false≢true chosen)) tree) ∙ selects.holds)
 
   -- ---- the walk over the names that stand in several places
 
@@ -313,7 +323,7 @@ module _ (pieces : List Piece) (patterns : List Re) where
     shared_have name several often =
         is_among-shared tree name often (repeated_names pieces [] [] tree) (is_among-names pieces [] name several refl tree [] (omega arith))
 
-    stands_once : (entries : List Entry) → ((name : List ℕ) → is_among name shared ≡ true → is_chosen entries name ≡ true) → StandsAtMostOnce entries (λ name. places_of name tree)
+    stands_once : (entries : List NameChoice) → ((name : List ℕ) → is_among name shared ≡ true → is_chosen entries name ≡ true) → StandsAtMostOnce entries (λ name. places_of name tree)
     stands_once entries have name several free = elim (cases_lt 1 (places_of name tree)) [
       | inl often ↦ absurd (false≢true (sym free ∙ have name (shared_have name several often)))
       | inr once ↦ once
@@ -329,8 +339,8 @@ module _ (pieces : List Piece) (patterns : List Re) where
     selected_by_walk selects =
         let c = selects.chosen in
         let own = entries_of pieces c shared in
-        let holds_ : outcome_of (under tree c) ≡ Holds = true_holds (under tree c) selects.holds in
+        let does_hold : outcome_of (under tree c) ≡ Holds = true_holds (under tree c) selects.holds in
         let can : can_be (outcomes_in patterns pieces own tree) (outcome_of (under tree c)) ≡ true = expression_is own c selects.is_choice (agrees_with_own pieces c shared) tree in
         any_choice-chosen pieces c (can_hold patterns pieces tree) shared []
         (has_chosen-shared pieces c tree (repeated_names pieces [] [] tree) (has_chosen pieces [] c (below_several pieces c selects.is_choice) tree))
-        (sym (ap (can_be (outcomes_in patterns pieces own tree)) holds_) ∙ can)
+        (sym (ap (can_be (outcomes_in patterns pieces own tree)) does_hold) ∙ can)

@@ -7,32 +7,32 @@ use Rattle.std.proofs.lemmas.Bool.{false≢true, cases_Bool, cases_lt, ltb-true,
 use Rattle.std.proofs.lemmas.List.{append-nil, append_assoc}
 use Rattle.rec_text.specs.Elements.{Piece}
 use Rattle.rec_sex.specs.declared.syntax.tree.Tree.{Tree, Integer, Literal, Name, Occurrence, Count, Not', Negate', Binary', Found', Choice'}
-use Rattle.rec_sex.specs.Meaning.{Choice_, values_of, IsChoice}
-use Rattle.rec_sex.specs.proving.Choices.{Entry, chosen_in, is_chosen, is_among, with_repeated, repeated_names, places_of, shared_names, any_below, any_choice}
+use Rattle.rec_sex.specs.Meaning.{Assignment, values_of, IsChoice}
+use Rattle.rec_sex.specs.proving.Choices.{NameChoice, chosen_in, is_chosen, is_among, with_repeated, repeated_names, places_of, shared_names, any_below, any_choice}
 use Rattle.rec_text.proofs.lemmas.ListLemmas.{AllByRecursion-push, bytes_eq-self, same_bytes}
 use Rattle.rec_sex.proofs.lemmas.meaning.ChoiceLemmas.{any_below-at, true_or}
 
 -- ---- entries
 
-pub is_chosen-append : (entries more : List Entry) (name : List ℕ) → is_chosen (entries ++ more) name ≡ (is_chosen entries name || is_chosen more name)
+pub is_chosen-append : (entries more : List NameChoice) (name : List ℕ) → is_chosen (entries ++ more) name ≡ (is_chosen entries name || is_chosen more name)
 is_chosen-append [] more name = refl
 is_chosen-append (entry ∷ entries) more name = elim (cases_Bool (bytes_eq entry.0 name)) [
   | inl same ↦ rw same refl
   | inr differs ↦ rw differs (is_chosen-append entries more name)
 ]
 
-pub chosen_in-front : (entries more : List Entry) (name : List ℕ) → is_chosen entries name ≡ true → chosen_in (entries ++ more) name ≡ chosen_in entries name
-chosen_in-front [] more name h = absurd (false≢true h)
-chosen_in-front (entry ∷ entries) more name h = elim (cases_Bool (bytes_eq entry.0 name)) [
+pub chosen_in-prefix : (entries more : List NameChoice) (name : List ℕ) → is_chosen entries name ≡ true → chosen_in (entries ++ more) name ≡ chosen_in entries name
+chosen_in-prefix [] more name h = absurd (false≢true h)
+chosen_in-prefix (entry ∷ entries) more name h = elim (cases_Bool (bytes_eq entry.0 name)) [
   | inl same ↦ rw same refl
-  | inr differs ↦ rw differs (chosen_in-front entries more name (rw differs at h))
+  | inr differs ↦ rw differs (chosen_in-prefix entries more name (rw differs at h))
 ]
 
-pub chosen_in-behind : (entries more : List Entry) (name : List ℕ) → is_chosen entries name ≡ false → chosen_in (entries ++ more) name ≡ chosen_in more name
-chosen_in-behind [] more name h = refl
-chosen_in-behind (entry ∷ entries) more name h = elim (cases_Bool (bytes_eq entry.0 name)) [
+pub chosen_in-following : (entries more : List NameChoice) (name : List ℕ) → is_chosen entries name ≡ false → chosen_in (entries ++ more) name ≡ chosen_in more name
+chosen_in-following [] more name h = refl
+chosen_in-following (entry ∷ entries) more name h = elim (cases_Bool (bytes_eq entry.0 name)) [
   | inl same ↦ absurd (false≢true (sym (rw same at h)))
-  | inr differs ↦ rw differs (chosen_in-behind entries more name (rw differs at h))
+  | inr differs ↦ rw differs (chosen_in-following entries more name (rw differs at h))
 ]
 
 -- ---- what is found is a choice
@@ -55,7 +55,7 @@ first_is_occurrence pieces name = first_is_place (values_of name pieces)
 pub chosen_in-none : (pieces : List Piece) → IsChoice pieces (chosen_in [])
 chosen_in-none pieces name = first_is_occurrence pieces name
 
-chosen_in-more : (pieces : List Piece) (entries : List Entry) (name : List ℕ) (i : ℕ) → i < length (values_of name pieces)
+chosen_in-more : (pieces : List Piece) (entries : List NameChoice) (name : List ℕ) (i : ℕ) → i < length (values_of name pieces)
     → (other : List ℕ) → IsOccurrence pieces other (chosen_in entries other) → IsOccurrence pieces other (chosen_in (entries ++ (name, i) ∷ []) other)
 chosen_in-more pieces [] name i below other h = elim (cases_Bool (bytes_eq name other)) [
   | inl same ↦ rw same (inl (let P : List ℕ → Type 0 = λ n. i < length (values_of n pieces) in subst P (same_bytes name other same) below))
@@ -74,14 +74,14 @@ any_below-true (suc n) test e = elim (cases_Bool (any_below n test)) [
 ]
 
 -- the test holds with more entries, one for each of the names
-pub record HasEntries (test : List Entry → Bool) (pieces : List Piece) (names : List (List ℕ)) (entries : List Entry) : Type 0 where
-  pub more : List Entry
+pub record HasEntries (test : List NameChoice → Bool) (pieces : List Piece) (names : List (List ℕ)) (entries : List NameChoice) : Type 0 where
+  pub more : List NameChoice
   pub is_choice : IsChoice pieces (chosen_in (entries ++ more))
   pub have : (name : List ℕ) → is_among name names ≡ true → is_chosen (entries ++ more) name ≡ true
   pub holds : test (entries ++ more) ≡ true
 
-module _ (test : List Entry → Bool) (pieces : List Piece) where
-  has_one_more : (name : List ℕ) (names : List (List ℕ)) (entries : List Entry) (i : ℕ) → HasEntries test pieces names (entries ++ (name, i) ∷ []) → HasEntries test pieces (name ∷ names) entries
+module _ (test : List NameChoice → Bool) (pieces : List Piece) where
+  has_one_more : (name : List ℕ) (names : List (List ℕ)) (entries : List NameChoice) (i : ℕ) → HasEntries test pieces names (entries ++ (name, i) ∷ []) → HasEntries test pieces (name ∷ names) entries
   has_one_more name names entries i h =
       let all : (entries ++ (name, i) ∷ []) ++ h.more ≡ entries ++ (name, i) ∷ h.more = append_assoc entries ((name, i) ∷ []) h.more in
       record {
@@ -94,7 +94,7 @@ module _ (test : List Entry → Bool) (pieces : List Piece) where
         holds = ap test (sym all) ∙ h.holds;
       }
 
-  pub any_choice-entries : (names : List (List ℕ)) (entries : List Entry) → IsChoice pieces (chosen_in entries) → any_choice test pieces names entries ≡ true → HasEntries test pieces names entries
+  pub any_choice-entries : (names : List (List ℕ)) (entries : List NameChoice) → IsChoice pieces (chosen_in entries) → any_choice test pieces names entries ≡ true → HasEntries test pieces names entries
   any_choice-entries [] entries choice e = record {
     more = [];
     is_choice = subst (λ es. IsChoice pieces (chosen_in es)) (sym (append-nil entries)) choice;
@@ -107,15 +107,15 @@ module _ (test : List Entry → Bool) (pieces : List Piece) where
 
 -- ---- where there is a choice, one is found
 
-module _ (pieces : List Piece) (c : Choice_) where
+module _ (pieces : List Piece) (c : Assignment) where
   -- the choice's occurrences of these names
-  abbrev pub entries_of : List (List ℕ) → List Entry
+  abbrev pub entries_of : List (List ℕ) → List NameChoice
   entries_of names = map (λ name. (name, c name)) names
 
   abbrev pub HasChosen : List (List ℕ) → Type 0
   HasChosen names = AllByRecursion (λ name. c name < length (values_of name pieces)) names
 
-  pub any_choice-chosen : (test : List Entry → Bool) (names : List (List ℕ)) (entries : List Entry) → HasChosen names
+  pub any_choice-chosen : (test : List NameChoice → Bool) (names : List (List ℕ)) (entries : List NameChoice) → HasChosen names
       → test (entries ++ entries_of names) ≡ true → any_choice test pieces names entries ≡ true
   any_choice-chosen test [] entries has e = ap test (sym (append-nil entries)) ∙ e
   any_choice-chosen test (name ∷ names) entries has e =
@@ -156,16 +156,16 @@ is_among-append (one ∷ names) name other e = elim (cases_Bool (bytes_eq one na
 ]
 
 -- the name occurs more than once and has no entry
-abbrev is_open : List Piece → List Entry → List ℕ → Bool
+abbrev is_open : List Piece → List NameChoice → List ℕ → Bool
 is_open pieces entries name = nat_lt 1 (length (values_of name pieces)) && not (is_chosen entries name)
 
 -- what holds of names and goes on to hold with one that occurs more than once holds of all of an expression
-module _ (pieces : List Piece) (entries : List Entry) (Q : List (List ℕ) → Type 0) (more : (names : List (List ℕ)) (name : List ℕ) → 1 < length (values_of name pieces) → Q names → Q (names ++ name ∷ [])) where
+module _ (pieces : List Piece) (entries : List NameChoice) (Q : List (List ℕ) → Type 0) (more : (names : List (List ℕ)) (name : List ℕ) → 1 < length (values_of name pieces) → Q names → Q (names ++ name ∷ [])) where
   keeps-name : (names : List (List ℕ)) (name : List ℕ) → Q names → Q (with_repeated pieces entries names name)
   keeps-name names name h = elim (cases_Bool (is_open pieces entries name && not (is_among name names))) [
     | inl new ↦ (
-        let open_ = and_parts (is_open pieces entries name) (not (is_among name names)) new in
-        let several = and_parts (nat_lt 1 (length (values_of name pieces))) (not (is_chosen entries name)) open_.0 in
+        let is_left_open = and_parts (is_open pieces entries name) (not (is_among name names)) new in
+        let several = and_parts (nat_lt 1 (length (values_of name pieces))) (not (is_chosen entries name)) is_left_open.0 in
         rw new (more names name (ltb-true 1 (length (values_of name pieces)) several.0) h))
     | inr old ↦ rw old h
   ]
@@ -182,7 +182,7 @@ module _ (pieces : List Piece) (entries : List Entry) (Q : List (List ℕ) → T
   keeps (Found' p a i) names h = keeps a names h
   keeps (Choice' p k q a r b) names h = keeps b _ (keeps a _ (keeps k names h))
 
-module _ (pieces : List Piece) (entries : List Entry) where
+module _ (pieces : List Piece) (entries : List NameChoice) where
   still_among : (tree : Tree) (names : List (List ℕ)) (name : List ℕ) → is_among name names ≡ true → is_among name (repeated_names pieces entries names tree) ≡ true
   still_among tree names name e = keeps pieces entries (λ ns. is_among name ns ≡ true) (λ ns other several h. is_among-append ns name other h) tree names e
 
@@ -214,17 +214,17 @@ module _ (pieces : List Piece) (entries : List Entry) where
     ]
     is_among-names (Found' p a i) names h = is_among-names a names h
     is_among-names (Choice' p k q a r b) names h =
-        let behind_k = repeated_names pieces entries names k in
-        let behind_a = repeated_names pieces entries behind_k a in
+        let after_k = repeated_names pieces entries names k in
+        let after_a = repeated_names pieces entries after_k a in
         elim (cases_lt 0 (places_of name k)) [
-          | inl first ↦ still_among b behind_a name (still_among a behind_k name (is_among-names k names first))
+          | inl first ↦ still_among b after_a name (still_among a after_k name (is_among-names k names first))
           | inr none ↦ elim (cases_lt 0 (places_of name a)) [
-            | inl second ↦ still_among b behind_a name (is_among-names a behind_k second)
-            | inr neither ↦ is_among-names b behind_a (omega arith)
+            | inl second ↦ still_among b after_a name (is_among-names a after_k second)
+            | inr neither ↦ is_among-names b after_a (omega arith)
           ]
         ]
 
-  pub has_chosen : (c : Choice_) → ((name : List ℕ) → 1 < length (values_of name pieces) → c name < length (values_of name pieces)) → (tree : Tree) → HasChosen pieces c (repeated_names pieces entries [] tree)
+  pub has_chosen : (c : Assignment) → ((name : List ℕ) → 1 < length (values_of name pieces) → c name < length (values_of name pieces)) → (tree : Tree) → HasChosen pieces c (repeated_names pieces entries [] tree)
   has_chosen c below tree =
       keeps pieces entries (HasChosen pieces c) (λ names name several has. AllByRecursion-push (λ n. c n < length (values_of n pieces)) names name has (below name several)) tree [] tt
 
@@ -244,7 +244,7 @@ is_among-shared tree name several (one ∷ names) h = elim (cases_Bool (bytes_eq
       ])
 ]
 
-pub has_chosen-shared : (pieces : List Piece) (c : Choice_) (tree : Tree) (names : List (List ℕ)) → HasChosen pieces c names → HasChosen pieces c (shared_names tree names)
+pub has_chosen-shared : (pieces : List Piece) (c : Assignment) (tree : Tree) (names : List (List ℕ)) → HasChosen pieces c names → HasChosen pieces c (shared_names tree names)
 has_chosen-shared pieces c tree [] has = tt
 has_chosen-shared pieces c tree (one ∷ names) has = elim (cases_Bool (nat_lt 1 (places_of one tree))) [
   | inl kept ↦ rw kept (has.0, has_chosen-shared pieces c tree names has.1)

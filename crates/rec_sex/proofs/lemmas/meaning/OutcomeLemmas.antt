@@ -30,9 +30,9 @@ joined Or x y = inverted (both (inverted x) (inverted y))
 joined _ x y = inverted (both x (inverted y))
 
 abbrev pub branched : Outcome → Outcome → Outcome → Outcome
-branched Undefined yes_ no_ = Undefined
-branched Fails yes_ no_ = no_
-branched Holds yes_ no_ = yes_
+branched Undefined yes_part no_part = Undefined
+branched Fails yes_part no_part = no_part
+branched Holds yes_part no_part = yes_part
 
 inverted-inverted : (x : Outcome) → inverted (inverted x) ≡ x
 inverted-inverted Undefined = refl
@@ -53,9 +53,9 @@ joined-undefined _ x = ap inverted (both-undefined x)
 
 -- an integer that is 0 or not
 abbrev condition : Bool → Outcome
-condition zero_ = if zero_ then Fails else Holds
+condition came_to_zero = if came_to_zero then Fails else Holds
 
-inverse_test : (zero_ : Bool) → outcome_of (Some (truth zero_)) ≡ inverted (condition zero_)
+inverse_test : (came_to_zero : Bool) → outcome_of (Some (truth came_to_zero)) ≡ inverted (condition came_to_zero)
 inverse_test true = refl
 inverse_test false = refl
 
@@ -104,47 +104,47 @@ outcome_of-joined Or is m n = tested Or (λ x y. not x || not y) or_tests (λ y.
 outcome_of-joined Implies is m n = tested Implies (λ x y. x || not y) implies_tests (λ y. refl) m n
 outcome_of-joined _ is m n = absurd (false≢true is)
 
-module _ (yes_ no_ : Option Meaning) where
-  branch_test : (zero_ : Bool) → outcome_of (if zero_ then no_ else yes_) ≡ branched (condition zero_) (outcome_of yes_) (outcome_of no_)
+module _ (yes_part no_part : Option Meaning) where
+  branch_test : (came_to_zero : Bool) → outcome_of (if came_to_zero then no_part else yes_part) ≡ branched (condition came_to_zero) (outcome_of yes_part) (outcome_of no_part)
   branch_test true = refl
   branch_test false = refl
 
-  branch_reading : (reading : Option ℤ) → outcome_of (option_and_then (λ z. if is_zero z then no_ else yes_) reading) ≡ branched (outcome_of_reading reading) (outcome_of yes_) (outcome_of no_)
+  branch_reading : (reading : Option ℤ) → outcome_of (option_and_then (λ z. if is_zero z then no_part else yes_part) reading) ≡ branched (outcome_of_reading reading) (outcome_of yes_part) (outcome_of no_part)
   branch_reading None = refl
   branch_reading (Some z) = branch_test (is_zero z)
 
-  pub outcome_of-branched : (m : Option Meaning) → outcome_of (option_and_then (λ x. option_and_then (λ z. if is_zero z then no_ else yes_) (reading_of x)) m) ≡ branched (outcome_of m) (outcome_of yes_) (outcome_of no_)
+  pub outcome_of-branched : (m : Option Meaning) → outcome_of (option_and_then (λ x. option_and_then (λ z. if is_zero z then no_part else yes_part) (reading_of x)) m) ≡ branched (outcome_of m) (outcome_of yes_part) (outcome_of no_part)
   outcome_of-branched None = refl
   outcome_of-branched (Some x) = branch_reading (reading_of x)
 
 -- a meaning is true where it holds as a condition
-abbrev holds_ : Outcome → Bool
-holds_ Undefined = false
-holds_ Fails = false
-holds_ Holds = true
+abbrev does_hold : Outcome → Bool
+does_hold Undefined = false
+does_hold Fails = false
+does_hold Holds = true
 
-true_test : (zero_ : Bool) → not zero_ ≡ holds_ (condition zero_)
+true_test : (came_to_zero : Bool) → not came_to_zero ≡ does_hold (condition came_to_zero)
 true_test true = refl
 true_test false = refl
 
-true_meaning : (x : Meaning) → (reading : Option ℤ) → reading_of x ≡ reading → is_true (Some x) ≡ holds_ (outcome_of_reading reading)
+true_meaning : (x : Meaning) → (reading : Option ℤ) → reading_of x ≡ reading → is_true (Some x) ≡ does_hold (outcome_of_reading reading)
 true_meaning x None e = rw e refl
 true_meaning x (Some z) e = rw e (true_test (is_zero z))
 
-is_true-outcome : (m : Option Meaning) → is_true m ≡ holds_ (outcome_of m)
+is_true-outcome : (m : Option Meaning) → is_true m ≡ does_hold (outcome_of m)
 is_true-outcome None = refl
 is_true-outcome (Some x) = true_meaning x (reading_of x) refl
 
-holds_-is : (x : Outcome) → holds_ x ≡ true → x ≡ Holds
-holds_-is Undefined h = absurd (false≢true h)
-holds_-is Fails h = absurd (false≢true h)
-holds_-is Holds h = refl
+does_hold-is : (x : Outcome) → does_hold x ≡ true → x ≡ Holds
+does_hold-is Undefined h = absurd (false≢true h)
+does_hold-is Fails h = absurd (false≢true h)
+does_hold-is Holds h = refl
 
 pub true_holds : (m : Option Meaning) → is_true m ≡ true → outcome_of m ≡ Holds
-true_holds m h = holds_-is (outcome_of m) (sym (is_true-outcome m) ∙ h)
+true_holds m h = does_hold-is (outcome_of m) (sym (is_true-outcome m) ∙ h)
 
 pub holds_true : (m : Option Meaning) → outcome_of m ≡ Holds → is_true m ≡ true
-holds_true m h = is_true-outcome m ∙ ap holds_ h
+holds_true m h = is_true-outcome m ∙ ap does_hold h
 
 -- ---- what a condition can be
 
@@ -209,15 +209,15 @@ pub record Parts (f : Outcome → Outcome → Outcome) (s t : Outcomes) (o : Out
 
 both_parts : (s t : Outcomes) (x y o : Outcome) → can_be s x ≡ true → can_be t y ≡ true → can_be (both_of s t) o ≡ true → Parts both s t o
 both_parts s t x y Undefined h k e = elim (or_cases s.undefined t.undefined e) [
-  | inl left_ ↦ record { left = Undefined; right = y; left_can_be = left_; right_can_be = k; make = refl }
-  | inr right_ ↦ record { left = x; right = Undefined; left_can_be = h; right_can_be = right_; make = both-undefined x }
+  | inl left_can ↦ record { left = Undefined; right = y; left_can_be = left_can; right_can_be = k; make = refl }
+  | inr right_can ↦ record { left = x; right = Undefined; left_can_be = h; right_can_be = right_can; make = both-undefined x }
 ]
 both_parts s t x y Fails h k e = elim (or_cases (s.fails && (t.fails || t.holds)) (s.holds && t.fails) e) [
-  | inl left_ ↦ (let parts = and_parts s.fails (t.fails || t.holds) left_ in elim (or_cases t.fails t.holds parts.1) [
-    | inl fails_ ↦ record { left = Fails; right = Fails; left_can_be = parts.0; right_can_be = fails_; make = refl }
+  | inl left_can ↦ (let parts = and_parts s.fails (t.fails || t.holds) left_can in elim (or_cases t.fails t.holds parts.1) [
+    | inl can_fail ↦ record { left = Fails; right = Fails; left_can_be = parts.0; right_can_be = can_fail; make = refl }
     | inr holds_too ↦ record { left = Fails; right = Holds; left_can_be = parts.0; right_can_be = holds_too; make = refl }
   ])
-  | inr right_ ↦ (let parts = and_parts s.holds t.fails right_ in record { left = Holds; right = Fails; left_can_be = parts.0; right_can_be = parts.1; make = refl })
+  | inr right_can ↦ (let parts = and_parts s.holds t.fails right_can in record { left = Holds; right = Fails; left_can_be = parts.0; right_can_be = parts.1; make = refl })
 ]
 both_parts s t x y Holds h k e =
     let parts = and_parts s.holds t.holds e in
@@ -233,8 +233,8 @@ joined_can_be _ s t x y h k = inverse_can_be (both_of s (inverse_of t)) (both x 
 part_of_inverse : (s : Outcomes) (x : Outcome) → can_be (inverse_of s) x ≡ true → can_be s (inverted x) ≡ true
 part_of_inverse s x h = sym (can_be-inverse s x) ∙ h
 
-or_parts_ : (s t : Outcomes) (o : Outcome) → Parts both (inverse_of s) (inverse_of t) (inverted o) → Parts (λ x y. inverted (both (inverted x) (inverted y))) s t o
-or_parts_ s t o p = record {
+or_parts_of : (s t : Outcomes) (o : Outcome) → Parts both (inverse_of s) (inverse_of t) (inverted o) → Parts (λ x y. inverted (both (inverted x) (inverted y))) s t o
+or_parts_of s t o p = record {
   left = inverted p.left;
   right = inverted p.right;
   left_can_be = part_of_inverse s p.left p.left_can_be;
@@ -254,7 +254,7 @@ implies_parts s t o p = record {
 pub joined_parts : (op : Operator) (s t : Outcomes) (x y o : Outcome) → can_be s x ≡ true → can_be t y ≡ true → can_be (joined_by op s t) o ≡ true → Parts (joined op) s t o
 joined_parts And s t x y o h k e = both_parts s t x y o h k e
 joined_parts Or s t x y o h k e =
-    or_parts_ s t o (both_parts (inverse_of s) (inverse_of t) (inverted x) (inverted y) (inverted o) (inverse_can_be s x h) (inverse_can_be t y k) (part_of_inverse (both_of (inverse_of s) (inverse_of t)) o e))
+    or_parts_of s t o (both_parts (inverse_of s) (inverse_of t) (inverted x) (inverted y) (inverted o) (inverse_can_be s x h) (inverse_can_be t y k) (part_of_inverse (both_of (inverse_of s) (inverse_of t)) o e))
 joined_parts _ s t x y o h k e = implies_parts s t o (both_parts s (inverse_of t) x (inverted y) (inverted o) h (inverse_can_be t y k) (part_of_inverse (both_of s (inverse_of t)) o e))
 
 pub branch_can_be : (s t u : Outcomes) (x y z : Outcome) → can_be s x ≡ true → can_be t y ≡ true → can_be u z ≡ true → can_be (branch_of s t u) (branched x y z) ≡ true
@@ -274,17 +274,17 @@ pub data BranchPart (s t u : Outcomes) (o : Outcome) : Type 0 where
 
 chosen_branch : (s t u : Outcomes) (o : Outcome) → ((s.holds && can_be t o) || (s.fails && can_be u o)) ≡ true → BranchPart s t u o
 chosen_branch s t u o e = elim (or_cases (s.holds && can_be t o) (s.fails && can_be u o) e) [
-  | inl yes_ ↦ (let parts = and_parts s.holds (can_be t o) yes_ in by_yes parts.0 parts.1)
-  | inr no_ ↦ (let parts = and_parts s.fails (can_be u o) no_ in by_no parts.0 parts.1)
+  | inl yes_part ↦ (let parts = and_parts s.holds (can_be t o) yes_part in by_yes parts.0 parts.1)
+  | inr no_part ↦ (let parts = and_parts s.fails (can_be u o) no_part in by_no parts.0 parts.1)
 ]
 
 pub branch_part : (s t u : Outcomes) (o : Outcome) → can_be (branch_of s t u) o ≡ true → BranchPart s t u o
 branch_part s t u Undefined e = elim (or_cases (s.undefined || (s.holds && t.undefined)) (s.fails && u.undefined) e) [
   | inl first ↦ elim (or_cases s.undefined (s.holds && t.undefined) first) [
-    | inl condition_ ↦ by_condition condition_ refl
-    | inr yes_ ↦ (let parts = and_parts s.holds t.undefined yes_ in by_yes parts.0 parts.1)
+    | inl condition_is ↦ by_condition condition_is refl
+    | inr yes_part ↦ (let parts = and_parts s.holds t.undefined yes_part in by_yes parts.0 parts.1)
   ]
-  | inr no_ ↦ (let parts = and_parts s.fails u.undefined no_ in by_no parts.0 parts.1)
+  | inr no_part ↦ (let parts = and_parts s.fails u.undefined no_part in by_no parts.0 parts.1)
 ]
 branch_part s t u Fails e = chosen_branch s t u Fails e
 branch_part s t u Holds e = chosen_branch s t u Holds e

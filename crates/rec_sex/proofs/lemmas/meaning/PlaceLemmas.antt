@@ -6,12 +6,12 @@ use Rattle.rec_sex.specs.declared.meaning.sharing.Times.{Times}
 use Rattle.rec_sex.specs.declared.meaning.sharing.Times.TheVariants.{Never, Once, Often}
 use Rattle.rec_sex.specs.proving.Choices.{times_of, times_in_both}
 
-abbrev pub is_often_ : Times → Bool
-is_often_ Never = false
-is_often_ Once = false
-is_often_ Often = true
+abbrev pub is_often_word : Times → Bool
+is_often_word Never = false
+is_often_word Once = false
+is_often_word Often = true
 
-pub is_often : (n : ℕ) → nat_lt 1 n ≡ is_often_ (times_of n)
+pub is_often : (n : ℕ) → nat_lt 1 n ≡ is_often_word (times_of n)
 is_often zero = refl
 is_often (suc zero) = refl
 is_often (suc (suc n)) = lt-ltb 1 (suc (suc n)) (omega arith)

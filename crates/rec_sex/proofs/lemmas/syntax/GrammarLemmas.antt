@@ -11,26 +11,26 @@ use Rattle.rec_sex.specs.declared.syntax.token.Operator.{Operator}
 use Rattle.rec_sex.specs.declared.syntax.token.Operator.TheVariants.{Subtract, Implies}
 use Rattle.rec_sex.specs.declared.syntax.token.Token.{Token}
 use Rattle.rec_sex.specs.declared.syntax.token.Token.TheVariants.{Integer, Literal, Name, Occurrence, Count, Not, Binary, Found, Open, Close, Then, Else}
-use Rattle.rec_sex.specs.Grammar.{Term, Derives, by_choice, by_implication, by_operator, by_pattern, by_not, by_minus, by_next, by_integer, by_literal, by_name, by_occurrence, by_count, by_parentheses, IsPatternOf, AreTaken, level_of, Operand, Operator_, Comparison, Want, Opened, Parenthesis, Question}
+use Rattle.rec_sex.specs.Grammar.{Term, Derives, by_choice, by_implication, by_operator, by_pattern, by_not, by_minus, by_next, by_integer, by_literal, by_name, by_occurrence, by_count, by_parentheses, IsPatternOf, AreTaken, level_of, Operand, Infix, Comparison, Want, Opened, Parenthesis, Question}
 use Rattle.rec_sex.specs.proving.Parsing.{takes_from}
-use Rattle.rec_sex.proofs.lemmas.syntax.WalkLemmas.{AreTaken-taken, behind_comparison, takes_pattern}
+use Rattle.rec_sex.proofs.lemmas.syntax.WalkLemmas.{AreTaken-taken, after_comparison, takes_pattern}
 
 -- ---- what the grammar derives, the walk takes
 
--- what is wanted behind an expression of this level: one of a comparison or weaker may end in a pattern
-abbrev behind_level : ℕ → Want
-behind_level level = if nat_le level 4 then Comparison else Operator_
+-- what is wanted after an expression of this level: one of a comparison or weaker may end in a pattern
+abbrev after_level : ℕ → Want
+after_level level = if nat_le level 4 then Comparison else Infix
 
-next_behind : (here next : Bool) (stack : List Opened) (rest : List Token) → (here ≡ false → next ≡ false) → takes_from (if here then Comparison else Operator_) stack rest ≡ true → takes_from (if next then Comparison else Operator_) stack rest ≡ true
-next_behind true true stack rest falls h = h
-next_behind true false stack rest falls h = (behind_comparison stack rest h).0
-next_behind false false stack rest falls h = h
-next_behind false true stack rest falls h = absurd (false≢true (sym (falls refl)))
+next_after : (here next : Bool) (stack : List Opened) (rest : List Token) → (here ≡ false → next ≡ false) → takes_from (if here then Comparison else Infix) stack rest ≡ true → takes_from (if next then Comparison else Infix) stack rest ≡ true
+next_after true true stack rest falls h = h
+next_after true false stack rest falls h = (after_comparison stack rest h).0
+next_after false false stack rest falls h = h
+next_after false true stack rest falls h = absurd (false≢true (sym (falls refl)))
 
-behind_next : (level next : ℕ) (stack : List Opened) (rest : List Token) → next ≡ level + 1 → takes_from (behind_level level) stack rest ≡ true → takes_from (behind_level next) stack rest ≡ true
-behind_next level next stack rest e h = next_behind (nat_le level 4) (nat_le next 4) stack rest (λ k. grind (arith, nat_tests)) h
+after_next : (level next : ℕ) (stack : List Opened) (rest : List Token) → next ≡ level + 1 → takes_from (after_level level) stack rest ≡ true → takes_from (after_level next) stack rest ≡ true
+after_next level next stack rest e h = next_after (nat_le level 4) (nat_le next 4) stack rest (λ k. grind (arith, nat_tests)) h
 
-takes_operator : (op : Operator) (stack : List Opened) (rest : List Token) → takes_from Operand stack rest ≡ true → takes_from (behind_level (level_of op)) stack (Binary op ∷ rest) ≡ true
+takes_operator : (op : Operator) (stack : List Opened) (rest : List Token) → takes_from Operand stack rest ≡ true → takes_from (after_level (level_of op)) stack (Binary op ∷ rest) ≡ true
 takes_operator Implies stack rest h = h
 takes_operator op stack rest h = h
 
@@ -43,19 +43,19 @@ takes_as tokens these stack e h = ap (λ x. takes_from Operand stack x) e ∙ h
 pub utf8_of_pattern : (text : List ℕ) (pattern : Re) → IsPatternOf text pattern → is_utf8 text ≡ true
 utf8_of_pattern text pattern p = subst (λ x. is_utf8 x ≡ true) p.1 (is_utf8-from_IsUtf8 (regex_source p.0) (IsUtf8-string_bytes p.0.pattern.source))
 
-pub takes_derived : (level : ℕ) (tokens : List Token) (a : Term) → Derives level tokens a → (stack : List Opened) (rest : List Token) → takes_from (behind_level level) stack rest ≡ true → takes_from Operand stack (tokens ++ rest) ≡ true
-takes_derived level tokens a (by_choice _ condition yes_ no_ c x y e dc dx dy) stack rest h =
-    takes_as (tokens ++ rest) (condition ++ Then ∷ (yes_ ++ Else ∷ (no_ ++ rest))) stack
-    (ap (λ t. t ++ rest) e ∙ regroup condition (yes_ ++ Else ∷ no_) rest Then ∙ ap (λ t. condition ++ Then ∷ t) (regroup yes_ no_ rest Else))
-    (takes_derived 1 condition c dc stack (Then ∷ (yes_ ++ Else ∷ (no_ ++ rest)))
-    (takes_derived 0 yes_ x dx (Question ∷ stack) (Else ∷ (no_ ++ rest)) (takes_derived 0 no_ y dy stack rest h)))
+pub takes_derived : (level : ℕ) (tokens : List Token) (a : Term) → Derives level tokens a → (stack : List Opened) (rest : List Token) → takes_from (after_level level) stack rest ≡ true → takes_from Operand stack (tokens ++ rest) ≡ true
+takes_derived level tokens a (by_choice _ condition yes_part no_part c x y e dc dx dy) stack rest h =
+    takes_as (tokens ++ rest) (condition ++ Then ∷ (yes_part ++ Else ∷ (no_part ++ rest))) stack
+    (ap (λ t. t ++ rest) e ∙ regroup condition (yes_part ++ Else ∷ no_part) rest Then ∙ ap (λ t. condition ++ Then ∷ t) (regroup yes_part no_part rest Else))
+    (takes_derived 1 condition c dc stack (Then ∷ (yes_part ++ Else ∷ (no_part ++ rest)))
+    (takes_derived 0 yes_part x dx (Question ∷ stack) (Else ∷ (no_part ++ rest)) (takes_derived 0 no_part y dy stack rest h)))
 takes_derived level tokens a (by_implication _ left right x y e dx dy) stack rest h =
     takes_as (tokens ++ rest) (left ++ Binary Implies ∷ (right ++ rest)) stack (ap (λ t. t ++ rest) e ∙ regroup left right rest (Binary Implies))
     (takes_derived 2 left x dx stack (Binary Implies ∷ (right ++ rest)) (takes_derived 1 right y dy stack rest h))
 takes_derived level tokens a (by_operator op _ left right x y k e dx dy) stack rest h =
     takes_as (tokens ++ rest) (left ++ Binary op ∷ (right ++ rest)) stack (ap (λ t. t ++ rest) e ∙ regroup left right rest (Binary op))
     (takes_derived (level_of op) left x dx stack (Binary op ∷ (right ++ rest))
-    (takes_operator op stack (right ++ rest) (takes_derived (level_of op + 1) right y dy stack rest (behind_next (level_of op) (level_of op + 1) stack rest refl h))))
+    (takes_operator op stack (right ++ rest) (takes_derived (level_of op + 1) right y dy stack rest (after_next (level_of op) (level_of op + 1) stack rest refl h))))
 takes_derived level tokens a (by_pattern _ left x text pattern e dx p) stack rest h =
     takes_as (tokens ++ rest) (left ++ Found ∷ (Literal text ∷ rest)) stack (ap (λ t. t ++ rest) e ∙ regroup left (Literal text ∷ []) rest Found)
     (takes_derived 4 left x dx stack (Found ∷ (Literal text ∷ rest)) (takes_pattern stack text rest (utf8_of_pattern text pattern p) h))
@@ -63,7 +63,7 @@ takes_derived level tokens a (by_not _ operand x e dx) stack rest h =
     takes_as (tokens ++ rest) (Not ∷ (operand ++ rest)) stack (ap (λ t. t ++ rest) e) (takes_derived 8 operand x dx stack rest h)
 takes_derived level tokens a (by_minus _ operand x e dx) stack rest h =
     takes_as (tokens ++ rest) (Binary Subtract ∷ (operand ++ rest)) stack (ap (λ t. t ++ rest) e) (takes_derived 8 operand x dx stack rest h)
-takes_derived level tokens a (by_next _ next _ x e k d) stack rest h = takes_derived next tokens x d stack rest (behind_next level next stack rest e h)
+takes_derived level tokens a (by_next _ next _ x e k d) stack rest h = takes_derived next tokens x d stack rest (after_next level next stack rest e h)
 takes_derived level tokens a (by_integer _ n e) stack rest h = takes_as (tokens ++ rest) (Integer n ∷ rest) stack (ap (λ t. t ++ rest) e) h
 takes_derived level tokens a (by_literal _ text e) stack rest h = takes_as (tokens ++ rest) (Literal text ∷ rest) stack (ap (λ t. t ++ rest) e) h
 takes_derived level tokens a (by_name _ name e) stack rest h = takes_as (tokens ++ rest) (Name name ∷ rest) stack (ap (λ t. t ++ rest) e) h

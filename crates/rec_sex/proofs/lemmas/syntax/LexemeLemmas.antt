@@ -18,11 +18,11 @@ use Rattle.rec_sex.specs.proving.Lexing.{literal_byte}
 
 -- ---- indexes
 
--- the number that digits write behind the number so far
+-- the number that digits write after the number so far
 abbrev pub value_from : ℕ → List ℕ → ℕ
 value_from n digits = fold (λ m digit. m * 10 + (digit - 48)) n digits
 
--- the index of this value and so many digits
+-- the index of this value and n digits
 abbrev index_with : ℕ → ℕ → Option (ℕ × ℕ)
 index_with value len = if len == 0 || nat_lt greatest value then None else Some (value, len)
 
@@ -59,7 +59,7 @@ index_from-large n len s i less digit large =
 
 -- ---- integers
 
--- the integer of a number and so many bytes, if it has 63 bits
+-- the integer of a number and n bytes, if it has 63 bits
 abbrev of_magnitude : Option ℕ → ℕ → Lexeme
 of_magnitude found len = elim found [ None ↦ Broken 0 | Some n ↦ if nat_lt n (2 ^ 63) then Whole (Integer (pos n)) len else Broken 0 ]
 
@@ -87,34 +87,34 @@ of_magnitude-large n len above = ap (λ t. if t then Whole (Integer (pos n)) len
 -- ---- text literals
 
 -- a literal that begins with these bytes of text, which stand before this place
-abbrev with_front : List ℕ → ℕ → Option (List ℕ × ℕ) → Lexeme
-with_front front at found = elim found [ None ↦ Broken 0 | Some x ↦ Whole (Literal (front ++ x.0)) (at + x.1) ]
+abbrev with_prefix : List ℕ → ℕ → Option (List ℕ × ℕ) → Lexeme
+with_prefix prefix at found = elim found [ None ↦ Broken 0 | Some x ↦ Whole (Literal (prefix ++ x.0)) (at + x.1) ]
 
 -- a literal was read up to a place
-pub record IsInLiteral (text : List ℕ) (quote : ℕ) (front : List ℕ) (at : ℕ) : Type 0 where
-  pub same : literal_at text ≡ with_front front at (literal_from quote (drop at text))
+pub record IsInLiteral (text : List ℕ) (quote : ℕ) (prefix : List ℕ) (at : ℕ) : Type 0 where
+  pub same : literal_at text ≡ with_prefix prefix at (literal_from quote (drop at text))
   pub some : 1 ≤ at
   pub fits : at ≤ length text
 
-with_front-none : (found : Option (List ℕ × ℕ)) → (elim found [ None ↦ Broken 0 | Some x ↦ Whole (Literal x.0) (x.1 + 1) ]) ≡ with_front [] 1 found
-with_front-none None = refl
-with_front-none (Some x) = ap (Whole (Literal x.0)) (omega arith)
+with_prefix-none : (found : Option (List ℕ × ℕ)) → (elim found [ None ↦ Broken 0 | Some x ↦ Whole (Literal x.0) (x.1 + 1) ]) ≡ with_prefix [] 1 found
+with_prefix-none None = refl
+with_prefix-none (Some x) = ap (Whole (Literal x.0)) (omega arith)
 
 pub IsInLiteral-start : (text : List ℕ) → 0 < length text → IsInLiteral text (get_or text 0 0) [] 1
 IsInLiteral-start [] some = absurd (omega arith)
 IsInLiteral-start (b ∷ bs) some = record {
-  same = with_front-none (literal_from b bs);
+  same = with_prefix-none (literal_from b bs);
   some = omega arith;
   fits = omega arith;
 }
 
-with_front-more : (front : List ℕ) (at byte len : ℕ) (found : Option (List ℕ × ℕ))
-    → with_front front at (option_map (λ x. (byte ∷ x.0, x.1 + len)) found) ≡ with_front (front ++ byte ∷ []) (at + len) found
-with_front-more front at byte len None = refl
-with_front-more front at byte len (Some x) =
-    ap (λ t. Whole (Literal t) (at + (x.1 + len))) (sym (append_assoc front (byte ∷ []) x.0)) ∙ ap (Whole (Literal ((front ++ byte ∷ []) ++ x.0))) (omega arith)
+with_prefix-more : (prefix : List ℕ) (at byte len : ℕ) (found : Option (List ℕ × ℕ))
+    → with_prefix prefix at (option_map (λ x. (byte ∷ x.0, x.1 + len)) found) ≡ with_prefix (prefix ++ byte ∷ []) (at + len) found
+with_prefix-more prefix at byte len None = refl
+with_prefix-more prefix at byte len (Some x) =
+    ap (λ t. Whole (Literal t) (at + (x.1 + len))) (sym (append_assoc prefix (byte ∷ []) x.0)) ∙ ap (Whole (Literal ((prefix ++ byte ∷ []) ++ x.0))) (omega arith)
 
--- the byte behind a backslash that is dropped, or else the first one; and how many bytes write it
+-- the byte after a backslash that is dropped, or else the first one; and how many bytes write it
 abbrev byte_where : Bool → ℕ → ℕ → ℕ × ℕ
 byte_where escaped b c = if escaped then (c, 2) else (b, 1)
 
@@ -134,10 +134,10 @@ literal_from-byte quote b (c ∷ cs) ne =
     let more = if escaped then option_map (λ x. (c ∷ x.0, x.1 + 2)) (literal_from quote cs) else with_byte b (literal_from quote (c ∷ cs)) in
     ap (λ t. if t then Some ([], 1) else more) differs ∙ byte_step quote b c cs escaped
 
-literal_from-front : (quote : ℕ) (s : List ℕ) (byte len : ℕ) → 0 < length s → get_or s 0 0 ≢ quote → literal_byte s ≡ (byte, len)
+literal_from-prefix : (quote : ℕ) (s : List ℕ) (byte len : ℕ) → 0 < length s → get_or s 0 0 ≢ quote → literal_byte s ≡ (byte, len)
     → literal_from quote s ≡ option_map (λ x. (byte ∷ x.0, x.1 + len)) (literal_from quote (drop len s))
-literal_from-front quote [] byte len some ne e = absurd (omega arith)
-literal_from-front quote (b ∷ bs) byte len some ne e =
+literal_from-prefix quote [] byte len some ne e = absurd (omega arith)
+literal_from-prefix quote (b ∷ bs) byte len some ne e =
     let P : ℕ × ℕ → Type 0 = λ p. literal_from quote (b ∷ bs) ≡ option_map (λ x. (p.0 ∷ x.0, x.1 + p.1)) (literal_from quote (drop p.1 (b ∷ bs))) in
     subst P e (literal_from-byte quote b bs ne)
 
@@ -154,9 +154,9 @@ literal_byte_is_within (b ∷ c ∷ cs) some =
       | false ↦ (omega arith, omega arith)
     ]
 
-pub IsInLiteral-more : (text : List ℕ) (quote : ℕ) (front : List ℕ) (at byte len : ℕ) → IsInLiteral text quote front at → at < length text
-    → get_or text at 0 ≢ quote → literal_byte (drop at text) ≡ (byte, len) → IsInLiteral text quote (front ++ byte ∷ []) (at + len)
-IsInLiteral-more text quote front at byte len is less ne e =
+pub IsInLiteral-more : (text : List ℕ) (quote : ℕ) (prefix : List ℕ) (at byte len : ℕ) → IsInLiteral text quote prefix at → at < length text
+    → get_or text at 0 ≢ quote → literal_byte (drop at text) ≡ (byte, len) → IsInLiteral text quote (prefix ++ byte ∷ []) (at + len)
+IsInLiteral-more text quote prefix at byte len is less ne e =
     let rest = drop at text in
     let size = length-drop at text in
     let some : 0 < length rest = omega arith in
@@ -165,9 +165,9 @@ IsInLiteral-more text quote front at byte len is less ne e =
     let within = subst P e (literal_byte_is_within rest some) in
     record {
       same =
-          is.same ∙ ap (with_front front at) (literal_from-front quote rest byte len some (λ q. ne (sym first ∙ q)) e)
-          ∙ with_front-more front at byte len (literal_from quote (drop len rest))
-          ∙ ap (λ s. with_front (front ++ byte ∷ []) (at + len) (literal_from quote s)) (drop-drop len at text);
+          is.same ∙ ap (with_prefix prefix at) (literal_from-prefix quote rest byte len some (λ q. ne (sym first ∙ q)) e)
+          ∙ with_prefix-more prefix at byte len (literal_from quote (drop len rest))
+          ∙ ap (λ s. with_prefix (prefix ++ byte ∷ []) (at + len) (literal_from quote s)) (drop-drop len at text);
       some = omega (arith, is.some);
       fits = omega (arith, within.1, is.fits);
     }
@@ -179,13 +179,13 @@ literal_from-quote quote (c ∷ cs) =
     let more = if quote == 92 && (c == 39 || c == 34) then option_map (λ x. (c ∷ x.0, x.1 + 2)) (literal_from quote cs) else with_byte quote (literal_from quote (c ∷ cs)) in
     ap (λ t. if t then Some ([], 1) else more) (eq-eqb quote quote refl)
 
-pub literal_closed : (text : List ℕ) (quote : ℕ) (front : List ℕ) (at : ℕ) → IsInLiteral text quote front at → at < length text → get_or text at 0 ≡ quote
-    → literal_at text ≡ Whole (Literal front) (at + 1)
-literal_closed text quote front at is less same =
+pub literal_closed : (text : List ℕ) (quote : ℕ) (prefix : List ℕ) (at : ℕ) → IsInLiteral text quote prefix at → at < length text → get_or text at 0 ≡ quote
+    → literal_at text ≡ Whole (Literal prefix) (at + 1)
+literal_closed text quote prefix at is less same =
     is.same
-    ∙ ap (λ s. with_front front at (literal_from quote s)) (drop_more text at 0 less ∙ ap (λ b. b ∷ drop (at + 1) text) same)
-    ∙ ap (with_front front at) (literal_from-quote quote (drop (at + 1) text))
-    ∙ ap (λ t. Whole (Literal t) (at + 1)) (append-nil front)
+    ∙ ap (λ s. with_prefix prefix at (literal_from quote s)) (drop_more text at 0 less ∙ ap (λ b. b ∷ drop (at + 1) text) same)
+    ∙ ap (with_prefix prefix at) (literal_from-quote quote (drop (at + 1) text))
+    ∙ ap (λ t. Whole (Literal t) (at + 1)) (append-nil prefix)
 
-pub literal_open : (text : List ℕ) (quote : ℕ) (front : List ℕ) (at : ℕ) → IsInLiteral text quote front at → length text ≤ at → literal_at text ≡ Broken 0
-literal_open text quote front at is past = is.same ∙ ap (λ s. with_front front at (literal_from quote s)) (drop_of_length-le text past)
+pub literal_open : (text : List ℕ) (quote : ℕ) (prefix : List ℕ) (at : ℕ) → IsInLiteral text quote prefix at → length text ≤ at → literal_at text ≡ Broken 0
+literal_open text quote prefix at is past = is.same ∙ ap (λ s. with_prefix prefix at (literal_from quote s)) (drop_of_length-le text past)

@@ -16,19 +16,19 @@ drop_less : (len b : ℕ) (bs : List ℕ) → 1 ≤ len → drop (len - 1) bs �
 drop_less zero b bs some = absurd (omega (arith, some))
 drop_less (suc n) b bs some = ap (λ k. drop k bs) (omega arith)
 
--- behind a lexeme at the front
-lexemes_from-behind : (place : ℕ) (s : List ℕ) (token : Token) (bytes rest : List ℕ) → s ≡ bytes ++ rest → lexeme_at s ≡ Whole token (length bytes) → (b : ℕ) (bs : List ℕ) → s ≡ b ∷ bs → is_space b ≡ false
+-- after a lexeme at the start
+lexemes_from-following : (place : ℕ) (s : List ℕ) (token : Token) (bytes rest : List ℕ) → s ≡ bytes ++ rest → lexeme_at s ≡ Whole token (length bytes) → (b : ℕ) (bs : List ℕ) → s ≡ b ∷ bs → is_space b ≡ false
     → lexemes_from 0 place s ≡ record { place = place; lexeme = Whole token (length bytes) } ∷ lexemes_from 0 (place + length bytes) rest
-lexemes_from-behind place s token bytes rest parts is b bs first none =
+lexemes_from-following place s token bytes rest parts is b bs first none =
     let len = length bytes in
     let some : 1 ≤ len = whole_is_some s token len is in
     let here : lexeme_at (b ∷ bs) ≡ Whole token len = ap lexeme_at (sym first) ∙ is in
     let back : drop len (b ∷ bs) ≡ rest = ap (drop len) (sym first ∙ parts) ∙ drop_at bytes rest len refl in
-    let behind : drop (len - 1) bs ≡ rest = drop_less len b bs some ∙ back in
+    let following : drop (len - 1) bs ≡ rest = drop_less len b bs some ∙ back in
     ap (lexemes_from 0 place) first ∙ lexemes_from-cons place b bs none
     ∙ ap (λ l. record { place = place; lexeme = l } ∷ lexemes_from (len_of l - 1) (place + 1) bs) here
     ∙ ap (λ ls. record { place = place; lexeme = Whole token len } ∷ ls)
-    (lexemes_from-skip (len - 1) (place + 1) bs ∙ ap (λ n. lexemes_from 0 n (drop (len - 1) bs)) (omega (arith, some)) ∙ ap (lexemes_from 0 (place + len)) behind)
+    (lexemes_from-skip (len - 1) (place + 1) bs ∙ ap (λ n. lexemes_from 0 n (drop (len - 1) bs)) (omega (arith, some)) ∙ ap (lexemes_from 0 (place + len)) following)
 
 lexemes_from-space : (place b : ℕ) (bs : List ℕ) → is_space b ≡ true → lexemes_from 0 place (b ∷ bs) ≡ lexemes_from 0 (place + 1) bs
 lexemes_from-space place b bs h = if_then (is_space b) (lexemes_from 0 (place + 1) bs) _ h
@@ -42,22 +42,22 @@ AreLexemes-blank place b bs (placed ∷ places) h t = (b ∷ t.0, t.1, ap (λ x.
 none_written : (b : ℕ) (bs : List ℕ) (at : ℕ) → is_space b ≡ false → lexeme_at (b ∷ bs) ≡ Broken at → IsNoToken (b ∷ bs) at
 none_written b bs at none is = record {
   first = b;
-  behind = bs;
+  following = bs;
   parts = refl;
   no_blank = none;
   none = λ bytes rest token parts l. let whole : lexeme_at (b ∷ bs) ≡ Whole token (length bytes) = ap lexeme_at parts ∙ IsLongest-lexeme bytes rest token l in absurd (cc);
   fault = broken_is_inside b bs at is;
 }
 
-module _ (n : ℕ) (behind : (place : ℕ) (s : List ℕ) → length s ≤ n → AreLexemes place s (lexemes_from 0 place s)) where
+module _ (n : ℕ) (following : (place : ℕ) (s : List ℕ) → length s ≤ n → AreLexemes place s (lexemes_from 0 place s)) where
   are_token : (place b : ℕ) (bs : List ℕ) (l : Lexeme) → length (b ∷ bs) ≤ n + 1 → is_space b ≡ false → lexeme_at (b ∷ bs) ≡ l → AreLexemes place (b ∷ bs) (lexemes_from 0 place (b ∷ bs))
   are_token place b bs (Whole token len) few none is =
       let t = read_is_written (b ∷ bs) token len is in
       let whole : lexeme_at (b ∷ bs) ≡ Whole token (length t.bytes) = is ∙ ap (Whole token) t.size in
       let some : 1 ≤ length t.bytes = whole_is_some (b ∷ bs) token (length t.bytes) whole in
       let left : length t.rest ≤ n = omega (arith, ap length t.parts, length-append t.bytes t.rest) in
-      subst (λ ls. AreLexemes place (b ∷ bs) ls) (sym (lexemes_from-behind place (b ∷ bs) token t.bytes t.rest t.parts whole b bs refl none))
-      ([], b ∷ bs, refl, refl, omega arith, (t.bytes, t.rest, t.parts, refl, IsLongest-read (b ∷ bs) token len is t, behind (place + length t.bytes) t.rest left))
+      subst (λ ls. AreLexemes place (b ∷ bs) ls) (sym (lexemes_from-following place (b ∷ bs) token t.bytes t.rest t.parts whole b bs refl none))
+      ([], b ∷ bs, refl, refl, omega arith, (t.bytes, t.rest, t.parts, refl, IsLongest-read (b ∷ bs) token len is t, following (place + length t.bytes) t.rest left))
   are_token place b bs (Broken at) few none is =
       subst (λ ls. AreLexemes place (b ∷ bs) ls)
       (sym (lexemes_from-cons place b bs none ∙ ap (λ l. record { place = place; lexeme = l } ∷ lexemes_from (len_of l - 1) (place + 1) bs) is))
@@ -66,7 +66,7 @@ module _ (n : ℕ) (behind : (place : ℕ) (s : List ℕ) → length s ≤ n →
   are_on : (place b : ℕ) (bs : List ℕ) (space : Bool) → length (b ∷ bs) ≤ n + 1 → is_space b ≡ space → AreLexemes place (b ∷ bs) (lexemes_from 0 place (b ∷ bs))
   are_on place b bs true few h =
       subst (λ ls. AreLexemes place (b ∷ bs) ls) (sym (lexemes_from-space place b bs h))
-      (AreLexemes-blank place b bs (lexemes_from 0 (place + 1) bs) h (behind (place + 1) bs (omega (arith, few))))
+      (AreLexemes-blank place b bs (lexemes_from 0 (place + 1) bs) h (following (place + 1) bs (omega (arith, few))))
   are_on place b bs false few h = are_token place b bs (lexeme_at (b ∷ bs)) few h refl
 
 are_from : (n place : ℕ) (s : List ℕ) → length s ≤ n → AreLexemes place s (lexemes_from 0 place s)
@@ -76,11 +76,11 @@ are_from (suc n) place (b ∷ bs) few = are_on n (are_from n) place b bs (is_spa
 
 -- ---- and the only one
 
-lexemes_from-blanks : (place : ℕ) (blanks behind : List ℕ) → list_all is_space blanks ≡ true → lexemes_from 0 place (blanks ++ behind) ≡ lexemes_from 0 (place + length blanks) behind
-lexemes_from-blanks place [] behind all = ap (λ n. lexemes_from 0 n behind) (omega arith)
-lexemes_from-blanks place (b ∷ blanks) behind all =
+lexemes_from-blanks : (place : ℕ) (blanks following : List ℕ) → list_all is_space blanks ≡ true → lexemes_from 0 place (blanks ++ following) ≡ lexemes_from 0 (place + length blanks) following
+lexemes_from-blanks place [] following all = ap (λ n. lexemes_from 0 n following) (omega arith)
+lexemes_from-blanks place (b ∷ blanks) following all =
     let parts = and_parts (is_space b) (list_all is_space blanks) all in
-    lexemes_from-space place b (blanks ++ behind) parts.0 ∙ lexemes_from-blanks (place + 1) blanks behind parts.1 ∙ ap (λ n. lexemes_from 0 n behind) (omega arith)
+    lexemes_from-space place b (blanks ++ following) parts.0 ∙ lexemes_from-blanks (place + 1) blanks following parts.1 ∙ ap (λ n. lexemes_from 0 n following) (omega arith)
 
 lexemes_from-blank : (place : ℕ) (s : List ℕ) → list_all is_space s ≡ true → lexemes_from 0 place s ≡ []
 lexemes_from-blank place [] all = refl
@@ -93,13 +93,13 @@ same_broken at inside s places (Whole token len) t is =
     let w = read_is_written s token len is in
     absurd (t.none w.bytes w.rest token w.parts (IsLongest-read s token len is w))
 same_broken at inside s places (Broken other) t is =
-    let here : lexeme_at (t.first ∷ t.behind) ≡ Broken other = ap lexeme_at (sym t.parts) ∙ is in
+    let here : lexeme_at (t.first ∷ t.following) ≡ Broken other = ap lexeme_at (sym t.parts) ∙ is in
     subst (λ ls. AreSameTokens (record { place = at; lexeme = Broken inside } ∷ places) ls)
-    (sym (ap (lexemes_from 0 at) t.parts ∙ lexemes_from-cons at t.first t.behind t.no_blank
-    ∙ ap (λ l. record { place = at; lexeme = l } ∷ lexemes_from (len_of l - 1) (at + 1) t.behind) here))
-    (refl, ap Broken (inside_is_broken t.first t.behind inside other (subst (λ x. IsFaultInside x inside) t.parts t.fault) here))
+    (sym (ap (lexemes_from 0 at) t.parts ∙ lexemes_from-cons at t.first t.following t.no_blank
+    ∙ ap (λ l. record { place = at; lexeme = l } ∷ lexemes_from (len_of l - 1) (at + 1) t.following) here))
+    (refl, ap Broken (inside_is_broken t.first t.following inside other (subst (λ x. IsFaultInside x inside) t.parts t.fault) here))
 
--- the lexeme stands at the front, and these behind it
+-- the lexeme stands at the start, and these after it
 abbrev StandsAt : List Placed → ℕ → List ℕ → Lexeme → Type 0
 StandsAt places at s l = elim l [
   | Whole token len ↦ (bytes rest : List ℕ) × (s ≡ bytes ++ rest) × (len ≡ length bytes) × IsLongest bytes rest token × AreLexemes (at + len) rest places
@@ -115,7 +115,7 @@ module _ (places : List Placed) (same_rest : (place : ℕ) (s : List ℕ) → Ar
       let first = token_begins bytes token t.4.spells in
       let more : AreSameTokens places (lexemes_from 0 (at + length bytes) rest) = same_rest (at + length bytes) rest (subst (λ n. AreLexemes (at + n) rest places) t.3 t.5) in
       subst (λ ls. AreSameTokens (record { place = at; lexeme = Whole token len } ∷ places) ls)
-      (sym (lexemes_from-behind at s token bytes rest t.2 is first.0 (first.1 ++ rest) (t.2 ∙ ap (λ x. x ++ rest) first.2) first.3))
+      (sym (lexemes_from-following at s token bytes rest t.2 is first.0 (first.1 ++ rest) (t.2 ∙ ap (λ x. x ++ rest) first.2) first.3))
       (refl, (ap (Whole token) (sym t.3), more))
   same_at (Broken inside) at s t = same_broken at inside s places (lexeme_at s) t refl
 

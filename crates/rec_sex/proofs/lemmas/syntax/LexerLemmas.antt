@@ -1,12 +1,12 @@
--- The loop that reads tokens: the tokens so far, and where the walk stands behind them.
+-- The loop that reads tokens: the tokens so far, and where the walk stands after them.
 use Rattle.std.proofs.Common.{◌≡◌, ℕ, suc, zero, ◌+◌, ◌-◌, ◌<◌, ◌≤◌, Bool, true, false, List, [], ◌∷◌, ◌++◌, Option, Some, None, length, take, drop, get_or, refl, ap, sym, ◌∙◌, subst, arith, add-zero}
 use Rattle.std.specs.Prelude.{if◌then◌else◌}
 use Rattle.std.proofs.lemmas.List.{append-nil, append_assoc, length_push, length-drop, at_drop_all, drop_more, drop-drop, take_rest}
 use Rattle.rec_sex.specs.declared.syntax.token.Token.{Token}
 use Rattle.rec_text.specs.Bytes.{is_space}
 use Rattle.rec_sex.specs.Tokens.{Lexeme, Whole, Broken, Placed, lexeme_at, len_of, lexemes_from, lexemes}
-use Rattle.rec_sex.specs.proving.Lexing.{IsStep}
-use Rattle.rec_sex.specs.Grammar.{Operand, Operator_, Comparison, Pattern, Walk, walk_start, behind, walked, may_end, fault_inside, fault_from, fault_of, AreTokens, AreTaken}
+use Rattle.rec_sex.specs.proving.Lexing.{IsWalkStep}
+use Rattle.rec_sex.specs.Grammar.{Operand, Infix, Comparison, Pattern, Walk, walk_start, following, walked, may_end, fault_inside, fault_from, fault_of, AreTokens, AreTaken}
 use Rattle.rec_sex.proofs.lemmas.syntax.WithinLemmas.{IsWithin, lexeme_is_within}
 
 -- ---- the lexemes that are left
@@ -72,35 +72,35 @@ lexeme_read text at read known same is = sym same ∙ is ∙ ap lexeme_at (take_
 
 -- ---- the walk
 
-pub step_is_taken : (before after : Walk) (token : Token) (taken : Bool) → IsStep before token taken after → taken ≡ true → behind before token ≡ Some after
-step_is_taken before after token taken is e = let P : Bool → Type 0 = λ t. IsStep before token t after in subst P e is
+pub step_is_taken : (before after : Walk) (token : Token) (taken : Bool) → IsWalkStep before token taken after → taken ≡ true → following before token ≡ Some after
+step_is_taken before after token taken is e = let P : Bool → Type 0 = λ t. IsWalkStep before token t after in subst P e is
 
-pub step_is_refused : (before after : Walk) (token : Token) (taken : Bool) → IsStep before token taken after → taken ≡ false → behind before token ≡ None
-step_is_refused before after token taken is e = let P : Bool → Type 0 = λ t. IsStep before token t after in subst P e is
+pub step_is_refused : (before after : Walk) (token : Token) (taken : Bool) → IsWalkStep before token taken after → taken ≡ false → following before token ≡ None
+step_is_refused before after token taken is e = let P : Bool → Type 0 = λ t. IsWalkStep before token t after in subst P e is
 
 pub fault_inside-le : (walk : Walk) (at : ℕ) → fault_inside walk at ≤ at
 fault_inside-le walk at =
-    elim walk.want as (λ w. (elim w [ Operand ↦ at | Operator_ ↦ 0 | Comparison ↦ 0 | Pattern ↦ 0 ]) ≤ at) [
+    elim walk.want as (λ w. (elim w [ Operand ↦ at | Infix ↦ 0 | Comparison ↦ 0 | Pattern ↦ 0 ]) ≤ at) [
       | Operand ↦ omega arith
-      | Operator_ ↦ omega arith
+      | Infix ↦ omega arith
       | Comparison ↦ omega arith
       | Pattern ↦ omega arith
     ]
 
-walked-push : (walk : Walk) (tokens : List Token) (token : Token) (last next : Walk) → walked walk tokens ≡ Some last → behind last token ≡ Some next
+walked-push : (walk : Walk) (tokens : List Token) (token : Token) (last next : Walk) → walked walk tokens ≡ Some last → following last token ≡ Some next
     → walked walk (tokens ++ token ∷ []) ≡ Some next
 walked-push walk [] token last next are is =
     let same : walk ≡ last = cc in
-    ap (λ o. elim o [ None ↦ None | Some n ↦ walked n [] ]) (ap (λ w. behind w token) same ∙ is)
+    ap (λ o. elim o [ None ↦ None | Some n ↦ walked n [] ]) (ap (λ w. following w token) same ∙ is)
 walked-push walk (t ∷ ts) token last next are is =
     let step : (o : Option Walk) → (elim o [ None ↦ None | Some n ↦ walked n ts ]) ≡ Some last → (elim o [ None ↦ None | Some n ↦ walked n (ts ++ token ∷ []) ]) ≡ Some next =
     λ o. elim o as (λ v. (elim v [ None ↦ None | Some n ↦ walked n ts ]) ≡ Some last → (elim v [ None ↦ None | Some n ↦ walked n (ts ++ token ∷ []) ]) ≡ Some next) [
       | None ↦ λ e. absurd (cc)
       | Some n ↦ λ e. walked-push n ts token last next e is
     ] in
-    step (behind walk t) are
+    step (following walk t) are
 
--- the tokens before a place were read, and the walk stands behind them
+-- the tokens before a place were read, and the walk stands after them
 pub record IsRead (text : List ℕ) (tokens : List Token) (walk : Walk) (at : ℕ) : Type 0 where
   pub fits : at ≤ length text
   pub few : length tokens ≤ 1000
@@ -131,18 +131,18 @@ IsRead-space text tokens walk at read less space =
     }
 
 -- what the walk makes of the next lexeme
-fault_from-token : (end more : ℕ) (walk next : Walk) (at len : ℕ) (token : Token) (rest : List Placed) → behind walk token ≡ Some next
+fault_from-token : (end more : ℕ) (walk next : Walk) (at len : ℕ) (token : Token) (rest : List Placed) → following walk token ≡ Some next
     → fault_from end (suc more) walk (record { place = at; lexeme = Whole token len } ∷ rest) ≡ fault_from end more next rest
 fault_from-token end more walk next at len token rest is =
     ap (λ o. elim o [ None ↦ Some at | Some n ↦ fault_from end more n rest ]) is
 
-fault_from-refused : (end more : ℕ) (walk : Walk) (at len : ℕ) (token : Token) (rest : List Placed) → behind walk token ≡ None
+fault_from-refused : (end more : ℕ) (walk : Walk) (at len : ℕ) (token : Token) (rest : List Placed) → following walk token ≡ None
     → fault_from end (suc more) walk (record { place = at; lexeme = Whole token len } ∷ rest) ≡ Some at
 fault_from-refused end more walk at len token rest is =
     ap (λ o. elim o [ None ↦ Some at | Some n ↦ fault_from end more n rest ]) is
 
 pub IsRead-more : (text : List ℕ) (tokens : List Token) (walk next : Walk) (at len : ℕ) (token : Token) → IsRead text tokens walk at → at < length text
-    → is_space (get_or text at 0) ≡ false → length tokens < 1000 → Whole token len ≡ lexeme_at (drop at text) → behind walk token ≡ Some next
+    → is_space (get_or text at 0) ≡ false → length tokens < 1000 → Whole token len ≡ lexeme_at (drop at text) → following walk token ≡ Some next
     → IsRead text (tokens ++ token ∷ []) next (at + len)
 IsRead-more text tokens walk next at len token read less none room is taken =
     let same = lexemes_at-token text at token len less none is in
@@ -170,7 +170,7 @@ fault-many text tokens walk at read less none many =
     ∙ ap (λ n. fault_from (length text) (1000 - n) walk (record { place = at; lexeme = lexeme_at (drop at text) } ∷ lexemes_from (len_of (lexeme_at (drop at text)) - 1) (at + 1) (drop (at + 1) text))) many
 
 pub fault-refused : (text : List ℕ) (tokens : List Token) (walk : Walk) (at len : ℕ) (token : Token) → IsRead text tokens walk at → at < length text
-    → is_space (get_or text at 0) ≡ false → length tokens < 1000 → Whole token len ≡ lexeme_at (drop at text) → behind walk token ≡ None → fault_of text ≡ Some at
+    → is_space (get_or text at 0) ≡ false → length tokens < 1000 → Whole token len ≡ lexeme_at (drop at text) → following walk token ≡ None → fault_of text ≡ Some at
 fault-refused text tokens walk at len token read less none room is refused =
     let more : 1000 - length tokens ≡ suc (999 - length tokens) = omega arith in
     read.fault ∙ ap (fault_from (length text) (1000 - length tokens) walk) (lexemes_at-token text at token len less none is)

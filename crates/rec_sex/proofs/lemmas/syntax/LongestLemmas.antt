@@ -10,13 +10,14 @@ use Rattle.std.proofs.lemmas.Bool.Decides.{nat_tests}
 use Rattle.std.proofs.lemmas.List.{drop_at}
 use Rattle.std.proofs.lemmas.List.Sums.{take_while-cons}
 use Rattle.rec_text.specs.Bytes.{is_letter, continues_name}
+use Rattle.rec_text.specs.Canonical.{is_plain_name}
 use Rattle.rec_sex.specs.declared.syntax.token.Operator.TheVariants.{Equal, NotEqual, Less, Greater, LessOrEqual, GreaterOrEqual, Join, Add, Subtract, Multiply, Divide, Remainder, And, Or, Implies}
 use Rattle.rec_sex.specs.declared.syntax.token.Token.{Token}
 use Rattle.rec_sex.specs.declared.syntax.token.Token.TheVariants.{Integer, Literal, Name, Occurrence, Count, Not, Binary, Found, Open, Close, Then, Else, Unused}
-use Rattle.rec_sex.specs.IndexList.{AreDigits, begins, value_of, greatest}
+use Rattle.rec_sex.specs.IndexList.{AreDigits, begins, decimal_number, greatest}
 use Rattle.rec_sex.specs.Integers.{magnitude_of}
-use Rattle.rec_sex.specs.Tokens.{Lexeme, Whole, Broken, with_byte, literal_from, literal_at, integer_at, name_at, behind_name, subscript_at, closing_at, count_at, token_of_one, token_of_two, of_one, operator_at, lexeme_at}
-use Rattle.rec_sex.specs.TokenSpellings.{is_word, is_quote, begins_escape, Closes, operator_of, Spells, by_integer, by_literal, by_name, by_occurrence, by_count, by_operator, is_continued, IsLongest}
+use Rattle.rec_sex.specs.Tokens.{Lexeme, Whole, Broken, with_byte, literal_from, literal_at, integer_at, name_at, token_after_name, subscript_at, closing_at, count_at, token_of_one, token_of_two, of_one, operator_at, lexeme_at}
+use Rattle.rec_sex.specs.TokenSpellings.{is_quote, begins_escape, Closes, operator_of, Spells, by_integer, by_literal, by_name, by_occurrence, by_count, by_operator, is_continued, IsLongest}
 use Rattle.rec_sex.proofs.lemmas.syntax.SpellingLemmas.{while_longer, word_continues, magnitude_bytes, lexeme_at-digit, lexeme_at-letter, integer_with, subscript_with, closes_some, occurrence_is_whole, literal_is_whole, two_is_read, spelled_is_read}
 use Rattle.rec_sex.proofs.lemmas.syntax.WithinLemmas.{IsWithin, lexeme_is_within}
 
@@ -36,12 +37,12 @@ integer_len word token len =
       | Some n ↦ if_cases (length word ≡ len) (nat_lt n (2 ^ 63)) (Whole (Integer (pos n)) (length word)) (Broken 0) (Whole token len) (λ h e. same_len (Integer (pos n)) token (length word) len e) (λ h e. absurd (cc))
     ]
 
-integer_longer : (bytes behind : List ℕ) (n : ℕ) (token : Token) (len : ℕ) → magnitude_of bytes ≡ Some n → lexeme_at (bytes ++ behind) ≡ Whole token len → length bytes ≤ len
-integer_longer [] behind n token len m e = absurd (cc)
-integer_longer (b ∷ bs) behind n token len m e =
+integer_longer : (bytes following : List ℕ) (n : ℕ) (token : Token) (len : ℕ) → magnitude_of bytes ≡ Some n → lexeme_at (bytes ++ following) ≡ Whole token len → length bytes ≤ len
+integer_longer [] following n token len m e = absurd (cc)
+integer_longer (b ∷ bs) following n token len m e =
     let h = magnitude_bytes b bs n m in
-    let size : length (take_while continues_name ((b ∷ bs) ++ behind)) ≡ len = integer_len (take_while continues_name ((b ∷ bs) ++ behind)) token len (sym (lexeme_at-digit b (bs ++ behind) h.0) ∙ e) in
-    let longer = while_longer continues_name (b ∷ bs) behind h.1 in
+    let size : length (take_while continues_name ((b ∷ bs) ++ following)) ≡ len = integer_len (take_while continues_name ((b ∷ bs) ++ following)) token len (sym (lexeme_at-digit b (bs ++ following) h.0) ∙ e) in
+    let longer = while_longer continues_name (b ∷ bs) following h.1 in
     omega (arith, size, longer)
 
 closing_len : (name : List ℕ) (n : ℕ) (s : List ℕ) (at : ℕ) (token : Token) (len : ℕ) → closing_at name n s at ≡ Whole token len → at ≤ len
@@ -49,55 +50,55 @@ closing_len name n [] at token len e = absurd (cc)
 closing_len name n (b ∷ bs) at token len e =
     if_cases (at ≤ len) (b == 93) (Whole (Occurrence name n) (at + 1)) (Broken at) (Whole token len) (λ h f. omega (arith, same_len (Occurrence name n) token (at + 1) len f)) (λ h f. absurd (cc)) e
 
-subscript_len : (name digits behind : List ℕ) (at : ℕ) (token : Token) (len : ℕ) → subscript_with name digits behind at ≡ Whole token len → at ≤ len
-subscript_len name digits behind at token len e =
-    if_cases (at ≤ len) (length digits == 0 || nat_lt greatest (value_of digits)) (Broken at) (closing_at name (value_of digits) behind (at + length digits)) (Whole token len)
-    (λ h f. absurd (cc)) (λ h f. omega (arith, closing_len name (value_of digits) behind (at + length digits) token len f)) e
+subscript_len : (name digits following : List ℕ) (at : ℕ) (token : Token) (len : ℕ) → subscript_with name digits following at ≡ Whole token len → at ≤ len
+subscript_len name digits following at token len e =
+    if_cases (at ≤ len) (length digits == 0 || nat_lt greatest (decimal_number digits)) (Broken at) (closing_at name (decimal_number digits) following (at + length digits)) (Whole token len)
+    (λ h f. absurd (cc)) (λ h f. omega (arith, closing_len name (decimal_number digits) following (at + length digits) token len f)) e
 
-behind_name_len : (name rest : List ℕ) (token : Token) (len : ℕ) → behind_name name rest ≡ Whole token len → length name ≤ len
-behind_name_len name [] token len e = omega (arith, same_len (Name name) token (length name) len e)
-behind_name_len name (b ∷ bs) token len e =
+after_name_len : (name rest : List ℕ) (token : Token) (len : ℕ) → token_after_name name rest ≡ Whole token len → length name ≤ len
+after_name_len name [] token len e = omega (arith, same_len (Name name) token (length name) len e)
+after_name_len name (b ∷ bs) token len e =
     if_cases (length name ≤ len) (b == 91) (subscript_at name bs (length name + 1)) (Whole (Name name) (length name)) (Whole token len)
     (λ h f. omega (arith, subscript_len name (take_while is_ascii_digit bs) (drop (length (take_while is_ascii_digit bs)) bs) (length name + 1) token len f))
     (λ h f. omega (arith, same_len (Name name) token (length name) len f)) e
 
-name_longer : (name behind : List ℕ) (token : Token) (len : ℕ) → is_word name ≡ true → lexeme_at (name ++ behind) ≡ Whole token len → length name ≤ len
-name_longer [] behind token len w e = absurd (false≢true w)
-name_longer (b ∷ bs) behind token len w e =
+name_longer : (name following : List ℕ) (token : Token) (len : ℕ) → is_plain_name name ≡ true → lexeme_at (name ++ following) ≡ Whole token len → length name ≤ len
+name_longer [] following token len w e = absurd (false≢true w)
+name_longer (b ∷ bs) following token len w e =
     let h = word_continues b bs w in
-    let name = take_while continues_name ((b ∷ bs) ++ behind) in
-    let size : length name ≤ len = behind_name_len name (drop (length name) ((b ∷ bs) ++ behind)) token len (sym (lexeme_at-letter b (bs ++ behind) h.0) ∙ e) in
-    let longer = while_longer continues_name (b ∷ bs) behind h.1 in
+    let name = take_while continues_name ((b ∷ bs) ++ following) in
+    let size : length name ≤ len = after_name_len name (drop (length name) ((b ∷ bs) ++ following)) token len (sym (lexeme_at-letter b (bs ++ following) h.0) ∙ e) in
+    let longer = while_longer continues_name (b ∷ bs) following h.1 in
     omega (arith, size, longer)
 
-count_longer : (name behind : List ℕ) (token : Token) (len : ℕ) → is_word name ≡ true → lexeme_at (35 ∷ (name ++ behind)) ≡ Whole token len → length name + 1 ≤ len
-count_longer [] behind token len w e = absurd (false≢true w)
-count_longer (b ∷ bs) behind token len w e =
+count_longer : (name following : List ℕ) (token : Token) (len : ℕ) → is_plain_name name ≡ true → lexeme_at (35 ∷ (name ++ following)) ≡ Whole token len → length name + 1 ≤ len
+count_longer [] following token len w e = absurd (false≢true w)
+count_longer (b ∷ bs) following token len w e =
     let h = word_continues b bs w in
-    let name = take_while continues_name ((b ∷ bs) ++ behind) in
-    let longer = while_longer continues_name (b ∷ bs) behind h.1 in
+    let name = take_while continues_name ((b ∷ bs) ++ following) in
+    let longer = while_longer continues_name (b ∷ bs) following h.1 in
     if_cases (length (b ∷ bs) + 1 ≤ len) (is_letter b) (Whole (Count name) (length name + 1)) (Broken 0) (Whole token len)
     (λ k f. let size : length name + 1 ≡ len = same_len (Count name) token (length name + 1) len f in omega (arith, size, longer)) (λ k f. absurd (cc)) e
 
 pub whole_is_some : (s : List ℕ) (token : Token) (len : ℕ) → lexeme_at s ≡ Whole token len → 1 ≤ len
 whole_is_some s token len e = let P : Lexeme → Type 0 = λ l. IsWithin (length s) l in let within = subst P e (lexeme_is_within s) in within.0
 
-operator_longer : (bytes behind : List ℕ) (other token : Token) (len : ℕ) → operator_of bytes ≡ Some other → lexeme_at (bytes ++ behind) ≡ Whole token len → length bytes ≤ len
-operator_longer [] behind other token len o e = absurd (cc)
-operator_longer (b ∷ []) behind other token len o e = omega (arith, whole_is_some (b ∷ behind) token len e)
-operator_longer (b ∷ c ∷ []) behind other token len o e = let size : 2 ≡ len = same_len other token 2 len (sym (two_is_read b c behind other o) ∙ e) in omega (arith, size)
-operator_longer (b ∷ c ∷ d ∷ bs) behind other token len o e = absurd (cc)
+operator_longer : (bytes following : List ℕ) (other token : Token) (len : ℕ) → operator_of bytes ≡ Some other → lexeme_at (bytes ++ following) ≡ Whole token len → length bytes ≤ len
+operator_longer [] following other token len o e = absurd (cc)
+operator_longer (b ∷ []) following other token len o e = omega (arith, whole_is_some (b ∷ following) token len e)
+operator_longer (b ∷ c ∷ []) following other token len o e = let size : 2 ≡ len = same_len other token 2 len (sym (two_is_read b c following other o) ∙ e) in omega (arith, size)
+operator_longer (b ∷ c ∷ d ∷ bs) following other token len o e = absurd (cc)
 
-longer : (front behind : List ℕ) (other token : Token) (len : ℕ) → Spells front other → lexeme_at (front ++ behind) ≡ Whole token len → length front ≤ len
-longer front behind other token len (by_integer _ n m small) e = integer_longer front behind n token len m e
-longer front behind other token len (by_literal _ inner text quote parts q closes) e =
-    let size : length front ≡ len = same_len (Literal text) token (length front) len (sym (literal_is_whole front inner behind text quote parts q closes) ∙ e) in omega (arith, size)
-longer front behind other token len (by_name _ w) e = name_longer front behind token len w e
-longer front behind other token len (by_occurrence _ name digits parts w are small) e =
-    let size : length front ≡ len = same_len (Occurrence name (value_of digits)) token (length front) len (sym (occurrence_is_whole front name digits behind parts w are small) ∙ e) in omega (arith, size)
-longer front behind other token len (by_count _ name parts w) e =
-    let size : length name + 1 ≤ len = count_longer name behind token len w (sym (ap (λ x. lexeme_at (x ++ behind)) parts) ∙ e) in omega (arith, size, ap length parts)
-longer front behind other token len (by_operator _ _ o) e = operator_longer front behind other token len o e
+longer : (prefix following : List ℕ) (other token : Token) (len : ℕ) → Spells prefix other → lexeme_at (prefix ++ following) ≡ Whole token len → length prefix ≤ len
+longer prefix following other token len (by_integer _ n m small) e = integer_longer prefix following n token len m e
+longer prefix following other token len (by_literal _ inner text quote parts q closes) e =
+    let size : length prefix ≡ len = same_len (Literal text) token (length prefix) len (sym (literal_is_whole prefix inner following text quote parts q closes) ∙ e) in omega (arith, size)
+longer prefix following other token len (by_name _ w) e = name_longer prefix following token len w e
+longer prefix following other token len (by_occurrence _ name digits parts w are small) e =
+    let size : length prefix ≡ len = same_len (Occurrence name (decimal_number digits)) token (length prefix) len (sym (occurrence_is_whole prefix name digits following parts w are small) ∙ e) in omega (arith, size)
+longer prefix following other token len (by_count _ name parts w) e =
+    let size : length name + 1 ≤ len = count_longer name following token len w (sym (ap (λ x. lexeme_at (x ++ following)) parts) ∙ e) in omega (arith, size, ap length parts)
+longer prefix following other token len (by_operator _ _ o) e = operator_longer prefix following other token len o e
 
 -- ---- what is read is written there
 
@@ -114,7 +115,7 @@ as_whole s a token m len e t =
     let token_same : a ≡ token = cc in
     subst (λ x. IsToken s x len) token_same (subst (λ n. IsToken s a n) (same_len a token m len e) t)
 
--- all bytes that pass, and what stands behind them
+-- all bytes that pass, and what follows them
 pub record Split (p : ℕ → Bool) (s : List ℕ) : Type 0 where
   pub rest : List ℕ
   pub parts : s ≡ take_while p s ++ rest
@@ -143,12 +144,12 @@ pub split : (p : ℕ → Bool) (s : List ℕ) → Split p s
 split p [] = record { rest = []; parts = refl; all = refl; ended = refl }
 split p (b ∷ bs) = split_on p b bs (p b) refl (split p bs)
 
-pub word_of_letter : (b : ℕ) (bs : List ℕ) → is_letter b ≡ true → list_all continues_name (take_while continues_name (b ∷ bs)) ≡ true → is_word (take_while continues_name (b ∷ bs)) ≡ true
+pub word_of_letter : (b : ℕ) (bs : List ℕ) → is_letter b ≡ true → list_all continues_name (take_while continues_name (b ∷ bs)) ≡ true → is_plain_name (take_while continues_name (b ∷ bs)) ≡ true
 word_of_letter b bs h all =
     let first : continues_name b ≡ true = grind (arith, nat_tests) in
     let word : take_while continues_name (b ∷ bs) ≡ b ∷ take_while continues_name bs = take_while-cons continues_name b bs ∙ ap (λ t. cond t (b ∷ take_while continues_name bs) []) first in
-    let behind = (and_parts (continues_name b) (list_all continues_name (take_while continues_name bs)) (subst (λ x. list_all continues_name x ≡ true) word all)).1 in
-    subst (λ x. is_word x ≡ true) (sym word) (rw (h, behind) refl)
+    let following = (and_parts (continues_name b) (list_all continues_name (take_while continues_name bs)) (subst (λ x. list_all continues_name x ≡ true) word all)).1 in
+    subst (λ x. is_plain_name x ≡ true) (sym word) (rw (h, following) refl)
 
 integer_not_continued : (n : ℕ) (rest : List ℕ) → begins continues_name rest ≡ false → is_continued (Integer (pos n)) rest ≡ false
 integer_not_continued n [] e = refl
@@ -189,41 +190,41 @@ integer_is_written s token len =
 pub some_digits : (digits : List ℕ) → (length digits == 0) ≡ false → digits ≢ []
 some_digits digits h e = let none : length digits ≡ 0 = ap length e in eqb-false (length digits) 0 h none
 
-closing_is_written : (name digits behind : List ℕ) (at : ℕ) (token : Token) (len : ℕ) → at ≡ length name + 1 + length digits → is_word name ≡ true → AreDigits digits [] → value_of digits ≤ greatest
-    → closing_at name (value_of digits) behind at ≡ Whole token len → IsToken (name ++ 91 ∷ (digits ++ behind)) token len
+closing_is_written : (name digits following : List ℕ) (at : ℕ) (token : Token) (len : ℕ) → at ≡ length name + 1 + length digits → is_plain_name name ≡ true → AreDigits digits [] → decimal_number digits ≤ greatest
+    → closing_at name (decimal_number digits) following at ≡ Whole token len → IsToken (name ++ 91 ∷ (digits ++ following)) token len
 closing_is_written name digits [] at token len size w are small e = absurd (cc)
 closing_is_written name digits (b ∷ bs) at token len size w are small e =
-    if_cases (IsToken (name ++ 91 ∷ (digits ++ b ∷ bs)) token len) (b == 93) (Whole (Occurrence name (value_of digits)) (at + 1)) (Broken at) (Whole token len)
-    (λ h f. as_whole (name ++ 91 ∷ (digits ++ b ∷ bs)) (Occurrence name (value_of digits)) token (at + 1) len f (record {
+    if_cases (IsToken (name ++ 91 ∷ (digits ++ b ∷ bs)) token len) (b == 93) (Whole (Occurrence name (decimal_number digits)) (at + 1)) (Broken at) (Whole token len)
+    (λ h f. as_whole (name ++ 91 ∷ (digits ++ b ∷ bs)) (Occurrence name (decimal_number digits)) token (at + 1) len f (record {
       bytes = name ++ 91 ∷ (digits ++ 93 ∷ []);
       rest = bs;
       parts = ap (λ x. name ++ 91 ∷ (digits ++ x ∷ bs)) (eqb-true b 93 h)
           ∙ sym (append_assoc name (91 ∷ (digits ++ 93 ∷ [])) bs ∙ ap (λ x. name ++ 91 ∷ x) (append_assoc digits (93 ∷ []) bs));
       size = omega (arith, size, length-append name (91 ∷ (digits ++ 93 ∷ [])), length-append digits (93 ∷ []));
       spells = by_occurrence (name ++ 91 ∷ (digits ++ 93 ∷ [])) name digits refl w are small;
-      ended = occurrence_not_continued name (value_of digits) bs;
+      ended = occurrence_not_continued name (decimal_number digits) bs;
     }))
     (λ h f. absurd (cc)) e
 
-subscript_is_written : (name s : List ℕ) (token : Token) (len : ℕ) → is_word name ≡ true → subscript_at name s (length name + 1) ≡ Whole token len → IsToken (name ++ 91 ∷ s) token len
+subscript_is_written : (name s : List ℕ) (token : Token) (len : ℕ) → is_plain_name name ≡ true → subscript_at name s (length name + 1) ≡ Whole token len → IsToken (name ++ 91 ∷ s) token len
 subscript_is_written name s token len w e =
     let digits = take_while is_ascii_digit s in
     let cut = split is_ascii_digit s in
-    let behind : drop (length digits) s ≡ cut.rest = ap (drop (length digits)) cut.parts ∙ drop_at digits cut.rest (length digits) refl in
+    let following : drop (length digits) s ≡ cut.rest = ap (drop (length digits)) cut.parts ∙ drop_at digits cut.rest (length digits) refl in
     let here : IsToken (name ++ 91 ∷ (digits ++ cut.rest)) token len =
-    if_cases (IsToken (name ++ 91 ∷ (digits ++ cut.rest)) token len) (length digits == 0 || nat_lt greatest (value_of digits)) (Broken (length name + 1)) (closing_at name (value_of digits) (drop (length digits) s) (length name + 1 + length digits)) (Whole token len)
+    if_cases (IsToken (name ++ 91 ∷ (digits ++ cut.rest)) token len) (length digits == 0 || nat_lt greatest (decimal_number digits)) (Broken (length name + 1)) (closing_at name (decimal_number digits) (drop (length digits) s) (length name + 1 + length digits)) (Whole token len)
     (λ h f. absurd (cc))
     (λ h f.
-    let parts = or_parts (length digits == 0) (nat_lt greatest (value_of digits)) h in
-    let small : value_of digits ≤ greatest = let k = parts.1 in grind (arith, nat_tests) in
+    let parts = or_parts (length digits == 0) (nat_lt greatest (decimal_number digits)) h in
+    let small : decimal_number digits ≤ greatest = let k = parts.1 in grind (arith, nat_tests) in
     closing_is_written name digits cut.rest (length name + 1 + length digits) token len refl w (record { some = some_digits digits parts.0; all = cut.all; ended = refl }) small
-    (ap (λ x. closing_at name (value_of digits) x (length name + 1 + length digits)) (sym behind) ∙ f)) e in
+    (ap (λ x. closing_at name (decimal_number digits) x (length name + 1 + length digits)) (sym following) ∙ f)) e in
     subst (λ x. IsToken (name ++ 91 ∷ x) token len) (sym cut.parts) here
 
-behind_name_is_written : (name rest : List ℕ) (token : Token) (len : ℕ) → is_word name ≡ true → begins continues_name rest ≡ false → behind_name name rest ≡ Whole token len → IsToken (name ++ rest) token len
-behind_name_is_written name [] token len w ended e =
+after_name_is_written : (name rest : List ℕ) (token : Token) (len : ℕ) → is_plain_name name ≡ true → begins continues_name rest ≡ false → token_after_name name rest ≡ Whole token len → IsToken (name ++ rest) token len
+after_name_is_written name [] token len w ended e =
     as_whole (name ++ []) (Name name) token (length name) len e (record { bytes = name; rest = []; parts = refl; size = refl; spells = by_name name w; ended = refl })
-behind_name_is_written name (b ∷ bs) token len w ended e =
+after_name_is_written name (b ∷ bs) token len w ended e =
     if_cases (IsToken (name ++ b ∷ bs) token len) (b == 91) (subscript_at name bs (length name + 1)) (Whole (Name name) (length name)) (Whole token len)
     (λ h f. subst (λ x. IsToken (name ++ x ∷ bs) token len) (sym (eqb-true b 91 h)) (subscript_is_written name bs token len w f))
     (λ h f. as_whole (name ++ b ∷ bs) (Name name) token (length name) len f (record { bytes = name; rest = b ∷ bs; parts = refl; size = refl; spells = by_name name w; ended = or_from (continues_name b) (b == 91) ended h })) e
@@ -233,9 +234,9 @@ name_is_written b bs token len h e =
     let s = b ∷ bs in
     let name = take_while continues_name s in
     let cut = split continues_name s in
-    let behind : drop (length name) s ≡ cut.rest = ap (drop (length name)) cut.parts ∙ drop_at name cut.rest (length name) refl in
+    let following : drop (length name) s ≡ cut.rest = ap (drop (length name)) cut.parts ∙ drop_at name cut.rest (length name) refl in
     subst (λ x. IsToken x token len) (sym cut.parts)
-    (behind_name_is_written name cut.rest token len (word_of_letter b bs h cut.all) cut.ended (ap (behind_name name) (sym behind) ∙ e))
+    (after_name_is_written name cut.rest token len (word_of_letter b bs h cut.all) cut.ended (ap (token_after_name name) (sym following) ∙ e))
 
 count_is_written : (s : List ℕ) (token : Token) (len : ℕ) → count_at s ≡ Whole token len → IsToken (35 ∷ s) token len
 count_is_written [] token len e = absurd (cc)
@@ -254,7 +255,7 @@ count_is_written (b ∷ bs) token len e =
     }))
     (λ h f. absurd (cc)) e
 
--- the bytes of a literal, behind its opening quote
+-- the bytes of a literal, after its opening quote
 record IsClosed (quote : ℕ) (s text : List ℕ) (len : ℕ) : Type 0 where
   bytes : List ℕ
   rest : List ℕ
@@ -269,9 +270,9 @@ closed_here : (quote b : ℕ) (bs : List ℕ) (x : List ℕ × ℕ) → (b == qu
 closed_here quote b bs x h e =
     as_closed quote (b ∷ bs) ([], 1) x e (record { bytes = quote ∷ []; rest = bs; parts = ap (λ y. y ∷ bs) (eqb-true b quote h); size = refl; closes = refl })
 
-escape_front : (b c quote : ℕ) (bs bytes rest text : List ℕ) → Closes quote bytes text → c ∷ bs ≡ bytes ++ rest → (b == 92 && (c == 39 || c == 34)) ≡ false → begins_escape (b ∷ bytes) ≡ false
-escape_front b c quote bs [] rest text closes e h = let some = closes_some quote [] text closes in let none = some.2 in absurd (cc)
-escape_front b c quote bs (d ∷ ds) rest text closes e h = let same : c ≡ d = cc in subst (λ x. (b == 92 && (x == 39 || x == 34)) ≡ false) same h
+escape_prefix : (b c quote : ℕ) (bs bytes rest text : List ℕ) → Closes quote bytes text → c ∷ bs ≡ bytes ++ rest → (b == 92 && (c == 39 || c == 34)) ≡ false → begins_escape (b ∷ bytes) ≡ false
+escape_prefix b c quote bs [] rest text closes e h = let some = closes_some quote [] text closes in let none = some.2 in absurd (cc)
+escape_prefix b c quote bs (d ∷ ds) rest text closes e h = let same : c ≡ d = cc in subst (λ x. (b == 92 && (x == 39 || x == 34)) ≡ false) same h
 
 differs : (b quote : ℕ) → (b == quote) ≡ false → b ≢ quote
 differs b quote h e = eqb-false b quote h e
@@ -303,7 +304,7 @@ literal_is_closed quote (b ∷ c ∷ bs) x e =
             rest = t.rest;
             parts = ap (λ z. b ∷ z) t.parts;
             size = omega (arith, t.size);
-            closes = (t.bytes, t.closes, inl (refl, differs b quote other, escape_front b c quote bs t.bytes t.rest y.0 t.closes t.parts none));
+            closes = (t.bytes, t.closes, inl (refl, differs b quote other, escape_prefix b c quote bs t.bytes t.rest y.0 t.closes t.parts none));
           })
     ] in
     if_cases (IsClosed quote (b ∷ c ∷ bs) x.0 x.1) (b == quote) (Some ([], 1)) _ (Some x) (λ h f. closed_here quote b (c ∷ bs) x h f)
@@ -391,7 +392,7 @@ pub IsLongest-read : (s : List ℕ) (token : Token) (len : ℕ) → lexeme_at s 
 IsLongest-read s token len e t = record {
   spells = t.spells;
   ended = t.ended;
-  longest = λ other front behind parts spells. let few : length front ≤ len = longer front behind other token len spells (ap lexeme_at (sym parts) ∙ ap lexeme_at (sym t.parts) ∙ e) in omega (arith, few, t.size);
+  longest = λ other prefix following parts spells. let few : length prefix ≤ len = longer prefix following other token len spells (ap lexeme_at (sym parts) ∙ ap lexeme_at (sym t.parts) ∙ e) in omega (arith, few, t.size);
 }
 
 pub IsLongest-lexeme : (bytes rest : List ℕ) (token : Token) → IsLongest bytes rest token → lexeme_at (bytes ++ rest) ≡ Whole token (length bytes)

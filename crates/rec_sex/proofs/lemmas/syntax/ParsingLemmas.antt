@@ -17,9 +17,9 @@ use Rattle.rec_sex.specs.declared.syntax.token.Token.TheVariants.{Integer, Liter
 use Rattle.rec_sex.specs.declared.syntax.tree.Tree.{Tree, Integer as IntegerTree, Literal as LiteralTree, Name as NameTree, Occurrence as OccurrenceTree, Count as CountTree}
 use Rattle.rec_sex.specs.declared.syntax.token.Operator.{Operator}
 use Rattle.rec_sex.specs.declared.syntax.token.Operator.TheVariants.{Subtract, Implies}
-use Rattle.rec_sex.specs.Grammar.{Term, Derives, IsPatternOf, AreTaken, walk_start, by_next, by_choice, by_implication, by_operator, by_pattern, by_not, by_minus, by_integer, by_literal, by_name, by_occurrence, by_count, by_parentheses, level_of, number, literal, field, occurrence, count, inverse, negated, binary, choice, Parenthesis, Question, Operand, Operator_}
-use Rattle.rec_sex.specs.Expressions.{pattern_in, term_with}
-use Rattle.rec_sex.proofs.lemmas.syntax.WalkLemmas.{takes_walked, levels, behind_operator, behind_pattern, operator_is_minus, ends_in_parenthesis, ends_in_else, ends_in_nothing}
+use Rattle.rec_sex.specs.Grammar.{Term, Derives, IsPatternOf, AreTaken, walk_start, by_next, by_choice, by_implication, by_operator, by_pattern, by_not, by_minus, by_integer, by_literal, by_name, by_occurrence, by_count, by_parentheses, level_of, number, literal, field, occurrence, count, inverse, negated, binary, choice, Parenthesis, Question, Operand, Infix}
+use Rattle.rec_sex.specs.Expressions.{pattern_at, term_with}
+use Rattle.rec_sex.proofs.lemmas.syntax.WalkLemmas.{takes_walked, levels, after_operator, after_pattern, operator_is_minus, ends_in_parenthesis, ends_in_else, ends_in_nothing}
 
 -- ---- patterns built from texts, one more at a time
 
@@ -44,7 +44,7 @@ Passes-join tokens middle rest texts some more a b = record {
   used = a.used ++ b.used;
   parts = a.parts ∙ ap (λ x. a.used ++ x) b.parts ∙ sym (append_assoc a.used b.used rest);
   numbered = λ patterns h. a.numbered patterns (b.numbered patterns h);
-  among = λ whole front e h. b.among whole (front ++ a.used) (e ∙ ap (λ x. front ++ x) a.parts ∙ sym (append_assoc front a.used middle)) (a.among whole front e h);
+  among = λ whole prefix e h. b.among whole (prefix ++ a.used) (e ∙ ap (λ x. prefix ++ x) a.parts ∙ sym (append_assoc prefix a.used middle)) (a.among whole prefix e h);
 }
 
 abbrev pub Passes-token : (token : Token) (tokens rest : List Token) (texts : List (List ℕ)) → tokens ≡ token ∷ rest → Passes tokens rest texts texts
@@ -52,7 +52,7 @@ Passes-token token tokens rest texts e = record {
   used = token ∷ [];
   parts = e;
   numbered = λ patterns h. h;
-  among = λ whole front e h. h;
+  among = λ whole prefix e h. h;
 }
 
 pub among_more : (whole : List Token) (texts : List (List ℕ)) (text : List ℕ) → AreAmong whole texts → AreAmong whole (text ∷ []) → AreAmong whole (texts ++ text ∷ [])
@@ -64,21 +64,21 @@ numbered_before texts more text patterns e numbered = λ i h.
     let within : i < length more = omega (arith, ap length e, length-append texts (text ∷ [])) in
     let here = numbered i within in
     let same : get_or more i [] ≡ get_or texts i [] = ap (λ x. get_or x i []) e ∙ get_or-append texts (text ∷ []) [] i h in
-    subst (λ x. IsPatternOf x (pattern_in (map regex_pattern patterns) i)) same here
+    subst (λ x. IsPatternOf x (pattern_at (map regex_pattern patterns) i)) same here
 
-numbered_last : (texts more : List (List ℕ)) (text : List ℕ) (patterns : List Regex) → more ≡ texts ++ text ∷ [] → AreNumbered more patterns → IsPatternOf text (pattern_in (map regex_pattern patterns) (length texts))
+numbered_last : (texts more : List (List ℕ)) (text : List ℕ) (patterns : List Regex) → more ≡ texts ++ text ∷ [] → AreNumbered more patterns → IsPatternOf text (pattern_at (map regex_pattern patterns) (length texts))
 numbered_last texts more text patterns e numbered =
     let within : length texts < length more = omega (arith, ap length e, length-append texts (text ∷ [])) in
     let same : get_or more (length texts) [] ≡ text = ap (λ x. get_or x (length texts) []) e ∙ get_or-append_seam texts text [] [] in
-    subst (λ x. IsPatternOf x (pattern_in (map regex_pattern patterns) (length texts))) same (numbered (length texts) within)
+    subst (λ x. IsPatternOf x (pattern_at (map regex_pattern patterns) (length texts))) same (numbered (length texts) within)
 
 abbrev pub Passes-pattern : (text : List ℕ) (tokens rest : List Token) (texts more : List (List ℕ)) → tokens ≡ Literal text ∷ rest → is_utf8 text ≡ true → more ≡ texts ++ text ∷ [] → Passes (Found ∷ tokens) rest texts more
 Passes-pattern text tokens rest texts more e utf8 collected = record {
   used = Found ∷ Literal text ∷ [];
   parts = ap (λ x. Found ∷ x) e;
   numbered = λ patterns h. numbered_before texts more text patterns collected h;
-  among = λ whole front f h.
-      let here : AreAmong whole (text ∷ []) = ((front, rest, f ∙ ap (λ x. front ++ Found ∷ x) e, utf8), tt) in
+  among = λ whole prefix f h.
+      let here : AreAmong whole (text ∷ []) = ((prefix, rest, f ∙ ap (λ x. prefix ++ Found ∷ x) e, utf8), tt) in
       subst (λ x. AreAmong whole x) (sym collected) (among_more whole texts text h here);
 }
 
@@ -92,12 +92,12 @@ numbered_built (text ∷ texts) (pattern ∷ patterns) built (suc i) h = numbere
 pub AreNumbered-built : (texts : List (List ℕ)) (patterns : List Regex) → AreBuiltFrom texts patterns → AreNumbered texts patterns
 AreNumbered-built texts patterns built = λ i h.
     let at = numbered_built texts patterns built i h in
-    let same : regex_pattern at.0 ≡ pattern_in (map regex_pattern patterns) i = sym (ap (λ x. unwrap_or x no_pattern) (slice_get-map regex_pattern patterns i ∙ ap (option_map regex_pattern) at.1)) in
+    let same : regex_pattern at.0 ≡ pattern_at (map regex_pattern patterns) i = sym (ap (λ x. unwrap_or x no_pattern) (slice_get-map regex_pattern patterns i ∙ ap (option_map regex_pattern) at.1)) in
     (at.0, at.2.0, at.2.1, at.2.2, same)
 
 -- ---- levels
 
--- so many levels weaker
+-- n levels weaker
 weaker_by : (steps level : ℕ) (tokens : List Token) (a : Term) → steps + level ≤ 9 → Derives (steps + level) tokens a → Derives level tokens a
 weaker_by zero level tokens a h d = rw zero-add at d
 weaker_by (suc steps) level tokens a h d =
@@ -198,20 +198,20 @@ module _ (tokens inner rest : List Token) (texts more : List (List ℕ)) (operan
         goes_on = λ stack taken. t.goes_on stack (rw f at taken);
       }
 
--- the parenthesis that is popped behind an expression closes it
-pub IsTree-parentheses : (tokens inner behind_inner rest : List Token) (texts more : List (List ℕ)) (tree : Tree) → MayStand Operand tokens → tokens ≡ Open ∷ inner → IsTree 0 inner behind_inner texts more tree → level_at behind_inner ≡ 0 → begins_choice behind_inner ≡ false → rest ≡ drop 1 behind_inner → IsTree 8 tokens rest texts more tree
-IsTree-parentheses tokens inner behind_inner rest texts more tree may e t level none popped =
-    let close = ends_in_parenthesis may.stack behind_inner (t.goes_on (Parenthesis ∷ may.stack) (rw e at may.taken)) level none in
-    let f : behind_inner ≡ Close ∷ rest = close.1 ∙ ap (λ x. Close ∷ x) (sym (popped ∙ ap (λ x. drop 1 x) close.1)) in
+-- the parenthesis that is popped after an expression closes it
+pub IsTree-parentheses : (tokens inner after_inner rest : List Token) (texts more : List (List ℕ)) (tree : Tree) → MayStand Operand tokens → tokens ≡ Open ∷ inner → IsTree 0 inner after_inner texts more tree → level_at after_inner ≡ 0 → begins_choice after_inner ≡ false → rest ≡ drop 1 after_inner → IsTree 8 tokens rest texts more tree
+IsTree-parentheses tokens inner after_inner rest texts more tree may e t level none popped =
+    let close = ends_in_parenthesis may.stack after_inner (t.goes_on (Parenthesis ∷ may.stack) (rw e at may.taken)) level none in
+    let f : after_inner ≡ Close ∷ rest = close.1 ∙ ap (λ x. Close ∷ x) (sym (popped ∙ ap (λ x. drop 1 x) close.1)) in
     record {
       passes = Passes-join tokens inner rest texts texts more (Passes-token Open tokens inner texts e)
-          (Passes-join inner behind_inner rest texts more more t.passes (Passes-token Close behind_inner rest more f));
+          (Passes-join inner after_inner rest texts more more t.passes (Passes-token Close after_inner rest more f));
       derived = λ patterns numbered. by_next 8 9 (Open ∷ (t.passes.used ++ Close ∷ [])) (term_with patterns tree) refl (lit≤ tt)
           (by_parentheses (Open ∷ (t.passes.used ++ Close ∷ [])) t.passes.used (term_with patterns tree) refl (t.derived patterns numbered));
       goes_on = λ stack taken. let all = t.goes_on (Parenthesis ∷ stack) (rw e at taken) in rw f at all;
     }
 
--- ---- operators behind an operand
+-- ---- operators after an operand
 
 pub operator_derives : (op : Operator) (left right : List Token) (a b : Term) → Derives (left_level (level_of op)) left a → Derives (right_level (level_of op)) right b → Derives (level_of op) (left ++ Binary op ∷ right) (binary op a b)
 operator_derives Implies left right a b d f = by_implication (left ++ Binary Implies ∷ right) left right a b refl d f
@@ -226,20 +226,20 @@ module _ (tokens middle rest : List Token) (texts more : List (List ℕ)) (left 
       let u : IsTree (right_level (level_of op)) middle rest texts more right = subst (λ n. IsTree n middle rest texts more right) l t in
       let here : Extends (Binary op ∷ middle) rest texts more left tree = record {
         passes = Passes-join (Binary op ∷ middle) middle rest texts texts more (Passes-token (Binary op) (Binary op ∷ middle) middle texts refl) u.passes;
-        derived = λ patterns numbered front d. rw same (operator_derives op front u.passes.used (term_with patterns left) (term_with patterns right) d (u.derived patterns numbered));
-        goes_on = λ stack taken. u.goes_on stack (behind_operator stack op middle taken);
+        derived = λ patterns numbered prefix d. rw same (operator_derives op prefix u.passes.used (term_with patterns left) (term_with patterns right) d (u.derived patterns numbered));
+        goes_on = λ stack taken. u.goes_on stack (after_operator stack op middle taken);
         stops = rw l at ends;
         shorter = let few : length rest < length middle + 1 = fewer middle u.passes.used rest u.passes.parts in omega arith;
       } in
       subst (λ x. Extends x rest texts more left tree) (sym e) here
 
-  pub Extends-found : MayStand Operator_ tokens → tokens ≡ Found ∷ middle → IsFoundTree middle rest texts more left tree → Extends tokens rest texts more left tree
+  pub Extends-found : MayStand Infix tokens → tokens ≡ Found ∷ middle → IsFoundTree middle rest texts more left tree → Extends tokens rest texts more left tree
   Extends-found may e f =
       let here : Extends (Found ∷ middle) rest texts more left tree = record {
         passes = Passes-pattern f.text middle rest texts more f.parts f.utf8 f.collected;
-        derived = λ patterns numbered front d. rw f.term (by_pattern (front ++ Found ∷ Literal f.text ∷ []) front (term_with patterns left) f.text (pattern_in (map regex_pattern patterns) (length texts)) refl d (numbered_last texts more f.text patterns f.collected numbered));
-        goes_on = λ stack taken. (behind_pattern stack f.text rest (rw f.parts at taken) f.utf8).0;
-        stops = (behind_pattern may.stack f.text rest (rw (e, f.parts) at may.taken) f.utf8).1;
+        derived = λ patterns numbered prefix d. rw f.term (by_pattern (prefix ++ Found ∷ Literal f.text ∷ []) prefix (term_with patterns left) f.text (pattern_at (map regex_pattern patterns) (length texts)) refl d (numbered_last texts more f.text patterns f.collected numbered));
+        goes_on = λ stack taken. (after_pattern stack f.text rest (rw f.parts at taken) f.utf8).0;
+        stops = (after_pattern may.stack f.text rest (rw (e, f.parts) at may.taken) f.utf8).1;
         shorter = let few : length middle ≡ length rest + 1 = (ap length f.parts ∙ omega arith) in omega arith;
       } in
       subst (λ x. Extends x rest texts more left tree) (sym e) here
@@ -251,19 +251,19 @@ then_comes [] rest b e = absurd (cc)
 then_comes (Then ∷ tokens) rest b e = ap (λ x. Then ∷ x) (sym e)
 then_comes (_ ∷ tokens) rest b e = absurd (cc)
 
-module _ (tokens behind_condition yes_ behind_yes no_ rest : List Token) (texts some more most : List (List ℕ)) (condition first second tree : Tree) where
-  pub IsTree-choice : MayStand Operand tokens → IsTree 1 tokens behind_condition texts some condition → begins_choice behind_condition ≡ true → yes_ ≡ drop 1 behind_condition
-      → IsTree 0 yes_ behind_yes some more first → level_at behind_yes ≡ 0 → begins_choice behind_yes ≡ false → no_ ≡ drop 1 behind_yes → IsTree 0 no_ rest more most second
+module _ (tokens after_condition yes_part after_yes no_part rest : List Token) (texts some more most : List (List ℕ)) (condition first second tree : Tree) where
+  pub IsTree-choice : MayStand Operand tokens → IsTree 1 tokens after_condition texts some condition → begins_choice after_condition ≡ true → yes_part ≡ drop 1 after_condition
+      → IsTree 0 yes_part after_yes some more first → level_at after_yes ≡ 0 → begins_choice after_yes ≡ false → no_part ≡ drop 1 after_yes → IsTree 0 no_part rest more most second
       → ((patterns : List Regex) → term_with patterns tree ≡ choice (term_with patterns condition) (term_with patterns first) (term_with patterns second)) → IsTree 0 tokens rest texts most tree
   IsTree-choice may t begins popped u level none popped_else v same =
-      let e : behind_condition ≡ Then ∷ yes_ = then_comes behind_condition yes_ begins popped in
-      let else_ = ends_in_else may.stack behind_yes (u.goes_on (Question ∷ may.stack) (rw e at (t.goes_on may.stack may.taken))) level none in
-      let f : behind_yes ≡ Else ∷ no_ = else_.1 ∙ ap (λ x. Else ∷ x) (sym (popped_else ∙ ap (λ x. drop 1 x) else_.1)) in
+      let e : after_condition ≡ Then ∷ yes_part = then_comes after_condition yes_part begins popped in
+      let else_part = ends_in_else may.stack after_yes (u.goes_on (Question ∷ may.stack) (rw e at (t.goes_on may.stack may.taken))) level none in
+      let f : after_yes ≡ Else ∷ no_part = else_part.1 ∙ ap (λ x. Else ∷ x) (sym (popped_else ∙ ap (λ x. drop 1 x) else_part.1)) in
       record {
-        passes = Passes-join tokens behind_condition rest texts some most t.passes
-            (Passes-join behind_condition yes_ rest some some most (Passes-token Then behind_condition yes_ some e)
-            (Passes-join yes_ behind_yes rest some more most u.passes
-            (Passes-join behind_yes no_ rest more more most (Passes-token Else behind_yes no_ more f) v.passes)));
+        passes = Passes-join tokens after_condition rest texts some most t.passes
+            (Passes-join after_condition yes_part rest some some most (Passes-token Then after_condition yes_part some e)
+            (Passes-join yes_part after_yes rest some more most u.passes
+            (Passes-join after_yes no_part rest more more most (Passes-token Else after_yes no_part more f) v.passes)));
         derived = λ patterns numbered. rw same (by_choice (t.passes.used ++ Then ∷ (u.passes.used ++ Else ∷ v.passes.used)) t.passes.used u.passes.used v.passes.used
             (term_with patterns condition) (term_with patterns first) (term_with patterns second) refl
             (t.derived patterns (u.passes.numbered patterns (v.passes.numbered patterns numbered)))

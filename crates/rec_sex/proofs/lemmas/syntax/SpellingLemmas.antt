@@ -10,12 +10,13 @@ use Rattle.std.proofs.lemmas.Bool.Decides.{nat_tests}
 use Rattle.std.proofs.lemmas.List.{append-nil, drop_at}
 use Rattle.std.proofs.lemmas.List.Sums.{take_while-cons}
 use Rattle.rec_text.specs.Bytes.{is_letter, continues_name, is_space, is_nil}
+use Rattle.rec_text.specs.Canonical.{is_plain_name}
 use Rattle.rec_sex.specs.declared.syntax.token.Token.{Token}
 use Rattle.rec_sex.specs.declared.syntax.token.Token.TheVariants.{Integer, Literal, Name, Occurrence, Count}
-use Rattle.rec_sex.specs.IndexList.{AreDigits, begins, value_of, greatest}
-use Rattle.rec_sex.specs.Integers.{magnitude_of, digit_of, number_from, behind_zero}
-use Rattle.rec_sex.specs.Tokens.{Lexeme, Whole, Broken, with_byte, literal_from, literal_at, integer_at, name_at, behind_name, subscript_at, closing_at, token_of_one, token_of_two, of_one, operator_at, lexeme_at}
-use Rattle.rec_sex.specs.TokenSpellings.{is_word, is_quote, begins_escape, Closes, operator_of, Spells, by_integer, by_literal, by_name, by_occurrence, by_count, by_operator, is_continued}
+use Rattle.rec_sex.specs.IndexList.{AreDigits, begins, decimal_number, greatest}
+use Rattle.rec_sex.specs.Integers.{magnitude_of, digit_of, number_from, after_zero}
+use Rattle.rec_sex.specs.Tokens.{Lexeme, Whole, Broken, with_byte, literal_from, literal_at, integer_at, name_at, token_after_name, subscript_at, closing_at, token_of_one, token_of_two, of_one, operator_at, lexeme_at}
+use Rattle.rec_sex.specs.TokenSpellings.{is_quote, begins_escape, Closes, operator_of, Spells, by_integer, by_literal, by_name, by_occurrence, by_count, by_operator, is_continued}
 
 -- ---- tests
 
@@ -29,32 +30,32 @@ if_else false a b h = refl
 
 -- ---- the bytes that pass a test
 
-while_append : (p : ℕ → Bool) (front behind : List ℕ) → list_all p front ≡ true → take_while p (front ++ behind) ≡ front ++ take_while p behind
-while_append p [] behind all = refl
-while_append p (b ∷ front) behind all =
-    let parts = and_parts (p b) (list_all p front) all in
-    take_while-cons p b (front ++ behind) ∙ ap (λ t. cond t (b ∷ take_while p (front ++ behind)) []) parts.0 ∙ ap (λ x. b ∷ x) (while_append p front behind parts.1)
+while_append : (p : ℕ → Bool) (prefix following : List ℕ) → list_all p prefix ≡ true → take_while p (prefix ++ following) ≡ prefix ++ take_while p following
+while_append p [] following all = refl
+while_append p (b ∷ prefix) following all =
+    let parts = and_parts (p b) (list_all p prefix) all in
+    take_while-cons p b (prefix ++ following) ∙ ap (λ t. cond t (b ∷ take_while p (prefix ++ following)) []) parts.0 ∙ ap (λ x. b ∷ x) (while_append p prefix following parts.1)
 
 pub while_none : (p : ℕ → Bool) (s : List ℕ) → begins p s ≡ false → take_while p s ≡ []
 while_none p [] e = refl
 while_none p (b ∷ bs) e = take_while-cons p b bs ∙ ap (λ t. cond t (b ∷ take_while p bs) []) e
 
 -- all of those bytes, where none follows
-pub while_all : (p : ℕ → Bool) (front behind : List ℕ) → list_all p front ≡ true → begins p behind ≡ false → take_while p (front ++ behind) ≡ front
-while_all p front behind all e = while_append p front behind all ∙ ap (λ x. front ++ x) (while_none p behind e) ∙ append-nil front
+pub while_all : (p : ℕ → Bool) (prefix following : List ℕ) → list_all p prefix ≡ true → begins p following ≡ false → take_while p (prefix ++ following) ≡ prefix
+while_all p prefix following all e = while_append p prefix following all ∙ ap (λ x. prefix ++ x) (while_none p following e) ∙ append-nil prefix
 
-pub while_longer : (p : ℕ → Bool) (front behind : List ℕ) → list_all p front ≡ true → length front ≤ length (take_while p (front ++ behind))
-while_longer p front behind all = omega (arith, ap length (while_append p front behind all), length-append front (take_while p behind))
+pub while_longer : (p : ℕ → Bool) (prefix following : List ℕ) → list_all p prefix ≡ true → length prefix ≤ length (take_while p (prefix ++ following))
+while_longer p prefix following all = omega (arith, ap length (while_append p prefix following all), length-append prefix (take_while p following))
 
 -- ---- the first byte of a token
 
-pub word_continues : (b : ℕ) (bs : List ℕ) → is_word (b ∷ bs) ≡ true → (is_letter b ≡ true) × (list_all continues_name (b ∷ bs) ≡ true)
+pub word_continues : (b : ℕ) (bs : List ℕ) → is_plain_name (b ∷ bs) ≡ true → (is_letter b ≡ true) × (list_all continues_name (b ∷ bs) ≡ true)
 word_continues b bs e =
     let parts = and_parts (is_letter b) (list_all continues_name bs) e in
     let first : continues_name b ≡ true = let h = parts.0 in grind (arith, nat_tests) in
     (parts.0, rw (first, parts.1) refl)
 
-pub word_all : (name : List ℕ) → is_word name ≡ true → list_all continues_name name ≡ true
+pub word_all : (name : List ℕ) → is_plain_name name ≡ true → list_all continues_name name ≡ true
 word_all [] e = absurd (false≢true e)
 word_all (b ∷ bs) e = (word_continues b bs e).1
 
@@ -96,9 +97,9 @@ number_digit b n m bs e =
     ] in
     step (digit_of b) refl e
 
-behind_zero_bytes : (bs : List ℕ) (n : ℕ) → behind_zero bs ≡ Some n → list_all continues_name bs ≡ true
-behind_zero_bytes [] n e = refl
-behind_zero_bytes (b ∷ bs) n e =
+after_zero_bytes : (bs : List ℕ) (n : ℕ) → after_zero bs ≡ Some n → list_all continues_name bs ≡ true
+after_zero_bytes [] n e = refl
+after_zero_bytes (b ∷ bs) n e =
     if_some (list_all continues_name (b ∷ bs) ≡ true) (b == 120 || b == 88) (if is_nil bs then None else number_from 16 0 bs) _ n
     (λ h. if_some (list_all continues_name (b ∷ bs) ≡ true) (is_nil bs) None _ n (λ k f. absurd (cc))
     (λ f. let first : continues_name b ≡ true = grind (arith, nat_tests) in rw (first, number_bytes 16 0 n bs f) refl))
@@ -106,11 +107,11 @@ behind_zero_bytes (b ∷ bs) n e =
 
 pub magnitude_bytes : (b : ℕ) (bs : List ℕ) (n : ℕ) → magnitude_of (b ∷ bs) ≡ Some n → (is_ascii_digit b ≡ true) × (list_all continues_name (b ∷ bs) ≡ true)
 magnitude_bytes b bs n e =
-    if_some ((is_ascii_digit b ≡ true) × (list_all continues_name (b ∷ bs) ≡ true)) (b == 48) (behind_zero bs) _ n
-    (λ h f. let first : continues_name b ≡ true = grind (arith, nat_tests) in (grind (arith, nat_tests), rw (first, behind_zero_bytes bs n f) refl))
+    if_some ((is_ascii_digit b ≡ true) × (list_all continues_name (b ∷ bs) ≡ true)) (b == 48) (after_zero bs) _ n
+    (λ h f. let first : continues_name b ≡ true = grind (arith, nat_tests) in (grind (arith, nat_tests), rw (first, after_zero_bytes bs n f) refl))
     (λ f. (number_digit b 0 n bs f, number_bytes 10 0 n (b ∷ bs) f)) e
 
--- ---- what is read at the front, by its first byte
+-- ---- what is read at the start, by its first byte
 
 pub lexeme_at-digit : (b : ℕ) (bs : List ℕ) → is_ascii_digit b ≡ true → lexeme_at (b ∷ bs) ≡ integer_at (b ∷ bs)
 lexeme_at-digit b bs h = if_then (is_ascii_digit b) (integer_at (b ∷ bs)) _ h
@@ -184,9 +185,9 @@ IsNoBlank b = is_space b ≡ false
 abbrev BeginsNoBlank : List ℕ → Type 0
 BeginsNoBlank bytes = (b : ℕ) × (bs : List ℕ) × (bytes ≡ b ∷ bs) × IsNoBlank b
 
-word_begins : (name behind : List ℕ) → is_word name ≡ true → BeginsNoBlank (name ++ behind)
-word_begins [] behind e = absurd (false≢true e)
-word_begins (b ∷ bs) behind e = let h = (word_continues b bs e).0 in (b, bs ++ behind, refl, grind (arith, nat_tests))
+word_begins : (name following : List ℕ) → is_plain_name name ≡ true → BeginsNoBlank (name ++ following)
+word_begins [] following e = absurd (false≢true e)
+word_begins (b ∷ bs) following e = let h = (word_continues b bs e).0 in (b, bs ++ following, refl, grind (arith, nat_tests))
 
 integer_begins : (bytes : List ℕ) (n : ℕ) → magnitude_of bytes ≡ Some n → BeginsNoBlank bytes
 integer_begins [] n e = absurd (cc)
@@ -200,7 +201,7 @@ operator_begins (b ∷ c ∷ d ∷ bs) token e = absurd (cc)
 
 pub token_begins : (bytes : List ℕ) (token : Token) → Spells bytes token → BeginsNoBlank bytes
 token_begins bytes token (by_integer _ n e small) = integer_begins bytes n e
-token_begins bytes token (by_literal _ behind text quote e q closes) = (quote, behind, e, of_quote IsNoBlank quote refl refl q)
+token_begins bytes token (by_literal _ following text quote e q closes) = (quote, following, e, of_quote IsNoBlank quote refl refl q)
 token_begins bytes token (by_name _ w) = subst BeginsNoBlank (append-nil bytes) (word_begins bytes [] w)
 token_begins bytes token (by_occurrence _ name digits e w are small) = subst BeginsNoBlank (sym e) (word_begins name (91 ∷ (digits ++ 93 ∷ [])) w)
 token_begins bytes token (by_count _ name e w) = (35, name, e, refl)
@@ -224,15 +225,15 @@ integer_is_read (b ∷ bs) rest n e small ended =
     let h = magnitude_bytes b bs n e in
     lexeme_at-digit b (bs ++ rest) h.0 ∙ ap integer_with (while_all continues_name (b ∷ bs) rest h.1 ended) ∙ integer_with-is (b ∷ bs) n e small
 
-pub word_is_read : (name rest : List ℕ) → is_word name ≡ true → begins continues_name rest ≡ false → lexeme_at (name ++ rest) ≡ behind_name name rest
+pub word_is_read : (name rest : List ℕ) → is_plain_name name ≡ true → begins continues_name rest ≡ false → lexeme_at (name ++ rest) ≡ token_after_name name rest
 word_is_read [] rest w ended = absurd (false≢true w)
 word_is_read (b ∷ bs) rest w ended =
     let h = word_continues b bs w in
     lexeme_at-letter b (bs ++ rest) h.0
-    ∙ ap (λ x. behind_name x (drop (length x) ((b ∷ bs) ++ rest))) (while_all continues_name (b ∷ bs) rest h.1 ended)
-    ∙ ap (behind_name (b ∷ bs)) (drop_at (b ∷ bs) rest (length (b ∷ bs)) refl)
+    ∙ ap (λ x. token_after_name x (drop (length x) ((b ∷ bs) ++ rest))) (while_all continues_name (b ∷ bs) rest h.1 ended)
+    ∙ ap (token_after_name (b ∷ bs)) (drop_at (b ∷ bs) rest (length (b ∷ bs)) refl)
 
-name_is_read : (name rest : List ℕ) → is_word name ≡ true → is_continued (Name name) rest ≡ false → lexeme_at (name ++ rest) ≡ Whole (Name name) (length name)
+name_is_read : (name rest : List ℕ) → is_plain_name name ≡ true → is_continued (Name name) rest ≡ false → lexeme_at (name ++ rest) ≡ Whole (Name name) (length name)
 name_is_read name [] w e = word_is_read name [] w refl
 name_is_read name (b ∷ bs) w e =
     let parts = or_parts (continues_name b) (b == 91) e in
@@ -244,25 +245,25 @@ not_empty (d ∷ digits) some = grind (arith, nat_tests)
 
 -- a subscript of these digits
 abbrev pub subscript_with : List ℕ → List ℕ → List ℕ → ℕ → Lexeme
-subscript_with name digits behind len = if length digits == 0 || nat_lt greatest (value_of digits) then Broken len else closing_at name (value_of digits) behind (len + length digits)
+subscript_with name digits following len = if length digits == 0 || nat_lt greatest (decimal_number digits) then Broken len else closing_at name (decimal_number digits) following (len + length digits)
 
 pub subscript_is_with : (name digits rest : List ℕ) (len : ℕ) → list_all is_ascii_digit digits ≡ true → begins is_ascii_digit rest ≡ false → subscript_at name (digits ++ rest) len ≡ subscript_with name digits rest len
 subscript_is_with name digits rest len all ended =
     ap (λ x. subscript_with name x (drop (length x) (digits ++ rest)) len) (while_all is_ascii_digit digits rest all ended)
     ∙ ap (λ x. subscript_with name digits x len) (drop_at digits rest (length digits) refl)
 
-subscript_is_read : (name digits rest : List ℕ) (len : ℕ) → AreDigits digits [] → value_of digits ≤ greatest → subscript_at name (digits ++ 93 ∷ rest) len ≡ Whole (Occurrence name (value_of digits)) (len + length digits + 1)
+subscript_is_read : (name digits rest : List ℕ) (len : ℕ) → AreDigits digits [] → decimal_number digits ≤ greatest → subscript_at name (digits ++ 93 ∷ rest) len ≡ Whole (Occurrence name (decimal_number digits)) (len + length digits + 1)
 subscript_is_read name digits rest len are small =
-    let fits : nat_lt greatest (value_of digits) ≡ false = grind (arith, nat_tests) in
+    let fits : nat_lt greatest (decimal_number digits) ≡ false = grind (arith, nat_tests) in
     subscript_is_with name digits (93 ∷ rest) len are.all refl
-    ∙ if_else (length digits == 0 || nat_lt greatest (value_of digits)) (Broken len) (closing_at name (value_of digits) (93 ∷ rest) (len + length digits))
-    (or_from (length digits == 0) (nat_lt greatest (value_of digits)) (not_empty digits are.some) fits)
+    ∙ if_else (length digits == 0 || nat_lt greatest (decimal_number digits)) (Broken len) (closing_at name (decimal_number digits) (93 ∷ rest) (len + length digits))
+    (or_from (length digits == 0) (nat_lt greatest (decimal_number digits)) (not_empty digits are.some) fits)
 
-occurrence_is_read : (name digits rest : List ℕ) → is_word name ≡ true → AreDigits digits [] → value_of digits ≤ greatest
-    → lexeme_at (name ++ 91 ∷ (digits ++ 93 ∷ rest)) ≡ Whole (Occurrence name (value_of digits)) (length name + 1 + length digits + 1)
+occurrence_is_read : (name digits rest : List ℕ) → is_plain_name name ≡ true → AreDigits digits [] → decimal_number digits ≤ greatest
+    → lexeme_at (name ++ 91 ∷ (digits ++ 93 ∷ rest)) ≡ Whole (Occurrence name (decimal_number digits)) (length name + 1 + length digits + 1)
 occurrence_is_read name digits rest w are small = word_is_read name (91 ∷ (digits ++ 93 ∷ rest)) w refl ∙ subscript_is_read name digits rest (length name + 1) are small
 
-count_is_read : (name rest : List ℕ) → is_word name ≡ true → begins continues_name rest ≡ false → lexeme_at (35 ∷ (name ++ rest)) ≡ Whole (Count name) (length name + 1)
+count_is_read : (name rest : List ℕ) → is_plain_name name ≡ true → begins continues_name rest ≡ false → lexeme_at (35 ∷ (name ++ rest)) ≡ Whole (Count name) (length name + 1)
 count_is_read [] rest w ended = absurd (false≢true w)
 count_is_read (b ∷ bs) rest w ended =
     let h = word_continues b bs w in
@@ -294,25 +295,25 @@ closes_is_read : (quote : ℕ) (bytes rest text : List ℕ) → is_quote quote �
 closes_is_read quote bytes rest [] q e = subst (λ x. literal_from quote (x ++ rest) ≡ Some ([], length x)) (sym e) (end_is_read quote rest)
 closes_is_read quote bytes rest (c ∷ text) q h =
     let more = h.0 in
-    let behind : literal_from quote (more ++ rest) ≡ Some (text, length more) = closes_is_read quote more rest text q h.1 in
+    let following : literal_from quote (more ++ rest) ≡ Some (text, length more) = closes_is_read quote more rest text q h.1 in
     ⊎_elim
     (λ (k : (bytes ≡ c ∷ more) × (c ≢ quote) × (begins_escape bytes ≡ false)).
     subst (λ x. literal_from quote (x ++ rest) ≡ Some (c ∷ text, length x)) (sym k.0)
-    (plain_is_read quote c more rest text (length more) k.1 (subst (λ x. begins_escape x ≡ false) k.0 k.2) (closes_some quote more text h.1) behind
+    (plain_is_read quote c more rest text (length more) k.1 (subst (λ x. begins_escape x ≡ false) k.0 k.2) (closes_some quote more text h.1) following
     ∙ ap (λ n. Some (c ∷ text, n)) (omega arith)))
     (λ k. subst (λ x. literal_from quote (x ++ rest) ≡ Some (c ∷ text, length x)) (sym k.0)
-    (escape_is_read quote c more rest text (length more) q k.1 behind ∙ ap (λ n. Some (c ∷ text, n)) (omega arith)))
+    (escape_is_read quote c more rest text (length more) q k.1 following ∙ ap (λ n. Some (c ∷ text, n)) (omega arith)))
     h.2
 
-literal_is_read : (quote : ℕ) (behind rest text : List ℕ) → is_quote quote ≡ true → Closes quote behind text → lexeme_at (quote ∷ (behind ++ rest)) ≡ Whole (Literal text) (length behind + 1)
-literal_is_read quote behind rest text q closes =
-    lexeme_at-quote quote q (behind ++ rest) ∙ ap (λ o. elim o [ None ↦ Broken 0 | Some x ↦ Whole (Literal x.0) (x.1 + 1) ]) (closes_is_read quote behind rest text q closes)
+literal_is_read : (quote : ℕ) (following rest text : List ℕ) → is_quote quote ≡ true → Closes quote following text → lexeme_at (quote ∷ (following ++ rest)) ≡ Whole (Literal text) (length following + 1)
+literal_is_read quote following rest text q closes =
+    lexeme_at-quote quote q (following ++ rest) ∙ ap (λ o. elim o [ None ↦ Broken 0 | Some x ↦ Whole (Literal x.0) (x.1 + 1) ]) (closes_is_read quote following rest text q closes)
 
 pub two_is_read : (b c : ℕ) (rest : List ℕ) (token : Token) → token_of_two b c ≡ Some token → lexeme_at (b ∷ c ∷ rest) ≡ Whole token 2
 two_is_read b c rest token e = lexeme_at-two b c token e (c ∷ rest) ∙ ap (λ o. elim o [ None ↦ of_one b | Some t ↦ Whole t 2 ]) e
 
 one_is_read : (b : ℕ) (rest : List ℕ) (token : Token) → token_of_one b ≡ Some token
-    → ((c : ℕ) (behind : List ℕ) (other : Token) → b ∷ rest ≡ (b ∷ c ∷ []) ++ behind → token_of_two b c ≡ Some other → ⊥) → lexeme_at (b ∷ rest) ≡ Whole token 1
+    → ((c : ℕ) (following : List ℕ) (other : Token) → b ∷ rest ≡ (b ∷ c ∷ []) ++ following → token_of_two b c ≡ Some other → ⊥) → lexeme_at (b ∷ rest) ≡ Whole token 1
 one_is_read b [] token e none = lexeme_at-one b token e [] ∙ ap (λ o. elim o [ None ↦ Broken 0 | Some t ↦ Whole t 1 ]) e
 one_is_read b (c ∷ rest) token e none =
     let step : (o : Option Token) → token_of_two b c ≡ o → (elim o [ None ↦ of_one b | Some t ↦ Whole t 2 ]) ≡ Whole token 1 =
@@ -322,9 +323,9 @@ one_is_read b (c ∷ rest) token e none =
     ] in
     lexeme_at-one b token e (c ∷ rest) ∙ step (token_of_two b c) refl
 
--- no longer front of the bytes is a token
+-- no longer prefix of the bytes is a token
 abbrev pub IsNoLonger : List ℕ → List ℕ → Type 0
-IsNoLonger bytes rest = (other : Token) (front behind : List ℕ) → bytes ++ rest ≡ front ++ behind → Spells front other → length front ≤ length bytes
+IsNoLonger bytes rest = (other : Token) (prefix following : List ℕ) → bytes ++ rest ≡ prefix ++ following → Spells prefix other → length prefix ≤ length bytes
 
 integer_ended : (n : ℕ) (rest : List ℕ) → is_continued (Integer (pos n)) rest ≡ false → begins continues_name rest ≡ false
 integer_ended n [] e = refl
@@ -337,7 +338,7 @@ count_ended name (b ∷ bs) e = e
 operator_is_read : (bytes rest : List ℕ) (token : Token) → operator_of bytes ≡ Some token → IsNoLonger bytes rest → lexeme_at (bytes ++ rest) ≡ Whole token (length bytes)
 operator_is_read [] rest token e longest = absurd (cc)
 operator_is_read (b ∷ []) rest token e longest =
-    one_is_read b rest token e (λ c behind other parts two. let long : 2 ≤ 1 = longest other (b ∷ c ∷ []) behind parts (by_operator (b ∷ c ∷ []) other two) in omega (arith, long))
+    one_is_read b rest token e (λ c following other parts two. let long : 2 ≤ 1 = longest other (b ∷ c ∷ []) following parts (by_operator (b ∷ c ∷ []) other two) in omega (arith, long))
 operator_is_read (b ∷ c ∷ []) rest token e longest = two_is_read b c rest token e
 operator_is_read (b ∷ c ∷ d ∷ bs) rest token e longest = absurd (cc)
 
@@ -347,19 +348,19 @@ occurrence_parts name digits rest = append_assoc name (91 ∷ (digits ++ 93 ∷ 
 occurrence_size : (name digits : List ℕ) → length (name ++ 91 ∷ (digits ++ 93 ∷ [])) ≡ length name + 1 + length digits + 1
 occurrence_size name digits = omega (arith, length-append name (91 ∷ (digits ++ 93 ∷ [])), length-append digits (93 ∷ []))
 
-pub occurrence_is_whole : (bytes name digits rest : List ℕ) → bytes ≡ name ++ 91 ∷ (digits ++ 93 ∷ []) → is_word name ≡ true → AreDigits digits [] → value_of digits ≤ greatest
-    → lexeme_at (bytes ++ rest) ≡ Whole (Occurrence name (value_of digits)) (length bytes)
+pub occurrence_is_whole : (bytes name digits rest : List ℕ) → bytes ≡ name ++ 91 ∷ (digits ++ 93 ∷ []) → is_plain_name name ≡ true → AreDigits digits [] → decimal_number digits ≤ greatest
+    → lexeme_at (bytes ++ rest) ≡ Whole (Occurrence name (decimal_number digits)) (length bytes)
 occurrence_is_whole bytes name digits rest e w are small =
     ap (λ x. lexeme_at (x ++ rest)) e ∙ ap lexeme_at (occurrence_parts name digits rest) ∙ occurrence_is_read name digits rest w are small
-    ∙ ap (Whole (Occurrence name (value_of digits))) (sym (ap length e ∙ occurrence_size name digits))
+    ∙ ap (Whole (Occurrence name (decimal_number digits))) (sym (ap length e ∙ occurrence_size name digits))
 
-pub literal_is_whole : (bytes behind rest text : List ℕ) (quote : ℕ) → bytes ≡ quote ∷ behind → is_quote quote ≡ true → Closes quote behind text → lexeme_at (bytes ++ rest) ≡ Whole (Literal text) (length bytes)
-literal_is_whole bytes behind rest text quote e q closes =
-    ap (λ x. lexeme_at (x ++ rest)) e ∙ literal_is_read quote behind rest text q closes ∙ ap (Whole (Literal text)) (omega (arith, ap length e))
+pub literal_is_whole : (bytes following rest text : List ℕ) (quote : ℕ) → bytes ≡ quote ∷ following → is_quote quote ≡ true → Closes quote following text → lexeme_at (bytes ++ rest) ≡ Whole (Literal text) (length bytes)
+literal_is_whole bytes following rest text quote e q closes =
+    ap (λ x. lexeme_at (x ++ rest)) e ∙ literal_is_read quote following rest text q closes ∙ ap (Whole (Literal text)) (omega (arith, ap length e))
 
 pub spelled_is_read : (bytes rest : List ℕ) (token : Token) → Spells bytes token → is_continued token rest ≡ false → IsNoLonger bytes rest → lexeme_at (bytes ++ rest) ≡ Whole token (length bytes)
 spelled_is_read bytes rest token (by_integer _ n e small) ended longest = integer_is_read bytes rest n e small (integer_ended n rest ended)
-spelled_is_read bytes rest token (by_literal _ behind text quote e q closes) ended longest = literal_is_whole bytes behind rest text quote e q closes
+spelled_is_read bytes rest token (by_literal _ following text quote e q closes) ended longest = literal_is_whole bytes following rest text quote e q closes
 spelled_is_read bytes rest token (by_name _ w) ended longest = name_is_read bytes rest w ended
 spelled_is_read bytes rest token (by_occurrence _ name digits e w are small) ended longest = occurrence_is_whole bytes name digits rest e w are small
 spelled_is_read bytes rest token (by_count _ name e w) ended longest =

@@ -1,4 +1,4 @@
--- The grammar derives all tokens that the walk takes, where each text behind a `~` builds a pattern.
+-- The grammar derives all tokens that the walk takes, where each text after a `~` builds a pattern.
 use Rattle.std.proofs.Common.{◌≡◌, ℕ, zero, suc, ◌+◌, ◌<◌, ◌≤◌, Bool, true, false, List, [], ◌∷◌, ◌++◌, length, refl, sym, ap, ◌∙◌, subst, append_assoc, length-append, arith, lit≤, nat_le}
 use Rattle.std.proofs.lemmas.Bool.{false≢true}
 use Rattle.std.proofs.lemmas.Bool.Decides.{nat_tests}
@@ -7,9 +7,9 @@ use Rattle.rec_sex.specs.declared.syntax.token.Operator.{Operator}
 use Rattle.rec_sex.specs.declared.syntax.token.Operator.TheVariants.{Subtract}
 use Rattle.rec_sex.specs.declared.syntax.token.Token.{Token}
 use Rattle.rec_sex.specs.declared.syntax.token.Token.TheVariants.{Integer, Literal, Name, Occurrence, Count, Not, Binary, Found, Open, Close, Then, Else}
-use Rattle.rec_sex.specs.Grammar.{Term, Derives, by_choice, by_pattern, by_not, by_minus, by_next, by_integer, by_literal, by_name, by_occurrence, by_count, by_parentheses, HaveGoodPatterns, AreTaken, walk_start, level_of, number, literal, field, occurrence, count, inverse, negated, binary, found, choice, Operand, Operator_, Opened, Parenthesis, Question}
+use Rattle.rec_sex.specs.Grammar.{Term, Derives, by_choice, by_pattern, by_not, by_minus, by_next, by_integer, by_literal, by_name, by_occurrence, by_count, by_parentheses, HaveGoodPatterns, AreTaken, walk_start, level_of, number, literal, field, occurrence, count, inverse, negated, binary, found, choice, Operand, Infix, Opened, Parenthesis, Question}
 use Rattle.rec_sex.specs.proving.Parsing.{MayStand, takes_from, level_at, left_level, right_level, begins_choice}
-use Rattle.rec_sex.proofs.lemmas.syntax.WalkLemmas.{takes_walked, operator_is_minus, behind_operator, behind_pattern, operator_levels, levels, ends_in_parenthesis, ends_in_else, ends_in_nothing}
+use Rattle.rec_sex.proofs.lemmas.syntax.WalkLemmas.{takes_walked, operator_is_minus, after_operator, after_pattern, operator_levels, levels, ends_in_parenthesis, ends_in_else, ends_in_nothing}
 use Rattle.rec_sex.proofs.lemmas.syntax.ParsingLemmas.{Derives-weaker, left_level-within, operator_derives}
 use Rattle.rec_sex.proofs.lemmas.syntax.GrammarLemmas.{utf8_of_pattern}
 
@@ -19,7 +19,7 @@ record HasTerm (level : ℕ) (tokens rest : List Token) : Type 0 where
   term : Term
   parts : tokens ≡ used ++ rest
   derives : Derives level used term
-  goes_on : (stack : List Opened) → takes_from Operand stack tokens ≡ true → takes_from Operator_ stack rest ≡ true
+  goes_on : (stack : List Opened) → takes_from Operand stack tokens ≡ true → takes_from Infix stack rest ≡ true
 
 -- the same, with the next operator too weak for the level
 record HasOperation (level : ℕ) (tokens : List Token) : Type 0 where
@@ -33,13 +33,13 @@ record HasExpression (tokens : List Token) : Type 0 where
   stops : level_at rest ≡ 0
   no_choice : begins_choice rest ≡ false
 
--- so many tokens always have an expression at their front
+-- n tokens always have an expression at their start
 record Parses (n : ℕ) : Type 0 where
   operation : (level : ℕ) (tokens : List Token) → 1 ≤ level → level ≤ 8 → length tokens ≤ n → MayStand Operand tokens → HaveGoodPatterns tokens → HasOperation level tokens
   expression : (tokens : List Token) → length tokens ≤ n → MayStand Operand tokens → HaveGoodPatterns tokens → HasExpression tokens
 
-pub good_behind : (tokens used rest : List Token) → tokens ≡ used ++ rest → HaveGoodPatterns tokens → HaveGoodPatterns rest
-good_behind tokens used rest e good = λ front behind text f. good (used ++ front) behind text (e ∙ ap (λ x. used ++ x) f ∙ sym (append_assoc used front (Found ∷ (Literal text ∷ behind))))
+pub good_after : (tokens used rest : List Token) → tokens ≡ used ++ rest → HaveGoodPatterns tokens → HaveGoodPatterns rest
+good_after tokens used rest e good = λ prefix following text f. good (used ++ prefix) following text (e ∙ ap (λ x. used ++ x) f ∙ sym (append_assoc used prefix (Found ∷ (Literal text ∷ following))))
 
 HasTerm-weaker : (level strong : ℕ) (tokens rest : List Token) → level ≤ strong → strong ≤ 9 → HasTerm strong tokens rest → HasTerm level tokens rest
 HasTerm-weaker level strong tokens rest h k t = record {
@@ -50,12 +50,12 @@ HasTerm-weaker level strong tokens rest h k t = record {
   goes_on = t.goes_on;
 }
 
-fewer_behind : (tokens used rest : List Token) → tokens ≡ used ++ rest → length rest ≤ length tokens
-fewer_behind tokens used rest e = omega (arith, ap length e, length-append used rest)
+fewer_after : (tokens used rest : List Token) → tokens ≡ used ++ rest → length rest ≤ length tokens
+fewer_after tokens used rest e = omega (arith, ap length e, length-append used rest)
 
 -- ---- operands
 
-single : (token : Token) (rest : List Token) (a : Term) → Derives 9 (token ∷ []) a → ((stack : List Opened) → takes_from Operand stack (token ∷ rest) ≡ true → takes_from Operator_ stack rest ≡ true) → HasTerm 8 (token ∷ rest) rest
+single : (token : Token) (rest : List Token) (a : Term) → Derives 9 (token ∷ []) a → ((stack : List Opened) → takes_from Operand stack (token ∷ rest) ≡ true → takes_from Infix stack rest ≡ true) → HasTerm 8 (token ∷ rest) rest
 single token rest a d goes = record { used = token ∷ []; term = a; parts = refl; derives = by_next 8 9 (token ∷ []) a refl (lit≤ tt) d; goes_on = goes }
 
 has_not : (inner rest : List Token) → HasTerm 8 inner rest → HasTerm 8 (Not ∷ inner) rest
@@ -76,8 +76,8 @@ has_minus inner rest t = record {
   goes_on = t.goes_on;
 }
 
-has_parentheses : (inner behind_inner rest : List Token) → behind_inner ≡ Close ∷ rest → HasTerm 0 inner behind_inner → HasTerm 8 (Open ∷ inner) rest
-has_parentheses inner behind_inner rest e t = record {
+has_parentheses : (inner after_inner rest : List Token) → after_inner ≡ Close ∷ rest → HasTerm 0 inner after_inner → HasTerm 8 (Open ∷ inner) rest
+has_parentheses inner after_inner rest e t = record {
   used = Open ∷ (t.used ++ Close ∷ []);
   term = t.term;
   parts = ap (λ x. Open ∷ x) (t.parts ∙ ap (λ x. t.used ++ x) e ∙ sym (append_assoc t.used (Close ∷ []) rest));
@@ -93,49 +93,49 @@ operand n parses (Name name ∷ rest) few may good = (rest, single (Name name) r
 operand n parses (Occurrence name i ∷ rest) few may good = (rest, single (Occurrence name i) rest (occurrence name i) (by_occurrence (Occurrence name i ∷ []) name i refl) (λ stack h. h))
 operand n parses (Count name ∷ rest) few may good = (rest, single (Count name) rest (count name) (by_count (Count name ∷ []) name refl) (λ stack h. h))
 operand n parses (Not ∷ inner) few may good =
-    let a = parses.operation 8 inner (lit≤ tt) (lit≤ tt) (omega arith) (record { stack = may.stack; taken = may.taken }) (good_behind (Not ∷ inner) (Not ∷ []) inner refl good) in
+    let a = parses.operation 8 inner (lit≤ tt) (lit≤ tt) (omega arith) (record { stack = may.stack; taken = may.taken }) (good_after (Not ∷ inner) (Not ∷ []) inner refl good) in
     (a.rest, has_not inner a.rest a.has)
 operand n parses (Binary op ∷ inner) few may good =
     let minus = operator_is_minus may.stack op inner may.taken in
-    let a = parses.operation 8 inner (lit≤ tt) (lit≤ tt) (omega arith) (record { stack = may.stack; taken = minus.1 }) (good_behind (Binary op ∷ inner) (Binary op ∷ []) inner refl good) in
+    let a = parses.operation 8 inner (lit≤ tt) (lit≤ tt) (omega arith) (record { stack = may.stack; taken = minus.1 }) (good_after (Binary op ∷ inner) (Binary op ∷ []) inner refl good) in
     (a.rest, subst (λ x. HasTerm 8 (Binary x ∷ inner) a.rest) (sym minus.0) (has_minus inner a.rest a.has))
 operand n parses (Open ∷ inner) few may good =
-    let a = parses.expression inner (omega arith) (record { stack = Parenthesis ∷ may.stack; taken = may.taken }) (good_behind (Open ∷ inner) (Open ∷ []) inner refl good) in
+    let a = parses.expression inner (omega arith) (record { stack = Parenthesis ∷ may.stack; taken = may.taken }) (good_after (Open ∷ inner) (Open ∷ []) inner refl good) in
     let close = ends_in_parenthesis may.stack a.rest (a.has.goes_on (Parenthesis ∷ may.stack) may.taken) a.stops a.no_choice in
     (close.0, has_parentheses inner a.rest close.0 close.1 a.has)
 operand n parses (_ ∷ rest) few may good = absurd (false≢true may.taken)
 
--- ---- operators behind an operand
+-- ---- operators after an operand
 
 record HasMore (tokens : List Token) : Type 0 where
   rest : List Token
   used : List Token
   term : Term → Term
   parts : tokens ≡ used ++ rest
-  derives : (front : List Token) (a : Term) → Derives (left_level (level_at tokens)) front a → Derives (level_at tokens) (front ++ used) (term a)
-  goes_on : (stack : List Opened) → takes_from Operator_ stack tokens ≡ true → takes_from Operator_ stack rest ≡ true
+  derives : (prefix : List Token) (a : Term) → Derives (left_level (level_at tokens)) prefix a → Derives (level_at tokens) (prefix ++ used) (term a)
+  goes_on : (stack : List Opened) → takes_from Infix stack tokens ≡ true → takes_from Infix stack rest ≡ true
   stops : level_at rest < right_level (level_at tokens)
   shorter : length rest < length tokens
 
 right_level-high : (level : ℕ) → level ≤ 7 → (1 ≤ right_level level) × (right_level level ≤ 8)
 right_level-high level h = (grind (arith, nat_tests), grind (arith, nat_tests))
 
-more_by_operator : (n : ℕ) → Parses n → (op : Operator) (middle : List Token) → length middle ≤ n → MayStand Operator_ (Binary op ∷ middle) → HaveGoodPatterns middle → HasMore (Binary op ∷ middle)
+more_by_operator : (n : ℕ) → Parses n → (op : Operator) (middle : List Token) → length middle ≤ n → MayStand Infix (Binary op ∷ middle) → HaveGoodPatterns middle → HasMore (Binary op ∷ middle)
 more_by_operator n parses op middle few may good =
     let high = right_level-high (level_of op) (operator_levels op).1 in
-    let a = parses.operation (right_level (level_of op)) middle high.0 high.1 few (record { stack = may.stack; taken = behind_operator may.stack op middle may.taken }) good in
+    let a = parses.operation (right_level (level_of op)) middle high.0 high.1 few (record { stack = may.stack; taken = after_operator may.stack op middle may.taken }) good in
     record {
       rest = a.rest;
       used = Binary op ∷ a.has.used;
       term = λ left. binary op left a.has.term;
       parts = ap (λ x. Binary op ∷ x) a.has.parts;
-      derives = λ front left d. operator_derives op front a.has.used left a.has.term d a.has.derives;
-      goes_on = λ stack taken. a.has.goes_on stack (behind_operator stack op middle taken);
+      derives = λ prefix left d. operator_derives op prefix a.has.used left a.has.term d a.has.derives;
+      goes_on = λ stack taken. a.has.goes_on stack (after_operator stack op middle taken);
       stops = a.stops;
-      shorter = let few_left : length a.rest ≤ length middle = fewer_behind middle a.has.used a.rest a.has.parts in omega arith;
+      shorter = let few_left : length a.rest ≤ length middle = fewer_after middle a.has.used a.rest a.has.parts in omega arith;
     }
 
-more_by_pattern : (middle : List Token) → MayStand Operator_ (Found ∷ middle) → HaveGoodPatterns (Found ∷ middle) → HasMore (Found ∷ middle)
+more_by_pattern : (middle : List Token) → MayStand Infix (Found ∷ middle) → HaveGoodPatterns (Found ∷ middle) → HasMore (Found ∷ middle)
 more_by_pattern [] may good = absurd (false≢true may.taken)
 more_by_pattern (Literal text ∷ rest) may good =
     let p = good [] rest text refl in
@@ -145,16 +145,16 @@ more_by_pattern (Literal text ∷ rest) may good =
       used = Found ∷ Literal text ∷ [];
       term = λ left. found left p.0;
       parts = refl;
-      derives = λ front left d. by_pattern (front ++ Found ∷ Literal text ∷ []) front left text p.0 refl d p.1;
-      goes_on = λ stack taken. (behind_pattern stack text rest taken utf8).0;
-      stops = (behind_pattern may.stack text rest may.taken utf8).1;
+      derives = λ prefix left d. by_pattern (prefix ++ Found ∷ Literal text ∷ []) prefix left text p.0 refl d p.1;
+      goes_on = λ stack taken. (after_pattern stack text rest taken utf8).0;
+      stops = (after_pattern may.stack text rest may.taken utf8).1;
       shorter = omega arith;
     }
 more_by_pattern (_ ∷ rest) may good = absurd (false≢true may.taken)
 
-more : (n : ℕ) → Parses n → (tokens : List Token) → 0 < level_at tokens → length tokens ≤ n + 1 → MayStand Operator_ tokens → HaveGoodPatterns tokens → HasMore tokens
+more : (n : ℕ) → Parses n → (tokens : List Token) → 0 < level_at tokens → length tokens ≤ n + 1 → MayStand Infix tokens → HaveGoodPatterns tokens → HasMore tokens
 more n parses [] some few may good = absurd (omega (arith, some))
-more n parses (Binary op ∷ middle) some few may good = more_by_operator n parses op middle (omega arith) may (good_behind (Binary op ∷ middle) (Binary op ∷ []) middle refl good)
+more n parses (Binary op ∷ middle) some few may good = more_by_operator n parses op middle (omega arith) may (good_after (Binary op ∷ middle) (Binary op ∷ []) middle refl good)
 more n parses (Found ∷ middle) some few may good = more_by_pattern middle may good
 more n parses (_ ∷ middle) some few may good = absurd (omega (arith, some))
 
@@ -186,8 +186,8 @@ HasBound-more level tokens middle h k a b = record {
 module _ (n : ℕ) (parses : Parses n) (level : ℕ) (one : 1 ≤ level) (tokens : List Token) (few : length tokens ≤ n + 1) (may : MayStand Operand tokens) (good : HaveGoodPatterns tokens) where
   more_of : (middle : List Token) → level ≤ level_at middle → HasBound level tokens middle → HasMore middle
   more_of middle k a =
-      let left : length middle ≤ length tokens = fewer_behind tokens a.has.used middle a.has.parts in
-      more n parses middle (omega arith) (omega arith) (record { stack = may.stack; taken = a.has.goes_on may.stack may.taken }) (good_behind tokens a.has.used middle a.has.parts good)
+      let left : length middle ≤ length tokens = fewer_after tokens a.has.used middle a.has.parts in
+      more n parses middle (omega arith) (omega arith) (record { stack = may.stack; taken = a.has.goes_on may.stack may.taken }) (good_after tokens a.has.used middle a.has.parts good)
 
   climb_on : (m : ℕ) (middle : List Token) (binds : Bool) → nat_le level (level_at middle) ≡ binds → HasBound level tokens middle → length middle ≤ m + 1 → ((rest : List Token) → HasBound level tokens rest → length rest ≤ m → HasOperation level tokens) → HasOperation level tokens
   climb_on m middle true e a short further =
@@ -211,16 +211,16 @@ module _ (n : ℕ) (parses : Parses n) (level : ℕ) (one : 1 ≤ level) (tokens
 
 -- ---- choices
 
-length_behind : (tokens : List Token) (token : Token) (rest : List Token) → tokens ≡ token ∷ rest → length tokens ≡ length rest + 1
-length_behind tokens token rest e = omega (arith, ap length e)
+length_after : (tokens : List Token) (token : Token) (rest : List Token) → tokens ≡ token ∷ rest → length tokens ≡ length rest + 1
+length_after tokens token rest e = omega (arith, ap length e)
 
 then_at : (tokens : List Token) → begins_choice tokens ≡ true → (rest : List Token) × (tokens ≡ Then ∷ rest)
 then_at [] b = absurd (false≢true b)
 then_at (Then ∷ rest) b = (rest, refl)
 then_at (_ ∷ rest) b = absurd (false≢true b)
 
-has_choice : (tokens behind_condition yes_ behind_yes no_ rest : List Token) → behind_condition ≡ Then ∷ yes_ → behind_yes ≡ Else ∷ no_ → HasTerm 1 tokens behind_condition → HasTerm 0 yes_ behind_yes → HasTerm 0 no_ rest → HasTerm 0 tokens rest
-has_choice tokens behind_condition yes_ behind_yes no_ rest e f t u v = record {
+has_choice : (tokens after_condition yes_part after_yes no_part rest : List Token) → after_condition ≡ Then ∷ yes_part → after_yes ≡ Else ∷ no_part → HasTerm 1 tokens after_condition → HasTerm 0 yes_part after_yes → HasTerm 0 no_part rest → HasTerm 0 tokens rest
+has_choice tokens after_condition yes_part after_yes no_part rest e f t u v = record {
   used = t.used ++ Then ∷ (u.used ++ Else ∷ v.used);
   term = choice t.term u.term v.term;
   parts = t.parts ∙ ap (λ x. t.used ++ x) (e ∙ ap (λ x. Then ∷ x) (u.parts ∙ ap (λ x. u.used ++ x) (f ∙ ap (λ x. Else ∷ x) v.parts) ∙ sym (append_assoc u.used (Else ∷ v.used) rest)))
@@ -233,15 +233,15 @@ module _ (n : ℕ) (parses : Parses n) (tokens : List Token) (few : length token
   expression_on : (a : HasOperation 1 tokens) (chooses : Bool) → begins_choice a.rest ≡ chooses → HasExpression tokens
   expression_on a true e =
       let question = then_at a.rest e in
-      let yes_few : length a.rest ≤ length tokens = fewer_behind tokens a.has.used a.rest a.has.parts in
-      let question_len : length a.rest ≡ length question.0 + 1 = length_behind a.rest Then question.0 question.1 in
+      let yes_few : length a.rest ≤ length tokens = fewer_after tokens a.has.used a.rest a.has.parts in
+      let question_len : length a.rest ≡ length question.0 + 1 = length_after a.rest Then question.0 question.1 in
       let yes_taken : takes_from Operand (Question ∷ may.stack) question.0 ≡ true = rw question.1 at (a.has.goes_on may.stack may.taken) in
-      let yes_good = good_behind a.rest (Then ∷ []) question.0 question.1 (good_behind tokens a.has.used a.rest a.has.parts good) in
+      let yes_good = good_after a.rest (Then ∷ []) question.0 question.1 (good_after tokens a.has.used a.rest a.has.parts good) in
       let b = parses.expression question.0 (omega arith) (record { stack = Question ∷ may.stack; taken = yes_taken }) yes_good in
       let colon = ends_in_else may.stack b.rest (b.has.goes_on (Question ∷ may.stack) yes_taken) b.stops b.no_choice in
-      let no_few : length b.rest ≤ length question.0 = fewer_behind question.0 b.has.used b.rest b.has.parts in
-      let colon_len : length b.rest ≡ length colon.0 + 1 = length_behind b.rest Else colon.0 colon.1 in
-      let d = parses.expression colon.0 (omega arith) (record { stack = may.stack; taken = colon.2 }) (good_behind b.rest (Else ∷ []) colon.0 colon.1 (good_behind question.0 b.has.used b.rest b.has.parts yes_good)) in
+      let no_few : length b.rest ≤ length question.0 = fewer_after question.0 b.has.used b.rest b.has.parts in
+      let colon_len : length b.rest ≡ length colon.0 + 1 = length_after b.rest Else colon.0 colon.1 in
+      let d = parses.expression colon.0 (omega arith) (record { stack = may.stack; taken = colon.2 }) (good_after b.rest (Else ∷ []) colon.0 colon.1 (good_after question.0 b.has.used b.rest b.has.parts yes_good)) in
       record { rest = d.rest; has = has_choice tokens a.rest question.0 b.rest colon.0 d.rest question.1 colon.1 a.has b.has d.has; stops = d.stops; no_choice = d.no_choice }
   expression_on a false e = record { rest = a.rest; has = HasTerm-weaker 0 1 tokens a.rest (lit≤ tt) (lit≤ tt) a.has; stops = omega (arith, a.stops); no_choice = e }
 

@@ -11,13 +11,13 @@ use Rattle.regex.specs.declared.string.regex.Regex.{Regex}
 use Rattle.regex.proofs.ForCallers.{is_match_alike}
 use Rattle.rec_sex.specs.declared.syntax.token.Token.{Token}
 use Rattle.rec_sex.specs.Expressions.{IsExpression, AreSame, OneExpression}
-use Rattle.rec_sex.specs.Grammar.{Term, Walk, AreTokens, AreTaken, walk_start, walked, behind, may_end, fault_from, fault_of, Derives, by_choice, by_implication, by_operator, by_pattern, by_not, by_minus, by_next, by_integer, by_literal, by_name, by_occurrence, by_count, by_parentheses, level_of, number, literal, field, occurrence, count, inverse, negated, binary, found, choice, IsPatternOf}
+use Rattle.rec_sex.specs.Grammar.{Term, Walk, AreTokens, AreTaken, walk_start, walked, following, may_end, fault_from, fault_of, Derives, by_choice, by_implication, by_operator, by_pattern, by_not, by_minus, by_next, by_integer, by_literal, by_name, by_occurrence, by_count, by_parentheses, level_of, number, literal, field, occurrence, count, inverse, negated, binary, found, choice, IsPatternOf}
 use Rattle.rec_sex.specs.Tokens.{Placed, lexemes, Lexeme, Whole}
 use Rattle.rec_text.specs.Elements.{Piece}
 use Rattle.rec_sex.specs.declared.syntax.token.Operator.{Operator}
 use Rattle.rec_sex.specs.declared.syntax.token.Operator.TheVariants.{Subtract, Implies}
 use Rattle.rec_sex.specs.declared.syntax.token.Token.TheVariants.{Integer, Literal, Name, Occurrence, Count, Not, Binary, Found, Open, Close, Then, Else}
-use Rattle.rec_sex.specs.Meaning.{Choice_, Meaning, sem, is_true, is_zero, is_found, truth, reading_of, text_of, in_range}
+use Rattle.rec_sex.specs.Meaning.{Assignment, Meaning, sem, is_true, is_zero, is_found, truth, reading_of, as_text, in_range}
 use Rattle.rec_sex.specs.proving.Parsing.{left_level, right_level}
 use Rattle.rec_sex.proofs.lemmas.syntax.GrammarLemmas.{taken_derived}
 use Rattle.rec_sex.proofs.lemmas.syntax.SplitLemmas.{Bind-derived, weight-low, Divides, Divides-operator, Divides-pattern, Divides-choice, one_division, one_end, one_branch, weight}
@@ -33,15 +33,15 @@ if_ends end false e = cc
 same_walk : (one other : Walk) → ◌≡◌ {A = Option Walk} (Some one) (Some other) → one ≡ other
 same_walk one other e = cc
 
--- one step of the walk that is taken, where the walk behind it meets no fault
+-- one step of the walk that is taken, where the walk after it meets no fault
 faultless-step : (end more place : ℕ) (last : Walk) (next : Option Walk) (rest : List Placed) (tokens : List Token)
     → ((after : Walk) → walked after tokens ≡ Some last → fault_from end more after rest ≡ None)
     → ◌≡◌ {A = Option Walk} (elim next [ None ↦ None | Some after ↦ walked after tokens ]) (Some last)
     → ◌≡◌ {A = Option ℕ} (elim next [ None ↦ Some place | Some after ↦ fault_from end more after rest ]) None
-faultless-step end more place last None rest tokens behind_it e = cc
-faultless-step end more place last (Some after) rest tokens behind_it e = behind_it after e
+faultless-step end more place last None rest tokens after_it e = cc
+faultless-step end more place last (Some after) rest tokens after_it e = after_it after e
 
--- the walk over some tokens meets no fault, where it takes them and may end behind them
+-- the walk over some tokens meets no fault, where it takes them and may end after them
 faultless : (end more : ℕ) (walk last : Walk) (places : List Placed) (tokens : List Token) → AreTokens places tokens → walked walk tokens ≡ Some last
     → may_end last ≡ true → length tokens ≤ more → fault_from end more walk places ≡ None
 faultless end more walk last [] [] are e ends few = if_ends end (may_end walk) (ap may_end (same_walk walk last e) ∙ ends)
@@ -49,7 +49,7 @@ faultless end more walk last [] (token ∷ tokens) are e ends few = absurd are
 faultless end more walk last (placed ∷ rest) [] are e ends few = absurd are
 faultless end zero walk last (placed ∷ rest) (token ∷ tokens) are e ends few = absurd (omega (arith, few))
 faultless end (suc more) walk last (placed ∷ rest) (token ∷ tokens) ((len, is), are) e ends few =
-    rw is (faultless-step end more placed.place last (behind walk token) rest tokens
+    rw is (faultless-step end more placed.place last (following walk token) rest tokens
     (λ after goes. faultless end more after last rest tokens are goes ends (omega (arith, few))) e)
 
 pub expression_is_faultless : (text : List ℕ) (term : Term) → IsExpression text term → fault_of text ≡ None
@@ -100,7 +100,7 @@ same_pattern text some other p q =
 abbrev Sides : List Token → Token → List Token → Term → Type 0
 Sides left (Binary op) right a = (x y : Term) × (a ≡ binary op x y) × Derives (left_level (level_of op)) left x × Derives (right_level (level_of op)) right y
 Sides left Found right a = (x : Term) × (text : List ℕ) × (pattern : Re) × (a ≡ found x pattern) × (right ≡ Literal text ∷ []) × Derives 4 left x × IsPatternOf text pattern
-Sides left Then right a = (c x y : Term) × (yes_ no_ : List Token) × (a ≡ choice c x y) × (right ≡ yes_ ++ Else ∷ no_) × Derives 1 left c × Derives 0 yes_ x × Derives 0 no_ y
+Sides left Then right a = (c x y : Term) × (yes_part no_part : List Token) × (a ≡ choice c x y) × (right ≡ yes_part ++ Else ∷ no_part) × Derives 1 left c × Derives 0 yes_part x × Derives 0 no_part y
 Sides left _ right a = ⊥
 
 -- what an expression that no operator divides begins with
@@ -130,8 +130,8 @@ divided_from_left Implies tokens left right a b k e d f = absurd (omega (arith, 
 divided_from_left op tokens left right a b k e d f = divided_by op tokens left right a b e d f
 
 view : (level : ℕ) (tokens : List Token) (a : Term) → Derives level tokens a → View tokens a
-view level tokens a (by_choice _ condition yes_ no_ c x y e dc dx dy) =
-    divided condition (yes_ ++ Else ∷ no_) Then e (Divides-choice condition (yes_ ++ Else ∷ no_) c dc) (c, x, y, yes_, no_, refl, refl, dc, dx, dy)
+view level tokens a (by_choice _ condition yes_part no_part c x y e dc dx dy) =
+    divided condition (yes_part ++ Else ∷ no_part) Then e (Divides-choice condition (yes_part ++ Else ∷ no_part) c dc) (c, x, y, yes_part, no_part, refl, refl, dc, dx, dy)
 view level tokens a (by_implication _ left right x y e dx dy) = divided_by Implies tokens left right x y e dx dy
 view level tokens a (by_operator op _ left right x y k e dx dy) = divided_from_left op tokens left right x y k e dx dy
 view level tokens a (by_pattern _ left x text pattern e dx p) = divided left (Literal text ∷ []) Found e (Divides-pattern left x text dx) (x, text, pattern, refl, refl, dx, p)
@@ -187,9 +187,9 @@ module _ (n : ℕ) (one : AreOneBelow n) where
       omega arith
 
   same_views : (tokens : List Token) (a b : Term) → length tokens ≤ n → View tokens a → View tokens b → AreSame a b
-  same_views tokens a b few (divided left right main e d s) (divided front rest other f g t) =
-      let same = one_division left right front rest main other d g (sym e ∙ f) in
-      let here : Sides left main right b = subst (λ x. Sides x main right b) (sym same.0) (subst (λ x. Sides front x right b) (sym same.1) (subst (λ x. Sides front other x b) (sym same.2) t)) in
+  same_views tokens a b few (divided left right main e d s) (divided prefix rest other f g t) =
+      let same = one_division left right prefix rest main other d g (sym e ∙ f) in
+      let here : Sides left main right b = subst (λ x. Sides x main right b) (sym same.0) (subst (λ x. Sides prefix x right b) (sym same.1) (subst (λ x. Sides prefix other x b) (sym same.2) t)) in
       let left_few : length left < n = omega (arith, ap length e, length-append left (main ∷ right)) in
       let right_few : length right < n = omega (arith, ap length e, length-append left (main ∷ right)) in
       same_sides left right main a b left_few right_few s here
@@ -265,14 +265,14 @@ found_if false one other same = refl
 pub same_is_found : (some other : Re) (bytes : List ℕ) → SameCaptures some other → is_found some bytes ≡ is_found other bytes
 same_is_found some other bytes same = found_if (is_utf8 bytes) _ _ (λ e. is_match_alike same bytes (AreBytes-utf8 bytes (IsUtf8-from_is_utf8 bytes e)) true 0)
 
-module _ (pieces : List Piece) (c : Choice_) where
+module _ (pieces : List Piece) (c : Assignment) where
   pub same_sem : (a b : Term) → AreSame a b → sem a pieces c ≡ sem b pieces c
   same_sem (inverse a) (inverse b) same = ap (option_and_then (λ x. option_map (λ z. truth (is_zero z)) (reading_of x))) (same_sem a b same)
   same_sem (negated a) (negated b) same = ap (option_and_then (λ x. option_and_then (λ z. in_range (neg_ℤ z)) (reading_of x))) (same_sem a b same)
   same_sem (binary op a b) (binary other d e) same = rw (same.0, same_sem a d same.1, same_sem b e same.2) refl
   same_sem (found a pattern) (found b other) same =
-      ap (option_map (λ x. truth (is_found pattern (text_of x)))) (same_sem a b same.0)
-      ∙ ap (λ (f : Meaning → Bool). option_map (λ x. truth (f x)) (sem b pieces c)) (fun_ext (λ x. same_is_found pattern other (text_of x) same.1))
+      ap (option_map (λ x. truth (is_found pattern (as_text x)))) (same_sem a b same.0)
+      ∙ ap (λ (f : Meaning → Bool). option_map (λ x. truth (f x)) (sem b pieces c)) (fun_ext (λ x. same_is_found pattern other (as_text x) same.1))
   same_sem (choice d a b) (choice e f g) same = rw (same_sem d e same.0, same_sem a f same.1, same_sem b g same.2) refl
   same_sem a b same = ap (λ x. sem x pieces c) same
 

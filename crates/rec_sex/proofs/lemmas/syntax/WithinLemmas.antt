@@ -10,13 +10,13 @@ use Rattle.std.proofs.lemmas.Bool.Decides.{nat_tests}
 use Rattle.rec_text.specs.Bytes.{is_letter, continues_name}
 use Rattle.rec_sex.specs.declared.syntax.token.Token.{Token}
 use Rattle.rec_sex.specs.declared.syntax.token.Token.TheVariants.{Integer, Literal, Name, Occurrence, Count}
-use Rattle.rec_sex.specs.IndexList.{value_of, greatest}
+use Rattle.rec_sex.specs.IndexList.{decimal_number, greatest}
 use Rattle.rec_sex.specs.Integers.{magnitude_of}
-use Rattle.rec_sex.specs.Tokens.{Lexeme, Whole, Broken, with_byte, literal_from, literal_at, integer_at, name_at, behind_name, subscript_at, closing_at, count_at, token_of_one, token_of_two, of_one, operator_at, lexeme_at}
+use Rattle.rec_sex.specs.Tokens.{Lexeme, Whole, Broken, with_byte, literal_from, literal_at, integer_at, name_at, token_after_name, subscript_at, closing_at, count_at, token_of_one, token_of_two, of_one, operator_at, lexeme_at}
 
 -- ---- a token lies within the text
 
--- a token of one byte or more, and of no more than so many; a fault no further than behind the last of them
+-- a token of one byte or more, and of no more than n; a fault no further than after the last of them
 abbrev pub IsWithin : ℕ → Lexeme → Type 0
 IsWithin size (Whole token len) = (1 ≤ len) × (len ≤ size)
 IsWithin size (Broken at) = at ≤ size
@@ -55,13 +55,13 @@ subscript_is_within : (name s : List ℕ) (len : ℕ) → IsWithin (len + length
 subscript_is_within name s len =
     let digits = take_while is_ascii_digit s in
     let size : len + length digits + length (drop (length digits) s) ≡ len + length s = omega (arith, length-drop (length digits) s, length-word-le is_ascii_digit s) in
-    let P : ℕ → Type 0 = λ n. IsWithin n (closing_at name (value_of digits) (drop (length digits) s) (len + length digits)) in
-    IsWithin-if (len + length s) (length digits == 0 || nat_lt greatest (value_of digits)) (Broken len) (closing_at name (value_of digits) (drop (length digits) s) (len + length digits))
-    (omega arith) (subst P size (closing_is_within name (value_of digits) (drop (length digits) s) (len + length digits)))
+    let P : ℕ → Type 0 = λ n. IsWithin n (closing_at name (decimal_number digits) (drop (length digits) s) (len + length digits)) in
+    IsWithin-if (len + length s) (length digits == 0 || nat_lt greatest (decimal_number digits)) (Broken len) (closing_at name (decimal_number digits) (drop (length digits) s) (len + length digits))
+    (omega arith) (subst P size (closing_is_within name (decimal_number digits) (drop (length digits) s) (len + length digits)))
 
-behind_name_is_within : (name s : List ℕ) → 1 ≤ length name → IsWithin (length name + length s) (behind_name name s)
-behind_name_is_within name [] some = (some, omega arith)
-behind_name_is_within name (b ∷ bs) some =
+after_name_is_within : (name s : List ℕ) → 1 ≤ length name → IsWithin (length name + length s) (token_after_name name s)
+after_name_is_within name [] some = (some, omega arith)
+after_name_is_within name (b ∷ bs) some =
     let P : ℕ → Type 0 = λ n. IsWithin n (subscript_at name bs (length name + 1)) in
     IsWithin-if (length name + length (b ∷ bs)) (b == 91) (subscript_at name bs (length name + 1)) (Whole (Name name) (length name))
     (subst P (omega arith) (subscript_is_within name bs (length name + 1))) (some, omega arith)
@@ -71,7 +71,7 @@ name_is_within b bs first =
     let name = take_while continues_name (b ∷ bs) in
     let P : ℕ → Type 0 = λ n. IsWithin n (name_at (b ∷ bs)) in
     let size : length name + length (drop (length name) (b ∷ bs)) ≡ length (b ∷ bs) = omega (arith, length-drop (length name) (b ∷ bs), length-word-le continues_name (b ∷ bs)) in
-    subst P size (behind_name_is_within name (drop (length name) (b ∷ bs)) (word_is_some continues_name b bs first))
+    subst P size (after_name_is_within name (drop (length name) (b ∷ bs)) (word_is_some continues_name b bs first))
 
 count_is_within : (s : List ℕ) → IsWithin (length s + 1) (count_at s)
 count_is_within [] = omega arith
@@ -79,35 +79,35 @@ count_is_within (b ∷ bs) =
     let name = take_while continues_name (b ∷ bs) in
     IsWithin-if (length (b ∷ bs) + 1) (is_letter b) (Whole (Count name) (length name + 1)) (Broken 0) (omega arith, omega (arith, length-word-le continues_name (b ∷ bs))) (omega arith)
 
--- the bytes of a literal behind its opening quote
-abbrev AreWithin : ℕ → Option (List ℕ × ℕ) → Type 0
-AreWithin size None = Unit {0}
-AreWithin size (Some x) = x.1 ≤ size
+-- the bytes of a literal after its opening quote
+abbrev EndsWithin : ℕ → Option (List ℕ × ℕ) → Type 0
+EndsWithin size None = Unit {0}
+EndsWithin size (Some x) = x.1 ≤ size
 
-AreWithin-if : (size : ℕ) (test : Bool) (a b : Option (List ℕ × ℕ)) → AreWithin size a → AreWithin size b → AreWithin size (if test then a else b)
-AreWithin-if size true a b h k = h
-AreWithin-if size false a b h k = k
+EndsWithin-if : (size : ℕ) (test : Bool) (a b : Option (List ℕ × ℕ)) → EndsWithin size a → EndsWithin size b → EndsWithin size (if test then a else b)
+EndsWithin-if size true a b h k = h
+EndsWithin-if size false a b h k = k
 
-AreWithin-more : (size byte len : ℕ) (o : Option (List ℕ × ℕ)) → AreWithin size o → AreWithin (size + len) (option_map (λ x. (byte ∷ x.0, x.1 + len)) o)
-AreWithin-more size byte len None h = tt
-AreWithin-more size byte len (Some x) h = omega arith
+EndsWithin-more : (size byte len : ℕ) (o : Option (List ℕ × ℕ)) → EndsWithin size o → EndsWithin (size + len) (option_map (λ x. (byte ∷ x.0, x.1 + len)) o)
+EndsWithin-more size byte len None h = tt
+EndsWithin-more size byte len (Some x) h = omega arith
 
-literal_from_is_within : (quote : ℕ) (s : List ℕ) → AreWithin (length s) (literal_from quote s)
+literal_from_is_within : (quote : ℕ) (s : List ℕ) → EndsWithin (length s) (literal_from quote s)
 literal_from_is_within quote [] = tt
-literal_from_is_within quote (b ∷ []) = AreWithin-if 1 (b == quote) (Some ([], 1)) None (omega arith) tt
+literal_from_is_within quote (b ∷ []) = EndsWithin-if 1 (b == quote) (Some ([], 1)) None (omega arith) tt
 literal_from_is_within quote (b ∷ c ∷ bs) =
     let size = length (b ∷ c ∷ bs) in
-    let P : ℕ → Type 0 = λ n. AreWithin n (option_map (λ x. (c ∷ x.0, x.1 + 2)) (literal_from quote bs)) in
-    let Q : ℕ → Type 0 = λ n. AreWithin n (with_byte b (literal_from quote (c ∷ bs))) in
-    AreWithin-if size (b == quote) (Some ([], 1)) _ (omega arith)
-    (AreWithin-if size (b == 92 && (c == 39 || c == 34)) _ _
-    (subst P (omega arith) (AreWithin-more (length bs) c 2 (literal_from quote bs) (literal_from_is_within quote bs)))
-    (subst Q (omega arith) (AreWithin-more (length (c ∷ bs)) b 1 (literal_from quote (c ∷ bs)) (literal_from_is_within quote (c ∷ bs)))))
+    let P : ℕ → Type 0 = λ n. EndsWithin n (option_map (λ x. (c ∷ x.0, x.1 + 2)) (literal_from quote bs)) in
+    let Q : ℕ → Type 0 = λ n. EndsWithin n (with_byte b (literal_from quote (c ∷ bs))) in
+    EndsWithin-if size (b == quote) (Some ([], 1)) _ (omega arith)
+    (EndsWithin-if size (b == 92 && (c == 39 || c == 34)) _ _
+    (subst P (omega arith) (EndsWithin-more (length bs) c 2 (literal_from quote bs) (literal_from_is_within quote bs)))
+    (subst Q (omega arith) (EndsWithin-more (length (c ∷ bs)) b 1 (literal_from quote (c ∷ bs)) (literal_from_is_within quote (c ∷ bs)))))
 
 literal_is_within : (b : ℕ) (bs : List ℕ) → IsWithin (length (b ∷ bs)) (literal_at (b ∷ bs))
 literal_is_within b bs =
-    let step : (o : Option (List ℕ × ℕ)) → AreWithin (length bs) o → IsWithin (length (b ∷ bs)) (elim o [ None ↦ Broken 0 | Some x ↦ Whole (Literal x.0) (x.1 + 1) ]) =
-    λ o. elim o as (λ v. AreWithin (length bs) v → IsWithin (length (b ∷ bs)) (elim v [ None ↦ Broken 0 | Some x ↦ Whole (Literal x.0) (x.1 + 1) ])) [
+    let step : (o : Option (List ℕ × ℕ)) → EndsWithin (length bs) o → IsWithin (length (b ∷ bs)) (elim o [ None ↦ Broken 0 | Some x ↦ Whole (Literal x.0) (x.1 + 1) ]) =
+    λ o. elim o as (λ v. EndsWithin (length bs) v → IsWithin (length (b ∷ bs)) (elim v [ None ↦ Broken 0 | Some x ↦ Whole (Literal x.0) (x.1 + 1) ])) [
       | None ↦ λ h. omega arith
       | Some x ↦ λ h. (omega arith, omega arith)
     ] in

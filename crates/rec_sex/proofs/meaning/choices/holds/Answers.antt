@@ -1,28 +1,43 @@
-use Rattle.std.proofs.Common.{◌≡◌, [], length, map, ap, sym, ◌∙◌, arith}
-use Rattle.std.proofs.lemmas.Bool.{eqb-true}
-use Rattle.std.proofs.lemmas.List.{nil_from_length}
+use Rattle.std.proofs.Common.{◌≡◌, ℕ, List, false, [], ◌∷◌, length, map, ap, sym, ◌∙◌, arith}
+use Rattle.std.specs.Option.{option_and_then}
 use Rattle.std.proofs.lemmas.Result.{IfOk-weaker}
 use Rattle.regex.specs.Strings.{matcher_pattern}
 use Rattle.rec_text.specs.Places.{pieces_of}
-use Rattle.rec_sex.specs.Meaning.{is_true, sem}
 use Rattle.rec_sex.specs.Expressions.{term_under}
-use Rattle.rec_sex.specs.proving.Choices.{chosen_in, entry_of, repeated_names, shared_names, any_choice, texts}
+use Rattle.rec_sex.specs.Meaning.{reading_of, sem}
+use Rattle.rec_sex.specs.proving.Choices.{chosen_in, entry_of, has_repeated, repeated_names, shared_names, any_choice, holds_for_some, texts}
+use Rattle.rec_sex.specs.proving.Operands.{is_nonzero}
 use Rattle.rec_sex.specs.proving.Outcomes.{can_hold}
-use Rattle.rec_sex.proofs.lemmas.meaning.SelectLemmas.{holds_by_one, holds_by_walk}
+use Rattle.rec_sex.proofs.lemmas.meaning.ChoiceLemmas.{first_of, texts-one}
+use Rattle.rec_sex.proofs.lemmas.meaning.OperandLemmas.{is_true-reading}
+use Rattle.rec_sex.proofs.lemmas.meaning.SelectLemmas.{holds_by_none, holds_by_one, holds_by_walk}
 use Rattle.rec_sex.proofs.meaning.choices.holds.Goals as goal
 
-pub returns-then-is_empty-clause-answer : goal.returns-then-is_empty-clause-answer
-returns-then-is_empty-clause-answer c =
+pub returns-then-not-has_repeated-clause-answer : goal.returns-then-not-has_repeated-clause-answer
+returns-then-not-has_repeated-clause-answer c =
     let patterns = map matcher_pattern c.args.matchers.now in
     let pieces = pieces_of c.args.elements.now in
     let tree = c.args.tree.now in
-    let names = c.add_repeated_names.new.names in
-    let none : length names.items ≡ 0 = omega (arith, names.ok.0, eqb-true names.len 0 (sym c.is_empty.ensures ∙ c.if-is_empty.true)) in
-    let found : texts names.items ≡ repeated_names pieces [] [] tree =
-    c.in_ok-add_repeated_names.ensures.names ∙ ap (λ ps. repeated_names ps [] (texts c.new-names.result.items) tree) c.of-fields.ensures
+    let none : has_repeated pieces tree ≡ false = sym (c.if-not-has_repeated.ensures ∙ ap (λ ps. has_repeated ps tree) c.of-fields.ensures) in
+    holds_by_none patterns pieces tree c.is_true.result none
+    (c.is_true.ensures
+    ∙ ap is_nonzero (c.in_ok-reading.ensures.reading ∙ ap (λ ps. option_and_then reading_of (sem (term_under patterns tree) ps (chosen_in []))) c.of-fields.ensures)
+    ∙ is_true-reading (sem (term_under patterns tree) pieces (chosen_in [])))
+
+pub returns-in-len1-clause-answer : goal.returns-in-len1-clause-answer
+returns-in-len1-clause-answer c =
+    let patterns = map matcher_pattern c.args.matchers.now in
+    let pieces = pieces_of c.args.elements.now in
+    let tree = c.args.tree.now in
+    let found : texts c.add_repeated_names.new.names.items ≡ repeated_names pieces [] [] tree =
+    c.in_ok-add_repeated_names.ensures.names ∙ ap (λ ps. repeated_names ps [] (texts c.new-names.result.items) tree) c.in_ok-fields.ensures.fields
     ∙ ap (λ ns. repeated_names pieces [] (texts ns) tree) c.new-names.ensures.items in
-    holds_by_one patterns pieces tree c.is_true.result (sym found ∙ ap texts (nil_from_length names.items none))
-    (c.is_true.ensures ∙ ap is_true (c.in_ok-meaning.ensures.meaning ∙ ap (λ ps. sem (term_under patterns tree) ps (chosen_in [])) c.of-fields.ensures))
+    let name : List ℕ = (first_of c.as_slice.result.now).now in
+    let count : length c.as_slice.result.now ≡ 1 = omega (arith, c.in-len1.len_at_least, c.in-len1.len_below) in
+    let one : repeated_names pieces [] [] tree ≡ name ∷ [] = sym found ∙ ap texts (sym c.as_slice.ensures.value) ∙ texts-one c.as_slice.result.now count in
+    IfOk-weaker _ _ _
+    (λ answer is. holds_by_one patterns pieces tree answer name one (is ∙ ap (λ ps. holds_for_some (term_under patterns tree) ps name) c.in_ok-fields.ensures.fields))
+    c.holds_for_some.ensures.answer
 
 pub returns-clause-answer : goal.returns-clause-answer
 returns-clause-answer c =
@@ -30,7 +45,7 @@ returns-clause-answer c =
     let pieces = pieces_of c.args.elements.now in
     let tree = c.args.tree.now in
     let found : texts c.add_repeated_names.new.names.items ≡ repeated_names pieces [] [] tree =
-    c.in_ok-add_repeated_names.ensures.names ∙ ap (λ ps. repeated_names ps [] (texts c.new-names.result.items) tree) c.of-fields.ensures
+    c.in_ok-add_repeated_names.ensures.names ∙ ap (λ ps. repeated_names ps [] (texts c.new-names.result.items) tree) c.in_ok-fields.ensures.fields
     ∙ ap (λ ns. repeated_names pieces [] (texts ns) tree) c.new-names.ensures.items in
     let shared : texts c.deref-2.result.now ≡ shared_names tree (repeated_names pieces [] [] tree) =
     ap texts c.deref-2.ensures.value ∙ c.in_ok-shared.ensures.names ∙ ap (λ ns. shared_names tree (texts ns)) c.deref.ensures.value ∙ ap (shared_names tree) found in

@@ -7,8 +7,8 @@ use Rattle.rec_text.specs.declared.violations.Rule.TheVariants.{Mandatory, Prohi
 use Rattle.rec_text.specs.declared.violations.Violation.{Violation}
 use Rattle.rec_text.specs.Elements.{Piece}
 use Rattle.rec_sex.specs.Grammar.{Term}
-use Rattle.rec_check.specs.declared.checks.limit.Limit.{Limit}
-use Rattle.rec_check.specs.declared.checks.limit.Limit.TheVariants.{Present, Absent, Single}
+use Rattle.rec_check.specs.declared.checks.occurrence_rule.OccurrenceRule.{OccurrenceRule}
+use Rattle.rec_check.specs.declared.checks.occurrence_rule.OccurrenceRule.TheVariants.{Present, Absent, Single}
 use Rattle.rec_check.specs.declared.set.Set_.{Set_}
 use Rattle.rec_check.specs.Rules.{Rules}
 use Rattle.rec_check.specs.Violations.{AreOfRecord, AreOfRecords, AreOfSet, AreUnselected, occurrences, violations_of}
@@ -18,23 +18,23 @@ texts names = map (λ one. one.now) names
 
 -- ---- how often a name occurs
 
-abbrev pub rule_of : Limit → Rule
+abbrev pub rule_of : OccurrenceRule → Rule
 rule_of Present = Mandatory
 rule_of Absent = Prohibit
 rule_of Single = Unique
 
--- so many fields of a name are too few, or too many
-abbrev pub breaks_limit : Limit → ℕ → Bool
-breaks_limit Present count = count == 0
-breaks_limit Absent count = nat_le 1 count
-breaks_limit Single count = nat_le 2 count
+-- n fields of a name are too few, or too many
+abbrev pub breaks_occurrence_rule : OccurrenceRule → ℕ → Bool
+breaks_occurrence_rule Present count = count == 0
+breaks_occurrence_rule Absent count = nat_le 1 count
+breaks_occurrence_rule Single count = nat_le 2 count
 
--- those of the names that break the limit in a record
-abbrev pub breaking : Limit → List (List ℕ) → List Piece → List (List ℕ)
-breaking limit names fields = filter (λ name. breaks_limit limit (occurrences fields name)) names
+-- those of the names that break the rule in a record
+abbrev pub breaking : OccurrenceRule → List (List ℕ) → List Piece → List (List ℕ)
+breaking rule names fields = filter (λ name. breaks_occurrence_rule rule (occurrences fields name)) names
 
-abbrev pub limit_violations : Limit → List (List ℕ) → ℕ → List Piece → List Violation
-limit_violations limit names line fields = violations_of line (rule_of limit) (breaking limit names fields)
+abbrev pub occurrence_violations : OccurrenceRule → List (List ℕ) → ℕ → List Piece → List Violation
+occurrence_violations rule names line fields = violations_of line (rule_of rule) (breaking rule names fields)
 
 -- ---- constraints
 
@@ -47,9 +47,9 @@ pub record AddsUnselected (line : ℕ) (terms : List Term) (fields : List Piece)
 -- ---- records
 
 -- the violations of a record are added to others
-pub record AddsOfRecord (pieces : List Piece) (rules : Rules) (earlier : List (List Piece)) (record_ : Range ℕ) (old new : List Violation) : Type 0 where
+pub record AddsOfRecord (pieces : List Piece) (rules : Rules) (earlier : List (List Piece)) (own_range : Range ℕ) (old new : List Violation) : Type 0 where
   pub own : List Violation
-  pub are : AreOfRecord pieces rules earlier record_ own
+  pub are : AreOfRecord pieces rules earlier own_range own
   pub joined : new ≡ old ++ own
 
 -- those of a set's records

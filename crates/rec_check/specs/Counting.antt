@@ -1,4 +1,4 @@
--- The greatest reading of a counter's fields, number by number, and the number behind it.
+-- The greatest reading of a counter's fields, number by number, and the number after it.
 use Rattle.std.specs.Prelude.{◌≡◌, ℕ, ℤ, pos, ◌+ℤ◌, int_lt, true, List, [], ◌∷◌, filter_map, Option, Some, None, Result, Ok, Err, if◌then◌else◌}
 use Rattle.rec_text.specs.declared.fault.Fault.{Fault}
 use Rattle.rec_text.specs.declared.fault.Fault.TheVariants.{AutoImpossible}
@@ -22,9 +22,9 @@ abbrev pub greatest_from : Option ℤ → List ℤ → Option ℤ
 greatest_from so_far [] = so_far
 greatest_from so_far (z ∷ numbers) = greatest_from (greater so_far (Some z)) numbers
 
--- one more than the greatest, 0 where there is none; nothing stands behind the last integer
-abbrev pub IsBehind : Option ℤ → Result ℤ Fault → Type 0
-IsBehind None (Ok z) = z ≡ pos 0
-IsBehind (Some greatest) (Ok z) = (int_lt greatest last_integer ≡ true) × (z ≡ greatest +ℤ pos 1)
-IsBehind greatest (Err AutoImpossible) = greatest ≡ Some last_integer
-IsBehind greatest (Err _) = ⊥
+-- one more than the greatest, 0 where there is none; nothing stands after the last integer
+abbrev pub IsNextNumber : Option ℤ → Result ℤ Fault → Type 0
+IsNextNumber None (Ok z) = z ≡ pos 0
+IsNextNumber (Some greatest) (Ok z) = (int_lt greatest last_integer ≡ true) × (z ≡ greatest +ℤ pos 1)
+IsNextNumber greatest (Err AutoImpossible) = greatest ≡ Some last_integer
+IsNextNumber greatest (Err _) = ⊥

@@ -1,5 +1,5 @@
 -- Descriptors: the records with a `%rec` field, what their fields mean, and what may be wrong with one of these.
-use Rattle.std.specs.Prelude.{ℕ, ◌-◌, Bool, false, ◌==◌, ◌||◌, ◌&&◌, not, nat_le, nat_lt, is_some, List, [], ◌∷◌, map, drop, take, find, filter_map, codes, slice_get, Option, Some, None, option_map, option_and_then, if◌then◌else◌}
+use Rattle.std.specs.Prelude.{◌≡◌, ℕ, ◌+◌, Bool, true, false, ◌==◌, ◌||◌, ◌&&◌, not, nat_le, nat_lt, is_some, List, [], ◌∷◌, ◌++◌, length, map, drop, find, filter_map, codes, Option, Some, None, option_map, option_and_then, if◌then◌else◌}
 use Rattle.std.specs.List.{list_any, list_all}
 use Rattle.std.specs.Str.{bytes_eq}
 use Rattle.std.specs.declared.ops.Range.{Range}
@@ -9,7 +9,7 @@ pub use Rattle.rec_text.specs.Records.{elements_in}
 use Rattle.rec_text.specs.Values.{value_of}
 use Rattle.rec_sex.specs.Grammar.{fault_of}
 use Rattle.rec_check.specs.declared.descriptors.special.Special.{Special}
-use Rattle.rec_check.specs.declared.descriptors.special.Special.TheVariants.{Rec, Key, Mandatory, Prohibit, Unique, Singular, Allowed, Auto, Type_, Typedef, Size, Constraint, Confidential}
+use Rattle.rec_check.specs.declared.descriptors.special.Special.TheVariants.{Rec, Key, Mandatory, Prohibit, Unique, Singular, Allowed, Auto, Typed, Typedef, Size, Constraint, Confidential}
 use Rattle.rec_check.specs.declared.descriptors.special.Bound.{Bound}
 use Rattle.rec_check.specs.declared.descriptors.special.Comparison.{Comparison}
 use Rattle.rec_check.specs.declared.descriptors.special.Comparison.TheVariants.{Exactly, Less, AtMost, Greater, AtLeast}
@@ -29,7 +29,7 @@ special_of name =
     else if bytes_eq name (codes "%singular") then Some Singular
     else if bytes_eq name (codes "%allowed") then Some Allowed
     else if bytes_eq name (codes "%auto") then Some Auto
-    else if bytes_eq name (codes "%type") then Some Type_
+    else if bytes_eq name (codes "%type") then Some Typed
     else if bytes_eq name (codes "%typedef") then Some Typedef
     else if bytes_eq name (codes "%size") then Some Size
     else if bytes_eq name (codes "%constraint") then Some Constraint
@@ -51,11 +51,11 @@ type_of pieces = option_map (λ piece. first_word (words (value_of piece))) (fin
 
 -- for each record in order the type that it names, where it is a descriptor
 abbrev pub types_of : List Piece → List (Range ℕ) → List (Option (List ℕ))
-types_of pieces records = map (λ record_. type_of (elements_in pieces record_)) records
+types_of pieces records = map (λ own_range. type_of (elements_in pieces own_range)) records
 
 -- ---- sizes
 
--- the operator that comes first, the longest one, and what stands behind it
+-- the operator that comes first, the longest one, and what follows it
 abbrev pub comparison_in : List ℕ → Comparison
 comparison_in [] = Exactly
 comparison_in (b ∷ []) = if b == 60 then Less else if b == 62 then Greater else Exactly
@@ -96,12 +96,12 @@ pub data Flaw : Type 0 where
 abbrev pub bad_unless : Bool → Option Flaw
 bad_unless sound = if sound then None else Some bad
 
--- `%rec` names one type. No type, a second field of its kind in the record and a type that is named before are bad; so
+-- `%rec` names one type. No type, a second field of its name in the record and a type that is named before are bad; so
 -- far as the field isn't bad, more words name a source of descriptors outside the file, which isn't supported.
 abbrev pub rec_flaw : Bool → List (List ℕ) → List (List ℕ) → Option Flaw
 rec_flaw repeated named [] = Some bad
-rec_flaw repeated named (kind ∷ source) =
-    if repeated || (not (is_plain_name kind) || is_among named kind) then Some bad
+rec_flaw repeated named (record_type ∷ source) =
+    if repeated || (not (is_plain_name record_type) || is_among named record_type) then Some bad
     else elim source [ [] ↦ None | word ∷ more ↦ Some unsupported ]
 
 -- one name of a field
@@ -120,36 +120,43 @@ special_flaw Unique repeated named value = bad_unless (list_all is_field_name (w
 special_flaw Singular repeated named value = bad_unless (list_all is_field_name (words value))
 special_flaw Allowed repeated named value = bad_unless (list_all is_field_name (words value))
 special_flaw Auto repeated named value = bad_unless (list_all is_field_name (words value))
-special_flaw Type_ repeated named value = bad_unless (is_some (typing_of value))
+special_flaw Typed repeated named value = bad_unless (is_some (typing_of value))
 special_flaw Typedef repeated named value = bad_unless (is_some (definition_of value))
 special_flaw Size repeated named value = bad_unless (not repeated && is_some (bound_in value))
 special_flaw Constraint repeated named value = bad_unless (not (is_some (fault_of value)))
 special_flaw Confidential repeated named value = Some unsupported
 
--- what is wrong with an element of a descriptor, behind these elements of it
-abbrev pub element_flaw : List (List ℕ) → List Piece → Piece → Option Flaw
-element_flaw named before piece = option_and_then
-    (λ special. special_flaw special (list_any (has_name (name_of piece)) before) named (value_of piece))
-    (special_of (name_of piece))
-
--- what is wrong with the field of this index among those of a descriptor, if anything is
-abbrev pub field_flaw : List (List ℕ) → List Piece → ℕ → Option Flaw
-field_flaw named fields k = option_and_then (element_flaw named (take k fields)) (slice_get fields k)
-
--- the types that the records before an index name
-abbrev pub types_before : List Piece → List (Range ℕ) → ℕ → List (List ℕ)
-types_before pieces records i = filter_map (λ record_. if nat_le record_.end i then type_of (elements_in pieces record_) else None) records
-
 -- the index lies in the range
 abbrev pub holds_index : ℕ → Range ℕ → Bool
-holds_index i record_ = nat_le record_.start i && nat_lt i record_.end
+holds_index i own_range = nat_le own_range.start i && nat_lt i own_range.end
 
--- the descriptor that has the element of this index, if one has
-abbrev pub descriptor_at : List Piece → List (Range ℕ) → ℕ → Option (Range ℕ)
-descriptor_at pieces records i = find (λ record_. holds_index i record_ && is_some (type_of (elements_in pieces record_))) records
+-- ---- the elements of descriptors
 
--- what is wrong with the element of this index, if anything is
-abbrev pub flaw_at : List Piece → List (Range ℕ) → ℕ → Option Flaw
-flaw_at pieces records i = option_and_then
-    (λ record_. field_flaw (types_before pieces records record_.start) (elements_in pieces record_) (i - record_.start))
-    (descriptor_at pieces records i)
+-- an element of a descriptor, and what stands before it: the types that are named there, and the elements of its own record
+pub record DescriptorElement : Type 0 where
+  pub named : List (List ℕ)
+  pub before : List Piece
+  pub piece : Piece
+
+-- what is wrong with it, if anything is
+abbrev pub flaw_of : DescriptorElement → Option Flaw
+flaw_of element = option_and_then
+    (λ special. special_flaw special (list_any (has_name (name_of element.piece)) element.before) element.named (value_of element.piece))
+    (special_of (name_of element.piece))
+
+-- the types that some records name
+abbrev pub types_named : List Piece → List (Range ℕ) → List (List ℕ)
+types_named pieces records = filter_map (λ own_range. type_of (elements_in pieces own_range)) records
+
+-- The element of this index is this one: it stands in a descriptor, after those of its elements that are before it, and the
+-- records before that descriptor name these types.
+pub record StandsAt (pieces : List Piece) (records : List (Range ℕ)) (at : ℕ) (element : DescriptorElement) : Type 0 where
+  pub earlier : List (Range ℕ)
+  pub own_range : Range ℕ
+  pub later : List (Range ℕ)
+  pub following : List Piece
+  pub cut : records ≡ earlier ++ own_range ∷ later
+  pub named : element.named ≡ types_named pieces earlier
+  pub own : elements_in pieces own_range ≡ element.before ++ element.piece ∷ following
+  pub is_descriptor : is_some (type_of (elements_in pieces own_range)) ≡ true
+  pub place : at ≡ own_range.start + length element.before

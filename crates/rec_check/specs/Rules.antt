@@ -1,5 +1,5 @@
 -- What a descriptor asks of the records of its set.
-use Rattle.std.specs.Prelude.{◌≡◌, ℕ, List, [], codes, flat_map, map, slice_get, Option, Some, None, option_and_then, unwrap_or, if◌then◌else◌}
+use Rattle.std.specs.Prelude.{◌≡◌, ℕ, List, [], codes, flat_map, slice_get, Option, Some, None, option_and_then, option_map, unwrap_or, if◌then◌else◌}
 use Rattle.std.specs.List.{AllZip, list_any}
 use Rattle.regex.specs.Patterns.{Re, SameCaptures}
 use Rattle.rec_text.specs.Elements.{Piece, has_name}
@@ -8,9 +8,9 @@ use Rattle.rec_sex.specs.Grammar.{Term}
 use Rattle.rec_sex.specs.Meaning.{values_of}
 use Rattle.rec_check.specs.declared.descriptors.special.Bound.{Bound}
 use Rattle.rec_check.specs.Descriptors.{bound_in}
-use Rattle.rec_check.specs.Meanings.{meaning_in}
-use Rattle.rec_check.specs.Types.{FieldType, matching, unchecked, Definition, Typing, IsDefinition, IsTyping, type_for}
-use Rattle.rec_check.specs.Words.{words}
+use Rattle.rec_check.specs.proving.Meanings.{meaning_in}
+use Rattle.rec_check.specs.Types.{FieldType, matching, unchecked, Definition, Typing, IsDefinition, IsTyping}
+use Rattle.rec_check.specs.Words.{words, is_among, last_that}
 
 -- The key; the names of fields that each record has, has none of, has at most one of, and has with values that no other
 -- record has; where they are limited, the names that are allowed beside the key and what each record has; the names of
@@ -62,13 +62,17 @@ pub record AreRules (fields : List Piece) (rules : Rules) : Type 0 where
   pub size : rules.size ≡ option_and_then bound_in (slice_get (values_of (codes "%size") fields) 0)
   pub constraints : AllZip IsExpression (values_of (codes "%constraint") fields) rules.constraints
 
--- what a `%type` field says by these meanings of kinds; where its kind has none, any value fits
-abbrev pub by_meaning : (List ℕ → FieldType Re → Option (FieldType Re)) → Typing → Typing
-by_meaning meaning typing = record typing { type_ = unwrap_or (meaning typing.kind typing.type_) unchecked }
+-- of two `%type` fields that name a field the later holds
+abbrev pub typing_for : List Typing → List ℕ → Option Typing
+typing_for typings name = last_that (λ typing. is_among typing.names name) typings
+
+-- the type that such a field gives by these meanings of kinds; where its kind has none, any value fits
+abbrev pub type_by : (List ℕ → FieldType Re → Option (FieldType Re)) → Typing → FieldType Re
+type_by meaning typing = unwrap_or (meaning typing.kind typing.value_type) unchecked
 
 -- the type of the fields of a name under these rules, where they have one
 abbrev pub field_type : Rules → List ℕ → Option (FieldType Re)
-field_type rules name = type_for (map (by_meaning (meaning_in rules.definitions)) rules.types) name
+field_type rules name = option_map (type_by (meaning_in rules.definitions)) (typing_for rules.types name)
 
 -- ---- rules that are the same
 
@@ -80,12 +84,12 @@ AreSameTypes one other = one ≡ other
 pub record AreSameTypings (one other : Typing) : Type 0 where
   pub names : one.names ≡ other.names
   pub kind : one.kind ≡ other.kind
-  pub type_ : AreSameTypes one.type_ other.type_
+  pub value_type : AreSameTypes one.value_type other.value_type
 
 pub record AreSameDefinitions (one other : Definition) : Type 0 where
   pub name : one.name ≡ other.name
   pub kind : one.kind ≡ other.kind
-  pub type_ : AreSameTypes one.type_ other.type_
+  pub value_type : AreSameTypes one.value_type other.value_type
 
 -- the same rules, up to patterns that give the same matches
 pub record AreSameRules (one other : Rules) : Type 0 where

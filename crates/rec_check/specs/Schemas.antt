@@ -1,17 +1,17 @@
 -- What the descriptors of a text say, or the first of their fields that is faulty.
-use Rattle.std.specs.Prelude.{◌≡◌, ◌≢◌, ℕ, ◌<◌, ◌-◌, true, List, [], ◌∷◌, take, IfSome, is_some, slice_get, Some, None, Result, Ok, Err}
+use Rattle.std.specs.Prelude.{◌≡◌, ◌≢◌, ℕ, ◌<◌, List, [], ◌∷◌, take, Some, None, Result, Ok, Err}
 use Rattle.std.specs.List.{AllZip}
 use Rattle.std.specs.declared.ops.Range.{Range}
 use Rattle.rec_text.specs.declared.fault.Fault.{Fault}
 use Rattle.rec_text.specs.declared.fault.Fault.TheVariants.{BadDescriptor, Unsupported, BadPattern}
 use Rattle.rec_text.specs.Elements.{Piece, text_of, name_of}
 use Rattle.rec_text.specs.Reading.{line_after}
-use Rattle.rec_text.specs.Records.{AreRecords, elements_in, record_at}
+use Rattle.rec_text.specs.Records.{AreRecords, record_at}
 use Rattle.rec_text.specs.Values.{value_of}
 use Rattle.rec_sex.specs.Expressions.{ExpressionMayBeRefused}
 use Rattle.rec_check.specs.declared.set.Set_.{Set_}
-use Rattle.rec_check.specs.declared.descriptors.special.Special.TheVariants.{Type_, Typedef, Constraint}
-use Rattle.rec_check.specs.Descriptors.{Flaw, bad, unsupported, descriptor_at, field_flaw, flaw_at, special_of, types_before, types_of}
+use Rattle.rec_check.specs.declared.descriptors.special.Special.TheVariants.{Typed, Typedef, Constraint}
+use Rattle.rec_check.specs.Descriptors.{DescriptorElement, Flaw, StandsAt, bad, unsupported, flaw_of, special_of, types_of}
 use Rattle.rec_check.specs.Rules.{Rules, no_rules, AreRules, AreSameRules}
 use Rattle.rec_check.specs.Sets.{AreSets}
 use Rattle.rec_check.specs.Types.{DefinitionMayBeRefused, TypeMayBeRefused}
@@ -29,7 +29,7 @@ IsRuled pieces records s rules = elim s.head [ None ↦ rules ≡ no_rules | Som
 pub record IsDescribed (pieces : List Piece) (described : Described) : Type 0 where
   pub records : List (Range ℕ)
   pub are : AreRecords pieces records
-  pub sound : (i : ℕ) → flaw_at pieces records i ≡ None
+  pub sound : (i : ℕ) (element : DescriptorElement) → StandsAt pieces records i element → flaw_of element ≡ None
   pub sets : AreSets (types_of pieces records) described.sets
   pub rules : AllZip (IsRuled pieces records) described.sets described.rules
 
@@ -37,45 +37,35 @@ pub record IsDescribed (pieces : List Piece) (described : Described) : Type 0 wh
 abbrev pub FieldIsBuilt : Piece → Type 0
 FieldIsBuilt field = (rules : Rules) × AreRules (field ∷ []) rules
 
--- nothing is wrong with the field of this index among those of a descriptor, and what it says is built
-pub record FieldIsRead (named : List (List ℕ)) (fields : List Piece) (k : ℕ) : Type 0 where
-  pub sound : field_flaw named fields k ≡ None
-  pub built : IfSome (slice_get fields k) FieldIsBuilt
+-- nothing is wrong with the element, and what it says is built
+pub record IsReadElement (element : DescriptorElement) : Type 0 where
+  pub sound : flaw_of element ≡ None
+  pub built : FieldIsBuilt element.piece
 
--- the same of the element of this index, if a descriptor has it
-abbrev pub ElementIsRead : List Piece → List (Range ℕ) → ℕ → Type 0
-ElementIsRead pieces records i = IfSome (descriptor_at pieces records i)
-    (λ record_. FieldIsRead (types_before pieces records record_.start) (elements_in pieces record_) (i - record_.start))
-
--- the first element with which anything is wrong; it begins at this line, and those before it are read
-pub record HasFlaw (pieces : List Piece) (flaw : Flaw) (line : ℕ) : Type 0 where
+-- an element of a descriptor before which all are read
+pub record IsReached (pieces : List Piece) (at : ℕ) (element : DescriptorElement) : Type 0 where
   pub records : List (Range ℕ)
   pub are : AreRecords pieces records
-  pub at : ℕ
-  pub first : (i : ℕ) → i < at → ElementIsRead pieces records i
-  pub met : flaw_at pieces records at ≡ Some flaw
-  pub number : line ≡ line_after (text_of (take at pieces))
+  pub stands : StandsAt pieces records at element
+  pub first : (i : ℕ) (other : DescriptorElement) → i < at → StandsAt pieces records i other → IsReadElement other
+
+-- the first element with which anything is wrong; it begins at this line
+abbrev pub HasFlaw : List Piece → Flaw → ℕ → Type 0
+HasFlaw pieces flaw line = (at : ℕ) × (element : DescriptorElement) × IsReached pieces at element × (flaw_of element ≡ Some flaw)
+    × (line ≡ line_after (text_of (take at pieces)))
 
 -- the type, the definition or the expression that a field gives has a pattern that `regex` may refuse, for another cause than memory
 abbrev pub FieldMayBeRefused : Piece → Type 0
 FieldMayBeRefused field = elim (special_of (name_of field)) [
-  | Some Type_ ↦ TypeMayBeRefused (value_of field)
+  | Some Typed ↦ TypeMayBeRefused (value_of field)
   | Some Typedef ↦ DefinitionMayBeRefused (value_of field)
   | Some Constraint ↦ ExpressionMayBeRefused (value_of field)
   | _ ↦ ⊥
 ]
 
 -- a field of a descriptor has such a pattern, nothing is wrong with it, and the elements before it are read
-pub record SchemaMayBeRefused (pieces : List Piece) : Type 0 where
-  pub records : List (Range ℕ)
-  pub are : AreRecords pieces records
-  pub at : ℕ
-  pub first : (i : ℕ) → i < at → ElementIsRead pieces records i
-  pub sound : flaw_at pieces records at ≡ None
-  pub in_descriptor : is_some (descriptor_at pieces records at) ≡ true
-  pub field : Piece
-  pub stands : slice_get pieces at ≡ Some field
-  pub refused : FieldMayBeRefused field
+abbrev pub SchemaMayBeRefused : List Piece → Type 0
+SchemaMayBeRefused pieces = (at : ℕ) × (element : DescriptorElement) × IsReached pieces at element × (flaw_of element ≡ None) × FieldMayBeRefused element.piece
 
 -- what may be answered for a text of these elements, memory aside
 abbrev pub IsSchema : List Piece → Result Described Fault → Type 0

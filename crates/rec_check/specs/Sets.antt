@@ -7,13 +7,13 @@ use Rattle.rec_check.specs.declared.set.Set_.{Set_}
 
 -- what the records of a set name, its descriptor first: the one a type, and its members nothing
 abbrev pub named_in : Set_ → List (Option (List ℕ))
-named_in s = (elim s.kind [ None ↦ [] | Some kind ↦ Some kind ∷ [] ]) ++ replicate (s.members.end - s.members.start) None
+named_in s = (elim s.kind [ None ↦ [] | Some record_type ↦ Some record_type ∷ [] ]) ++ replicate (s.members.end - s.members.start) None
 
--- the set's descriptor is the record of this index, where the set is typed, and its members stand behind it
+-- the set's descriptor is the record of this index, where the set is typed, and its members stand after it
 abbrev pub BeginsAt : ℕ → Set_ → Type 0
 BeginsAt at s = (s.members.start ≤ s.members.end) × (elim s.kind [
   | None ↦ (s.head ≡ None) × (s.members.start ≡ at)
-  | Some kind ↦ (s.head ≡ Some at) × (s.members.start ≡ at + 1)
+  | Some record_type ↦ (s.head ≡ Some at) × (s.members.start ≡ at + 1)
 ])
 
 -- each set begins where the one before it ends, the first at this index
@@ -26,7 +26,7 @@ abbrev pub IsUntypedFirst : List Set_ → Type 0
 IsUntypedFirst [] = ⊥
 IsUntypedFirst (s ∷ sets) = (s.kind ≡ None) × AllByRecursion (λ typed. is_some typed.kind ≡ true) sets
 
--- The sets of records of which these name types: joined, they are the records, each descriptor with those behind it.
+-- The sets of records of which these name types: joined, they are the records, each descriptor with those after it.
 pub record AreSets (types : List (Option (List ℕ))) (sets : List Set_) : Type 0 where
   pub joined : flat_map named_in sets ≡ types
   pub untyped_first : IsUntypedFirst sets
@@ -34,4 +34,4 @@ pub record AreSets (types : List (Option (List ℕ))) (sets : List Set_) : Type 
 
 -- the set is that of this type
 abbrev pub is_of_type : List ℕ → Set_ → Bool
-is_of_type kind s = option_map_or (λ own. bytes_eq own kind) s.kind false
+is_of_type record_type s = option_map_or (λ own. bytes_eq own record_type) s.kind false

@@ -26,9 +26,9 @@ SameDescriptors = (pieces others : List Piece) (records ranges : List (Range ℕ
     → AreRecords pieces records → AreRecords others ranges → descriptors pieces records ≡ descriptors others ranges → IsSchema pieces (Ok schema)
     → (same : Described) × IsSchema others (Ok same) × (same.rules ≡ schema.rules) × (map (λ s. s.kind) same.sets ≡ map (λ s. s.kind) schema.sets)
 
--- one descriptor more, behind the others, that gives a new set its type and says nothing else: it isn't faulty
+-- one descriptor more, after the others, that gives a new set its type and says nothing else: it isn't faulty
 abbrev pub NewDescriptor : Type 0
-NewDescriptor = (pieces others : List Piece) (records ranges : List (Range ℕ)) (schema : Described) (kind : List ℕ)
-    → AreRecords pieces records → AreRecords others ranges → descriptors others ranges ≡ descriptors pieces records ++ ((rec_name, kind) ∷ []) ∷ []
-    → is_plain_name kind ≡ true → position (is_of_type kind) schema.sets ≡ None → IsSchema pieces (Ok schema)
-    → (more : Described) × IsSchema others (Ok more) × (more.rules ≡ schema.rules ++ no_rules ∷ []) × (map (λ s. s.kind) more.sets ≡ map (λ s. s.kind) schema.sets ++ Some kind ∷ [])
+NewDescriptor = (pieces others : List Piece) (records ranges : List (Range ℕ)) (schema : Described) (record_type : List ℕ)
+    → AreRecords pieces records → AreRecords others ranges → descriptors others ranges ≡ descriptors pieces records ++ ((rec_name, record_type) ∷ []) ∷ []
+    → is_plain_name record_type ≡ true → position (is_of_type record_type) schema.sets ≡ None → IsSchema pieces (Ok schema)
+    → (more : Described) × IsSchema others (Ok more) × (more.rules ≡ schema.rules ++ no_rules ∷ []) × (map (λ s. s.kind) more.sets ≡ map (λ s. s.kind) schema.sets ++ Some record_type ∷ [])

@@ -28,10 +28,10 @@ type_stored (Matching pattern) = matching (regex_pattern pattern.value)
 type_stored Unchecked = unchecked
 
 abbrev pub typing_stored : StoredTyping → Typing
-typing_stored typing = record { names = typing.names.items; kind = typing.kind; type_ = type_stored typing.type_ }
+typing_stored typing = record { names = typing.names.items; kind = typing.kind; value_type = type_stored typing.value_type }
 
 abbrev pub definition_stored : StoredDefinition → Definition
-definition_stored definition = record { name = definition.name; kind = definition.kind; type_ = type_stored definition.type_ }
+definition_stored definition = record { name = definition.name; kind = definition.kind; value_type = type_stored definition.value_type }
 
 abbrev pub rules_stored : StoredRules → Rules
 rules_stored rules = record {

@@ -10,7 +10,9 @@ use Rattle.rec_sex.specs.Grammar.{IsPatternOf}
 use Rattle.rec_sex.specs.Integers.{int_of, trimmed}
 use Rattle.rec_sex.specs.Meaning.{is_found}
 use Rattle.rec_sex.specs.Patterns.{PatternMayBeRefused}
-use Rattle.rec_check.specs.Words.{words, stripped, behind_first_word, is_among}
+use Rattle.rec_check.specs.declared.field_types.known_kind.KnownKind.{KnownKind}
+use Rattle.rec_check.specs.declared.field_types.known_kind.KnownKind.TheVariants.{Integer, Range, Line, Size, Truth, Enum, Regexp, Unchecked}
+use Rattle.rec_check.specs.Words.{words, stripped, after_first_word, is_among}
 
 -- ---- types
 
@@ -33,7 +35,7 @@ truths = codes "yes" ∷ codes "no" ∷ codes "0" ∷ codes "1" ∷ codes "true"
 abbrev pub is_continuation : ℕ → Bool
 is_continuation b = nat_le 128 b && nat_le b 191
 
--- so many characters, where the text is UTF-8
+-- n characters, where the text is UTF-8
 abbrev pub characters : List ℕ → ℕ
 characters text = count_by (λ b. not (is_continuation b)) text
 
@@ -60,8 +62,8 @@ natural_of text = option_and_then (λ z. elim z [ pos n ↦ Some n | negsuc n �
 
 -- `int`, `line` and `bool` have no words of their own
 abbrev pub alone : List (List ℕ) → FieldType (List ℕ) → Option (FieldType (List ℕ))
-alone [] type_ = Some type_
-alone (word ∷ more) type_ = None
+alone [] value_type = Some value_type
+alone (word ∷ more) value_type = None
 
 -- the end of a range: an integer, or MIN or MAX for the ends of 64 bits
 abbrev pub bound_of : List ℕ → Option ℤ
@@ -91,15 +93,15 @@ abbrev pub is_item : List ℕ → Bool
 is_item [] = false
 is_item (b ∷ bs) = is_alphanumeric b && list_all continues_item bs
 
--- a blank in the place of each comment: `(` up to the next `)`; nothing where one stays open
+-- a blank instead of each comment: `(` up to the next `)`; nothing where one stays open
 abbrev mutual
   pub without_comments : List ℕ → Option (List ℕ)
   without_comments [] = Some []
-  without_comments (b ∷ bs) = if b == 40 then behind_comment bs else option_map (λ rest. b ∷ rest) (without_comments bs)
+  without_comments (b ∷ bs) = if b == 40 then after_comment bs else option_map (λ rest. b ∷ rest) (without_comments bs)
 
-  pub behind_comment : List ℕ → Option (List ℕ)
-  behind_comment [] = None
-  behind_comment (b ∷ bs) = if b == 41 then option_map (λ rest. 32 ∷ rest) (without_comments bs) else behind_comment bs
+  pub after_comment : List ℕ → Option (List ℕ)
+  after_comment [] = None
+  after_comment (b ∷ bs) = if b == 41 then option_map (λ rest. 32 ∷ rest) (without_comments bs) else after_comment bs
 
 -- one or more words
 abbrev pub enum_of : List (List ℕ) → Option (FieldType (List ℕ))
@@ -119,23 +121,39 @@ pattern_in (delimiter ∷ bs) = between delimiter bs
 abbrev pub regexp_of : List ℕ → Option (FieldType (List ℕ))
 regexp_of text = option_and_then (λ pattern. if is_utf8 pattern then Some (matching pattern) else None) (pattern_in (stripped text))
 
--- the type of a kind, with what stands behind the kind; nothing where that isn't right. Values of any other kind aren't checked.
+-- the kinds that need no definition; values of the last ones aren't checked
+abbrev pub known_kind : List ℕ → Option KnownKind
+known_kind word =
+    if bytes_eq word (codes "int") then Some Integer
+    else if bytes_eq word (codes "range") then Some Range
+    else if bytes_eq word (codes "line") then Some Line
+    else if bytes_eq word (codes "size") then Some Size
+    else if bytes_eq word (codes "bool") then Some Truth
+    else if bytes_eq word (codes "enum") then Some Enum
+    else if bytes_eq word (codes "regexp") then Some Regexp
+    else if is_among (codes "real" ∷ codes "date" ∷ codes "email" ∷ codes "uuid" ∷ codes "field" ∷ codes "rec" ∷ []) word then Some Unchecked
+    else None
+
+-- the type of a known kind, with what stands after its word; nothing where that isn't right
+abbrev pub type_of_known : KnownKind → List ℕ → Option (FieldType (List ℕ))
+type_of_known Integer following = alone (words following) integer
+type_of_known Range following = range_of (words following)
+type_of_known Line following = alone (words following) line
+type_of_known Size following = size_type_of (words following)
+type_of_known Truth following = alone (words following) truth
+type_of_known Enum following = option_and_then (λ text. enum_of (words text)) (without_comments following)
+type_of_known Regexp following = regexp_of following
+type_of_known Unchecked following = Some unchecked
+
+-- what stands after a kind that isn't known means nothing
 abbrev pub type_of_kind : List ℕ → List ℕ → Option (FieldType (List ℕ))
-type_of_kind kind behind =
-    if bytes_eq kind (codes "int") then alone (words behind) integer
-    else if bytes_eq kind (codes "range") then range_of (words behind)
-    else if bytes_eq kind (codes "line") then alone (words behind) line
-    else if bytes_eq kind (codes "size") then size_type_of (words behind)
-    else if bytes_eq kind (codes "bool") then alone (words behind) truth
-    else if bytes_eq kind (codes "enum") then option_and_then (λ text. enum_of (words text)) (without_comments behind)
-    else if bytes_eq kind (codes "regexp") then regexp_of behind
-    else Some unchecked
+type_of_kind kind following = option_map_or (λ known. type_of_known known following) (known_kind kind) (Some unchecked)
 
 -- the word of a kind that comes first, and the type that it means; nothing where there is none, or where it isn't right
 abbrev pub kind_of : List ℕ → Option (List ℕ × FieldType (List ℕ))
 kind_of text = elim (words text) [
   | [] ↦ None
-  | kind ∷ rest ↦ option_map (λ type_. (kind, type_)) (type_of_kind kind (behind_first_word text))
+  | kind ∷ rest ↦ option_map (λ value_type. (kind, value_type)) (type_of_kind kind (after_first_word text))
 ]
 
 -- ---- fields with a type
@@ -144,20 +162,20 @@ kind_of text = elim (words text) [
 pub record Written : Type 0 where
   pub names : List (List ℕ)
   pub kind : List ℕ
-  pub type_ : FieldType (List ℕ)
+  pub value_type : FieldType (List ℕ)
 
 -- what a `%type` field of a descriptor says, with its pattern built
 pub record Typing : Type 0 where
   pub names : List (List ℕ)
   pub kind : List ℕ
-  pub type_ : FieldType Re
+  pub value_type : FieldType Re
 
 -- a `%typedef` field of a descriptor: the kind that it defines, and what it says of this: the word of a kind, and the type
 -- that is written, with its pattern built
 pub record Definition : Type 0 where
   pub name : List ℕ
   pub kind : List ℕ
-  pub type_ : FieldType Re
+  pub value_type : FieldType Re
 
 -- the names, joined by commas
 abbrev pub names_of : List ℕ → Option (List (List ℕ))
@@ -167,7 +185,7 @@ names_of word = let names : List (List ℕ) = slice_split (λ b. b == 44) word i
 abbrev pub typing_of : List ℕ → Option Written
 typing_of value = elim (words value) [
   | [] ↦ None
-  | names ∷ more ↦ option_and_then (λ names. option_map (λ (kind, type_). record { names = names; kind = kind; type_ = type_ }) (kind_of (behind_first_word value))) (names_of names)
+  | names ∷ more ↦ option_and_then (λ names. option_map (λ (kind, value_type). record { names = names; kind = kind; value_type = value_type }) (kind_of (after_first_word value))) (names_of names)
 ]
 
 -- the same type, with the pattern that `regex` builds of its text
@@ -184,19 +202,11 @@ IsBuilt unchecked built = built ≡ unchecked
 
 -- what a `%type` field of this value says, with the pattern that is built of it
 abbrev pub IsTyping : List ℕ → Typing → Type 0
-IsTyping value typing = (written : FieldType (List ℕ)) × (typing_of value ≡ Some (record { names = typing.names; kind = typing.kind; type_ = written })) × IsBuilt written typing.type_
-
--- of two types of one field the later holds
-abbrev pub type_for : List Typing → List ℕ → Option (FieldType Re)
-type_for [] name = None
-type_for (typing ∷ later) name = elim (type_for later name) [
-  | Some type_ ↦ Some type_
-  | None ↦ if is_among typing.names name then Some typing.type_ else None
-]
+IsTyping value typing = (written : FieldType (List ℕ)) × (typing_of value ≡ Some (record { names = typing.names; kind = typing.kind; value_type = written })) × IsBuilt written typing.value_type
 
 -- the type that a `%type` field gives has a pattern that `regex` may refuse, for another cause than memory
 abbrev pub TypeMayBeRefused : List ℕ → Type 0
-TypeMayBeRefused value = (names : List (List ℕ)) × (kind : List ℕ) × (pattern : List ℕ) × (typing_of value ≡ Some (record { names = names; kind = kind; type_ = matching pattern }))
+TypeMayBeRefused value = (names : List (List ℕ)) × (kind : List ℕ) × (pattern : List ℕ) × (typing_of value ≡ Some (record { names = names; kind = kind; value_type = matching pattern }))
     × PatternMayBeRefused pattern
 
 -- ---- kinds that are defined
@@ -205,21 +215,21 @@ TypeMayBeRefused value = (names : List (List ℕ)) × (kind : List ℕ) × (patt
 pub record WrittenDefinition : Type 0 where
   pub name : List ℕ
   pub kind : List ℕ
-  pub type_ : FieldType (List ℕ)
+  pub value_type : FieldType (List ℕ)
 
 -- a name, as a set may have it, a kind, and the words of the kind; nothing where it doesn't say so
 abbrev pub definition_of : List ℕ → Option WrittenDefinition
 definition_of value = elim (words value) [
   | [] ↦ None
-  | name ∷ more ↦ if is_plain_name name then option_map (λ (kind, type_). record { name = name; kind = kind; type_ = type_ }) (kind_of (behind_first_word value)) else None
+  | name ∷ more ↦ if is_plain_name name then option_map (λ (kind, value_type). record { name = name; kind = kind; value_type = value_type }) (kind_of (after_first_word value)) else None
 ]
 
 -- what a `%typedef` field of this value says, with the pattern that is built of it
 abbrev pub IsDefinition : List ℕ → Definition → Type 0
 IsDefinition value definition = (written : FieldType (List ℕ))
-    × (definition_of value ≡ Some (record { name = definition.name; kind = definition.kind; type_ = written })) × IsBuilt written definition.type_
+    × (definition_of value ≡ Some (record { name = definition.name; kind = definition.kind; value_type = written })) × IsBuilt written definition.value_type
 
 -- the type that a `%typedef` field gives has a pattern that `regex` may refuse, for another cause than memory
 abbrev pub DefinitionMayBeRefused : List ℕ → Type 0
-DefinitionMayBeRefused value = (name : List ℕ) × (kind : List ℕ) × (pattern : List ℕ) × (definition_of value ≡ Some (record { name = name; kind = kind; type_ = matching pattern }))
+DefinitionMayBeRefused value = (name : List ℕ) × (kind : List ℕ) × (pattern : List ℕ) × (definition_of value ≡ Some (record { name = name; kind = kind; value_type = matching pattern }))
     × PatternMayBeRefused pattern

@@ -4,6 +4,7 @@ use Rattle.std.specs.List.{list_any, enumerate_from}
 use Rattle.std.specs.Option.{option_map_or}
 use Rattle.std.specs.Str.{bytes_eq}
 use Rattle.std.specs.declared.ops.Range.{Range}
+use Rattle.regex.specs.Patterns.{Re}
 use Rattle.rec_text.specs.declared.fault.Fault.{Fault}
 use Rattle.rec_text.specs.declared.fault.Fault.TheVariants.{BadPattern}
 use Rattle.rec_text.specs.declared.violations.Rule.{Rule}
@@ -18,10 +19,10 @@ use Rattle.rec_sex.specs.Meaning.{values_of, Selects}
 use Rattle.rec_check.specs.declared.set.Set_.{Set_}
 use Rattle.rec_text.specs.Records.{elements_in}
 use Rattle.rec_check.specs.Descriptors.{meets}
-use Rattle.rec_check.specs.Meanings.{meaning_in}
+use Rattle.rec_check.specs.proving.Meanings.{meaning_in}
 use Rattle.rec_check.specs.Rules.{Rules, field_type}
 use Rattle.rec_check.specs.Schemas.{Described, IsSchema}
-use Rattle.rec_check.specs.Types.{Definition, fits, unchecked}
+use Rattle.rec_check.specs.Types.{FieldType, Definition, fits, unchecked}
 use Rattle.rec_check.specs.Words.{is_among, distinct, words}
 
 -- the line at which the element of an index begins
@@ -91,15 +92,18 @@ is_allowed rules name = option_map_or (λ names. is_among (names ++ (rules.manda
 abbrev pub allowed_violations : Rules → ℕ → List Piece → List Violation
 allowed_violations rules line fields = violations_of line Allowed (filter (λ name. not (is_allowed rules name)) (distinct (names_of fields)))
 
--- the field has a type, and its value doesn't fit that
-abbrev pub breaks_type : Rules → Piece → Bool
-breaks_type rules piece = is_field_piece piece && option_map_or (λ type_. not (fits type_ (value_of piece))) (field_type rules (name_of piece)) false
+-- there is a type, and the value doesn't fit it
+abbrev pub fails : Option (FieldType Re) → List ℕ → Bool
+fails value_type value = option_map_or (λ value_type. not (fits value_type value)) value_type false
 
--- each at the line of its own field
-abbrev pub type_violations : List Piece → Rules → Range ℕ → List Violation
-type_violations pieces rules record_ = filter_map
-    (λ (i, piece). if breaks_type rules piece then Some (violation (line_at pieces i) Fit (name_of piece)) else None)
-    (enumerate_from record_.start (elements_in pieces record_))
+-- the element is a field whose value doesn't fit the type of its name
+abbrev pub misfits : (List ℕ → Option (FieldType Re)) → Piece → Bool
+misfits types piece = is_field_piece piece && fails (types (name_of piece)) (value_of piece)
+
+-- each of the fields, which begin at an index, with such a value, at its own line
+abbrev pub type_violations : List Piece → (List ℕ → Option (FieldType Re)) → ℕ → List Piece → List Violation
+type_violations pieces types start fields =
+    filter_map (λ (i, piece). if misfits types piece then Some (violation (line_at pieces i) Fit (name_of piece)) else None) (enumerate_from start fields)
 
 -- those of the constraints, which are counted from this number on, that don't select the record
 abbrev pub AreUnselected : ℕ → ℕ → List Term → List Piece → List Violation → Type 0
@@ -108,22 +112,22 @@ AreUnselected line number (term ∷ terms) fields found =
     (Selects term fields × AreUnselected line (number + 1) terms fields found)
     ⊎ (¬ Selects term fields × ((rest : List Violation) × (found ≡ violation line Constraint (decimal number) ∷ rest) × AreUnselected line (number + 1) terms fields rest))
 
--- all of a record, behind these records of its set
-pub record AreOfRecord (pieces : List Piece) (rules : Rules) (earlier : List (List Piece)) (record_ : Range ℕ) (found : List Violation) : Type 0 where
+-- all of a record, after these records of its set
+pub record AreOfRecord (pieces : List Piece) (rules : Rules) (earlier : List (List Piece)) (own_range : Range ℕ) (found : List Violation) : Type 0 where
   pub unselected : List Violation
-  pub are : AreUnselected (line_at pieces record_.start) 1 rules.constraints (elements_in pieces record_) unselected
-  pub joined : let fields : List Piece = elements_in pieces record_ in let line : ℕ = line_at pieces record_.start in
+  pub are : AreUnselected (line_at pieces own_range.start) 1 rules.constraints (elements_in pieces own_range) unselected
+  pub joined : let fields : List Piece = elements_in pieces own_range in let line : ℕ = line_at pieces own_range.start in
       found ≡ key_violations rules line earlier fields ++ (mandatory_violations rules line fields ++ (prohibit_violations rules line fields
       ++ (unique_violations rules line fields ++ (singular_violations rules line earlier fields ++ (allowed_violations rules line fields
-      ++ (type_violations pieces rules record_ ++ unselected))))))
+      ++ (type_violations pieces (field_type rules) own_range.start fields ++ unselected))))))
 
 -- ---- record sets
 
--- record by record, behind these
+-- record by record, after these
 abbrev pub AreOfRecords : List Piece → Rules → List (List Piece) → List (Range ℕ) → List Violation → Type 0
 AreOfRecords pieces rules earlier [] found = found ≡ []
-AreOfRecords pieces rules earlier (record_ ∷ records) found = (own rest : List Violation) × AreOfRecord pieces rules earlier record_ own
-    × AreOfRecords pieces rules (earlier ++ elements_in pieces record_ ∷ []) records rest × (found ≡ own ++ rest)
+AreOfRecords pieces rules earlier (own_range ∷ records) found = (own rest : List Violation) × AreOfRecord pieces rules earlier own_range own
+    × AreOfRecords pieces rules (earlier ++ elements_in pieces own_range ∷ []) records rest × (found ≡ own ++ rest)
 
 -- the members of a set
 abbrev pub members : List (Range ℕ) → Set_ → List (Range ℕ)
@@ -131,7 +135,7 @@ members records s = take (s.members.end - s.members.start) (drop s.members.start
 
 -- the line at which the descriptor of a set begins
 abbrev pub head_line : List Piece → List (Range ℕ) → Set_ → ℕ
-head_line pieces records s = option_map_or (λ record_. line_at pieces record_.start) (option_and_then (slice_get records) s.head) 0
+head_line pieces records s = option_map_or (λ own_range. line_at pieces own_range.start) (option_and_then (slice_get records) s.head) 0
 
 -- the number of records isn't as the descriptor asks
 abbrev pub breaks_size : Rules → Set_ → Bool
@@ -164,7 +168,7 @@ unresolved_violations pieces resolves start fields = filter_map (λ (i, piece). 
 -- those of a set's descriptor
 abbrev pub typedef_violations : List Piece → List (Range ℕ) → Rules → Set_ → List Violation
 typedef_violations pieces records rules s = option_map_or
-    (λ record_. unresolved_violations pieces (resolves rules.definitions) record_.start (elements_in pieces record_))
+    (λ own_range. unresolved_violations pieces (resolves rules.definitions) own_range.start (elements_in pieces own_range))
     (option_and_then (slice_get records) s.head) []
 
 -- what is found before all records of a set
@@ -197,8 +201,8 @@ abbrev pub AreViolationsOf : List ℕ → Result (List Violation) Fault → Type
 AreViolationsOf text (Ok found) = (pieces : List Piece) × (schema : Described) × IsReading text (Ok pieces) × IsSchema pieces (Ok schema) × AreViolations pieces schema found
 AreViolationsOf text (Err fault) = IsReading text (Err fault) ⊎ ((pieces : List Piece) × IsReading text (Ok pieces) × IsSchema pieces (Err fault))
 
--- a text has one such answer; only where `regex` may refuse a pattern of its descriptors, that refusal may stand in the
--- place of the other answer
+-- a text has one such answer; only where `regex` may refuse a pattern of its descriptors, that refusal may stand
+-- instead of the other answer
 abbrev pub OneCheck : Type 0
 OneCheck = (text : List ℕ) (one other : Result (List Violation) Fault) → AreViolationsOf text one → AreViolationsOf text other
     → (one ≢ Err BadPattern) → (other ≢ Err BadPattern) → one ≡ other

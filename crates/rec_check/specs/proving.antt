@@ -1,5 +1,7 @@
 -- What serves proofs.
 pub mod Steps
+pub mod Flaws
+pub mod Meanings
 pub mod Reading
 pub mod Patterns
 pub mod Kinds
@@ -10,6 +12,6 @@ pub mod Tests
 pub mod Names
 pub mod Keys
 pub mod Singulars
-pub mod Met
+pub mod NamesSeen
 pub mod Constraints
 pub mod Ready

@@ -1,11 +1,11 @@
-//! Automatic values: what may be counted, and the number behind the greatest.
+//! Automatic values: what may be counted, and the number after the greatest.
 ghost use Rattle.std.specs.Prelude.{◌≡◌, ◌&&◌, not, IfOk, IsOkUnless};
 ghost use Rattle.rec_text.specs.Places.{piece_of};
 ghost use Rattle.rec_text.specs.Values.{value_of};
 ghost use Rattle.rec_sex.specs.Integers.{int_of};
 ghost use Rattle.rec_check.specs.Automatic.{automatic_names, may_count, begins_special, is_counter as may_be_counted};
 ghost use Rattle.rec_check.specs.Checks.{texts};
-ghost use Rattle.rec_check.specs.Counting.{greater, IsBehind};
+ghost use Rattle.rec_check.specs.Counting.{greater, IsNextNumber};
 ghost use Rattle.rec_check.specs.Stored.{rules_stored};
 ghost use Rattle.rec_check.specs.proving.Tests.{type_in};
 
@@ -70,9 +70,9 @@ pub(crate) fn reading_of(alloc: Global, field: &Element) -> Result<Option<i64>, 
     Ok(int_of(value.bytes()))
 }
 
-/// The number behind the greatest.
-pub(crate) fn behind(greatest: Option<i64>) -> Result<i64, Fault>
-    ensures { IsBehind greatest result }
+/// The number after the greatest.
+pub(crate) fn number_after(greatest: Option<i64>) -> Result<i64, Fault>
+    ensures { IsNextNumber greatest result }
 {
     match greatest {
         None => Ok(0),

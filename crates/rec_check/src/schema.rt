@@ -17,7 +17,7 @@ use std::ops::Range;
 pub struct Schema {
     sets: Vec<Set_>,
     rules: Vec<Rules>,
-    /// The types of the sets behind the untyped one.
+    /// The types of the sets after the untyped one.
     types: TypeNames,
     ghost typed: { HaveTypes sets.items types },
 }
@@ -57,11 +57,11 @@ impl Schema {
     }
 
     /// The place of the set of a type among the sets.
-    pub fn set_of_type(&self, kind: &[u8]) -> Option<usize>
-        ensures { result ≡ position (is_of_type kind.now) (described self.now).sets }
+    pub fn set_of_type(&self, record_type: &[u8]) -> Option<usize>
+        ensures { result ≡ position (is_of_type record_type.now) (described self.now).sets }
     {
         // The untyped set comes first.
-        Some(self.types.place_of(kind)? + 1)
+        Some(self.types.place_of(record_type)? + 1)
     }
 
     /// Where a text breaks the rules of its sets: set by set, first its size, then the kinds that mean nothing,
@@ -112,7 +112,7 @@ impl Schema {
         members_of(database.records().as_slice(), &self.sets[set])
     }
 
-    /// The counters of the set at this place, each ready for the number behind the greatest integer among the values of
+    /// The counters of the set at this place, each ready for the number after the greatest integer among the values of
     /// its fields in the set.
     pub fn counters(
         &self,

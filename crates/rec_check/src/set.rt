@@ -27,19 +27,19 @@ pub(crate) fn members_of<'d>(records: &'d [Range<usize>], set: &Set_) -> &'d [Ra
     &records[set.members.start..set.members.end]
 }
 
-/// Adds the record of an index behind the others: a descriptor of a type, or one more of the last set.
+/// Adds the record of an index after the others: a descriptor of a type, or one more of the last set.
 pub(crate) fn add_record(
     sets: &mut Vec<Set_>,
     index: usize,
-    kind: Option<Bytes>,
+    record_type: Option<Bytes>,
 ) -> Result<(), AllocError>
     requires { index < 2 ^ 64 - 1 }
-    ensures { OnOk result (sets.new.items ≡ with_record sets.old.items index kind) }
+    ensures { OnOk result (sets.new.items ≡ with_record sets.old.items index record_type) }
 {
     let end = index + 1;
-    match kind {
-        Some(kind) => sets.push(Set_ {
-            kind: Some(kind),
+    match record_type {
+        Some(record_type) => sets.push(Set_ {
+            kind: Some(record_type),
             head: Some(index),
             members: end..end,
         })?,

@@ -22,14 +22,14 @@ use Rattle.rec_check.specs.Schemas.{Described, IsDescribed, IsRuled}
 use Rattle.rec_check.specs.Sets.{named_in, AreFrom, BeginsAt}
 use Rattle.rec_check.specs.Stored.{rules_stored}
 use Rattle.rec_check.specs.Violations.{AreOfSet, AreOfSets, AreViolations}
-use Rattle.rec_check.specs.Walking.{AreWithin, IsNext}
+use Rattle.rec_check.specs.Walking.{AreWithin, IsNextSet}
 
 -- ---- the members are records
 
-set_end : (at : ℕ) (kind : Option (List ℕ)) (head : Option ℕ) (members : Range ℕ) → BeginsAt at (record { kind = kind; head = head; members = members })
-    → at + length (named_in (record { kind = kind; head = head; members = members })) ≡ members.end
+set_end : (at : ℕ) (record_type : Option (List ℕ)) (head : Option ℕ) (members : Range ℕ) → BeginsAt at (record { kind = record_type; head = head; members = members })
+    → at + length (named_in (record { kind = record_type; head = head; members = members })) ≡ members.end
 set_end at None head members begins = omega (arith, begins.0, begins.1.1, (let none : Option (List ℕ) = None in length-replicate (members.end - members.start) none))
-set_end at (Some kind) head members begins = omega (arith, begins.0, begins.1.1, (let none : Option (List ℕ) = None in length-replicate (members.end - members.start) none))
+set_end at (Some record_type) head members begins = omega (arith, begins.0, begins.1.1, (let none : Option (List ℕ) = None in length-replicate (members.end - members.start) none))
 
 pub sets_within : (at : ℕ) (sets : List Set_) (total : ℕ) → AreFrom at sets → at + length (flat_map named_in sets) ≤ total → AllByRecursion (λ s. s.members.end ≤ total) sets
 sets_within at [] total from within = tt
@@ -54,10 +54,10 @@ AllZip-at R (x ∷ xs) [] i d e all within = absurd all
 AllZip-at R (x ∷ xs) (y ∷ ys) zero d e all within = all.0
 AllZip-at R (x ∷ xs) (y ∷ ys) (suc i) d e all within = AllZip-at R xs ys i d e all.1 (omega arith)
 
-size_of_ruled : (pieces : List Piece) (records : List (Range ℕ)) (kind : Option (List ℕ)) (head : Option ℕ) (members : Range ℕ) (rules : Rules) → IsRuled pieces records (record { kind = kind; head = head; members = members }) rules
+size_of_ruled : (pieces : List Piece) (records : List (Range ℕ)) (record_type : Option (List ℕ)) (head : Option ℕ) (members : Range ℕ) (rules : Rules) → IsRuled pieces records (record { kind = record_type; head = head; members = members }) rules
     → head ≡ None → rules.size ≡ None
-size_of_ruled pieces records kind None members rules ruled none = ap (λ (r : Rules). r.size) ruled
-size_of_ruled pieces records kind (Some at) members rules ruled none = absurd (none-some at (sym none))
+size_of_ruled pieces records record_type None members rules ruled none = ap (λ (r : Rules). r.size) ruled
+size_of_ruled pieces records record_type (Some at) members rules ruled none = absurd (none-some at (sym none))
 
 module _ (pieces : List Piece) (sets : List Set_) (rules : List StoredRules) (is : IsDescribed pieces (record { sets = sets; rules = map rules_stored rules })) where
   pub same_length : length sets ≡ length rules
@@ -77,12 +77,12 @@ module _ (pieces : List Piece) (sets : List Set_) (rules : List StoredRules) (is
     pub set_within : (i : ℕ) (d : Set_) → i < length sets → (get_or sets i d).members.end ≤ length records
     set_within i d within =
         let same : is.records ≡ records = OneListOfRecords-holds.records pieces is.records records is.are are in
-        let total : 0 + length (flat_map named_in sets) ≤ length records = omega (arith, ap length is.sets.joined, length-map is.records (λ record_. type_of (elements_in pieces record_)), ap length same) in
+        let total : 0 + length (flat_map named_in sets) ≤ length records = omega (arith, ap length is.sets.joined, length-map is.records (λ own_range. type_of (elements_in pieces own_range)), ap length same) in
         All-get_or (λ s. s.members.end ≤ length records) sets i d within (All-from_recursion (λ s. s.members.end ≤ length records) sets (sets_within 0 sets (length records) is.sets.places total))
 
     pub records_within : (size : ℕ) → size ≡ length pieces → AreWithin size records
     records_within size is_size =
-        AllByRecursion-weaker (IsRecord pieces) (λ record_. (record_.start < record_.end) × (record_.end ≤ size)) (λ record_ inside. (inside.some, omega (arith, inside.high, inside.is_paragraph.within))) records are.each
+        AllByRecursion-weaker (IsRecord pieces) (λ own_range. (own_range.start < own_range.end) × (own_range.end ≤ size)) (λ own_range inside. (inside.some, omega (arith, inside.high, inside.is_paragraph.within))) records are.each
 
 -- ---- one set after another
 
@@ -118,7 +118,7 @@ module _ (pieces walked : List Piece) (records : List (Range ℕ)) (sets : List 
   from_here : AreFrom so_far.at (s ∷ drop (place + 1) sets)
   from_here = subst (AreFrom so_far.at) (drop_more sets place s within ∙ ap (λ t. t ∷ drop (place + 1) sets) (sym at)) so_far.from
 
-  pub next_set : s.members.end ≤ length records → IsNext passed records s
+  pub next_set : s.members.end ≤ length records → IsNextSet passed records s
   next_set ends = record { at = so_far.at; begins = from_here.0; within = ends; ahead = so_far.ahead }
 
   pub reported_more : (asked : Rules) (reached : ℕ) (now : List Piece) (new : List Violation) → asked ≡ get_or rules place asked → length sets ≡ length rules → now ≡ walked → AreAscending reached (drop s.members.end records)

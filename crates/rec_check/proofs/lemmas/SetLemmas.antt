@@ -7,7 +7,7 @@ use Rattle.std.specs.List.{AllByRecursion, filter_map, flat_map, cons_option}
 use Rattle.std.specs.Option.{is_some}
 use Rattle.rec_check.specs.declared.set.Set_.{Set_}
 use Rattle.rec_check.specs.Sets.{named_in, BeginsAt, AreFrom, IsUntypedFirst, AreSets}
-use Rattle.rec_check.specs.proving.Steps.{kinds, with_member, with_record}
+use Rattle.rec_check.specs.proving.Steps.{record_types, with_member, with_record}
 
 -- what a record names, if anything
 abbrev pub Named : Type 0
@@ -18,7 +18,7 @@ nothing = None
 
 -- a set of these parts
 abbrev pub set_of : Named → Option ℕ → ℕ → ℕ → Set_
-set_of kind head start end = record { kind = kind; head = head; members = record { start = start; end = end } }
+set_of record_type head start end = record { kind = record_type; head = head; members = record { start = start; end = end } }
 
 -- ---- one record more
 
@@ -46,9 +46,9 @@ abbrev end_from : ℕ → List Set_ → ℕ
 end_from at [] = at
 end_from at (s ∷ sets) = end_from s.members.end sets
 
-end_of_parts : (at : ℕ) (kind : Named) (head : Option ℕ) (start end : ℕ) → BeginsAt at (set_of kind head start end) → end ≡ at + length (named_in (set_of kind head start end))
+end_of_parts : (at : ℕ) (record_type : Named) (head : Option ℕ) (start end : ℕ) → BeginsAt at (set_of record_type head start end) → end ≡ at + length (named_in (set_of record_type head start end))
 end_of_parts at None head start end begins = omega (arith, begins.0, begins.1.1, length-replicate (end - start) nothing)
-end_of_parts at (Some kind) head start end begins = omega (arith, begins.0, begins.1.1, length-replicate (end - start) nothing)
+end_of_parts at (Some record_type) head start end begins = omega (arith, begins.0, begins.1.1, length-replicate (end - start) nothing)
 
 end_from-length : (at : ℕ) (sets : List Set_) → AreFrom at sets → end_from at sets ≡ at + length (flat_map named_in sets)
 end_from-length at [] from = omega arith
@@ -61,10 +61,10 @@ module _ (index : ℕ) where
   -- the last set takes one member more
   longer-named : (s : Set_) → s.members.start ≤ s.members.end → s.members.end ≡ index → named_in (longer s index) ≡ named_in s ++ nothing ∷ []
   longer-named s ordered ends =
-      let kind : List Named = elim s.kind [ None ↦ [] | Some kind ↦ Some kind ∷ [] ] in
+      let named : List Named = elim s.kind [ None ↦ [] | Some record_type ↦ Some record_type ∷ [] ] in
       let count : index + 1 - s.members.start ≡ (s.members.end - s.members.start) + 1 = omega arith in
-      ap (λ n. kind ++ replicate n nothing) count ∙ ap (λ r. kind ++ r) (sym (replicate_more (s.members.end - s.members.start) nothing))
-      ∙ sym (append_assoc kind (replicate (s.members.end - s.members.start) nothing) (nothing ∷ []))
+      ap (λ n. named ++ replicate n nothing) count ∙ ap (λ r. named ++ r) (sym (replicate_more (s.members.end - s.members.start) nothing))
+      ∙ sym (append_assoc named (replicate (s.members.end - s.members.start) nothing) (nothing ∷ []))
 
   with_member-named : (at : ℕ) (s : Set_) (sets : List Set_) → AreFrom at (s ∷ sets) → end_from at (s ∷ sets) ≡ index
       → flat_map named_in (with_member (s ∷ sets) index) ≡ flat_map named_in (s ∷ sets) ++ nothing ∷ []
@@ -88,13 +88,13 @@ module _ (index : ℕ) where
   with_member-first (s ∷ next ∷ sets) first = (first.0, with_member-typed (next ∷ sets) first.1)
 
   -- a descriptor begins one set more
-  module _ (kind : List ℕ) where
+  module _ (record_type : List ℕ) where
     begun : Set_
-    begun = set_of (Some kind) (Some index) (index + 1) (index + 1)
+    begun = set_of (Some record_type) (Some index) (index + 1) (index + 1)
 
-    begun-named : named_in begun ≡ Some kind ∷ []
+    begun-named : named_in begun ≡ Some record_type ∷ []
     unfolding begun
-    begun-named = let count : index + 1 - (index + 1) ≡ 0 = omega arith in ap (λ n. Some kind ∷ replicate n nothing) count
+    begun-named = let count : index + 1 - (index + 1) ≡ 0 = omega arith in ap (λ n. Some record_type ∷ replicate n nothing) count
 
     begun-from : (at : ℕ) (sets : List Set_) → AreFrom at sets → end_from at sets ≡ index → AreFrom at (sets ++ begun ∷ [])
     unfolding begun
@@ -120,19 +120,19 @@ AreSets-with_member types (s ∷ sets) index size are =
       places = with_member-from index 0 s sets are.places ends;
     }
 
-AreSets-begun : (types : List Named) (sets : List Set_) (index : ℕ) (kind : List ℕ) → index ≡ length types → AreSets types sets → AreSets (types ++ Some kind ∷ []) (sets ++ begun index kind ∷ [])
-AreSets-begun types sets index kind size are =
+AreSets-begun : (types : List Named) (sets : List Set_) (index : ℕ) (record_type : List ℕ) → index ≡ length types → AreSets types sets → AreSets (types ++ Some record_type ∷ []) (sets ++ begun index record_type ∷ [])
+AreSets-begun types sets index record_type size are =
     let ends : end_from 0 sets ≡ index = omega (arith, end_from-length 0 sets are.places, ap length are.joined) in
     record {
-      joined = flat_map-append named_in sets (begun index kind ∷ []) ∙ ap (λ r. flat_map named_in sets ++ r) (append-nil (named_in (begun index kind)) ∙ begun-named index kind) ∙ ap (λ ts. ts ++ Some kind ∷ []) are.joined;
-      untyped_first = begun-first index kind sets are.untyped_first;
-      places = begun-from index kind 0 sets are.places ends;
+      joined = flat_map-append named_in sets (begun index record_type ∷ []) ∙ ap (λ r. flat_map named_in sets ++ r) (append-nil (named_in (begun index record_type)) ∙ begun-named index record_type) ∙ ap (λ ts. ts ++ Some record_type ∷ []) are.joined;
+      untyped_first = begun-first index record_type sets are.untyped_first;
+      places = begun-from index record_type 0 sets are.places ends;
     }
 
-pub AreSets-with_record : (types : List Named) (sets : List Set_) (index : ℕ) (kind : Named) → index ≡ length types → AreSets types sets → AreSets (types ++ kind ∷ []) (with_record sets index kind)
+pub AreSets-with_record : (types : List Named) (sets : List Set_) (index : ℕ) (record_type : Named) → index ≡ length types → AreSets types sets → AreSets (types ++ record_type ∷ []) (with_record sets index record_type)
 unfolding begun
 AreSets-with_record types sets index None size are = AreSets-with_member types sets index size are
-AreSets-with_record types sets index (Some kind) size are = AreSets-begun types sets index kind size are
+AreSets-with_record types sets index (Some record_type) size are = AreSets-begun types sets index record_type size are
 
 -- the untyped set alone
 pub AreSets-none : AreSets [] (set_of None None 0 0 ∷ [])
@@ -156,19 +156,19 @@ types_among-replicate : (n : ℕ) → types_among (replicate n nothing) ≡ []
 types_among-replicate zero = refl
 types_among-replicate (suc n) = types_among-replicate n
 
-types_among-parts : (kind : Named) (n : ℕ) → types_among ((elim kind [ None ↦ [] | Some kind ↦ Some kind ∷ [] ]) ++ replicate n nothing) ≡ cons_option kind []
+types_among-parts : (record_type : Named) (n : ℕ) → types_among ((elim record_type [ None ↦ [] | Some record_type ↦ Some record_type ∷ [] ]) ++ replicate n nothing) ≡ cons_option record_type []
 types_among-parts None n = types_among-replicate n
-types_among-parts (Some kind) n = ap (λ r. kind ∷ r) (types_among-replicate n)
+types_among-parts (Some record_type) n = ap (λ r. record_type ∷ r) (types_among-replicate n)
 
-kinds-named : (sets : List Set_) → kinds sets ≡ types_among (flat_map named_in sets)
-kinds-named [] = refl
-kinds-named (s ∷ sets) =
-    ap (cons_option s.kind) (kinds-named sets) ∙ cons_option-append s.kind [] (types_among (flat_map named_in sets))
+record_types-named : (sets : List Set_) → record_types sets ≡ types_among (flat_map named_in sets)
+record_types-named [] = refl
+record_types-named (s ∷ sets) =
+    ap (cons_option s.kind) (record_types-named sets) ∙ cons_option-append s.kind [] (types_among (flat_map named_in sets))
     ∙ ap (λ r. r ++ types_among (flat_map named_in sets)) (sym (types_among-parts s.kind (s.members.end - s.members.start)))
     ∙ sym (filter_map-append (λ t. t) (named_in s) (flat_map named_in sets))
 
-pub kinds-AreSets : (types : List Named) (sets : List Set_) → AreSets types sets → kinds sets ≡ types_among types
-kinds-AreSets types sets are = kinds-named sets ∙ ap types_among are.joined
+pub record_types-AreSets : (types : List Named) (sets : List Set_) → AreSets types sets → record_types sets ≡ types_among types
+record_types-AreSets types sets are = record_types-named sets ∙ ap types_among are.joined
 
 -- ---- one list of sets
 
@@ -176,7 +176,7 @@ kinds-AreSets types sets are = kinds-named sets ∙ ap types_among are.joined
 abbrev BeginsTyped : List Named → Type 0
 BeginsTyped [] = Unit {0}
 BeginsTyped (None ∷ types) = ⊥
-BeginsTyped (Some kind ∷ types) = Unit {0}
+BeginsTyped (Some record_type ∷ types) = Unit {0}
 
 same_count : (n m : ℕ) (some other : List Named) → BeginsTyped some → BeginsTyped other → replicate n nothing ++ some ≡ replicate m nothing ++ other → (n ≡ m) × (some ≡ other)
 same_count zero zero some other h k e = (refl, e)
@@ -187,9 +187,9 @@ same_count (suc n) (suc m) some other h k e =
     let same = same_count n m some other h k rest in
     (ap suc same.0, same.1)
 
-same_parts : (at : ℕ) (kind other : Named) (head top : Option ℕ) (start end from to : ℕ) (some more : List Named) → is_some kind ≡ is_some other
-    → BeginsAt at (set_of kind head start end) → BeginsAt at (set_of other top from to) → BeginsTyped some → BeginsTyped more
-    → named_in (set_of kind head start end) ++ some ≡ named_in (set_of other top from to) ++ more → (set_of kind head start end ≡ set_of other top from to) × (some ≡ more)
+same_parts : (at : ℕ) (record_type other : Named) (head top : Option ℕ) (start end from to : ℕ) (some more : List Named) → is_some record_type ≡ is_some other
+    → BeginsAt at (set_of record_type head start end) → BeginsAt at (set_of other top from to) → BeginsTyped some → BeginsTyped more
+    → named_in (set_of record_type head start end) ++ some ≡ named_in (set_of other top from to) ++ more → (set_of record_type head start end ≡ set_of other top from to) × (some ≡ more)
 same_parts at None None head top start end from to some more alike begins starts h k e =
     let same = same_count (end - start) (to - from) some more h k e in
     let heads : head ≡ top = begins.1.0 ∙ sym starts.1.0 in
@@ -197,43 +197,43 @@ same_parts at None None head top start end from to some more alike begins starts
     let end_is : end ≡ to = omega (arith, begins.0, starts.0, same.0) in
     (ap (λ p. set_of None p start end) heads ∙ ap (λ n. set_of None top n end) start_is ∙ ap (set_of None top from) end_is, same.1)
 same_parts at None (Some other) head top start end from to some more alike begins starts h k e = absurd (false≢true alike)
-same_parts at (Some kind) None head top start end from to some more alike begins starts h k e = absurd (false≢true (sym alike))
-same_parts at (Some kind) (Some other) head top start end from to some more alike begins starts h k e =
-    let kind_is : kind ≡ other = cc in
+same_parts at (Some record_type) None head top start end from to some more alike begins starts h k e = absurd (false≢true (sym alike))
+same_parts at (Some record_type) (Some other) head top start end from to some more alike begins starts h k e =
+    let type_is : record_type ≡ other = cc in
     let rest : replicate (end - start) nothing ++ some ≡ replicate (to - from) nothing ++ more = cc in
     let same = same_count (end - start) (to - from) some more h k rest in
     let heads : head ≡ top = begins.1.0 ∙ sym starts.1.0 in
     let start_is : start ≡ from = omega (arith, begins.1.1, starts.1.1) in
     let end_is : end ≡ to = omega (arith, begins.0, starts.0, same.0) in
-    (ap (λ t. set_of (Some t) head start end) kind_is ∙ ap (λ p. set_of (Some other) p start end) heads ∙ ap (λ n. set_of (Some other) top n end) start_is ∙ ap (set_of (Some other) top from) end_is, same.1)
+    (ap (λ t. set_of (Some t) head start end) type_is ∙ ap (λ p. set_of (Some other) p start end) heads ∙ ap (λ n. set_of (Some other) top n end) start_is ∙ ap (set_of (Some other) top from) end_is, same.1)
 
 same_first : (at : ℕ) (s t : Set_) (some more : List Named) → is_some s.kind ≡ is_some t.kind → BeginsAt at s → BeginsAt at t → BeginsTyped some → BeginsTyped more
     → named_in s ++ some ≡ named_in t ++ more → (s ≡ t) × (some ≡ more)
 same_first at s t some more alike begins starts h k e =
     same_parts at s.kind t.kind s.head t.head s.members.start s.members.end t.members.start t.members.end some more alike begins starts h k e
 
-BeginsTyped-parts : (kind : Named) (rest more : List Named) → is_some kind ≡ true → BeginsTyped (((elim kind [ None ↦ [] | Some kind ↦ Some kind ∷ [] ]) ++ rest) ++ more)
+BeginsTyped-parts : (record_type : Named) (rest more : List Named) → is_some record_type ≡ true → BeginsTyped (((elim record_type [ None ↦ [] | Some record_type ↦ Some record_type ∷ [] ]) ++ rest) ++ more)
 BeginsTyped-parts None rest more typed = absurd (false≢true typed)
-BeginsTyped-parts (Some kind) rest more typed = tt
+BeginsTyped-parts (Some record_type) rest more typed = tt
 
 BeginsTyped-named : (sets : List Set_) → AreTyped sets → BeginsTyped (flat_map named_in sets)
 BeginsTyped-named [] typed = tt
 BeginsTyped-named (s ∷ sets) typed = BeginsTyped-parts s.kind (replicate (s.members.end - s.members.start) nothing) (flat_map named_in sets) typed.0
 
-pub some_named : (kind : Named) (rest more : List Named) → is_some kind ≡ true → [] ≡ ((elim kind [ None ↦ [] | Some kind ↦ Some kind ∷ [] ]) ++ rest) ++ more → ⊥
+pub some_named : (record_type : Named) (rest more : List Named) → is_some record_type ≡ true → [] ≡ ((elim record_type [ None ↦ [] | Some record_type ↦ Some record_type ∷ [] ]) ++ rest) ++ more → ⊥
 some_named None rest more typed e = false≢true typed
-some_named (Some kind) rest more typed e = cc
+some_named (Some record_type) rest more typed e = cc
 
 same_typed : (at : ℕ) (sets others : List Set_) → AreTyped sets → AreTyped others → AreFrom at sets → AreFrom at others → flat_map named_in sets ≡ flat_map named_in others → sets ≡ others
-same_typed at [] [] typed kinds from starts e = refl
-same_typed at [] (t ∷ others) typed kinds from starts e =
-    absurd (some_named t.kind (replicate (t.members.end - t.members.start) nothing) (flat_map named_in others) kinds.0 e)
-same_typed at (s ∷ sets) [] typed kinds from starts e =
+same_typed at [] [] typed typed_too from starts e = refl
+same_typed at [] (t ∷ others) typed typed_too from starts e =
+    absurd (some_named t.kind (replicate (t.members.end - t.members.start) nothing) (flat_map named_in others) typed_too.0 e)
+same_typed at (s ∷ sets) [] typed typed_too from starts e =
     absurd (some_named s.kind (replicate (s.members.end - s.members.start) nothing) (flat_map named_in sets) typed.0 (sym e))
-same_typed at (s ∷ sets) (t ∷ others) typed kinds from starts e =
-    let first = same_first at s t (flat_map named_in sets) (flat_map named_in others) (typed.0 ∙ sym kinds.0) from.0 starts.0 (BeginsTyped-named sets typed.1) (BeginsTyped-named others kinds.1) e in
+same_typed at (s ∷ sets) (t ∷ others) typed typed_too from starts e =
+    let first = same_first at s t (flat_map named_in sets) (flat_map named_in others) (typed.0 ∙ sym typed_too.0) from.0 starts.0 (BeginsTyped-named sets typed.1) (BeginsTyped-named others typed_too.1) e in
     let begins : AreFrom s.members.end others = subst (λ n. AreFrom n others) (sym (ap (λ u. u.members.end) first.0)) starts.1 in
-    ap (λ u. u ∷ sets) first.0 ∙ ap (λ us. t ∷ us) (same_typed s.members.end sets others typed.1 kinds.1 from.1 begins first.1)
+    ap (λ u. u ∷ sets) first.0 ∙ ap (λ us. t ∷ us) (same_typed s.members.end sets others typed.1 typed_too.1 from.1 begins first.1)
 
 pub one_list_of_sets : (types : List Named) (sets others : List Set_) → AreSets types sets → AreSets types others → sets ≡ others
 one_list_of_sets types [] others are too = absurd are.untyped_first

@@ -7,4 +7,4 @@ pub mod ConstraintLemmas
 pub mod UnresolvedLemmas
 pub mod ReportLemmas
 pub mod AheadLemmas
-pub mod MetLemmas
+pub mod SeenLemmas

@@ -11,5 +11,5 @@ abbrev pub has_taken : Key → List ℕ → Bool
 has_taken key value = contains_by (λ bytes. bytes_eq value (cow_slice_items bytes)) key.taken
 
 -- the keys that these records have taken
-abbrev pub IsAfter : Key → List (List Piece) → Type 0
-IsAfter key earlier = (name value : List ℕ) → key.name.now ≡ Some name → has_taken key value ≡ is_taken name earlier value
+abbrev pub IsKeyAfter : Key → List (List Piece) → Type 0
+IsKeyAfter key earlier = (name value : List ℕ) → key.name.now ≡ Some name → has_taken key value ≡ is_taken name earlier value

@@ -11,7 +11,7 @@ use Rattle.rec_check.specs.Types.{FieldType, matching, IsBuilt, kind_of}
 
 -- the type that is written, with its pattern built; a refusal where none is, or where its pattern is refused
 abbrev pub IsTypeOf : Option (FieldType (List ℕ)) → Result StoredType Refusal → Type 0
-IsTypeOf written (Ok type_) = (one : FieldType (List ℕ)) × (written ≡ Some one) × IsBuilt one (type_stored type_)
+IsTypeOf written (Ok value_type) = (one : FieldType (List ℕ)) × (written ≡ Some one) × IsBuilt one (type_stored value_type)
 IsTypeOf written (Err Bad) = written ≡ None
 IsTypeOf written (Err Unsupported) = ⊥
 IsTypeOf written (Err Pattern) = (pattern : List ℕ) × (written ≡ Some (matching pattern)) × PatternMayBeRefused pattern
@@ -19,7 +19,7 @@ IsTypeOf written (Err OutOfMemory) = Unit {0}
 
 -- the kind that is written first, and its type with its pattern built; a refusal where that isn't right, or its pattern refused
 abbrev pub IsKindIn : List ℕ → Result (List ℕ × StoredType) Refusal → Type 0
-IsKindIn text (Ok (kind, type_)) = (one : FieldType (List ℕ)) × (kind_of text ≡ Some (kind, one)) × IsBuilt one (type_stored type_)
+IsKindIn text (Ok (kind, value_type)) = (one : FieldType (List ℕ)) × (kind_of text ≡ Some (kind, one)) × IsBuilt one (type_stored value_type)
 IsKindIn text (Err Bad) = kind_of text ≡ None
 IsKindIn text (Err Unsupported) = ⊥
 IsKindIn text (Err Pattern) = (kind : List ℕ) × (pattern : List ℕ) × (kind_of text ≡ Some (kind, matching pattern)) × PatternMayBeRefused pattern

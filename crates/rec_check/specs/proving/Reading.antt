@@ -17,10 +17,11 @@ use Rattle.rec_check.specs.declared.field_types.field_type.Typing.{Typing as Sto
 use Rattle.rec_check.specs.declared.descriptors.refusal.Refusal.{Refusal}
 use Rattle.rec_check.specs.declared.descriptors.refusal.Refusal.TheVariants.{Bad, Unsupported as NotSupported, Pattern, OutOfMemory}
 use Rattle.rec_check.specs.declared.descriptors.special.Special.{Special}
-use Rattle.rec_check.specs.declared.descriptors.special.Special.TheVariants.{Rec, Key, Mandatory, Prohibit, Unique, Singular, Allowed, Auto, Type_, Typedef, Size, Constraint, Confidential}
-use Rattle.rec_check.specs.Descriptors.{Flaw, bad, unsupported, field_flaw, first_word, special_flaw, special_of, type_of, bound_in}
+use Rattle.rec_check.specs.declared.descriptors.special.Special.TheVariants.{Rec, Key, Mandatory, Prohibit, Unique, Singular, Allowed, Auto, Typed, Typedef, Size, Constraint, Confidential}
+use Rattle.rec_check.specs.Descriptors.{Flaw, bad, unsupported, first_word, special_flaw, special_of, type_of, bound_in}
 use Rattle.rec_check.specs.Rules.{Rules, no_rules, AreRules}
-use Rattle.rec_check.specs.Schemas.{Described, FieldIsRead, FieldMayBeRefused}
+use Rattle.rec_check.specs.Schemas.{Described, FieldMayBeRefused}
+use Rattle.rec_check.specs.proving.Flaws.{FieldIsRead, field_flaw}
 use Rattle.rec_check.specs.proving.Steps.{with_record}
 use Rattle.rec_check.specs.Stored.{definition_stored, rules_stored, typing_stored}
 use Rattle.rec_check.specs.Types.{Definition, Typing, IsDefinition, IsTyping, DefinitionMayBeRefused, TypeMayBeRefused}
@@ -30,26 +31,26 @@ use Rattle.rec_check.specs.Words.{words, is_among}
 
 -- what the fields of a descriptor say so far: the type, and the rules
 pub record Said : Type 0 where
-  pub kind : Option (List ℕ)
+  pub record_type : Option (List ℕ)
   pub rules : Rules
 
 -- nothing yet
 abbrev pub bare : Said
-bare = record { kind = None; rules = no_rules }
+bare = record { record_type = None; rules = no_rules }
 
 abbrev pub said : Descriptor → Said
-said descriptor = record { kind = descriptor.kind; rules = rules_stored descriptor.rules }
+said descriptor = record { record_type = descriptor.record_type; rules = rules_stored descriptor.rules }
 
--- a field of this kind was read before; of the others there may be many
+-- a field of this name was read before; of the others there may be many
 abbrev pub is_repeated : Special → Said → Bool
-is_repeated Rec so_far = is_some so_far.kind
+is_repeated Rec so_far = is_some so_far.record_type
 is_repeated Key so_far = is_some so_far.rules.key
 is_repeated Size so_far = is_some so_far.rules.size
 is_repeated _ so_far = false
 
--- what a sound field of this kind adds
+-- what a sound field of this name adds
 abbrev pub Adds : Special → List ℕ → Said → Said → Type 0
-Adds Rec value old new = new ≡ record old { kind = Some (first_word (words value)) }
+Adds Rec value old new = new ≡ record old { record_type = Some (first_word (words value)) }
 Adds Key value old new = new ≡ record old { rules = record old.rules { key = slice_get (words value) 0 } }
 Adds Mandatory value old new = new ≡ record old { rules = record old.rules { mandatory = old.rules.mandatory ++ words value } }
 Adds Prohibit value old new = new ≡ record old { rules = record old.rules { prohibited = old.rules.prohibited ++ words value } }
@@ -57,15 +58,15 @@ Adds Unique value old new = new ≡ record old { rules = record old.rules { uniq
 Adds Singular value old new = new ≡ record old { rules = record old.rules { singular = old.rules.singular ++ words value } }
 Adds Allowed value old new = new ≡ record old { rules = record old.rules { allowed = Some (unwrap_or old.rules.allowed [] ++ words value) } }
 Adds Auto value old new = new ≡ record old { rules = record old.rules { automatic = old.rules.automatic ++ words value } }
-Adds Type_ value old new = (typing : Typing) × IsTyping value typing × (new ≡ record old { rules = record old.rules { types = old.rules.types ++ typing ∷ [] } })
+Adds Typed value old new = (typing : Typing) × IsTyping value typing × (new ≡ record old { rules = record old.rules { types = old.rules.types ++ typing ∷ [] } })
 Adds Typedef value old new = (definition : Definition) × IsDefinition value definition × (new ≡ record old { rules = record old.rules { definitions = old.rules.definitions ++ definition ∷ [] } })
 Adds Size value old new = new ≡ record old { rules = record old.rules { size = bound_in value } }
 Adds Constraint value old new = (term : Term) × IsExpression value term × (new ≡ record old { rules = record old.rules { constraints = old.rules.constraints ++ term ∷ [] } })
 Adds Confidential value old new = ⊥
 
--- a field of this kind has a pattern that may be refused
+-- a field of this name has a pattern that may be refused
 abbrev pub MayBeRefusedAs : Special → List ℕ → Type 0
-MayBeRefusedAs Type_ value = TypeMayBeRefused value
+MayBeRefusedAs Typed value = TypeMayBeRefused value
 MayBeRefusedAs Typedef value = DefinitionMayBeRefused value
 MayBeRefusedAs Constraint value = ExpressionMayBeRefused value
 MayBeRefusedAs _ value = ⊥
@@ -102,26 +103,26 @@ AddsOf (Some special) value old new = Adds special value old new
 abbrev pub AddsField : Piece → Said → Said → Type 0
 AddsField piece old new = AddsOf (special_of (name_of piece)) (value_of piece) old new
 
--- what is wrong with an element behind those that say this
-abbrev pub flaw_behind : List (List ℕ) → Said → Piece → Option Flaw
-flaw_behind named so_far piece = option_and_then (λ special. special_flaw special (is_repeated special so_far) named (value_of piece)) (special_of (name_of piece))
+-- what is wrong with an element after those that say this
+abbrev pub flaw_after : List (List ℕ) → Said → Piece → Option Flaw
+flaw_after named so_far piece = option_and_then (λ special. special_flaw special (is_repeated special so_far) named (value_of piece)) (special_of (name_of piece))
 
--- what is answered of an element behind those that say this, memory aside
+-- what is answered of an element after those that say this, memory aside
 abbrev pub AnswersField : List (List ℕ) → Piece → Said → Said → Result (Unit {0}) Refusal → Type 0
-AnswersField named piece old new answer = Answers (flaw_behind named old piece) (AddsField piece old new) (FieldMayBeRefused piece) answer
+AnswersField named piece old new answer = Answers (flaw_after named old piece) (AddsField piece old new) (FieldMayBeRefused piece) answer
 
 -- ---- one descriptor
 
 -- the type is none of these, where there is one
 abbrev pub IsFresh : List (List ℕ) → Option (List ℕ) → Type 0
 IsFresh named None = Unit {0}
-IsFresh named (Some kind) = is_among named kind ≡ false
+IsFresh named (Some record_type) = is_among named record_type ≡ false
 
 -- none of the fields is faulty, and this is what they say
 pub record AreSaid (named : List (List ℕ)) (fields : List Piece) (said : Said) : Type 0 where
   pub sound : (k : ℕ) → field_flaw named fields k ≡ None
-  pub kind : said.kind ≡ type_of fields
-  pub fresh : IsFresh named said.kind
+  pub record_type : said.record_type ≡ type_of fields
+  pub fresh : IsFresh named said.record_type
   pub rules : AreRules fields said.rules
 
 -- the first of the fields with which anything is wrong; it begins at this line, and those before it are read
@@ -167,7 +168,7 @@ drafted draft = record { sets = draft.sets.items; rules = map rules_stored draft
 abbrev pub AddsRecordAs : Bool → List (List ℕ) → List Piece → ℕ → Described → Described → Type 0
 AddsRecordAs false named fields index old new = (new.sets ≡ with_record old.sets index None) × (new.rules ≡ old.rules)
 AddsRecordAs true named fields index old new =
-    (said : Said) × AreSaid named fields said × (new.sets ≡ with_record old.sets index said.kind) × (new.rules ≡ old.rules ++ said.rules ∷ [])
+    (said : Said) × AreSaid named fields said × (new.sets ≡ with_record old.sets index said.record_type) × (new.rules ≡ old.rules ++ said.rules ∷ [])
 
 abbrev pub AddsRecord : List (List ℕ) → List Piece → ℕ → Described → Described → Type 0
 AddsRecord named fields index old new = AddsRecordAs (is_some (type_of fields)) named fields index old new

@@ -23,6 +23,6 @@ abbrev pub is_repeat : Singular → Piece → Bool
 is_repeat singular piece = has_seen singular (name_of piece) (value_of piece)
 
 -- the values of these names in these records have been seen
-pub record IsAfter (names : List (List ℕ)) (earlier : List (List Piece)) (singular : Singular) : Type 0 where
+pub record IsSingularAfter (names : List (List ℕ)) (earlier : List (List Piece)) (singular : Singular) : Type 0 where
   pub names_are : singular.names ≡ distinct names
   pub seen : (name value : List ℕ) → is_among singular.names name ≡ true → has_seen singular name value ≡ stands_in name earlier value

@@ -3,8 +3,8 @@ use Rattle.std.specs.Prelude.{◌≡◌, ℕ, ◌+◌, List, [], ◌∷◌, ◌+
 use Rattle.rec_check.specs.declared.set.Set_.{Set_}
 
 -- the types of some sets
-abbrev pub kinds : List Set_ → List (List ℕ)
-kinds sets = filter_map (λ s. s.kind) sets
+abbrev pub record_types : List Set_ → List (List ℕ)
+record_types sets = filter_map (λ s. s.kind) sets
 
 -- the first of the sets has no type, and the others have these
 abbrev pub HaveTypes : List Set_ → List (List ℕ) → Type 0
@@ -16,8 +16,8 @@ with_member [] index = []
 with_member (s ∷ []) index = record s { members = record s.members { end = index + 1 } } ∷ []
 with_member (s ∷ next ∷ sets) index = s ∷ with_member (next ∷ sets) index
 
--- the sets with the record of this index, which names this type, behind the others
+-- the sets with the record of this index, which names this type, after the others
 abbrev pub with_record : List Set_ → ℕ → Option (List ℕ) → List Set_
 with_record sets index None = with_member sets index
-with_record sets index (Some kind) =
-    sets ++ record { kind = Some kind; head = Some index; members = record { start = index + 1; end = index + 1 } } ∷ []
+with_record sets index (Some record_type) =
+    sets ++ record { kind = Some record_type; head = Some index; members = record { start = index + 1; end = index + 1 } } ∷ []

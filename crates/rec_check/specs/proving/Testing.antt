@@ -18,19 +18,19 @@ is_plain _ = true
 
 -- a type with a pattern isn't tried by itself
 abbrev pub may_serve : Test → FieldType → Bool
-may_serve Direct type_ = is_plain type_
-may_serve _ type_ = true
+may_serve Direct value_type = is_plain value_type
+may_serve _ value_type = true
 
 -- what a test answers of a value of the type
 abbrev pub passes : Test → FieldType → List ℕ → Bool
-passes Direct type_ value = fits (type_stored type_) value
-passes (Words words) type_ value = has_name words (trimmed value)
-passes (Pattern matcher) type_ value = is_found (matcher_pattern matcher.value) value
+passes Direct value_type value = fits (type_stored value_type) value
+passes (Words words) value_type value = has_name words (trimmed value)
+passes (Pattern matcher) value_type value = is_found (matcher_pattern matcher.value) value
 
 -- the test passes the values that fit the type
 abbrev pub Serves : Test → FieldType → Type 0
-Serves test type_ = (may_serve test type_ ≡ true) × ((value : List ℕ) → passes test type_ value ≡ fits (type_stored type_) value)
+Serves test value_type = (may_serve test value_type ≡ true) × ((value : List ℕ) → passes test value_type value ≡ fits (type_stored value_type) value)
 
 -- the same of a test that may not be made yet
 abbrev pub ServesOnceMade : Option Test → FieldType → Type 0
-ServesOnceMade made type_ = (test : Test) → made ≡ Some test → Serves test type_
+ServesOnceMade made value_type = (test : Test) → made ≡ Some test → Serves test value_type

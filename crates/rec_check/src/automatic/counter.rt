@@ -11,7 +11,9 @@ ghost use Rattle.rec_check.specs.Stored.{rules_stored};
 ghost use Rattle.rec_check.specs.proving.Tests.{type_in};
 ghost use Rattle.rec_check.specs.Walking.{AreWithin};
 
-use crate::automatic::{automatic_names, behind, greater, is_counter, may_be_counter, reading_of};
+use crate::automatic::{
+    automatic_names, greater, is_counter, may_be_counter, number_after, reading_of,
+};
 use crate::field_types::types::Types;
 use crate::rules::Rules;
 use rec_text::{Element, Fault, elements_in};
@@ -55,7 +57,7 @@ impl<'r> Counter<'r> {
         if !self.counts {
             return Err(Fault::AutoImpossible);
         }
-        let number = behind(self.greatest)?;
+        let number = number_after(self.greatest)?;
         self.greatest = Some(number);
         Ok(number)
     }
@@ -212,5 +214,5 @@ pub(crate) fn next_value<'a>(
         return Err(Fault::AutoImpossible);
     }
     let greatest = greatest_numbers(alloc, elements, records, &[name])?;
-    behind(kept(&greatest, name))
+    number_after(kept(&greatest, name))
 }

@@ -3,8 +3,8 @@
 use crate::checks::allowed::Allowed;
 use crate::checks::constraints::Constraints;
 use crate::checks::key::Key;
-use crate::checks::limit::{Limit, Limited};
 use crate::checks::lines::Lines;
+use crate::checks::occurrence_rule::{OccurrenceCheck, OccurrenceRule};
 use crate::checks::singular::Singular;
 use crate::field_types::types::Types;
 use crate::rules::Rules;
@@ -16,9 +16,9 @@ use std::ops::Range;
 #[derive(Drop)]
 pub(crate) struct Checker<'r, 't> {
     pub key: Key<'r, 't>,
-    pub mandatory: Limited<'r>,
-    pub prohibited: Limited<'r>,
-    pub unique: Limited<'r>,
+    pub mandatory: OccurrenceCheck<'r>,
+    pub prohibited: OccurrenceCheck<'r>,
+    pub unique: OccurrenceCheck<'r>,
     pub singular: Singular<'r, 't>,
     pub allowed: Allowed<'r>,
     pub types: Types<'r>,
@@ -43,9 +43,9 @@ impl<'r, 't> Checker<'r, 't> {
     {
         Ok(Checker {
             key: Key::of(alloc, &rules.key),
-            mandatory: Limited::of(alloc, Limit::Present, &rules.mandatory)?,
-            prohibited: Limited::of(alloc, Limit::Absent, &rules.prohibited)?,
-            unique: Limited::of(alloc, Limit::Single, &rules.unique)?,
+            mandatory: OccurrenceCheck::of(alloc, OccurrenceRule::Present, &rules.mandatory)?,
+            prohibited: OccurrenceCheck::of(alloc, OccurrenceRule::Absent, &rules.prohibited)?,
+            unique: OccurrenceCheck::of(alloc, OccurrenceRule::Single, &rules.unique)?,
             singular: Singular::of(alloc, &rules.singular)?,
             allowed: Allowed::of(alloc, rules)?,
             types: Types::of(alloc, rules)?,

@@ -53,12 +53,12 @@ impl<'r, 't> Key<'r, 't> {
     ghost use Rattle.rec_text.specs.Elements.{Piece};
     ghost use Rattle.rec_text.specs.Places.{pieces_of};
     ghost use Rattle.rec_text.specs.Values.{bytes_of};
-    ghost use Rattle.rec_check.specs.proving.Keys.{has_taken, IsAfter};
+    ghost use Rattle.rec_check.specs.proving.Keys.{has_taken, IsKeyAfter};
     ghost use Rattle.rec_check.specs.Violations.{breaks_key, key_of, violations_of};
 
     pub(crate) fn of(alloc: Global, name: &'r Option<Bytes>) -> Key<'r, 't>
         ensures name { result.name.now ≡ name.now }
-        ensures after { IsAfter result [] }
+        ensures after { IsKeyAfter result [] }
     {
         Key {
             name,
@@ -103,12 +103,12 @@ impl<'r, 't> Key<'r, 't> {
         fields: &[Element<'t>],
         found: &mut Vec<Violation>,
     ) -> Result<(), Fault>
-        ensures added { (earlier : List (List Piece)) → IsAfter self.old earlier
+        ensures added { (earlier : List (List Piece)) → IsKeyAfter self.old earlier
             → OnOk result (found.new.items ≡ found.old.items
             ++ violations_of line Rule.Key
             (filter (breaks_key earlier (pieces_of fields.now)) (option_to_list self.old.name.now))) }
-        ensures after { (earlier : List (List Piece)) → IsAfter self.old earlier
-            → OnOk result (IsAfter self.new (earlier ++ pieces_of fields.now ∷ [])) }
+        ensures after { (earlier : List (List Piece)) → IsKeyAfter self.old earlier
+            → OnOk result (IsKeyAfter self.new (earlier ++ pieces_of fields.now ∷ [])) }
         ensures name { self.new.name ≡ self.old.name }
         ensures refusals { IsOkUnless result Fault.OutOfMemory }
     {

@@ -73,7 +73,7 @@ impl<'n> Names<'n> {
         Ok(kept)
     }
 
-    /// Adds a name behind the others, where it isn't among them.
+    /// Adds a name after the others, where it isn't among them.
     pub(crate) fn add(&mut self, name: &'n [u8]) -> Result<(), AllocError>
         ensures { OnOk result (self.new ≡ distinct (self.old ++ name.now ∷ [])) }
     {

@@ -8,7 +8,7 @@ ghost use Rattle.rec_check.specs.Descriptors.{meets};
 ghost use Rattle.rec_check.specs.Schemas.{IsSchema};
 ghost use Rattle.rec_check.specs.Stored.{rules_stored};
 ghost use Rattle.rec_check.specs.Violations.{AreViolations, breaks_size, head_violations, line_at, violation};
-ghost use Rattle.rec_check.specs.Walking.{AreWithin, IsNext};
+ghost use Rattle.rec_check.specs.Walking.{AreWithin, IsNextSet};
 
 use crate::checks::checker::Checker;
 use crate::checks::found::add_violation;
@@ -21,7 +21,7 @@ use rec_text::{Database, Fault, Rule, Violation};
 use std::alloc::Global;
 use std::ops::Range;
 
-/// Whether so many records are as many as is asked.
+/// Whether n records are the number that is asked for.
 fn is_met(bound: &Bound, count: u64) -> bool
     ensures { result ≡ meets bound.now count }
 {
@@ -83,7 +83,7 @@ fn check_head(
     found: &mut Vec<Violation>,
 ) -> Result<(), Fault>
     requires ruled { set.now.head ≡ None → rules.now.size ≡ None }
-    requires next { IsNext lines.old.passed records.now set.now }
+    requires next { IsNextSet lines.old.passed records.now set.now }
     requires within { AreWithin (length lines.old.elements.now) records.now }
     ensures added { OnOk result (found.new.items ≡ found.old.items
         ++ head_violations (pieces_of lines.old.elements.now) records.now (rules_stored rules.now) set.now) }
@@ -130,7 +130,7 @@ fn check_set<'t>(
     found: &mut Vec<Violation>,
 ) -> Result<(), Fault>
     requires ruled { set.now.head ≡ None → rules.now.size ≡ None }
-    requires next { IsNext lines.old.passed records.now set.now }
+    requires next { IsNextSet lines.old.passed records.now set.now }
     requires within { AreWithin (length lines.old.elements.now) records.now }
     ensures added { OnOk result (AddsOfSet (pieces_of lines.old.elements.now) records.now set.now
         (rules_stored rules.now) found.old.items found.new.items) }

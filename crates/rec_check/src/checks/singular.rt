@@ -25,13 +25,13 @@ impl<'r, 't> Singular<'r, 't> {
     ghost use Rattle.rec_text.specs.Places.{piece_of, pieces_of};
     ghost use Rattle.rec_text.specs.Values.{value_of};
     ghost use Rattle.rec_sex.specs.Meaning.{values_of};
-    ghost use Rattle.rec_check.specs.proving.Met.{places_of};
-    ghost use Rattle.rec_check.specs.proving.Singulars.{IsAfter, has_seen, is_repeat};
+    ghost use Rattle.rec_check.specs.proving.NamesSeen.{places_of};
+    ghost use Rattle.rec_check.specs.proving.Singulars.{IsSingularAfter, has_seen, is_repeat};
     ghost use Rattle.rec_check.specs.Violations.{breaks_singular, violations_of};
     ghost use Rattle.rec_check.specs.Words.{distinct, is_among};
 
     pub(crate) fn of(alloc: Global, names: &'r [Bytes]) -> Result<Singular<'r, 't>, Fault>
-        ensures after { IfOk result (λ singular. IsAfter names.now [] singular) }
+        ensures after { IfOk result (λ singular. IsSingularAfter names.now [] singular) }
         ensures refusals { IsOkUnless result Fault.OutOfMemory }
     {
         Ok(Singular {
@@ -115,12 +115,12 @@ impl<'r, 't> Singular<'r, 't> {
         fields: &[Element<'t>],
         found: &mut Vec<Violation>,
     ) -> Result<(), Fault>
-        ensures added { (names : List (List ℕ)) (earlier : List (List Piece)) → IsAfter names earlier self.old
+        ensures added { (names : List (List ℕ)) (earlier : List (List Piece)) → IsSingularAfter names earlier self.old
             → OnOk result (found.new.items ≡ found.old.items
             ++ violations_of line Rule.Singular
             (filter (breaks_singular earlier (pieces_of fields.now)) (distinct names))) }
-        ensures after { (names : List (List ℕ)) (earlier : List (List Piece)) → IsAfter names earlier self.old
-            → OnOk result (IsAfter names (earlier ++ pieces_of fields.now ∷ []) self.new) }
+        ensures after { (names : List (List ℕ)) (earlier : List (List Piece)) → IsSingularAfter names earlier self.old
+            → OnOk result (IsSingularAfter names (earlier ++ pieces_of fields.now ∷ []) self.new) }
         ensures refusals { IsOkUnless result Fault.OutOfMemory }
     {
         if self.names.as_slice().is_empty() {

@@ -27,8 +27,8 @@ fn names_kind(field: &Element) -> bool
 fn second_word(text: &[u8]) -> Option<&[u8]>
     ensures { option_map (λ word. word.now) result ≡ slice_get (words text.now) 1 }
 {
-    let (_, behind) = split_word(text)?;
-    let (word, _) = split_word(behind)?;
+    let (_, following) = split_word(text)?;
+    let (word, _) = split_word(following)?;
     Some(word)
 }
 

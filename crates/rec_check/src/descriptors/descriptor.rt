@@ -28,7 +28,7 @@ use std::alloc::Global;
 #[derive(Drop)]
 pub(crate) struct Descriptor {
     /// The type of the set.
-    pub kind: Option<Bytes>,
+    pub record_type: Option<Bytes>,
     pub rules: Rules,
     /// The patterns built for its types, of use only while it is read.
     pub patterns: Patterns,
@@ -50,23 +50,23 @@ pub(crate) fn is_descriptor(fields: &[Element]) -> bool
 /// Takes the type that a `%rec` field names, where these are named before.
 fn add_type(
     alloc: Global,
-    kind: &mut Option<Bytes>,
+    record_type: &mut Option<Bytes>,
     types: &TypeNames,
     value: &[u8],
 ) -> Result<(), Refusal>
-    ensures { Answers (rec_flaw (is_some kind.old) types.now (words value.now))
-        (kind.new ≡ Some (first_word (words value.now))) ⊥ result }
+    ensures { Answers (rec_flaw (is_some record_type.old) types.now (words value.now))
+        (record_type.new ≡ Some (first_word (words value.now))) ⊥ result }
 {
     let Some((word, source)) = split_word(value) else {
         return Err(Refusal::Bad);
     };
-    if kind.is_some() || !is_plain_name(word) || types.contains(word) {
+    if record_type.is_some() || !is_plain_name(word) || types.contains(word) {
         return Err(Refusal::Bad);
     }
     if split_word(source).is_some() {
         return Err(Refusal::Unsupported);
     }
-    *kind = Some(Bytes::copy_of(alloc, word)?);
+    *record_type = Some(Bytes::copy_of(alloc, word)?);
     Ok(())
 }
 
@@ -75,10 +75,10 @@ fn add_key(alloc: Global, key: &mut Option<Bytes>, value: &[u8]) -> Result<(), R
     ensures { Answers (special_flaw Special.Key (is_some key.old) [] value.now)
         (key.new ≡ slice_get (words value.now) 0) ⊥ result }
 {
-    let Some((name, behind)) = split_word(value) else {
+    let Some((name, following)) = split_word(value) else {
         return Err(Refusal::Bad);
     };
-    if key.is_some() || !is_field_name(name) || split_word(behind).is_some() {
+    if key.is_some() || !is_field_name(name) || split_word(following).is_some() {
         return Err(Refusal::Bad);
     }
     *key = Some(Bytes::copy_of(alloc, name)?);
@@ -91,12 +91,12 @@ fn add_names(alloc: Global, names: &mut Vec<Bytes>, value: &[u8]) -> Result<(), 
         (names.new.items ≡ names.old.items ++ words value.now) ⊥ result }
 {
     let mut rest = value;
-    while let Some((name, behind)) = split_word(rest) {
+    while let Some((name, following)) = split_word(rest) {
         if !is_field_name(name) {
             return Err(Refusal::Bad);
         }
         names.push(Bytes::copy_of(alloc, name)?)?;
-        rest = behind;
+        rest = following;
     }
     Ok(())
 }
@@ -123,7 +123,7 @@ fn add_typing(
     types: &mut Vec<Typing>,
     value: &[u8],
 ) -> Result<(), Refusal>
-    ensures { Answers (special_flaw Special.Type_ false [] value.now)
+    ensures { Answers (special_flaw Special.Typed false [] value.now)
         (AddsTyping value.now types.old.items types.new.items)
         (TypeMayBeRefused value.now) result }
 {
@@ -199,13 +199,13 @@ impl Descriptor {
         ensures { said result ≡ bare }
     {
         Descriptor {
-            kind: None,
+            record_type: None,
             rules: Rules::none(alloc),
             patterns: Patterns::new(alloc),
         }
     }
 
-    /// Takes what a field of this kind says.
+    /// Takes what a field of this name says.
     fn add(
         &mut self,
         alloc: Global,
@@ -218,7 +218,7 @@ impl Descriptor {
     {
         let patterns = &mut self.patterns;
         match special {
-            Special::Rec => add_type(alloc, &mut self.kind, types, value),
+            Special::Rec => add_type(alloc, &mut self.record_type, types, value),
             Special::Key => add_key(alloc, &mut self.rules.key, value),
             Special::Mandatory => add_names(alloc, &mut self.rules.mandatory, value),
             Special::Prohibit => add_names(alloc, &mut self.rules.prohibited, value),
@@ -226,7 +226,7 @@ impl Descriptor {
             Special::Singular => add_names(alloc, &mut self.rules.singular, value),
             Special::Allowed => add_allowed(alloc, &mut self.rules.allowed, value),
             Special::Auto => add_names(alloc, &mut self.rules.automatic, value),
-            Special::Type_ => add_typing(alloc, patterns, &mut self.rules.types, value),
+            Special::Typed => add_typing(alloc, patterns, &mut self.rules.types, value),
             Special::Typedef => add_definition(alloc, patterns, &mut self.rules.definitions, value),
             Special::Size => add_bound(&mut self.rules.size, value),
             Special::Constraint => add_constraint(alloc, &mut self.rules.constraints, value),

@@ -12,7 +12,7 @@ use std::alloc::{AllocError, Global};
 pub(crate) struct Draft {
     pub sets: Vec<Set_>,
     pub rules: Vec<Rules>,
-    /// The types of the sets behind the untyped one.
+    /// The types of the sets after the untyped one.
     pub types: TypeNames,
 }
 
@@ -66,12 +66,16 @@ impl Draft {
             return Ok(());
         }
         let descriptor = Descriptor::read(alloc, database, fields, &self.types)?;
-        let Descriptor { kind, rules, .. } = descriptor;
-        if let Some(kind) = &kind {
-            self.types.add(alloc, kind.as_slice())?;
+        let Descriptor {
+            record_type,
+            rules,
+            ..
+        } = descriptor;
+        if let Some(record_type) = &record_type {
+            self.types.add(alloc, record_type.as_slice())?;
         }
         self.rules.push(rules)?;
-        add_record(&mut self.sets, index, kind)?;
+        add_record(&mut self.sets, index, record_type)?;
         Ok(())
     }
 }

@@ -24,7 +24,7 @@ pub(crate) enum Special {
     /// `%auto`: counters.
     Auto,
     /// `%type`: the type of some fields.
-    Type_,
+    Typed,
     /// `%typedef`: what a kind of types means.
     Typedef,
     /// `%size`: how many records there are.
@@ -73,7 +73,7 @@ pub(crate) fn special_of(name: &[u8]) -> Option<Special>
     } else if name == b"%auto".as_slice() {
         Some(Special::Auto)
     } else if name == b"%type".as_slice() {
-        Some(Special::Type_)
+        Some(Special::Typed)
     } else if name == b"%typedef".as_slice() {
         Some(Special::Typedef)
     } else if name == b"%size".as_slice() {
@@ -87,16 +87,16 @@ pub(crate) fn special_of(name: &[u8]) -> Option<Special>
     }
 }
 
-/// The operator that comes first, and what stands behind it.
+/// The operator that comes first, and what follows it.
 fn split_comparison(value: &[u8]) -> (Comparison, &[u8])
     ensures comparison { result.0 ≡ comparison_in value.now }
-    ensures behind { result.1.now ≡ drop (width_of (comparison_in value.now)) value.now }
+    ensures following { result.1.now ≡ drop (width_of (comparison_in value.now)) value.now }
 {
     match value {
-        [b'<', b'=', behind @ ..] => (Comparison::AtMost, behind),
-        [b'<', behind @ ..] => (Comparison::Less, behind),
-        [b'>', b'=', behind @ ..] => (Comparison::AtLeast, behind),
-        [b'>', behind @ ..] => (Comparison::Greater, behind),
+        [b'<', b'=', following @ ..] => (Comparison::AtMost, following),
+        [b'<', following @ ..] => (Comparison::Less, following),
+        [b'>', b'=', following @ ..] => (Comparison::AtLeast, following),
+        [b'>', following @ ..] => (Comparison::Greater, following),
         _ => (Comparison::Exactly, value),
     }
 }
@@ -105,7 +105,7 @@ fn split_comparison(value: &[u8]) -> (Comparison, &[u8])
 pub(crate) fn bound_in(value: &[u8]) -> Option<Bound>
     ensures { result ≡ bound_in value.now }
 {
-    let (comparison, behind) = split_comparison(value);
-    let number = natural_of(behind)?;
+    let (comparison, following) = split_comparison(value);
+    let number = natural_of(following)?;
     Some(Bound { comparison, number })
 }

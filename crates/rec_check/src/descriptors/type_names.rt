@@ -43,7 +43,7 @@ impl TypeNames {
         self.names.get_index_of(name)
     }
 
-    /// Adds a type behind the others.
+    /// Adds a type after the others.
     pub(crate) fn add(&mut self, alloc: Global, name: &[u8]) -> Result<(), AllocError>
         requires { is_among self.old name.now ≡ false }
         ensures { OnOk result (self.new ≡ self.old ++ name.now ∷ []) }

@@ -32,7 +32,7 @@ fn are_names(names: &[Bytes]) -> bool
     names.iter().all(|name| is_field_name(name.as_slice()))
 }
 
-/// The kind that comes first, and its type, with the words of it that stand behind.
+/// The kind that comes first, and its type, with the words of it that stand after.
 fn kind_in(
     alloc: Global,
     patterns: &mut Patterns,
@@ -40,11 +40,11 @@ fn kind_in(
 ) -> Result<(Bytes, FieldType), Refusal>
     ensures { IsKindIn text.now result }
 {
-    let Some((kind, behind)) = split_word(text) else {
+    let Some((kind, following)) = split_word(text) else {
         return Err(Refusal::Bad);
     };
-    let type_ = type_of_kind(alloc, patterns, kind, behind)?;
-    Ok((Bytes::copy_of(alloc, kind)?, type_))
+    let value_type = type_of_kind(alloc, patterns, kind, following)?;
+    Ok((Bytes::copy_of(alloc, kind)?, value_type))
 }
 
 /// The names, the kind and the type that the value of a `%type` field gives.
@@ -59,15 +59,19 @@ pub(crate) fn typing_in(
     ensures refusals { IfErr result (λ refusal. (refusal ≡ Refusal.Bad)
         ⊎ ((refusal ≡ Refusal.Pattern) ⊎ (refusal ≡ Refusal.OutOfMemory))) }
 {
-    let Some((joined, behind)) = split_word(value) else {
+    let Some((joined, following)) = split_word(value) else {
         return Err(Refusal::Bad);
     };
     let names = split_names(alloc, joined)?;
     if !are_names(&names) {
         return Err(Refusal::Bad);
     }
-    let (kind, type_) = kind_in(alloc, patterns, behind)?;
-    Ok(Typing { names, kind, type_ })
+    let (kind, value_type) = kind_in(alloc, patterns, following)?;
+    Ok(Typing {
+        names,
+        kind,
+        value_type,
+    })
 }
 
 /// The name, the kind and the type that the value of a `%typedef` field gives.
@@ -82,13 +86,17 @@ pub(crate) fn definition_in(
     ensures refusals { IfErr result (λ refusal. (refusal ≡ Refusal.Bad)
         ⊎ ((refusal ≡ Refusal.Pattern) ⊎ (refusal ≡ Refusal.OutOfMemory))) }
 {
-    let Some((name, behind)) = split_word(value) else {
+    let Some((name, following)) = split_word(value) else {
         return Err(Refusal::Bad);
     };
     if !is_plain_name(name) {
         return Err(Refusal::Bad);
     }
-    let (kind, type_) = kind_in(alloc, patterns, behind)?;
+    let (kind, value_type) = kind_in(alloc, patterns, following)?;
     let name = Bytes::copy_of(alloc, name)?;
-    Ok(Definition { name, kind, type_ })
+    Ok(Definition {
+        name,
+        kind,
+        value_type,
+    })
 }

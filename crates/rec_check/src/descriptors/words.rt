@@ -1,6 +1,6 @@
 //! Words of a value.
 ghost use Rattle.std.specs.Prelude.{◌≡◌, ◌∷◌, [], IfOk, MatchOption};
-ghost use Rattle.rec_check.specs.Words.{words, stripped, behind_first_word};
+ghost use Rattle.rec_check.specs.Words.{words, stripped, after_first_word};
 
 use rec_text::Bytes;
 use rec_text::Space::BlankOrNewline;
@@ -13,10 +13,10 @@ pub(crate) fn strip(text: &[u8]) -> &[u8]
     BlankOrNewline.trim(text)
 }
 
-/// The first word of a text, and what stands behind it.
+/// The first word of a text, and what follows it.
 pub(crate) fn split_word(text: &[u8]) -> Option<(&[u8], &[u8])>
-    ensures { MatchOption result (words text.now ≡ []) (λ (word, behind). (words text.now ≡ word.now ∷ words behind.now)
-        × (behind.now ≡ behind_first_word text.now)) }
+    ensures { MatchOption result (words text.now ≡ []) (λ (word, following). (words text.now ≡ word.now ∷ words following.now)
+        × (following.now ≡ after_first_word text.now)) }
 {
     let found = BlankOrNewline.trim_start(text);
     if found.is_empty() {
@@ -35,9 +35,9 @@ pub(crate) fn words_of(alloc: Global, text: &[u8]) -> Result<Vec<Bytes>, AllocEr
 {
     let mut found = Vec::new(alloc);
     let mut rest = text;
-    while let Some((word, behind)) = split_word(rest) {
+    while let Some((word, following)) = split_word(rest) {
         found.push(Bytes::copy_of(alloc, word)?)?;
-        rest = behind;
+        rest = following;
     }
     Ok(found)
 }

@@ -11,5 +11,5 @@ pub(crate) struct Definition {
     /// The kind that this means, as it is written.
     pub kind: Bytes,
     /// The type that is written; any text where the kind is no known one.
-    pub type_: FieldType,
+    pub value_type: FieldType,
 }

@@ -39,7 +39,7 @@ fn are_items(found: &[Bytes]) -> bool
     found.iter().all(|word| is_item(word.as_slice()))
 }
 
-/// The text with a blank in the place of each comment, if none stays open.
+/// The text with a blank instead of each comment, if none stays open.
 fn without_comments(alloc: Global, text: &[u8]) -> Result<Option<Vec<u8>>, AllocError>
     ensures { IfOk result (λ kept. option_map (λ bytes. bytes.items) kept ≡ without_comments text.now) }
 {

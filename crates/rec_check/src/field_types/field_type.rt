@@ -13,7 +13,7 @@ pub(crate) enum FieldType {
     Range(i64, i64),
     /// A text without a newline.
     Line,
-    /// A text of at most so many characters.
+    /// A text of at most n characters.
     Size(u64),
     /// A truth value, such as `yes`.
     Truth,
@@ -31,5 +31,5 @@ pub(crate) struct Typing {
     pub names: Vec<Bytes>,
     /// The kind, as it is written.
     pub kind: Bytes,
-    pub type_: FieldType,
+    pub value_type: FieldType,
 }

@@ -2,7 +2,7 @@
 ghost use Rattle.std.specs.Prelude.{◌≡◌, ℕ, List, Some, None, MatchOption};
 ghost use Rattle.rec_check.specs.proving.Kinds.{IsTypeOf};
 ghost use Rattle.rec_check.specs.Stored.{type_stored};
-ghost use Rattle.rec_check.specs.Types.{FieldType as WrittenType, range, size, natural_of, alone, bound_of, range_of, size_type_of, type_of_kind, IsBuilt};
+ghost use Rattle.rec_check.specs.Types.{FieldType as WrittenType, range, size, natural_of, alone, bound_of, range_of, size_type_of, type_of_known, type_of_kind, IsBuilt};
 ghost use Rattle.rec_check.specs.Words.{words};
 
 use crate::descriptors::patterns::Patterns;
@@ -10,6 +10,7 @@ use crate::descriptors::refusal::Refusal;
 use crate::descriptors::words::split_word;
 use crate::field_types::enumeration::enum_type;
 use crate::field_types::field_type::FieldType;
+use crate::field_types::known_kind::KnownKind;
 use crate::field_types::regexp::regexp_type;
 use rec_sex::int_of;
 use std::alloc::Global;
@@ -39,11 +40,11 @@ fn ends_in(text: &[u8]) -> Option<(i64, i64)>
     ensures { MatchOption result (range_of (words text.now) ≡ None)
         (λ (least, greatest). range_of (words text.now) ≡ Some (range least greatest)) }
 {
-    let (first, behind) = split_word(text)?;
-    let Some((second, behind)) = split_word(behind) else {
+    let (first, following) = split_word(text)?;
+    let Some((second, following)) = split_word(following) else {
         return Some((0, bound_of(first)?));
     };
-    if split_word(behind).is_some() {
+    if split_word(following).is_some() {
         return None;
     }
     Some((bound_of(first)?, bound_of(second)?))
@@ -54,22 +55,22 @@ fn number_in(text: &[u8]) -> Option<u64>
     ensures { MatchOption result (size_type_of (words text.now) ≡ None)
         (λ most. size_type_of (words text.now) ≡ Some (size most)) }
 {
-    let (number, behind) = split_word(text)?;
-    if split_word(behind).is_some() {
+    let (number, following) = split_word(text)?;
+    if split_word(following).is_some() {
         return None;
     }
     natural_of(number)
 }
 
 /// A type without words of its own.
-fn alone(text: &[u8], type_: FieldType) -> Result<FieldType, Refusal>
-    ensures { (written : WrittenType (List ℕ)) → IsBuilt written (type_stored type_)
+fn alone(text: &[u8], value_type: FieldType) -> Result<FieldType, Refusal>
+    ensures { (written : WrittenType (List ℕ)) → IsBuilt written (type_stored value_type)
         → IsTypeOf (alone (words text.now) written) result }
 {
     if split_word(text).is_some() {
         return Err(Refusal::Bad);
     }
-    Ok(type_)
+    Ok(value_type)
 }
 
 fn range_type(text: &[u8]) -> Result<FieldType, Refusal>
@@ -90,7 +91,28 @@ fn size_type(text: &[u8]) -> Result<FieldType, Refusal>
     }
 }
 
-/// The type of a kind, with what stands behind the kind.
+/// The type of a known kind, with what stands after its word.
+fn type_of_known(
+    alloc: Global,
+    patterns: &mut Patterns,
+    kind: KnownKind,
+    text: &[u8],
+) -> Result<FieldType, Refusal>
+    ensures { IsTypeOf (type_of_known kind text.now) result }
+{
+    match kind {
+        KnownKind::Integer => alone(text, FieldType::Integer),
+        KnownKind::Range => range_type(text),
+        KnownKind::Line => alone(text, FieldType::Line),
+        KnownKind::Size => size_type(text),
+        KnownKind::Truth => alone(text, FieldType::Truth),
+        KnownKind::Enum => enum_type(alloc, text),
+        KnownKind::Regexp => regexp_type(alloc, patterns, text),
+        KnownKind::Unchecked => Ok(FieldType::Unchecked),
+    }
+}
+
+/// The type of a kind, with what stands after the kind.
 pub(crate) fn type_of_kind(
     alloc: Global,
     patterns: &mut Patterns,
@@ -99,21 +121,8 @@ pub(crate) fn type_of_kind(
 ) -> Result<FieldType, Refusal>
     ensures { IsTypeOf (type_of_kind kind.now text.now) result }
 {
-    if kind == b"int".as_slice() {
-        alone(text, FieldType::Integer)
-    } else if kind == b"range".as_slice() {
-        range_type(text)
-    } else if kind == b"line".as_slice() {
-        alone(text, FieldType::Line)
-    } else if kind == b"size".as_slice() {
-        size_type(text)
-    } else if kind == b"bool".as_slice() {
-        alone(text, FieldType::Truth)
-    } else if kind == b"enum".as_slice() {
-        enum_type(alloc, text)
-    } else if kind == b"regexp".as_slice() {
-        regexp_type(alloc, patterns, text)
-    } else {
-        Ok(FieldType::Unchecked)
+    match KnownKind::of(kind) {
+        Some(known) => type_of_known(alloc, patterns, known, text),
+        None => Ok(FieldType::Unchecked),
     }
 }

@@ -13,8 +13,8 @@ use std::alloc::Global;
 fn pattern_in(text: &[u8]) -> Option<&[u8]>
     ensures { option_map (λ pattern. pattern.now) result ≡ pattern_in text.now }
 {
-    let (first, behind) = text.split_first()?;
-    let (last, pattern) = behind.split_last()?;
+    let (first, following) = text.split_first()?;
+    let (last, pattern) = following.split_last()?;
     if first == last { Some(pattern) } else { None }
 }
 

@@ -1,14 +1,14 @@
 //! The types that kinds mean within a descriptor, by the definitions of that.
 ghost use Rattle.std.specs.Prelude.{◌≡◌, ℕ, List, [], None, map, IfOk, OnOk};
 ghost use Rattle.rec_check.specs.proving.Fitting.{place_of};
-ghost use Rattle.rec_check.specs.proving.Resolved.{AreLastPlaces, AreRight, AreAtWork, AreSettledAt, AreWithin, IsRight, StaySettled, open_at, settled_at};
-ghost use Rattle.rec_check.specs.Resolving.{checked_kinds, unchecked_kinds, is_known_kind as is_known};
+ghost use Rattle.rec_check.specs.proving.Resolved.{AreLastPlaces, AreRight, AreAtWork, AreSettledAt, ArePlacesWithin, IsRight, StaySettled, open_at, settled_at};
+ghost use Rattle.rec_check.specs.Resolving.{is_known_kind as is_known};
 ghost use Rattle.rec_check.specs.Stored.{definition_stored};
 ghost use Rattle.rec_check.specs.Types.{Definition as OneDefinition};
-ghost use Rattle.rec_check.specs.Words.{is_among};
 
 use crate::field_types::definition::Definition;
 use crate::field_types::field_type::FieldType;
+use crate::field_types::known_kind::KnownKind;
 use std::alloc::{AllocError, Global};
 use std::collections::HashMap;
 
@@ -21,35 +21,12 @@ pub(crate) enum Meaning<'r> {
     Settled(Option<&'r FieldType>),
 }
 
-fn is_checked_kind(kind: &[u8]) -> bool
-    ensures { result ≡ is_among checked_kinds kind.now }
-{
-    kind == b"int".as_slice()
-        || kind == b"range".as_slice()
-        || kind == b"line".as_slice()
-        || kind == b"size".as_slice()
-        || kind == b"bool".as_slice()
-        || kind == b"enum".as_slice()
-        || kind == b"regexp".as_slice()
-}
-
-fn is_unchecked_kind(kind: &[u8]) -> bool
-    ensures { result ≡ is_among unchecked_kinds kind.now }
-{
-    kind == b"real".as_slice()
-        || kind == b"date".as_slice()
-        || kind == b"email".as_slice()
-        || kind == b"uuid".as_slice()
-        || kind == b"field".as_slice()
-        || kind == b"rec".as_slice()
-}
-
 /// Whether a kind needs no definition.
 #[tactic(auto, unfolding(crate::specs::Resolving::is_known_kind))]
 fn is_known_kind(kind: &[u8]) -> bool
     ensures { result ≡ is_known kind.now }
 {
-    is_checked_kind(kind) || is_unchecked_kind(kind)
+    KnownKind::of(kind).is_some()
 }
 
 /// The place of the last definition of each name.
@@ -73,7 +50,7 @@ fn first_meaning<'r>(places: &HashMap<&'r [u8], usize>, definition: &'r Definiti
 {
     let kind = definition.kind.as_slice();
     if is_known_kind(kind) {
-        return Meaning::Settled(Some(&definition.type_));
+        return Meaning::Settled(Some(&definition.value_type));
     }
     match places.get(kind) {
         Some(place) => Meaning::SameAs(*place),
@@ -101,7 +78,7 @@ fn settled_at<'r>(meanings: &[Meaning<'r>], place: usize) -> Option<&'r FieldTyp
     ensures { result ≡ settled_at meanings.now place }
 {
     match meanings.get(place) {
-        Some(Meaning::Settled(type_)) => *type_,
+        Some(Meaning::Settled(value_type)) => *value_type,
         _ => None,
     }
 }
@@ -129,7 +106,7 @@ fn follow(
     ensures end { IfOk result (λ end. open_at meanings.new end ≡ None) }
     ensures start { OnOk result (open_at meanings.new start ≡ None) }
     ensures settled { OnOk result (StaySettled meanings.old meanings.new) }
-    ensures within { OnOk result (AreWithin passed.new.items meanings.new) }
+    ensures within { OnOk result (ArePlacesWithin passed.new.items meanings.new) }
 {
     let mut at = start;
     while let Some(next) = next_of(meanings, at) {
@@ -141,12 +118,12 @@ fn follow(
 }
 
 /// Settles the meanings at some places.
-fn settle<'r>(meanings: &mut [Meaning<'r>], places: &[usize], type_: Option<&'r FieldType>)
-    requires { AreWithin places.now meanings.old }
-    ensures { AreSettledAt places.now type_.entry meanings.old meanings.new }
+fn settle<'r>(meanings: &mut [Meaning<'r>], places: &[usize], value_type: Option<&'r FieldType>)
+    requires { ArePlacesWithin places.now meanings.old }
+    ensures { AreSettledAt places.now value_type.entry meanings.old meanings.new }
 {
     for place in places {
-        meanings[*place] = Meaning::Settled(type_);
+        meanings[*place] = Meaning::Settled(value_type);
     }
 }
 
@@ -159,8 +136,8 @@ fn resolve(alloc: Global, meanings: &mut [Meaning], start: usize) -> Result<(), 
 {
     let mut passed = Vec::new(alloc);
     let end = follow(meanings, start, &mut passed)?;
-    let type_ = settled_at(meanings, end);
-    settle(meanings, &passed, type_);
+    let value_type = settled_at(meanings, end);
+    settle(meanings, &passed, value_type);
     Ok(())
 }
 
@@ -188,7 +165,7 @@ pub(crate) struct Resolver<'r> {
 impl<'r> Resolver<'r> {
     ghost use Rattle.std.specs.Prelude.{◌≡◌, ℕ, List, map, option_map, IfOk};
     ghost use Rattle.regex.specs.Patterns.{Re};
-    ghost use Rattle.rec_check.specs.Meanings.{meaning_in};
+    ghost use Rattle.rec_check.specs.proving.Meanings.{meaning_in};
     ghost use Rattle.rec_check.specs.proving.Resolved.{meaning_by, resolved_by};
     ghost use Rattle.rec_check.specs.Stored.{definition_stored, type_stored};
     ghost use Rattle.rec_check.specs.Types.{FieldType as OneType};
@@ -209,7 +186,7 @@ impl<'r> Resolver<'r> {
 
     /// The type that a kind means, which has a type of its own; none where the kind isn't resolved.
     pub(crate) fn meaning_of(&self, kind: &[u8], own: &'r FieldType) -> Option<&'r FieldType>
-        ensures { option_map (λ type_. type_stored type_.now) result
+        ensures { option_map (λ value_type. type_stored value_type.now) result
             ≡ meaning_by self.now kind.now (type_stored own.now) }
     {
         if is_known_kind(kind) {

@@ -59,11 +59,11 @@ fn is_truth(word: &[u8]) -> bool
 }
 
 /// Whether a value fits a type that has no pattern.
-fn fits_plainly(type_: &FieldType, value: &[u8]) -> bool
-    requires { is_plain type_.now ≡ true }
-    ensures { result ≡ fits (type_stored type_.now) value.now }
+fn fits_plainly(value_type: &FieldType, value: &[u8]) -> bool
+    requires { is_plain value_type.now ≡ true }
+    ensures { result ≡ fits (type_stored value_type.now) value.now }
 {
-    match type_ {
+    match value_type {
         FieldType::Integer => int_of(value).is_some(),
         FieldType::Range(least, greatest) => match int_of(value) {
             Some(integer) => lies_between(*least, *greatest, integer),
@@ -94,11 +94,11 @@ impl<'r> Test<'r> {
     ghost use Rattle.rec_check.specs.proving.Testing.{Serves};
     ghost use Rattle.rec_check.specs.Types.{fits};
 
-    pub(crate) fn of(alloc: Global, type_: &'r FieldType) -> Result<Test<'r>, Fault>
-        ensures serves { IfOk result (λ test. Serves test type_.now) }
+    pub(crate) fn of(alloc: Global, value_type: &'r FieldType) -> Result<Test<'r>, Fault>
+        ensures serves { IfOk result (λ test. Serves test value_type.now) }
         ensures refusals { IsOkUnless result Fault.OutOfMemory }
     {
-        match type_ {
+        match value_type {
             FieldType::OneOf(items) => {
                 if items.len() <= FEW {
                     return Ok(Test::Direct);
@@ -113,13 +113,13 @@ impl<'r> Test<'r> {
     }
 
     /// Whether a value fits the type that the test serves.
-    pub(crate) fn passes(&mut self, type_: &FieldType, value: &[u8]) -> bool
-        requires { Serves self.old type_.now }
-        ensures fits { result ≡ fits (type_stored type_.now) value.now }
-        ensures serves { Serves self.new type_.now }
+    pub(crate) fn passes(&mut self, value_type: &FieldType, value: &[u8]) -> bool
+        requires { Serves self.old value_type.now }
+        ensures fits { result ≡ fits (type_stored value_type.now) value.now }
+        ensures serves { Serves self.new value_type.now }
     {
         match self {
-            Test::Direct => fits_plainly(type_, value),
+            Test::Direct => fits_plainly(value_type, value),
             Test::Words(words) => words.contains(trimmed(value)),
             Test::Pattern(matcher) => is_found(matcher, value),
         }

@@ -1,13 +1,14 @@
 //! The types of the fields of a set.
 ghost use Rattle.std.specs.Prelude.{◌≡◌, ℕ, List, Some, if◌then◌else◌, map, slice_get, IfOk, OnOk, IsOkUnless};
-ghost use Rattle.rec_check.specs.proving.Fitting.{fails, place_of, tested};
+ghost use Rattle.rec_check.specs.proving.Fitting.{place_of, type_tested};
+ghost use Rattle.rec_check.specs.Violations.{fails};
 ghost use Rattle.rec_check.specs.Words.{is_among as among};
 
 use crate::checks::found::add_violation;
 use crate::checks::lines::Lines;
 use crate::field_types::field_type::Typing;
+use crate::field_types::optional_test::OptionalTest;
 use crate::field_types::resolution::Resolver;
-use crate::field_types::tested::Tested;
 use crate::rules::Rules;
 use rec_text::{Bytes, Element, Fault, Kind, Rule, Violation};
 use std::alloc::Global;
@@ -32,12 +33,12 @@ fn place_names<'n>(
 /// Whether a value doesn't fit the type at a place, if there is one.
 fn fails_at(
     alloc: Global,
-    tests: &mut [Tested<'_>],
+    tests: &mut [OptionalTest<'_>],
     place: usize,
     value: &[u8],
 ) -> Result<bool, Fault>
-    ensures fails { IfOk result (λ answer. answer ≡ fails (slice_get (map tested tests.old) place) value.now) }
-    ensures same { map tested tests.new ≡ map tested tests.old }
+    ensures fails { IfOk result (λ answer. answer ≡ fails (slice_get (map type_tested tests.old) place) value.now) }
+    ensures same { map type_tested tests.new ≡ map type_tested tests.old }
     ensures refusals { IsOkUnless result Fault.OutOfMemory }
 {
     if place >= tests.len() {
@@ -51,19 +52,18 @@ fn fails_at(
 pub(crate) struct Types<'r> {
     /// For each name the place of its type.
     pub places: HashMap<&'r [u8], usize>,
-    pub tests: Vec<Tested<'r>>,
+    pub tests: Vec<OptionalTest<'r>>,
 }
 
 impl<'r> Types<'r> {
-    ghost use Rattle.std.specs.Prelude.{◌≡◌, ◌+◌, ◌++◌, ◌≤◌, ℕ, List, length, map, IfOk, OnOk, IsOkUnless};
+    ghost use Rattle.std.specs.Prelude.{◌≡◌, ◌+◌, ◌++◌, ◌≤◌, ℕ, List, length, map, option_map, IfOk, OnOk, IsOkUnless};
     ghost use Rattle.rec_text.specs.Places.{piece_of, pieces_of};
     ghost use Rattle.rec_check.specs.Automatic.{may_count};
-    ghost use Rattle.rec_check.specs.proving.Fitting.{misfits, misfit_violations};
     ghost use Rattle.rec_check.specs.proving.Resolved.{meaning_by};
-    ghost use Rattle.rec_check.specs.Rules.{by_meaning, field_type};
+    ghost use Rattle.rec_check.specs.Rules.{field_type, type_by, typing_for};
     ghost use Rattle.rec_check.specs.proving.Tests.{type_in};
     ghost use Rattle.rec_check.specs.Stored.{rules_stored, typing_stored};
-    ghost use Rattle.rec_check.specs.Types.{type_for};
+    ghost use Rattle.rec_check.specs.Violations.{misfits, type_violations};
 
     /// Of two types for one field the later holds.
     pub(crate) fn of(alloc: Global, rules: &'r Rules) -> Result<Types<'r>, Fault>
@@ -82,15 +82,15 @@ impl<'r> Types<'r> {
         typings: &'r [Typing],
     ) -> Result<Types<'r>, Fault>
         ensures types { IfOk result (λ types. (name : List ℕ)
-            → type_in types name ≡ type_for
-            (map (by_meaning (meaning_by resolver.now)) (map typing_stored typings.now)) name) }
+            → type_in types name ≡ option_map (type_by (meaning_by resolver.now))
+            (typing_for (map typing_stored typings.now) name)) }
         ensures refusals { IsOkUnless result Fault.OutOfMemory }
     {
         let mut places = HashMap::new(alloc);
         let mut tests = Vec::with_capacity(alloc, typings.len())?;
         for (place, typing) in typings.iter().enumerate() {
-            let type_ = resolver.meaning_of(typing.kind.as_slice(), &typing.type_);
-            tests.push(Tested::of(type_))?;
+            let value_type = resolver.meaning_of(typing.kind.as_slice(), &typing.value_type);
+            tests.push(OptionalTest::of(value_type))?;
             place_names(&mut places, &typing.names, place)?;
         }
         Ok(Types { places, tests })
@@ -137,7 +137,7 @@ impl<'r> Types<'r> {
         requires forward { lines.old.passed ≤ start }
         requires within { start + length fields.now ≤ length lines.old.elements.now }
         ensures added { OnOk result (found.new.items ≡ found.old.items
-            ++ misfit_violations (pieces_of lines.old.elements.now) (type_in self.old) start
+            ++ type_violations (pieces_of lines.old.elements.now) (type_in self.old) start
             (pieces_of fields.now)) }
         ensures same { OnOk result ((name : List ℕ) → type_in self.new name ≡ type_in self.old name) }
         ensures passed { OnOk result (lines.new.passed ≤ start + length fields.now) }

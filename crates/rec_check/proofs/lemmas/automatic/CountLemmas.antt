@@ -88,7 +88,7 @@ readings_in-taken fields i d within name =
 pub readings-taken : (pieces : List Piece) (records : List (Range ℕ)) (i : ℕ) (d : Range ℕ) (own : List Piece) → i < length records → own ≡ elements_in pieces (get_or records i d) → (name : List ℕ)
     → readings pieces (take (i + 1) records) name ≡ readings pieces (take i records) name ++ readings_in name own
 readings-taken pieces records i d own within is name =
-    ap (λ rs. readings pieces rs name) (take_more records i d within) ∙ sym (flat_map_more (λ record_. readings_in name (elements_in pieces record_)) [] (take i records) (get_or records i d))
+    ap (λ rs. readings pieces rs name) (take_more records i d within) ∙ sym (flat_map_more (λ own_range. readings_in name (elements_in pieces own_range)) [] (take i records) (get_or records i d))
     ∙ ap (λ fields. readings pieces (take i records) name ++ readings_in name fields) (sym is)
 
 -- one name more that has no number

@@ -1,4 +1,4 @@
--- The greatest of some numbers, and the next number behind it.
+-- The greatest of some numbers, and the next number after it.
 use Rattle.std.proofs.Common.{◌≡◌, ◌∙◌, inl, inr, ℕ, zero, suc, ◌<◌, ℤ, Bool, true, false, List, [], ◌∷◌, ◌++◌, Option, Some, None, if◌then◌else◌, Result, Ok, Err, length, get_or, map, option_map, refl, ap, sym, subst, arith}
 use Rattle.std.proofs.lemmas.Int.{ints}
 use Rattle.std.proofs.lemmas.List.{length-map}
@@ -18,7 +18,7 @@ use Rattle.rec_sex.specs.Integers.{int_of}
 use Rattle.rec_check.specs.declared.set.Set_.{Set_}
 use Rattle.rec_check.specs.declared.rules.Rules.{Rules as StoredRules}
 use Rattle.rec_check.specs.Automatic.{IsGreatest, IsNext, IsAutomatic, is_counter, last_integer, readings}
-use Rattle.rec_check.specs.Counting.{greater, greatest_from, readings_in, IsBehind}
+use Rattle.rec_check.specs.Counting.{greater, greatest_from, readings_in, IsNextNumber}
 use Rattle.rec_check.specs.Counters.{AreMembersAt}
 use Rattle.rec_check.specs.Rules.{Rules}
 use Rattle.rec_check.specs.Schemas.{Described, IsDescribed, IsRuled}
@@ -36,15 +36,15 @@ Contains-later x y xs (k, within, at) = (suc k, omega arith, at)
 abbrev IsTop : List ℤ → ℤ → Type 0
 IsTop numbers top = Contains numbers top × AllByRecursion (λ z. int_lt top z ≡ false) numbers
 
-behind_first : (x y top : ℤ) (xs : List ℤ) → Contains (x ∷ xs) top → Contains (x ∷ y ∷ xs) top
-behind_first x y top xs (zero, within, at) = (0, omega arith, at)
-behind_first x y top xs (suc k, within, at) = (suc (suc k), omega arith, at)
+after_first : (x y top : ℤ) (xs : List ℤ) → Contains (x ∷ xs) top → Contains (x ∷ y ∷ xs) top
+after_first x y top xs (zero, within, at) = (0, omega arith, at)
+after_first x y top xs (suc k, within, at) = (suc (suc k), omega arith, at)
 
 top_from : (so_far z top : ℤ) (numbers : List ℤ) (less : Bool) → int_lt z so_far ≡ less → IsTop ((if less then so_far else z) ∷ numbers) top → IsTop (so_far ∷ z ∷ numbers) top
 top_from so_far z top numbers true less (among, all) =
     let below = all.0 in
     let under : int_lt top z ≡ false = grind (arith, ints) in
-    (behind_first so_far z top numbers among, (all.0, (under, all.1)))
+    (after_first so_far z top numbers among, (all.0, (under, all.1)))
 top_from so_far z top numbers false more (among, all) =
     let below = all.0 in
     let under : int_lt top so_far ≡ false = grind (arith, ints) in
@@ -92,11 +92,11 @@ readings_in-other name piece pieces other = rw other refl
 -- ---- the next number
 
 next_of : (rules : Rules) (name : List ℕ) (numbers : List ℤ) (greatest : Option ℤ) (answer : Result ℤ Fault) → is_counter rules name ≡ true → greatest ≡ greatest_from None numbers
-    → IsBehind greatest answer → IsNext rules name numbers answer
-next_of rules name numbers None (Ok z) counts is behind = (counts, inl (none_is numbers (sym is), behind))
-next_of rules name numbers (Some greatest) (Ok z) counts is behind = (counts, inr (greatest, greatest_is numbers greatest (sym is), behind.0, behind.1))
-next_of rules name numbers greatest (Err AutoImpossible) counts is behind = inr (greatest_is numbers last_integer (sym is ∙ behind))
-next_of rules name numbers greatest (Err fault) counts is behind = absurd behind
+    → IsNextNumber greatest answer → IsNext rules name numbers answer
+next_of rules name numbers None (Ok z) counts is following = (counts, inl (none_is numbers (sym is), following))
+next_of rules name numbers (Some greatest) (Ok z) counts is following = (counts, inr (greatest, greatest_is numbers greatest (sym is), following.0, following.1))
+next_of rules name numbers greatest (Err AutoImpossible) counts is following = inr (greatest_is numbers last_integer (sym is ∙ following))
+next_of rules name numbers greatest (Err fault) counts is following = absurd following
 
 unless_memory : (answer : Result ℤ Fault) (P : Result ℤ Fault → Type 0) → P answer → UnlessMemory answer P
 unless_memory (Ok z) P holds = holds
@@ -104,8 +104,8 @@ unless_memory (Err OutOfMemory) P holds = tt
 unless_memory (Err fault) P holds = holds
 
 pub next_in : (rules : Rules) (name : List ℕ) (numbers : List ℤ) (greatest : Option ℤ) (answer : Result ℤ Fault) → is_counter rules name ≡ true → greatest ≡ greatest_from None numbers
-    → IsBehind greatest answer → UnlessMemory answer (IsNext rules name numbers)
-next_in rules name numbers greatest answer counts is behind = unless_memory answer (IsNext rules name numbers) (next_of rules name numbers greatest answer counts is behind)
+    → IsNextNumber greatest answer → UnlessMemory answer (IsNext rules name numbers)
+next_in rules name numbers greatest answer counts is following = unless_memory answer (IsNext rules name numbers) (next_of rules name numbers greatest answer counts is following)
 
 -- ---- the answer
 

@@ -46,7 +46,7 @@ one_greatest numbers one other is too =
 none_greatest : (numbers : List ℤ) (greatest : ℤ) → numbers ≡ [] → IsGreatest numbers greatest → ⊥
 none_greatest numbers greatest none is = let (k, within, at) = subst (λ ns. Contains ns greatest) none is.among in omega arith
 
--- the last integer has none behind it
+-- the last integer has none after it
 not_last : (numbers : List ℤ) (greatest : ℤ) → IsGreatest numbers greatest → int_lt greatest last_integer ≡ true → IsGreatest numbers last_integer → ⊥
 not_last numbers greatest is less last =
     let same : int_lt last_integer last_integer ≡ true = subst (λ z. int_lt z last_integer ≡ true) (one_greatest numbers greatest last_integer is last) less in

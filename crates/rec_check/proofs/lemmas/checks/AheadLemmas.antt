@@ -9,61 +9,61 @@ use Rattle.std.proofs.lemmas.Option.{none-some, same_Some}
 use Rattle.rec_check.specs.declared.set.Set_.{Set_}
 use Rattle.rec_check.specs.Sets.{BeginsAt}
 use Rattle.rec_check.specs.Violations.{members}
-use Rattle.rec_check.specs.Walking.{AreWithin, IsNext}
+use Rattle.rec_check.specs.Walking.{AreWithin, IsNextSet}
 
 -- a record that stands there
 abbrev IsInside : ℕ → Range ℕ → Type 0
-IsInside size record_ = (record_.start < record_.end) × (record_.end ≤ size)
+IsInside size own_range = (own_range.start < own_range.end) × (own_range.end ≤ size)
 
-pub inside_at : (size : ℕ) (records : List (Range ℕ)) (i : ℕ) (record_ : Range ℕ) → AreWithin size records → i < length records → record_ ≡ get_or records i record_ → IsInside size record_
-inside_at size records i record_ within here at = subst (IsInside size) (sym at) (All-get_or (IsInside size) records i record_ here (All-from_recursion (IsInside size) records within))
+pub inside_at : (size : ℕ) (records : List (Range ℕ)) (i : ℕ) (own_range : Range ℕ) → AreWithin size records → i < length records → own_range ≡ get_or records i own_range → IsInside size own_range
+inside_at size records i own_range within here at = subst (IsInside size) (sym at) (All-get_or (IsInside size) records i own_range here (All-from_recursion (IsInside size) records within))
 
--- one record after another, and what stands behind them
-module _ (records : List (Range ℕ)) (i : ℕ) (record_ : Range ℕ) (here : i < length records) (at : record_ ≡ get_or records i record_) where
-  rest_is : drop i records ≡ record_ ∷ drop (i + 1) records
-  rest_is = drop_more records i record_ here ∙ ap (λ r. r ∷ drop (i + 1) records) (sym at)
+-- one record after another, and what follows them
+module _ (records : List (Range ℕ)) (i : ℕ) (own_range : Range ℕ) (here : i < length records) (at : own_range ≡ get_or records i own_range) where
+  rest_is : drop i records ≡ own_range ∷ drop (i + 1) records
+  rest_is = drop_more records i own_range here ∙ ap (λ r. r ∷ drop (i + 1) records) (sym at)
 
-  pub next_starts : (passed : ℕ) → AreAscending passed (drop i records) → passed ≤ record_.start
-  next_starts passed ahead = let whole : AreAscending passed (record_ ∷ drop (i + 1) records) = subst (AreAscending passed) rest_is ahead in whole.0
+  pub next_starts : (passed : ℕ) → AreAscending passed (drop i records) → passed ≤ own_range.start
+  next_starts passed ahead = let whole : AreAscending passed (own_range ∷ drop (i + 1) records) = subst (AreAscending passed) rest_is ahead in whole.0
 
-  pub ahead_more : (passed reached : ℕ) (rest : List (Range ℕ)) → reached ≤ record_.end → AreAscending passed (drop i records ++ rest) → AreAscending reached (drop (i + 1) records ++ rest)
+  pub ahead_more : (passed reached : ℕ) (rest : List (Range ℕ)) → reached ≤ own_range.end → AreAscending passed (drop i records ++ rest) → AreAscending reached (drop (i + 1) records ++ rest)
   ahead_more passed reached rest low ahead =
-      let whole : AreAscending passed (record_ ∷ (drop (i + 1) records ++ rest)) = subst (λ l. AreAscending passed (l ++ rest)) rest_is ahead in
-      AreAscending-from reached record_.end (drop (i + 1) records ++ rest) low whole.1
+      let whole : AreAscending passed (own_range ∷ (drop (i + 1) records ++ rest)) = subst (λ l. AreAscending passed (l ++ rest)) rest_is ahead in
+      AreAscending-from reached own_range.end (drop (i + 1) records ++ rest) low whole.1
 
-  pub here_more : (passed reached : ℕ) → reached ≤ record_.end → AreAscending passed (drop i records) → AreAscending reached (drop (i + 1) records)
+  pub here_more : (passed reached : ℕ) → reached ≤ own_range.end → AreAscending passed (drop i records) → AreAscending reached (drop (i + 1) records)
   here_more passed reached low ahead =
-      let whole : AreAscending passed (record_ ∷ drop (i + 1) records) = subst (AreAscending passed) rest_is ahead in
-      AreAscending-from reached record_.end (drop (i + 1) records) low whole.1
+      let whole : AreAscending passed (own_range ∷ drop (i + 1) records) = subst (AreAscending passed) rest_is ahead in
+      AreAscending-from reached own_range.end (drop (i + 1) records) low whole.1
 
 -- ---- one set after another
 
 -- a walk that has reached no farther than a record has what follows before it
 ahead_past : (records : List (Range ℕ)) (size i passed reached : ℕ) → AreWithin size records → i < length records → AreAscending passed (drop i records)
-    → ((record_ : Range ℕ) → record_ ≡ get_or records i record_ → passed ≤ record_.start → reached ≤ record_.start) → AreAscending reached (drop (i + 1) records)
+    → ((own_range : Range ℕ) → own_range ≡ get_or records i own_range → passed ≤ own_range.start → reached ≤ own_range.start) → AreAscending reached (drop (i + 1) records)
 ahead_past records size i passed reached within here ahead low =
     let d : Range ℕ = record { start = 0; end = 0 } in
-    let record_ : Range ℕ = get_or records i d in
-    let at : record_ ≡ get_or records i record_ = get_or_default records i d record_ here in
-    let inside = inside_at size records i record_ within here at in
-    let starts = low record_ at (next_starts records i record_ here at passed ahead) in
-    here_more records i record_ here at passed reached (omega (arith, starts, inside.0)) ahead
+    let own_range : Range ℕ = get_or records i d in
+    let at : own_range ≡ get_or records i own_range = get_or_default records i d own_range here in
+    let inside = inside_at size records i own_range within here at in
+    let starts = low own_range at (next_starts records i own_range here at passed ahead) in
+    here_more records i own_range here at passed reached (omega (arith, starts, inside.0)) ahead
 
-ahead_of_parts : (records : List (Range ℕ)) (size at passed : ℕ) (kind : Option (List ℕ)) (head : Option ℕ) (members : Range ℕ) → AreWithin size records → members.end ≤ length records
-    → BeginsAt at (record { kind = kind; head = head; members = members }) → AreAscending passed (drop at records) → AreAscending passed (drop members.start records)
+ahead_of_parts : (records : List (Range ℕ)) (size at passed : ℕ) (record_type : Option (List ℕ)) (head : Option ℕ) (members : Range ℕ) → AreWithin size records → members.end ≤ length records
+    → BeginsAt at (record { kind = record_type; head = head; members = members }) → AreAscending passed (drop at records) → AreAscending passed (drop members.start records)
 ahead_of_parts records size at passed None head members within ends begins ahead = subst (λ n. AreAscending passed (drop n records)) (sym begins.1.1) ahead
-ahead_of_parts records size at passed (Some kind) head members within ends begins ahead =
-    subst (λ n. AreAscending passed (drop n records)) (sym begins.1.1) (ahead_past records size at passed passed within (omega (arith, begins.0, begins.1.1)) ahead (λ record_ is low. low))
+ahead_of_parts records size at passed (Some record_type) head members within ends begins ahead =
+    subst (λ n. AreAscending passed (drop n records)) (sym begins.1.1) (ahead_past records size at passed passed within (omega (arith, begins.0, begins.1.1)) ahead (λ own_range is low. low))
 
-pub ahead_of_members : (records : List (Range ℕ)) (size passed : ℕ) (s : Set_) → AreWithin size records → IsNext passed records s → AreAscending passed (drop s.members.start records)
+pub ahead_of_members : (records : List (Range ℕ)) (size passed : ℕ) (s : Set_) → AreWithin size records → IsNextSet passed records s → AreAscending passed (drop s.members.start records)
 ahead_of_members records size passed s within next = ahead_of_parts records size next.at passed s.kind s.head s.members within next.within next.begins next.ahead
 
 -- the descriptor, where there is one
-head_of_parts : (at : ℕ) (kind : Option (List ℕ)) (head : ℕ) (members : Range ℕ) → BeginsAt at (record { kind = kind; head = Some head; members = members }) → (head ≡ at) × (members.start ≡ at + 1)
+head_of_parts : (at : ℕ) (record_type : Option (List ℕ)) (head : ℕ) (members : Range ℕ) → BeginsAt at (record { kind = record_type; head = Some head; members = members }) → (head ≡ at) × (members.start ≡ at + 1)
 head_of_parts at None head members begins = absurd (none-some head (sym begins.1.0))
-head_of_parts at (Some kind) head members begins = (same_Some head at begins.1.0, begins.1.1)
+head_of_parts at (Some record_type) head members begins = (same_Some head at begins.1.0, begins.1.1)
 
-module _ (records : List (Range ℕ)) (size passed head : ℕ) (s : Set_) (next : IsNext passed records s) (is_head : s.head ≡ Some head) where
+module _ (records : List (Range ℕ)) (size passed head : ℕ) (s : Set_) (next : IsNextSet passed records s) (is_head : s.head ≡ Some head) where
   pub head_is : (head ≡ next.at) × (s.members.start ≡ next.at + 1)
   head_is = head_of_parts next.at s.kind head s.members (subst (λ h. BeginsAt next.at (record s { head = h })) is_head next.begins)
 
@@ -73,22 +73,22 @@ module _ (records : List (Range ℕ)) (size passed head : ℕ) (s : Set_) (next 
   pub ahead_of_head : AreAscending passed (drop head records)
   ahead_of_head = subst (λ n. AreAscending passed (drop n records)) (sym head_is.0) next.ahead
 
-  pub ahead_behind_head : (reached : ℕ) (d : Range ℕ) → AreWithin size records → reached ≡ (get_or records head d).start → AreAscending reached (drop s.members.start records)
-  ahead_behind_head reached d within is =
+  pub ahead_after_head : (reached : ℕ) (d : Range ℕ) → AreWithin size records → reached ≡ (get_or records head d).start → AreAscending reached (drop s.members.start records)
+  ahead_after_head reached d within is =
       let then_is : head + 1 ≡ s.members.start = omega (arith, head_is.0, head_is.1) in
       subst (λ n. AreAscending reached (drop n records)) then_is
-      (ahead_past records size head passed reached within head_inside ahead_of_head (λ record_ at low. omega (arith, is, ap (λ (r : Range ℕ). r.start) (at ∙ get_or_default records head record_ d head_inside))))
+      (ahead_past records size head passed reached within head_inside ahead_of_head (λ own_range at low. omega (arith, is, ap (λ (r : Range ℕ). r.start) (at ∙ get_or_default records head own_range d head_inside))))
 
 -- ---- the members of a set
 
-ahead_front : (passed n : ℕ) (records : List (Range ℕ)) → AreAscending passed records → AreAscending passed (take n records)
-ahead_front passed zero records ahead = tt
-ahead_front passed (suc n) [] ahead = tt
-ahead_front passed (suc n) (record_ ∷ records) ahead = (ahead.0, ahead_front record_.end n records ahead.1)
+ahead_prefix : (passed n : ℕ) (records : List (Range ℕ)) → AreAscending passed records → AreAscending passed (take n records)
+ahead_prefix passed zero records ahead = tt
+ahead_prefix passed (suc n) [] ahead = tt
+ahead_prefix passed (suc n) (own_range ∷ records) ahead = (ahead.0, ahead_prefix own_range.end n records ahead.1)
 
 module _ (records : List (Range ℕ)) (s : Set_) where
   pub ahead_of_part : (passed : ℕ) → AreAscending passed (drop s.members.start records) → AreAscending passed (members records s)
-  ahead_of_part passed ahead = ahead_front passed (s.members.end - s.members.start) (drop s.members.start records) ahead
+  ahead_of_part passed ahead = ahead_prefix passed (s.members.end - s.members.start) (drop s.members.start records) ahead
 
   pub part_within : (size same : ℕ) → AreWithin size records → same ≡ size → AreWithin same (members records s)
   part_within size same within is =

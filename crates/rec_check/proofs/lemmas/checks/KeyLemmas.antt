@@ -16,7 +16,7 @@ or_comm true false = refl
 or_comm false true = refl
 or_comm false false = refl
 
--- what a set of values has behind one more
+-- what a set of values has after one more
 module _ {K S : Type 0} (text : K → List ℕ) (old new : HashSet K S) (key : K) where
   abbrev has : List K → List ℕ → Bool
   has keys value = list_any (λ k. bytes_eq value (text k)) keys
@@ -28,7 +28,7 @@ module _ {K S : Type 0} (text : K → List ℕ) (old new : HashSet K S) (key : K
     | inr apart ↦ sym (ap (λ b. has old.keys value || b) apart ∙ or-false (has old.keys value))
   ]
 
--- the names so far among some more, and the one behind them
+-- the names so far among some more, and the one after them
 pub has_more : (more : List (List ℕ)) (i : ℕ) (name own value : List ℕ) (old so_far new : Bool) → i < length more → own ≡ get_or more i own → name ≡ own
     → so_far ≡ (old || is_among (take i more) value) → new ≡ (so_far || bytes_eq value name) → new ≡ (old || is_among (take (i + 1) more) value)
 has_more more i name own value old so_far new within at is reached put =

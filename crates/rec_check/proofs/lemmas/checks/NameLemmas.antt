@@ -117,7 +117,7 @@ distinct-distinct (name ∷ names) =
     let others : List ℕ → Bool = λ other. not (bytes_eq name other) in
     ap (λ l. name ∷ l) (ap (filter others) (sym (filter-distinct others (distinct names)) ∙ ap (filter others) (distinct-distinct names)) ∙ filter-twice others (distinct names))
 
--- one more behind names of which each stands there once
+-- one more after names of which each stands there once
 distinct-more : (names : List (List ℕ)) (name : List ℕ) → distinct (distinct names ++ name ∷ []) ≡ distinct (names ++ name ∷ [])
 distinct-more names name =
     distinct-push (distinct names) name ∙ ap (λ b. with_name b (distinct (distinct names)) name) (is_among-distinct names name)
@@ -137,7 +137,7 @@ texts-added keys name once =
           ∙ ap (λ l. l ++ name.now ∷ []) (sym once) ∙ sym (distinct-new (texts keys) name.now none)
     ]
 
--- the names so far, each once, and the one behind them
+-- the names so far, each once, and the one after them
 pub distinct_taken : (names : List (List ℕ)) (i : ℕ) (name own : List ℕ) (kept more : List (List ℕ)) → i < length names → name ≡ get_or names i name → own ≡ name
     → kept ≡ distinct (take i names) → more ≡ distinct (kept ++ own ∷ []) → more ≡ distinct (take (i + 1) names)
 distinct_taken names i name own kept more within at is so_far added =
@@ -180,14 +180,6 @@ module _ (allows : List ℕ → Bool) (pieces : List Piece) (piece : Piece) wher
   others-taken fails =
       others-is (pieces ++ piece ∷ []) ∙ ap distinct (refused-push ∙ ap (λ b. refused (names_of pieces) ++ cond b (name_of piece ∷ []) []) fails)
       ∙ sym (distinct-more (refused (names_of pieces)) (name_of piece)) ∙ ap (λ l. distinct (l ++ name_of piece ∷ [])) (sym (others-is pieces))
-
-pub field_test : (piece : Piece) → piece.kind ≡ Field → is_field_piece piece ≡ true
-field_test piece is = ap (λ kind. is_field_piece (record piece { kind = kind })) is
-
-pub no_field_test : (kind : Kind) (bytes : List ℕ) → (kind ≡ Field → ⊥) → is_field_piece (record { kind = kind; bytes = bytes }) ≡ false
-no_field_test Blank bytes other = refl
-no_field_test Comment bytes other = refl
-no_field_test Field bytes other = absurd (other refl)
 
 -- what a proof reads past the end of elements
 abbrev pub no_element : Element

@@ -18,7 +18,7 @@ use Rattle.std.specs.Str.{bytes_eq}
 use Rattle.std.specs.declared.cmp.Ordering.TheVariants.{Less, Equal, Greater}
 use Rattle.rec_text.proofs.lemmas.ListLemmas.{same_bytes, bytes_eq-self}
 use Rattle.rec_check.specs.Checks.{texts}
-use Rattle.rec_check.specs.proving.Met.{places_from, places_of}
+use Rattle.rec_check.specs.proving.NamesSeen.{places_from, places_of}
 use Rattle.rec_check.specs.Words.{distinct, is_among}
 use Rattle.rec_check.proofs.lemmas.field_types.FittingLemmas.{enumerate_from-append}
 use Rattle.rec_check.proofs.lemmas.checks.NameLemmas.{filter-distinct, distinct-distinct}
@@ -37,8 +37,8 @@ not_filtered name (first ∷ names) = elim (cases_Bool (bytes_eq name first)) [
   | inr other ↦ rw (other, other) (not_filtered name names)
 ]
 
-once_behind : (name : List ℕ) (names : List (List ℕ)) → distinct (name ∷ names) ≡ name ∷ names → (is_among names name ≡ false) × (distinct names ≡ names)
-once_behind name names once =
+once_after : (name : List ℕ) (names : List (List ℕ)) → distinct (name ∷ names) ≡ name ∷ names → (is_among names name ≡ false) × (distinct names ≡ names)
+once_after name names once =
     let others : List ℕ → Bool = λ other. not (bytes_eq name other) in
     let left : filter others (distinct names) ≡ names = ap (drop 1) once in
     let kept : names ≡ distinct (filter others names) = sym left ∙ filter-distinct others names in
@@ -91,22 +91,22 @@ module _ (test : List ℕ → Bool) where
   insert_place at zero name (first ∷ names) once within is =
       let here : at + 0 ≡ at = omega arith in
       let rest : places_from (at + 1) (or_is test name) names ≡ places_from (at + 1) test names =
-      places_without (at + 1) name names (ap (is_among names) (same_bytes name first is) ∙ (once_behind first names once).0) in
+      places_without (at + 1) name names (ap (is_among names) (same_bytes name first is) ∙ (once_after first names once).0) in
       let equal : nat_cmp at at ≡ Equal = sym (nat_cmp_is at at Equal refl) in
       ap (insert_key nat_cmp (places_from at test (first ∷ names))) here ∙ elim (cases_Bool (test first)) [
         | inl passes ↦ rw (passes, equal) (ap (λ l. at ∷ l) (sym rest))
         | inr fails ↦ rw (fails, is) (insert_first (at + 1) at names (omega arith) ∙ ap (λ l. at ∷ l) (sym rest))
       ]
   insert_place at (suc i) name (first ∷ names) once within is =
-      let behind = once_behind first names once in
+      let following = once_after first names once in
       let inside : i < length names = omega (arith, within) in
       let other : bytes_eq name first ≡ false = elim (cases_Bool (bytes_eq name first)) [
-        | inl same ↦ absurd (false≢true (sym behind.0 ∙ ap (is_among names) (sym (same_bytes name first same)) ∙ list_any_at (bytes_eq name) names i [] inside is))
+        | inl same ↦ absurd (false≢true (sym following.0 ∙ ap (is_among names) (sym (same_bytes name first same)) ∙ list_any_at (bytes_eq name) names i [] inside is))
         | inr other ↦ other
       ] in
       let there : at + suc i ≡ at + 1 + i = omega arith in
       let rest : insert_key nat_cmp (places_from (at + 1) test names) (at + suc i) ≡ places_from (at + 1) (or_is test name) names =
-      ap (insert_key nat_cmp (places_from (at + 1) test names)) there ∙ insert_place (at + 1) i name names behind.1 inside is in
+      ap (insert_key nat_cmp (places_from (at + 1) test names)) there ∙ insert_place (at + 1) i name names following.1 inside is in
       let greater : nat_cmp (at + suc i) at ≡ Greater = sym (nat_cmp_is (at + suc i) at Greater (omega arith)) in
       elim (cases_Bool (test first)) [
         | inl passes ↦ rw (passes, greater) (ap (λ l. at ∷ l) rest)
@@ -231,11 +231,11 @@ module _ (places : List ℕ) (all found : List (Bor (List ℕ))) (i : ℕ) (d : 
 
   besides_next : besides (i + 1) ≡ besides i ++ cond (holds places i) [] (own.now ∷ [])
   besides_next =
-      let front : List (List ℕ) = texts (take i all) in
-      let size : 0 + length front ≡ i = omega (arith, length-map (take i all) (λ one. one.now), length-take-le i all (omega arith)) in
+      let prefix : List (List ℕ) = texts (take i all) in
+      let size : 0 + length prefix ≡ i = omega (arith, length-map (take i all) (λ one. one.now), length-take-le i all (omega arith)) in
       ap (λ l. filter_map (beside places) (enumerate_from 0 l)) (map_more (λ one. one.now) all i d within)
-      ∙ ap (filter_map (beside places)) (enumerate_from-append 0 front (own.now ∷ []) ∙ ap (λ k. enumerate_from 0 front ++ (k, own.now) ∷ []) size)
-      ∙ filter_map-append (beside places) (enumerate_from 0 front) ((i, own.now) ∷ [])
+      ∙ ap (filter_map (beside places)) (enumerate_from-append 0 prefix (own.now ∷ []) ∙ ap (λ k. enumerate_from 0 prefix ++ (k, own.now) ∷ []) size)
+      ∙ filter_map-append (beside places) (enumerate_from 0 prefix) ((i, own.now) ∷ [])
       ∙ ap (λ l. besides i ++ l) (elim (cases_Bool (holds places i)) [ inl held ↦ rw held refl | inr none ↦ rw none refl ])
 
   module _ (so_far : texts found ≡ besides i) where

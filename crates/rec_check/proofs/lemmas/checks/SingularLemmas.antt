@@ -19,7 +19,7 @@ use Rattle.rec_text.specs.Places.{piece_of, pieces_of}
 use Rattle.rec_text.specs.Values.{value_of}
 use Rattle.rec_text.proofs.lemmas.ListLemmas.{same_bytes, bytes_eq-self}
 use Rattle.rec_sex.specs.Meaning.{values_of}
-use Rattle.rec_check.specs.proving.Met.{places_of}
+use Rattle.rec_check.specs.proving.NamesSeen.{places_of}
 use Rattle.rec_check.specs.Violations.{breaks_singular, stands_in}
 use Rattle.rec_check.specs.Words.{distinct, is_among}
 use Rattle.rec_check.proofs.lemmas.descriptors.DescriptorLemmas.{values_of-append}
@@ -190,14 +190,14 @@ stands_more name value earlier fields old new before put =
     let test : List Piece → Bool = λ own. is_among (values_of name own) value in
     put ∙ ap₂ ◌||◌ before (sym (or-false (test fields))) ∙ sym (list_any-append test earlier (fields ∷ []))
 
--- the values of a record's fields so far, and that of the one behind them
+-- the values of a record's fields so far, and that of the one after them
 pub seen_more : (elements : List Element) (i : ℕ) (d : Element) (name value : List ℕ) (old so_far new : Bool) → i < length elements
     → so_far ≡ (old || is_among (values_of name (pieces_of (take i elements))) value) → new ≡ (so_far || is_among (values_of name (piece_of (get_or elements i d) ∷ [])) value)
     → new ≡ (old || is_among (values_of name (pieces_of (take (i + 1) elements))) value)
 seen_more elements i d name value old so_far new within reached put =
-    let front : List Piece = pieces_of (take i elements) in
+    let prefix : List Piece = pieces_of (take i elements) in
     let piece : Piece = piece_of (get_or elements i d) in
-    put ∙ ap (λ b. b || is_among (values_of name (piece ∷ [])) value) reached ∙ or_assoc old (is_among (values_of name front) value) (is_among (values_of name (piece ∷ [])) value)
-    ∙ ap (λ b. old || b) (sym (list_any-append (bytes_eq value) (values_of name front) (values_of name (piece ∷ []))))
-    ∙ ap (λ l. old || is_among l value) (sym (values_of-append name front piece))
+    put ∙ ap (λ b. b || is_among (values_of name (piece ∷ [])) value) reached ∙ or_assoc old (is_among (values_of name prefix) value) (is_among (values_of name (piece ∷ [])) value)
+    ∙ ap (λ b. old || b) (sym (list_any-append (bytes_eq value) (values_of name prefix) (values_of name (piece ∷ []))))
+    ∙ ap (λ l. old || is_among l value) (sym (values_of-append name prefix piece))
     ∙ ap (λ l. old || is_among (values_of name l) value) (sym (map_more piece_of elements i d within))

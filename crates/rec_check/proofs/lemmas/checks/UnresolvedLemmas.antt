@@ -54,15 +54,15 @@ module _ (pieces : List Piece) (records : List (Range ℕ)) (rules : Rules) (s :
   pub head_violations-none : s.head ≡ None → rules.size ≡ None → head_violations pieces records rules s ≡ []
   head_violations-none none unbound =
       let unbroken : breaks_size rules s ≡ false = ap (λ (size : Option Bound). breaks_size (record rules { size = size }) s) unbound in
-      let own : List Violation = violation (option_map_or (λ record_. line_at pieces record_.start) (option_and_then (slice_get records) s.head) 0) Size (unwrap_or s.kind []) ∷ [] in
+      let own : List Violation = violation (option_map_or (λ own_range. line_at pieces own_range.start) (option_and_then (slice_get records) s.head) 0) Size (unwrap_or s.kind []) ∷ [] in
       ap₂ ◌++◌ (ap (λ b. if b then own else []) unbroken)
-      (ap (λ head. option_map_or (λ record_. unresolved_violations pieces (resolves rules.definitions) record_.start (elements_in pieces record_)) (option_and_then (slice_get records) head) []) none)
+      (ap (λ head. option_map_or (λ own_range. unresolved_violations pieces (resolves rules.definitions) own_range.start (elements_in pieces own_range)) (option_and_then (slice_get records) head) []) none)
 
-  pub head_violations-at : (head : ℕ) (record_ d : Range ℕ) → s.head ≡ Some head → head < length records → record_ ≡ get_or records head d
+  pub head_violations-at : (head : ℕ) (own_range d : Range ℕ) → s.head ≡ Some head → head < length records → own_range ≡ get_or records head d
       → head_violations pieces records rules s
-      ≡ (if breaks_size rules s then violation (line_at pieces record_.start) Size (unwrap_or s.kind []) ∷ [] else [])
-      ++ unresolved_violations pieces (resolves rules.definitions) record_.start (elements_in pieces record_)
-  head_violations-at head record_ d is_head within is =
-      let at : option_and_then (slice_get records) s.head ≡ Some record_ = ap (option_and_then (slice_get records)) is_head ∙ slice_get-get_or records head d within ∙ ap Some (sym is) in
+      ≡ (if breaks_size rules s then violation (line_at pieces own_range.start) Size (unwrap_or s.kind []) ∷ [] else [])
+      ++ unresolved_violations pieces (resolves rules.definitions) own_range.start (elements_in pieces own_range)
+  head_violations-at head own_range d is_head within is =
+      let at : option_and_then (slice_get records) s.head ≡ Some own_range = ap (option_and_then (slice_get records)) is_head ∙ slice_get-get_or records head d within ∙ ap Some (sym is) in
       ap₂ ◌++◌ (ap (λ o. if breaks_size rules s then violation (option_map_or (λ (r : Range ℕ). line_at pieces r.start) o 0) Size (unwrap_or s.kind []) ∷ [] else []) at)
       (ap (λ o. option_map_or (λ (r : Range ℕ). unresolved_violations pieces (resolves rules.definitions) r.start (elements_in pieces r)) o []) at)

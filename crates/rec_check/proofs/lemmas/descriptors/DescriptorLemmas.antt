@@ -19,19 +19,18 @@ use Rattle.rec_text.specs.Reading.{line_after}
 use Rattle.rec_text.specs.Values.{value_of}
 use Rattle.rec_text.proofs.lemmas.ListLemmas.{AllByRecursion-slice_get, slice_get-take}
 use Rattle.rec_sex.specs.Expressions.{IsExpression}
-use Rattle.rec_sex.specs.Grammar.{Term}
 use Rattle.rec_sex.specs.Meaning.{values_of}
 use Rattle.rec_check.specs.declared.descriptors.refusal.Refusal.{Refusal}
 use Rattle.rec_check.specs.declared.descriptors.refusal.Refusal.TheVariants.{Bad, Unsupported as NotSupported, Pattern, OutOfMemory}
-use Rattle.rec_check.specs.declared.descriptors.special.Bound.{Bound}
 use Rattle.rec_check.specs.declared.descriptors.special.Special.{Special}
-use Rattle.rec_check.specs.declared.descriptors.special.Special.TheVariants.{Rec, Key, Mandatory, Prohibit, Unique, Singular, Allowed, Auto, Type_, Typedef, Size, Constraint, Confidential}
-use Rattle.rec_check.specs.Descriptors.{Flaw, bad, unsupported, bad_unless, bound_in, element_flaw, field_flaw, first_word, is_one_name, rec_flaw, rec_name, special_flaw, special_of, type_of}
-use Rattle.rec_check.specs.proving.Reading.{Said, Adds, AddsOf, AddsField, AnswersField, AreSaid, HasFieldFlaw, IsFresh, IsRead, bare, flaw_behind, is_repeated}
+use Rattle.rec_check.specs.declared.descriptors.special.Special.TheVariants.{Rec, Key, Mandatory, Prohibit, Unique, Singular, Allowed, Auto, Typed, Typedef, Size, Constraint, Confidential}
+use Rattle.rec_check.specs.Descriptors.{Flaw, bad, unsupported, bad_unless, bound_in, first_word, is_one_name, rec_flaw, rec_name, special_flaw, special_of, type_of}
+use Rattle.rec_check.specs.proving.Reading.{Said, Adds, AddsOf, AddsField, AnswersField, AreSaid, HasFieldFlaw, IsFresh, IsRead, bare, flaw_after, is_repeated}
 use Rattle.rec_check.specs.Rules.{Rules, AreRules, names_in}
-use Rattle.rec_check.specs.Schemas.{FieldIsBuilt, FieldIsRead}
+use Rattle.rec_check.specs.Schemas.{FieldIsBuilt}
+use Rattle.rec_check.specs.proving.Flaws.{FieldIsRead, element_flaw, field_flaw}
 use Rattle.rec_check.specs.Stored.{fault_of}
-use Rattle.rec_check.specs.Types.{Definition, Typing, IsDefinition, IsTyping}
+use Rattle.rec_check.specs.Types.{IsDefinition, IsTyping}
 use Rattle.rec_check.specs.Words.{words, is_among}
 
 -- ---- the names of special fields
@@ -45,7 +44,7 @@ name_for Unique = codes "%unique"
 name_for Singular = codes "%singular"
 name_for Allowed = codes "%allowed"
 name_for Auto = codes "%auto"
-name_for Type_ = codes "%type"
+name_for Typed = codes "%type"
 name_for Typedef = codes "%typedef"
 name_for Size = codes "%size"
 name_for Constraint = codes "%constraint"
@@ -60,7 +59,7 @@ special_of-name_for Unique = refl
 special_of-name_for Singular = refl
 special_of-name_for Allowed = refl
 special_of-name_for Auto = refl
-special_of-name_for Type_ = refl
+special_of-name_for Typed = refl
 special_of-name_for Typedef = refl
 special_of-name_for Size = refl
 special_of-name_for Constraint = refl
@@ -70,18 +69,18 @@ module _ (name : List ℕ) (special : Special) where
   -- one link of the chain of names
   name_or : (other : Special) (rest : Option Special) → cond (bytes_eq name (name_for other)) (Some other) rest ≡ Some special
       → (rest ≡ Some special → name ≡ name_for special) → name ≡ name_for special
-  name_or other rest is behind = elim (cases_Bool (bytes_eq name (name_for other))) [
+  name_or other rest is following = elim (cases_Bool (bytes_eq name (name_for other))) [
     | inl here ↦
         let same : Some other ≡ Some special = sym (ap (λ b. cond b (Some other) rest) here) ∙ is in
-        let kind : other ≡ special = cc in
-        (bytes_eq-Decides name (name_for other)).0 here ∙ ap name_for kind
-    | inr past ↦ behind (sym (ap (λ b. cond b (Some other) rest) past) ∙ is)
+        let same : other ≡ special = cc in
+        (bytes_eq-Decides name (name_for other)).0 here ∙ ap name_for same
+    | inr past ↦ following (sym (ap (λ b. cond b (Some other) rest) past) ∙ is)
   ]
 
   pub name_is : special_of name ≡ Some special → name ≡ name_for special
   name_is is =
       name_or Rec _ is (λ a. name_or Key _ a (λ b. name_or Mandatory _ b (λ c. name_or Prohibit _ c (λ d. name_or Unique _ d (λ e. name_or Singular _ e
-      (λ f. name_or Allowed _ f (λ g. name_or Auto _ g (λ h. name_or Type_ _ h (λ i. name_or Typedef _ i (λ j. name_or Size _ j (λ k. name_or Constraint _ k
+      (λ f. name_or Allowed _ f (λ g. name_or Auto _ g (λ h. name_or Typed _ h (λ i. name_or Typedef _ i (λ j. name_or Size _ j (λ k. name_or Constraint _ k
       (λ l. name_or Confidential None l (λ none. cc)))))))))))))
 
 name_for-apart : (name : List ℕ) (special : Special) → special_of name ≡ None → bytes_eq name (name_for special) ≡ false
@@ -99,11 +98,11 @@ same_special special other same =
 
 -- ---- the values of fields
 
-pub values_of-append : (name : List ℕ) (front : List Piece) (piece : Piece) → values_of name (front ++ piece ∷ []) ≡ values_of name front ++ cond (has_name name piece) (value_of piece ∷ []) []
+pub values_of-append : (name : List ℕ) (prefix : List Piece) (piece : Piece) → values_of name (prefix ++ piece ∷ []) ≡ values_of name prefix ++ cond (has_name name piece) (value_of piece ∷ []) []
 values_of-append name [] piece = refl
-values_of-append name (first ∷ front) piece = elim (cases_Bool (has_name name first)) [
-  | inl here ↦ rw here (ap (λ vs. value_of first ∷ vs) (values_of-append name front piece))
-  | inr past ↦ rw past (values_of-append name front piece)
+values_of-append name (first ∷ prefix) piece = elim (cases_Bool (has_name name first)) [
+  | inl here ↦ rw here (ap (λ vs. value_of first ∷ vs) (values_of-append name prefix piece))
+  | inr past ↦ rw past (values_of-append name prefix piece)
 ]
 
 -- there is one
@@ -143,11 +142,11 @@ type_in-values_of (piece ∷ fields) = elim (cases_Bool (has_name rec_name piece
   | inr past ↦ rw past (type_in-values_of fields)
 ]
 
--- ---- what fields of one kind say
+-- ---- what fields of one name say
 
--- what is said by all fields of a kind, which have these values
+-- what is said by all fields of a name, which have these values
 abbrev Part : Special → List (List ℕ) → Said → Type 0
-Part Rec values said = said.kind ≡ type_in values
+Part Rec values said = said.record_type ≡ type_in values
 Part Key values said = (said.rules.key ≡ slice_get (flat_map words values) 0) × (is_some said.rules.key ≡ is_met values)
 Part Mandatory values said = said.rules.mandatory ≡ flat_map words values
 Part Prohibit values said = said.rules.prohibited ≡ flat_map words values
@@ -155,7 +154,7 @@ Part Unique values said = said.rules.unique ≡ flat_map words values
 Part Singular values said = said.rules.singular ≡ flat_map words values
 Part Allowed values said = said.rules.allowed ≡ cond (is_met values) (Some (flat_map words values)) None
 Part Auto values said = said.rules.automatic ≡ flat_map words values
-Part Type_ values said = AllZip IsTyping values said.rules.types
+Part Typed values said = AllZip IsTyping values said.rules.types
 Part Typedef values said = AllZip IsDefinition values said.rules.definitions
 Part Size values said = (said.rules.size ≡ option_and_then bound_in (slice_get values 0)) × (is_some said.rules.size ≡ is_met values)
 Part Constraint values said = AllZip IsExpression values said.rules.constraints
@@ -170,79 +169,43 @@ part_none Unique = refl
 part_none Singular = refl
 part_none Allowed = refl
 part_none Auto = refl
-part_none Type_ = tt
+part_none Typed = tt
 part_none Typedef = tt
 part_none Size = (refl, refl)
 part_none Constraint = tt
 part_none Confidential = tt
 
--- what is said anew by fields of one kind changes no other part
+-- what is said anew by fields of one name changes no other part
 module _ (values : List (List ℕ)) (old : Said) where
-  -- the part of another kind stays as it is
+  -- the part of another name stays as it is
   abbrev Keeps : Special → Special → Said → Type 0
   Keeps special other new = bytes_eq (name_for special) (name_for other) ≡ false → Part other values old → Part other values new
 
-  keeps_kind : (other : Special) (kind : Option (List ℕ)) → Keeps Rec other (record old { kind = kind })
-  keeps_kind Rec kind apart part = cc
-  keeps_kind other kind apart part = part
-
-  keeps_key : (other : Special) (key : Option (List ℕ)) → Keeps Key other (record old { rules = record old.rules { key = key } })
-  keeps_key Key key apart part = cc
-  keeps_key other key apart part = part
-
-  keeps_mandatory : (other : Special) (names : List (List ℕ)) → Keeps Mandatory other (record old { rules = record old.rules { mandatory = names } })
-  keeps_mandatory Mandatory names apart part = cc
-  keeps_mandatory other names apart part = part
-
-  keeps_prohibited : (other : Special) (names : List (List ℕ)) → Keeps Prohibit other (record old { rules = record old.rules { prohibited = names } })
-  keeps_prohibited Prohibit names apart part = cc
-  keeps_prohibited other names apart part = part
-
-  keeps_unique : (other : Special) (names : List (List ℕ)) → Keeps Unique other (record old { rules = record old.rules { unique = names } })
-  keeps_unique Unique names apart part = cc
-  keeps_unique other names apart part = part
-
-  keeps_singular : (other : Special) (names : List (List ℕ)) → Keeps Singular other (record old { rules = record old.rules { singular = names } })
-  keeps_singular Singular names apart part = cc
-  keeps_singular other names apart part = part
-
-  keeps_allowed : (other : Special) (names : Option (List (List ℕ))) → Keeps Allowed other (record old { rules = record old.rules { allowed = names } })
-  keeps_allowed Allowed names apart part = cc
-  keeps_allowed other names apart part = part
-
-  keeps_automatic : (other : Special) (names : List (List ℕ)) → Keeps Auto other (record old { rules = record old.rules { automatic = names } })
-  keeps_automatic Auto names apart part = cc
-  keeps_automatic other names apart part = part
-
-  keeps_types : (other : Special) (types : List Typing) → Keeps Type_ other (record old { rules = record old.rules { types = types } })
-  keeps_types Type_ types apart part = cc
-  keeps_types other types apart part = part
-
-  keeps_definitions : (other : Special) (definitions : List Definition) → Keeps Typedef other (record old { rules = record old.rules { definitions = definitions } })
-  keeps_definitions Typedef definitions apart part = cc
-  keeps_definitions other definitions apart part = part
-
-  keeps_size : (other : Special) (size : Option Bound) → Keeps Size other (record old { rules = record old.rules { size = size } })
-  keeps_size Size size apart part = cc
-  keeps_size other size apart part = part
-
-  keeps_constraints : (other : Special) (terms : List Term) → Keeps Constraint other (record old { rules = record old.rules { constraints = terms } })
-  keeps_constraints Constraint terms apart part = cc
-  keeps_constraints other terms apart part = part
-
   keeps_other : (special other : Special) (value : List ℕ) (new : Said) → Adds special value old new → Keeps special other new
-  keeps_other Rec other value new adds apart part = subst (Part other values) (sym adds) (keeps_kind other _ apart part)
-  keeps_other Key other value new adds apart part = subst (Part other values) (sym adds) (keeps_key other _ apart part)
-  keeps_other Mandatory other value new adds apart part = subst (Part other values) (sym adds) (keeps_mandatory other _ apart part)
-  keeps_other Prohibit other value new adds apart part = subst (Part other values) (sym adds) (keeps_prohibited other _ apart part)
-  keeps_other Unique other value new adds apart part = subst (Part other values) (sym adds) (keeps_unique other _ apart part)
-  keeps_other Singular other value new adds apart part = subst (Part other values) (sym adds) (keeps_singular other _ apart part)
-  keeps_other Allowed other value new adds apart part = subst (Part other values) (sym adds) (keeps_allowed other _ apart part)
-  keeps_other Auto other value new adds apart part = subst (Part other values) (sym adds) (keeps_automatic other _ apart part)
-  keeps_other Type_ other value new adds apart part = subst (Part other values) (sym adds.2) (keeps_types other _ apart part)
-  keeps_other Typedef other value new adds apart part = subst (Part other values) (sym adds.2) (keeps_definitions other _ apart part)
-  keeps_other Size other value new adds apart part = subst (Part other values) (sym adds) (keeps_size other _ apart part)
-  keeps_other Constraint other value new adds apart part = subst (Part other values) (sym adds.2) (keeps_constraints other _ apart part)
+  keeps_other Rec Rec value new adds apart part = cc
+  keeps_other Rec other value new adds apart part = subst (Part other values) (sym adds) part
+  keeps_other Key Key value new adds apart part = cc
+  keeps_other Key other value new adds apart part = subst (Part other values) (sym adds) part
+  keeps_other Mandatory Mandatory value new adds apart part = cc
+  keeps_other Mandatory other value new adds apart part = subst (Part other values) (sym adds) part
+  keeps_other Prohibit Prohibit value new adds apart part = cc
+  keeps_other Prohibit other value new adds apart part = subst (Part other values) (sym adds) part
+  keeps_other Unique Unique value new adds apart part = cc
+  keeps_other Unique other value new adds apart part = subst (Part other values) (sym adds) part
+  keeps_other Singular Singular value new adds apart part = cc
+  keeps_other Singular other value new adds apart part = subst (Part other values) (sym adds) part
+  keeps_other Allowed Allowed value new adds apart part = cc
+  keeps_other Allowed other value new adds apart part = subst (Part other values) (sym adds) part
+  keeps_other Auto Auto value new adds apart part = cc
+  keeps_other Auto other value new adds apart part = subst (Part other values) (sym adds) part
+  keeps_other Typed Typed value new adds apart part = cc
+  keeps_other Typed other value new adds apart part = subst (Part other values) (sym adds.2) part
+  keeps_other Typedef Typedef value new adds apart part = cc
+  keeps_other Typedef other value new adds apart part = subst (Part other values) (sym adds.2) part
+  keeps_other Size Size value new adds apart part = cc
+  keeps_other Size other value new adds apart part = subst (Part other values) (sym adds) part
+  keeps_other Constraint Constraint value new adds apart part = cc
+  keeps_other Constraint other value new adds apart part = subst (Part other values) (sym adds.2) part
   keeps_other Confidential other value new adds apart part = absurd adds
 
 -- ---- one field more
@@ -270,8 +233,8 @@ none_met (value ∷ values) repeated is first = absurd (false≢true (sym first 
 
 rec_flaw-first : (repeated : Bool) (named : List (List ℕ)) (ws : List (List ℕ)) → rec_flaw repeated named ws ≡ None → repeated ≡ false
 rec_flaw-first repeated named [] sound = cc
-rec_flaw-first true named (kind ∷ source) sound = cc
-rec_flaw-first false named (kind ∷ source) sound = refl
+rec_flaw-first true named (record_type ∷ source) sound = cc
+rec_flaw-first false named (record_type ∷ source) sound = refl
 
 bad_unless-first : (repeated sound : Bool) → bad_unless (not repeated && sound) ≡ None → (repeated ≡ false) × (sound ≡ true)
 bad_unless-first true sound none = cc
@@ -287,12 +250,12 @@ is_some-type_in : (values : List (List ℕ)) → is_some (type_in values) ≡ is
 is_some-type_in [] = refl
 is_some-type_in (value ∷ values) = refl
 
--- the part of its own kind takes a sound field up
+-- the part of its own name takes a sound field up
 module _ (values : List (List ℕ)) (value : List ℕ) (named : List (List ℕ)) (old new : Said) where
   grows : (special : Special) → special_flaw special (is_repeated special old) named value ≡ None → Adds special value old new → Part special values old → Part special (values ++ value ∷ []) new
   grows Rec sound adds part =
-      let none = none_met values (is_some old.kind) (ap is_some part ∙ is_some-type_in values) (rec_flaw-first (is_some old.kind) named (words value) sound) in
-      ap (λ s. s.kind) adds ∙ ap (λ vs. type_in (vs ++ value ∷ [])) (sym none)
+      let none = none_met values (is_some old.record_type) (ap is_some part ∙ is_some-type_in values) (rec_flaw-first (is_some old.record_type) named (words value) sound) in
+      ap (λ s. s.record_type) adds ∙ ap (λ vs. type_in (vs ++ value ∷ [])) (sym none)
   grows Key sound adds part =
       let first = bad_unless-first (is_some old.rules.key) (is_one_name (words value)) sound in
       let none = none_met values (is_some old.rules.key) part.1 first.0 in
@@ -306,7 +269,7 @@ module _ (values : List (List ℕ)) (value : List ℕ) (named : List (List ℕ))
   grows Singular sound adds part = ap (λ s. s.rules.singular) adds ∙ names_grow values old.rules.singular value part
   grows Allowed sound adds part = ap (λ s. s.rules.allowed) adds ∙ allowed_grow values old.rules.allowed value part
   grows Auto sound adds part = ap (λ s. s.rules.automatic) adds ∙ names_grow values old.rules.automatic value part
-  grows Type_ sound adds part = subst (Part Type_ (values ++ value ∷ [])) (sym adds.2) (AllZip-push IsTyping values old.rules.types value adds.0 part adds.1)
+  grows Typed sound adds part = subst (Part Typed (values ++ value ∷ [])) (sym adds.2) (AllZip-push IsTyping values old.rules.types value adds.0 part adds.1)
   grows Typedef sound adds part = subst (Part Typedef (values ++ value ∷ [])) (sym adds.2) (AllZip-push IsDefinition values old.rules.definitions value adds.0 part adds.1)
   grows Size sound adds part =
       let first = bad_unless-first (is_some old.rules.size) (is_some (bound_in value)) sound in
@@ -364,22 +327,22 @@ module _ (named : List (List ℕ)) (fields : List Piece) (said : Said) (are : Ar
   met_before : (special : Special) (met : Bool) → met ≡ is_met (values_of (name_for special) fields) → list_any (has_name (name_for special)) fields ≡ met
   met_before special met is = list_any-values_of (name_for special) fields ∙ sym is
 
-  special_flaw-behind : (special : Special) (value : List ℕ) → special_flaw special (list_any (has_name (name_for special)) fields) named value ≡ special_flaw special (is_repeated special said) named value
-  special_flaw-behind Rec value =
-      ap (λ b. special_flaw Rec b named value) (met_before Rec (is_some said.kind) (ap is_some (are.part Rec) ∙ is_some-type_in (values_of rec_name fields)))
-  special_flaw-behind Key value = ap (λ b. special_flaw Key b named value) (met_before Key (is_some said.rules.key) (are.part Key).1)
-  special_flaw-behind Size value = ap (λ b. special_flaw Size b named value) (met_before Size (is_some said.rules.size) (are.part Size).1)
-  special_flaw-behind special value = refl
+  special_flaw-following : (special : Special) (value : List ℕ) → special_flaw special (list_any (has_name (name_for special)) fields) named value ≡ special_flaw special (is_repeated special said) named value
+  special_flaw-following Rec value =
+      ap (λ b. special_flaw Rec b named value) (met_before Rec (is_some said.record_type) (ap is_some (are.part Rec) ∙ is_some-type_in (values_of rec_name fields)))
+  special_flaw-following Key value = ap (λ b. special_flaw Key b named value) (met_before Key (is_some said.rules.key) (are.part Key).1)
+  special_flaw-following Size value = ap (λ b. special_flaw Size b named value) (met_before Size (is_some said.rules.size) (are.part Size).1)
+  special_flaw-following special value = refl
 
-  element_flaw-of : (piece : Piece) (kind : Option Special) → special_of (name_of piece) ≡ kind
-      → option_and_then (λ special. special_flaw special (list_any (has_name (name_of piece)) fields) named (value_of piece)) kind
-      ≡ option_and_then (λ special. special_flaw special (is_repeated special said) named (value_of piece)) kind
+  element_flaw-of : (piece : Piece) (found : Option Special) → special_of (name_of piece) ≡ found
+      → option_and_then (λ special. special_flaw special (list_any (has_name (name_of piece)) fields) named (value_of piece)) found
+      ≡ option_and_then (λ special. special_flaw special (is_repeated special said) named (value_of piece)) found
   element_flaw-of piece None is = refl
   element_flaw-of piece (Some special) is =
-      ap (λ n. special_flaw special (list_any (has_name n) fields) named (value_of piece)) (name_is (name_of piece) special is) ∙ special_flaw-behind special (value_of piece)
+      ap (λ n. special_flaw special (list_any (has_name n) fields) named (value_of piece)) (name_is (name_of piece) special is) ∙ special_flaw-following special (value_of piece)
 
-  element_flaw-behind : (piece : Piece) → element_flaw named fields piece ≡ flaw_behind named said piece
-  element_flaw-behind piece = element_flaw-of piece (special_of (name_of piece)) refl
+  element_flaw-following : (piece : Piece) → element_flaw named fields piece ≡ flaw_after named said piece
+  element_flaw-following piece = element_flaw-of piece (special_of (name_of piece)) refl
 
   rules_of_parts : AreRules fields said.rules
   rules_of_parts = record {
@@ -390,7 +353,7 @@ module _ (named : List (List ℕ)) (fields : List Piece) (said : Said) (are : Ar
     singular = are.part Singular;
     allowed = are.part Allowed ∙ ap (λ b. cond b (Some (names_in (codes "%allowed") fields)) None) (sym (list_any-values_of (codes "%allowed") fields));
     automatic = are.part Auto;
-    types = are.part Type_;
+    types = are.part Typed;
     definitions = are.part Typedef;
     size = (are.part Size).0;
     constraints = are.part Constraint;
@@ -458,9 +421,9 @@ module _ (fields : List Piece) (rules : Rules) (are : AreRules fields rules) whe
       (AllByRecursion-slice_get (IsGiven IsExpression (codes "%constraint")) fields k piece (each_gives IsExpression (codes "%constraint") fields rules.constraints are.constraints) at))
 
 module _ (fields : List Piece) (piece : Piece) (named : List (List ℕ)) (old new : Said) where
-  parts_by : (kind : Option Special) → special_of (name_of piece) ≡ kind → AreParts fields old
-      → option_and_then (λ special. special_flaw special (is_repeated special old) named (value_of piece)) kind ≡ None
-      → AddsOf kind (value_of piece) old new → AreParts (fields ++ piece ∷ []) new
+  parts_by : (found : Option Special) → special_of (name_of piece) ≡ found → AreParts fields old
+      → option_and_then (λ special. special_flaw special (is_repeated special old) named (value_of piece)) found ≡ None
+      → AddsOf found (value_of piece) old new → AreParts (fields ++ piece ∷ []) new
   parts_by None is are sound adds = subst (AreParts (fields ++ piece ∷ [])) (sym adds) (parts_other fields piece old is are)
   parts_by (Some special) is are sound adds = parts_more fields piece named old new special is are sound adds
 
@@ -474,29 +437,29 @@ fresh_type false false false rest sound = refl
 
 rec_flaw-fresh : (repeated : Bool) (named : List (List ℕ)) (ws : List (List ℕ)) → rec_flaw repeated named ws ≡ None → is_among named (first_word ws) ≡ false
 rec_flaw-fresh repeated named [] sound = cc
-rec_flaw-fresh repeated named (kind ∷ source) sound = fresh_type repeated (not (is_plain_name kind)) (is_among named kind) _ sound
+rec_flaw-fresh repeated named (record_type ∷ source) sound = fresh_type repeated (not (is_plain_name record_type)) (is_among named record_type) _ sound
 
-module _ (named : List (List ℕ)) (value : List ℕ) (old new : Said) (fresh : IsFresh named old.kind) where
-  fresh_as : (special : Special) → special_flaw special (is_repeated special old) named value ≡ None → Adds special value old new → IsFresh named new.kind
-  fresh_as Rec sound adds = subst (IsFresh named) (sym (ap (λ s. s.kind) adds)) (rec_flaw-fresh (is_some old.kind) named (words value) sound)
-  fresh_as Type_ sound adds = subst (IsFresh named) (sym (ap (λ s. s.kind) adds.2)) fresh
-  fresh_as Typedef sound adds = subst (IsFresh named) (sym (ap (λ s. s.kind) adds.2)) fresh
-  fresh_as Constraint sound adds = subst (IsFresh named) (sym (ap (λ s. s.kind) adds.2)) fresh
+module _ (named : List (List ℕ)) (value : List ℕ) (old new : Said) (fresh : IsFresh named old.record_type) where
+  fresh_as : (special : Special) → special_flaw special (is_repeated special old) named value ≡ None → Adds special value old new → IsFresh named new.record_type
+  fresh_as Rec sound adds = subst (IsFresh named) (sym (ap (λ s. s.record_type) adds)) (rec_flaw-fresh (is_some old.record_type) named (words value) sound)
+  fresh_as Typed sound adds = subst (IsFresh named) (sym (ap (λ s. s.record_type) adds.2)) fresh
+  fresh_as Typedef sound adds = subst (IsFresh named) (sym (ap (λ s. s.record_type) adds.2)) fresh
+  fresh_as Constraint sound adds = subst (IsFresh named) (sym (ap (λ s. s.record_type) adds.2)) fresh
   fresh_as Confidential sound adds = absurd adds
-  fresh_as special sound adds = subst (IsFresh named) (sym (ap (λ s. s.kind) adds)) fresh
+  fresh_as special sound adds = subst (IsFresh named) (sym (ap (λ s. s.record_type) adds)) fresh
 
-  fresh_by : (kind : Option Special) → option_and_then (λ special. special_flaw special (is_repeated special old) named value) kind ≡ None → AddsOf kind value old new → IsFresh named new.kind
-  fresh_by None sound adds = subst (IsFresh named) (sym (ap (λ s. s.kind) adds)) fresh
+  fresh_by : (found : Option Special) → option_and_then (λ special. special_flaw special (is_repeated special old) named value) found ≡ None → AddsOf found value old new → IsFresh named new.record_type
+  fresh_by None sound adds = subst (IsFresh named) (sym (ap (λ s. s.record_type) adds)) fresh
   fresh_by (Some special) sound adds = fresh_as special sound adds
 
 -- what is known of a descriptor when the fields before an index are read
 pub record IsReadUpTo (named : List (List ℕ)) (fields : List Piece) (i : ℕ) (said : Said) : Type 0 where
   pub sound : (k : ℕ) → k < i → field_flaw named fields k ≡ None
   pub are : AreParts (take i fields) said
-  pub fresh : IsFresh named said.kind
+  pub fresh : IsFresh named said.record_type
 
 pub read_none : (named : List (List ℕ)) (fields : List Piece) (said : Said) → said ≡ bare → IsReadUpTo named fields 0 said
-read_none named fields said is = record { sound = λ k less. absurd (omega arith); are = subst (AreParts []) (sym is) parts_none; fresh = subst (IsFresh named) (sym (ap (λ s. s.kind) is)) tt }
+read_none named fields said is = record { sound = λ k less. absurd (omega arith); are = subst (AreParts []) (sym is) parts_none; fresh = subst (IsFresh named) (sym (ap (λ s. s.record_type) is)) tt }
 
 module _ (named : List (List ℕ)) (fields : List Piece) (i : ℕ) (said : Said) (so_far : IsReadUpTo named fields i said) where
   pub read_all : length fields ≤ i → AreSaid named fields said
@@ -507,28 +470,28 @@ module _ (named : List (List ℕ)) (fields : List Piece) (i : ℕ) (said : Said)
           | inl less ↦ so_far.sound k less
           | inr more ↦ ap (option_and_then (element_flaw named (take k fields))) (slice_get_past fields k (omega arith))
         ];
-        kind = are.part Rec ∙ type_in-values_of fields;
+        record_type = are.part Rec ∙ type_in-values_of fields;
         fresh = so_far.fresh;
         rules = rules_of_parts named fields said are;
       }
 
   module _ (piece : Piece) (met : slice_get fields i ≡ Some piece) where
-    field_flaw-met : field_flaw named fields i ≡ flaw_behind named said piece
-    field_flaw-met = ap (option_and_then (element_flaw named (take i fields))) met ∙ element_flaw-behind named (take i fields) said so_far.are piece
+    field_flaw-met : field_flaw named fields i ≡ flaw_after named said piece
+    field_flaw-met = ap (option_and_then (element_flaw named (take i fields))) met ∙ element_flaw-following named (take i fields) said so_far.are piece
 
-    sound_here : flaw_behind named said piece ≡ None → (k : ℕ) → k ≤ i → field_flaw named fields k ≡ None
+    sound_here : flaw_after named said piece ≡ None → (k : ℕ) → k ≤ i → field_flaw named fields k ≡ None
     sound_here here k less = elim (cases_lt k i) [
       | inl earlier ↦ so_far.sound k earlier
       | inr now ↦ let same : k ≡ i = omega arith in ap (field_flaw named fields) same ∙ field_flaw-met ∙ here
     ]
 
-    pub read_more : (more : Said) → flaw_behind named said piece ≡ None → AddsField piece said more → IsReadUpTo named fields (i + 1) more
+    pub read_more : (more : Said) → flaw_after named said piece ≡ None → AddsField piece said more → IsReadUpTo named fields (i + 1) more
     read_more more sound adds =
-        let front : take (i + 1) fields ≡ take i fields ++ piece ∷ [] =
+        let prefix : take (i + 1) fields ≡ take i fields ++ piece ∷ [] =
         take_more fields i piece (slice_get_within fields i piece met) ∙ ap (λ p. take i fields ++ p ∷ []) (get_or_from_slice_get fields i piece piece met) in
         record {
           sound = λ k less. sound_here sound k (omega arith);
-          are = subst (λ fs. AreParts fs more) (sym front) (parts_by (take i fields) piece named said more (special_of (name_of piece)) refl so_far.are sound adds);
+          are = subst (λ fs. AreParts fs more) (sym prefix) (parts_by (take i fields) piece named said more (special_of (name_of piece)) refl so_far.are sound adds);
           fresh = fresh_by named (value_of piece) said more so_far.fresh (special_of (name_of piece)) sound adds;
         }
 
@@ -541,7 +504,7 @@ module _ (named : List (List ℕ)) (fields : List Piece) (i : ℕ) (said : Said)
     -- the fault of the field, which is one of these elements
     module _ (text : List ℕ) (elements : List Element) (field : Element) (elements_are : fields ≡ pieces_of elements) (stands : slice_get elements i ≡ Some field) (line : ℕ)
         (line_is : line ≡ line_after (take field.at text)) (more : Said) where
-      has_flaw : (flaw : Flaw) → flaw_behind named said piece ≡ Some flaw → HasFieldFlaw text named elements flaw line
+      has_flaw : (flaw : Flaw) → flaw_after named said piece ≡ Some flaw → HasFieldFlaw text named elements flaw line
       has_flaw flaw is = record {
         at = i;
         first = λ k less. subst (λ fs. FieldIsRead named fs k) elements_are (read_before k less);

@@ -1,19 +1,18 @@
 -- The flaws of a text are those of its records.
-use Rattle.std.proofs.Common.{◌≡◌, ◌∙◌, ℕ, ◌+◌, ◌-◌, ◌<◌, ◌≤◌, inl, inr, Bool, true, false, ◌&&◌, cond, List, [], ◌∷◌, ◌++◌, length, take, Option, Some, None, leb, ltb, refl, ap, sym, subst, arith}
+use Rattle.std.proofs.Common.{◌≡◌, ◌∙◌, ℕ, ◌+◌, ◌-◌, ◌<◌, ◌≤◌, inl, inr, Bool, true, false, ◌&&◌, cond, List, [], ◌∷◌, ◌++◌, length, take, drop, Option, Some, None, leb, ltb, refl, ap, sym, subst, arith}
 use Rattle.std.proofs.lemmas.Bool.{cases_Bool, cases_lt, false≢true, lt-leb, le-leb, lt-ltb, le-ltb, and_left, and_right}
-use Rattle.std.proofs.lemmas.List.{append-nil, length-drop, length-take}
-use Rattle.std.proofs.lemmas.Option.{slice_get_past, slice_get_within}
+use Rattle.std.proofs.lemmas.List.{append-nil, drop_more, length-drop, length-take, length-take-le, take-append-drop}
+use Rattle.std.proofs.lemmas.Option.{get_or_from_slice_get, slice_get_within}
 use Rattle.std.specs.List.{AllByRecursion, find, filter_map, cons_option, slice_get}
 use Rattle.std.specs.Option.{IfSome, is_some, option_and_then}
 use Rattle.std.specs.declared.ops.Range.{Range}
-use Rattle.rec_text.specs.Elements.{Piece, text_of}
-use Rattle.rec_text.specs.Reading.{line_after}
+use Rattle.rec_text.specs.Elements.{Piece}
 use Rattle.rec_text.specs.Records.{IsRecord, AreRecords, AreAscending, LiesIn, elements_in}
-use Rattle.rec_text.proofs.lemmas.ListLemmas.{AllByRecursion-behind, slice_get-drop, slice_get-take}
+use Rattle.rec_text.proofs.lemmas.ListLemmas.{AllByRecursion-following, slice_get-drop, slice_get-take}
 use Rattle.rec_text.proofs.lemmas.records.RangeLemmas.{LiesIn-cases, LiesIn-here, LiesIn-low, LiesIn-there}
-use Rattle.rec_check.specs.Descriptors.{Flaw, descriptor_at, element_flaw, field_flaw, flaw_at, holds_index, type_of, types_before, types_of}
-use Rattle.rec_check.specs.proving.Reading.{DescriptorMayBeRefused}
-use Rattle.rec_check.specs.Schemas.{ElementIsRead, FieldIsRead, HasFlaw, SchemaMayBeRefused}
+use Rattle.rec_check.specs.Descriptors.{DescriptorElement, Flaw, StandsAt, flaw_of, holds_index, type_of, types_named, types_of}
+use Rattle.rec_check.specs.proving.Flaws.{ElementIsRead, FieldIsRead, descriptor_at, element_flaw, field_flaw, flaw_at, types_before}
+use Rattle.rec_check.specs.Schemas.{FieldIsBuilt, IsReadElement}
 use Rattle.rec_check.proofs.lemmas.SetLemmas.{types_among, filter_map-append}
 
 -- ---- the record that holds an index
@@ -71,7 +70,12 @@ own_flaw named own k = cond (is_some (type_of own)) (field_flaw named own k) Non
 own_element : (pieces : List Piece) (fields : Range ℕ) (k : ℕ) → fields.start + k < fields.end → slice_get (elements_in pieces fields) k ≡ slice_get pieces (fields.start + k)
 own_element pieces fields k within = slice_get-drop fields.start k (take fields.end pieces) ∙ slice_get-take fields.end (fields.start + k) pieces within
 
--- ---- records before and behind one
+pub element_within : (pieces : List Piece) (fields : Range ℕ) (k : ℕ) (piece : Piece) → slice_get (elements_in pieces fields) k ≡ Some piece → fields.start + k < fields.end
+element_within pieces fields k piece stands =
+    let within : k < length (elements_in pieces fields) = slice_get_within (elements_in pieces fields) k piece stands in
+    omega (arith, length-drop fields.start (take fields.end pieces), length-take fields.end pieces)
+
+-- ---- records before and after one
 
 -- none is empty
 abbrev AreSome : List (Range ℕ) → Type 0
@@ -121,13 +125,27 @@ module _ (pieces : List Piece) (i : ℕ) where
       ap (λ b. cons_option (cond b (type_of (elements_in pieces r)) None) (filter_map ended_type done)) (le-leb r.end i ended)
       ∙ ap (cons_option (type_of (elements_in pieces r))) (filter_map-before r.end done fields rest ascending.1 some.1 le)
 
-  filter_map-behind : (least : ℕ) (rest : List (Range ℕ)) → AreAscending least rest → AreSome rest → i < least → filter_map ended_type rest ≡ []
-  filter_map-behind least [] ascending some lt = refl
-  filter_map-behind least (r ∷ rest) ascending some lt =
+  filter_map-following : (least : ℕ) (rest : List (Range ℕ)) → AreAscending least rest → AreSome rest → i < least → filter_map ended_type rest ≡ []
+  filter_map-following least [] ascending some lt = refl
+  filter_map-following least (r ∷ rest) ascending some lt =
       ap (λ b. cons_option (cond b (type_of (elements_in pieces r)) None) (filter_map ended_type rest)) (lt-leb r.end i (omega (arith, ascending.0, some.0)))
-      ∙ filter_map-behind r.end rest ascending.1 some.1 (omega (arith, ascending.0, some.0))
+      ∙ filter_map-following r.end rest ascending.1 some.1 (omega (arith, ascending.0, some.0))
 
--- ---- the flaws of a record, of which some records stand before and others behind
+pub types_named-among : (pieces : List Piece) (records : List (Range ℕ)) → types_among (types_of pieces records) ≡ types_named pieces records
+types_named-among pieces [] = refl
+types_named-among pieces (r ∷ records) = ap (cons_option (type_of (elements_in pieces r))) (types_named-among pieces records)
+
+-- a list at one of its elements
+cut_at : {X : Type 0} (xs : List X) (k : ℕ) (x : X) → slice_get xs k ≡ Some x → xs ≡ take k xs ++ x ∷ drop (k + 1) xs
+cut_at xs k x here =
+    let within : k < length xs = slice_get_within xs k x here in
+    sym (take-append-drop k xs) ∙ ap (λ l. take k xs ++ l) (drop_more xs k x within ∙ ap (λ y. y ∷ drop (k + 1) xs) (get_or_from_slice_get xs k x x here))
+
+pub slice_get-seam : {X : Type 0} (before : List X) (x : X) (following : List X) → slice_get (before ++ x ∷ following) (length before) ≡ Some x
+slice_get-seam [] x following = refl
+slice_get-seam (y ∷ before) x following = slice_get-seam before x following
+
+-- ---- the flaws of a record, of which some records stand before and others after
 
 module _ (pieces : List Piece) (done : List (Range ℕ)) (fields : Range ℕ) (rest : List (Range ℕ)) (are : AreRecords pieces (done ++ fields ∷ rest)) where
   abbrev all : List (Range ℕ)
@@ -144,14 +162,14 @@ module _ (pieces : List Piece) (done : List (Range ℕ)) (fields : Range ℕ) (r
   some = AreSome-records pieces all are.each
 
   some_left : AreSome (fields ∷ rest)
-  some_left = AllByRecursion-behind (λ r. r.start < r.end) done (fields ∷ rest) some
+  some_left = AllByRecursion-following (λ r. r.start < r.end) done (fields ∷ rest) some
 
   types_before-own : types_before pieces all fields.start ≡ named
   types_before-own =
       filter_map-append (ended_type pieces fields.start) done (fields ∷ rest)
       ∙ ap (λ ts. ts ++ filter_map (ended_type pieces fields.start) (fields ∷ rest)) (filter_map-before pieces fields.start 0 done fields rest are.ascending some (omega arith))
       ∙ ap (λ b. named ++ cons_option (cond b (type_of own) None) (filter_map (ended_type pieces fields.start) rest)) (lt-leb fields.end fields.start some_left.0)
-      ∙ ap (λ ts. named ++ ts) (filter_map-behind pieces fields.start fields.end rest (ascending_rest 0 done fields rest are.ascending) some_left.1 some_left.0)
+      ∙ ap (λ ts. named ++ ts) (filter_map-following pieces fields.start fields.end rest (ascending_rest 0 done fields rest are.ascending) some_left.1 some_left.0)
       ∙ append-nil named
 
   descriptor_at-own : (i : ℕ) → fields.start ≤ i → i < fields.end → descriptor_at pieces all i ≡ cond (is_some (type_of own)) (Some fields) None
@@ -167,9 +185,52 @@ module _ (pieces : List Piece) (done : List (Range ℕ)) (fields : Range ℕ) (r
       subst (λ o. IfSome o (IsReadIn pieces all i)) (sym (descriptor_at-own i low high))
       (IfSome-cond (is_some (type_of own)) fields (IsReadIn pieces all i) (λ is. subst (λ ts. FieldIsRead ts own (i - fields.start)) (sym types_before-own) (read is)))
 
+  -- an element of a descriptor
+  module _ (descriptor : is_some (type_of own) ≡ true) (k : ℕ) (piece : Piece) (here : slice_get own k ≡ Some piece) where
+    -- with what stands before it
+    abbrev pub own_descriptor_element : DescriptorElement
+    own_descriptor_element = record { named = named; before = take k own; piece = piece }
+
+    within : fields.start + k < fields.end
+    within = element_within pieces fields k piece here
+
+    back : fields.start + k - fields.start ≡ k
+    back = omega arith
+
+    descriptor_at-field : descriptor_at pieces all (fields.start + k) ≡ Some fields
+    descriptor_at-field = descriptor_at-own (fields.start + k) (omega arith) within ∙ ap (λ b. cond b (Some fields) None) descriptor
+
+    pub field_flaw-here : field_flaw named own k ≡ flaw_of own_descriptor_element
+    field_flaw-here = ap (option_and_then (element_flaw named (take k own))) here
+
+    pub flaw_at-field : flaw_at pieces all (fields.start + k) ≡ flaw_of own_descriptor_element
+    flaw_at-field =
+        flaw_at-own (fields.start + k) (omega arith) within ∙ ap (own_flaw named own) back ∙ ap (λ b. cond b (field_flaw named own k) None) descriptor
+        ∙ field_flaw-here
+
+    pub read-field : ElementIsRead pieces all (fields.start + k) → IsReadElement own_descriptor_element
+    read-field read =
+        let is_read : IsReadIn pieces all (fields.start + k) fields = subst (λ o. IfSome o (IsReadIn pieces all (fields.start + k))) descriptor_at-field read in
+        let field_is_read : FieldIsRead named own k =
+        subst (λ ts. FieldIsRead ts own k) types_before-own (subst (λ j. FieldIsRead (types_before pieces all fields.start) own j) back is_read) in
+        record { sound = sym field_flaw-here ∙ field_is_read.sound; built = subst (λ o. IfSome o FieldIsBuilt) here field_is_read.built }
+
+    pub stands-field : StandsAt pieces all (fields.start + k) own_descriptor_element
+    stands-field = record {
+      earlier = done;
+      own_range = fields;
+      later = rest;
+      following = drop (k + 1) own;
+      cut = refl;
+      named = types_named-among pieces done;
+      own = cut_at own k piece here;
+      is_descriptor = descriptor;
+      place = ap (λ n. fields.start + n) (sym (length-take-le k own (let less = slice_get_within own k piece here in omega arith)));
+    }
+
   module _ (before : (i : ℕ) → (LiesIn (fields ∷ rest) i → ⊥) → ElementIsRead pieces all i) where
-    pub read-behind : (is_some (type_of own) ≡ true → (k : ℕ) → FieldIsRead named own k) → (i : ℕ) → (LiesIn rest i → ⊥) → ElementIsRead pieces all i
-    read-behind read i outside = elim (cases_lt i fields.start) [
+    pub read-following : (is_some (type_of own) ≡ true → (k : ℕ) → FieldIsRead named own k) → (i : ℕ) → (LiesIn rest i → ⊥) → ElementIsRead pieces all i
+    read-following read i outside = elim (cases_lt i fields.start) [
       | inl early ↦ before i (λ lies. elim (LiesIn-cases fields rest i lies) [ inl here ↦ absurd (omega (arith, here.0)) | inr there ↦ outside there ])
       | inr from ↦
           elim (cases_lt i fields.end) [
@@ -178,58 +239,10 @@ module _ (pieces : List Piece) (done : List (Range ℕ)) (fields : Range ℕ) (r
           ]
     ]
 
-    read-up_to : (k : ℕ) → fields.start + k ≤ fields.end → ((j : ℕ) → j < k → FieldIsRead named own j) → (i : ℕ) → i < fields.start + k → ElementIsRead pieces all i
+    pub read-up_to : (k : ℕ) → fields.start + k ≤ fields.end → ((j : ℕ) → j < k → FieldIsRead named own j) → (i : ℕ) → i < fields.start + k → ElementIsRead pieces all i
     read-up_to k within read i lt = elim (cases_lt i fields.start) [
       | inl early ↦
           let ascending : AreAscending fields.start (fields ∷ rest) = (omega arith, ascending_rest 0 done fields rest are.ascending) in
           before i (λ lies. absurd (omega (arith, LiesIn-low fields.start (fields ∷ rest) i some_left ascending lies)))
       | inr from ↦ read-own i from (omega arith) (λ is. read (i - fields.start) (omega arith))
     ]
-
-    -- the elements of a descriptor
-    module _ (descriptor : is_some (type_of own) ≡ true) where
-      flaw_at-field : (k : ℕ) → fields.start + k < fields.end → flaw_at pieces all (fields.start + k) ≡ field_flaw named own k
-      flaw_at-field k within =
-          let back : fields.start + k - fields.start ≡ k = omega arith in
-          flaw_at-own (fields.start + k) (omega arith) within ∙ ap (own_flaw named own) back ∙ ap (λ b. cond b (field_flaw named own k) None) descriptor
-
-      own_within : (k : ℕ) (piece : Piece) → slice_get own k ≡ Some piece → fields.start + k < fields.end
-      own_within k piece stands =
-          let within : k < length own = slice_get_within own k piece stands in
-          omega (arith, length-drop fields.start (take fields.end pieces), length-take fields.end pieces)
-
-      flaw_within : (k : ℕ) (flaw : Flaw) → field_flaw named own k ≡ Some flaw → fields.start + k < fields.end
-      flaw_within k flaw met = elim (cases_lt k (length own)) [
-        | inl within ↦ omega (arith, length-drop fields.start (take fields.end pieces), length-take fields.end pieces)
-        | inr past ↦
-            let none : None ≡ Some flaw = sym (ap (option_and_then (element_flaw named (take k own))) (slice_get_past own k past)) ∙ met in
-            cc
-      ]
-
-      pub HasFlaw-own : (flaw : Flaw) (line k : ℕ) → ((j : ℕ) → j < k → FieldIsRead named own j) → field_flaw named own k ≡ Some flaw
-          → line ≡ line_after (text_of (take (fields.start + k) pieces)) → HasFlaw pieces flaw line
-      HasFlaw-own flaw line k read met number =
-          let within : fields.start + k < fields.end = flaw_within k flaw met in
-          record {
-            records = all;
-            are = are;
-            at = fields.start + k;
-            first = read-up_to k (omega arith) read;
-            met = flaw_at-field k within ∙ met;
-            number = number;
-          }
-
-      pub SchemaMayBeRefused-own : DescriptorMayBeRefused named own → SchemaMayBeRefused pieces
-      SchemaMayBeRefused-own has =
-          let within : fields.start + has.at < fields.end = own_within has.at has.field has.stands in
-          record {
-            records = all;
-            are = are;
-            at = fields.start + has.at;
-            first = read-up_to has.at (omega arith) has.first;
-            sound = flaw_at-field has.at within ∙ has.sound;
-            in_descriptor = ap is_some (descriptor_at-own (fields.start + has.at) (omega arith) within) ∙ ap (λ b. is_some (cond b (Some fields) None)) descriptor;
-            field = has.field;
-            stands = sym (own_element pieces fields has.at within) ∙ has.stands;
-            refused = has.refused;
-          }

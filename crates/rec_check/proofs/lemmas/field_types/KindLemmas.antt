@@ -7,7 +7,7 @@ use Rattle.rec_check.specs.declared.descriptors.refusal.Refusal.{Refusal}
 use Rattle.rec_check.specs.declared.descriptors.refusal.Refusal.TheVariants.{Bad, Unsupported, Pattern, OutOfMemory}
 use Rattle.rec_check.specs.proving.Kinds.{IsKindIn, IsTypeOf}
 use Rattle.rec_check.specs.Types.{FieldType, DefinitionMayBeRefused, Written, WrittenDefinition, one_of, definition_of, is_item, without_comments, enum_of, kind_of, names_of, type_of_kind, typing_of}
-use Rattle.rec_check.specs.Words.{words, behind_first_word}
+use Rattle.rec_check.specs.Words.{words, after_first_word}
 
 enum_of-items : (items : List (List ℕ)) → 0 < length items → list_all is_item items ≡ true → enum_of items ≡ Some (one_of items)
 enum_of-items [] some are = absurd (omega arith)
@@ -22,22 +22,22 @@ enum_type-items text kept items kept_is items_are some are =
 -- ---- what a `%type` field says, and a `%typedef` field
 
 -- a text whose first word is this kind
-module _ (text kind rest : List ℕ) (first : words text ≡ kind ∷ words rest) (rest_is : rest ≡ behind_first_word text) where
+module _ (text kind rest : List ℕ) (first : words text ≡ kind ∷ words rest) (rest_is : rest ≡ after_first_word text) where
   -- the kind by the words
   abbrev kind_by : List (List ℕ) → Option (List ℕ × FieldType (List ℕ))
-  kind_by ws = elim ws [ [] ↦ None | k ∷ others ↦ option_map (λ type_. (k, type_)) (type_of_kind k (behind_first_word text)) ]
+  kind_by ws = elim ws [ [] ↦ None | k ∷ others ↦ option_map (λ value_type. (k, value_type)) (type_of_kind k (after_first_word text)) ]
 
-  pub kind_of-parts : kind_of text ≡ option_map (λ type_. (kind, type_)) (type_of_kind kind rest)
-  kind_of-parts = ap kind_by first ∙ ap (λ behind. option_map (λ type_. (kind, type_)) (type_of_kind kind behind)) (sym rest_is)
+  pub kind_of-parts : kind_of text ≡ option_map (λ value_type. (kind, value_type)) (type_of_kind kind rest)
+  kind_of-parts = ap kind_by first ∙ ap (λ following. option_map (λ value_type. (kind, value_type)) (type_of_kind kind following)) (sym rest_is)
 
   pub kind_refused : (refusal : Refusal) → IsTypeOf (type_of_kind kind rest) (Err refusal) → IsKindIn text (Err refusal)
-  kind_refused Bad told = kind_of-parts ∙ ap (option_map (λ type_. (kind, type_))) told
+  kind_refused Bad told = kind_of-parts ∙ ap (option_map (λ value_type. (kind, value_type))) told
   kind_refused Unsupported told = told
-  kind_refused Pattern (pattern, written, refused) = (kind, pattern, kind_of-parts ∙ ap (option_map (λ type_. (kind, type_))) written, refused)
+  kind_refused Pattern (pattern, written, refused) = (kind, pattern, kind_of-parts ∙ ap (option_map (λ value_type. (kind, value_type))) written, refused)
   kind_refused OutOfMemory told = tt
 
 -- a field whose first word gives these names
-module _ (value joined behind : List ℕ) (names : List (List ℕ)) (first : words value ≡ joined ∷ words behind) (behind_is : behind ≡ behind_first_word value)
+module _ (value joined following : List ℕ) (names : List (List ℕ)) (first : words value ≡ joined ∷ words following) (following_is : following ≡ after_first_word value)
     (split : names ≡ slice_split (λ b. b == 44) joined) (are : list_all is_field_name names ≡ true) where
   names_are : names_of joined ≡ Some names
   names_are = ap (λ ns. cond (list_all is_field_name ns) (Some ns) None) (sym split) ∙ ap (λ b. cond b (Some names) None) are
@@ -46,34 +46,34 @@ module _ (value joined behind : List ℕ) (names : List (List ℕ)) (first : wor
   abbrev typing_by : List (List ℕ) → Option Written
   typing_by ws = elim ws [
     | [] ↦ None
-    | ns ∷ more ↦ option_and_then (λ ns. option_map (λ (kind, type_). record { names = ns; kind = kind; type_ = type_ }) (kind_of (behind_first_word value))) (names_of ns)
+    | ns ∷ more ↦ option_and_then (λ ns. option_map (λ (kind, value_type). record { names = ns; kind = kind; value_type = value_type }) (kind_of (after_first_word value))) (names_of ns)
   ]
 
-  pub typing_of-parts : typing_of value ≡ option_map (λ (kind, type_). record { names = names; kind = kind; type_ = type_ }) (kind_of behind)
+  pub typing_of-parts : typing_of value ≡ option_map (λ (kind, value_type). record { names = names; kind = kind; value_type = value_type }) (kind_of following)
   typing_of-parts =
-      ap typing_by first ∙ (ap (option_and_then (λ ns. option_map (λ (kind, type_). record { names = ns; kind = kind; type_ = type_ }) (kind_of (behind_first_word value)))) names_are
-      ∙ ap (λ text. option_map (λ (kind, type_). record { names = names; kind = kind; type_ = type_ }) (kind_of text)) (sym behind_is))
+      ap typing_by first ∙ (ap (option_and_then (λ ns. option_map (λ (kind, value_type). record { names = ns; kind = kind; value_type = value_type }) (kind_of (after_first_word value)))) names_are
+      ∙ ap (λ text. option_map (λ (kind, value_type). record { names = names; kind = kind; value_type = value_type }) (kind_of text)) (sym following_is))
 
 -- a field whose first word is this name
-module _ (value name behind : List ℕ) (first : words value ≡ name ∷ words behind) (behind_is : behind ≡ behind_first_word value) where
+module _ (value name following : List ℕ) (first : words value ≡ name ∷ words following) (following_is : following ≡ after_first_word value) where
   -- what the field says, by its words
   abbrev definition_by : List (List ℕ) → Option WrittenDefinition
   definition_by ws = elim ws [
     | [] ↦ None
-    | n ∷ more ↦ cond (is_plain_name n) (option_map (λ (kind, type_). record { name = n; kind = kind; type_ = type_ }) (kind_of (behind_first_word value))) None
+    | n ∷ more ↦ cond (is_plain_name n) (option_map (λ (kind, value_type). record { name = n; kind = kind; value_type = value_type }) (kind_of (after_first_word value))) None
   ]
 
-  pub definition_of-parts : definition_of value ≡ cond (is_plain_name name) (option_map (λ (kind, type_). record { name = name; kind = kind; type_ = type_ }) (kind_of behind)) None
+  pub definition_of-parts : definition_of value ≡ cond (is_plain_name name) (option_map (λ (kind, value_type). record { name = name; kind = kind; value_type = value_type }) (kind_of following)) None
   definition_of-parts =
-      ap definition_by first ∙ ap (λ text. cond (is_plain_name name) (option_map (λ (kind, type_). record { name = name; kind = kind; type_ = type_ }) (kind_of text)) None) (sym behind_is)
+      ap definition_by first ∙ ap (λ text. cond (is_plain_name name) (option_map (λ (kind, value_type). record { name = name; kind = kind; value_type = value_type }) (kind_of text)) None) (sym following_is)
 
-  pub refused_definition : (refusal : Refusal) → is_plain_name name ≡ true → IsKindIn behind (Err refusal) → refusal ≡ Pattern → DefinitionMayBeRefused value
+  pub refused_definition : (refusal : Refusal) → is_plain_name name ≡ true → IsKindIn following (Err refusal) → refusal ≡ Pattern → DefinitionMayBeRefused value
   refused_definition Pattern plain (kind, pattern, written, refused) is = (
     name,
     kind,
     pattern,
-    definition_of-parts ∙ ap (λ b. cond b (option_map (λ (kind, type_). record { name = name; kind = kind; type_ = type_ }) (kind_of behind)) None) plain
-        ∙ ap (option_map (λ (kind, type_). record { name = name; kind = kind; type_ = type_ })) written,
+    definition_of-parts ∙ ap (λ b. cond b (option_map (λ (kind, value_type). record { name = name; kind = kind; value_type = value_type }) (kind_of following)) None) plain
+        ∙ ap (option_map (λ (kind, value_type). record { name = name; kind = kind; value_type = value_type })) written,
     refused,
   )
   refused_definition refusal plain told is = cc

@@ -8,7 +8,8 @@ use Rattle.std.specs.Option.{option_and_then}
 use Rattle.std.specs.Str.{bytes_eq}
 use Rattle.regex.specs.Patterns.{Re}
 use Rattle.rec_text.proofs.lemmas.ListLemmas.{same_bytes}
-use Rattle.rec_check.specs.Meanings.{IsMeaning, meaning_within, meaning_in, MeaningIsOne}
+use Rattle.rec_check.specs.Meanings.{IsMeaning, MeaningIsOne}
+use Rattle.rec_check.specs.proving.Meanings.{meaning_within, meaning_in}
 use Rattle.rec_check.specs.Resolving.{is_known_kind, last_definition, LeadsTo, Resolves}
 use Rattle.rec_check.specs.Types.{FieldType, Definition}
 
@@ -26,12 +27,12 @@ module _ (definitions : List Definition) where
   same_steps kind own other first second (step ∷ steps) [] one two = absurd (false≢true (sym one.0 ∙ two.0))
   same_steps kind own other first second (step ∷ steps) (next ∷ more) one two =
       let same : next ≡ step = same_Some _ _ (sym two.1 ∙ one.1) in
-      let behind : LeadsTo definitions step.kind step.type_ more second = subst (λ (d : Definition). LeadsTo definitions d.kind d.type_ more second) same two.2 in
-      ap₂ ◌∷◌ (sym same) (same_steps step.kind step.type_ step.type_ first second steps more one.2 behind)
+      let following : LeadsTo definitions step.kind step.value_type more second = subst (λ (d : Definition). LeadsTo definitions d.kind d.value_type more second) same two.2 in
+      ap₂ ◌∷◌ (sym same) (same_steps step.kind step.value_type step.value_type first second steps more one.2 following)
 
   same_end : (kind : List ℕ) (own first second : MeantType) (steps : List Definition) → LeadsTo definitions kind own steps first → LeadsTo definitions kind own steps second → first ≡ second
   same_end kind own first second [] one two = one.1 ∙ sym two.1
-  same_end kind own first second (step ∷ steps) one two = same_end step.kind step.type_ first second steps one.2 two.2
+  same_end kind own first second (step ∷ steps) one two = same_end step.kind step.value_type first second steps one.2 two.2
 
   pub resolves_once : (kind : List ℕ) (own first second : MeantType) → Resolves definitions kind own first → Resolves definitions kind own second → first ≡ second
   resolves_once kind own first second one two =
@@ -74,73 +75,73 @@ length-without name (first ∷ later) definition found = elim (cases_Bool (bytes
 
 -- fewer steps than a name takes don't pass it
 leads_without : (definitions : List Definition) (name : List ℕ) (most : ℕ)
-    → ((own type_ : MeantType) (steps : List Definition) → LeadsTo definitions name own steps type_ → length steps ≡ most)
-    → (kind : List ℕ) (own type_ : MeantType) (steps : List Definition) → length steps < most → LeadsTo definitions kind own steps type_ → LeadsTo (without name definitions) kind own steps type_
-leads_without definitions name most long kind own type_ [] fewer leads = leads
-leads_without definitions name most long kind own type_ (step ∷ steps) fewer leads = elim (cases_Bool (bytes_eq name kind)) [
+    → ((own value_type : MeantType) (steps : List Definition) → LeadsTo definitions name own steps value_type → length steps ≡ most)
+    → (kind : List ℕ) (own value_type : MeantType) (steps : List Definition) → length steps < most → LeadsTo definitions kind own steps value_type → LeadsTo (without name definitions) kind own steps value_type
+leads_without definitions name most long kind own value_type [] fewer leads = leads
+leads_without definitions name most long kind own value_type (step ∷ steps) fewer leads = elim (cases_Bool (bytes_eq name kind)) [
   | inl same ↦
-      let takes : length (step ∷ steps) ≡ most = long own type_ (step ∷ steps) (subst (λ k. LeadsTo definitions k own (step ∷ steps) type_) (sym (same_bytes name kind same)) leads) in
+      let takes : length (step ∷ steps) ≡ most = long own value_type (step ∷ steps) (subst (λ k. LeadsTo definitions k own (step ∷ steps) value_type) (sym (same_bytes name kind same)) leads) in
       absurd (omega arith)
-  | inr other ↦ (leads.0, last_definition-without name kind other definitions ∙ leads.1, leads_without definitions name most long step.kind step.type_ type_ steps (omega arith) leads.2)
+  | inr other ↦ (leads.0, last_definition-without name kind other definitions ∙ leads.1, leads_without definitions name most long step.kind step.value_type value_type steps (omega arith) leads.2)
 ]
 
 few_steps : (most : ℕ) (definitions : List Definition) → length definitions ≤ most
-    → (kind : List ℕ) (own type_ : MeantType) (steps : List Definition) → LeadsTo definitions kind own steps type_ → length steps ≤ length definitions
-few_steps most definitions few kind own type_ [] leads = omega arith
-few_steps zero definitions few kind own type_ (step ∷ steps) leads = let fewer = length-without kind definitions step leads.1 in absurd (omega arith)
-few_steps (suc most) definitions few kind own type_ (step ∷ steps) leads =
+    → (kind : List ℕ) (own value_type : MeantType) (steps : List Definition) → LeadsTo definitions kind own steps value_type → length steps ≤ length definitions
+few_steps most definitions few kind own value_type [] leads = omega arith
+few_steps zero definitions few kind own value_type (step ∷ steps) leads = let fewer = length-without kind definitions step leads.1 in absurd (omega arith)
+few_steps (suc most) definitions few kind own value_type (step ∷ steps) leads =
     let fewer = length-without kind definitions step leads.1 in
-    let behind = leads_without definitions kind (length (step ∷ steps)) (λ other end more passes. ap length (same_steps definitions kind other own end type_ more (step ∷ steps) passes leads)) step.kind step.type_ type_ steps (omega arith) leads.2 in
-    let few_behind = few_steps most (without kind definitions) (omega arith) step.kind step.type_ type_ steps behind in
+    let following = leads_without definitions kind (length (step ∷ steps)) (λ other end more passes. ap length (same_steps definitions kind other own end value_type more (step ∷ steps) passes leads)) step.kind step.value_type value_type steps (omega arith) leads.2 in
+    let few_after = few_steps most (without kind definitions) (omega arith) step.kind step.value_type value_type steps following in
     omega arith
 
 -- ---- the function
 
 module _ (definitions : List Definition) where
-  meaning_within-leads : (most : ℕ) (kind : List ℕ) (own type_ : MeantType) (steps : List Definition) → length steps ≤ most → LeadsTo definitions kind own steps type_ → meaning_within most definitions kind own ≡ Some type_
-  meaning_within-leads zero kind own type_ [] few leads = rw leads.0 (ap Some (sym leads.1))
-  meaning_within-leads (suc most) kind own type_ [] few leads = rw leads.0 (ap Some (sym leads.1))
-  meaning_within-leads zero kind own type_ (step ∷ steps) few leads = absurd (omega arith)
-  meaning_within-leads (suc most) kind own type_ (step ∷ steps) few leads = rw leads.0 (rw leads.1 (meaning_within-leads most step.kind step.type_ type_ steps (omega arith) leads.2))
+  meaning_within-leads : (most : ℕ) (kind : List ℕ) (own value_type : MeantType) (steps : List Definition) → length steps ≤ most → LeadsTo definitions kind own steps value_type → meaning_within most definitions kind own ≡ Some value_type
+  meaning_within-leads zero kind own value_type [] few leads = rw leads.0 (ap Some (sym leads.1))
+  meaning_within-leads (suc most) kind own value_type [] few leads = rw leads.0 (ap Some (sym leads.1))
+  meaning_within-leads zero kind own value_type (step ∷ steps) few leads = absurd (omega arith)
+  meaning_within-leads (suc most) kind own value_type (step ∷ steps) few leads = rw leads.0 (rw leads.1 (meaning_within-leads most step.kind step.value_type value_type steps (omega arith) leads.2))
 
   -- by a definition, if any, that leads on
-  resolves_by : (most : ℕ) (kind : List ℕ) (own type_ : MeantType) (found : Option Definition) → is_known_kind kind ≡ false → last_definition definitions kind ≡ found
-      → ((step : Definition) → meaning_within most definitions step.kind step.type_ ≡ Some type_ → Resolves definitions step.kind step.type_ type_)
-      → option_and_then (λ step. meaning_within most definitions step.kind step.type_) found ≡ Some type_ → Resolves definitions kind own type_
-  resolves_by most kind own type_ None unknown last next is = absurd (none-some type_ is)
-  resolves_by most kind own type_ (Some step) unknown last next is = let behind = next step is in (step ∷ behind.0, (unknown, last, behind.1))
+  resolves_by : (most : ℕ) (kind : List ℕ) (own value_type : MeantType) (found : Option Definition) → is_known_kind kind ≡ false → last_definition definitions kind ≡ found
+      → ((step : Definition) → meaning_within most definitions step.kind step.value_type ≡ Some value_type → Resolves definitions step.kind step.value_type value_type)
+      → option_and_then (λ step. meaning_within most definitions step.kind step.value_type) found ≡ Some value_type → Resolves definitions kind own value_type
+  resolves_by most kind own value_type None unknown last next is = absurd (none-some value_type is)
+  resolves_by most kind own value_type (Some step) unknown last next is = let following = next step is in (step ∷ following.0, (unknown, last, following.1))
 
-  resolves_within : (most : ℕ) (kind : List ℕ) (own type_ : MeantType) → meaning_within most definitions kind own ≡ Some type_ → Resolves definitions kind own type_
-  resolves_within zero kind own type_ is = elim (cases_Bool (is_known_kind kind)) [
-    | inl known ↦ ([], (known, sym (same_Some own type_ (sym (rw known refl) ∙ is))))
-    | inr unknown ↦ absurd (none-some type_ (sym (rw unknown refl) ∙ is))
+  resolves_within : (most : ℕ) (kind : List ℕ) (own value_type : MeantType) → meaning_within most definitions kind own ≡ Some value_type → Resolves definitions kind own value_type
+  resolves_within zero kind own value_type is = elim (cases_Bool (is_known_kind kind)) [
+    | inl known ↦ ([], (known, sym (same_Some own value_type (sym (rw known refl) ∙ is))))
+    | inr unknown ↦ absurd (none-some value_type (sym (rw unknown refl) ∙ is))
   ]
-  resolves_within (suc most) kind own type_ is = elim (cases_Bool (is_known_kind kind)) [
-    | inl known ↦ ([], (known, sym (same_Some own type_ (sym (rw known refl) ∙ is))))
-    | inr unknown ↦ resolves_by most kind own type_ (last_definition definitions kind) unknown refl (λ step. resolves_within most step.kind step.type_ type_) (sym (rw unknown refl) ∙ is)
+  resolves_within (suc most) kind own value_type is = elim (cases_Bool (is_known_kind kind)) [
+    | inl known ↦ ([], (known, sym (same_Some own value_type (sym (rw known refl) ∙ is))))
+    | inr unknown ↦ resolves_by most kind own value_type (last_definition definitions kind) unknown refl (λ step. resolves_within most step.kind step.value_type value_type) (sym (rw unknown refl) ∙ is)
   ]
 
-  pub meaning_in-resolves : (kind : List ℕ) (own type_ : MeantType) → Resolves definitions kind own type_ → meaning_in definitions kind own ≡ Some type_
+  pub meaning_in-resolves : (kind : List ℕ) (own value_type : MeantType) → Resolves definitions kind own value_type → meaning_in definitions kind own ≡ Some value_type
   unfolding meaning_in
-  meaning_in-resolves kind own type_ resolves =
-      meaning_within-leads (length definitions) kind own type_ resolves.0 (few_steps (length definitions) definitions (omega arith) kind own type_ resolves.0 resolves.1) resolves.1
+  meaning_in-resolves kind own value_type resolves =
+      meaning_within-leads (length definitions) kind own value_type resolves.0 (few_steps (length definitions) definitions (omega arith) kind own value_type resolves.0 resolves.1) resolves.1
 
-  pub resolves-meaning_in : (kind : List ℕ) (own type_ : MeantType) → meaning_in definitions kind own ≡ Some type_ → Resolves definitions kind own type_
+  pub resolves-meaning_in : (kind : List ℕ) (own value_type : MeantType) → meaning_in definitions kind own ≡ Some value_type → Resolves definitions kind own value_type
   unfolding meaning_in
-  resolves-meaning_in kind own type_ is = resolves_within (length definitions) kind own type_ is
+  resolves-meaning_in kind own value_type is = resolves_within (length definitions) kind own value_type is
 
   -- ---- the law
 
   is_meaning : (kind : List ℕ) (own : MeantType) (answer : Option MeantType) → answer ≡ meaning_in definitions kind own → IsMeaning definitions kind own answer
-  is_meaning kind own (Some type_) is = resolves-meaning_in kind own type_ (sym is)
-  is_meaning kind own None is = λ type_ resolves. none-some type_ (is ∙ meaning_in-resolves kind own type_ resolves)
+  is_meaning kind own (Some value_type) is = resolves-meaning_in kind own value_type (sym is)
+  is_meaning kind own None is = λ value_type resolves. none-some value_type (is ∙ meaning_in-resolves kind own value_type resolves)
 
   unresolved : (kind : List ℕ) (own : MeantType) (found : Option MeantType) → IsMeaning definitions kind own None → meaning_in definitions kind own ≡ found → None ≡ found
   unresolved kind own None none is = refl
-  unresolved kind own (Some type_) none is = absurd (none type_ (resolves-meaning_in kind own type_ is))
+  unresolved kind own (Some value_type) none is = absurd (none value_type (resolves-meaning_in kind own value_type is))
 
   the_meaning : (kind : List ℕ) (own : MeantType) (answer : Option MeantType) → IsMeaning definitions kind own answer → answer ≡ meaning_in definitions kind own
-  the_meaning kind own (Some type_) resolves = sym (meaning_in-resolves kind own type_ resolves)
+  the_meaning kind own (Some value_type) resolves = sym (meaning_in-resolves kind own value_type resolves)
   the_meaning kind own None none = unresolved kind own (meaning_in definitions kind own) none refl
 
 pub one_meaning : MeaningIsOne

@@ -18,21 +18,21 @@ use Rattle.rec_check.specs.Words.{stripped}
 
 -- ---- the delimiters
 
-option_map-if : (same : Bool) (b : ℕ) (front : List ℕ) → option_map (λ rest. b ∷ rest) (if same then Some front else None) ≡ (if same then Some (b ∷ front) else None)
-option_map-if true b front = refl
-option_map-if false b front = refl
+option_map-if : (same : Bool) (b : ℕ) (prefix : List ℕ) → option_map (λ rest. b ∷ rest) (if same then Some prefix else None) ≡ (if same then Some (b ∷ prefix) else None)
+option_map-if true b prefix = refl
+option_map-if false b prefix = refl
 
-between-append : (delimiter last : ℕ) (front : List ℕ) → between delimiter (front ++ last ∷ []) ≡ (if eqb last delimiter then Some front else None)
+between-append : (delimiter last : ℕ) (prefix : List ℕ) → between delimiter (prefix ++ last ∷ []) ≡ (if eqb last delimiter then Some prefix else None)
 between-append delimiter last [] = refl
 between-append delimiter last (b ∷ []) = option_map-if (eqb last delimiter) b []
-between-append delimiter last (b ∷ (c ∷ front)) =
-    ap (option_map (λ rest. b ∷ rest)) (between-append delimiter last (c ∷ front)) ∙ option_map-if (eqb last delimiter) b (c ∷ front)
+between-append delimiter last (b ∷ (c ∷ prefix)) =
+    ap (option_map (λ rest. b ∷ rest)) (between-append delimiter last (c ∷ prefix)) ∙ option_map-if (eqb last delimiter) b (c ∷ prefix)
 
-module _ (text behind front : List ℕ) (first last : ℕ) (begins : text ≡ first ∷ behind) (ends : behind ≡ front ++ last ∷ []) where
-  pattern_in-parts : pattern_in text ≡ (if eqb last first then Some front else None)
-  pattern_in-parts = ap pattern_in begins ∙ ap (between first) ends ∙ between-append first last front
+module _ (text following prefix : List ℕ) (first last : ℕ) (begins : text ≡ first ∷ following) (ends : following ≡ prefix ++ last ∷ []) where
+  pattern_in-parts : pattern_in text ≡ (if eqb last first then Some prefix else None)
+  pattern_in-parts = ap pattern_in begins ∙ ap (between first) ends ∙ between-append first last prefix
 
-  pub pattern_in-same : first ≡ last → Some front ≡ pattern_in text
+  pub pattern_in-same : first ≡ last → Some prefix ≡ pattern_in text
   pattern_in-same same = sym (rw (eq-eqb last first (sym same)) at pattern_in-parts)
 
   pub pattern_in-differs : first ≢ last → None ≡ pattern_in text
@@ -58,5 +58,5 @@ module _ (text bare found pattern : List ℕ) (stripped_is : bare ≡ stripped t
   regexp_type-refused Pattern refused = (pattern, regexp_of-some, refused)
   regexp_type-refused OutOfMemory refused = tt
 
-  pub regexp_type-built : (built : Regex) (type_ : StoredType) → type_stored type_ ≡ matching (regex_pattern built) → IsBuiltFrom pattern built → IsTypeOf (regexp_of text) (Ok type_)
-  regexp_type-built built type_ stored is = (matching pattern, regexp_of-some, subst (IsBuilt (matching pattern)) (sym stored) (built, is.0, is.1, is.2, refl))
+  pub regexp_type-built : (built : Regex) (value_type : StoredType) → type_stored value_type ≡ matching (regex_pattern built) → IsBuiltFrom pattern built → IsTypeOf (regexp_of text) (Ok value_type)
+  regexp_type-built built value_type stored is = (matching pattern, regexp_of-some, subst (IsBuilt (matching pattern)) (sym stored) (built, is.0, is.1, is.2, refl))

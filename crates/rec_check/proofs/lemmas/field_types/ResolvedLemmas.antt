@@ -13,11 +13,13 @@ use Rattle.regex.specs.Patterns.{Re}
 use Rattle.rec_check.specs.declared.field_types.field_type.FieldType.{FieldType as StoredType}
 use Rattle.rec_check.specs.declared.field_types.resolution.Meaning.{Meaning}
 use Rattle.rec_check.specs.declared.field_types.resolution.Meaning.TheVariants.{SameAs, Settled}
-use Rattle.rec_check.specs.Meanings.{IsMeaning, meaning_in}
-use Rattle.rec_check.specs.proving.Resolved.{AreAtWork, AreLastPlaces, AreRight, AreSettledAt, AreWithin, IsAhead, IsRight, StaySettled, is_at, meant, next_in, open_at, settled_at, type_in}
+use Rattle.rec_check.specs.Meanings.{IsMeaning}
+use Rattle.rec_check.specs.proving.Meanings.{meaning_in}
+use Rattle.rec_check.specs.proving.Resolved.{AreAtWork, AreLastPlaces, AreRight, AreSettledAt, ArePlacesWithin, IsAhead, IsRight, StaySettled, is_at, meant, next_in, open_at, settled_at, type_in}
+use Rattle.rec_check.proofs.lemmas.field_types.LastLemmas.{FindLast-nil, FindLast-more, slice_get-end, slice_get-prefix}
 use Rattle.rec_check.specs.Resolving.{is_known_kind, last_definition, LeadsTo}
 use Rattle.rec_check.specs.Types.{FieldType, Definition}
-use Rattle.rec_check.proofs.lemmas.field_types.MeaningLemmas.{one_meaning, or_first, same_steps, meaning_in-resolves, resolves-meaning_in}
+use Rattle.rec_check.proofs.lemmas.field_types.MeaningLemmas.{one_meaning, same_steps, meaning_in-resolves, resolves-meaning_in}
 
 abbrev MeantType : Type 0
 MeantType = FieldType Re
@@ -32,15 +34,6 @@ module _ {X : Type 0} where
   slice_get_some [] i within = absurd (omega arith)
   slice_get_some (x ∷ xs) zero within = (x, refl)
   slice_get_some (x ∷ xs) (suc i) within = slice_get_some xs i (omega arith)
-
-  slice_get-front : (xs : List X) (y : X) (i : ℕ) → i < length xs → slice_get (xs ++ y ∷ []) i ≡ slice_get xs i
-  slice_get-front [] y i within = absurd (omega arith)
-  slice_get-front (x ∷ xs) y zero within = refl
-  slice_get-front (x ∷ xs) y (suc i) within = slice_get-front xs y i (omega arith)
-
-  slice_get-end : (xs : List X) (y : X) → slice_get (xs ++ y ∷ []) (length xs) ≡ Some y
-  slice_get-end [] y = refl
-  slice_get-end (x ∷ xs) y = slice_get-end xs y
 
   slice_get-set_same : (xs : List X) (i : ℕ) (y : X) → i < length xs → slice_get (set xs i y) i ≡ Some y
   slice_get-set_same [] i y within = absurd (omega arith)
@@ -78,111 +71,77 @@ is_at-either places last place among = elim (cases_Bool (is_at places place)) [
 
 -- ---- the last definitions
 
-last_definition-push : (definitions : List Definition) (last : Definition) (name : List ℕ) → last_definition (definitions ++ last ∷ []) name ≡ cond (bytes_eq last.name name) (Some last) (last_definition definitions name)
-last_definition-push [] last name = refl
-last_definition-push (first ∷ definitions) last name =
-    ap (λ found. or_first found first name) (last_definition-push definitions last name) ∙ elim (cases_Bool (bytes_eq last.name name)) [
-      | inl same ↦ rw same refl
-      | inr other ↦ rw other refl
-    ]
-
 pub AreLastPlaces-nil : (place : List ℕ → Option ℕ) → ((name : List ℕ) → place name ≡ None) → AreLastPlaces [] place
-AreLastPlaces-nil place nowhere = record {
-  finds = λ name. ap (option_and_then (slice_get [])) (nowhere name);
-  below = λ name at is. absurd (none-some at (sym (nowhere name) ∙ is));
-}
-
-front_found : (definitions : List Definition) (last : Definition) (place : Option ℕ) → ((at : ℕ) → place ≡ Some at → at < length definitions)
-    → option_and_then (slice_get (definitions ++ last ∷ [])) place ≡ option_and_then (slice_get definitions) place
-front_found definitions last None below = refl
-front_found definitions last (Some at) below = slice_get-front definitions last at (below at refl)
-
-module _ (definitions : List Definition) (last : Definition) (place next : List ℕ → Option ℕ) (are : AreLastPlaces definitions place)
-    (put : (name : List ℕ) → next name ≡ cond (bytes_eq last.name name) (Some (length definitions)) (place name)) where
-  AreLastPlaces-push : AreLastPlaces (definitions ++ last ∷ []) next
-  AreLastPlaces-push = record {
-    finds = λ name. ap (option_and_then (slice_get (definitions ++ last ∷ []))) (put name) ∙ elim (cases_Bool (bytes_eq last.name name)) [
-      | inl same ↦ rw (same, last_definition-push definitions last name, same) (slice_get-end definitions last)
-      | inr other ↦ rw (other, last_definition-push definitions last name, other) (front_found definitions last (place name) (are.below name) ∙ are.finds name)
-    ];
-    below = λ name at is. elim (cases_Bool (bytes_eq last.name name)) [
-      | inl same ↦
-          let here : length definitions ≡ at = same_Some _ _ (sym (put name ∙ ap (λ b. cond b (Some (length definitions)) (place name)) same) ∙ is) in
-          omega (arith, length-append definitions (last ∷ []))
-      | inr other ↦
-          let before : at < length definitions = are.below name at (sym (put name ∙ ap (λ b. cond b (Some (length definitions)) (place name)) other) ∙ is) in
-          omega (arith, length-append definitions (last ∷ []))
-    ];
-  }
+AreLastPlaces-nil place nowhere = FindLast-nil (λ definition name. bytes_eq definition.name name) place nowhere
 
 pub AreLastPlaces-more : (definitions more : List Definition) (last : Definition) (own : List ℕ) (place next : List ℕ → Option ℕ) (at : ℕ) → AreLastPlaces definitions place → more ≡ definitions ++ last ∷ []
     → at ≡ length definitions → own ≡ last.name → ((name : List ℕ) → next name ≡ cond (bytes_eq own name) (Some at) (place name)) → AreLastPlaces more next
 AreLastPlaces-more definitions more last own place next at are more_is at_is own_is put =
-    subst (λ l. AreLastPlaces l next) (sym more_is) (AreLastPlaces-push definitions last place next are (λ name.
-    put name ∙ ap (λ n. cond (bytes_eq n name) (Some at) (place name)) own_is ∙ ap (λ n. cond (bytes_eq last.name name) (Some n) (place name)) at_is))
+    FindLast-more (λ definition name. bytes_eq definition.name name) definitions more last place next at are more_is at_is
+    (λ name. put name ∙ ap (λ n. cond (bytes_eq n name) (Some at) (place name)) own_is)
 
 -- ---- one step
 
 module _ (definitions : List Definition) where
   module _ (kind : List ℕ) (own : MeantType) (next : Definition) (unknown : is_known_kind kind ≡ false) (last : last_definition definitions kind ≡ Some next) where
-    nearer_by_one : (type_ : MeantType) (steps : List Definition) → LeadsTo definitions kind own steps type_
-        → (rest : List Definition) × (length rest < length steps) × LeadsTo definitions next.kind next.type_ rest type_
-    nearer_by_one type_ [] leads = absurd (false≢true (sym unknown ∙ leads.0))
-    nearer_by_one type_ (step ∷ steps) leads =
-        (steps, omega arith, subst (λ (d : Definition). LeadsTo definitions d.kind d.type_ steps type_) (same_Some _ _ (sym leads.1 ∙ last)) leads.2)
+    nearer_by_one : (value_type : MeantType) (steps : List Definition) → LeadsTo definitions kind own steps value_type
+        → (rest : List Definition) × (length rest < length steps) × LeadsTo definitions next.kind next.value_type rest value_type
+    nearer_by_one value_type [] leads = absurd (false≢true (sym unknown ∙ leads.0))
+    nearer_by_one value_type (step ∷ steps) leads =
+        (steps, omega arith, subst (λ (d : Definition). LeadsTo definitions d.kind d.value_type steps value_type) (same_Some _ _ (sym leads.1 ∙ last)) leads.2)
 
-    step_meaning : (answer : Option MeantType) → IsMeaning definitions next.kind next.type_ answer → IsMeaning definitions kind own answer
-    step_meaning (Some type_) resolves = (next ∷ resolves.0, (unknown, last, resolves.1))
-    step_meaning None none = λ type_ resolves. let near = nearer_by_one type_ resolves.0 resolves.1 in none type_ (near.0, near.2)
+    step_meaning : (answer : Option MeantType) → IsMeaning definitions next.kind next.value_type answer → IsMeaning definitions kind own answer
+    step_meaning (Some value_type) resolves = (next ∷ resolves.0, (unknown, last, resolves.1))
+    step_meaning None none = λ value_type resolves. let near = nearer_by_one value_type resolves.0 resolves.1 in none value_type (near.0, near.2)
 
-    pub meaning_in-step : meaning_in definitions kind own ≡ meaning_in definitions next.kind next.type_
+    pub meaning_in-step : meaning_in definitions kind own ≡ meaning_in definitions next.kind next.value_type
     meaning_in-step =
-        let there : Option MeantType = meaning_in definitions next.kind next.type_ in
-        sym ((one_meaning definitions kind own there).0 (step_meaning there ((one_meaning definitions next.kind next.type_ there).1 refl)))
+        let there : Option MeantType = meaning_in definitions next.kind next.value_type in
+        sym ((one_meaning definitions kind own there).0 (step_meaning there ((one_meaning definitions next.kind next.value_type there).1 refl)))
 
   pub meaning_in-known : (kind : List ℕ) (own : MeantType) → is_known_kind kind ≡ true → meaning_in definitions kind own ≡ Some own
   meaning_in-known kind own known = meaning_in-resolves definitions kind own own ([], (known, refl))
 
-  no_steps : (kind : List ℕ) (own type_ : MeantType) (steps : List Definition) → is_known_kind kind ≡ false → last_definition definitions kind ≡ None → LeadsTo definitions kind own steps type_ → ⊥
-  no_steps kind own type_ [] unknown none leads = false≢true (sym unknown ∙ leads.0)
-  no_steps kind own type_ (step ∷ steps) unknown none leads = none-some step (sym none ∙ leads.1)
+  no_steps : (kind : List ℕ) (own value_type : MeantType) (steps : List Definition) → is_known_kind kind ≡ false → last_definition definitions kind ≡ None → LeadsTo definitions kind own steps value_type → ⊥
+  no_steps kind own value_type [] unknown none leads = false≢true (sym unknown ∙ leads.0)
+  no_steps kind own value_type (step ∷ steps) unknown none leads = none-some step (sym none ∙ leads.1)
 
   pub meaning_in-undefined : (kind : List ℕ) (own : MeantType) → is_known_kind kind ≡ false → last_definition definitions kind ≡ None → None ≡ meaning_in definitions kind own
-  meaning_in-undefined kind own unknown none = (one_meaning definitions kind own None).0 (λ type_ resolves. no_steps kind own type_ resolves.0 unknown none resolves.1)
+  meaning_in-undefined kind own unknown none = (one_meaning definitions kind own None).0 (λ value_type resolves. no_steps kind own value_type resolves.0 unknown none resolves.1)
 
   -- ---- many steps
 
   IsAhead-step : (first second : Definition) → is_known_kind first.kind ≡ false → last_definition definitions first.kind ≡ Some second → IsAhead definitions first second
   IsAhead-step first second unknown last = record {
-    same = meaning_in-step first.kind first.type_ second unknown last;
-    nearer = nearer_by_one first.kind first.type_ second unknown last;
+    same = meaning_in-step first.kind first.value_type second unknown last;
+    nearer = nearer_by_one first.kind first.value_type second unknown last;
   }
 
   IsAhead-more : (first second third : Definition) → IsAhead definitions first second → IsAhead definitions second third → IsAhead definitions first third
   IsAhead-more first second third one two = record {
     same = one.same ∙ two.same;
-    nearer = λ type_ steps leads.
-        let near = one.nearer type_ steps leads in
-        let nearer = two.nearer type_ near.0 near.2 in
+    nearer = λ value_type steps leads.
+        let near = one.nearer value_type steps leads in
+        let nearer = two.nearer value_type near.0 near.2 in
         (nearer.0, omega (arith, near.1, nearer.1), nearer.2);
   }
 
-  ahead_of_itself : (one : Definition) (found : Option MeantType) → IsAhead definitions one one → meaning_in definitions one.kind one.type_ ≡ found → None ≡ found
+  ahead_of_itself : (one : Definition) (found : Option MeantType) → IsAhead definitions one one → meaning_in definitions one.kind one.value_type ≡ found → None ≡ found
   ahead_of_itself one None ahead is = refl
-  ahead_of_itself one (Some type_) ahead is =
-      let resolves = resolves-meaning_in definitions one.kind one.type_ type_ is in
-      let near = ahead.nearer type_ resolves.0 resolves.1 in
-      let same : length near.0 ≡ length resolves.0 = ap length (same_steps definitions one.kind one.type_ one.type_ type_ type_ near.0 resolves.0 near.2 resolves.1) in
+  ahead_of_itself one (Some value_type) ahead is =
+      let resolves = resolves-meaning_in definitions one.kind one.value_type value_type is in
+      let near = ahead.nearer value_type resolves.0 resolves.1 in
+      let same : length near.0 ≡ length resolves.0 = ap length (same_steps definitions one.kind one.value_type one.value_type value_type value_type near.0 resolves.0 near.2 resolves.1) in
       absurd (omega (arith, near.1))
 
   -- ---- what a definition alone says
 
   module _ (place : List ℕ → Option ℕ) (are : AreLastPlaces definitions place) (definition : Definition) where
-    pub IsRight-known : is_known_kind definition.kind ≡ true → Some definition.type_ ≡ meaning_in definitions definition.kind definition.type_
-    IsRight-known known = sym (meaning_in-known definition.kind definition.type_ known)
+    pub IsRight-known : is_known_kind definition.kind ≡ true → Some definition.value_type ≡ meaning_in definitions definition.kind definition.value_type
+    IsRight-known known = sym (meaning_in-known definition.kind definition.value_type known)
 
     pub IsRight-undefined : is_known_kind definition.kind ≡ false → place definition.kind ≡ None → IsRight definitions definition (Settled None)
-    IsRight-undefined unknown nowhere = meaning_in-undefined definition.kind definition.type_ unknown (sym (are.finds definition.kind) ∙ ap (option_and_then (slice_get definitions)) nowhere)
+    IsRight-undefined unknown nowhere = meaning_in-undefined definition.kind definition.value_type unknown (sym (are.finds definition.kind) ∙ ap (option_and_then (slice_get definitions)) nowhere)
 
     pub IsRight-defined : (at : ℕ) → is_known_kind definition.kind ≡ false → place definition.kind ≡ Some at → IsRight definitions definition (SameAs at)
     IsRight-defined at unknown is =
@@ -213,8 +172,8 @@ module _ (definitions : List Definition) where
         size = omega (arith, so_far.size);
         below = omega arith;
         right = λ place definition meaning at is. elim (cases_lt place (length meanings)) [
-          | inl before ↦ so_far.right place definition meaning at (sym (ap (λ l. slice_get l place) more_is ∙ slice_get-front meanings last place before) ∙ is)
-          | inr behind ↦
+          | inl before ↦ so_far.right place definition meaning at (sym (ap (λ l. slice_get l place) more_is ∙ slice_get-prefix meanings last place before) ∙ is)
+          | inr following ↦
               let below : place < length more = slice_get_within more place meaning is in
               let here : place ≡ length meanings = omega arith in
               let there : place ≡ count = here ∙ so_far.size in
@@ -239,10 +198,10 @@ module _ (definitions : List Definition) where
   open_meaning : (found : Option Meaning) (next : ℕ) → option_and_then next_in found ≡ Some next → found ≡ Some (SameAs next)
   open_meaning None next is = absurd (none-some next is)
   open_meaning (Some (SameAs place)) next is = ap (λ n. Some (SameAs n)) (same_Some _ _ is)
-  open_meaning (Some (Settled type_)) next is = absurd (none-some next is)
+  open_meaning (Some (Settled value_type)) next is = absurd (none-some next is)
 
-  not_settled : (next : ℕ) (type_ : BorrowedType) → SameAs next ≡ Settled type_ → ⊥
-  not_settled next type_ same = none-some next (sym (ap next_in same))
+  not_settled : (next : ℕ) (value_type : BorrowedType) → SameAs next ≡ Settled value_type → ⊥
+  not_settled next value_type same = none-some next (sym (ap next_in same))
 
   module _ (passed : List ℕ) (at next : ℕ) (meanings : List Meaning) (work : AreAtWork definitions passed at meanings) (is : open_at meanings at ≡ Some next) where
     own_meaning : slice_get meanings at ≡ Some (SameAs next)
@@ -296,11 +255,11 @@ module _ (definitions : List Definition) where
   module _ (meanings : List Meaning) (at : ℕ) (closed : open_at meanings at ≡ None) where
     settled_type : (meaning : Meaning) → slice_get meanings at ≡ Some meaning → Settled (settled_at meanings at) ≡ meaning
     settled_type (SameAs next) is = absurd (none-some next (sym closed ∙ ap (option_and_then next_in) is))
-    settled_type (Settled type_) is = ap (λ found. Settled (option_and_then type_in found)) is
+    settled_type (Settled value_type) is = ap (λ found. Settled (option_and_then type_in found)) is
 
   module _ (passed : List ℕ) (at : ℕ) (meanings new : List Meaning) (work : AreAtWork definitions passed at meanings) (closed : open_at meanings at ≡ None)
       (settled : AreSettledAt passed (settled_at meanings at) meanings new) where
-    end_right : (second : Definition) → slice_get definitions at ≡ Some second → meant (settled_at meanings at) ≡ meaning_in definitions second.kind second.type_
+    end_right : (second : Definition) → slice_get definitions at ≡ Some second → meant (settled_at meanings at) ≡ meaning_in definitions second.kind second.value_type
     end_right second found =
         let own = slice_get_some meanings at (let size = work.size in let within = slice_get_within definitions at second found in omega arith) in
         let same : Settled (settled_at meanings at) ≡ own.0 = settled_type meanings at closed own.0 own.1 in
@@ -311,7 +270,7 @@ module _ (definitions : List Definition) where
               let first : way.0 ≡ second = same_Some _ _ (sym way.1 ∙ found) in
               let last : way.2.0 ≡ second = same_Some _ _ (sym way.2.1 ∙ found) in
               let round : IsAhead definitions second second = subst (λ (d : Definition). IsAhead definitions d second) first (subst (λ (d : Definition). IsAhead definitions way.0 d) last way.2.2) in
-              ap (λ m. meant (type_in m)) (same ∙ back.1) ∙ ahead_of_itself second (meaning_in definitions second.kind second.type_) round refl
+              ap (λ m. meant (type_in m)) (same ∙ back.1) ∙ ahead_of_itself second (meaning_in definitions second.kind second.value_type) round refl
         ]
 
     right_at_end : (place : ℕ) (definition : Definition) (meaning : Meaning) → slice_get definitions place ≡ Some definition → slice_get new place ≡ Some meaning → IsRight definitions definition meaning
@@ -322,7 +281,7 @@ module _ (definitions : List Definition) where
               let way = work.ahead place among in
               let first : way.0 ≡ definition = same_Some _ _ (sym way.1 ∙ found) in
               let now : Settled (settled_at meanings at) ≡ meaning = same_Some _ _ (sym (settled.each place within ∙ ap (λ b. cond b (Some (Settled (settled_at meanings at))) (slice_get meanings place)) among) ∙ stands) in
-              subst (λ (m : Meaning). IsRight definitions definition m) now (end_right way.2.0 way.2.1 ∙ sym way.2.2.same ∙ ap (λ d. meaning_in definitions d.kind d.type_) first)
+              subst (λ (m : Meaning). IsRight definitions definition m) now (end_right way.2.0 way.2.1 ∙ sym way.2.2.same ∙ ap (λ d. meaning_in definitions d.kind d.value_type) first)
           | inr other ↦ elim (work.right place definition meaning found (sym (settled.each place within ∙ ap (λ b. cond b (Some (Settled (settled_at meanings at))) (slice_get meanings place)) other) ∙ stands)) [
             | inl right ↦ right
             | inr back ↦ absurd (false≢true (sym other ∙ back.0))
@@ -352,17 +311,17 @@ module _ (definitions : List Definition) where
 
 -- ---- what stays settled
 
-open_at-own : (meanings : List Meaning) (at : ℕ) (type_ : BorrowedType) → at < length meanings → open_at (set meanings at (Settled type_)) at ≡ None
-open_at-own meanings at type_ within = ap (option_and_then next_in) (slice_get-set_same meanings at (Settled type_) within)
+open_at-own : (meanings : List Meaning) (at : ℕ) (value_type : BorrowedType) → at < length meanings → open_at (set meanings at (Settled value_type)) at ≡ None
+open_at-own meanings at value_type within = ap (option_and_then next_in) (slice_get-set_same meanings at (Settled value_type) within)
 
-open_at-set : (meanings : List Meaning) (at place : ℕ) (type_ : BorrowedType) → at < length meanings → open_at meanings place ≡ None → open_at (set meanings at (Settled type_)) place ≡ None
-open_at-set meanings at place type_ within closed = elim (cases_eq place at) [
-  | inl here ↦ ap (open_at (set meanings at (Settled type_))) here ∙ open_at-own meanings at type_ within
-  | inr apart ↦ ap (option_and_then next_in) (slice_get-set_other meanings at place (Settled type_) apart) ∙ closed
+open_at-set : (meanings : List Meaning) (at place : ℕ) (value_type : BorrowedType) → at < length meanings → open_at meanings place ≡ None → open_at (set meanings at (Settled value_type)) place ≡ None
+open_at-set meanings at place value_type within closed = elim (cases_eq place at) [
+  | inl here ↦ ap (open_at (set meanings at (Settled value_type))) here ∙ open_at-own meanings at value_type within
+  | inr apart ↦ ap (option_and_then next_in) (slice_get-set_other meanings at place (Settled value_type) apart) ∙ closed
 ]
 
-pub AreWithin-nil : (meanings : List Meaning) (passed : List ℕ) → passed ≡ [] → AreWithin passed meanings
-AreWithin-nil meanings passed none = λ place among. absurd (false≢true (sym (ap (λ l. is_at l place) none) ∙ among))
+pub ArePlacesWithin-nil : (meanings : List Meaning) (passed : List ℕ) → passed ≡ [] → ArePlacesWithin passed meanings
+ArePlacesWithin-nil meanings passed none = λ place among. absurd (false≢true (sym (ap (λ l. is_at l place) none) ∙ among))
 
 pub settled_start : (meanings : List Meaning) (at start : ℕ) → open_at meanings at ≡ None → (at ≡ start) ⊎ (open_at meanings start ≡ None) → open_at meanings start ≡ None
 settled_start meanings at start closed either = elim either [ inl here ↦ ap (open_at meanings) (sym here) ∙ closed | inr own ↦ own ]
@@ -380,8 +339,8 @@ module _ (meanings later : List Meaning) (at next : ℕ) (is : open_at meanings 
     | inr closed ↦ open_at-set meanings at start None own_place closed
   ]
 
-  pub AreWithin-more : (passed more : List ℕ) → more ≡ passed ++ at ∷ [] → AreWithin passed meanings → AreWithin more later
-  AreWithin-more passed more more_is within = λ place among.
+  pub ArePlacesWithin-more : (passed more : List ℕ) → more ≡ passed ++ at ∷ [] → ArePlacesWithin passed meanings → ArePlacesWithin more later
+  ArePlacesWithin-more passed more more_is within = λ place among.
       let size : length later ≡ length meanings = ap length later_is ∙ length-set meanings at (Settled None) in
       let own = own_place in
       elim (is_at-either passed at place (sym (ap (λ l. is_at l place) more_is) ∙ among)) [
@@ -391,7 +350,7 @@ module _ (meanings later : List Meaning) (at next : ℕ) (is : open_at meanings 
 
 abbrev pub is_open : Meaning → Bool
 is_open (SameAs next) = true
-is_open (Settled type_) = false
+is_open (Settled value_type) = false
 
 abbrev pub count_open : List Meaning → ℕ
 count_open [] = 0
@@ -403,13 +362,13 @@ count_open-set (SameAs place ∷ meanings) zero next is =
     let before : count_open (SameAs place ∷ meanings) ≡ 1 + count_open meanings = refl in
     let after : count_open (set (SameAs place ∷ meanings) zero (Settled None)) ≡ count_open meanings = refl in
     omega arith
-count_open-set (Settled type_ ∷ meanings) zero next is = absurd (none-some next (ap next_in (same_Some _ _ is)))
+count_open-set (Settled value_type ∷ meanings) zero next is = absurd (none-some next (ap next_in (same_Some _ _ is)))
 count_open-set (SameAs place ∷ meanings) (suc at) next is =
     let fewer = count_open-set meanings at next is in
     let before : count_open (SameAs place ∷ meanings) ≡ 1 + count_open meanings = refl in
     let after : count_open (set (SameAs place ∷ meanings) (suc at) (Settled None)) ≡ 1 + count_open (set meanings at (Settled None)) = refl in
     omega arith
-count_open-set (Settled type_ ∷ meanings) (suc at) next is = count_open-set meanings at next is
+count_open-set (Settled value_type ∷ meanings) (suc at) next is = count_open-set meanings at next is
 
 pub count_open-less : (meanings later : List Meaning) (at next : ℕ) → open_at meanings at ≡ Some next → later ≡ set meanings at (Settled None) → count_open later < count_open meanings
 count_open-less meanings later at next is later_is = rw later_is (count_open-set meanings at next (open_meaning [] (slice_get meanings at) next is))
@@ -423,26 +382,26 @@ or_false false = refl
 is_at-other : (places : List ℕ) (last place : ℕ) → (place ≡ last → ⊥) → is_at (places ++ last ∷ []) place ≡ is_at places place
 is_at-other places last place apart = is_at-push places last place ∙ ap (λ b. is_at places place || b) (ne_eqb last place (λ same. apart (sym same))) ∙ or_false (is_at places place)
 
-pub AreSettledAt-nil : (type_ : BorrowedType) (meanings : List Meaning) → AreSettledAt [] type_ meanings meanings
-AreSettledAt-nil type_ meanings = record { size = refl; each = λ place within. refl }
+pub AreSettledAt-nil : (value_type : BorrowedType) (meanings : List Meaning) → AreSettledAt [] value_type meanings meanings
+AreSettledAt-nil value_type meanings = record { size = refl; each = λ place within. refl }
 
-pub AreSettledAt-more : (places more : List ℕ) (type_ : BorrowedType) (old meanings later : List Meaning) (at : ℕ) → at < length old → AreSettledAt places type_ old meanings
-    → more ≡ places ++ at ∷ [] → later ≡ set meanings at (Settled type_) → AreSettledAt more type_ old later
-AreSettledAt-more places more type_ old meanings later at within so_far more_is later_is =
-    subst (λ l. AreSettledAt l type_ old later) (sym more_is) (subst (λ l. AreSettledAt (places ++ at ∷ []) type_ old l) (sym later_is) (record {
-      size = length-set meanings at (Settled type_) ∙ so_far.size;
+pub AreSettledAt-more : (places more : List ℕ) (value_type : BorrowedType) (old meanings later : List Meaning) (at : ℕ) → at < length old → AreSettledAt places value_type old meanings
+    → more ≡ places ++ at ∷ [] → later ≡ set meanings at (Settled value_type) → AreSettledAt more value_type old later
+AreSettledAt-more places more value_type old meanings later at within so_far more_is later_is =
+    subst (λ l. AreSettledAt l value_type old later) (sym more_is) (subst (λ l. AreSettledAt (places ++ at ∷ []) value_type old l) (sym later_is) (record {
+      size = length-set meanings at (Settled value_type) ∙ so_far.size;
       each = λ place below. elim (cases_eq place at) [
-        | inl here ↦ rw here (rw (is_at-last places at) (slice_get-set_same meanings at (Settled type_) (let size = so_far.size in omega arith)))
-        | inr apart ↦ slice_get-set_other meanings at place (Settled type_) apart ∙ so_far.each place below
-            ∙ ap (λ b. cond b (Some (Settled type_)) (slice_get old place)) (sym (is_at-other places at place apart))
+        | inl here ↦ rw here (rw (is_at-last places at) (slice_get-set_same meanings at (Settled value_type) (let size = so_far.size in omega arith)))
+        | inr apart ↦ slice_get-set_other meanings at place (Settled value_type) apart ∙ so_far.each place below
+            ∙ ap (λ b. cond b (Some (Settled value_type)) (slice_get old place)) (sym (is_at-other places at place apart))
       ];
     }))
 
-pub AreWithin-at : (places : List ℕ) (meanings : List Meaning) (i d : ℕ) → AreWithin places meanings → i < length places → get_or places i d < length meanings
-AreWithin-at places meanings i d within below = within (get_or places i d) (list_any_at (λ one. eqb one (get_or places i d)) places i d below (eq-eqb _ _ refl))
+pub ArePlacesWithin-at : (places : List ℕ) (meanings : List Meaning) (i d : ℕ) → ArePlacesWithin places meanings → i < length places → get_or places i d < length meanings
+ArePlacesWithin-at places meanings i d within below = within (get_or places i d) (list_any_at (λ one. eqb one (get_or places i d)) places i d below (eq-eqb _ _ refl))
 
-pub StaySettled-settled : (places : List ℕ) (type_ : BorrowedType) (old meanings new : List Meaning) → StaySettled old meanings → AreSettledAt places type_ meanings new → StaySettled old new
-StaySettled-settled places type_ old meanings new stay settled = λ place closed. elim (cases_lt place (length meanings)) [
+pub StaySettled-settled : (places : List ℕ) (value_type : BorrowedType) (old meanings new : List Meaning) → StaySettled old meanings → AreSettledAt places value_type meanings new → StaySettled old new
+StaySettled-settled places value_type old meanings new stay settled = λ place closed. elim (cases_lt place (length meanings)) [
   | inl within ↦ ap (option_and_then next_in) (settled.each place within) ∙ elim (cases_Bool (is_at places place)) [
     | inl among ↦ rw among refl
     | inr other ↦ rw other (stay place closed)
@@ -459,7 +418,7 @@ closed_past meanings count closed all place = elim (cases_lt place count) [
 pub closed_more : (old new : List Meaning) (start : ℕ) → ((place : ℕ) → place < start → open_at old place ≡ None) → StaySettled old new → open_at new start ≡ None → (place : ℕ) → place < start + 1 → open_at new place ≡ None
 closed_more old new start closed stay own place below = elim (cases_lt place start) [
   | inl before ↦ stay place (closed place before)
-  | inr behind ↦ ap (open_at new) (let here : place ≡ start = omega arith in here) ∙ own
+  | inr following ↦ ap (open_at new) (let here : place ≡ start = omega arith in here) ∙ own
 ]
 
 pub slice_get-map_at : {X Y : Type 0} (f : X → Y) (xs : List X) (i : ℕ) (d : X) → i < length xs → d ≡ get_or xs i d → slice_get (map f xs) i ≡ Some (f d)
@@ -467,16 +426,16 @@ slice_get-map_at f xs i d within is = slice_get-map f xs i ∙ ap (option_map f)
 
 -- ---- one way, whose places are handed on as a slice
 
-pub AreWithin-as : (passed places : List ℕ) (meanings : List Meaning) → AreWithin passed meanings → places ≡ passed → AreWithin places meanings
-AreWithin-as passed places meanings within same = subst (λ l. AreWithin l meanings) (sym same) within
+pub ArePlacesWithin-as : (passed places : List ℕ) (meanings : List Meaning) → ArePlacesWithin passed meanings → places ≡ passed → ArePlacesWithin places meanings
+ArePlacesWithin-as passed places meanings within same = subst (λ l. ArePlacesWithin l meanings) (sym same) within
 
-pub AreRight-end : (definitions : List Definition) (passed places : List ℕ) (at : ℕ) (meanings new : List Meaning) (type_ : BorrowedType) → AreAtWork definitions passed at meanings → open_at meanings at ≡ None
-    → type_ ≡ settled_at meanings at → places ≡ passed → AreSettledAt places type_ meanings new → AreRight definitions new
-AreRight-end definitions passed places at meanings new type_ work closed type_is same settled =
+pub AreRight-end : (definitions : List Definition) (passed places : List ℕ) (at : ℕ) (meanings new : List Meaning) (value_type : BorrowedType) → AreAtWork definitions passed at meanings → open_at meanings at ≡ None
+    → value_type ≡ settled_at meanings at → places ≡ passed → AreSettledAt places value_type meanings new → AreRight definitions new
+AreRight-end definitions passed places at meanings new value_type work closed type_is same settled =
     AreRight-settled definitions passed at meanings new work closed (subst (λ l. AreSettledAt l (settled_at meanings at) meanings new) same (subst (λ (t : BorrowedType). AreSettledAt places t meanings new) type_is settled))
 
-pub StaySettled-end : (places : List ℕ) (type_ : BorrowedType) (old meanings new : List Meaning) → StaySettled old meanings → AreSettledAt places type_ meanings new → StaySettled old new
-StaySettled-end places type_ old meanings new stay settled = StaySettled-settled places type_ old meanings new stay settled
+pub StaySettled-end : (places : List ℕ) (value_type : BorrowedType) (old meanings new : List Meaning) → StaySettled old meanings → AreSettledAt places value_type meanings new → StaySettled old new
+StaySettled-end places value_type old meanings new stay settled = StaySettled-settled places value_type old meanings new stay settled
 
-pub start_end : (start : ℕ) (places : List ℕ) (type_ : BorrowedType) (meanings new : List Meaning) → open_at meanings start ≡ None → AreSettledAt places type_ meanings new → open_at new start ≡ None
-start_end start places type_ meanings new closed settled = StaySettled-settled places type_ meanings meanings new (λ place is. is) settled start closed
+pub start_end : (start : ℕ) (places : List ℕ) (value_type : BorrowedType) (meanings new : List Meaning) → open_at meanings start ≡ None → AreSettledAt places value_type meanings new → open_at new start ≡ None
+start_end start places value_type meanings new closed settled = StaySettled-settled places value_type meanings meanings new (λ place is. is) settled start closed

@@ -2,12 +2,12 @@
 use Rattle.std.specs.Prelude.{codes}
 use Rattle.std.proofs.Common.{◌≡◌, ℕ, pos, true, false, List, [], ◌∷◌, Some, None, refl}
 use Rattle.regex.specs.Patterns.{Re}
-use Rattle.rec_check.specs.Meanings.{meaning_in}
+use Rattle.rec_check.specs.proving.Meanings.{meaning_in}
 use Rattle.rec_check.specs.Resolving.{is_known_kind, LeadsTo}
 use Rattle.rec_check.specs.Types.{FieldType, Definition, integer, range, line, unchecked}
 
 abbrev define : List ℕ → List ℕ → FieldType Re → Definition
-define name kind type_ = record { name = name; kind = kind; type_ = type_ }
+define name kind value_type = record { name = name; kind = kind; value_type = value_type }
 
 abbrev percent : FieldType Re
 percent = range (pos 0) (pos 100)

@@ -6,13 +6,13 @@ use Rattle.rec_check.specs.Types.{FieldType, integer, range, size, truth, one_of
 -- ---- how a type is written
 
 abbrev only_n : List ℕ → FieldType (List ℕ) → Option Written
-only_n kind type_ = Some (record { names = codes "N" ∷ []; kind = kind; type_ = type_ })
+only_n kind value_type = Some (record { names = codes "N" ∷ []; kind = kind; value_type = value_type })
 
-pub commas_join_names : typing_of (codes "N,M int") ≡ Some (record { names = codes "N" ∷ codes "M" ∷ []; kind = codes "int"; type_ = integer })
+pub commas_join_names : typing_of (codes "N,M int") ≡ Some (record { names = codes "N" ∷ codes "M" ∷ []; kind = codes "int"; value_type = integer })
 commas_join_names = refl
 
-pub blank_behind_a_comma_ends_the_names : typing_of (codes "N, M int") ≡ None
-blank_behind_a_comma_ends_the_names = refl
+pub blank_after_a_comma_ends_the_names : typing_of (codes "N, M int") ≡ None
+blank_after_a_comma_ends_the_names = refl
 
 pub integers_have_no_words : typing_of (codes "N int 5") ≡ None
 integers_have_no_words = refl

@@ -16,7 +16,7 @@ use Rattle.rec_text.specs.Values.{value_of}
 use Rattle.rec_text.proofs.lemmas.records.RecordLemmas.{OneListOfRecords-holds}
 use Rattle.rec_sex.specs.Expressions.{AreSame}
 use Rattle.rec_sex.specs.Grammar.{Term}
-use Rattle.rec_sex.specs.Meaning.{Choice_, Selects, sem, is_true}
+use Rattle.rec_sex.specs.Meaning.{Assignment, Selects, sem, is_true}
 use Rattle.rec_sex.proofs.lemmas.syntax.UniqueLemmas.{same_is_found, same_sem}
 use Rattle.rec_check.specs.declared.set.Set_.{Set_}
 use Rattle.rec_check.specs.declared.descriptors.special.Bound.{Bound}
@@ -24,7 +24,7 @@ use Rattle.rec_check.specs.Descriptors.{meets}
 use Rattle.rec_check.specs.Rules.{Rules, AreSameRules, AreSameTypes, field_type}
 use Rattle.rec_check.specs.Schemas.{Described}
 use Rattle.rec_check.specs.Types.{FieldType, matching, fits}
-use Rattle.rec_check.specs.Violations.{line_at, violation, violations_of, occurrences, breaks_key, breaks_singular, names_of, key_violations, mandatory_violations, prohibit_violations, unique_violations, singular_violations, allowed_violations, type_violations, breaks_type, size_violations, head_line, members, resolves, unresolved_violations, typedef_violations, head_violations, AreUnselected, AreOfRecord, AreOfRecords, AreOfSet, AreOfSets, OneReport}
+use Rattle.rec_check.specs.Violations.{line_at, violation, violations_of, occurrences, breaks_key, breaks_singular, names_of, key_violations, mandatory_violations, prohibit_violations, unique_violations, singular_violations, allowed_violations, type_violations, misfits, size_violations, head_line, members, resolves, unresolved_violations, typedef_violations, head_violations, AreUnselected, AreOfRecord, AreOfRecords, AreOfSet, AreOfSets, OneReport}
 use Rattle.rec_check.specs.Words.{is_among, distinct}
 use Rattle.rec_check.proofs.lemmas.laws.SameLemmas.{one_schema}
 use Rattle.rec_check.proofs.lemmas.laws.SameTypeLemmas.{AreSameIfAny, same_field_type, same_resolves}
@@ -32,7 +32,7 @@ use Rattle.rec_check.proofs.lemmas.laws.SameTypeLemmas.{AreSameIfAny, same_field
 -- ---- what the same expressions mean
 
 -- expressions that mean the same select the same records
-selects_too : (one other : Term) (pieces : List Piece) → ((c : Choice_) → sem one pieces c ≡ sem other pieces c) → Selects one pieces → Selects other pieces
+selects_too : (one other : Term) (pieces : List Piece) → ((c : Assignment) → sem one pieces c ≡ sem other pieces c) → Selects one pieces → Selects other pieces
 selects_too one other pieces means selects = record {
   chosen = selects.chosen;
   is_choice = selects.is_choice;
@@ -94,34 +94,34 @@ module _ (one other : Rules) (same : AreSameRules one other) where
       ∙ ap (λ mandatory. unlisted line fields other.key mandatory one.allowed) same.mandatory
       ∙ ap (λ allowed. unlisted line fields other.key other.mandatory allowed) same.allowed
 
-  same_breaks_type : (piece : Piece) → breaks_type one piece ≡ breaks_type other piece
-  same_breaks_type piece =
+  same_misfits : (piece : Piece) → misfits (field_type one) piece ≡ misfits (field_type other) piece
+  same_misfits piece =
       ap (λ breaks. is_field_piece piece && breaks) (same_misfit (field_type one (name_of piece)) (field_type other (name_of piece)) (value_of piece) (same_field_type one other (name_of piece) same))
 
-  same_type_violations : (pieces : List Piece) (record_ : Range ℕ) → type_violations pieces one record_ ≡ type_violations pieces other record_
-  same_type_violations pieces record_ =
+  same_type_violations : (pieces : List Piece) (start : ℕ) (fields : List Piece) → type_violations pieces (field_type one) start fields ≡ type_violations pieces (field_type other) start fields
+  same_type_violations pieces start fields =
       ap (λ (breaks : Piece → Bool). filter_map (λ (i, piece). if breaks piece then Some (violation (line_at pieces i) Fit (name_of piece)) else None)
-      (enumerate_from record_.start (elements_in pieces record_))) (fun_ext same_breaks_type)
+      (enumerate_from start fields)) (fun_ext same_misfits)
 
-  one_of_record : (pieces : List Piece) (earlier : List (List Piece)) (record_ : Range ℕ) (here there : List Violation)
-      → AreOfRecord pieces one earlier record_ here → AreOfRecord pieces other earlier record_ there → here ≡ there
-  one_of_record pieces earlier record_ here there are too =
-      let fields : List Piece = elements_in pieces record_ in
-      let line : ℕ = line_at pieces record_.start in
+  one_of_record : (pieces : List Piece) (earlier : List (List Piece)) (own_range : Range ℕ) (here there : List Violation)
+      → AreOfRecord pieces one earlier own_range here → AreOfRecord pieces other earlier own_range there → here ≡ there
+  one_of_record pieces earlier own_range here there are too =
+      let fields : List Piece = elements_in pieces own_range in
+      let line : ℕ = line_at pieces own_range.start in
       let unselected : are.unselected ≡ too.unselected =
       one_unselected line 1 one.constraints other.constraints fields are.unselected too.unselected same.constraints are.are too.are in
       are.joined ∙ ap₂ ◌++◌ (same_key line earlier fields) (ap₂ ◌++◌ (same_mandatory line fields) (ap₂ ◌++◌ (same_prohibited line fields)
       (ap₂ ◌++◌ (same_unique line fields) (ap₂ ◌++◌ (same_singular line earlier fields) (ap₂ ◌++◌ (same_allowed line fields)
-      (ap₂ ◌++◌ (same_type_violations pieces record_) unselected)))))) ∙ sym too.joined
+      (ap₂ ◌++◌ (same_type_violations pieces own_range.start fields) unselected)))))) ∙ sym too.joined
 
   -- ---- one record set
 
   one_of_records : (pieces : List Piece) (earlier : List (List Piece)) (records : List (Range ℕ)) (here there : List Violation)
       → AreOfRecords pieces one earlier records here → AreOfRecords pieces other earlier records there → here ≡ there
   one_of_records pieces earlier [] here there are too = are ∙ sym too
-  one_of_records pieces earlier (record_ ∷ records) here there (own, rest, is, are, joined) (second, more, is_too, too, joined_too) =
-      joined ∙ ap₂ ◌++◌ (one_of_record pieces earlier record_ own second is is_too)
-      (one_of_records pieces (earlier ++ elements_in pieces record_ ∷ []) records rest more are too) ∙ sym joined_too
+  one_of_records pieces earlier (own_range ∷ records) here there (own, rest, is, are, joined) (second, more, is_too, too, joined_too) =
+      joined ∙ ap₂ ◌++◌ (one_of_record pieces earlier own_range own second is is_too)
+      (one_of_records pieces (earlier ++ elements_in pieces own_range ∷ []) records rest more are too) ∙ sym joined_too
 
   same_size : (pieces : List Piece) (records : List (Range ℕ)) (s : Set_) → size_violations pieces records one s ≡ size_violations pieces records other s
   same_size pieces records s =
@@ -131,7 +131,7 @@ module _ (one other : Rules) (same : AreSameRules one other) where
   same_typedefs : (pieces : List Piece) (records : List (Range ℕ)) (s : Set_) → typedef_violations pieces records one s ≡ typedef_violations pieces records other s
   same_typedefs pieces records s =
       let same_all : resolves one.definitions ≡ resolves other.definitions = fun_ext (same_resolves one.definitions other.definitions same.definitions) in
-      ap (λ (resolved : List ℕ → Bool). option_map_or (λ record_. unresolved_violations pieces resolved record_.start (elements_in pieces record_)) (option_and_then (slice_get records) s.head) []) same_all
+      ap (λ (resolved : List ℕ → Bool). option_map_or (λ own_range. unresolved_violations pieces resolved own_range.start (elements_in pieces own_range)) (option_and_then (slice_get records) s.head) []) same_all
 
   same_head : (pieces : List Piece) (records : List (Range ℕ)) (s : Set_) → head_violations pieces records one s ≡ head_violations pieces records other s
   same_head pieces records s = ap₂ ◌++◌ (same_size pieces records s) (same_typedefs pieces records s)

@@ -1,8 +1,7 @@
 -- Texts with the same descriptors have schemas with the same rules.
-use Rattle.std.proofs.Common.{◌≡◌, ◌∙◌, ℕ, ◌+◌, ◌-◌, ◌<◌, Bool, true, false, cond, List, [], ◌∷◌, ◌++◌, length, map, take, position, replicate, Option, Some, None, refl, ap, ap₂, sym, subst, inl, inr, suc, zero, arith}
-use Rattle.std.proofs.lemmas.Bool.{cases_Bool, cases_lt, false≢true}
-use Rattle.std.proofs.lemmas.List.{append_assoc, append-nil, length-drop, length-take, length_push, map-append}
-use Rattle.std.proofs.lemmas.Option.{slice_get_past}
+use Rattle.std.proofs.Common.{◌≡◌, ◌∙◌, ℕ, ◌+◌, ◌-◌, true, false, cond, List, [], ◌∷◌, ◌++◌, length, map, take, position, replicate, slice_get, Option, Some, None, refl, ap, ap₂, sym, subst, inl, inr, suc, zero, arith}
+use Rattle.std.proofs.lemmas.Bool.{cases_Bool, false≢true}
+use Rattle.std.proofs.lemmas.List.{append_assoc, append-nil, length_push, map-append}
 use Rattle.std.specs.List.{AllZip, cons_option, flat_map}
 use Rattle.std.specs.Option.{is_some, option_and_then}
 use Rattle.std.specs.Str.{bytes_eq}
@@ -11,18 +10,19 @@ use Rattle.rec_text.specs.Elements.{Piece}
 use Rattle.rec_text.specs.Records.{AreRecords, elements_in, record_at}
 use Rattle.rec_text.proofs.lemmas.records.RecordLemmas.{OneListOfRecords-holds}
 use Rattle.rec_check.specs.declared.set.Set_.{Set_}
-use Rattle.rec_check.specs.Descriptors.{element_flaw, field_flaw, flaw_at, rec_name, type_of, types_of}
+use Rattle.rec_check.specs.Descriptors.{DescriptorElement, StandsAt, flaw_of, rec_name, type_of, types_of}
+use Rattle.rec_check.specs.proving.Flaws.{FieldIsRead, element_flaw, field_flaw}
 use Rattle.rec_check.specs.Rules.{Rules, no_rules, AreRules}
-use Rattle.rec_check.specs.Schemas.{Described, FieldIsRead, IsDescribed, IsRuled}
+use Rattle.rec_check.specs.Schemas.{Described, IsDescribed, IsRuled}
 use Rattle.rec_check.specs.Sets.{named_in, AreFrom, AreSets, BeginsAt}
 use Rattle.rec_check.specs.Soundness.{says, SameDescriptors, NewDescriptor}
-use Rattle.rec_check.specs.proving.Steps.{kinds, with_member, with_record, HaveTypes}
+use Rattle.rec_check.specs.proving.Steps.{record_types, with_member, with_record, HaveTypes}
 use Rattle.rec_check.specs.proving.Reading.{untyped}
 use Rattle.rec_check.specs.Words.{is_among}
 use Rattle.rec_check.proofs.lemmas.descriptors.DescriptorLemmas.{AllZip-push, each_built}
-use Rattle.rec_check.proofs.lemmas.descriptors.FlawLemmas.{flaw_at-own, own_flaw}
-use Rattle.rec_check.proofs.lemmas.descriptors.SchemaLemmas.{IsSchemaUpTo, IsRuled-longer, grown, here, none_there, record_at-behind, rules_grow, schema_all, schema_none}
-use Rattle.rec_check.proofs.lemmas.SetLemmas.{AreTyped, Named, filter_map-append, kinds-AreSets, nothing, set_of, some_named, types_among}
+use Rattle.rec_check.proofs.lemmas.descriptors.FlawLemmas.{field_flaw-here, own_flaw, stands-field}
+use Rattle.rec_check.proofs.lemmas.descriptors.SchemaLemmas.{IsSchemaUpTo, IsRuled-longer, grown, here, none_there, record_at-following, rules_grow, schema_all, schema_none}
+use Rattle.rec_check.proofs.lemmas.SetLemmas.{AreTyped, Named, filter_map-append, record_types-AreSets, nothing, set_of, some_named, types_among}
 use Rattle.rec_check.proofs.lemmas.laws.SoundLemmas.{AreSound, AreSound-alike, AreSound-all, AreSound-heads, AreSound-push, AreRules-alike, heads, heads_no, heads_yes, new_flaw, new_rules, new_type, types_in, types_in-alike, types_in-heads}
 use Rattle.rec_check.proofs.lemmas.TypeLemmas.{list_any-position, position-HaveTypes, no_place}
 
@@ -36,49 +36,54 @@ types_among-owns pieces (r ∷ records) = ap (cons_option (type_of (elements_in 
 
 -- ---- what a schema says of the descriptors
 
-cond-same : {X : Type 0} (b : Bool) (x : X) → cond b x x ≡ x
-cond-same true x = refl
-cond-same false x = refl
-
 module _ (pieces : List Piece) where
-  module _ (done : List (Range ℕ)) (r : Range ℕ) (rest : List (Range ℕ)) (are : AreRecords pieces (done ++ r ∷ rest)) (sound : (i : ℕ) → flaw_at pieces (done ++ r ∷ rest) i ≡ None) where
-    own_sound : (k : ℕ) → own_flaw (types_among (types_of pieces done)) (elements_in pieces r) k ≡ None
-    own_sound k =
-        let own : List Piece = elements_in pieces r in
-        let named : List (List ℕ) = types_among (types_of pieces done) in
-        elim (cases_lt k (length own)) [
-          | inl less ↦
-              let within : r.start + k < r.end = omega (arith, length-drop r.start (take r.end pieces), length-take r.end pieces) in
-              let back : k ≡ r.start + k - r.start = omega arith in
-              ap (own_flaw named own) back ∙ sym (flaw_at-own pieces done r rest are (r.start + k) (omega arith) within) ∙ sound (r.start + k)
-          | inr past ↦ ap (λ o. cond (is_some (type_of own)) (option_and_then (element_flaw named (take k own)) o) None) (slice_get_past own k past) ∙ cond-same (is_some (type_of own)) None
-        ]
+  -- nothing is wrong with an element of a descriptor
+  abbrev AllSound : List (Range ℕ) → Type 0
+  AllSound records = (i : ℕ) (element : DescriptorElement) → StandsAt pieces records i element → flaw_of element ≡ None
 
-  all_sound : (done rest : List (Range ℕ)) → AreRecords pieces (done ++ rest) → ((i : ℕ) → flaw_at pieces (done ++ rest) i ≡ None) → AreSound (types_among (types_of pieces done)) (owns_of pieces rest)
+  module _ (done : List (Range ℕ)) (r : Range ℕ) (rest : List (Range ℕ)) (are : AreRecords pieces (done ++ r ∷ rest)) (sound : AllSound (done ++ r ∷ rest)) where
+    abbrev named : List (List ℕ)
+    named = types_among (types_of pieces done)
+
+    abbrev own : List Piece
+    own = elements_in pieces r
+
+    field_sound : (k : ℕ) (found : Option Piece) → is_some (type_of own) ≡ true → slice_get own k ≡ found → field_flaw named own k ≡ None
+    field_sound k None descriptor past = ap (option_and_then (element_flaw named (take k own))) past
+    field_sound k (Some piece) descriptor here =
+        field_flaw-here pieces done r rest are descriptor k piece here ∙ sound (r.start + k) _ (stands-field pieces done r rest are descriptor k piece here)
+
+    own_sound : (k : ℕ) → own_flaw named own k ≡ None
+    own_sound k = elim (cases_Bool (is_some (type_of own))) [
+      | inl descriptor ↦ ap (λ b. cond b (field_flaw named own k) None) descriptor ∙ field_sound k (slice_get own k) descriptor refl
+      | inr other ↦ ap (λ b. cond b (field_flaw named own k) None) other
+    ]
+
+  all_sound : (done rest : List (Range ℕ)) → AreRecords pieces (done ++ rest) → AllSound (done ++ rest) → AreSound (types_among (types_of pieces done)) (owns_of pieces rest)
   all_sound done [] are sound = tt
   all_sound done (r ∷ rest) are sound =
       let parts : (done ++ r ∷ []) ++ rest ≡ done ++ r ∷ rest = append_assoc done (r ∷ []) rest in
-      let named : types_among (types_of pieces (done ++ r ∷ [])) ≡ types_among (types_of pieces done) ++ cons_option (type_of (elements_in pieces r)) [] =
+      let types : types_among (types_of pieces (done ++ r ∷ [])) ≡ types_among (types_of pieces done) ++ cons_option (type_of (elements_in pieces r)) [] =
       ap types_among (map-append (λ q. type_of (elements_in pieces q)) done (r ∷ [])) ∙ filter_map-append (λ t. t) (types_of pieces done) (type_of (elements_in pieces r) ∷ []) in
       let more : AreSound (types_among (types_of pieces (done ++ r ∷ []))) (owns_of pieces rest) =
-      all_sound (done ++ r ∷ []) rest (subst (AreRecords pieces) (sym parts) are) (λ i. ap (λ rs. flaw_at pieces rs i) parts ∙ sound i) in
-      (own_sound done r rest are sound, subst (λ ns. AreSound ns (owns_of pieces rest)) named more)
+      all_sound (done ++ r ∷ []) rest (subst (AreRecords pieces) (sym parts) are) (subst AllSound (sym parts) sound) in
+      (own_sound done r rest are sound, subst (λ ns. AreSound ns (owns_of pieces rest)) types more)
 
--- what is known of the first record of a typed set, and of those behind it
-typed_parts : (kind : Named) (head : Option ℕ) (start end at : ℕ) (t : Named) (more types : List Named) → is_some kind ≡ true → BeginsAt at (set_of kind head start end)
-    → named_in (set_of kind head start end) ++ more ≡ t ∷ types
+-- what is known of the first record of a typed set, and of those after it
+typed_parts : (record_type : Named) (head : Option ℕ) (start end at : ℕ) (t : Named) (more types : List Named) → is_some record_type ≡ true → BeginsAt at (set_of record_type head start end)
+    → named_in (set_of record_type head start end) ++ more ≡ t ∷ types
     → (is_some t ≡ true) × (head ≡ Some at) × (end ≡ at + 1 + (end - start)) × (replicate (end - start) nothing ++ more ≡ types)
 typed_parts None head start end at t more types typed begins joined = absurd (false≢true typed)
-typed_parts (Some kind) head start end at t more types typed begins joined =
-    let first : Some kind ≡ t = cc in
+typed_parts (Some record_type) head start end at t more types typed begins joined =
+    let first : Some record_type ≡ t = cc in
     let rest : replicate (end - start) nothing ++ more ≡ types = cc in
     (ap is_some (sym first), begins.1.0, omega (arith, begins.0, begins.1.1), rest)
 
-untyped_parts : (kind : Named) (head : Option ℕ) (start end at : ℕ) (more types : List Named) → kind ≡ None → BeginsAt at (set_of kind head start end)
-    → named_in (set_of kind head start end) ++ more ≡ types
+untyped_parts : (record_type : Named) (head : Option ℕ) (start end at : ℕ) (more types : List Named) → record_type ≡ None → BeginsAt at (set_of record_type head start end)
+    → named_in (set_of record_type head start end) ++ more ≡ types
     → (head ≡ None) × (end ≡ at + (end - start)) × (replicate (end - start) nothing ++ more ≡ types)
 untyped_parts None head start end at more types none begins joined = (begins.1.0, omega (arith, begins.0, begins.1.1), joined)
-untyped_parts (Some kind) head start end at more types none begins joined = let no : ⊥ = cc in absurd no
+untyped_parts (Some record_type) head start end at more types none begins joined = let no : ⊥ = cc in absurd no
 
 module _ (pieces : List Piece) (records : List (Range ℕ)) (asked : Rules) where
   abbrev RuledBy : Option ℕ → Type 0
@@ -109,7 +114,7 @@ module _ (pieces : List Piece) where
       let n : ℕ = s.members.end - s.members.start in
       let parts = typed_parts s.kind s.head s.members.start s.members.end (length done + zero) (type_of (elements_in pieces r)) (flat_map named_in sets) (types_of pieces rest) typed.0 from.0 joined in
       let here_is : length done + zero ≡ length done = omega arith in
-      let own : record_at pieces (done ++ r ∷ rest) (length done + zero) ≡ elements_in pieces r = ap (record_at pieces (done ++ r ∷ rest)) here_is ∙ record_at-behind pieces done r rest in
+      let own : record_at pieces (done ++ r ∷ rest) (length done + zero) ≡ elements_in pieces r = ap (record_at pieces (done ++ r ∷ rest)) here_is ∙ record_at-following pieces done r rest in
       let asked : AreRules (elements_in pieces r) a = subst (λ fs. AreRules fs a) own (ruled_head pieces (done ++ r ∷ rest) a s.head (Some (length done + zero)) parts.1 ruled.0) in
       let at : s.members.end ≡ length (done ++ r ∷ []) + n = omega (arith, length_push done r, parts.2) in
       let all : AllZip (IsRuled pieces ((done ++ r ∷ []) ++ rest)) sets rules = subst (λ rs. AllZip (IsRuled pieces rs) sets rules) (sym (append_assoc done (r ∷ []) rest)) ruled.1 in
@@ -127,19 +132,19 @@ module _ (pieces : List Piece) where
       (rules, ap (λ first. first ∷ rules) bare, rules_of [] records n sets rules are.untyped_first.1 (subst (λ m. AreFrom m sets) parts.1 are.places.1) parts.2 ruled.1)
 
 -- the types of the sets
-typed_kind : (kind : Named) (types : List (List ℕ)) → is_some kind ≡ true → ◌≡◌ {A = List Named} (kind ∷ map Some types) (map Some (cons_option kind types))
-typed_kind None types typed = absurd (false≢true typed)
-typed_kind (Some kind) types typed = refl
+typed_type : (record_type : Named) (types : List (List ℕ)) → is_some record_type ≡ true → ◌≡◌ {A = List Named} (record_type ∷ map Some types) (map Some (cons_option record_type types))
+typed_type None types typed = absurd (false≢true typed)
+typed_type (Some record_type) types typed = refl
 
-typed_kinds : (sets : List Set_) → AreTyped sets → ◌≡◌ {A = List Named} (map (λ s. s.kind) sets) (map Some (kinds sets))
-typed_kinds [] typed = refl
-typed_kinds (s ∷ sets) typed = ap (λ ks. s.kind ∷ ks) (typed_kinds sets typed.1) ∙ typed_kind s.kind (kinds sets) typed.0
+typed_types : (sets : List Set_) → AreTyped sets → ◌≡◌ {A = List Named} (map (λ s. s.kind) sets) (map Some (record_types sets))
+typed_types [] typed = refl
+typed_types (s ∷ sets) typed = ap (λ ks. s.kind ∷ ks) (typed_types sets typed.1) ∙ typed_type s.kind (record_types sets) typed.0
 
 have_types : (types : List Named) (sets : List Set_) → AreSets types sets → HaveTypes sets (types_among types)
 have_types types [] are = absurd are.untyped_first
 have_types types (s ∷ sets) are =
-    let none : kinds (s ∷ sets) ≡ kinds sets = ap (λ k. cons_option k (kinds sets)) are.untyped_first.0 in
-    ap₂ (λ k ks. k ∷ ks) are.untyped_first.0 (typed_kinds sets are.untyped_first.1 ∙ ap (λ ks. map Some ks) (sym none ∙ kinds-AreSets types (s ∷ sets) are))
+    let none : record_types (s ∷ sets) ≡ record_types sets = ap (λ k. cons_option k (record_types sets)) are.untyped_first.0 in
+    ap₂ (λ k ks. k ∷ ks) are.untyped_first.0 (typed_types sets are.untyped_first.1 ∙ ap (λ ks. map Some ks) (sym none ∙ record_types-AreSets types (s ∷ sets) are))
 
 -- a schema, as its descriptors give it
 pub record IsGiven (pieces : List Piece) (records : List (Range ℕ)) (schema : Described) (rules : List Rules) : Type 0 where
@@ -162,7 +167,7 @@ schema_apart pieces records schema are is =
     let sets = subst (λ rs. AreSets (types_of pieces rs) schema.sets) one is.sets in
     let rules = rules_apart pieces records schema.sets schema.rules sets (subst (λ rs. AllZip (IsRuled pieces rs) schema.sets schema.rules) one is.rules) in
     record {
-      sound = all_sound pieces [] records are (λ i. ap (λ rs. flaw_at pieces rs i) (sym one) ∙ is.sound i);
+      sound = all_sound pieces [] records are (subst (AllSound pieces) one is.sound);
       rules = rules.0;
       asked = rules.2;
       given = record { rules_are = rules.1; types_are = types_given pieces records schema sets };
@@ -170,14 +175,14 @@ schema_apart pieces records schema are is =
 
 -- ---- a schema is made of sound descriptors and their rules
 
-kinds-with_member : (sets : List Set_) (index : ℕ) → kinds (with_member sets index) ≡ kinds sets
-kinds-with_member [] index = refl
-kinds-with_member (s ∷ []) index = refl
-kinds-with_member (s ∷ next ∷ sets) index = ap (cons_option s.kind) (kinds-with_member (next ∷ sets) index)
+record_types-with_member : (sets : List Set_) (index : ℕ) → record_types (with_member sets index) ≡ record_types sets
+record_types-with_member [] index = refl
+record_types-with_member (s ∷ []) index = refl
+record_types-with_member (s ∷ next ∷ sets) index = ap (cons_option s.kind) (record_types-with_member (next ∷ sets) index)
 
-kinds-with_record : (sets : List Set_) (index : ℕ) (kind : Named) → kinds (with_record sets index kind) ≡ kinds sets ++ cons_option kind []
-kinds-with_record sets index None = kinds-with_member sets index ∙ sym (append-nil (kinds sets))
-kinds-with_record sets index (Some kind) = filter_map-append (λ s. s.kind) sets _
+record_types-with_record : (sets : List Set_) (index : ℕ) (record_type : Named) → record_types (with_record sets index record_type) ≡ record_types sets ++ cons_option record_type []
+record_types-with_record sets index None = record_types-with_member sets index ∙ sym (append-nil (record_types sets))
+record_types-with_record sets index (Some record_type) = filter_map-append (λ s. s.kind) sets _
 
 first_rules : (d : List Piece) (ds : List (List Piece)) (rules : List Rules) → AllZip AreRules (d ∷ ds) rules
     → (asked : Rules) × (more : List Rules) × (rules ≡ asked ∷ more) × AreRules d asked × AllZip AreRules ds more
@@ -193,28 +198,28 @@ fields_are_read : (named : List (List ℕ)) (own : List Piece) (rules : Rules) �
 fields_are_read named own rules descriptor k sound are = record { sound = sym (ap (λ b. cond b (field_flaw named own k) None) descriptor) ∙ sound; built = each_built own rules are k }
 
 module _ (pieces : List Piece) where
-  completed : (rest : List (Range ℕ)) (count : ℕ) (old : Described) (rules : List Rules) → IsSchemaUpTo pieces count rest old → AreSound (kinds old.sets) (owns_of pieces rest)
+  completed : (rest : List (Range ℕ)) (count : ℕ) (old : Described) (rules : List Rules) → IsSchemaUpTo pieces count rest old → AreSound (record_types old.sets) (owns_of pieces rest)
       → AllZip AreRules (heads (owns_of pieces rest)) rules → Completed pieces old rules
   completed [] count old [] so_far sound asked = (old, schema_all pieces count [] old refl so_far, sym (append-nil old.rules))
   completed [] count old (a ∷ rules) so_far sound asked = absurd asked
   completed (r ∷ rest) count old rules so_far sound asked =
       let own : List Piece = elements_in pieces r in
-      let behind : AreSound (kinds (with_record old.sets count (type_of own))) (owns_of pieces rest) =
-      subst (λ ns. AreSound ns (owns_of pieces rest)) (sym (kinds-with_record old.sets count (type_of own))) sound.1 in
+      let following : AreSound (record_types (with_record old.sets count (type_of own))) (owns_of pieces rest) =
+      subst (λ ns. AreSound ns (owns_of pieces rest)) (sym (record_types-with_record old.sets count (type_of own))) sound.1 in
       elim (cases_Bool (is_some (type_of own))) [
         | inl descriptor ↦
             let first = first_rules own (heads (owns_of pieces rest)) rules (subst (λ hs. AllZip AreRules hs rules) (heads_yes own (owns_of pieces rest) descriptor) asked) in
             let next : Described = record { sets = with_record old.sets count (type_of own); rules = old.rules ++ first.0 ∷ [] } in
             let grows = rules_grow pieces count (r ∷ rest) old r rest refl so_far count next first.0 (type_of own) refl descriptor first.3 refl refl in
-            let read = λ (is : is_some (type_of own) ≡ true) (k : ℕ). fields_are_read (kinds old.sets) own first.0 is k (sound.0 k) first.3 in
-            let more = completed rest (count + 1) next first.1 (grown pieces count (r ∷ rest) old r rest refl so_far count (count + 1) next refl refl read refl grows) behind first.4 in
+            let read = λ (is : is_some (type_of own) ≡ true) (k : ℕ). fields_are_read (record_types old.sets) own first.0 is k (sound.0 k) first.3 in
+            let more = completed rest (count + 1) next first.1 (grown pieces count (r ∷ rest) old r rest refl so_far count (count + 1) next refl refl read refl grows) following first.4 in
             (more.0, more.1, more.2 ∙ append_assoc old.rules (first.0 ∷ []) first.1 ∙ ap (λ rs. old.rules ++ rs) (sym first.2))
         | inr member ↦
             let next : Described = record { sets = with_record old.sets count (type_of own); rules = old.rules } in
             let now = here pieces count (r ∷ rest) old r rest refl so_far in
             let stays = subst (λ t. AllZip (IsRuled pieces (now.done ++ r ∷ rest)) (with_record old.sets count t) old.rules) (sym (none_there (type_of own) member))
             (IsRuled-longer pieces (now.done ++ r ∷ rest) count old.sets old.rules now.rules_are) in
-            completed rest (count + 1) next rules (grown pieces count (r ∷ rest) old r rest refl so_far count (count + 1) next refl refl (λ is. absurd (false≢true (sym member ∙ is))) refl stays) behind
+            completed rest (count + 1) next rules (grown pieces count (r ∷ rest) old r rest refl so_far count (count + 1) next refl refl (λ is. absurd (false≢true (sym member ∙ is))) refl stays) following
             (subst (λ hs. AllZip AreRules hs rules) (heads_no own (owns_of pieces rest) member) asked)
       ]
 
@@ -253,27 +258,27 @@ split_last f (e ∷ es) (x ∷ ys) y made =
     (e ∷ parts.0, parts.1, ap (λ l. e ∷ l) parts.2, ap₂ (λ z zs. z ∷ zs) first parts.3, parts.4)
 
 pub new_descriptor : NewDescriptor
-new_descriptor pieces others records ranges schema kind are are_too more plain absent is =
+new_descriptor pieces others records ranges schema record_type are are_too more plain absent is =
     let old = schema_apart pieces records schema are is in
     let ds = heads (owns_of pieces records) in
     let es = heads (owns_of others ranges) in
-    let parts = split_last (map says) es (map (map says) ds) ((rec_name, kind) ∷ []) more in
+    let parts = split_last (map says) es (map (map says) ds) ((rec_name, record_type) ∷ []) more in
     let fs = parts.0 in
     let e = parts.1 in
     let named : types_in (owns_of pieces records) ≡ types_in fs = sym (types_in-heads (owns_of pieces records)) ∙ types_in-alike ds fs (sym parts.3) in
-    let nowhere = no_place (position (bytes_eq kind) (types_in (owns_of pieces records))) (sym (position-HaveTypes schema.sets (types_in (owns_of pieces records)) old.given.types_are kind) ∙ absent) in
-    let fresh : is_among (types_in fs) kind ≡ false = ap (λ ts. is_among ts kind) (sym named) ∙ list_any-position (bytes_eq kind) (types_in (owns_of pieces records)) nowhere in
-    let front = AreSound-alike [] ds fs (sym parts.3) (AreSound-heads [] (owns_of pieces records) old.sound) in
-    let sound = subst (AreSound []) (sym parts.2) (AreSound-push [] fs e front (new_flaw kind e parts.4 plain (types_in fs) fresh)) in
+    let nowhere = no_place (position (bytes_eq record_type) (types_in (owns_of pieces records))) (sym (position-HaveTypes schema.sets (types_in (owns_of pieces records)) old.given.types_are record_type) ∙ absent) in
+    let fresh : is_among (types_in fs) record_type ≡ false = ap (λ ts. is_among ts record_type) (sym named) ∙ list_any-position (bytes_eq record_type) (types_in (owns_of pieces records)) nowhere in
+    let prefix = AreSound-alike [] ds fs (sym parts.3) (AreSound-heads [] (owns_of pieces records) old.sound) in
+    let sound = subst (AreSound []) (sym parts.2) (AreSound-push [] fs e prefix (new_flaw record_type e parts.4 plain (types_in fs) fresh)) in
     let asked = subst (λ l. AllZip AreRules l (old.rules ++ no_rules ∷ [])) (sym parts.2)
-    (AllZip-push AreRules fs old.rules e no_rules (AreRules-alike ds fs old.rules (sym parts.3) old.asked) (new_rules kind e parts.4)) in
+    (AllZip-push AreRules fs old.rules e no_rules (AreRules-alike ds fs old.rules (sym parts.3) old.asked) (new_rules record_type e parts.4)) in
     let made = schema_made others ranges (old.rules ++ no_rules ∷ []) are_too (AreSound-all [] (owns_of others ranges) sound) asked in
-    let types : types_in (owns_of others ranges) ≡ types_in (owns_of pieces records) ++ kind ∷ [] =
+    let types : types_in (owns_of others ranges) ≡ types_in (owns_of pieces records) ++ record_type ∷ [] =
     sym (types_in-heads (owns_of others ranges)) ∙ ap types_in parts.2 ∙ filter_map-append type_of fs (e ∷ [])
-    ∙ ap₂ (λ ts t. ts ++ cons_option t []) (sym named) (new_type kind e parts.4 plain) in (
+    ∙ ap₂ (λ ts t. ts ++ cons_option t []) (sym named) (new_type record_type e parts.4 plain) in (
       made.0,
       made.1,
       made.2.rules_are ∙ ap (λ rs. rs ++ no_rules ∷ []) (sym old.given.rules_are),
-      made.2.types_are ∙ ap (λ ts. None ∷ map Some ts) types ∙ ap (λ ks. None ∷ ks) (map-append Some (types_in (owns_of pieces records)) (kind ∷ []))
-          ∙ ap (λ ks. ks ++ Some kind ∷ []) (sym old.given.types_are),
+      made.2.types_are ∙ ap (λ ts. None ∷ map Some ts) types ∙ ap (λ ks. None ∷ ks) (map-append Some (types_in (owns_of pieces records)) (record_type ∷ []))
+          ∙ ap (λ ks. ks ++ Some record_type ∷ []) (sym old.given.types_are),
     )

@@ -13,12 +13,13 @@ use Rattle.rec_text.proofs.lemmas.records.RecordLemmas.{OneListOfRecords-holds}
 use Rattle.rec_sex.specs.Expressions.{IsExpression, AreSame}
 use Rattle.rec_sex.proofs.lemmas.syntax.UniqueLemmas.{same_expression, same_pattern}
 use Rattle.rec_check.specs.declared.set.Set_.{Set_}
-use Rattle.rec_check.specs.Descriptors.{Flaw, bad, unsupported, flaw_at, types_of}
+use Rattle.rec_check.specs.Descriptors.{DescriptorElement, Flaw, StandsAt, bad, unsupported, flaw_of, types_of}
+use Rattle.rec_check.specs.proving.Flaws.{flaw_at}
 use Rattle.rec_check.specs.Rules.{Rules, no_rules, AreRules, AreSameRules, AreSameDefinitions, AreSameTypes, AreSameTypings}
-use Rattle.rec_check.specs.Schemas.{Described, IsDescribed, IsRuled, IsSchema, HasFlaw, AreSameSchemas, OneSchema}
+use Rattle.rec_check.specs.Schemas.{Described, IsDescribed, IsReached, IsRuled, IsSchema, HasFlaw, AreSameSchemas, OneSchema}
 use Rattle.rec_check.specs.Sets.{AreSets}
 use Rattle.rec_check.specs.Types.{FieldType, integer, range, line as one_line, size, truth, one_of, matching, unchecked, Definition, Typing, Written, WrittenDefinition, IsDefinition, IsTyping, IsBuilt, definition_of, typing_of}
-use Rattle.rec_check.proofs.lemmas.descriptors.FlawLemmas.{flaw_at-read}
+use Rattle.rec_check.proofs.lemmas.descriptors.StandsLemmas.{flaw_at-stands}
 use Rattle.rec_check.proofs.lemmas.SetLemmas.{one_list_of_sets}
 
 -- ---- one list of records and sets
@@ -56,28 +57,28 @@ same_built (one_of items) one other built too = same_plain (one_of items) one ot
 same_built unchecked one other built too = same_plain unchecked one other refl built too
 
 same_parts : (value : List ℕ) (one other : Written) → typing_of value ≡ Some one → typing_of value ≡ Some other
-    → (one.names ≡ other.names) × (one.kind ≡ other.kind) × (other.type_ ≡ one.type_)
+    → (one.names ≡ other.names) × (one.kind ≡ other.kind) × (other.value_type ≡ one.value_type)
 same_parts value one other is too =
     let both : Some one ≡ Some other = sym is ∙ too in
     let same : one ≡ other = cc in
-    (ap (λ typing. typing.names) same, ap (λ typing. typing.kind) same, ap (λ typing. typing.type_) (sym same))
+    (ap (λ typing. typing.names) same, ap (λ typing. typing.kind) same, ap (λ typing. typing.value_type) (sym same))
 
 same_typing : (value : List ℕ) (one other : Typing) → IsTyping value one → IsTyping value other → AreSameTypings one other
 same_typing value one other (written, is, built) (more, too, built_too) =
-    let same = same_parts value (record { names = one.names; kind = one.kind; type_ = written }) (record { names = other.names; kind = other.kind; type_ = more }) is too in
-    record { names = same.0; kind = same.1; type_ = same_built written one.type_ other.type_ built (subst (λ w. IsBuilt w other.type_) same.2 built_too) }
+    let same = same_parts value (record { names = one.names; kind = one.kind; value_type = written }) (record { names = other.names; kind = other.kind; value_type = more }) is too in
+    record { names = same.0; kind = same.1; value_type = same_built written one.value_type other.value_type built (subst (λ w. IsBuilt w other.value_type) same.2 built_too) }
 
 same_parts_defined : (value : List ℕ) (one other : WrittenDefinition) → definition_of value ≡ Some one → definition_of value ≡ Some other
-    → (one.name ≡ other.name) × (one.kind ≡ other.kind) × (other.type_ ≡ one.type_)
+    → (one.name ≡ other.name) × (one.kind ≡ other.kind) × (other.value_type ≡ one.value_type)
 same_parts_defined value one other is too =
     let both : Some one ≡ Some other = sym is ∙ too in
     let same : one ≡ other = cc in
-    (ap (λ definition. definition.name) same, ap (λ definition. definition.kind) same, ap (λ definition. definition.type_) (sym same))
+    (ap (λ definition. definition.name) same, ap (λ definition. definition.kind) same, ap (λ definition. definition.value_type) (sym same))
 
 same_definition : (value : List ℕ) (one other : Definition) → IsDefinition value one → IsDefinition value other → AreSameDefinitions one other
 same_definition value one other (written, is, built) (more, too, built_too) =
-    let same = same_parts_defined value (record { name = one.name; kind = one.kind; type_ = written }) (record { name = other.name; kind = other.kind; type_ = more }) is too in
-    record { name = same.0; kind = same.1; type_ = same_built written one.type_ other.type_ built (subst (λ w. IsBuilt w other.type_) same.2 built_too) }
+    let same = same_parts_defined value (record { name = one.name; kind = one.kind; value_type = written }) (record { name = other.name; kind = other.kind; value_type = more }) is too in
+    record { name = same.0; kind = same.1; value_type = same_built written one.value_type other.value_type built (subst (λ w. IsBuilt w other.value_type) same.2 built_too) }
 
 -- ---- one list of rules
 
@@ -116,11 +117,11 @@ abbrev refusal : Flaw → ℕ → Fault
 refusal bad line = BadDescriptor line
 refusal unsupported line = Unsupported line
 
--- where nothing is wrong no field is the first that is faulty
+-- where nothing is wrong no element is the first that is faulty
 no_flaw : (pieces : List Piece) (described : Described) (flaw : Flaw) (line : ℕ) → IsDescribed pieces described → HasFlaw pieces flaw line → ⊥
-no_flaw pieces described flaw line is has =
-    let same = same_records pieces is.records has.records is.are has.are in
-    let none : None ≡ Some flaw = sym (is.sound has.at) ∙ ap (λ rs. flaw_at pieces rs has.at) same ∙ has.met in
+no_flaw pieces described flaw line is (at, element, reached, met, number) =
+    let same = same_records pieces reached.records is.records reached.are is.are in
+    let none : None ≡ Some flaw = sym (is.sound at element (subst (λ rs. StandsAt pieces rs at element) same reached.stands)) ∙ met in
     cc
 
 same_schema : (pieces : List Piece) (one other : Described) → IsDescribed pieces one → IsDescribed pieces other → AreSameSchemas (Ok one) (Ok other)
@@ -132,26 +133,29 @@ same_schema pieces one other is too =
     let Q : List Set_ → Type 0 = λ ss. AllZip (IsRuled pieces too.records) ss one.rules in
     (sets, AllZip-same (IsRuled pieces too.records) AreSameRules (same_ruled pieces too.records) other.sets one.rules other.rules (subst Q sets (subst P records is.rules)) too.rules)
 
--- no faulty field stands before the first one
-not_before : (pieces : List Piece) (flaw other : Flaw) (line number : ℕ) (has : HasFlaw pieces flaw line) (too : HasFlaw pieces other number) → has.at < too.at → ⊥
-not_before pieces flaw other line number has too before =
-    let same = same_records pieces has.records too.records has.are too.are in
-    let none : None ≡ Some flaw = sym (flaw_at-read pieces too.records has.at (too.first has.at before)) ∙ ap (λ rs. flaw_at pieces rs has.at) (sym same) ∙ has.met in
+-- no faulty element stands before the first one
+not_before : (pieces : List Piece) (flaw : Flaw) (at later : ℕ) (element other : DescriptorElement) → IsReached pieces at element → IsReached pieces later other
+    → flaw_of element ≡ Some flaw → at < later → ⊥
+not_before pieces flaw at later element other one two met before =
+    let same = same_records pieces one.records two.records one.are two.are in
+    let none : None ≡ Some flaw = sym (two.first at element before (subst (λ rs. StandsAt pieces rs at element) same one.stands)).sound ∙ met in
     cc
 
 same_flaw : (pieces : List Piece) (flaw other : Flaw) (line number : ℕ) → HasFlaw pieces flaw line → HasFlaw pieces other number → refusal flaw line ≡ refusal other number
-same_flaw pieces flaw other line number has too =
-    let same = same_records pieces has.records too.records has.are too.are in
-    let place : has.at ≡ too.at = elim (cases_lt has.at too.at) [
-      | inl before ↦ absurd (not_before pieces flaw other line number has too before)
-      | inr from ↦ elim (cases_lt too.at has.at) [
-        | inl behind ↦ absurd (not_before pieces other flaw number line too has behind)
+same_flaw pieces flaw other line number (at, element, one, met, line_is) (later, second, two, met_too, number_is) =
+    let same = same_records pieces one.records two.records one.are two.are in
+    let place : at ≡ later = elim (cases_lt at later) [
+      | inl before ↦ absurd (not_before pieces flaw at later element second one two met before)
+      | inr from ↦ elim (cases_lt later at) [
+        | inl following ↦ absurd (not_before pieces other later at second element two one met_too following)
         | inr to ↦ omega arith
       ]
     ] in
-    let both : Some flaw ≡ Some other = sym has.met ∙ ap (flaw_at pieces has.records) place ∙ ap (λ rs. flaw_at pieces rs too.at) same ∙ too.met in
+    let both : Some flaw ≡ Some other =
+    sym met ∙ sym (flaw_at-stands pieces one.records at element one.are one.stands) ∙ ap (flaw_at pieces one.records) place ∙ ap (λ rs. flaw_at pieces rs later) same
+    ∙ flaw_at-stands pieces two.records later second two.are two.stands ∙ met_too in
     let flaws : flaw ≡ other = cc in
-    let lines : line ≡ number = has.number ∙ ap (λ n. line_after (text_of (take n pieces))) place ∙ sym too.number in
+    let lines : line ≡ number = line_is ∙ ap (λ n. line_after (text_of (take n pieces))) place ∙ sym number_is in
     ap (λ f. refusal f line) flaws ∙ ap (refusal other) lines
 
 one_schema-ok : (pieces : List Piece) (described : Described) (other : Result Described Fault) → IsDescribed pieces described → IsSchema pieces other → (other ≢ Err BadPattern) → AreSameSchemas (Ok described) other

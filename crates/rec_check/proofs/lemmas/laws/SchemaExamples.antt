@@ -1,5 +1,5 @@
 -- The definitions at small texts: each example computes.
-use Rattle.std.proofs.Common.{◌≡◌, ℕ, ◌<◌, ◌≤◌, inl, inr, true, false, List, [], ◌∷◌, ◌++◌, map, Some, None, Ok, Err, suc, zero, refl, lit≤, arith}
+use Rattle.std.proofs.Common.{◌≡◌, ◌∙◌, ℕ, ◌<◌, ◌≤◌, inl, inr, true, false, List, [], ◌∷◌, ◌++◌, map, Some, None, Ok, Err, suc, zero, refl, lit≤, sym, arith}
 use Rattle.std.specs.Prelude.{codes, position}
 use Rattle.std.specs.List.{AllByRecursion}
 use Rattle.std.specs.declared.ops.Range.{Range}
@@ -16,16 +16,18 @@ use Rattle.rec_text.proofs.lemmas.records.RecordLemmas.{AreRecords-all_narrowed}
 use Rattle.rec_check.specs.declared.set.Set_.{Set_}
 use Rattle.rec_check.specs.declared.descriptors.special.Comparison.TheVariants.{Exactly, AtMost, AtLeast}
 use Rattle.rec_check.specs.Automatic.{automatic_names, automatic_of}
-use Rattle.rec_check.specs.Descriptors.{bad, unsupported, bound_in, field_flaw, type_of, types_of, rec_flaw, flaw_at}
-use Rattle.rec_check.specs.Meanings.{meaning_in}
+use Rattle.rec_check.specs.Descriptors.{bad, unsupported, bound_in, type_of, types_of, rec_flaw}
+use Rattle.rec_check.specs.proving.Flaws.{ElementIsRead, field_flaw, flaw_at}
+use Rattle.rec_check.specs.proving.Meanings.{meaning_in}
 use Rattle.rec_check.specs.Resolving.{is_known_kind}
 use Rattle.rec_check.specs.Rules.{Rules, no_rules, AreRules, field_type}
-use Rattle.rec_check.specs.Schemas.{ElementIsRead, IsSchema}
+use Rattle.rec_check.specs.Schemas.{IsSchema}
 use Rattle.rec_check.specs.Sets.{AreSets, is_of_type}
 use Rattle.rec_check.specs.Soundness.{descriptors, says}
 use Rattle.rec_check.specs.Types.{integer, unchecked}
 use Rattle.rec_check.specs.Violations.{AreViolationsOf, violation}
 use Rattle.rec_check.proofs.lemmas.descriptors.FlawLemmas.{flaw_at-outside}
+use Rattle.rec_check.proofs.lemmas.descriptors.StandsLemmas.{flaw_at-stands, read-stands}
 use Rattle.rec_check.proofs.lemmas.SetLemmas.{set_of}
 
 -- ---- descriptors
@@ -96,8 +98,8 @@ typing = field (codes "%rec: P") ∷ field (codes "%auto: A B") ∷ record { kin
 abbrev typed : Rules
 typed = record no_rules {
   automatic = codes "A" ∷ codes "B" ∷ codes "C" ∷ codes "A" ∷ [];
-  types = record { names = codes "A" ∷ codes "B" ∷ []; kind = codes "int"; type_ = integer }
-      ∷ record { names = codes "A" ∷ []; kind = codes "real"; type_ = unchecked } ∷ [];
+  types = record { names = codes "A" ∷ codes "B" ∷ []; kind = codes "int"; value_type = integer }
+      ∷ record { names = codes "A" ∷ []; kind = codes "real"; value_type = unchecked } ∷ [];
 }
 
 typed_are : AreRules typing typed
@@ -151,10 +153,10 @@ keyed = record no_rules { key = Some (codes "N") }
 keyed_are : AreRules (field (codes "%rec: P") ∷ field (codes "%key: N") ∷ []) keyed
 keyed_are = record { key = refl; mandatory = refl; prohibited = refl; unique = refl; singular = refl; allowed = refl; automatic = refl; types = tt; definitions = tt; size = refl; constraints = tt }
 
--- no range holds what stands behind all
-behind_all : (ranges : List (Range ℕ)) (end i : ℕ) → AllByRecursion (λ r. r.end ≤ end) ranges → end ≤ i → LiesIn ranges i → ⊥
-behind_all [] end i all past lies = LiesIn-nil i lies
-behind_all (r ∷ ranges) end i all past lies = elim (LiesIn-cases r ranges i lies) [ inl here ↦ absurd (omega (arith, here.1, all.0)) | inr there ↦ behind_all ranges end i all.1 past there ]
+-- no range holds what stands after all
+after_all : (ranges : List (Range ℕ)) (end i : ℕ) → AllByRecursion (λ r. r.end ≤ end) ranges → end ≤ i → LiesIn ranges i → ⊥
+after_all [] end i all past lies = LiesIn-nil i lies
+after_all (r ∷ ranges) end i all past lies = elim (LiesIn-cases r ranges i lies) [ inl here ↦ absurd (omega (arith, here.1, all.0)) | inr there ↦ after_all ranges end i all.1 past there ]
 
 sound : (i : ℕ) → flaw_at text records i ≡ None
 sound zero = refl
@@ -167,10 +169,10 @@ sound (suc (suc (suc (suc (suc (suc zero)))))) = refl
 sound (suc (suc (suc (suc (suc (suc (suc zero))))))) = refl
 sound (suc (suc (suc (suc (suc (suc (suc (suc i)))))))) =
     let at : ℕ = suc (suc (suc (suc (suc (suc (suc (suc i))))))) in
-    flaw_at-outside text records at (behind_all records 8 at (lit≤ tt, (lit≤ tt, (lit≤ tt, (lit≤ tt, tt)))) (omega arith))
+    flaw_at-outside text records at (after_all records 8 at (lit≤ tt, (lit≤ tt, (lit≤ tt, (lit≤ tt, tt)))) (omega arith))
 
 described : IsSchema text (Ok (record { sets = sets; rules = no_rules ∷ keyed ∷ [] }))
-described = record { records = records; are = records_are; sound = sound; sets = sets_are; rules = (refl, (keyed_are, tt)) }
+described = record { records = records; are = records_are; sound = λ i element stands. sym (flaw_at-stands text records i element records_are stands) ∙ sound i; sets = sets_are; rules = (refl, (keyed_are, tt)) }
 
 -- a newline at the end and what stands before the descriptor are no matter
 abbrev moved : List Piece
@@ -182,7 +184,7 @@ said = refl
 said_elsewhere : map says (elements_in moved (range 1 3)) ≡ (codes "%rec", codes " P") ∷ (codes "%key", codes "N") ∷ []
 said_elsewhere = refl
 
-found : map (λ kind. position (is_of_type kind) sets) (codes "P" ∷ codes "Q" ∷ [] ∷ []) ≡ Some 1 ∷ None ∷ None ∷ []
+found : map (λ record_type. position (is_of_type record_type) sets) (codes "P" ∷ codes "Q" ∷ [] ∷ []) ≡ Some 1 ∷ None ∷ None ∷ []
 found = refl
 
 -- no record is no set
@@ -214,7 +216,28 @@ read_before (suc zero) less = tt
 read_before (suc (suc i)) less = absurd (omega arith)
 
 refused : IsSchema twice (Err (BadDescriptor 3))
-refused = record { records = twice_records; are = twice_records_are; at = 2; first = read_before; met = refl; number = refl }
+refused = (
+  2,
+  record { named = codes "P" ∷ []; before = []; piece = field (codes "%rec: P x") },
+  record {
+    records = twice_records;
+    are = twice_records_are;
+    stands = record {
+      earlier = range 0 1 ∷ [];
+      own_range = range 2 4;
+      later = [];
+      following = field (codes "%rec: Q x") ∷ [];
+      cut = refl;
+      named = refl;
+      own = refl;
+      is_descriptor = refl;
+      place = refl;
+    };
+    first = λ i other less stands. read-stands twice twice_records i other twice_records_are stands (read_before i less);
+  },
+  refl,
+  refl,
+)
 
 -- ---- the violations of a text
 
@@ -240,7 +263,7 @@ keyless_sound (suc (suc zero)) = refl
 keyless_sound (suc (suc (suc zero))) = refl
 keyless_sound (suc (suc (suc (suc i)))) =
     let at : ℕ = suc (suc (suc (suc i))) in
-    flaw_at-outside keyless keyless_records at (behind_all keyless_records 4 at (lit≤ tt, (lit≤ tt, tt)) (omega arith))
+    flaw_at-outside keyless keyless_records at (after_all keyless_records 4 at (lit≤ tt, (lit≤ tt, tt)) (omega arith))
 
 abbrev keyless_sets : List Set_
 keyless_sets = set_of None None 0 0 ∷ set_of (Some (codes "P")) (Some 0) 1 2 ∷ []
@@ -249,7 +272,7 @@ keyless_described : IsSchema keyless (Ok (record { sets = keyless_sets; rules = 
 keyless_described = record {
   records = keyless_records;
   are = keyless_records_are;
-  sound = keyless_sound;
+  sound = λ i element stands. sym (flaw_at-stands keyless keyless_records i element keyless_records_are stands) ∙ keyless_sound i;
   sets = record { joined = refl; untyped_first = (refl, (refl, tt)); places = ((lit≤ tt, (refl, refl)), ((lit≤ tt, (refl, refl)), tt)) };
   rules = (refl, (keyed_are, tt));
 }

@@ -15,7 +15,8 @@ use Rattle.rec_text.specs.Elements.{Piece, name_of, has_name}
 use Rattle.rec_text.specs.Values.{value_of}
 use Rattle.rec_sex.specs.Expressions.{IsExpression}
 use Rattle.rec_sex.specs.Meaning.{values_of}
-use Rattle.rec_check.specs.Descriptors.{Flaw, bad, bound_in, element_flaw, field_flaw, first_word, rec_flaw, rec_name, special_flaw, special_of, type_of}
+use Rattle.rec_check.specs.proving.Flaws.{element_flaw, field_flaw}
+use Rattle.rec_check.specs.Descriptors.{Flaw, bad, bound_in, first_word, rec_flaw, rec_name, special_flaw, special_of, type_of}
 use Rattle.rec_check.specs.Rules.{Rules, no_rules, AreRules}
 use Rattle.rec_check.specs.Soundness.{says}
 use Rattle.rec_check.specs.Types.{IsDefinition, IsTyping}
@@ -86,7 +87,7 @@ module _ (own other : List Piece) (alike : map says own ≡ map says other) wher
 
 -- ---- sound descriptors
 
--- none of these is faulty, behind descriptors of these types
+-- none of these is faulty, after descriptors of these types
 abbrev pub AreSound : List (List ℕ) → List (List Piece) → Type 0
 AreSound named [] = Unit {0}
 AreSound named (own ∷ owns) = ((k : ℕ) → own_flaw named own k ≡ None) × AreSound (named ++ cons_option (type_of own) []) owns
@@ -146,8 +147,8 @@ AreSound-alike named (d ∷ ds) [] alike sound = let no : ⊥ = cc in absurd no
 AreSound-alike named (d ∷ ds) (e ∷ es) alike sound =
     let first : map says d ≡ map says e = cc in
     let rest : map (map says) ds ≡ map (map says) es = cc in
-    let behind : AreSound (named ++ cons_option (type_of e) []) ds = subst (λ t. AreSound (named ++ cons_option t []) ds) (same_type d e first) sound.1 in
-    (λ k. sym (same_own_flaw d e first named k) ∙ sound.0 k, AreSound-alike (named ++ cons_option (type_of e) []) ds es rest behind)
+    let following : AreSound (named ++ cons_option (type_of e) []) ds = subst (λ t. AreSound (named ++ cons_option t []) ds) (same_type d e first) sound.1 in
+    (λ k. sym (same_own_flaw d e first named k) ∙ sound.0 k, AreSound-alike (named ++ cons_option (type_of e) []) ds es rest following)
 
 pub types_in-alike : (ds es : List (List Piece)) → map (map says) ds ≡ map (map says) es → types_in ds ≡ types_in es
 types_in-alike [] [] alike = refl
@@ -169,9 +170,9 @@ AreRules-alike (d ∷ ds) (e ∷ es) (asked ∷ rules) alike are =
     (same_asked d e first asked are.0, AreRules-alike ds es rules rest are.1)
 
 -- one more
-types_more : (named : List (List ℕ)) (kind : Option (List ℕ)) (more : List (List ℕ)) → (named ++ cons_option kind []) ++ more ≡ named ++ cons_option kind more
+types_more : (named : List (List ℕ)) (record_type : Option (List ℕ)) (more : List (List ℕ)) → (named ++ cons_option record_type []) ++ more ≡ named ++ cons_option record_type more
 types_more named None more = ap (λ ns. ns ++ more) (append-nil named)
-types_more named (Some kind) more = append_assoc named (kind ∷ []) more
+types_more named (Some record_type) more = append_assoc named (record_type ∷ []) more
 
 pub AreSound-push : (named : List (List ℕ)) (ds : List (List Piece)) (d : List Piece) → AreSound named ds → ((k : ℕ) → own_flaw (named ++ types_in ds) d k ≡ None) → AreSound named (ds ++ d ∷ [])
 AreSound-push named [] d sound last = (λ k. ap (λ ns. own_flaw ns d k) (sym (append-nil named)) ∙ last k, tt)
@@ -199,8 +200,8 @@ name_words (b ∷ bs) plain =
     let parts = and_parts (is_letter b) (list_all continues_name bs) plain in
     ap (filter (λ word. not (is_nil word))) (split_name (b ∷ bs) (and_from (continues_name b) (list_all continues_name bs) (letter_continues b parts.0) parts.1))
 
-module _ (kind : List ℕ) (own : List Piece) (alike : map says own ≡ (rec_name, kind) ∷ []) where
-  one_value : (name : List ℕ) → values_of name own ≡ values_said name ((rec_name, kind) ∷ [])
+module _ (record_type : List ℕ) (own : List Piece) (alike : map says own ≡ (rec_name, record_type) ∷ []) where
+  one_value : (name : List ℕ) → values_of name own ≡ values_said name ((rec_name, record_type) ∷ [])
   one_value name = values_of-says name own ∙ ap (values_said name) alike
 
   pub new_rules : AreRules own no_rules
@@ -218,14 +219,14 @@ module _ (kind : List ℕ) (own : List Piece) (alike : map says own ≡ (rec_nam
     constraints = subst (λ vs. AllZip IsExpression vs []) (sym (one_value (codes "%constraint"))) tt;
   }
 
-  module _ (plain : is_plain_name kind ≡ true) where
-    pub new_type : type_of own ≡ Some kind
-    new_type = sym (type_in-values_of own) ∙ ap type_in (one_value rec_name) ∙ ap (λ ws. Some (first_word ws)) (name_words kind plain)
+  module _ (plain : is_plain_name record_type ≡ true) where
+    pub new_type : type_of own ≡ Some record_type
+    new_type = sym (type_in-values_of own) ∙ ap type_in (one_value rec_name) ∙ ap (λ ws. Some (first_word ws)) (name_words record_type plain)
 
-    one_flaw : (named : List (List ℕ)) → is_among named kind ≡ false → (k : ℕ) → flaw_among named ((rec_name, kind) ∷ []) k ≡ None
-    one_flaw named fresh zero = ap (rec_flaw false named) (name_words kind plain) ∙ ap₂ (λ p a. cond (not p || a) (Some bad) None) plain fresh
-    one_flaw named fresh (suc k) = ap (option_and_then (flaw_said named (take (suc k) ((rec_name, kind) ∷ [])))) (slice_get_past ((rec_name, kind) ∷ []) (suc k) (omega arith))
+    one_flaw : (named : List (List ℕ)) → is_among named record_type ≡ false → (k : ℕ) → flaw_among named ((rec_name, record_type) ∷ []) k ≡ None
+    one_flaw named fresh zero = ap (rec_flaw false named) (name_words record_type plain) ∙ ap₂ (λ p a. cond (not p || a) (Some bad) None) plain fresh
+    one_flaw named fresh (suc k) = ap (option_and_then (flaw_said named (take (suc k) ((rec_name, record_type) ∷ [])))) (slice_get_past ((rec_name, record_type) ∷ []) (suc k) (omega arith))
 
-    pub new_flaw : (named : List (List ℕ)) → is_among named kind ≡ false → (k : ℕ) → own_flaw named own k ≡ None
+    pub new_flaw : (named : List (List ℕ)) → is_among named record_type ≡ false → (k : ℕ) → own_flaw named own k ≡ None
     new_flaw named fresh k =
         ap (λ t. cond (is_some t) (field_flaw named own k) None) new_type ∙ field_flaw-says named own k ∙ ap (λ ss. flaw_among named ss k) alike ∙ one_flaw named fresh k

@@ -11,5 +11,5 @@ same_refusal one other same = cc
 pub returns-in_err-kind-clause-pattern : goal.returns-in_err-kind-clause-pattern
 returns-in_err-kind-clause-pattern c = λ is.
     let kept = err_from_is_err_and c.from_residual.result c.from_residual.ensures.1 in
-    refused_definition c.args.value.now c.in-Some.name.now c.in-Some.behind.now c.in-Some.ensures.0 c.in-Some.ensures.1 c.in_err-kind.field-0.0
+    refused_definition c.args.value.now c.in-Some.name.now c.in-Some.following.now c.in-Some.ensures.0 c.in-Some.ensures.1 c.in_err-kind.field-0.0
     (sym c.is_plain_name.ensures ∙ c.if-not-is_plain_name.false) c.in_err-kind.ensures (sym kept.2 ∙ same_refusal kept.0 Pattern (sym kept.1 ∙ is))

@@ -8,7 +8,7 @@ use Rattle.rec_text.specs.Places.{piece_of}
 use Rattle.rec_check.specs.proving.Reading.{IsRefusedRecord, drafted}
 use Rattle.rec_text.proofs.lemmas.elements.ElementLemmas.{few_pieces}
 use Rattle.rec_check.proofs.lemmas.descriptors.SchemaLemmas.{IsSchemaUpTo, schema_first, countable, record_within, schema_more, fields_within, schema_fault, schema_all}
-use Rattle.rec_check.proofs.lemmas.TypeLemmas.{kinds-HaveTypes}
+use Rattle.rec_check.proofs.lemmas.TypeLemmas.{record_types-HaveTypes}
 use Rattle.rec_check.proofs.schema.Schema.read.Goals as goal
 use Rattle.rec_check.proofs.schema.Schema.read.Goals.{After-into_iter-index-iterator, In-Some}
 
@@ -41,14 +41,14 @@ pub add-requires-clause-places : goal.add-requires-clause-places
 add-requires-clause-places c =
     rw c.elements_in-fields.ensures.elements
     (fields_within c.args.database.now _ _ (drafted c.loop-index.draft) c.in-Some.record _ c.in-Some.ensures.steps.0 c.loop-index.invariant.so_far
-    c.elements-elements.result.now c.elements-elements.ensures.pieces c.loop-index.draft.types (kinds-HaveTypes c.loop-index.draft.sets.items c.loop-index.draft.types c.loop-index.invariant.typed) c.elements-elements.ensures.places)
+    c.elements-elements.result.now c.elements-elements.ensures.pieces c.loop-index.draft.types (record_types-HaveTypes c.loop-index.draft.sets.items c.loop-index.draft.types c.loop-index.invariant.typed) c.elements-elements.ensures.places)
 
 pub loop-index-preserved : goal.loop-index-preserved
 loop-index-preserved c =
     let steps = c.in-Some.ensures.steps in
     let short = few_pieces c.args.database.now c.elements-elements.result.now (2 ^ 64) c.elements-elements.ensures.pieces (omega arith) in
     let so_far = schema_more c.args.database.now _ _ (drafted c.loop-index.draft) c.in-Some.record _ steps.0 c.loop-index.invariant.so_far
-    c.elements-elements.result.now c.elements-elements.ensures.pieces c.loop-index.draft.types (kinds-HaveTypes c.loop-index.draft.sets.items c.loop-index.draft.types c.loop-index.invariant.typed)
+    c.elements-elements.result.now c.elements-elements.ensures.pieces c.loop-index.draft.types (record_types-HaveTypes c.loop-index.draft.sets.items c.loop-index.draft.types c.loop-index.invariant.typed)
     c.in-Some.index c.next.new.self.count (drafted c.add.new.self) steps.1 steps.2 (rw c.elements_in-fields.ensures.elements at c.in_ok-add.ensures.added) in
     record { can = (tt, tt, inl (countable _ _ _ _ (2 ^ 64) so_far short)); finite = tt; so_far = so_far; typed = c.in_ok-add.ensures.typed }
 
@@ -59,7 +59,7 @@ returns-in_err-add-clause-refused c =
     let P : List Element → Type 0 = λ fields. IsMemoryOr fault (IsRefusedRecord (text_of c.args.database.now) c.loop-index.draft.types fields fault) in
     rw (kept.1, kept.2)
     (schema_fault c.args.database.now _ _ (drafted c.loop-index.draft) c.in-Some.record _ c.in-Some.ensures.steps.0 c.loop-index.invariant.so_far
-    c.elements-elements.result.now c.elements-elements.ensures.pieces c.loop-index.draft.types (kinds-HaveTypes c.loop-index.draft.sets.items c.loop-index.draft.types c.loop-index.invariant.typed) c.elements-elements.ensures.places c.in_err-add.field-0.0 (subst P c.elements_in-fields.ensures.elements c.in_err-add.ensures.refused))
+    c.elements-elements.result.now c.elements-elements.ensures.pieces c.loop-index.draft.types (record_types-HaveTypes c.loop-index.draft.sets.items c.loop-index.draft.types c.loop-index.invariant.typed) c.elements-elements.ensures.places c.in_err-add.field-0.0 (subst P c.elements_in-fields.ensures.elements c.in_err-add.ensures.refused))
 
 pub returns-clause-found : goal.returns-clause-found
 returns-clause-found c =

@@ -2,7 +2,7 @@ use Rattle.std.proofs.Common.{◌∙◌, ◌&&◌, not, ap, sym}
 use Rattle.rec_text.specs.Elements.{name_of}
 use Rattle.rec_text.specs.Places.{piece_of}
 use Rattle.rec_check.specs.proving.Names.{allows}
-use Rattle.rec_check.proofs.lemmas.checks.NameLemmas.{field_test, no_field_test}
+use Rattle.rec_text.proofs.lemmas.elements.ElementLemmas.{field_test, no_field_test}
 use Rattle.rec_check.proofs.checks.allowed.Allowed.refuses.Goals as goal
 
 pub returns-in_default : goal.returns-in_default

@@ -3,10 +3,10 @@ use Rattle.std.proofs.lemmas.Result.{on_ok_weaker}
 use Rattle.rec_text.specs.Places.{pieces_of}
 use Rattle.rec_check.specs.proving.Constraints.{terms_in}
 use Rattle.rec_text.specs.Records.{elements_in}
-use Rattle.rec_check.specs.proving.Fitting.{misfit_violations}
-use Rattle.rec_check.specs.proving.Keys.{IsAfter}
+use Rattle.rec_check.specs.Violations.{type_violations}
+use Rattle.rec_check.specs.proving.Keys.{IsKeyAfter}
 use Rattle.rec_check.specs.proving.Names.{allows}
-use Rattle.rec_check.specs.proving.Singulars.{IsAfter as IsSingularAfter}
+use Rattle.rec_check.specs.proving.Singulars.{IsSingularAfter}
 use Rattle.rec_check.specs.proving.Tests.{type_in}
 use Rattle.rec_check.proofs.lemmas.checks.ReportLemmas.{AddsOfRecord-joined, elements_in-end}
 use Rattle.rec_check.proofs.checks.checker.Checker.check.Goals as goal
@@ -22,11 +22,11 @@ returns-clause-added c = λ rules earlier ready.
     on_ok_weaker c.check-8.result
     (AddsOfRecord-joined (pieces_of c.args.lines.now.elements.now) rules earlier c.args.range.now c.line_of-line.result (pieces_of c.elements_in-fields.result.now) c.line_of-line.ensures.line (fields_are at.After-elements_in-fields)
     c.args.found.now.items c.check.new.found.items c.check-2.new.found.items c.check-3.new.found.items c.check-4.new.found.items c.check-5.new.found.items c.check-6.new.found.items c.check-7.new.found.items c.check-8.new.found.items
-    own.key.name.now own.mandatory.limit own.prohibited.limit own.unique.limit own.mandatory.names own.prohibited.names own.unique.names
+    own.key.name.now own.mandatory.rule own.prohibited.rule own.unique.rule own.mandatory.names own.prohibited.names own.unique.names
     (allows own.allowed) (type_in own.types) (terms_in own.constraints)
     ready.key ready.mandatory.0 ready.mandatory.1 ready.prohibited.0 ready.prohibited.1 ready.unique.0 ready.unique.1 ready.allowed ready.types ready.constraints
     (c.in_ok-check.ensures.added earlier ready.after) c.in_ok-check-2.ensures.added c.in_ok-check-3.ensures.added c.in_ok-check-4.ensures.added (c.in_ok-check-5.ensures.added rules.singular earlier ready.singular) c.in_ok-check-6.ensures.added
-    (c.in_ok-check-7.ensures.added ∙ ap (λ l. c.check-6.new.found.items ++ misfit_violations (pieces_of l) (type_in own.types) c.args.range.now.start (pieces_of c.elements_in-fields.result.now)) c.line_of-line.ensures.same))
+    (c.in_ok-check-7.ensures.added ∙ ap (λ l. c.check-6.new.found.items ++ type_violations (pieces_of l) (type_in own.types) c.args.range.now.start (pieces_of c.elements_in-fields.result.now)) c.line_of-line.ensures.same))
     c.check-8.ensures.added
 
 pub returns-clause-ready : goal.returns-clause-ready
@@ -36,7 +36,7 @@ returns-clause-ready c = λ rules earlier ready.
     on_ok_weaker c.check-8.result
     (λ same. record {
       key = ap (λ name. name.now) c.check.ensures.name ∙ ready.key;
-      after = subst (λ fields. IsAfter c.check.new.self (earlier ++ fields ∷ [])) are (c.in_ok-check.ensures.after earlier ready.after);
+      after = subst (λ fields. IsKeyAfter c.check.new.self (earlier ++ fields ∷ [])) are (c.in_ok-check.ensures.after earlier ready.after);
       mandatory = ready.mandatory;
       prohibited = ready.prohibited;
       unique = ready.unique;

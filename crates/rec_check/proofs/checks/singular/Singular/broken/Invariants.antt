@@ -1,6 +1,6 @@
 use Rattle.std.proofs.Common.{◌≡◌, take}
 use Rattle.rec_text.specs.Places.{pieces_of}
-use Rattle.rec_check.specs.proving.Met.{places_of}
+use Rattle.rec_check.specs.proving.NamesSeen.{places_of}
 use Rattle.rec_check.specs.proving.Singulars.{has_seen}
 use Rattle.rec_check.specs.Words.{distinct}
 use Rattle.rec_check.proofs.lemmas.checks.SingularLemmas.{has_broken}

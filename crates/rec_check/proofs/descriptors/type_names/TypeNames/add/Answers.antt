@@ -13,4 +13,4 @@ returns c =
     ∙ ap (λ names. is_among names c.args.name.now) c.self.view_is ∙ c.requires in
     ap (map (λ name. name.items)) (c.in_ok-insert.ensures.keys ∙ ap (λ b. cond b names (names ++ name ∷ [])) absent)
     ∙ map-append (λ name. name.items) names (name ∷ [])
-    ∙ ap (λ front. front ++ name.items ∷ []) c.self.view_is ∙ ap (λ bytes. c.args.self.now ++ bytes ∷ []) c.in_ok-from_slice.ensures.items
+    ∙ ap (λ prefix. prefix ++ name.items ∷ []) c.self.view_is ∙ ap (λ bytes. c.args.self.now ++ bytes ∷ []) c.in_ok-from_slice.ensures.items

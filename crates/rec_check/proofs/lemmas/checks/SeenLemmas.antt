@@ -1,4 +1,4 @@
--- Which of some names a record has, field by field, and which of them break a limit.
+-- Which of some names a record has, field by field, and which of them break a rule.
 use Rattle.std.proofs.Common.{◌≡◌, ◌∙◌, inl, inr, ℕ, zero, suc, ◌+◌, ◌<◌, Bool, true, false, ◌||◌, ◌&&◌, not, cond, List, [], ◌∷◌, ◌++◌, filter, length, position, take, get_or, Some, None, refl, ap, ap₂, sym, arith}
 use Rattle.std.proofs.lemmas.Bool.{cases_Bool, le-leb, ne_eqb, or_left}
 use Rattle.std.proofs.lemmas.List.{map_more}
@@ -15,11 +15,11 @@ use Rattle.rec_text.specs.declared.element.Element.{Element}
 use Rattle.rec_text.specs.Elements.{Piece, name_of}
 use Rattle.rec_text.specs.Places.{piece_of, pieces_of}
 use Rattle.rec_text.proofs.lemmas.ListLemmas.{same_bytes}
-use Rattle.rec_check.specs.declared.checks.limit.Limit.{Limit}
-use Rattle.rec_check.specs.declared.checks.limit.Limit.TheVariants.{Present}
-use Rattle.rec_check.specs.declared.checks.met.Met.{Met}
-use Rattle.rec_check.specs.Checks.{breaking, breaks_limit}
-use Rattle.rec_check.specs.proving.Met.{places_of, occurs, AreMet}
+use Rattle.rec_check.specs.declared.checks.occurrence_rule.OccurrenceRule.{OccurrenceRule}
+use Rattle.rec_check.specs.declared.checks.occurrence_rule.OccurrenceRule.TheVariants.{Present}
+use Rattle.rec_check.specs.declared.checks.names_seen.NamesSeen.{NamesSeen}
+use Rattle.rec_check.specs.Checks.{breaking, breaks_occurrence_rule}
+use Rattle.rec_check.specs.proving.NamesSeen.{places_of, occurs, AreNamesSeen}
 use Rattle.rec_check.specs.Violations.{occurrences}
 use Rattle.rec_check.specs.Words.{distinct}
 use Rattle.rec_check.proofs.lemmas.checks.NamePlaceLemmas.{apart, beside, holds_place, names_at, names_besides, places_agree, places_next}
@@ -94,35 +94,35 @@ module _ (elements : List Element) (i : ℕ) (d : Element) (within : i < length 
   up_to_next : (least : ℕ) → places_of (occurs least (pieces_of (take i elements) ++ piece_at ∷ [])) names ≡ places_of (occurs least (pieces_of (take (i + 1) elements))) names
   up_to_next least = ap (λ l. places_of (occurs least l) names) (sym (map_more piece_of elements i d within))
 
-  pub met_other : (met : Met) → position (bytes_eq (name_of piece_at)) names ≡ None → AreMet names (pieces_of (take i elements)) met → AreMet names (pieces_of (take (i + 1) elements)) met
-  met_other met none are = record {
+  pub seen_other : (seen : NamesSeen) → position (bytes_eq (name_of piece_at)) names ≡ None → AreNamesSeen names (pieces_of (take i elements)) seen → AreNamesSeen names (pieces_of (take (i + 1) elements)) seen
+  seen_other seen none are = record {
     once = are.once ∙ places_passed (pieces_of (take i elements)) piece_at names 1 none ∙ up_to_next 1;
     again = are.again ∙ places_passed (pieces_of (take i elements)) piece_at names 2 none ∙ up_to_next 2;
   }
 
-  pub met_more : (old new : Met) (place : ℕ) → distinct names ≡ names → position (bytes_eq (name_of piece_at)) names ≡ Some place → AreMet names (pieces_of (take i elements)) old
+  pub seen_more : (old new : NamesSeen) (place : ℕ) → distinct names ≡ names → position (bytes_eq (name_of piece_at)) names ≡ Some place → AreNamesSeen names (pieces_of (take i elements)) old
       → new.once.keys ≡ insert_key nat_cmp old.once.keys place → new.again.keys ≡ cond (list_any (is_at (nat_cmp place)) old.once.keys) (insert_key nat_cmp old.again.keys place) old.again.keys
-      → AreMet names (pieces_of (take (i + 1) elements)) new
-  met_more old new place once at are first second = record {
+      → AreNamesSeen names (pieces_of (take (i + 1) elements)) new
+  seen_more old new place once at are first second = record {
     once = first ∙ ap (λ l. insert_key nat_cmp l place) are.once ∙ once_inserted (pieces_of (take i elements)) piece_at names place once at ∙ up_to_next 1;
     again = second ∙ ap₂ (λ l m. cond (list_any (is_at (nat_cmp place)) l) (insert_key nat_cmp m place) m) are.once are.again
         ∙ again_inserted (pieces_of (take i elements)) piece_at names place once at ∙ up_to_next 2;
   }
 
--- ---- the names that break a limit
+-- ---- the names that break a rule
 
 not_once : (n : ℕ) → not (nat_le 1 n) ≡ (n == 0)
 not_once zero = refl
 not_once (suc n) = ap not (le-leb 1 (suc n) (omega arith)) ∙ sym (ne_eqb (suc n) 0 (λ same. absurd (omega (arith, same))))
 
-module _ (limit : Limit) (names : List (List ℕ)) (fields : List Piece) where
+module _ (rule : OccurrenceRule) (names : List (List ℕ)) (fields : List Piece) where
   -- those that occur so often
-  pub breaking_at : (least : ℕ) (places : List ℕ) → places ≡ places_of (occurs least fields) names → breaks_limit limit ≡ nat_le least → filter_map (slice_get names) places ≡ breaking limit names fields
+  pub breaking_at : (least : ℕ) (places : List ℕ) → places ≡ places_of (occurs least fields) names → breaks_occurrence_rule rule ≡ nat_le least → filter_map (slice_get names) places ≡ breaking rule names fields
   breaking_at least places are breaks =
       ap (filter_map (slice_get names)) are ∙ names_at (occurs least fields) names ∙ ap (λ breaks. filter (λ name. breaks (occurrences fields name)) names) (sym breaks)
 
   -- those that don't occur
-  pub breaking_besides : (places : List ℕ) → places ≡ places_of (occurs 1 fields) names → limit ≡ Present → filter_map (beside places) (enumerate_from 0 names) ≡ breaking limit names fields
+  pub breaking_besides : (places : List ℕ) → places ≡ places_of (occurs 1 fields) names → rule ≡ Present → filter_map (beside places) (enumerate_from 0 names) ≡ breaking rule names fields
   breaking_besides places are is =
       ap (λ l. filter_map (beside l) (enumerate_from 0 names)) are ∙ names_besides (occurs 1 fields) names
       ∙ filter_agree (λ name. not (occurs 1 fields name)) (λ name. occurrences fields name == 0) (λ name. not_once (occurrences fields name)) names

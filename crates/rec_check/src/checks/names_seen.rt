@@ -7,19 +7,19 @@ use std::collections::BTreeSet;
 
 /// The places, among some names, of those that a record has.
 #[derive(Drop)]
-pub(crate) struct Met {
+pub(crate) struct NamesSeen {
     /// Of those that it has once or more.
     pub once: BTreeSet<usize>,
     /// Of those that it has twice or more.
     pub again: BTreeSet<usize>,
 }
 
-impl Met {
+impl NamesSeen {
     ghost use Rattle.std.specs.Prelude.{◌≡◌, if◌then◌else◌, IfOk, OnOk, IsOkUnless};
     ghost use Rattle.std.specs.BTreeSet.{contains, insert_key};
     ghost use Rattle.std.specs.Ordering.{nat_cmp};
     ghost use Rattle.rec_text.specs.Places.{pieces_of};
-    ghost use Rattle.rec_check.specs.proving.Met.{AreMet};
+    ghost use Rattle.rec_check.specs.proving.NamesSeen.{AreNamesSeen};
     ghost use Rattle.rec_check.specs.Words.{distinct};
 
     /// Notes a field of the name at a place.
@@ -37,11 +37,15 @@ impl Met {
     }
 
     /// Those that a record with these fields has.
-    pub(crate) fn of(alloc: Global, names: &Names<'_>, fields: &[Element]) -> Result<Met, Fault>
-        ensures met { distinct names.now ≡ names.now → IfOk result (AreMet names.now (pieces_of fields.now)) }
+    pub(crate) fn of(
+        alloc: Global,
+        names: &Names<'_>,
+        fields: &[Element],
+    ) -> Result<NamesSeen, Fault>
+        ensures seen { distinct names.now ≡ names.now → IfOk result (AreNamesSeen names.now (pieces_of fields.now)) }
         ensures refusals { IsOkUnless result Fault.OutOfMemory }
     {
-        let mut met = Met {
+        let mut seen = NamesSeen {
             once: BTreeSet::new(alloc),
             again: BTreeSet::new(alloc),
         };
@@ -49,8 +53,8 @@ impl Met {
             let Some(place) = names.place_of(field.name()) else {
                 continue;
             };
-            met.note(place)?;
+            seen.note(place)?;
         }
-        Ok(met)
+        Ok(seen)
     }
 }

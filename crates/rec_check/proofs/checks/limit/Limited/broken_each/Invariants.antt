@@ -1,7 +1,0 @@
-use Rattle.std.proofs.Common.{◌≡◌, take}
-use Rattle.rec_text.specs.Places.{pieces_of}
-use Rattle.rec_check.specs.Checks.{breaking, texts}
-use Rattle.rec_check.proofs.checks.limit.Limited.broken_each.Given as goal
-
-abbrev pub invariant-loop-name : goal.invariant-loop-name
-invariant-loop-name l = texts l.broken.items ≡ breaking l.self.limit (texts (take l.name-index l.name-items)) (pieces_of l.fields)

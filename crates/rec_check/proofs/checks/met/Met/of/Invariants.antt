@@ -1,8 +1,0 @@
-use Rattle.std.proofs.Common.{◌≡◌, take}
-use Rattle.rec_text.specs.Places.{pieces_of}
-use Rattle.rec_check.specs.proving.Met.{AreMet}
-use Rattle.rec_check.specs.Words.{distinct}
-use Rattle.rec_check.proofs.checks.met.Met.of.Given as goal
-
-abbrev pub invariant-loop-field : goal.invariant-loop-field
-invariant-loop-field l = distinct l.names ≡ l.names → AreMet l.names (pieces_of (take l.field-index l.fields)) l.met

@@ -12,12 +12,13 @@ use Rattle.std.proofs.lemmas.Option.{slice_get-map, slice_get-get_or, slice_get_
 use Rattle.std.proofs.lemmas.Grind.{flat_map-append}
 use Rattle.rec_text.specs.Bytes.{ends_newline, is_nil}
 use Rattle.rec_text.specs.declared.element.Element.{Element}
-use Rattle.rec_text.specs.declared.element.Kind.TheVariants.{Blank, Comment, Field}
-use Rattle.rec_text.specs.declared.element.Kind.{Kind}
+use Rattle.rec_text.specs.declared.element.Kind.TheVariants.{Field}
 use Rattle.rec_text.specs.Elements.{Piece}
 use Rattle.rec_text.specs.Places.{piece_of, pieces_of}
 use Rattle.rec_text.specs.Records.{is_field_piece}
 use Rattle.rec_text.specs.Values.{value_of}
+use Rattle.std.proofs.Math.Bool.{or-true}
+use Rattle.rec_text.proofs.lemmas.elements.ElementLemmas.{no_field_test}
 use Rattle.rec_text.proofs.lemmas.ListLemmas.{is_nil-push, join_with_byte-cons}
 use Rattle.rec_select.specs.proving.Blocks.{closed_text, spaced_value}
 use Rattle.rec_select.specs.Printing.{closed, row_of, value_line}
@@ -28,8 +29,8 @@ pub ends_newline-last : (text : List ℕ) → ends_newline text ≡ option_map_o
 ends_newline-last [] = refl
 ends_newline-last (b ∷ []) = refl
 ends_newline-last (b ∷ c ∷ cs) =
-    let behind : length (b ∷ c ∷ cs) - 1 ≡ suc (length (c ∷ cs) - 1) = omega arith in
-    ends_newline-last (c ∷ cs) ∙ ap (λ n. option_map_or (λ b. b == 10) (slice_get (b ∷ c ∷ cs) n) false) (sym behind)
+    let following : length (b ∷ c ∷ cs) - 1 ≡ suc (length (c ∷ cs) - 1) = omega arith in
+    ends_newline-last (c ∷ cs) ∙ ap (λ n. option_map_or (λ b. b == 10) (slice_get (b ∷ c ∷ cs) n) false) (sym following)
 
 pub newline_last : (text : List ℕ) (last : Option (Bor ℕ)) (newline : Bor ℕ) (test : Bool) → newline.now ≡ 10 → option_copied last ≡ slice_get text (length text - 1)
     → test ≡ option_eq (λ x y. x.now == y.now) last (Some newline) → test ≡ ends_newline text
@@ -42,7 +43,7 @@ closed-open text e = rw (sym e) refl
 
 -- ---- a text that is made element by element
 
--- what is made of the elements before one, of that one, and of those behind it
+-- what is made of the elements before one, of that one, and of those after it
 pub cut_at : {A : Type 0} (f : List A → List ℕ) → ((xs ys : List A) → f (xs ++ ys) ≡ f xs ++ f ys) → (xs : List A) (i : ℕ) (d : A) → i < length xs
     → f xs ≡ (f (take i xs) ++ f (get_or xs i d ∷ [])) ++ f (drop (i + 1) xs)
 cut_at f joins xs i d within =
@@ -61,10 +62,6 @@ flat_map_at part elements i d within =
 
 -- ---- whether a field is among elements
 
-or-true : (b : Bool) → (b || true) ≡ true
-or-true true = refl
-or-true false = refl
-
 or-false : (a b : Bool) → a ≡ false → b ≡ false → (a || (b || false)) ≡ false
 or-false a b e f = rw (e, f) refl
 
@@ -74,13 +71,8 @@ is_field-at (element ∷ elements) (suc i) d within e =
     ap (λ b. is_field_piece (piece_of element) || b) (is_field-at elements i d (omega arith) e) ∙ or-true (is_field_piece (piece_of element))
 is_field-at [] i d within e = absurd (omega arith)
 
-is_field-kind : (kind : Kind) (bytes : List ℕ) → (kind ≡ Field → ⊥) → is_field_piece (record { kind = kind; bytes = bytes }) ≡ false
-is_field-kind Blank bytes other = refl
-is_field-kind Comment bytes other = refl
-is_field-kind Field bytes other = absurd (other refl)
-
 pub is_field-other : (element : Element) → (element.kind ≡ Field → ⊥) → is_field_piece (piece_of element) ≡ false
-is_field-other element other = is_field-kind element.kind element.raw.now other
+is_field-other element other = no_field_test element.kind element.raw.now other
 
 pub is_field-more : (elements : List Element) (i : ℕ) (d : Element) → i < length elements → ((get_or elements i d).kind ≡ Field → ⊥)
     → list_any is_field_piece (pieces_of (take i elements)) ≡ false → list_any is_field_piece (pieces_of (take (i + 1) elements)) ≡ false

@@ -1,4 +1,4 @@
--- Elements that stand in a text one behind another: their parts, and the text of each part.
+-- Elements that stand in a text one after another: their parts, and the text of each part.
 use Rattle.std.proofs.Common.{◌≡◌, ℕ, ◌+◌, ◌-◌, ◌<◌, ◌≤◌, Bool, true, false, List, [], ◌∷◌, ◌++◌, Option, Some, None, length, length-append, take, drop, get_or, suc, refl, sym, ap, subst, ◌∙◌, ◌⊎◌, inl, inr, ◌==◌, append-nil, append_assoc, arith}
 use Rattle.std.specs.Prelude.{filter, flat_map, slice_get}
 use Rattle.std.specs.List.{AllByRecursion}
@@ -15,46 +15,46 @@ use Rattle.rec_text.specs.Elements.{Piece, IsElement, EndInNewlines, AreElements
 use Rattle.rec_text.specs.Places.{piece_of, pieces_of, AreFrom}
 use Rattle.rec_text.specs.Records.{is_field_piece}
 use Rattle.rec_text.proofs.lemmas.elements.ElementLemmas.{text_of-append}
-use Rattle.rec_text.proofs.lemmas.ListLemmas.{AllByRecursion-behind, AllByRecursion-front, is_nil-length}
+use Rattle.rec_text.proofs.lemmas.ListLemmas.{AllByRecursion-following, AllByRecursion-prefix, is_nil-length}
 use Rattle.rec_select.specs.proving.Blocks.{closed_text}
-use Rattle.rec_select.specs.proving.Excerpts.{AreWithin}
+use Rattle.rec_select.specs.proving.Excerpts.{IsExcerpt}
 use Rattle.rec_select.specs.Printing.{closed}
 use Rattle.rec_select.proofs.BlockLemmas.{is_nil-append}
 
--- ---- lists of elements, one behind another
+-- ---- lists of elements, one after another
 
-EndInNewlines-front : (xs ys : List Piece) → EndInNewlines (xs ++ ys) → EndInNewlines xs
-EndInNewlines-front [] ys ends = tt
-EndInNewlines-front (x ∷ []) ys ends = tt
-EndInNewlines-front (x ∷ y ∷ xs) ys ends = (ends.0, EndInNewlines-front (y ∷ xs) ys ends.1)
+EndInNewlines-prefix : (xs ys : List Piece) → EndInNewlines (xs ++ ys) → EndInNewlines xs
+EndInNewlines-prefix [] ys ends = tt
+EndInNewlines-prefix (x ∷ []) ys ends = tt
+EndInNewlines-prefix (x ∷ y ∷ xs) ys ends = (ends.0, EndInNewlines-prefix (y ∷ xs) ys ends.1)
 
-EndInNewlines-behind : (xs ys : List Piece) → EndInNewlines (xs ++ ys) → EndInNewlines ys
-EndInNewlines-behind [] ys ends = ends
-EndInNewlines-behind (x ∷ []) [] ends = tt
-EndInNewlines-behind (x ∷ []) (y ∷ ys) ends = ends.1
-EndInNewlines-behind (x ∷ y ∷ xs) ys ends = EndInNewlines-behind (y ∷ xs) ys ends.1
+EndInNewlines-following : (xs ys : List Piece) → EndInNewlines (xs ++ ys) → EndInNewlines ys
+EndInNewlines-following [] ys ends = ends
+EndInNewlines-following (x ∷ []) [] ends = tt
+EndInNewlines-following (x ∷ []) (y ∷ ys) ends = ends.1
+EndInNewlines-following (x ∷ y ∷ xs) ys ends = EndInNewlines-following (y ∷ xs) ys ends.1
 
-AreFrom-front : (at : ℕ) (xs ys : List Element) → AreFrom at (xs ++ ys) → AreFrom at xs
-AreFrom-front at [] ys from = tt
-AreFrom-front at (x ∷ xs) ys from = (from.0, AreFrom-front (at + length x.raw.now) xs ys from.1)
+AreFrom-prefix : (at : ℕ) (xs ys : List Element) → AreFrom at (xs ++ ys) → AreFrom at xs
+AreFrom-prefix at [] ys from = tt
+AreFrom-prefix at (x ∷ xs) ys from = (from.0, AreFrom-prefix (at + length x.raw.now) xs ys from.1)
 
-AreFrom-behind : (at : ℕ) (xs ys : List Element) → AreFrom at (xs ++ ys) → AreFrom (at + length (text_of (pieces_of xs))) ys
-AreFrom-behind at [] ys from =
+AreFrom-following : (at : ℕ) (xs ys : List Element) → AreFrom at (xs ++ ys) → AreFrom (at + length (text_of (pieces_of xs))) ys
+AreFrom-following at [] ys from =
     let P : ℕ → Type 0 = λ n. AreFrom n ys in
     let same : at ≡ at + 0 = omega arith in
     subst P same from
-AreFrom-behind at (x ∷ xs) ys from =
+AreFrom-following at (x ∷ xs) ys from =
     let P : ℕ → Type 0 = λ n. AreFrom n ys in
     let same : at + length x.raw.now + length (text_of (pieces_of xs)) ≡ at + length (x.raw.now ++ text_of (pieces_of xs)) =
     omega (arith, length-append x.raw.now (text_of (pieces_of xs))) in
-    subst P same (AreFrom-behind (at + length x.raw.now) xs ys from.1)
+    subst P same (AreFrom-following (at + length x.raw.now) xs ys from.1)
 
 -- ---- a part of elements that stand in a text
 
-joined_parts : (front first second third behind : List ℕ) → front ++ ((first ++ (second ++ third)) ++ behind) ≡ (front ++ first) ++ (second ++ (third ++ behind))
-joined_parts front first second third behind = simp append_assoc
+joined_parts : (prefix first second third following : List ℕ) → prefix ++ ((first ++ (second ++ third)) ++ following) ≡ (prefix ++ first) ++ (second ++ (third ++ following))
+joined_parts prefix first second third following = simp append_assoc
 
-module _ (text : List ℕ) (xs ys zs : List Element) (are : AreWithin text (xs ++ (ys ++ zs))) where
+module _ (text : List ℕ) (xs ys zs : List Element) (are : IsExcerpt text (xs ++ (ys ++ zs))) where
   three : pieces_of (xs ++ (ys ++ zs)) ≡ pieces_of xs ++ (pieces_of ys ++ pieces_of zs)
   three = map-append piece_of xs (ys ++ zs) ∙ ap (λ t. pieces_of xs ++ t) (map-append piece_of ys zs)
 
@@ -63,42 +63,42 @@ module _ (text : List ℕ) (xs ys zs : List Element) (are : AreWithin text (xs +
       sym are.whole.joined ∙ ap text_of three ∙ text_of-append (pieces_of xs) (pieces_of ys ++ pieces_of zs)
       ∙ ap (λ t. text_of (pieces_of xs) ++ t) (text_of-append (pieces_of ys) (pieces_of zs))
 
-  AreWithin-middle : AreWithin text ys
-  AreWithin-middle =
+  IsExcerpt-middle : IsExcerpt text ys
+  IsExcerpt-middle =
       let P : List Piece → Type 0 = λ ps. AllByRecursion IsElement ps in
       let E : List Piece → Type 0 = λ ps. EndInNewlines ps in
       let F : ℕ → Type 0 = λ n. AreFrom n ys in
-      let formed = AllByRecursion-behind IsElement (pieces_of xs) (pieces_of ys ++ pieces_of zs) (subst P three are.whole.well_formed) in
-      let ends = EndInNewlines-behind (pieces_of xs) (pieces_of ys ++ pieces_of zs) (subst E three are.whole.lines_end) in
+      let formed = AllByRecursion-following IsElement (pieces_of xs) (pieces_of ys ++ pieces_of zs) (subst P three are.whole.well_formed) in
+      let ends = EndInNewlines-following (pieces_of xs) (pieces_of ys ++ pieces_of zs) (subst E three are.whole.lines_end) in
       record {
-        front = are.front ++ text_of (pieces_of xs);
+        prefix = are.prefix ++ text_of (pieces_of xs);
         part = text_of (pieces_of ys);
-        behind = text_of (pieces_of zs) ++ are.behind;
-        parts = are.parts ∙ ap (λ t. are.front ++ (t ++ are.behind)) part_is ∙ joined_parts are.front (text_of (pieces_of xs)) (text_of (pieces_of ys)) (text_of (pieces_of zs)) are.behind;
+        following = text_of (pieces_of zs) ++ are.following;
+        parts = are.parts ∙ ap (λ t. are.prefix ++ (t ++ are.following)) part_is ∙ joined_parts are.prefix (text_of (pieces_of xs)) (text_of (pieces_of ys)) (text_of (pieces_of zs)) are.following;
         whole = record {
           joined = refl;
-          well_formed = AllByRecursion-front IsElement (pieces_of ys) (pieces_of zs) formed;
-          lines_end = EndInNewlines-front (pieces_of ys) (pieces_of zs) ends;
+          well_formed = AllByRecursion-prefix IsElement (pieces_of ys) (pieces_of zs) formed;
+          lines_end = EndInNewlines-prefix (pieces_of ys) (pieces_of zs) ends;
         };
-        places = subst F (sym (length-append are.front (text_of (pieces_of xs)))) (AreFrom-front _ ys zs (AreFrom-behind (length are.front) xs (ys ++ zs) are.places));
+        places = subst F (sym (length-append are.prefix (text_of (pieces_of xs)))) (AreFrom-prefix _ ys zs (AreFrom-following (length are.prefix) xs (ys ++ zs) are.places));
       }
 
-pub AreWithin-sliced : (text : List ℕ) (elements : List Element) (start count : ℕ) → AreWithin text elements → AreWithin text (take count (drop start elements))
-AreWithin-sliced text elements start count are =
-    let P : List Element → Type 0 = λ es. AreWithin text es in
+pub IsExcerpt-sliced : (text : List ℕ) (elements : List Element) (start count : ℕ) → IsExcerpt text elements → IsExcerpt text (take count (drop start elements))
+IsExcerpt-sliced text elements start count are =
+    let P : List Element → Type 0 = λ es. IsExcerpt text es in
     let rest : List Element = drop start elements in
     let parts : elements ≡ take start elements ++ (take count rest ++ drop count rest) =
     sym (take-append-drop start elements) ∙ ap (λ t. take start elements ++ t) (sym (take-append-drop count rest)) in
-    AreWithin-middle text (take start elements) (take count rest) (drop count rest) (subst P parts are)
+    IsExcerpt-middle text (take start elements) (take count rest) (drop count rest) (subst P parts are)
 
-pub AreWithin-whole : (text : List ℕ) (pieces : List Piece) (elements : List Element) → text ≡ text_of pieces → pieces_of elements ≡ pieces → AreElementsOf pieces (text_of pieces) → AreFrom 0 elements
-    → AreWithin text elements
-AreWithin-whole text pieces elements is same whole places =
+pub IsExcerpt-whole : (text : List ℕ) (pieces : List Piece) (elements : List Element) → text ≡ text_of pieces → pieces_of elements ≡ pieces → AreElementsOf pieces (text_of pieces) → AreFrom 0 elements
+    → IsExcerpt text elements
+IsExcerpt-whole text pieces elements is same whole places =
     let P : List Piece → Type 0 = λ ps. AreElementsOf ps (text_of pieces) in
     record {
-      front = [];
+      prefix = [];
       part = text_of pieces;
-      behind = [];
+      following = [];
       parts = is ∙ sym (append-nil (text_of pieces));
       whole = subst P (sym same) whole;
       places = places;
@@ -113,27 +113,27 @@ last_ends at (e ∷ []) last is from =
     let same : last ≡ e = cc in
     rw (same, append-nil e.raw.now) (omega (arith, from.0))
 last_ends at (e ∷ d ∷ es) last is from =
-    let behind : length (e ∷ d ∷ es) - 1 ≡ suc (length (d ∷ es) - 1) = omega arith in
-    let is_last : Some last ≡ slice_get (d ∷ es) (length (d ∷ es) - 1) = is ∙ ap (slice_get (e ∷ d ∷ es)) behind in
+    let following : length (e ∷ d ∷ es) - 1 ≡ suc (length (d ∷ es) - 1) = omega arith in
+    let is_last : Some last ≡ slice_get (d ∷ es) (length (d ∷ es) - 1) = is ∙ ap (slice_get (e ∷ d ∷ es)) following in
     omega (arith, last_ends (at + length e.raw.now) (d ∷ es) last is_last from.1, length-append e.raw.now (text_of (pieces_of (d ∷ es))))
 
-module _ (text : List ℕ) (elements : List Element) (last : Element) (are : AreWithin text elements) (last_is : Some last ≡ slice_get elements (length elements - 1)) where
-  end_is : last.at + length last.raw.now ≡ length are.front + length (text_of (pieces_of elements))
-  end_is = last_ends (length are.front) elements last last_is are.places
+module _ (text : List ℕ) (elements : List Element) (last : Element) (are : IsExcerpt text elements) (last_is : Some last ≡ slice_get elements (length elements - 1)) where
+  end_is : last.at + length last.raw.now ≡ length are.prefix + length (text_of (pieces_of elements))
+  end_is = last_ends (length are.prefix) elements last last_is are.places
 
-  parts_are : text ≡ are.front ++ (text_of (pieces_of elements) ++ are.behind)
-  parts_are = are.parts ∙ ap (λ t. are.front ++ (t ++ are.behind)) (sym are.whole.joined)
+  parts_are : text ≡ are.prefix ++ (text_of (pieces_of elements) ++ are.following)
+  parts_are = are.parts ∙ ap (λ t. are.prefix ++ (t ++ are.following)) (sym are.whole.joined)
 
   pub ends_within : last.at + length last.raw.now ≤ length text
   ends_within =
-      omega (arith, end_is, ap length parts_are, length-append are.front (text_of (pieces_of elements) ++ are.behind), length-append (text_of (pieces_of elements)) are.behind)
+      omega (arith, end_is, ap length parts_are, length-append are.prefix (text_of (pieces_of elements) ++ are.following), length-append (text_of (pieces_of elements)) are.following)
 
   module _ (first : Element) (first_is : Some first ≡ slice_get elements 0) where
-    begins : (es : List Element) → Some first ≡ slice_get es 0 → AreFrom (length are.front) es → first.at ≡ length are.front
+    begins : (es : List Element) → Some first ≡ slice_get es 0 → AreFrom (length are.prefix) es → first.at ≡ length are.prefix
     begins [] is from = cc
     begins (e ∷ es) is from = cc (from.0)
 
-    begin_is : first.at ≡ length are.front
+    begin_is : first.at ≡ length are.prefix
     begin_is = begins elements first_is are.places
 
     pub in_order : first.at ≤ last.at + length last.raw.now
@@ -142,8 +142,8 @@ module _ (text : List ℕ) (elements : List Element) (last : Element) (are : Are
     pub text_between : take (last.at + length last.raw.now - first.at) (drop first.at text) ≡ text_of (pieces_of elements)
     text_between =
         let count : last.at + length last.raw.now - first.at ≡ length (text_of (pieces_of elements)) = omega (arith, begin_is, end_is) in
-        rw (count, parts_are, drop_at are.front (text_of (pieces_of elements) ++ are.behind) first.at (sym begin_is))
-        (take_at (text_of (pieces_of elements)) are.behind (length (text_of (pieces_of elements))) refl)
+        rw (count, parts_are, drop_at are.prefix (text_of (pieces_of elements) ++ are.following) first.at (sym begin_is))
+        (take_at (text_of (pieces_of elements)) are.following (length (text_of (pieces_of elements))) refl)
 
 pub no_text : (elements : List Element) (first last : Option Element) → first ≡ slice_get elements 0 → last ≡ slice_get elements (length elements - 1) → (first ≡ None) ⊎ (last ≡ None) → [] ≡ text_of (pieces_of elements)
 no_text [] first last is_first is_last none = refl
@@ -152,15 +152,15 @@ no_text (e ∷ es) first last is_first is_last (inr none) = let more : length (e
 
 -- ---- elements with a newline at the end of each
 
-ends_newline-behind : (front text : List ℕ) → is_nil text ≡ false → ends_newline (front ++ text) ≡ ends_newline text
-ends_newline-behind [] text some = refl
-ends_newline-behind (b ∷ []) [] some = cc
-ends_newline-behind (b ∷ []) (c ∷ text) some = refl
-ends_newline-behind (b ∷ c ∷ front) text some = ends_newline-behind (c ∷ front) text some
+ends_newline-following : (prefix text : List ℕ) → is_nil text ≡ false → ends_newline (prefix ++ text) ≡ ends_newline text
+ends_newline-following [] text some = refl
+ends_newline-following (b ∷ []) [] some = cc
+ends_newline-following (b ∷ []) (c ∷ text) some = refl
+ends_newline-following (b ∷ c ∷ prefix) text some = ends_newline-following (c ∷ prefix) text some
 
-closed_behind : (front text : List ℕ) (ends : Bool) → ends ≡ ends_newline text → is_nil text ≡ false → closed_text (front ++ text) ≡ front ++ closed_text text
-closed_behind front text true is some = rw (ends_newline-behind front text some, ← is) refl
-closed_behind front text false is some = rw (ends_newline-behind front text some, ← is) (append_assoc front text (10 ∷ []))
+closed_after : (prefix text : List ℕ) (ends : Bool) → ends ≡ ends_newline text → is_nil text ≡ false → closed_text (prefix ++ text) ≡ prefix ++ closed_text text
+closed_after prefix text true is some = rw (ends_newline-following prefix text some, ← is) refl
+closed_after prefix text false is some = rw (ends_newline-following prefix text some, ← is) (append_assoc prefix text (10 ∷ []))
 
 has_bytes : (kind : Kind) (bytes : List ℕ) → IsElement (record { kind = kind; bytes = bytes }) → is_nil bytes ≡ false
 has_bytes Blank [] is = sym is
@@ -183,7 +183,7 @@ closed_each : (piece : Piece) (pieces : List Piece) → AllByRecursion IsElement
 closed_each piece [] formed ends = rw (append-nil piece.bytes, append-nil (closed piece)) refl
 closed_each piece (next ∷ pieces) formed ends =
     let rest = closed_each next pieces formed.1 ends.1 in
-    closed_behind piece.bytes (text_of (next ∷ pieces)) (ends_newline (text_of (next ∷ pieces))) refl (has_text next pieces formed.1.0)
+    closed_after piece.bytes (text_of (next ∷ pieces)) (ends_newline (text_of (next ∷ pieces))) refl (has_text next pieces formed.1.0)
     ∙ ap (λ t. piece.bytes ++ t) rest ∙ ap (λ t. t ++ flat_map closed (next ∷ pieces)) (closed-ended piece ends.0)
 
 pub closed_some : (pieces : List Piece) (text : List ℕ) → text ≡ text_of pieces → AreElementsOf pieces (text_of pieces) → false ≡ (length text == 0) → closed_text text ≡ flat_map closed pieces

@@ -9,6 +9,7 @@ use Rattle.rec_text.specs.declared.element.Element.{Element}
 use Rattle.rec_text.specs.declared.element.Kind.{Kind}
 use Rattle.rec_text.specs.declared.element.Kind.TheVariants.{Blank, Comment, Field}
 use Rattle.rec_text.specs.Elements.{Piece}
+use Rattle.rec_text.proofs.lemmas.elements.ElementLemmas.{field_test}
 use Rattle.rec_text.specs.Places.{piece_of, pieces_of}
 use Rattle.rec_text.specs.Records.{is_field_piece}
 use Rattle.rec_text.specs.Values.{value_of}
@@ -22,26 +23,23 @@ module _ (value text : List ℕ) where
   Holds-occurring at occurs =
       (take at value, drop (at + length text) value, sym (take-append-drop at value) ∙ ap (λ rest. take at value ++ rest) (OccursAt-split value text at occurs))
 
-  OccursAt-held : (front behind : List ℕ) → value ≡ front ++ (text ++ behind) → OccursAt value text (length front)
-  OccursAt-held front behind parts =
-      OccursAt-from_part value text (length front)
-      (omega (arith, ap length parts, length-append front (text ++ behind), length-append text behind))
-      (ap (λ v. take (length text) (drop (length front) v)) parts ∙ ap (take (length text)) (drop_at front (text ++ behind) (length front) refl) ∙ take_at text behind (length text) refl)
+  OccursAt-held : (prefix following : List ℕ) → value ≡ prefix ++ (text ++ following) → OccursAt value text (length prefix)
+  OccursAt-held prefix following parts =
+      OccursAt-from_part value text (length prefix)
+      (omega (arith, ap length parts, length-append prefix (text ++ following), length-append text following))
+      (ap (λ v. take (length text) (drop (length prefix) v)) parts ∙ ap (take (length text)) (drop_at prefix (text ++ following) (length prefix) refl) ∙ take_at text following (length text) refl)
 
   pub found_holds : (found : Option ℕ) → FindsNeedle value text 0 found → IsTrue (is_some found) ↔ Holds value text
   found_holds None nowhere = (
     λ no. absurd (false≢true no),
-    λ (front, behind, parts).
-        let occurs = OccursAt-held front behind parts in
+    λ (prefix, following, parts).
+        let occurs = OccursAt-held prefix following parts in
         let fits = occurs.fits in
-        absurd (nowhere (length front) (omega arith) (omega arith) occurs),
+        absurd (nowhere (length prefix) (omega arith) (omega arith) occurs),
   )
   found_holds (Some at) found = (λ _. Holds-occurring at found.1, λ _. refl)
 
 -- ---- one element
-
-field_is : (piece : Piece) → piece.kind ≡ Field → is_field_piece piece ≡ true
-field_is piece is = ap (λ (kind : Kind). is_field_piece (record { kind = kind; bytes = piece.bytes })) is
 
 field_kind : (kind : Kind) (bytes : List ℕ) → is_field_piece (record { kind = kind; bytes = bytes }) ≡ true → kind ≡ Field
 field_kind Blank bytes is = absurd (false≢true is)
@@ -56,7 +54,7 @@ pub text_found : (piece : Piece) (value text : List ℕ) (found : Option ℕ) (a
 text_found piece value text found answer field is finds answers =
     let holds = found_holds value text found finds in
     let P : List ℕ → Type 0 = λ v. Holds v text in (
-      λ yes. (field_is piece field, subst P is (holds.0 (sym answers ∙ yes))),
+      λ yes. (field_test piece field, subst P is (holds.0 (sym answers ∙ yes))),
       λ has. answers ∙ holds.1 (subst P (sym is) has.1),
     )
 

@@ -100,18 +100,18 @@ find-no_position test xs none =
     let over : nat_lt (position_or_len test xs) (length xs) ≡ false = not_chosen _ (position_or_len test xs) none in
     find_at test xs ∙ slice_get_past xs (position_or_len test xs) (grind (arith, nat_tests))
 
-sets_for-find : (kind : List ℕ) (sets : List Set_) (s : Set_) → find (is_of_type kind) sets ≡ Some s → sets_for (Some kind) sets ≡ Ok (s ∷ [])
-sets_for-find kind sets s found = rw (found, sets_for)
+sets_for-find : (record_type : List ℕ) (sets : List Set_) (s : Set_) → find (is_of_type record_type) sets ≡ Some s → sets_for (Some record_type) sets ≡ Ok (s ∷ [])
+sets_for-find record_type sets s found = rw (found, sets_for)
 
-sets_for-no_find : (kind : List ℕ) (sets : List Set_) → find (is_of_type kind) sets ≡ None → sets_for (Some kind) sets ≡ Err NoSuchType
-sets_for-no_find kind sets none = rw (none, sets_for)
+sets_for-no_find : (record_type : List ℕ) (sets : List Set_) → find (is_of_type record_type) sets ≡ None → sets_for (Some record_type) sets ≡ Err NoSuchType
+sets_for-no_find record_type sets none = rw (none, sets_for)
 
 -- the set of a type stands at the first place of a set of that type
-pub sets_for-found : (kind : List ℕ) (sets : List Set_) (i : ℕ) (s : Set_) → position (is_of_type kind) sets ≡ Some i → s ≡ get_or sets i s → sets_for (Some kind) sets ≡ Ok (s ∷ [])
-sets_for-found kind sets i s at is = sets_for-find kind sets s (find-position (is_of_type kind) sets i s at is)
+pub sets_for-found : (record_type : List ℕ) (sets : List Set_) (i : ℕ) (s : Set_) → position (is_of_type record_type) sets ≡ Some i → s ≡ get_or sets i s → sets_for (Some record_type) sets ≡ Ok (s ∷ [])
+sets_for-found record_type sets i s at is = sets_for-find record_type sets s (find-position (is_of_type record_type) sets i s at is)
 
-pub sets_for-missing : (kind : List ℕ) (sets : List Set_) → position (is_of_type kind) sets ≡ None → sets_for (Some kind) sets ≡ Err NoSuchType
-sets_for-missing kind sets none = sets_for-no_find kind sets (find-no_position (is_of_type kind) sets none)
+pub sets_for-missing : (record_type : List ℕ) (sets : List Set_) → position (is_of_type record_type) sets ≡ None → sets_for (Some record_type) sets ≡ Err NoSuchType
+sets_for-missing record_type sets none = sets_for-no_find record_type sets (find-no_position (is_of_type record_type) sets none)
 
 -- ---- the blocks of descriptors
 
@@ -121,15 +121,15 @@ text_from is_first [] = []
 text_from is_first (block ∷ blocks) = if is_nil block then text_from is_first blocks else (gap is_first ++ block) ++ text_from false blocks
 
 -- an empty line before each block
-abbrev behind : List (List ℕ) → List ℕ
-behind [] = []
-behind (block ∷ blocks) = 10 ∷ join_with_byte 10 (block ∷ blocks)
+abbrev following : List (List ℕ) → List ℕ
+following [] = []
+following (block ∷ blocks) = 10 ∷ join_with_byte 10 (block ∷ blocks)
 
-join_with_byte-cons : (block : List ℕ) (blocks : List (List ℕ)) → join_with_byte 10 (block ∷ blocks) ≡ block ++ behind blocks
+join_with_byte-cons : (block : List ℕ) (blocks : List (List ℕ)) → join_with_byte 10 (block ∷ blocks) ≡ block ++ following blocks
 join_with_byte-cons block [] = sym (append-nil block)
 join_with_byte-cons block (next ∷ blocks) = refl
 
-text_from-false : (blocks : List (List ℕ)) → text_from false blocks ≡ behind (filter (λ block. not (is_nil block)) blocks)
+text_from-false : (blocks : List (List ℕ)) → text_from false blocks ≡ following (filter (λ block. not (is_nil block)) blocks)
 text_from-false [] = refl
 text_from-false ([] ∷ blocks) = text_from-false blocks
 text_from-false ((b ∷ bs) ∷ blocks) = ap (λ t. 10 ∷ ((b ∷ bs) ++ t)) (text_from-false blocks) ∙ ap (λ t. 10 ∷ t) (sym (join_with_byte-cons (b ∷ bs) _))
@@ -172,7 +172,7 @@ record-full pieces fields h =
 
 -- ---- one walk over the records
 
--- what `next` gave before the record that it gave last, and what is left behind that
+-- what `next` gave before the record that it gave last, and what is left over that
 Yields-append : (left xs rest : List (Range ℕ)) → Yields (YieldsFirst (λ (records : List (Range ℕ)). records)) left xs rest → left ≡ xs ++ rest
 Yields-append left [] rest e = e
 Yields-append left (x ∷ xs) rest (later, first, more) = first ∙ ap (λ r. x ∷ r) (Yields-append later xs rest more)
@@ -181,9 +181,9 @@ at_seam : {X : Type 0} (xs : List X) (x : X) (ys : List X) → slice_get (xs ++ 
 at_seam [] x ys = refl
 at_seam (y ∷ xs) x ys = at_seam xs x ys
 
-behind_seam : {X : Type 0} (xs : List X) (x : X) (ys : List X) → drop (suc (length xs)) (xs ++ x ∷ ys) ≡ ys
-behind_seam [] x ys = refl
-behind_seam (y ∷ xs) x ys = behind_seam xs x ys
+after_seam : {X : Type 0} (xs : List X) (x : X) (ys : List X) → drop (suc (length xs)) (xs ++ x ∷ ys) ≡ ys
+after_seam [] x ys = refl
+after_seam (y ∷ xs) x ys = after_seam xs x ys
 
 skipped_to : (left later : List (Range ℕ)) (n : ℕ) (fields : Range ℕ) → SkipsThenYields (YieldsFirst (λ (records : List (Range ℕ)). records)) left n (Some fields) later
     → (slice_get left n ≡ Some fields) × (drop (n + 1) left ≡ later)
@@ -191,7 +191,7 @@ skipped_to left later n fields (xs, (rest, all, first), count) =
     let parts : left ≡ xs ++ fields ∷ later = Yields-append left xs rest all ∙ ap (λ r. xs ++ r) first in
     let next : n + 1 ≡ suc (length xs) = omega (arith, count) in (
       ap (slice_get left) (sym count) ∙ ap (λ l. slice_get l (length xs)) parts ∙ at_seam xs fields later,
-      ap (λ k. drop k left) next ∙ ap (drop (suc (length xs))) parts ∙ behind_seam xs fields later,
+      ap (λ k. drop k left) next ∙ ap (drop (suc (length xs))) parts ∙ after_seam xs fields later,
     )
 
 skipped_all : (left later : List (Range ℕ)) (n : ℕ) → SkipsThenYields (YieldsFirst (λ (records : List (Range ℕ)). records)) left n None later → length left ≤ n
@@ -201,21 +201,21 @@ skipped_all left later n (xs, (rest, all, none), count) =
 
 -- ---- the descriptors that are printed
 
--- what `HeadsFrom` says of a set with this head and of those behind it
-abbrev HeadsBehind : ℕ → ℕ → List Set_ → Option ℕ → Type 0
-HeadsBehind size at sets head = elim head [ None ↦ HeadsFrom size at sets | Some head ↦ (at ≤ head) × HeadsFrom size (head + 1) sets ]
+-- what `HeadsFrom` says of a set with this head and of those after it
+abbrev HeadsAfter : ℕ → ℕ → List Set_ → Option ℕ → Type 0
+HeadsAfter size at sets head = elim head [ None ↦ HeadsFrom size at sets | Some head ↦ (at ≤ head) × HeadsFrom size (head + 1) sets ]
 
-HeadsBehind-low : (size at : ℕ) (sets : List Set_) (head : Option ℕ) → ((least : ℕ) → HeadsFrom size least sets → least ≤ size) → HeadsBehind size at sets head → at ≤ size
-HeadsBehind-low size at sets None low ordered = low at ordered
-HeadsBehind-low size at sets (Some head) low ordered = omega (arith, ordered.0, low (head + 1) ordered.1)
+HeadsAfter-low : (size at : ℕ) (sets : List Set_) (head : Option ℕ) → ((least : ℕ) → HeadsFrom size least sets → least ≤ size) → HeadsAfter size at sets head → at ≤ size
+HeadsAfter-low size at sets None low ordered = low at ordered
+HeadsAfter-low size at sets (Some head) low ordered = omega (arith, ordered.0, low (head + 1) ordered.1)
 
 HeadsFrom-low : (size at : ℕ) (sets : List Set_) → HeadsFrom size at sets → at ≤ size
 HeadsFrom-low size at [] ordered = ordered
-HeadsFrom-low size at (s ∷ sets) ordered = HeadsBehind-low size at sets s.head (λ least. HeadsFrom-low size least sets) ordered
+HeadsFrom-low size at (s ∷ sets) ordered = HeadsAfter-low size at sets s.head (λ least. HeadsFrom-low size least sets) ordered
 
 HeadsFrom-typed : (size at head : ℕ) (s : Set_) (sets : List Set_) → s.head ≡ Some head → HeadsFrom size at (s ∷ sets) → (at ≤ head) × HeadsFrom size (head + 1) sets
 HeadsFrom-typed size at head s sets is ordered =
-    let P : Option ℕ → Type 0 = HeadsBehind size at sets in
+    let P : Option ℕ → Type 0 = HeadsAfter size at sets in
     subst P is ordered
 
 drop-item : {X : Type 0} (xs : List X) (i : ℕ) (x : X) → i < length xs → x ≡ get_or xs i x → drop i xs ≡ x ∷ drop (i + 1) xs
@@ -229,7 +229,7 @@ module _ (pieces : List Piece) (all : List (Range ℕ)) where
   abbrev pub head_blocks : List Set_ → List (List ℕ)
   head_blocks sets = map (λ i. block_of Blocks (record_at pieces all i)) (filter_map (λ s. s.head) sets)
 
-  -- the descriptors up to some sets went out, and these sets and the records behind those passed are left
+  -- the descriptors up to some sets went out, and these sets and the records after those passed are left
   pub record AreHeadsTo {S : Type 0} (contents : S → Option (List ℕ)) (failures : S → ℕ) (old new : S) (sets : List Set_) (passed : ℕ) (left : List (Range ℕ)) (rest : List Set_) : Type 0 where
     pub taken : IsTakenTo contents failures old new (text_from true (head_blocks sets)) (text_from (passed == 0) (head_blocks rest))
     pub left_are : left ≡ drop passed all
@@ -273,7 +273,7 @@ module _ {S : Type 0} {contents : S → Option (List ℕ)} {failures : S → ℕ
         let P : List Set_ → Type 0 = HeadsFrom (length all) passed in
         subst P rest_are so_far.ordered
 
-    -- the next descriptor stands at the records that are left, or behind
+    -- the next descriptor stands at the records that are left, or after
     pub head_low : (head : ℕ) → s.head ≡ Some head → passed ≤ head
     head_low head typed = (HeadsFrom-typed (length all) passed head s (drop (i + 1) sets) typed ordered_from).0
 
@@ -330,22 +330,22 @@ module _ {S : Type 0} {contents : S → Option (List ℕ)} {failures : S → ℕ
 
 -- ---- the descriptors of the sets that are printed
 
-HeadsBehind-lower : (size low at : ℕ) (sets : List Set_) (head : Option ℕ) → low ≤ at → (HeadsFrom size at sets → HeadsFrom size low sets) → HeadsBehind size at sets head → HeadsBehind size low sets head
-HeadsBehind-lower size low at sets None le lower ordered = lower ordered
-HeadsBehind-lower size low at sets (Some head) le lower ordered = (omega (arith, le, ordered.0), ordered.1)
+HeadsAfter-lower : (size low at : ℕ) (sets : List Set_) (head : Option ℕ) → low ≤ at → (HeadsFrom size at sets → HeadsFrom size low sets) → HeadsAfter size at sets head → HeadsAfter size low sets head
+HeadsAfter-lower size low at sets None le lower ordered = lower ordered
+HeadsAfter-lower size low at sets (Some head) le lower ordered = (omega (arith, le, ordered.0), ordered.1)
 
 HeadsFrom-lower : (size low at : ℕ) (sets : List Set_) → low ≤ at → HeadsFrom size at sets → HeadsFrom size low sets
 HeadsFrom-lower size low at [] le ordered = omega (arith, le, ordered)
-HeadsFrom-lower size low at (s ∷ sets) le ordered = HeadsBehind-lower size low at sets s.head le (HeadsFrom-lower size low at sets le) ordered
+HeadsFrom-lower size low at (s ∷ sets) le ordered = HeadsAfter-lower size low at sets s.head le (HeadsFrom-lower size low at sets le) ordered
 
 -- one of the sets
-HeadsBehind-one : (size at : ℕ) (sets : List Set_) (head : Option ℕ) → HeadsBehind size at sets head → HeadsBehind size 0 [] head
-HeadsBehind-one size at sets None ordered = omega arith
-HeadsBehind-one size at sets (Some head) ordered = (omega arith, HeadsFrom-low size (head + 1) sets ordered.1)
+HeadsAfter-one : (size at : ℕ) (sets : List Set_) (head : Option ℕ) → HeadsAfter size at sets head → HeadsAfter size 0 [] head
+HeadsAfter-one size at sets None ordered = omega arith
+HeadsAfter-one size at sets (Some head) ordered = (omega arith, HeadsFrom-low size (head + 1) sets ordered.1)
 
-HeadsBehind-rest : (size at : ℕ) (sets : List Set_) (head : Option ℕ) → HeadsBehind size at sets head → (least : ℕ) × HeadsFrom size least sets
-HeadsBehind-rest size at sets None ordered = (at, ordered)
-HeadsBehind-rest size at sets (Some head) ordered = (head + 1, ordered.1)
+HeadsAfter-rest : (size at : ℕ) (sets : List Set_) (head : Option ℕ) → HeadsAfter size at sets head → (least : ℕ) × HeadsFrom size least sets
+HeadsAfter-rest size at sets None ordered = (at, ordered)
+HeadsAfter-rest size at sets (Some head) ordered = (head + 1, ordered.1)
 
 HeadsFrom-find : (size at : ℕ) (test : Set_ → Bool) (sets : List Set_) (s : Set_) → HeadsFrom size at sets → find test sets ≡ Some s → HeadsFrom size 0 (s ∷ [])
 HeadsFrom-find size at test [] s ordered found = cc
@@ -353,45 +353,45 @@ HeadsFrom-find size at test (x ∷ sets) s ordered found = elim (cases_Bool (tes
   | inl passes ↦
       let P : Set_ → Type 0 = λ one. HeadsFrom size 0 (one ∷ []) in
       let same : x ≡ s = (let first : cond (test x) (Some x) (find test sets) ≡ Some x = rw passes refl in cc) in
-      subst P same (HeadsBehind-one size at sets x.head ordered)
+      subst P same (HeadsAfter-one size at sets x.head ordered)
   | inr fails ↦
-      let rest = HeadsBehind-rest size at sets x.head ordered in
+      let rest = HeadsAfter-rest size at sets x.head ordered in
       let later : find test sets ≡ Some s = rw fails at found in
       HeadsFrom-find size rest.0 test sets s rest.1 later
 ]
 
-HeadsFrom-kept : (size : ℕ) (kind : Option (List ℕ)) (sets kept : List Set_) → sets_for kind sets ≡ Ok kept → HeadsFrom size 0 sets → HeadsFrom size 0 kept
+HeadsFrom-kept : (size : ℕ) (record_type : Option (List ℕ)) (sets kept : List Set_) → sets_for record_type sets ≡ Ok kept → HeadsFrom size 0 sets → HeadsFrom size 0 kept
 HeadsFrom-kept size None sets kept e ordered =
     let P : List Set_ → Type 0 = HeadsFrom size 0 in
     let same : sets ≡ kept = cc in
     subst P same ordered
-HeadsFrom-kept size (Some kind) sets kept e ordered = go (find (is_of_type kind) sets) refl where
-  go : (found : Option Set_) → find (is_of_type kind) sets ≡ found → HeadsFrom size 0 kept
-  go None none = (let refused = sets_for-no_find kind sets none in cc)
+HeadsFrom-kept size (Some record_type) sets kept e ordered = go (find (is_of_type record_type) sets) refl where
+  go : (found : Option Set_) → find (is_of_type record_type) sets ≡ found → HeadsFrom size 0 kept
+  go None none = (let refused = sets_for-no_find record_type sets none in cc)
   go (Some s) found =
       let P : List Set_ → Type 0 = HeadsFrom size 0 in
-      let same : s ∷ [] ≡ kept = (let chosen = sets_for-find kind sets s found in cc) in
-      subst P same (HeadsFrom-find size 0 (is_of_type kind) sets s ordered found)
+      let same : s ∷ [] ≡ kept = (let chosen = sets_for-find record_type sets s found in cc) in
+      subst P same (HeadsFrom-find size 0 (is_of_type record_type) sets s ordered found)
 
--- a set in front of those behind it, by its kind
-HeadsFrom-cons : (size at : ℕ) (s : Set_) (sets : List Set_) (kind : Option (List ℕ)) → s.kind ≡ kind → BeginsAt at s → size ≡ at + (length (named_in s) + length (flat_map named_in sets))
+-- a set before those after it, by its type
+HeadsFrom-cons : (size at : ℕ) (s : Set_) (sets : List Set_) (record_type : Option (List ℕ)) → s.kind ≡ record_type → BeginsAt at s → size ≡ at + (length (named_in s) + length (flat_map named_in sets))
     → (size ≡ s.members.end + length (flat_map named_in sets) → HeadsFrom size s.members.end sets) → HeadsFrom size at (s ∷ sets)
-HeadsFrom-cons size at s sets None untyped place sized behind =
+HeadsFrom-cons size at s sets None untyped place sized following =
     let begins : (s.head ≡ None) × (s.members.start ≡ at) = rw untyped at place.1 in
     let count : length (named_in s) ≡ s.members.end - s.members.start = rw untyped (length-replicate (s.members.end - s.members.start) _) in
-    rw begins.0 (HeadsFrom-lower size at s.members.end sets (omega (arith, begins.1, place.0)) (behind (omega (arith, sized, count, begins.1, place.0))))
-HeadsFrom-cons size at s sets (Some kind) typed place sized behind =
+    rw begins.0 (HeadsFrom-lower size at s.members.end sets (omega (arith, begins.1, place.0)) (following (omega (arith, sized, count, begins.1, place.0))))
+HeadsFrom-cons size at s sets (Some record_type) typed place sized following =
     let begins : (s.head ≡ Some at) × (s.members.start ≡ at + 1) = rw typed at place.1 in
     let count : length (named_in s) ≡ suc (s.members.end - s.members.start) = rw typed (ap suc (length-replicate (s.members.end - s.members.start) _)) in
     rw begins.0
-    (omega arith, HeadsFrom-lower size (at + 1) s.members.end sets (omega (arith, begins.1, place.0)) (behind (omega (arith, sized, count, begins.1, place.0))))
+    (omega arith, HeadsFrom-lower size (at + 1) s.members.end sets (omega (arith, begins.1, place.0)) (following (omega (arith, sized, count, begins.1, place.0))))
 
 HeadsFrom-sets : (size at : ℕ) (sets : List Set_) → AreFrom at sets → size ≡ at + length (flat_map named_in sets) → HeadsFrom size at sets
 HeadsFrom-sets size at [] places sized = omega (arith, sized)
 HeadsFrom-sets size at (s ∷ sets) places sized =
     HeadsFrom-cons size at s sets s.kind refl places.0 (omega (arith, sized, length-append (named_in s) (flat_map named_in sets))) (HeadsFrom-sets size s.members.end sets places.1)
 
-pub AreHeads-kept : (pieces : List Piece) (described : Described) (kind : Option (List ℕ)) (kept : List Set_) → IsDescribed pieces described → sets_for kind described.sets ≡ Ok kept → AreHeads pieces kept
-AreHeads-kept pieces described kind kept h chosen =
-    let sized : length h.records ≡ 0 + length (flat_map named_in described.sets) = omega (arith, ap length h.sets.joined, length-map h.records (λ record_. type_of (elements_in pieces record_))) in
-    (h.records, h.are, HeadsFrom-kept (length h.records) kind described.sets kept chosen (HeadsFrom-sets (length h.records) 0 described.sets h.sets.places sized))
+pub AreHeads-kept : (pieces : List Piece) (described : Described) (record_type : Option (List ℕ)) (kept : List Set_) → IsDescribed pieces described → sets_for record_type described.sets ≡ Ok kept → AreHeads pieces kept
+AreHeads-kept pieces described record_type kept h chosen =
+    let sized : length h.records ≡ 0 + length (flat_map named_in described.sets) = omega (arith, ap length h.sets.joined, length-map h.records (λ own_range. type_of (elements_in pieces own_range))) in
+    (h.records, h.are, HeadsFrom-kept (length h.records) record_type described.sets kept chosen (HeadsFrom-sets (length h.records) 0 described.sets h.sets.places sized))

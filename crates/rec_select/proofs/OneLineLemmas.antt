@@ -22,17 +22,17 @@ use Rattle.rec_select.proofs.FilterLemmas.{found_holds}
 Holds-whole : (text : List ℕ) → Holds text text
 Holds-whole text = ([], [], sym (append-nil text))
 
-Holds-front : (text front behind : List ℕ) → Holds front text → Holds (front ++ behind) text
-Holds-front text front behind (before, after, parts) =
-    (before, after ++ behind, ap (λ t. t ++ behind) parts ∙ simp append_assoc)
+Holds-prefix : (text prefix following : List ℕ) → Holds prefix text → Holds (prefix ++ following) text
+Holds-prefix text prefix following (before, after, parts) =
+    (before, after ++ following, ap (λ t. t ++ following) parts ∙ simp append_assoc)
 
-Holds-behind : (text front behind : List ℕ) → Holds behind text → Holds (front ++ behind) text
-Holds-behind text front behind (before, after, parts) =
-    (front ++ before, after, ap (λ t. front ++ t) parts ∙ sym (append_assoc front before (text ++ after)))
+Holds-following : (text prefix following : List ℕ) → Holds following text → Holds (prefix ++ following) text
+Holds-following text prefix following (before, after, parts) =
+    (prefix ++ before, after, ap (λ t. prefix ++ t) parts ∙ sym (append_assoc prefix before (text ++ after)))
 
 Holds-trans : (outer middle inner : List ℕ) → Holds outer middle → Holds middle inner → Holds outer inner
-Holds-trans outer middle inner (before, after, parts) (front, behind, inside) =
-    (before ++ front, behind ++ after, parts ∙ ap (λ t. before ++ (t ++ after)) inside ∙ simp append_assoc)
+Holds-trans outer middle inner (before, after, parts) (prefix, following, inside) =
+    (before ++ prefix, following ++ after, parts ∙ ap (λ t. before ++ (t ++ after)) inside ∙ simp append_assoc)
 
 Holds-drop : (n : ℕ) (text : List ℕ) → Holds text (drop n text)
 Holds-drop n text = (take n text, [], sym (ap (λ t. take n text ++ t) (append-nil (drop n text)) ∙ take-append-drop n text))
@@ -79,7 +79,7 @@ body_value-lines_of (b ∷ bs) = refl
 body_value-line : (body : List ℕ) → is_one_line body ≡ true → body_value body ≡ unfolded (without_first is_blank body)
 body_value-line body line = ap (λ lines. join_with_byte 10 (lines_value lines)) (logical_lines-line 58 body line) ∙ body_value-lines_of body
 
--- a front of one line is left without its newline
+-- a prefix of one line is left without its newline
 unfolded_one : (b : ℕ) (newline : Bool) → (b == 10) ≡ newline → (rest : List ℕ) × (b ∷ [] ≡ unfolded (b ∷ []) ++ rest)
 unfolded_one b true is = (b ∷ [], rw is refl)
 unfolded_one b false is = ([], rw is refl)
@@ -90,7 +90,7 @@ and_right_true false b both = absurd (false≢true both)
 
 unfolded_more : (b c : ℕ) (bs : List ℕ) (joined : Bool) → (b == 92 && c == 10) ≡ joined → is_one_line (c ∷ bs) ≡ true → (rest : List ℕ) × (c ∷ bs ≡ unfolded (c ∷ bs) ++ rest)
     → (rest : List ℕ) × (b ∷ c ∷ bs ≡ unfolded (b ∷ c ∷ bs) ++ rest)
-unfolded_more b c bs true is line behind = elim (line_cases c bs (c == 10) refl line) [
+unfolded_more b c bs true is line following = elim (line_cases c bs (c == 10) refl line) [
   | inl end ↦ (b ∷ c ∷ bs, rw (is, end.1) refl)
   | inr more ↦ absurd (false≢true (sym more.0 ∙ and_right_true (b == 92) (c == 10) is))
 ]
@@ -120,9 +120,9 @@ body_held body line =
     let first = without_first-drop body in
     let rest : List ℕ = drop first.0 body in
     let value : body_value body ≡ unfolded rest = body_value-line body line ∙ ap unfolded first.1 in
-    let front = unfolded-line rest (is_line-drop first.0 body line) in
+    let prefix = unfolded-line rest (is_line-drop first.0 body line) in
     let P : List ℕ → Type 0 = λ v. Holds body v in
-    subst P (sym value) (Holds-trans body rest (unfolded rest) (Holds-drop first.0 body) ([], front.0, front.1))
+    subst P (sym value) (Holds-trans body rest (unfolded rest) (Holds-drop first.0 body) ([], prefix.0, prefix.1))
 
 field_held : (bytes : List ℕ) (colon : Option ℕ) → is_one_line bytes ≡ true → Holds bytes (option_map_or (λ c. body_value (drop (c + 1) bytes)) colon [])
 field_held bytes None line = ([], bytes, refl)
@@ -140,8 +140,8 @@ pub held_at : (text : List ℕ) (elements : List Element) (i : ℕ) (d : Element
     → Holds (text_of (pieces_of elements)) text
 held_at text [] i d within line has = absurd (omega arith)
 held_at text (e ∷ es) zero d within line has =
-    Holds-front text e.raw.now (text_of (pieces_of es)) (Holds-trans e.raw.now (value_of (piece_of e)) text (value_held e.kind e.raw.now line) has.1)
-held_at text (e ∷ es) (suc i) d within line has = Holds-behind text e.raw.now (text_of (pieces_of es)) (held_at text es i d (omega arith) line has)
+    Holds-prefix text e.raw.now (text_of (pieces_of es)) (Holds-trans e.raw.now (value_of (piece_of e)) text (value_held e.kind e.raw.now line) has.1)
+held_at text (e ∷ es) (suc i) d within line has = Holds-following text e.raw.now (text_of (pieces_of es)) (held_at text es i d (omega arith) line has)
 
 -- an element in one line doesn't have a text that isn't found in the elements joined
 pub not_in_line : (raw text : List ℕ) (fields : List Piece) (elements : List Element) (found : Option ℕ) → raw ≡ text_of fields → pieces_of elements ≡ fields → FindsNeedle raw text 0 found

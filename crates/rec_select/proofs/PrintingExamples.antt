@@ -8,9 +8,9 @@ use Rattle.rec_sex.specs.declared.lists.field_list.Item.{Item}
 use Rattle.rec_select.specs.declared.records.Shape.TheVariants.{Blocks, Print, Values, Row, Count}
 use Rattle.rec_select.specs.Printing.{block_of, joined_blocks, number_line}
 
--- `A: 1`, a comment, and `B: 2`, behind which no newline stands
-abbrev record_ : List Piece
-record_ =
+-- `A: 1`, a comment, and `B: 2`, after which no newline stands
+abbrev sample : List Piece
+sample =
     record { kind = Field; bytes = codes "A: 1\n" } ∷ record { kind = Comment; bytes = codes "# c\n" } ∷ record { kind = Field; bytes = codes "B: 2" } ∷ []
 
 -- B, then A twice
@@ -23,22 +23,22 @@ list =
 abbrev absent : List Item
 absent = record { name = codes "Z"; occurrences = None } ∷ record { name = codes "A"; occurrences = Some (record { first = 1; last = 2 }) } ∷ []
 
-comments_are_left_out : block_of Blocks record_ ≡ codes "A: 1\nB: 2\n"
+comments_are_left_out : block_of Blocks sample ≡ codes "A: 1\nB: 2\n"
 comments_are_left_out = refl
 
-picked_fields_stand_in_the_order_of_the_list : block_of (Print list) record_ ≡ codes "B: 2\nA: 1\nA: 1\n"
+picked_fields_stand_in_the_order_of_the_list : block_of (Print list) sample ≡ codes "B: 2\nA: 1\nA: 1\n"
 picked_fields_stand_in_the_order_of_the_list = refl
 
-values_stand_in_lines : block_of (Values list) record_ ≡ codes "2\n1\n1\n"
+values_stand_in_lines : block_of (Values list) sample ≡ codes "2\n1\n1\n"
 values_stand_in_lines = refl
 
-values_stand_in_a_row : block_of (Row list) record_ ≡ codes "2 1 1\n"
+values_stand_in_a_row : block_of (Row list) sample ≡ codes "2 1 1\n"
 values_stand_in_a_row = refl
 
-count_has_no_block : block_of Count record_ ≡ []
+count_has_no_block : block_of Count sample ≡ []
 count_has_no_block = refl
 
-nothing_is_picked : block_of (Print absent) record_ ++ block_of (Values absent) record_ ++ block_of (Row absent) record_ ≡ []
+nothing_is_picked : block_of (Print absent) sample ++ block_of (Values absent) sample ++ block_of (Row absent) sample ≡ []
 nothing_is_picked = refl
 
 -- ---- blocks

@@ -8,23 +8,23 @@ use Rattle.std.specs.Result.{IsErrAnd, OnOk, OnErr, IsOkUnless}
 use Rattle.rec_text.specs.declared.fault.Fault.{Fault}
 use Rattle.rec_text.specs.declared.fault.Fault.TheVariants.{OutOfMemory, StoreFailed}
 use Rattle.rec_text.specs.Faults.{IsOkUnlessEither}
-use Rattle.rec_text.specs.Sink.{AppendsFront, HasRisen}
+use Rattle.rec_text.specs.Sink.{AppendsPrefix, HasRisen}
 use Rattle.rec_select.specs.Taken.{HasTaken, HasStopped, Prints, PrintsAndCounts, Puts}
 
 -- ---- prefixes
 
-AppendsFront-append : (old new : Option (List ℕ)) (a b : List ℕ) → AppendsFront old new a → AppendsFront old new (a ++ b)
-AppendsFront-append old new a b (n, fits, put) =
+AppendsPrefix-append : (old new : Option (List ℕ)) (a b : List ℕ) → AppendsPrefix old new a → AppendsPrefix old new (a ++ b)
+AppendsPrefix-append old new a b (n, fits, put) =
     let P : List ℕ → Type 0 = λ bytes. Appends old new bytes in
     (n, omega (arith, length-append a b), subst P (sym (take-append-le n a b fits)) put)
 
-AppendsFront-whole : (old new : Option (List ℕ)) (a : List ℕ) → Appends old new a → AppendsFront old new a
-AppendsFront-whole old new a put =
+AppendsPrefix-whole : (old new : Option (List ℕ)) (a : List ℕ) → Appends old new a → AppendsPrefix old new a
+AppendsPrefix-whole old new a put =
     let P : List ℕ → Type 0 = λ bytes. Appends old new bytes in
     (length a, omega arith, subst P (sym (take_all (length a) a (omega arith))) put)
 
-AppendsFront-after : (old mid new : Option (List ℕ)) (a b : List ℕ) → Appends old mid a → AppendsFront mid new b → AppendsFront old new (a ++ b)
-AppendsFront-after old mid new a b first (n, fits, put) =
+AppendsPrefix-after : (old mid new : Option (List ℕ)) (a b : List ℕ) → Appends old mid a → AppendsPrefix mid new b → AppendsPrefix old new (a ++ b)
+AppendsPrefix-after old mid new a b first (n, fits, put) =
     let P : List ℕ → Type 0 = λ bytes. Appends old new bytes in
     (length a + n, omega (arith, length-append a b), subst P (sym (take-append-add a b n)) (Appends-trans old mid new a (take n b) first put))
 
@@ -52,7 +52,7 @@ module _ {S : Type 0} {contents : S → Option (List ℕ)} {failures : S → ℕ
   HasStopped-append {old} {mid} {new} {a} {b} {fault} first next =
       let P : ℕ → Type 0 = λ n. ((fault ≡ OutOfMemory) × (failures new ≡ n)) ⊎ ((fault ≡ StoreFailed) × HasRisen n (failures new)) in
       record {
-        prefix = AppendsFront-after (contents old) (contents mid) (contents new) a b first.whole next.prefix;
+        prefix = AppendsPrefix-after (contents old) (contents mid) (contents new) a b first.whole next.prefix;
         counted = omega (arith, first.sound, next.counted);
         cause = subst P first.sound next.cause;
       }
@@ -60,7 +60,7 @@ module _ {S : Type 0} {contents : S → Option (List ℕ)} {failures : S → ℕ
   -- what stops in a prefix of a text stops in the text
   pub HasStopped-prefix : {old new : S} {fault : Fault} {a : List ℕ} → (b : List ℕ) → HasStopped contents failures old new a fault → HasStopped contents failures old new (a ++ b) fault
   HasStopped-prefix {old} {new} {a = a} b stopped =
-      record { prefix = AppendsFront-append (contents old) (contents new) a b stopped.prefix; counted = stopped.counted; cause = stopped.cause }
+      record { prefix = AppendsPrefix-append (contents old) (contents new) a b stopped.prefix; counted = stopped.counted; cause = stopped.cause }
 
   -- a text is taken, the next one stops, and the rest is left
   pub HasStopped-within : {old mid new : S} {a b : List ℕ} {fault : Fault} → (text rest : List ℕ) → text ≡ (a ++ b) ++ rest
@@ -68,7 +68,7 @@ module _ {S : Type 0} {contents : S → Option (List ℕ)} {failures : S → ℕ
   HasStopped-within text rest parts first next = HasStopped-as (sym parts) (HasStopped-prefix rest (HasStopped-append first next))
 
   -- the sink fails in a text
-  pub HasStopped-failed : {old new : S} {fault : Fault} {a : List ℕ} → AppendsFront (contents old) (contents new) a → failures old ≤ failures new
+  pub HasStopped-failed : {old new : S} {fault : Fault} {a : List ℕ} → AppendsPrefix (contents old) (contents new) a → failures old ≤ failures new
       → HasRisen (failures old) (failures new) → fault ≡ StoreFailed → HasStopped contents failures old new a fault
   HasStopped-failed prefix counted risen e = record { prefix = prefix; counted = counted; cause = inr (e, risen) }
 
@@ -93,7 +93,7 @@ module _ {S : Type 0} (contents : S → Option (List ℕ)) (failures : S → ℕ
   Prints-as same (Err fault) stopped = HasStopped-as same stopped
 
   pub Prints-put : {X : Type 0} (text : List ℕ) (r : Result X Fault) → OnOk r (Appends (contents old) (contents new) text)
-      → OnErr r (AppendsFront (contents old) (contents new) text) → OnOk r (failures new ≡ failures old) → failures old ≤ failures new
+      → OnErr r (AppendsPrefix (contents old) (contents new) text) → OnOk r (failures new ≡ failures old) → failures old ≤ failures new
       → OnErr r (HasRisen (failures old) (failures new)) → IsOkUnless r StoreFailed → Prints contents failures old new text r
   Prints-put text (Ok done) all prefix kept counted failed refusals = record { whole = all; sound = kept }
   Prints-put text (Err fault) all prefix kept counted failed refusals = HasStopped-failed prefix counted failed refusals

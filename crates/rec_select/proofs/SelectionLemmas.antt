@@ -12,10 +12,10 @@ use Rattle.std.proofs.lemmas.List.Quantifiers.{all_pairs_push, position-Some}
 use Rattle.std.proofs.lemmas.List.Sums.{position_or_len_is}
 use Rattle.std.proofs.lemmas.Option.{slice_get-get_or, slice_get_past}
 use Rattle.rec_text.specs.declared.fault.Fault.{Fault}
-use Rattle.rec_text.specs.declared.fault.Fault.TheVariants.{OutOfMemory, TypeNeeded, NoSuchType}
+use Rattle.rec_text.specs.declared.fault.Fault.TheVariants.{TypeNeeded, NoSuchType}
 use Rattle.rec_text.specs.Elements.{Piece}
-use Rattle.rec_text.specs.Faults.{IsMemoryOr}
 use Rattle.rec_text.specs.Records.{AreRecords, IsRecord, elements_in}
+use Rattle.rec_text.proofs.lemmas.FaultLemmas.{no_both, ok_is_no_err, same_fault, same_value}
 use Rattle.rec_text.proofs.lemmas.ListLemmas.{Contains-head, Contains-later}
 use Rattle.rec_text.proofs.lemmas.records.RecordLemmas.{OneListOfRecords-holds, length-records}
 use Rattle.rec_check.specs.declared.set.Set_.{Set_}
@@ -25,52 +25,42 @@ use Rattle.rec_check.specs.Sets.{is_of_type}
 use Rattle.rec_check.proofs.lemmas.DescribedLemmas.{sets_within}
 use Rattle.rec_select.specs.Selection.{Filter, Passes, record_at, only_set, has_members, set_without_type, set_of_type, set_for, AreSelected, OneSelection}
 
-pub from_fact : (fault : Fault) (P : Type 0) → P → IsMemoryOr fault P
-from_fact OutOfMemory P h = tt
-from_fact _ P h = h
-
 -- ---- the set of a type
 
 abbrev set_or_none : Option Set_ → Result Set_ Fault
 set_or_none found = elim found [ None ↦ Err NoSuchType | Some s ↦ Ok s ]
 
-pub set_found : (kind : List ℕ) (sets items : List Set_) (place : ℕ) (s : Set_) → Some place ≡ position (is_of_type kind) sets → items ≡ sets → s ≡ get_or items place s
-    → set_of_type kind sets ≡ Ok s
-set_found kind sets items place s found same is =
-    let at = position-Some (is_of_type kind) sets place s (sym found) in
+pub set_found : (record_type : List ℕ) (sets items : List Set_) (place : ℕ) (s : Set_) → Some place ≡ position (is_of_type record_type) sets → items ≡ sets → s ≡ get_or items place s
+    → set_of_type record_type sets ≡ Ok s
+set_found record_type sets items place s found same is =
+    let at = position-Some (is_of_type record_type) sets place s (sym found) in
     let within = at.0 in
-    let first : position_or_len (is_of_type kind) sets ≡ place =
-    position_or_len_is (is_of_type kind) sets place s (omega arith)
-    (λ k below. let early = position-Some (is_of_type kind) sets place s (sym found) in early.2 k below) (λ _. at.1) in
-    ap set_or_none (find_at (is_of_type kind) sets ∙ ap (slice_get sets) first ∙ slice_get-get_or sets place s within ∙ ap (λ (l : List Set_). Some (get_or l place s)) (sym same) ∙ ap Some (sym is))
+    let first : position_or_len (is_of_type record_type) sets ≡ place =
+    position_or_len_is (is_of_type record_type) sets place s (omega arith)
+    (λ k below. let early = position-Some (is_of_type record_type) sets place s (sym found) in early.2 k below) (λ _. at.1) in
+    ap set_or_none (find_at (is_of_type record_type) sets ∙ ap (slice_get sets) first ∙ slice_get-get_or sets place s within ∙ ap (λ (l : List Set_). Some (get_or l place s)) (sym same) ∙ ap Some (sym is))
 
-pub set_missing : (kind : List ℕ) (sets : List Set_) → None ≡ position (is_of_type kind) sets → set_of_type kind sets ≡ Err NoSuchType
-set_missing kind sets none =
-    let at : ℕ = position_or_len (is_of_type kind) sets in
+pub set_missing : (record_type : List ℕ) (sets : List Set_) → None ≡ position (is_of_type record_type) sets → set_of_type record_type sets ≡ Err NoSuchType
+set_missing record_type sets none =
+    let at : ℕ = position_or_len (is_of_type record_type) sets in
     elim (cases_lt at (length sets)) [
       | inl within ↦ absurd (let there = lt-ltb at (length sets) within in let missing = rw there at none in cc)
-      | inr past ↦ ap set_or_none (find_at (is_of_type kind) sets ∙ slice_get_past sets at past)
+      | inr past ↦ ap set_or_none (find_at (is_of_type record_type) sets ∙ slice_get_past sets at past)
     ]
 
 -- ---- one of the sets is selected from
 
-same_set : (s t : Set_) → ◌≡◌ {A = Result Set_ Fault} (Ok s) (Ok t) → s ≡ t
-same_set s t e = cc
-
-no_set : (s : Set_) (fault : Fault) → ◌≡◌ {A = Result Set_ Fault} (Err fault) (Ok s) → ⊥
-no_set s fault e = cc
-
 module _ (P : Set_ → Type 0) where
   of_found : (s t : Set_) → P s → ◌≡◌ {A = Result Set_ Fault} (Ok s) (Ok t) → P t
-  of_found s t holds e = subst P (same_set s t e) holds
+  of_found s t holds e = subst P (same_value s t e) holds
 
   of_only_set : (untyped : Set_) (typed : List Set_) (s : Set_) → P untyped → AllByRecursion P typed → only_set untyped typed ≡ Ok s → P s
   of_only_set untyped [] s first all is = of_found untyped s first is
   of_only_set untyped (t ∷ []) s first all is = of_found t s all.0 is
-  of_only_set untyped (t ∷ u ∷ typed) s first all is = absurd (no_set s TypeNeeded is)
+  of_only_set untyped (t ∷ u ∷ typed) s first all is = ok_is_no_err s TypeNeeded (P s) is
 
   of_set_without_type : (sets : List Set_) (s : Set_) → AllByRecursion P sets → set_without_type sets ≡ Ok s → P s
-  of_set_without_type [] s all is = absurd (no_set s TypeNeeded is)
+  of_set_without_type [] s all is = ok_is_no_err s TypeNeeded (P s) is
   of_set_without_type (untyped ∷ typed) s all is = elim (cases_Bool (has_members untyped)) [
     | inl some ↦ of_found untyped s all.0 (rw some at is)
     | inr none ↦ of_only_set untyped typed s all.0 all.1 (rw none at is)
@@ -80,24 +70,24 @@ module _ (P : Set_ → Type 0) where
   of_either true t s later here there is = of_found t s here is
   of_either false t s later here there is = there is
 
-  of_set_of_type : (kind : List ℕ) (sets : List Set_) (s : Set_) → AllByRecursion P sets → set_of_type kind sets ≡ Ok s → P s
-  of_set_of_type kind [] s all is = absurd (no_set s NoSuchType is)
-  of_set_of_type kind (t ∷ sets) s all is = of_either (is_of_type kind t) t s (find (is_of_type kind) sets) all.0 (of_set_of_type kind sets s all.1) is
+  of_set_of_type : (record_type : List ℕ) (sets : List Set_) (s : Set_) → AllByRecursion P sets → set_of_type record_type sets ≡ Ok s → P s
+  of_set_of_type record_type [] s all is = ok_is_no_err s NoSuchType (P s) is
+  of_set_of_type record_type (t ∷ sets) s all is = of_either (is_of_type record_type t) t s (find (is_of_type record_type) sets) all.0 (of_set_of_type record_type sets s all.1) is
 
   -- what holds of all sets holds of the one that is selected from
-  pub of_set_for : (kind : Option (List ℕ)) (sets : List Set_) (s : Set_) → AllByRecursion P sets → set_for kind sets ≡ Ok s → P s
+  pub of_set_for : (record_type : Option (List ℕ)) (sets : List Set_) (s : Set_) → AllByRecursion P sets → set_for record_type sets ≡ Ok s → P s
   of_set_for None sets s all is = of_set_without_type sets s all is
-  of_set_for (Some kind) sets s all is = of_set_of_type kind sets s all is
+  of_set_for (Some record_type) sets s all is = of_set_of_type record_type sets s all is
 
 -- ---- the members are records
 
-pub members_within : (pieces : List Piece) (described : Described) (records : List (Range ℕ)) (kind : Option (List ℕ)) (s : Set_) → IsDescribed pieces described → AreRecords pieces records
-    → set_for kind described.sets ≡ Ok s → s.members.end ≤ length records
-members_within pieces described records kind s is are found =
+pub members_within : (pieces : List Piece) (described : Described) (records : List (Range ℕ)) (record_type : Option (List ℕ)) (s : Set_) → IsDescribed pieces described → AreRecords pieces records
+    → set_for record_type described.sets ≡ Ok s → s.members.end ≤ length records
+members_within pieces described records record_type s is are found =
     let same : is.records ≡ records = OneListOfRecords-holds.records pieces is.records records is.are are in
-    of_set_for (λ t. t.members.end ≤ length records) kind described.sets s
+    of_set_for (λ t. t.members.end ≤ length records) record_type described.sets s
     (sets_within 0 described.sets (length records) is.sets.places
-    (omega (arith, ap length is.sets.joined, length-map is.records (λ record_. type_of (elements_in pieces record_)), ap length same)))
+    (omega (arith, ap length is.sets.joined, length-map is.records (λ own_range. type_of (elements_in pieces own_range)), ap length same)))
     found
 
 -- ---- one record after another
@@ -271,7 +261,7 @@ head_le x y xs ys ascending within = elim (Contains-cons y ys x (within x (Conta
   | inr later ↦ omega (arith, ascending_head y ys x ascending later)
 ]
 
--- what stands behind the head of one list stands behind that of the other
+-- what stands after the head of one list stands after that of the other
 tail_within : (x y : ℕ) (xs ys : List ℕ) → x ≡ y → IsAscending (x ∷ xs) → ((i : ℕ) → Contains (x ∷ xs) i → Contains (y ∷ ys) i) → (i : ℕ) → Contains xs i → Contains ys i
 tail_within x y xs ys same ascending within i among = elim (Contains-cons y ys i (within i (Contains-later x i xs among))) [
   | inl head ↦ absurd (omega (arith, ascending_head x xs i ascending among))
@@ -298,13 +288,10 @@ one_list_of_selected : (pieces : List Piece) (s : Set_) (wanted : Filter) (selec
 one_list_of_selected pieces s wanted selected other h k =
     ascending_same selected other h.ascending k.ascending (selected_within pieces s wanted selected other h k) (selected_within pieces s wanted other selected k h)
 
-same_fault : (f g : Fault) → ◌≡◌ {A = Result Set_ Fault} (Err f) (Err g) → f ≡ g
-same_fault f g e = cc
-
 pub one_selection : OneSelection
-one_selection pieces sets kind wanted (Ok selected) (Ok other) (s, is, h) (t, is_too, k) =
+one_selection pieces sets record_type wanted (Ok selected) (Ok other) (s, is, h) (t, is_too, k) =
     let P : Set_ → Type 0 = λ u. AreSelected pieces u wanted other in
-    ap Ok (one_list_of_selected pieces s wanted selected other h (subst P (same_set t s (sym is_too ∙ is)) k))
-one_selection pieces sets kind wanted (Ok selected) (Err fault) (s, is, h) is_too = absurd (no_set s fault (sym is_too ∙ is))
-one_selection pieces sets kind wanted (Err fault) (Ok other) is (t, is_too, k) = absurd (no_set t fault (sym is ∙ is_too))
-one_selection pieces sets kind wanted (Err fault) (Err other) is is_too = ap Err (same_fault fault other (sym is ∙ is_too))
+    ap Ok (one_list_of_selected pieces s wanted selected other h (subst P (same_value t s (sym is_too ∙ is)) k))
+one_selection pieces sets record_type wanted (Ok selected) (Err fault) (s, is, h) is_too = absurd (no_both s fault (sym is ∙ is_too))
+one_selection pieces sets record_type wanted (Err fault) (Ok other) is (t, is_too, k) = absurd (no_both t fault (sym is_too ∙ is))
+one_selection pieces sets record_type wanted (Err fault) (Err other) is is_too = ap Err (same_fault fault other (sym is ∙ is_too))

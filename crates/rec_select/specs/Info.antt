@@ -19,12 +19,12 @@ size_of s = s.members.end - s.members.start
 abbrev pub count_line : Set_ → List ℕ
 count_line s = elim s.kind [
   | None ↦ if has_members s then number_line (size_of s) else []
-  | Some kind ↦ decimal (size_of s) ++ 32 ∷ (kind ++ 10 ∷ [])
+  | Some record_type ↦ decimal (size_of s) ++ 32 ∷ (record_type ++ 10 ∷ [])
 ]
 
 -- the type of a set
 abbrev pub name_line : Set_ → List ℕ
-name_line s = elim s.kind [ None ↦ [] | Some kind ↦ kind ++ 10 ∷ [] ]
+name_line s = elim s.kind [ None ↦ [] | Some record_type ↦ record_type ++ 10 ∷ [] ]
 
 -- what is printed of these sets
 abbrev pub info : InfoForm → List Piece → List (Range ℕ) → List Set_ → List ℕ
@@ -35,10 +35,10 @@ info Descriptors pieces records sets = joined_blocks false (map (λ i. block_of 
 -- all sets, or that of a type
 abbrev pub sets_for : Option (List ℕ) → List Set_ → Result (List Set_) Fault
 sets_for None sets = Ok sets
-sets_for (Some kind) sets = elim (set_of_type kind sets) [ Ok s ↦ Ok (s ∷ []) | Err fault ↦ Err fault ]
+sets_for (Some record_type) sets = elim (set_of_type record_type sets) [ Ok s ↦ Ok (s ∷ []) | Err fault ↦ Err fault ]
 
 -- the text that is printed of the sets of a type, or of all; or that there is no such type
 abbrev pub IsInfo : List Piece → List Set_ → Option (List ℕ) → InfoForm → Result (List ℕ) Fault → Type 0
-IsInfo pieces sets kind form (Ok text) = (kept : List Set_) × (records : List (Range ℕ)) × AreRecords pieces records
-    × (sets_for kind sets ≡ Ok kept) × (text ≡ info form pieces records kept)
-IsInfo pieces sets kind form (Err fault) = sets_for kind sets ≡ Err fault
+IsInfo pieces sets record_type form (Ok text) = (kept : List Set_) × (records : List (Range ℕ)) × AreRecords pieces records
+    × (sets_for record_type sets ≡ Ok kept) × (text ≡ info form pieces records kept)
+IsInfo pieces sets record_type form (Err fault) = sets_for record_type sets ≡ Err fault

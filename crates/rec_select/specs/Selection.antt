@@ -37,12 +37,12 @@ set_without_type (untyped ∷ typed) = if has_members untyped then Ok untyped el
 
 -- the set of a type
 abbrev pub set_of_type : List ℕ → List Set_ → Result Set_ Fault
-set_of_type kind sets = elim (find (is_of_type kind) sets) [ None ↦ Err NoSuchType | Some s ↦ Ok s ]
+set_of_type record_type sets = elim (find (is_of_type record_type) sets) [ None ↦ Err NoSuchType | Some s ↦ Ok s ]
 
 -- the set that is selected from, or why there is none
 abbrev pub set_for : Option (List ℕ) → List Set_ → Result Set_ Fault
 set_for None sets = set_without_type sets
-set_for (Some kind) sets = set_of_type kind sets
+set_for (Some record_type) sets = set_of_type record_type sets
 
 -- this is what a call answers: what it lends has the value, or it refuses so
 abbrev pub Answers : {X Y : Type 0} → (X → Y) → Result X Fault → Result Y Fault → Type 0
@@ -66,7 +66,7 @@ filter_of (Quick text) = with_text text
 
 -- the text stands somewhere in the value
 abbrev pub Holds : List ℕ → List ℕ → Type 0
-Holds value text = (front behind : List ℕ) × (value ≡ front ++ (text ++ behind))
+Holds value text = (prefix following : List ℕ) × (value ≡ prefix ++ (text ++ following))
 
 -- the member with these elements, at this place of its set, is selected
 abbrev pub Passes : Filter → List Piece → ℕ → Type 0
@@ -86,8 +86,8 @@ pub record AreSelected (pieces : List Piece) (s : Set_) (wanted : Filter) (selec
 
 -- the one answer to a selection, memory aside: the records, or why there is no set to select from
 abbrev pub IsSelection : List Piece → List Set_ → Option (List ℕ) → Filter → Result (List ℕ) Fault → Type 0
-IsSelection pieces sets kind wanted (Ok selected) = (s : Set_) × (set_for kind sets ≡ Ok s) × AreSelected pieces s wanted selected
-IsSelection pieces sets kind wanted (Err fault) = set_for kind sets ≡ Err fault
+IsSelection pieces sets record_type wanted (Ok selected) = (s : Set_) × (set_for record_type sets ≡ Ok s) × AreSelected pieces s wanted selected
+IsSelection pieces sets record_type wanted (Err fault) = set_for record_type sets ≡ Err fault
 
 -- the same of a selection from a text with its schema
 abbrev pub IsChoice : List Piece → Schema → Selection → Result (List ℕ) Fault → Type 0
@@ -95,5 +95,5 @@ IsChoice pieces schema selection = IsSelection pieces (described schema).sets se
 
 -- a selection has one answer
 abbrev pub OneSelection : Type 0
-OneSelection = (pieces : List Piece) (sets : List Set_) (kind : Option (List ℕ)) (wanted : Filter) (one other : Result (List ℕ) Fault)
-    → IsSelection pieces sets kind wanted one → IsSelection pieces sets kind wanted other → one ≡ other
+OneSelection = (pieces : List Piece) (sets : List Set_) (record_type : Option (List ℕ)) (wanted : Filter) (one other : Result (List ℕ) Fault)
+    → IsSelection pieces sets record_type wanted one → IsSelection pieces sets record_type wanted other → one ≡ other

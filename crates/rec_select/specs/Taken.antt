@@ -3,14 +3,14 @@ use Rattle.std.specs.Prelude.{◌≡◌, ◌⊎◌, ℕ, ◌≤◌, List, Option
 use Rattle.std.specs.Io.KnownBytes.{Appends, Keeps}
 use Rattle.rec_text.specs.declared.fault.Fault.{Fault}
 use Rattle.rec_text.specs.declared.fault.Fault.TheVariants.{OutOfMemory, StoreFailed}
-use Rattle.rec_text.specs.Sink.{AppendsFront, HasRisen}
+use Rattle.rec_text.specs.Sink.{AppendsPrefix, HasRisen}
 
 -- What went out of a call that prints a text or refuses it: at success the whole text; where memory ran out or the sink
 -- failed, a prefix of it; at another refusal nothing.
 abbrev pub Puts : {X : Type 0} → (Result (List ℕ) Fault → Type 0) → Option (List ℕ) → Option (List ℕ) → Result X Fault → Type 0
 Puts IsText old new (Ok done) = (text : List ℕ) × IsText (Ok text) × Appends old new text
-Puts IsText old new (Err OutOfMemory) = Keeps old new ⊎ ((text : List ℕ) × IsText (Ok text) × AppendsFront old new text)
-Puts IsText old new (Err StoreFailed) = (text : List ℕ) × IsText (Ok text) × AppendsFront old new text
+Puts IsText old new (Err OutOfMemory) = Keeps old new ⊎ ((text : List ℕ) × IsText (Ok text) × AppendsPrefix old new text)
+Puts IsText old new (Err StoreFailed) = (text : List ℕ) × IsText (Ok text) × AppendsPrefix old new text
 Puts IsText old new (Err fault) = IsText (Err fault) × Keeps old new
 
 -- A sink tells what it holds and how often it failed. A call took it from `old` to `new`.
@@ -22,7 +22,7 @@ module _ {S : Type 0} (contents : S → Option (List ℕ)) (failures : S → ℕ
 
   -- the sink took a prefix of the text; then memory ran out, and the sink didn't fail, or it failed
   pub record HasStopped (text : List ℕ) (fault : Fault) : Type 0 where
-    pub prefix : AppendsFront (contents old) (contents new) text
+    pub prefix : AppendsPrefix (contents old) (contents new) text
     pub counted : failures old ≤ failures new
     pub cause : ((fault ≡ OutOfMemory) × (failures new ≡ failures old))
         ⊎ ((fault ≡ StoreFailed) × HasRisen (failures old) (failures new))

@@ -5,8 +5,8 @@ ghost use Rattle.rec_text.specs.Bytes.{ends_newline as newline_is_last};
 ghost use Rattle.rec_text.specs.Places.{piece_of, pieces_of};
 ghost use Rattle.rec_text.specs.Records.{is_field_piece};
 ghost use Rattle.rec_text.specs.Values.{value_of};
-ghost use Rattle.rec_select.specs.proving.Blocks.{closed_text, spaced_value};
-ghost use Rattle.rec_select.specs.Printing.{closed, picked as picked_of, row_of, value_line};
+ghost use Rattle.rec_select.specs.proving.Blocks.{closed_text, spaced_value, in_form};
+ghost use Rattle.rec_select.specs.Printing.{picked as picked_of, row_of, value_line};
 ghost use Rattle.rec_select.specs.Taken.{Prints};
 
 use crate::excerpt::Excerpt;
@@ -34,16 +34,6 @@ pub(crate) fn write_closed<S: Sink>(text: &[u8], out: &mut S) -> Result<(), Faul
     put_all(out, b"\n")
 }
 
-/// Prints elements, each with a newline at its end.
-fn write_elements<S: Sink>(elements: &[Element], out: &mut S) -> Result<(), Fault>
-    ensures { Prints S.contents S.failure_count out.old out.new (flat_map closed (pieces_of elements.now)) result }
-{
-    for element in elements {
-        write_closed(element.raw, out)?;
-    }
-    Ok(())
-}
-
 /// Prints the value of an element.
 fn write_value<S: Sink>(alloc: Global, element: &Element, out: &mut S) -> Result<(), Fault>
     ensures { Prints S.contents S.failure_count out.old out.new (value_of (piece_of element.now)) result }
@@ -60,16 +50,6 @@ fn write_value_line<S: Sink>(alloc: Global, element: &Element, out: &mut S) -> R
     put_all(out, b"\n")
 }
 
-/// Prints the values of elements, each with a newline after it.
-fn write_values<S: Sink>(alloc: Global, elements: &[Element], out: &mut S) -> Result<(), Fault>
-    ensures { Prints S.contents S.failure_count out.old out.new (flat_map value_line (pieces_of elements.now)) result }
-{
-    for element in elements {
-        write_value_line(alloc, element, out)?;
-    }
-    Ok(())
-}
-
 /// Prints a space, and the value of an element.
 fn write_spaced_value<S: Sink>(alloc: Global, element: &Element, out: &mut S) -> Result<(), Fault>
     ensures { Prints S.contents S.failure_count out.old out.new (spaced_value (piece_of element.now)) result }
@@ -78,17 +58,43 @@ fn write_spaced_value<S: Sink>(alloc: Global, element: &Element, out: &mut S) ->
     write_value(alloc, element, out)
 }
 
-/// Prints the values of elements, each after a space.
-fn write_spaced_values<S: Sink>(
+/// How an element is printed.
+#[derive(Clone, Copy)]
+enum ElementForm {
+    /// As it stands in the file, with a newline at its end.
+    Closed,
+    /// Its value, and a newline.
+    ValueLine,
+    /// A space, and its value.
+    SpacedValue,
+}
+
+fn write_element<S: Sink>(
+    alloc: Global,
+    element: &Element,
+    form: ElementForm,
+    out: &mut S,
+) -> Result<(), Fault>
+    ensures { Prints S.contents S.failure_count out.old out.new (in_form form (piece_of element.now)) result }
+{
+    match form {
+        ElementForm::Closed => write_closed(element.raw, out),
+        ElementForm::ValueLine => write_value_line(alloc, element, out),
+        ElementForm::SpacedValue => write_spaced_value(alloc, element, out),
+    }
+}
+
+fn write_elements<S: Sink>(
     alloc: Global,
     elements: &[Element],
+    form: ElementForm,
     out: &mut S,
 ) -> Result<(), Fault>
     ensures { Prints S.contents S.failure_count out.old out.new
-        (flat_map spaced_value (pieces_of elements.now)) result }
+        (flat_map (in_form form) (pieces_of elements.now)) result }
 {
     for element in elements {
-        write_spaced_value(alloc, element, out)?;
+        write_element(alloc, element, form, out)?;
     }
     Ok(())
 }
@@ -102,7 +108,7 @@ fn write_row<S: Sink>(alloc: Global, elements: &[Element], out: &mut S) -> Resul
         return Ok(());
     };
     write_value(alloc, first, out)?;
-    write_spaced_values(alloc, others, out)?;
+    write_elements(alloc, others, ElementForm::SpacedValue, out)?;
     put_all(out, b"\n")
 }
 
@@ -193,8 +199,12 @@ impl<'f, 't> Block<'f, 't> {
     {
         match self {
             Block::Fields(fields) => fields.write_fields(out),
-            Block::Elements(elements) => write_elements(elements, out),
-            Block::Values(elements) => write_values(alloc, elements, out),
+            Block::Elements(elements) => {
+                write_elements(alloc, elements, ElementForm::Closed, out)
+            }
+            Block::Values(elements) => {
+                write_elements(alloc, elements, ElementForm::ValueLine, out)
+            }
             Block::Row(elements) => write_row(alloc, elements, out),
         }
     }

@@ -32,23 +32,23 @@ fn meant_set(sets: &[Set_]) -> Result<&Set_, Fault>
     }
 }
 
-fn typed_set<'s>(schema: &'s Schema, kind: &[u8]) -> Result<&'s Set_, Fault>
-    ensures set { Answers (λ set. set.now) result (set_of_type kind.now (described schema.now).sets) }
+fn typed_set<'s>(schema: &'s Schema, record_type: &[u8]) -> Result<&'s Set_, Fault>
+    ensures set { Answers (λ set. set.now) result (set_of_type record_type.now (described schema.now).sets) }
     ensures refusals { IsOkUnless result Fault.NoSuchType }
 {
-    match schema.set_of_type(kind) {
+    match schema.set_of_type(record_type) {
         Some(place) => Ok(&schema.sets()[place]),
         None => Err(Fault::NoSuchType),
     }
 }
 
 /// The set that is selected from.
-fn set_of<'s>(schema: &'s Schema, kind: &Option<Bytes>) -> Result<&'s Set_, Fault>
-    ensures set { Answers (λ set. set.now) result (set_for kind.now (described schema.now).sets) }
+fn set_of<'s>(schema: &'s Schema, record_type: &Option<Bytes>) -> Result<&'s Set_, Fault>
+    ensures set { Answers (λ set. set.now) result (set_for record_type.now (described schema.now).sets) }
     ensures refusals { IsOkUnlessEither result Fault.TypeNeeded Fault.NoSuchType }
 {
-    match kind {
-        Some(kind) => typed_set(schema, kind.as_slice()),
+    match record_type {
+        Some(record_type) => typed_set(schema, record_type.as_slice()),
         None => meant_set(schema.sets()),
     }
 }

@@ -19,11 +19,11 @@ impl<'d, 't> Model for Excerpt<'d, 't> {
     ghost Value = { List Piece };
 
     ghost use Rattle.rec_text.specs.Places.{pieces_of};
-    ghost use Rattle.rec_select.specs.proving.Excerpts.{AreWithin};
+    ghost use Rattle.rec_select.specs.proving.Excerpts.{IsExcerpt};
 
     ghost view = { λ e. pieces_of e.elements.now };
 
-    ghost invariant = { λ e. AreWithin e.text.now e.elements.now };
+    ghost invariant = { λ e. IsExcerpt e.text.now e.elements.now };
 }
 
 impl<'d, 't> Excerpt<'d, 't> {

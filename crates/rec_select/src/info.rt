@@ -33,14 +33,14 @@ pub enum InfoForm {
 }
 
 /// All sets, or that of a type.
-fn sets_for<'s>(schema: &'s Schema, kind: Option<&[u8]>) -> Result<&'s [Set_], Fault>
+fn sets_for<'s>(schema: &'s Schema, record_type: Option<&[u8]>) -> Result<&'s [Set_], Fault>
     ensures { Answers (λ kept. kept.now) result
-        (sets_for (option_map (λ kind. kind.now) kind.entry) (described schema.now).sets) }
+        (sets_for (option_map (λ record_type. record_type.now) record_type.entry) (described schema.now).sets) }
 {
-    let Some(kind) = kind else {
+    let Some(record_type) = record_type else {
         return Ok(schema.sets());
     };
-    match schema.set_of_type(kind) {
+    match schema.set_of_type(record_type) {
         Some(place) => Ok(slice::from_ref(&schema.sets()[place])),
         None => Err(Fault::NoSuchType),
     }
@@ -54,7 +54,7 @@ fn write_count<S: Sink>(set: &Set_, out: &mut S) -> Result<(), Fault>
     let mut buffer = Buffer::new();
     let number = buffer.format(size).as_bytes();
     match &set.kind {
-        Some(kind) => put_parts(out, &[number, b" ", kind.as_slice(), b"\n"]),
+        Some(record_type) => put_parts(out, &[number, b" ", record_type.as_slice(), b"\n"]),
         None if size > 0 => put_parts(out, &[number, b"\n"]),
         None => Ok(()),
     }
@@ -65,7 +65,7 @@ fn write_name<S: Sink>(set: &Set_, out: &mut S) -> Result<(), Fault>
     ensures refusals { IsOkUnless result Fault.StoreFailed }
 {
     match &set.kind {
-        Some(kind) => put_parts(out, &[kind.as_slice(), b"\n"]),
+        Some(record_type) => put_parts(out, &[record_type.as_slice(), b"\n"]),
         None => Ok(()),
     }
 }
@@ -147,16 +147,16 @@ fn write_sets<S: Sink>(
 pub fn write_info<S: Sink>(
     database: &Database,
     schema: &Schema,
-    kind: Option<&[u8]>,
+    record_type: Option<&[u8]>,
     form: InfoForm,
     out: &mut S,
 ) -> Result<(), Fault>
     requires { IsSchema database.now (Ok (described schema.now)) }
     ensures written { PrintsAndCounts S.contents S.failure_count out.old out.new
-        (Puts (IsInfo database.now (described schema.now).sets (option_map (λ kind. kind.now) kind.entry) form))
+        (Puts (IsInfo database.now (described schema.now).sets (option_map (λ record_type. record_type.now) record_type.entry) form))
         result }
     ensures refusals { IsOkUnlessEither result Fault.NoSuchType Fault.StoreFailed }
 {
-    let sets = sets_for(schema, kind)?;
+    let sets = sets_for(schema, record_type)?;
     write_sets(database, sets, form, out)
 }

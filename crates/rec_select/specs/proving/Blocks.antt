@@ -8,6 +8,8 @@ use Rattle.rec_text.specs.Records.{record_at}
 use Rattle.rec_text.specs.Values.{value_of}
 use Rattle.rec_select.specs.declared.block.Block.{Block}
 use Rattle.rec_select.specs.declared.block.Block.TheVariants.{Fields, Elements, Values, Row}
+use Rattle.rec_select.specs.declared.block.ElementForm.{ElementForm}
+use Rattle.rec_select.specs.declared.block.ElementForm.TheVariants.{Closed, ValueLine, SpacedValue}
 use Rattle.rec_select.specs.declared.records.Shape.{Shape}
 use Rattle.rec_select.specs.declared.records.Shape.TheVariants.{Blocks}
 use Rattle.rec_select.specs.Printing.{block_of, closed, row_of, value_line}
@@ -19,6 +21,12 @@ closed_text text = if ends_newline text then text else text ++ 10 ∷ []
 -- a space, and a value
 abbrev pub spaced_value : Piece → List ℕ
 spaced_value piece = 32 ∷ value_of piece
+
+-- what is printed of an element
+abbrev pub in_form : ElementForm → Piece → List ℕ
+in_form Closed = closed
+in_form ValueLine = value_line
+in_form SpacedValue = spaced_value
 
 -- what a block prints
 abbrev pub text_of : Block → List ℕ

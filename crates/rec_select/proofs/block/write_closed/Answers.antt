@@ -9,4 +9,4 @@ returns-clause-printed g c =
     let put = c.put_all-2.ensures in
     rw (closed-open c.args.text.now c.if-ends_newline.ensures)
     (Prints-append (record { whole = first.all; sound = first.kept }) _ (10 ∷ []) c.put_all-2.result
-    (Prints-put _ _ _ _ (10 ∷ []) c.put_all-2.result put.all put.front put.kept put.counted put.failed put.refusals))
+    (Prints-put _ _ _ _ (10 ∷ []) c.put_all-2.result put.all put.prefix put.kept put.counted put.failed put.refusals))

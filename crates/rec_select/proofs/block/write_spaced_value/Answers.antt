@@ -8,7 +8,7 @@ pub returns-in_err-put_all : goal.returns-in_err-put_all
 returns-in_err-put_all g c =
     let put = c.in_err-put_all.ensures in
     Prints-stopped c.from_residual.result c.from_residual.ensures.1
-    (HasStopped-prefix {a = 32 ∷ []} (value_of (piece_of c.args.element.now)) (HasStopped-failed put.front put.counted put.failed put.refusals))
+    (HasStopped-prefix {a = 32 ∷ []} (value_of (piece_of c.args.element.now)) (HasStopped-failed put.prefix put.counted put.failed put.refusals))
 
 pub returns : goal.returns
 returns g c =

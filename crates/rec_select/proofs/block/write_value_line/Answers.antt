@@ -6,4 +6,4 @@ pub returns : goal.returns
 returns g c =
     let put = c.put_all.ensures in
     Prints-append c.in_ok-write_value.ensures _ (10 ∷ []) c.put_all.result
-    (Prints-put _ _ _ _ (10 ∷ []) c.put_all.result put.all put.front put.kept put.counted put.failed put.refusals)
+    (Prints-put _ _ _ _ (10 ∷ []) c.put_all.result put.all put.prefix put.kept put.counted put.failed put.refusals)

@@ -7,7 +7,7 @@ pub returns-in_err-put_all-clause-printed : goal.returns-in_err-put_all-clause-p
 returns-in_err-put_all-clause-printed g c =
     let put = c.in_err-put_all.ensures in
     Prints-stopped c.from_residual.result c.from_residual.ensures.1
-    (one_stopped (λ part. part.now) c.args.parts.now c.loop-part.part-index _ _ c.loop-part.invariant c.loop-part-test.true refl (HasStopped-failed put.front put.counted put.failed put.refusals))
+    (one_stopped (λ part. part.now) c.args.parts.now c.loop-part.part-index _ _ c.loop-part.invariant c.loop-part-test.true refl (HasStopped-failed put.prefix put.counted put.failed put.refusals))
 
 pub loop-part-preserved : goal.loop-part-preserved
 loop-part-preserved g c =

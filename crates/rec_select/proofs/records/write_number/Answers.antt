@@ -8,4 +8,4 @@ returns-clause-printed g c =
     let put = c.put_all-2.ensures in
     let digits = c.as_bytes.ensures.value ∙ c.format.ensures.text in
     Prints-append (HasTaken-as digits (record { whole = first.all; sound = first.kept })) _ (10 ∷ []) c.put_all-2.result
-    (Prints-put _ _ _ _ (10 ∷ []) c.put_all-2.result put.all put.front put.kept put.counted put.failed put.refusals)
+    (Prints-put _ _ _ _ (10 ∷ []) c.put_all-2.result put.all put.prefix put.kept put.counted put.failed put.refusals)

@@ -1,9 +1,0 @@
-use Rattle.rec_select.specs.Printing.{value_line}
-use Rattle.rec_select.proofs.PutsLemmas.{Prints-stopped, HasStopped-within}
-use Rattle.rec_select.proofs.BlockLemmas.{flat_map_at}
-use Rattle.rec_select.proofs.block.write_values.Goals as goal
-
-pub returns-in_err-write_value_line : goal.returns-in_err-write_value_line
-returns-in_err-write_value_line g c =
-    let parts = flat_map_at value_line c.args.elements.now c.loop-element.element-index _ c.loop-element-test.true in
-    Prints-stopped c.from_residual.result c.from_residual.ensures.1 (HasStopped-within _ _ parts c.loop-element.invariant c.in_err-write_value_line.ensures)

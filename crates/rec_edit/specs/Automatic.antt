@@ -31,7 +31,7 @@ AreNumbered next (name ∷ names) answer =
 
 -- what stands first in a new record of a type, which has fields of these names; nothing where that isn't asked for
 abbrev pub AreAutomatic : List Piece → Described → Option (List ℕ) → Bool → List (List ℕ) → Result (List Numbered) Fault → Type 0
-AreAutomatic pieces schema (Some kind) true names answer = elim (position (is_of_type kind) schema.sets) [
+AreAutomatic pieces schema (Some record_type) true names answer = elim (position (is_of_type record_type) schema.sets) [
   | None ↦ answer ≡ Ok []
   | Some place ↦ AreNumbered (IsAutomatic pieces schema place) (lacking (automatic_of schema place) names) answer
 ]
@@ -43,13 +43,13 @@ AreAutomatic pieces schema _ _ names answer = answer ≡ Ok []
 abbrev pub numbers_in : List Numbered → List ℕ → List ℤ
 numbers_in given name = map (λ one. one.number) (filter (λ one. bytes_eq one.name name) given)
 
--- Record by record of a set, the fields that it lacks. A number that is given counts for the records behind.
+-- Record by record of a set, the fields that it lacks. A number that is given counts for the records after.
 abbrev pub AreFilled : List Piece → Rules → (List ℕ → List ℤ) → List (Range ℕ) → Result (List Filled) Fault → Type 0
 AreFilled pieces rules numbers [] answer = answer ≡ Ok []
-AreFilled pieces rules numbers (record_ ∷ records) answer =
-    Then (AreNumbered (λ name. IsNext rules name (numbers name)) (lacking (automatic_names rules) (names_of (elements_in pieces record_)))) (λ given.
+AreFilled pieces rules numbers (own_range ∷ records) answer =
+    Then (AreNumbered (λ name. IsNext rules name (numbers name)) (lacking (automatic_names rules) (names_of (elements_in pieces own_range)))) (λ given.
     Then (AreFilled pieces rules (λ name. numbers_in given name ++ numbers name) records) (λ filled answer.
-    answer ≡ Ok (record { range = record_; given = given } ∷ filled))) answer
+    answer ≡ Ok (record { range = own_range; given = given } ∷ filled))) answer
 
 -- the records of a set
 abbrev pub AreFilledMembers : List Piece → List (Range ℕ) → Set_ → Rules → Result (List Filled) Fault → Type 0

@@ -10,14 +10,15 @@ use Rattle.rec_journal.specs.declared.event.Tool.{Tool}
 use Rattle.rec_journal.specs.Revisions.{single_step}
 use Rattle.rec_edit.specs.declared.batches.BatchEdited.{BatchEdited}
 use Rattle.rec_edit.specs.Task.{Task, tool_of}
-use Rattle.rec_edit.specs.Script.{edited_text, hunks_of}
-use Rattle.rec_edit.specs.Outcome.{Step, IsStep, IsSoundUnlessForced}
+use Rattle.rec_edit.specs.Script.{edited_text}
+use Rattle.rec_edit.specs.proving.Changes.{hunks_of}
+use Rattle.rec_edit.specs.Outcome.{EditScript, IsEditScript, IsSoundUnlessForced}
 use Rattle.rec_edit.specs.Effect.{HasEffect}
 
 -- what an edit makes of a text, violations aside
-abbrev pub IsStepOn : Bool → Task → List ℕ → Result Step Fault → Type 0
-IsStepOn force task text =
-    Then (IsDescribedText text) (λ described. IsStep described.pieces described.schema force task)
+abbrev pub IsEditScriptOn : Bool → Task → List ℕ → Result EditScript Fault → Type 0
+IsEditScriptOn force task text =
+    Then (IsDescribedText text) (λ described. IsEditScript described.pieces described.schema force task)
 
 -- an edit as a step of a batch; one that changes nothing is none
 abbrev pub step_with : Tool → List Hunk → List EditStep
@@ -29,20 +30,20 @@ abbrev pub at_most_greatest : ℕ → ℕ
 at_most_greatest n = min n 18446744073709551615
 
 -- what an edit and those after it make of a text
-abbrev pub joined : Task → Step → BatchEdited → BatchEdited
-joined task step rest = record {
-  steps = step_with (tool_of task) (hunks_of step.script) ++ rest.steps;
+abbrev pub joined : Task → EditScript → BatchEdited → BatchEdited
+joined task edit rest = record {
+  steps = step_with (tool_of task) (hunks_of edit.script) ++ rest.steps;
   text = rest.text;
-  changed = at_most_greatest (step.changed + rest.changed);
+  changed = at_most_greatest (edit.changed + rest.changed);
 }
 
 -- what edits make of a text in turn, violations aside; or the first refusal
 abbrev pub AreSteps : Bool → List Task → List ℕ → Result BatchEdited Fault → Type 0
 AreSteps force [] text answer = answer ≡ Ok (record { steps = []; text = text; changed = 0 })
 AreSteps force (task ∷ tasks) text answer =
-    Then (IsStepOn force task text) (λ step.
-    Then (AreSteps force tasks (edited_text step.script)) (λ rest answer.
-    answer ≡ Ok (joined task step rest))) answer
+    Then (IsEditScriptOn force task text) (λ edit.
+    Then (AreSteps force tasks (edited_text edit.script)) (λ rest answer.
+    answer ≡ Ok (joined task edit rest))) answer
 
 -- the one answer to a batch, memory aside: the last text alone must keep its rules
 abbrev pub IsBatchOutcome : Bool → List Task → List ℕ → Result BatchEdited Fault → Type 0

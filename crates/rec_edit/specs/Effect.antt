@@ -25,22 +25,22 @@ use Rattle.rec_edit.specs.Automatic.{AreAutomatic, lacking}
 -- ---- the records of a text
 
 -- a record's own elements, and the type of the set in which it stands; a descriptor's is its own
-pub record Entry : Type 0 where
-  pub kind : Option (List ℕ)
+pub record TypedRecord : Type 0 where
+  pub record_type : Option (List ℕ)
   pub own : List Piece
 
 -- the type that this record names, or else the one of the record before it
-abbrev pub kind_behind : Option (List ℕ) → List Piece → Option (List ℕ)
-kind_behind kind own = elim (type_of own) [ None ↦ kind | Some named ↦ Some named ]
+abbrev pub type_after : Option (List ℕ) → List Piece → Option (List ℕ)
+type_after record_type own = elim (type_of own) [ None ↦ record_type | Some named ↦ Some named ]
 
-abbrev pub entries_from : Option (List ℕ) → List (List Piece) → List Entry
-entries_from kind [] = []
-entries_from kind (own ∷ records) = record { kind = kind_behind kind own; own = own } ∷ entries_from (kind_behind kind own) records
+abbrev pub typed_records : Option (List ℕ) → List (List Piece) → List TypedRecord
+typed_records record_type [] = []
+typed_records record_type (own ∷ records) = record { record_type = type_after record_type own; own = own } ∷ typed_records (type_after record_type own) records
 
 -- a newline that the last one lacks is added
-abbrev pub AreEntries : List Piece → List Entry → Type 0
-AreEntries pieces entries = (records : List (Range ℕ)) × AreRecords pieces records
-    × (entries ≡ entries_from None (map (λ record_. map closed (elements_in pieces record_)) records))
+abbrev pub AreTypedRecords : List Piece → List TypedRecord → Type 0
+AreTypedRecords pieces all_typed = (records : List (Range ℕ)) × AreRecords pieces records
+    × (all_typed ≡ typed_records None (map (λ own_range. map closed (elements_in pieces own_range)) records))
 
 -- ---- what becomes of records
 
@@ -54,14 +54,14 @@ abbrev pub between_fields : List Piece → List Piece
 between_fields pieces = reverse (from_field (reverse (from_field pieces)))
 
 -- elements as a record; they are none without a field
-abbrev pub entry_of : Option (List ℕ) → List Piece → Option Entry
-entry_of kind own = elim (between_fields own) [ [] ↦ None | piece ∷ pieces ↦ Some (record { kind = kind; own = piece ∷ pieces }) ]
+abbrev pub typed_record : Option (List ℕ) → List Piece → Option TypedRecord
+typed_record record_type own = elim (between_fields own) [ [] ↦ None | piece ∷ pieces ↦ Some (record { record_type = record_type; own = piece ∷ pieces }) ]
 
--- each record of these indexes gives way to what is made of it, and is left out where that has no field
-abbrev pub remade : List ℕ → (List Piece → List Piece) → List Entry → List Entry
-remade selected made entries = filter_map
-    (λ (i, entry). if list_any (λ k. k == i) selected then entry_of entry.kind (made entry.own) else Some entry)
-    (enumerate_from 0 entries)
+-- each record of these indexes is replaced by what is made of it, and is left out where that has no field
+abbrev pub remade : List ℕ → (List Piece → List Piece) → List TypedRecord → List TypedRecord
+remade selected made all_typed = filter_map
+    (λ (i, typed). if list_any (λ k. k == i) selected then typed_record typed.record_type (made typed.own) else Some typed)
+    (enumerate_from 0 all_typed)
 
 -- a record with its picked fields edited, and with those that are added
 abbrev pub with_fields : Action → List Item → List Piece → List Piece
@@ -70,16 +70,16 @@ with_fields action items own =
     ++ added action items own
 
 -- records stand before the one of this index
-abbrev pub put_at : ℕ → List Entry → List Entry → List Entry
-put_at place new entries = take place entries ++ (new ++ drop place entries)
+abbrev pub put_at : ℕ → List TypedRecord → List TypedRecord → List TypedRecord
+put_at place new all_typed = take place all_typed ++ (new ++ drop place all_typed)
 
--- the last record of its set; behind a new descriptor where no set has the type
-abbrev pub with_new : List Set_ → Option (List ℕ) → List Piece → List Entry → List Entry
-with_new sets None own entries = option_map_or (λ s. put_at s.members.end (record { kind = None; own = own } ∷ []) entries) (slice_get sets 0) entries
-with_new sets (Some kind) own entries = option_map_or
-    (λ s. put_at s.members.end (record { kind = Some kind; own = own } ∷ []) entries)
-    (find (is_of_type kind) sets)
-    (entries ++ record { kind = Some kind; own = canonical rec_name kind ∷ [] } ∷ record { kind = Some kind; own = own } ∷ [])
+-- the last record of its set; after a new descriptor where no set has the type
+abbrev pub with_new : List Set_ → Option (List ℕ) → List Piece → List TypedRecord → List TypedRecord
+with_new sets None own all_typed = option_map_or (λ s. put_at s.members.end (record { record_type = None; own = own } ∷ []) all_typed) (slice_get sets 0) all_typed
+with_new sets (Some record_type) own all_typed = option_map_or
+    (λ s. put_at s.members.end (record { record_type = Some record_type; own = own } ∷ []) all_typed)
+    (find (is_of_type record_type) sets)
+    (all_typed ++ record { record_type = Some record_type; own = canonical rec_name record_type ∷ [] } ∷ record { record_type = Some record_type; own = own } ∷ [])
 
 -- ---- automatic filling
 
@@ -90,22 +90,22 @@ automatic_at schema i = option_map_or (λ (s, rules). automatic_names rules)
     (find (λ (s, rules). is_some s.kind && holds_index i s.members) (zip schema.sets schema.rules)) []
 
 -- first in the record stands a field for each of these names that it lacks, in their order; it stays as it is in all else
-pub record IsFilledUp (automatic : List (List ℕ)) (entry filled : Entry) : Type 0 where
+pub record IsFilledUp (automatic : List (List ℕ)) (typed filled : TypedRecord) : Type 0 where
   pub given : List Numbered
-  pub names : map (λ one. one.name) given ≡ lacking automatic (names_of entry.own)
-  pub is : filled ≡ record entry { own = numbered_fields given ++ entry.own }
+  pub names : map (λ one. one.name) given ≡ lacking automatic (names_of typed.own)
+  pub is : filled ≡ record typed { own = numbered_fields given ++ typed.own }
 
 -- ---- the effect
 
 -- these records are selected
 abbrev pub AreIndexesOf : List Piece → Described → Wanted → List ℕ → Type 0
-AreIndexesOf pieces schema wanted selected = IsSelection pieces schema.sets wanted.kind wanted.filter (Ok selected)
+AreIndexesOf pieces schema wanted selected = IsSelection pieces schema.sets wanted.record_type wanted.filter (Ok selected)
 
 -- the records before an edit that isn't refused, and those after it
-abbrev pub Leads : List Piece → Described → Task → List Entry → List Entry → Type 0
-Leads pieces schema (insert kind fresh auto) before after = (pairs : List Pair) × (automatic : List Numbered) × IsNewRecord kind fresh (Ok pairs)
-    × AreAutomatic pieces schema kind auto (map (λ pair. pair.name) pairs) (Ok automatic)
-    × (after ≡ with_new schema.sets kind (numbered_fields automatic ++ fields_of pairs) before)
+abbrev pub Leads : List Piece → Described → Task → List TypedRecord → List TypedRecord → Type 0
+Leads pieces schema (insert record_type fresh auto) before after = (pairs : List Pair) × (automatic : List Numbered) × IsNewRecord record_type fresh (Ok pairs)
+    × AreAutomatic pieces schema record_type auto (map (λ pair. pair.name) pairs) (Ok automatic)
+    × (after ≡ with_new schema.sets record_type (numbered_fields automatic ++ fields_of pairs) before)
 Leads pieces schema (replace wanted fresh) before after = (selected : List ℕ) × (pairs : List Pair) × AreIndexesOf pieces schema wanted selected
     × IsNewRecord None fresh (Ok pairs) × (after ≡ remade selected (λ own. fields_of pairs) before)
 Leads pieces schema (delete wanted) before after = (selected : List ℕ) × AreIndexesOf pieces schema wanted selected
@@ -115,14 +115,14 @@ Leads pieces schema (comment_out wanted) before after = (selected : List ℕ) ×
 Leads pieces schema (set wanted list action) before after = (selected : List ℕ) × (items : List Item) × AreIndexesOf pieces schema wanted selected
     × AreItemsFor action list (Ok items) × (after ≡ remade selected (with_fields action items) before)
 Leads pieces schema auto_fill before after =
-    AllZip (λ (i, entry) filled. IsFilledUp (automatic_at schema i) entry filled) (enumerate_from 0 before) after
+    AllZip (λ (i, typed) filled. IsFilledUp (automatic_at schema i) typed filled) (enumerate_from 0 before) after
 
 -- the records of the two texts
 pub record HasEffect (pieces : List Piece) (schema : Described) (task : Task) (text : List ℕ) : Type 0 where
-  pub before : List Entry
-  pub are_before : AreEntries pieces before
+  pub before : List TypedRecord
+  pub are_before : AreTypedRecords pieces before
   pub edited : List Piece
   pub are_edited : AreElementsOf edited text
-  pub after : List Entry
-  pub are_after : AreEntries edited after
+  pub after : List TypedRecord
+  pub are_after : AreTypedRecords edited after
   pub leads : Leads pieces schema task before after

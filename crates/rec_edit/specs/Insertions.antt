@@ -30,19 +30,19 @@ pub record Insertion : Type 0 where
   pub place : ℕ
   pub new : List Piece
 
--- at the end of the record's paragraph, behind an empty line
-abbrev pub behind_paragraph : List Piece → List Piece → Range ℕ → Insertion
-behind_paragraph pieces fields record_ = record { place = paragraph_end pieces record_.end; new = empty_line ∷ fields }
+-- at the end of the record's paragraph, after an empty line
+abbrev pub after_paragraph : List Piece → List Piece → Range ℕ → Insertion
+after_paragraph pieces fields own_range = record { place = paragraph_end pieces own_range.end; new = empty_line ∷ fields }
 
--- before the record's paragraph, with an empty line behind
+-- before the record's paragraph, with an empty line after
 abbrev pub before_paragraph : List Piece → List Piece → Range ℕ → Insertion
-before_paragraph pieces fields record_ = record { place = paragraph_start pieces record_.start; new = fields ++ empty_line ∷ [] }
+before_paragraph pieces fields own_range = record { place = paragraph_start pieces own_range.start; new = fields ++ empty_line ∷ [] }
 
--- at the end, behind an empty line where the last element is there and isn't blank
+-- at the end, after an empty line where the last element is there and isn't blank
 abbrev pub at_end : List Piece → List Piece → Insertion
 at_end pieces new = record { place = length pieces; new = if is_full_at pieces (length pieces - 1) then empty_line ∷ new else new }
 
--- the record behind which one more of a set is put: its last one, or else its descriptor
+-- the record after which one more of a set is put: its last one, or else its descriptor
 abbrev pub last_of : Set_ → Option ℕ
 last_of s = if has_members s then Some (s.members.end - 1) else s.head
 
@@ -57,22 +57,22 @@ last_at records sets place = range_of records (option_and_then last_of (slice_ge
 abbrev pub descriptor_at : List (Range ℕ) → List Set_ → ℕ → Option (Range ℕ)
 descriptor_at records sets place = range_of records (option_and_then (λ s. s.head) (slice_get sets place))
 
--- without a type: behind the last untyped record, else before the first descriptor, else at the end
+-- without a type: after the last untyped record, else before the first descriptor, else at the end
 abbrev pub untyped_insertion : List Piece → List (Range ℕ) → List Set_ → List Piece → Insertion
 untyped_insertion pieces records sets fields = elim (last_at records sets 0) [
-  | Some last ↦ behind_paragraph pieces fields last
+  | Some last ↦ after_paragraph pieces fields last
   | None ↦ option_map_or (before_paragraph pieces fields) (descriptor_at records sets 1) (at_end pieces fields)
 ]
 
--- of a type: behind the last record of its set, or behind a new descriptor at the end where it has none
+-- of a type: after the last record of its set, or after a new descriptor at the end where it has none
 abbrev pub typed_insertion : List Piece → List (Range ℕ) → List Set_ → List Piece → List ℕ → Insertion
-typed_insertion pieces records sets fields kind = option_map_or (behind_paragraph pieces fields)
-    (range_of records (option_and_then last_of (find (is_of_type kind) sets)))
-    (at_end pieces (canonical rec_name kind ∷ empty_line ∷ fields))
+typed_insertion pieces records sets fields record_type = option_map_or (after_paragraph pieces fields)
+    (range_of records (option_and_then last_of (find (is_of_type record_type) sets)))
+    (at_end pieces (canonical rec_name record_type ∷ empty_line ∷ fields))
 
 abbrev pub insertion_for : List Piece → List (Range ℕ) → List Set_ → Option (List ℕ) → List Piece → Insertion
 insertion_for pieces records sets None fields = untyped_insertion pieces records sets fields
-insertion_for pieces records sets (Some kind) fields = typed_insertion pieces records sets fields kind
+insertion_for pieces records sets (Some record_type) fields = typed_insertion pieces records sets fields record_type
 
 abbrev pub inserting : Insertion → Layout
 inserting insertion = record untouched { put = λ i. if insertion.place == i then insertion.new else [] }

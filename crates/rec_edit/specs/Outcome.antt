@@ -1,6 +1,5 @@
 -- The outcome of an edit: its first refusal in their order, or its script and how many records it changes.
-use Rattle.std.specs.Prelude.{◌≡◌, ◌≢◌, ◌≤◌, ℕ, Bool, true, false, not, List, [], ◌∷◌, ◌++◌, length, map, flat_map, filter_map, count_by, slice_get, Option, None, Result, Ok, Err, if◌then◌else◌}
-use Rattle.std.specs.List.{enumerate_from}
+use Rattle.std.specs.Prelude.{◌≡◌, ◌≢◌, ◌≤◌, ℕ, Bool, true, false, not, List, [], ◌∷◌, ◌++◌, length, map, filter_map, count_by, slice_get, Option, None, Result, Ok, Err, if◌then◌else◌}
 use Rattle.std.specs.Str.{bytes_eq}
 use Rattle.std.specs.declared.ops.Range.{Range}
 use Rattle.rec_text.specs.declared.fault.Fault.{Fault}
@@ -14,13 +13,15 @@ use Rattle.rec_check.specs.Schemas.{Described, IsSchema}
 use Rattle.rec_check.specs.Violations.{AreViolationsOf}
 use Rattle.rec_journal.specs.declared.event.Event.TheVariants.{Edited as Revised}
 use Rattle.rec_journal.specs.declared.event.Revision.{Revision}
+use Rattle.rec_journal.specs.declared.patch.Hunk.{Hunk}
 use Rattle.rec_journal.specs.Bound.{most_bytes}
 use Rattle.rec_journal.specs.Event.{IsEditInRange, spelling}
-use Rattle.rec_journal.specs.Revisions.{hunks_of as hunks_in, is_batch}
+use Rattle.rec_journal.specs.Revisions.{all_hunks, is_batch}
 use Rattle.rec_select.specs.Selection.{Filter, all, by_expression, at_places, with_text, IsSelection}
 use Rattle.rec_edit.specs.declared.outcome.Edited.{Edited}
 use Rattle.rec_edit.specs.Task.{Wanted, Task, insert, replace, delete, comment_out, set, auto_fill}
-use Rattle.rec_edit.specs.Script.{Part, Layout, closed, script_of, old_pieces, new_pieces, edited_text, parts_in, hunks_of, AreChangesOf}
+use Rattle.rec_edit.specs.Script.{Part, Layout, closed, script_of, old_pieces, new_pieces, edited_text, parts_in, AreChangesOf}
+use Rattle.rec_edit.specs.proving.Changes.{hunks_of}
 use Rattle.rec_edit.specs.Rules.{fields_of, deletion, commenting, replacement, setting}
 use Rattle.rec_edit.specs.Insertions.{Filled, inserting, insertion_for, numbered_fields, filling}
 use Rattle.rec_edit.specs.Wording.{AreItemsFor, IsNewRecord}
@@ -31,7 +32,7 @@ use Rattle.rec_edit.specs.Automatic.{AreAutomatic, AreFilledOf}
 -- the ranges of the records that are wanted
 abbrev pub AreChosen : List Piece → List Set_ → Wanted → Result (List (Range ℕ)) Fault → Type 0
 AreChosen pieces sets wanted =
-    Then (IsSelection pieces sets wanted.kind wanted.filter) (λ selected answer.
+    Then (IsSelection pieces sets wanted.record_type wanted.filter) (λ selected answer.
     (records : List (Range ℕ)) × AreRecords pieces records × (answer ≡ Ok (filter_map (slice_get records) selected)))
 
 -- all records of a set are taken out only where that is forced
@@ -50,51 +51,48 @@ AreRemovable pieces sets wanted force =
 -- ---- one edit
 
 -- what an edit makes of a text, and how many records it changes
-pub record Step : Type 0 where
+pub record EditScript : Type 0 where
   pub script : List Part
   pub changed : ℕ
 
--- what stands in the place of a record
-abbrev pub laid : Layout → List Piece → Range ℕ → List Piece
-laid layout pieces record_ = layout.put record_.start
-    ++ (flat_map (λ (i, piece). layout.becomes i (closed piece)) (enumerate_from record_.start (elements_in pieces record_)) ++ layout.put record_.end)
+-- the script makes something else of a record, the newline at the end of the text aside
+abbrev pub is_changed_by : List Part → Range ℕ → Bool
+is_changed_by script own_range = not (bytes_eq
+    (text_of (map closed (new_pieces (parts_in own_range 0 script))))
+    (text_of (map closed (old_pieces (parts_in own_range 0 script)))))
 
--- something else stands in its place, the newline at the end of the text aside
-abbrev pub is_changed : Layout → List Piece → Range ℕ → Bool
-is_changed layout pieces record_ = not (bytes_eq (text_of (laid layout pieces record_)) (text_of (map closed (elements_in pieces record_))))
-
--- each of these records gives way to what the layout puts in its place
-abbrev pub step_of : List Piece → List (Range ℕ) → Layout → Step
-step_of pieces chosen layout = record { script = script_of layout pieces; changed = count_by (is_changed layout pieces) chosen }
+-- the script of a layout; of these records those count of which it makes something else
+abbrev pub edit_script : List Piece → List (Range ℕ) → Layout → EditScript
+edit_script pieces chosen layout = record { script = script_of layout pieces; changed = count_by (is_changed_by (script_of layout pieces)) chosen }
 
 -- a new record is put in
-abbrev pub step_of_insert : List Piece → List (Range ℕ) → List Set_ → Option (List ℕ) → List Piece → Step
-step_of_insert pieces records sets kind fields = record { script = script_of (inserting (insertion_for pieces records sets kind fields)) pieces; changed = 1 }
+abbrev pub insert_script : List Piece → List (Range ℕ) → List Set_ → Option (List ℕ) → List Piece → EditScript
+insert_script pieces records sets record_type fields = record { script = script_of (inserting (insertion_for pieces records sets record_type fields)) pieces; changed = 1 }
 
 -- what one edit makes of the text of these elements, violations aside
-abbrev pub IsStep : List Piece → Described → Bool → Task → Result Step Fault → Type 0
-IsStep pieces schema force (insert kind fresh auto) answer =
-    Then (IsNewRecord kind fresh) (λ pairs.
-    Then (AreAutomatic pieces schema kind auto (map (λ pair. pair.name) pairs)) (λ automatic answer.
+abbrev pub IsEditScript : List Piece → Described → Bool → Task → Result EditScript Fault → Type 0
+IsEditScript pieces schema force (insert record_type fresh auto) answer =
+    Then (IsNewRecord record_type fresh) (λ pairs.
+    Then (AreAutomatic pieces schema record_type auto (map (λ pair. pair.name) pairs)) (λ automatic answer.
     (records : List (Range ℕ)) × AreRecords pieces records
-    × (answer ≡ Ok (step_of_insert pieces records schema.sets kind (numbered_fields automatic ++ fields_of pairs))))) answer
-IsStep pieces schema force (replace wanted fresh) answer =
+    × (answer ≡ Ok (insert_script pieces records schema.sets record_type (numbered_fields automatic ++ fields_of pairs))))) answer
+IsEditScript pieces schema force (replace wanted fresh) answer =
     Then (IsNewRecord None fresh) (λ pairs.
     Then (AreChosen pieces schema.sets wanted) (λ chosen answer.
-    answer ≡ Ok (step_of pieces chosen (replacement (fields_of pairs) chosen)))) answer
-IsStep pieces schema force (delete wanted) answer =
+    answer ≡ Ok (edit_script pieces chosen (replacement (fields_of pairs) chosen)))) answer
+IsEditScript pieces schema force (delete wanted) answer =
     Then (AreRemovable pieces schema.sets wanted force) (λ chosen answer.
-    answer ≡ Ok (step_of pieces chosen (deletion pieces chosen))) answer
-IsStep pieces schema force (comment_out wanted) answer =
+    answer ≡ Ok (edit_script pieces chosen (deletion pieces chosen))) answer
+IsEditScript pieces schema force (comment_out wanted) answer =
     Then (AreRemovable pieces schema.sets wanted force) (λ chosen answer.
-    answer ≡ Ok (step_of pieces chosen (commenting chosen))) answer
-IsStep pieces schema force (set wanted list action) answer =
+    answer ≡ Ok (edit_script pieces chosen (commenting chosen))) answer
+IsEditScript pieces schema force (set wanted list action) answer =
     Then (AreItemsFor action list) (λ items.
     Then (AreChosen pieces schema.sets wanted) (λ chosen answer.
-    answer ≡ Ok (step_of pieces chosen (setting action items pieces chosen)))) answer
-IsStep pieces schema force auto_fill answer = (records : List (Range ℕ)) × AreRecords pieces records
+    answer ≡ Ok (edit_script pieces chosen (setting action items pieces chosen)))) answer
+IsEditScript pieces schema force auto_fill answer = (records : List (Range ℕ)) × AreRecords pieces records
     × Then (AreFilledOf pieces records schema) (λ filled answer.
-    answer ≡ Ok (step_of pieces (map (λ one. one.range) filled) (filling filled))) answer
+    answer ≡ Ok (edit_script pieces (map (λ one. one.range) filled) (filling filled))) answer
 
 -- ---- the violations of the edited text
 
@@ -112,15 +110,17 @@ IsSoundUnlessForced false text answer = IsSound text answer
 
 -- ---- the outcome
 
-abbrev pub edited_by : Step → Edited
-edited_by step = record { patch = hunks_of step.script; text = edited_text step.script; changed = step.changed }
+-- what an edit comes to: the changes of its script (`HunksAreChanges` says which they are), the edited text, and the number of
+-- changed records
+abbrev pub edited_by : EditScript → Edited
+edited_by edit = record { patch = hunks_of edit.script; text = edited_text edit.script; changed = edit.changed }
 
 -- the one answer to an edit, memory aside
 abbrev pub IsOutcome : List Piece → Described → Bool → Task → Result Edited Fault → Type 0
 IsOutcome pieces schema force task =
-    Then (IsStep pieces schema force task) (λ step.
-    Then (IsSoundUnlessForced force (edited_text step.script)) (λ _ answer.
-    answer ≡ Ok (edited_by step)))
+    Then (IsEditScript pieces schema force task) (λ edit.
+    Then (IsSoundUnlessForced force (edited_text edit.script)) (λ _ answer.
+    answer ≡ Ok (edited_by edit)))
 
 -- the refusals that an edit has at all
 abbrev pub IsEditRefusal : Fault → Type 0
@@ -146,56 +146,27 @@ OneOutcome = (pieces : List Piece) (schema same : Described) (force : Bool) (tas
 
 -- no descriptor is put in: only a new record of a type may bring one
 abbrev pub PutsNoDescriptorIn : Task → Type 0
-PutsNoDescriptorIn (insert kind fresh auto) = kind ≡ None
+PutsNoDescriptorIn (insert record_type fresh auto) = record_type ≡ None
 PutsNoDescriptorIn _ = Unit {0}
 
 -- What such an edit makes of a text without a descriptor breaks no rule.
 abbrev pub UnruledEditsAreSound : Type 0
-UnruledEditsAreSound = (pieces : List Piece) (schema : Described) (force : Bool) (task : Task) (step : Step) → AreElementsOf pieces (text_of pieces) → PutsNoDescriptorIn task
-    → IsSchema pieces (Ok schema) → length schema.sets ≡ 1 → IsStep pieces schema force task (Ok step) → IsSound (edited_text step.script) (Ok tt)
+UnruledEditsAreSound = (pieces : List Piece) (schema : Described) (force : Bool) (task : Task) (edit : EditScript) → AreElementsOf pieces (text_of pieces) → PutsNoDescriptorIn task
+    → IsSchema pieces (Ok schema) → length schema.sets ≡ 1 → IsEditScript pieces schema force task (Ok edit) → IsSound (edited_text edit.script) (Ok tt)
 
--- The script has the elements of the text and those of the edited one, and the hunks are its changes; an event of an edit
--- by one tool with these hunks has at most 512 bytes, 64 for each hunk, and 4 for each byte that they take out or put in.
+-- The script has the elements of the text and those of the edited one, and the hunks are its changes, which are one list;
+-- an event of an edit by one tool with these hunks has at most 512 bytes, 64 for each hunk, and 4 for each byte that they take
+-- out or put in.
 pub record IsToldByHunks (pieces : List Piece) (script : List Part) : Type 0 where
   pub old : old_pieces script ≡ pieces
   pub new : AreElementsOf (new_pieces script) (edited_text script)
   pub changes : AreChangesOf script (hunks_of script)
-  pub bounded : (event : Revision) → IsEditInRange event → is_batch event.tool ≡ false → hunks_in event.steps ≡ hunks_of script
+  pub only : (hunks : List Hunk) → AreChangesOf script hunks → hunks ≡ hunks_of script
+  pub bounded : (event : Revision) → IsEditInRange event → is_batch event.tool ≡ false → all_hunks event.steps ≡ hunks_of script
       → length (spelling (Revised event)) ≤ most_bytes (hunks_of script)
 
 -- the script of each edit is told so
 abbrev pub HunksAreChanges : Type 0
-HunksAreChanges = (pieces : List Piece) (schema : Described) (force : Bool) (task : Task) (step : Step)
-    → AreElementsOf pieces (text_of pieces) → IsSchema pieces (Ok schema) → IsStep pieces schema force task (Ok step)
-    → IsToldByHunks pieces step.script
-
--- the script makes something else of a record, the newline at the end of the text aside
-abbrev pub is_changed_by : List Part → Range ℕ → Bool
-is_changed_by script record_ = not (bytes_eq
-    (text_of (map closed (new_pieces (parts_in record_ 0 script))))
-    (text_of (map closed (old_pieces (parts_in record_ 0 script)))))
-
--- the number of these records of which the script makes something else
-abbrev pub Counts : Step → List (Range ℕ) → Type 0
-Counts step records = step.changed ≡ count_by (is_changed_by step.script) records
-
--- the chosen records are counted
-abbrev pub CountsChosen : List Piece → Described → Wanted → Step → Type 0
-CountsChosen pieces schema wanted step =
-    (chosen : List (Range ℕ)) × AreChosen pieces schema.sets wanted (Ok chosen) × Counts step chosen
-
--- the number of changed records, as the script tells it; a record that is put in is one
-abbrev pub CountsChanged : List Piece → Described → Task → Step → Type 0
-CountsChanged pieces schema (insert kind fresh auto) step = step.changed ≡ 1
-CountsChanged pieces schema (replace wanted fresh) step = CountsChosen pieces schema wanted step
-CountsChanged pieces schema (delete wanted) step = CountsChosen pieces schema wanted step
-CountsChanged pieces schema (comment_out wanted) step = CountsChosen pieces schema wanted step
-CountsChanged pieces schema (set wanted list action) step = CountsChosen pieces schema wanted step
-CountsChanged pieces schema auto_fill step = (records : List (Range ℕ)) × (filled : List Filled) × AreRecords pieces records
-    × AreFilledOf pieces records schema (Ok filled) × Counts step (map (λ one. one.range) filled)
-
--- the script of each edit tells it so
-abbrev pub ChangedAreCounted : Type 0
-ChangedAreCounted = (pieces : List Piece) (schema : Described) (force : Bool) (task : Task) (step : Step)
-    → AreElementsOf pieces (text_of pieces) → IsSchema pieces (Ok schema) → IsStep pieces schema force task (Ok step)
-    → CountsChanged pieces schema task step
+HunksAreChanges = (pieces : List Piece) (schema : Described) (force : Bool) (task : Task) (edit : EditScript)
+    → AreElementsOf pieces (text_of pieces) → IsSchema pieces (Ok schema) → IsEditScript pieces schema force task (Ok edit)
+    → IsToldByHunks pieces edit.script

@@ -34,9 +34,9 @@ abbrev pub physical_lines : List ℕ → List (List ℕ)
 physical_lines [] = []
 physical_lines (b ∷ bs) = if b == 10 then (b ∷ []) ∷ physical_lines bs else on_first b (physical_lines bs)
 
--- `#` before each physical line: a comment each
-abbrev pub commented : Piece → List Piece
-commented piece = map (λ line. record { kind = Comment; bytes = 35 ∷ line }) (physical_lines piece.bytes)
+-- a comment for each physical line of a text: `#` stands before it
+abbrev pub comments_of : List ℕ → List Piece
+comments_of text = map (λ line. record { kind = Comment; bytes = 35 ∷ line }) (physical_lines text)
 
 -- another name, and all else as it stands
 abbrev pub renamed : List ℕ → Piece → Piece
@@ -48,37 +48,45 @@ renamed name piece = record { kind = piece.kind; bytes = name ++ drop (length (n
 abbrev pub is_own : List (Range ℕ) → ℕ → Bool
 is_own chosen i = list_any (holds_index i) chosen
 
--- a record's range, with the blank elements directly behind it
+-- a record's range, with the blank elements directly after it
 abbrev pub with_blanks : List Piece → Range ℕ → Range ℕ
-with_blanks pieces record_ = record { start = record_.start; end = record_.end + prefix_len is_blank_piece (drop record_.end pieces) }
+with_blanks pieces own_range = record { start = own_range.start; end = own_range.end + prefix_len is_blank_piece (drop own_range.end pieces) }
 
--- the element of this index is picked by a list, in the record to which it belongs
+-- the element of this index is one that a list picks of this record
+abbrev pub is_picked_of : List Item → List Piece → ℕ → Range ℕ → Bool
+is_picked_of items pieces i own_range =
+    holds_index i own_range && list_any (λ place. own_range.start + place == i) (picks items (elements_in pieces own_range))
+
+-- it is picked of one of these records
 abbrev pub is_picked : List Item → List Piece → List (Range ℕ) → ℕ → Bool
-is_picked items pieces chosen i = list_any (λ record_. holds_index i record_
-    && list_any (λ place. record_.start + place == i) (picks items (elements_in pieces record_))) chosen
+is_picked items pieces chosen i = list_any (is_picked_of items pieces i) chosen
 
 -- ---- delete and comment out
 
+-- the elements of these ranges become comments, or nothing
+abbrev pub removing : Bool → List (Range ℕ) → Layout
+removing as_comments ranges = record untouched {
+  becomes = λ i piece. if is_own ranges i then (if as_comments then comments_of piece.bytes else []) else piece ∷ [];
+}
+
 -- the elements of these ranges go
 abbrev pub taking_out : List (Range ℕ) → Layout
-taking_out ranges = record untouched { becomes = λ i piece. if is_own ranges i then [] else piece ∷ [] }
+taking_out ranges = removing false ranges
 
--- a record's own elements go, with the blank elements directly behind them
+-- a record's own elements go, with the blank elements directly after them
 abbrev pub deletion : List Piece → List (Range ℕ) → Layout
 deletion pieces chosen = taking_out (map (with_blanks pieces) chosen)
 
 -- each physical line of a record's own elements becomes a comment
 abbrev pub commenting : List (Range ℕ) → Layout
-commenting chosen = record untouched {
-  becomes = λ i piece. if is_own chosen i then commented piece else piece ∷ [];
-}
+commenting chosen = removing true chosen
 
 -- ---- replace
 
--- the record's first element gives way to the new fields, the others to nothing; all are changed as one
+-- the record's first element is replaced by the new fields, the others to nothing; all are changed as one
 abbrev pub replacement : List Piece → List (Range ℕ) → Layout
 replacement fields chosen = record untouched {
-  becomes = λ i piece. if list_any (λ record_. record_.start == i) chosen then fields else if is_own chosen i then [] else piece ∷ [];
+  becomes = λ i piece. if list_any (λ own_range. own_range.start == i) chosen then fields else if is_own chosen i then [] else piece ∷ [];
   tied = λ i. is_own chosen i && is_own chosen (i + 1);
 }
 
@@ -91,12 +99,12 @@ picked_becomes (Add value) field = field ∷ []
 picked_becomes (SetAdd value) field = canonical (name_of field) value ∷ []
 picked_becomes (Rename name) field = renamed name field ∷ []
 picked_becomes Delete field = []
-picked_becomes CommentFields field = commented field
+picked_becomes CommentFields field = comments_of field.bytes
 
 abbrev pub picks_none : List Piece → Item → Bool
 picks_none own item = elim (picks (item ∷ []) own) [ [] ↦ true | place ∷ places ↦ false ]
 
--- the fields that a record with these elements gets behind its last one
+-- the fields that a record with these elements gets after its last one
 abbrev pub added : Action → List Item → List Piece → List Piece
 added (Set value) items own = []
 added (Add value) items own = map (λ item. canonical item.name value) items
@@ -108,5 +116,5 @@ added CommentFields items own = []
 abbrev pub setting : Action → List Item → List Piece → List (Range ℕ) → Layout
 setting action items pieces chosen = record untouched {
   becomes = λ i piece. if is_picked items pieces chosen i then picked_becomes action piece else piece ∷ [];
-  put = λ i. flat_map (λ record_. if record_.end == i then added action items (elements_in pieces record_) else []) chosen;
+  put = λ i. flat_map (λ own_range. if own_range.end == i then added action items (elements_in pieces own_range) else []) chosen;
 }

@@ -1,6 +1,6 @@
--- The script of an edit: parts in order, in each of which some elements give way to others. Joined, the old ones are the
+-- The script of an edit: parts in order, in each of which some elements are replaced by others. Joined, the old ones are the
 -- elements of the text, and the new ones those of the edited text.
-use Rattle.std.specs.Prelude.{◌≡◌, ◌≢◌, ℕ, ◌+◌, ◌==◌, Bool, false, leb, ◌&&◌, not, List, [], ◌∷◌, ◌++◌, length, map, flat_map, filter, if◌then◌else◌}
+use Rattle.std.specs.Prelude.{◌≡◌, ◌≢◌, ℕ, ◌+◌, ◌==◌, Bool, false, leb, ◌&&◌, not, List, [], ◌∷◌, ◌++◌, length, map, flat_map, if◌then◌else◌}
 use Rattle.std.specs.List.{AllByRecursion}
 use Rattle.std.specs.Str.{bytes_eq}
 use Rattle.std.specs.declared.ops.Range.{Range}
@@ -15,7 +15,7 @@ pub record Part : Type 0 where
 
 -- ---- what an edit makes of the elements
 
--- what stands in the place of the element of an index; what is put before it (at the number of elements: behind them all);
+-- what stands instead of the element of an index; what is put before it (at the number of elements: after them all);
 -- and whether it is changed as one with the next
 pub record Layout : Type 0 where
   pub becomes : ℕ → Piece → List Piece
@@ -52,8 +52,8 @@ opened (piece ∷ next ∷ pieces) = piece ∷ opened (next ∷ pieces)
 abbrev pub lacks_newline : List ℕ → Bool
 lacks_newline text = not (is_nil text) && not (ends_newline text)
 
--- A layout works on elements with newlines. What stands in the place of the last element lacks the newline that it lacked,
--- unless something is put behind it.
+-- A layout works on elements with newlines. What stands instead of the last element lacks the newline that it lacked,
+-- unless something is put after it.
 abbrev pub settled : List Part → List Part
 settled [] = []
 settled (part ∷ []) = (if lacks_newline (text_of part.old) then record { old = part.old; new = opened part.new } else part) ∷ []
@@ -136,28 +136,5 @@ pub record AreChangesOf (script : List Part) (hunks : List Hunk) : Type 0 where
 
 -- a hunk takes out whole elements, at the place where they stand
 abbrev pub TakesWhole : List Piece → Hunk → Type 0
-TakesWhole pieces hunk = (front old behind : List Piece) × (pieces ≡ front ++ (old ++ behind))
-    × (hunk.at ≡ length (text_of front)) × (hunk.old ≡ text_of old)
-
--- ---- the changes, found part by part
-
--- a hunk before others: one with the first of these where that begins at its end
-abbrev pub joining : Hunk → List Hunk → List Hunk
-joining hunk [] = hunk ∷ []
-joining hunk (next ∷ hunks) =
-    if hunk.at + length hunk.old == next.at
-    then record { at = hunk.at; old = hunk.old ++ next.old; new = hunk.new ++ next.new } ∷ hunks
-    else hunk ∷ next ∷ hunks
-
--- changes next to each other are one
-abbrev pub joined : List Hunk → List Hunk
-joined [] = []
-joined (hunk ∷ hunks) = joining hunk (joined hunks)
-
--- a change of a text to the same text is none
-abbrev pub real_changes : List Hunk → List Hunk
-real_changes hunks = filter (λ hunk. not (bytes_eq hunk.old hunk.new)) hunks
-
--- a hunk for each run of changes
-abbrev pub hunks_of : List Part → List Hunk
-hunks_of script = real_changes (joined (changes_from 0 script))
+TakesWhole pieces hunk = (prefix old following : List Piece) × (pieces ≡ prefix ++ (old ++ following))
+    × (hunk.at ≡ length (text_of prefix)) × (hunk.old ≡ text_of old)

@@ -13,7 +13,7 @@ pub use Rattle.rec_edit.specs.declared.request.Pair.{Pair}
 
 -- which records: those of a type, or of the set that is meant where none is given, that pass a filter
 pub record Wanted : Type 0 where
-  pub kind : Option (List ℕ)
+  pub record_type : Option (List ℕ)
   pub filter : Filter
 
 -- a new record: its fields, or a text that holds it
@@ -21,7 +21,7 @@ pub data NewRecord : Type 0 where
   of_pairs : List Pair → NewRecord
   of_text : List ℕ → NewRecord
 
--- A record of a type is put in, with automatic fields or without. A new record is put in the place of each of some; these
+-- A record of a type is put in, with automatic fields or without. A new record is put instead of each of some; these
 -- are deleted, commented out, or their listed fields are edited. All records get their automatic fields.
 pub data Task : Type 0 where
   insert : Option (List ℕ) → NewRecord → Bool → Task
@@ -32,14 +32,14 @@ pub data Task : Type 0 where
   auto_fill : Task
 
 abbrev pub wanted_by : Selection → Wanted
-wanted_by selection = record { kind = selection.kind; filter = filter_of selection.by }
+wanted_by selection = record { record_type = selection.kind; filter = filter_of selection.by }
 
 abbrev pub fresh_by : GivenRecord → NewRecord
 fresh_by (Pairs pairs) = of_pairs pairs.items
 fresh_by (Text text) = of_text text
 
 abbrev pub task_of : Edit → Task
-task_of (Insert kind fresh auto) = insert kind.now (fresh_by fresh.now) auto
+task_of (Insert record_type fresh auto) = insert record_type.now (fresh_by fresh.now) auto
 task_of (Replace selection fresh) = replace (wanted_by selection) (fresh_by fresh.now)
 task_of (Delete selection) = delete (wanted_by selection)
 task_of (CommentOut selection) = comment_out (wanted_by selection)
@@ -48,7 +48,7 @@ task_of AutoFill = auto_fill
 
 -- the tool that does it
 abbrev pub tool_of : Task → Tool
-tool_of (insert kind fresh auto) = RecIns
+tool_of (insert record_type fresh auto) = RecIns
 tool_of (replace wanted fresh) = RecIns
 tool_of (delete wanted) = RecDel
 tool_of (comment_out wanted) = RecDel

@@ -65,9 +65,9 @@ pairs_of own = map pair_of (filter is_field_piece own)
 
 -- a text that holds one record
 abbrev pub IsRecordText : List ℕ → Result (List Pair) Fault → Type 0
-IsRecordText text (Ok pairs) = (pieces : List Piece) × (record_ : Range ℕ) × AreElementsOf pieces text × AreRecords pieces (record_ ∷ [])
-    × (pairs ≡ pairs_of (elements_in pieces record_))
-IsRecordText text (Err BadRecord) = (pieces : List Piece) (record_ : Range ℕ) → AreElementsOf pieces text → AreRecords pieces (record_ ∷ []) → ⊥
+IsRecordText text (Ok pairs) = (pieces : List Piece) × (own_range : Range ℕ) × AreElementsOf pieces text × AreRecords pieces (own_range ∷ [])
+    × (pairs ≡ pairs_of (elements_in pieces own_range))
+IsRecordText text (Err BadRecord) = (pieces : List Piece) (own_range : Range ℕ) → AreElementsOf pieces text → AreRecords pieces (own_range ∷ []) → ⊥
 IsRecordText text (Err _) = ⊥
 
 -- names and values that are given one by one: at least one
@@ -84,10 +84,10 @@ names_in pairs = map (λ pair. pair.name) pairs
 
 -- the names and values, where the names can be written, the type among them, and the values
 abbrev pub written_pairs : Option (List ℕ) → List Pair → Result (List Pair) Fault
-written_pairs kind pairs = written (option_to_list kind ++ names_in pairs) (map (λ pair. pair.value) pairs) pairs
+written_pairs record_type pairs = written (option_to_list record_type ++ names_in pairs) (map (λ pair. pair.value) pairs) pairs
 
 -- the names and values of a new record, of this type where one is given
 abbrev pub IsNewRecord : Option (List ℕ) → NewRecord → Result (List Pair) Fault → Type 0
-IsNewRecord kind fresh =
+IsNewRecord record_type fresh =
     Then (ArePairs fresh) (λ pairs answer.
-    answer ≡ written_pairs kind pairs)
+    answer ≡ written_pairs record_type pairs)

@@ -1,8 +1,8 @@
 -- What serves proofs.
+pub mod Changes
 pub mod Drafts
 pub mod Edits
 pub mod Marks
-pub mod Comments
 pub mod Endings
 pub mod Given
 pub mod Causes

@@ -18,18 +18,18 @@ use std::alloc::Global;
 use std::collections::HashSet;
 
 /// The place of the set whose automatic fields a new record gets, if it gets any.
-fn set_for(file: &RecFile, kind: &Option<Bytes>, auto: bool) -> Option<usize>
+fn set_for(file: &RecFile, record_type: &Option<Bytes>, auto: bool) -> Option<usize>
     ensures { MatchOption result
-        (GivesNone (described file.now.schema) kind.now auto)
-        (GivesAt (described file.now.schema) kind.now auto) }
+        (GivesNone (described file.now.schema) record_type.now auto)
+        (GivesAt (described file.now.schema) record_type.now auto) }
 {
-    let Some(kind) = kind else {
+    let Some(record_type) = record_type else {
         return None;
     };
     if !auto {
         return None;
     }
-    file.schema().set_of_type(kind.as_slice())
+    file.schema().set_of_type(record_type.as_slice())
 }
 
 /// The names of a new record.
@@ -64,16 +64,16 @@ fn given_at<'s>(
 pub(crate) fn automatic_fields(
     alloc: Global,
     file: &RecFile,
-    kind: &Option<Bytes>,
+    record_type: &Option<Bytes>,
     auto: bool,
     pairs: &[Pair],
 ) -> Result<Vec<u8>, Fault>
-    ensures found { IfOk result (λ text. IsAutomaticTextIn file.now kind.now auto pairs.now text.items) }
+    ensures found { IfOk result (λ text. IsAutomaticTextIn file.now record_type.now auto pairs.now text.items) }
     ensures refused { IfErr result (λ fault.
-        IsMemoryOr fault (AreAutomaticIn file.now kind.now auto pairs.now (Err fault))) }
+        IsMemoryOr fault (AreAutomaticIn file.now record_type.now auto pairs.now (Err fault))) }
 {
     let mut text = Vec::new(alloc);
-    let Some(place) = set_for(file, kind, auto) else {
+    let Some(place) = set_for(file, record_type, auto) else {
         return Ok(text);
     };
     let given = given_at(alloc, file, place, pairs)?;

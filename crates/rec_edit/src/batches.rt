@@ -1,5 +1,5 @@
 //! Edits one after another, as one.
-ghost use Rattle.std.specs.Prelude.{◌≡◌, ◌≢◌, ◌∷◌, [], ℕ, List, map, Result, Ok, Err, IfOk, IfErr, OnOk};
+ghost use Rattle.std.specs.Prelude.{◌≡◌, ◌≢◌, ◌∷◌, [], ℕ, List, map, drop, Result, Ok, Err, IfOk, IfErr, OnOk};
 ghost use Rattle.rec_text.specs.declared.fault.Fault.{Fault};
 ghost use Rattle.rec_text.specs.declared.fault.Fault.TheVariants.{BadPattern};
 ghost use Rattle.rec_text.specs.Elements.{text_of};
@@ -72,27 +72,66 @@ fn take_steps(alloc: Global, edits: &[Edit], force: bool, done: &mut Progress) -
     Ok(())
 }
 
-/// What edits make of a file in turn; the first takes it as it was read. The last text may break rules.
-fn all_made(
-    alloc: Global,
-    file: &RecFile,
-    edits: &[Edit],
-    force: bool,
-) -> Result<BatchEdited, Fault>
-    ensures { UnlessMemory result (AreSteps force (map task_of edits.now) (text_of file.now.pieces)) }
+/// Those after the first one.
+fn after_first<'e, 'r>(edits: &'e [Edit<'r>]) -> &'e [Edit<'r>]
+    ensures { map task_of result.now ≡ map task_of (drop 1 edits.now) }
+{
+    &edits[edits.len().min(1)..]
+}
+
+/// What the first of some edits makes of a file; it takes the file as it was read.
+fn first_made(alloc: Global, file: &RecFile, edits: &[Edit], force: bool) -> Result<Progress, Fault>
+    ensures begun { IfOk result (λ done. IsUnderWay force (map task_of edits.now) (text_of file.now.pieces) done
+        (map task_of (drop 1 edits.now))) }
+    ensures refused { IfErr result (λ fault.
+        IsMemoryOr fault (AreSteps force (map task_of edits.now) (text_of file.now.pieces) (Err fault))) }
 {
     let text = file.database().text();
-    let Some((first, others)) = edits.split_first() else {
-        return Ok(Progress::start(alloc, Bytes::copy_of(alloc, text)?).finish());
+    let Some((first, _)) = edits.split_first() else {
+        return Ok(Progress::start(alloc, Bytes::copy_of(alloc, text)?));
     };
     let mut done = Progress::start(alloc, Bytes::from_vec(Vec::new(alloc)));
     done.add(first.tool(), made(alloc, file, first, force)?)?;
-    take_steps(alloc, others, force, &mut done)?;
+    Ok(done)
+}
+
+/// The same of a text's elements and record sets, which are let go here.
+fn first_made_of(
+    alloc: Global,
+    database: Database,
+    schema: Schema,
+    edits: &[Edit],
+    force: bool,
+) -> Result<Progress, Fault>
+    requires { IsSchema database (Ok (described schema)) }
+    ensures begun { IfOk result (λ done.
+        IsUnderWay force (map task_of edits.now) (text_of database.entry) done (map task_of (drop 1 edits.now))) }
+    ensures refused { IfErr result (λ fault.
+        IsMemoryOr fault (AreSteps force (map task_of edits.now) (text_of database.entry) (Err fault))) }
+{
+    first_made(alloc, &RecFile::new(&database, &schema), edits, force)
+}
+
+/// The edits after the first one. The last text must keep its rules, unless that is forced.
+fn others_made(
+    alloc: Global,
+    edits: &[Edit],
+    force: bool,
+    mut done: Progress,
+) -> Result<BatchEdited, Fault>
+    ensures { (tasks : List Task) (text : List ℕ)
+        → IsUnderWay force tasks text done (map task_of (drop 1 edits.now))
+        → UnlessMemory result (IsBatchOutcome force tasks text) }
+{
+    take_steps(alloc, after_first(edits), force, &mut done)?;
+    if !force {
+        require_sound(alloc, done.text())?;
+    }
     Ok(done.finish())
 }
 
-/// The last text must keep its rules, unless that is forced.
-fn all_kept(
+/// What edits make of a file in turn.
+fn all_made(
     alloc: Global,
     file: &RecFile,
     edits: &[Edit],
@@ -100,11 +139,8 @@ fn all_kept(
 ) -> Result<BatchEdited, Fault>
     ensures { UnlessMemory result (IsBatchOutcome force (map task_of edits.now) (text_of file.now.pieces)) }
 {
-    let done = all_made(alloc, file, edits, force)?;
-    if !force {
-        require_sound(alloc, done.text.as_slice())?;
-    }
-    Ok(done)
+    let done = first_made(alloc, file, edits, force)?;
+    others_made(alloc, edits, force, done)
 }
 
 /// What edits make of a text, each of the text that the one before gave. Without `force` the last text must keep the rules of
@@ -134,5 +170,26 @@ pub fn batch(
 {
     // These are the elements of a text.
     let _text = database.text();
-    all_kept(alloc, &RecFile::new(database, schema), edits, force)
+    all_made(alloc, &RecFile::new(database, schema), edits, force)
+}
+
+/// The same of elements and record sets that nobody needs any more: they are let go once the first edit is made, before any
+/// other text is read.
+pub fn batch_owned(
+    alloc: Global,
+    database: Database,
+    schema: Schema,
+    edits: &[Edit],
+    force: bool,
+) -> Result<BatchEdited, Fault>
+    requires schema { IsSchema database (Ok (described schema)) }
+    ensures found { UnlessMemory result (IsBatchOutcome force (map task_of edits.now) (text_of database.entry)) }
+    ensures refusals { IfErr result IsEditRefusal }
+    ensures leads { IfOk result (λ made. LeadsBy made.steps (text_of database.entry) made.text) }
+    ensures changes { IfOk result (λ made. AreDone made.steps) }
+{
+    // These are the elements of a text.
+    let _text = database.text();
+    let done = first_made_of(alloc, database, schema, edits, force)?;
+    others_made(alloc, edits, force, done)
 }

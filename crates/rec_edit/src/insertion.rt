@@ -4,47 +4,47 @@ ghost use Rattle.rec_text.specs.Elements.{text_of};
 ghost use Rattle.rec_check.specs.Stored.{described};
 ghost use Rattle.rec_edit.specs.Insertions.{inserting};
 ghost use Rattle.rec_edit.specs.Rules.{fields_of};
-ghost use Rattle.rec_edit.specs.proving.Sites.{line_before, line_behind, heading, block, Begins};
+ghost use Rattle.rec_edit.specs.proving.Sites.{empty_line_before, empty_line_after, heading, block, Begins};
 
 pub mod fresh;
 mod site;
 
 use crate::insertion::site::{Gap, Site, at_end, site_beside};
 use crate::request::Pair;
-use crate::script::plan::Plan;
+use crate::script::layout::Layout;
 use rec_check::{RecFile, Schema};
 use rec_text::{Bytes, Database, Element, append_field};
 use std::alloc::{AllocError, Global};
 
 /// Appends the empty line before a new record, if there is one.
 fn append_line_before(out: &mut Vec<u8>, gap: Gap) -> Result<(), AllocError>
-    ensures { OnOk result (out.new.items ≡ out.old.items ++ text_of (line_before gap)) }
+    ensures { OnOk result (out.new.items ≡ out.old.items ++ text_of (empty_line_before gap)) }
 {
     match gap {
         Gap::Absent => Ok(()),
         Gap::Before => out.extend_from_slice(b"\n"),
-        Gap::Behind => Ok(()),
+        Gap::After => Ok(()),
     }
 }
 
-/// Appends the empty line behind a new record, if there is one.
-fn append_line_behind(out: &mut Vec<u8>, gap: Gap) -> Result<(), AllocError>
-    ensures { OnOk result (out.new.items ≡ out.old.items ++ text_of (line_behind gap)) }
+/// Appends the empty line after a new record, if there is one.
+fn append_line_after(out: &mut Vec<u8>, gap: Gap) -> Result<(), AllocError>
+    ensures { OnOk result (out.new.items ≡ out.old.items ++ text_of (empty_line_after gap)) }
 {
     match gap {
         Gap::Absent => Ok(()),
         Gap::Before => Ok(()),
-        Gap::Behind => out.extend_from_slice(b"\n"),
+        Gap::After => out.extend_from_slice(b"\n"),
     }
 }
 
 /// Appends the descriptor of a type, where one is given, and an empty line.
-fn append_heading(out: &mut Vec<u8>, kind: &Option<Bytes>) -> Result<(), AllocError>
-    ensures { OnOk result (out.new.items ≡ out.old.items ++ text_of (heading kind.now)) }
+fn append_heading(out: &mut Vec<u8>, record_type: &Option<Bytes>) -> Result<(), AllocError>
+    ensures { OnOk result (out.new.items ≡ out.old.items ++ text_of (heading record_type.now)) }
 {
-    match kind {
-        Some(kind) => {
-            append_field(out, b"%rec", kind.as_slice())?;
+    match record_type {
+        Some(record_type) => {
+            append_field(out, b"%rec", record_type.as_slice())?;
             out.extend_from_slice(b"\n")
         }
         None => Ok(()),
@@ -67,13 +67,13 @@ fn begin(
     out: &mut Vec<u8>,
     database: &Database,
     schema: &Schema,
-    kind: &Option<Bytes>,
+    record_type: &Option<Bytes>,
 ) -> Result<Site, AllocError>
     ensures { IfOk result (λ site.
-        Begins database.now (described schema.now).sets kind.now site out.old.items out.new.items) }
+        Begins database.now (described schema.now).sets record_type.now site out.old.items out.new.items) }
 {
     let elements = database.elements();
-    match site_beside(elements, database.records().as_slice(), schema, kind) {
+    match site_beside(elements, database.records().as_slice(), schema, record_type) {
         Some(site) => {
             append_line_before(out, site.gap)?;
             Ok(site)
@@ -81,7 +81,7 @@ fn begin(
         None => {
             let site = at_end(elements);
             append_line_before(out, site.gap)?;
-            append_heading(out, kind)?;
+            append_heading(out, record_type)?;
             Ok(site)
         }
     }
@@ -102,18 +102,18 @@ impl Insertion {
     pub fn of(
         alloc: Global,
         file: &RecFile,
-        kind: &Option<Bytes>,
+        record_type: &Option<Bytes>,
         automatic: &[u8],
         pairs: &[Pair],
     ) -> Result<Insertion, AllocError>
-        ensures { IfOk result (λ plan.
-            IsRecordPutIn file.now kind.now automatic.now pairs.now plan.place plan.text.items) }
+        ensures { IfOk result (λ layout.
+            IsRecordPutIn file.now record_type.now automatic.now pairs.now layout.place layout.text.items) }
     {
         let mut text = Vec::new(alloc);
-        let site = begin(&mut text, file.database(), file.schema(), kind)?;
+        let site = begin(&mut text, file.database(), file.schema(), record_type)?;
         text.extend_from_slice(automatic)?;
         append_fields(&mut text, pairs)?;
-        append_line_behind(&mut text, site.gap)?;
+        append_line_after(&mut text, site.gap)?;
         Ok(Insertion {
             place: site.place,
             text,
@@ -121,8 +121,8 @@ impl Insertion {
     }
 }
 
-impl Plan for Insertion {
-    ghost layout = { λ plan. inserting (record { place = plan.place; new = block plan.text.items }) };
+impl Layout for Insertion {
+    ghost layout = { λ layout. inserting (record { place = layout.place; new = block layout.text.items }) };
 
     fn touches(&self, index: usize) -> bool {
         index == self.place

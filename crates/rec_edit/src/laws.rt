@@ -1,5 +1,5 @@
 //! Laws of the definitions, which no function computes.
-ghost use Rattle.rec_edit.specs.Outcome.{ChangedAreCounted, HunksAreChanges, OneOutcome, UnruledEditsAreSound};
+ghost use Rattle.rec_edit.specs.Outcome.{HunksAreChanges, OneOutcome, UnruledEditsAreSound};
 ghost use Rattle.rec_edit.specs.Batch.{OneBatch};
 
 /// An edit has one outcome, whichever way the patterns of its text were built.
@@ -21,9 +21,4 @@ pub fn unruled_edits_are_sound()
 /// them.
 pub fn hunks_are_changes()
     ensures { HunksAreChanges }
-{}
-
-/// The number of changed records, by the script alone: of the chosen ones, those of which their parts make something else.
-pub fn changed_are_counted()
-    ensures { ChangedAreCounted }
 {}

@@ -1,6 +1,5 @@
 //! The layouts of edits of whole records and of fields: what becomes of each element.
-pub mod commenting;
 mod covered;
-pub mod deletion;
+pub mod removal;
 pub mod replacement;
 pub mod setting;

@@ -14,11 +14,9 @@ mod script;
 mod sound;
 mod wording;
 
-pub use batches::{BatchEdited, batch};
-pub use laws::{
-    changed_are_counted, hunks_are_changes, one_batch, one_outcome, unruled_edits_are_sound,
-};
-pub use outcome::{Edited, edit};
+pub use batches::{BatchEdited, batch, batch_owned};
+pub use laws::{hunks_are_changes, one_batch, one_outcome, unruled_edits_are_sound};
+pub use outcome::{Edited, edit, edit_owned};
 pub use rec_check::Schema;
 pub use rec_journal::{Patch, Tool};
 pub use rec_select::{By, Selection};

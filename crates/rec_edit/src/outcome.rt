@@ -4,18 +4,19 @@ ghost use Rattle.std.specs.List.{AllByRecursion};
 ghost use Rattle.rec_text.specs.declared.fault.Fault.{Fault};
 ghost use Rattle.rec_text.specs.declared.fault.Fault.TheVariants.{BadPattern};
 ghost use Rattle.rec_text.specs.Elements.{text_of};
-ghost use Rattle.rec_text.specs.Faults.{UnlessMemory};
+ghost use Rattle.rec_text.specs.Faults.{IsMemoryOr, UnlessMemory};
 ghost use Rattle.rec_check.specs.Schemas.{IsSchema};
 ghost use Rattle.rec_check.specs.Stored.{described};
 ghost use Rattle.rec_journal.specs.Patch.{Splices};
 ghost use Rattle.rec_edit.specs.declared.outcome.Edited.{Edited as EditedOf};
 ghost use Rattle.rec_edit.specs.proving.Drafts.{AreRanges};
+ghost use Rattle.rec_edit.specs.proving.Edits.{IsChecked, laid_script};
 ghost use Rattle.rec_edit.specs.proving.Files.{IsEditIn, IsOutcomeIn};
 ghost use Rattle.rec_edit.specs.proving.Filling.{filled_of, ranges_of};
 ghost use Rattle.rec_edit.specs.Insertions.{filling};
 ghost use Rattle.rec_edit.specs.Task.{task_of, wanted_by, fresh_by, insert as inserting_one, replace as replacing, delete as deleting, comment_out as commenting_out, set as setting_fields, auto_fill as filling_all};
 ghost use Rattle.rec_edit.specs.Script.{TakesWhole};
-ghost use Rattle.rec_edit.specs.Outcome.{IsSound, IsOutcome, IsEditRefusal, PutsNoDescriptorIn, edited_by, step_of};
+ghost use Rattle.rec_edit.specs.Outcome.{IsSoundUnlessForced, IsOutcome, IsEditRefusal, PutsNoDescriptorIn, edited_by};
 ghost use Rattle.rec_edit.specs.Effect.{HasEffect};
 
 use crate::automatic::automatic_fields;
@@ -24,8 +25,7 @@ use crate::automatic::filling::{Filling, record_ranges};
 use crate::chosen::{chosen_records, removable_records};
 use crate::insertion::Insertion;
 use crate::insertion::fresh::new_record;
-use crate::layouts::commenting::Commenting;
-use crate::layouts::deletion::Deletion;
+use crate::layouts::removal::Removal;
 use crate::layouts::replacement::Replacement;
 use crate::layouts::setting::Setting;
 use crate::request::{Action, Edit, NewRecord};
@@ -50,20 +50,20 @@ pub struct Edited {
 fn insert(
     alloc: Global,
     file: &RecFile,
-    kind: &Option<Bytes>,
+    record_type: &Option<Bytes>,
     fresh: &NewRecord,
     auto: bool,
 ) -> Result<Edited, Fault>
     ensures { (force : Bool)
-        → UnlessMemory result (IsEditIn file.now force (inserting_one kind.now (fresh_by fresh.now) auto)) }
+        → UnlessMemory result (IsEditIn file.now force (inserting_one record_type.now (fresh_by fresh.now) auto)) }
 {
-    let pairs = new_record(alloc, kind, fresh)?;
-    let automatic = automatic_fields(alloc, file, kind, auto, &pairs)?;
-    let plan = Insertion::of(alloc, file, kind, &automatic, &pairs)?;
-    Ok(carried_out_on(alloc, file, 1, &plan)?)
+    let pairs = new_record(alloc, record_type, fresh)?;
+    let automatic = automatic_fields(alloc, file, record_type, auto, &pairs)?;
+    let layout = Insertion::of(alloc, file, record_type, &automatic, &pairs)?;
+    Ok(carried_out_on(alloc, file, 1, &layout)?)
 }
 
-/// A new record is put in the place of each of a selection.
+/// A new record is put instead of each of a selection.
 fn replace(
     alloc: Global,
     file: &RecFile,
@@ -73,27 +73,31 @@ fn replace(
     ensures { (force : Bool)
         → UnlessMemory result (IsEditIn file.now force (replacing (wanted_by selection.now) (fresh_by fresh.now))) }
 {
+    // These are the elements of a text.
+    let _text = file.database().text();
     let pairs = new_record(alloc, &None, fresh)?;
     let chosen = chosen_records(alloc, file, selection)?;
-    let plan = Replacement::of(alloc, &pairs, &chosen)?;
-    Ok(carried_out(alloc, file, &chosen, &plan)?)
+    let layout = Replacement::of(alloc, &pairs, &chosen)?;
+    Ok(carried_out(alloc, file, &chosen, &layout)?)
 }
 
 /// Records get these automatic fields.
 fn filled_up(alloc: Global, file: &RecFile, filled: &[FilledRecord]) -> Result<Edited, AllocError>
     requires { AreRanges (length file.now.pieces) (ranges_of (filled_of filled.now)) }
     ensures { IfOk result (λ edited. edited ≡ edited_by
-        (step_of file.now.pieces (ranges_of (filled_of filled.now)) (filling (filled_of filled.now)))) }
+        (laid_script file.now.pieces (ranges_of (filled_of filled.now)) (filling (filled_of filled.now)))) }
 {
     let ranges = record_ranges(alloc, filled)?;
-    let plan = Filling::of(alloc, filled)?;
-    carried_out(alloc, file, &ranges, &plan)
+    let layout = Filling::of(alloc, filled)?;
+    carried_out(alloc, file, &ranges, &layout)
 }
 
 /// All records of typed sets get the automatic fields that they lack.
 fn auto_fill(alloc: Global, file: &RecFile) -> Result<Edited, Fault>
     ensures { (force : Bool) → UnlessMemory result (IsEditIn file.now force filling_all) }
 {
+    // These are the elements of a text.
+    let _text = file.database().text();
     let filled = filled_records(alloc, file)?;
     Ok(filled_up(alloc, file, &filled)?)
 }
@@ -108,8 +112,8 @@ fn delete(
     ensures { UnlessMemory result (IsEditIn file.now force (deleting (wanted_by selection.now))) }
 {
     let chosen = removable_records(alloc, file, selection, force)?;
-    let plan = Deletion::of(alloc, file, &chosen)?;
-    Ok(carried_out(alloc, file, &chosen, &plan)?)
+    let layout = Removal::deletion(alloc, file, &chosen)?;
+    Ok(carried_out(alloc, file, &chosen, &layout)?)
 }
 
 /// The records of a selection are commented out.
@@ -122,8 +126,8 @@ fn comment_out(
     ensures { UnlessMemory result (IsEditIn file.now force (commenting_out (wanted_by selection.now))) }
 {
     let chosen = removable_records(alloc, file, selection, force)?;
-    let plan = Commenting::of(alloc, &chosen)?;
-    Ok(carried_out(alloc, file, &chosen, &plan)?)
+    let layout = Removal::commenting(alloc, &chosen)?;
+    Ok(carried_out(alloc, file, &chosen, &layout)?)
 }
 
 /// The fields that a list picks of the records of a selection are edited.
@@ -139,8 +143,8 @@ fn set(
 {
     let items = items_for(alloc, action, list)?;
     let chosen = chosen_records(alloc, file, selection)?;
-    let plan = Setting::of(alloc, file, &chosen, &items, action)?;
-    Ok(carried_out(alloc, file, &chosen, &plan)?)
+    let layout = Setting::of(alloc, file, &chosen, &items, action)?;
+    Ok(carried_out(alloc, file, &chosen, &layout)?)
 }
 
 /// The edited text may break rules.
@@ -172,33 +176,82 @@ fn puts_no_descriptor_in(edit: &Edit) -> bool
     }
 }
 
-/// Refuses an edit after which the text breaks rules. A text without a descriptor has none, and most edits put none in.
-fn require_kept_rules(
-    alloc: Global,
-    file: &RecFile,
-    edit: &Edit,
-    edited: &Edited,
-) -> Result<(), Fault>
-    requires { IsEditIn file.now false (task_of edit.now) (Ok edited.now) }
-    ensures { UnlessMemory result (IsSound edited.now.text) }
+/// Whether the edited text needn't be checked. That is so where the edit is forced; and a text without a descriptor has no
+/// rules, and most edits put none in.
+fn keeps_rules(file: &RecFile, edit: &Edit, force: bool) -> bool
+    ensures kept { IsTrue result → (edited : EditedOf) → IsEditIn file.now force (task_of edit.now) (Ok edited)
+        → IsSoundUnlessForced force edited.text (Ok tt) }
+    ensures unforced { result ≡ false → force ≡ false }
 {
+    if force {
+        return true;
+    }
     // These are the elements of a text.
     let _text = file.database().text();
     if puts_no_descriptor_in(edit) && file.schema().sets().len() == 1 {
-        return Ok(());
+        return true;
     }
-    require_sound(alloc, edited.text.as_slice())
+    false
+}
+
+/// What an edit made of a text, and whether that needn't be checked.
+#[derive(Drop)]
+struct Unchecked {
+    edited: Edited,
+    keeps_rules: bool,
+}
+
+/// What an edit makes of a file, before it is checked.
+fn edited_unchecked(
+    alloc: Global,
+    file: &RecFile,
+    edit: &Edit,
+    force: bool,
+) -> Result<Unchecked, Fault>
+    ensures found { IfOk result (λ made. (answer : Result EditedOf Fault)
+        → IsChecked made.edited made.keeps_rules answer → IsOutcomeIn file.now force (task_of edit.now) answer) }
+    ensures refused { IfErr result (λ fault. IsMemoryOr fault (IsOutcomeIn file.now force (task_of edit.now) (Err fault))) }
+{
+    let edited = made(alloc, file, edit, force)?;
+    Ok(Unchecked {
+        edited,
+        keeps_rules: keeps_rules(file, edit, force),
+    })
+}
+
+/// The same of a text's elements and record sets, which are let go here.
+fn edited_unchecked_of(
+    alloc: Global,
+    database: Database,
+    schema: Schema,
+    edit: &Edit,
+    force: bool,
+) -> Result<Unchecked, Fault>
+    requires { IsSchema database (Ok (described schema)) }
+    ensures found { IfOk result (λ made. (answer : Result EditedOf Fault) → IsChecked made.edited made.keeps_rules answer
+        → IsOutcome database.entry (described schema) force (task_of edit.now) answer) }
+    ensures refused { IfErr result (λ fault.
+        IsMemoryOr fault (IsOutcome database.entry (described schema) force (task_of edit.now) (Err fault))) }
+{
+    edited_unchecked(alloc, &RecFile::new(&database, &schema), edit, force)
+}
+
+/// Refuses an edited text that breaks rules.
+fn checked(alloc: Global, made: Unchecked) -> Result<Edited, Fault>
+    ensures { UnlessMemory result (IsChecked made.edited made.keeps_rules) }
+{
+    if !made.keeps_rules {
+        require_sound(alloc, made.edited.text.as_slice())?;
+    }
+    Ok(made.edited)
 }
 
 /// The edited text must keep its rules, unless that is forced.
 fn outcome(alloc: Global, file: &RecFile, edit: &Edit, force: bool) -> Result<Edited, Fault>
     ensures { UnlessMemory result (IsOutcomeIn file.now force (task_of edit.now)) }
 {
-    let edited = made(alloc, file, edit, force)?;
-    if !force {
-        require_kept_rules(alloc, file, edit, &edited)?;
-    }
-    Ok(edited)
+    let made = edited_unchecked(alloc, file, edit, force)?;
+    checked(alloc, made)
 }
 
 /// What an edit makes of a text. Without `force` the edited text must keep the rules of its record sets, and all records of
@@ -230,4 +283,24 @@ pub fn edit(
     // These are the elements of a text.
     let _text = database.text();
     outcome(alloc, &RecFile::new(database, schema), edit, force)
+}
+
+/// The same of elements and record sets that nobody needs any more: they are let go before the edited text is checked, which
+/// is read for that.
+pub fn edit_owned(
+    alloc: Global,
+    database: Database,
+    schema: Schema,
+    edit: &Edit,
+    force: bool,
+) -> Result<Edited, Fault>
+    requires schema { IsSchema database (Ok (described schema)) }
+    ensures found { UnlessMemory result (IsOutcome database.entry (described schema) force (task_of edit.now)) }
+    ensures refusals { IfErr result IsEditRefusal }
+    ensures leads { IfOk result (λ edited. Splices edited.patch (text_of database.entry) edited.text) }
+{
+    // These are the elements of a text.
+    let _text = database.text();
+    let made = edited_unchecked_of(alloc, database, schema, edit, force)?;
+    checked(alloc, made)
 }

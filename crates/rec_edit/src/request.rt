@@ -8,7 +8,7 @@ use rec_text::Bytes;
 pub enum Action {
     /// Each gets this value.
     Set(Bytes),
-    /// For each item of the list a field with this value is added behind the record's last field.
+    /// For each item of the list a field with this value is added after the record's last field.
     Add(Bytes),
     /// Items that pick fields set them to this value; for each item that picks none a field is added.
     SetAdd(Bytes),

@@ -38,7 +38,8 @@ fn gives_plain_name(action: &Action) -> bool
 {
     match action {
         Action::Rename(name) => is_plain_name(name.as_slice()),
-        _ => true,
+        Action::Set(_) | Action::Add(_) | Action::SetAdd(_) | Action::Delete | Action::Comment =>
+            true,
     }
 }
 
@@ -50,7 +51,7 @@ fn gives_foldable_value(action: &Action) -> bool
         Action::Set(value) | Action::Add(value) | Action::SetAdd(value) => {
             is_foldable(value.as_slice())
         }
-        _ => true,
+        Action::Rename(_) | Action::Delete | Action::Comment => true,
     }
 }
 

@@ -1,4 +1,4 @@
-pub mod EntryLemmas
+pub mod TypedRecordLemmas
 pub mod FitLemmas
 pub mod ClosedLemmas
 pub mod MemberLemmas

@@ -1,5 +1,6 @@
 pub mod WellFormedLemmas
 pub mod ScriptLemmas
+pub mod RunLemmas
 pub mod LaidLemmas
 pub mod EqualLemmas
 pub mod OwnPartLemmas

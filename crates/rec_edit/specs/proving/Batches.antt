@@ -7,11 +7,11 @@ use Rattle.rec_edit.specs.declared.batches.BatchEdited.{BatchEdited}
 use Rattle.rec_edit.specs.declared.outcome.Edited.{Edited}
 use Rattle.rec_edit.specs.Task.{Task}
 use Rattle.rec_edit.specs.Outcome.{edited_by}
-use Rattle.rec_edit.specs.Batch.{IsStepOn, step_with, at_most_greatest, AreSteps}
+use Rattle.rec_edit.specs.Batch.{IsEditScriptOn, step_with, at_most_greatest, AreSteps}
 
 -- what one edit makes of a text, violations aside
 abbrev pub IsEditOn : Bool → Task → List ℕ → Result Edited Fault → Type 0
-IsEditOn force task text = Then (IsStepOn force task text) (λ step answer. answer ≡ Ok (edited_by step))
+IsEditOn force task text = Then (IsEditScriptOn force task text) (λ edit answer. answer ≡ Ok (edited_by edit))
 
 -- no edit is made, of this text
 abbrev pub untouched : List ℕ → BatchEdited

@@ -25,21 +25,17 @@ fields_for value items = map (λ item. canonical item.name value) items
 abbrev pub fields_lacking : List ℕ → List Item → List Piece → List Piece
 fields_lacking value items own = fields_for value (filter (picks_none own) items)
 
--- the element of this index is one that a list picks of this record
-abbrev pub picks_index : List Item → List Piece → ℕ → Range ℕ → Bool
-picks_index items pieces i record_ = holds_index i record_ && list_any (λ place. record_.start + place == i) (picks items (elements_in pieces record_))
-
--- what is put behind the ranges that end at this index
-abbrev pub behind : (Range ℕ → List Piece) → List (Range ℕ) → ℕ → List Piece
-behind new ranges i = flat_map (λ range. if range.end == i then new range else []) ranges
+-- what is put after the ranges that end at this index
+abbrev pub following : (Range ℕ → List Piece) → List (Range ℕ) → ℕ → List Piece
+following new ranges i = flat_map (λ range. if range.end == i then new range else []) ranges
 
 -- none of the ranges ends at this index
 abbrev pub NoneEndsAt : List (Range ℕ) → ℕ → Type 0
-NoneEndsAt ranges i = (new : Range ℕ → List Piece) → behind new ranges i ≡ []
+NoneEndsAt ranges i = (new : Range ℕ → List Piece) → following new ranges i ≡ []
 
 -- of the ranges this one alone ends at this index
 pub record EndsAt (ranges : List (Range ℕ)) (i : ℕ) (range : Range ℕ) : Type 0 where
   pub place : ℕ
   pub within : place < length ranges
   pub here : range ≡ slice_index_or ranges place range
-  pub alone : (new : Range ℕ → List Piece) → behind new ranges i ≡ new range
+  pub alone : (new : Range ℕ → List Piece) → following new ranges i ≡ new range

@@ -34,14 +34,14 @@ abbrev pub AreLackingIn : ReadText → ℕ → List Pair → Result (List Number
 AreLackingIn file place pairs = AreLacking file.pieces (described file.schema) place (names_in pairs)
 
 abbrev pub AreAutomaticIn : ReadText → Option (List ℕ) → Bool → List Pair → Result (List Numbered) Fault → Type 0
-AreAutomaticIn file kind auto pairs = AreAutomatic file.pieces (described file.schema) kind auto (names_in pairs)
+AreAutomaticIn file record_type auto pairs = AreAutomatic file.pieces (described file.schema) record_type auto (names_in pairs)
 
 abbrev pub IsAutomaticTextIn : ReadText → Option (List ℕ) → Bool → List Pair → List ℕ → Type 0
-IsAutomaticTextIn file kind auto pairs = IsAutomaticText file.pieces (described file.schema) kind auto (names_in pairs)
+IsAutomaticTextIn file record_type auto pairs = IsAutomaticText file.pieces (described file.schema) record_type auto (names_in pairs)
 
 abbrev pub IsRecordPutIn : ReadText → Option (List ℕ) → List ℕ → List Pair → ℕ → List ℕ → Type 0
-IsRecordPutIn file kind automatic pairs place text =
-    IsRecordPut file.pieces (described file.schema).sets kind automatic pairs place text
+IsRecordPutIn file record_type automatic pairs place text =
+    IsRecordPut file.pieces (described file.schema).sets record_type automatic pairs place text
 
 -- ---- all records
 

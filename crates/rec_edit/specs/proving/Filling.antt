@@ -38,11 +38,11 @@ abbrev pub before : {X : Type 0} → List X → Result (List X) Fault → Result
 before some (Ok more) = Ok (some ++ more)
 before some (Err fault) = Err fault
 
--- the numbers of each name, behind those that are given
+-- the numbers of each name, after those that are given
 abbrev pub with_given : List Numbered → (List ℕ → List ℤ) → List ℕ → List ℤ
 with_given given numbers name = numbers_in given name ++ numbers name
 
--- the fields that a record with fields of these names is given, and the counters behind them
+-- the fields that a record with fields of these names is given, and the counters after them
 pub record IsGiven (rules : Rules) (numbers : List ℕ → List ℤ) (own : List (List ℕ)) (given : List Numbered) (counters : List Counter) : Type 0 where
   pub fields : AreNumbered (λ name. IsNext rules name (numbers name)) (lacking (automatic_names rules) own) (Ok given)
   pub counters_are : AreCounters rules (with_given given numbers) counters
@@ -57,13 +57,13 @@ AreLacking pieces schema place own = AreNumbered (IsAutomatic pieces schema plac
 
 -- a new record of this type gets no automatic field, or those of the set at a place
 abbrev pub GivesNone : Described → Option (List ℕ) → Bool → Type 0
-GivesNone schema kind auto = (pieces : List Piece) (own : List (List ℕ)) → AreAutomatic pieces schema kind auto own (Ok [])
+GivesNone schema record_type auto = (pieces : List Piece) (own : List (List ℕ)) → AreAutomatic pieces schema record_type auto own (Ok [])
 
 abbrev pub GivesAt : Described → Option (List ℕ) → Bool → ℕ → Type 0
-GivesAt schema kind auto place = (place < length schema.sets)
-    × ((pieces : List Piece) (own : List (List ℕ)) (answer : Result (List Numbered) Fault) → AreLacking pieces schema place own answer → AreAutomatic pieces schema kind auto own answer)
+GivesAt schema record_type auto place = (place < length schema.sets)
+    × ((pieces : List Piece) (own : List (List ℕ)) (answer : Result (List Numbered) Fault) → AreLacking pieces schema place own answer → AreAutomatic pieces schema record_type auto own answer)
 
--- some are filled, behind others
+-- some are filled, after others
 pub record AddsFilled (answer : Result (List Filled) Fault → Type 0) (old new : List Filled) : Type 0 where
   pub own : List Filled
   pub are : answer (Ok own)

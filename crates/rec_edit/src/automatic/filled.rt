@@ -28,7 +28,7 @@ pub(crate) struct FilledRecord<'s> {
     pub given: Vec<NumberedField<'s>>,
 }
 
-/// Puts the names of fields in the place of others.
+/// Puts the names of fields instead of others.
 fn take_names<'t>(names: &mut HashSet<&'t [u8]>, fields: &[Element<'t>]) -> Result<(), Fault>
     ensures names { OnOk result (AreNamesOf names.new (names_of (pieces_of fields.now))) }
     ensures refusals { IsOkUnless result Fault.OutOfMemory }

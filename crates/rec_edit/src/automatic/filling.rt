@@ -6,7 +6,7 @@ ghost use Rattle.rec_edit.specs.Insertions.{filling};
 
 use crate::automatic::filled::FilledRecord;
 use crate::automatic::numbered::append_numbered;
-use crate::script::plan::Plan;
+use crate::script::layout::Layout;
 use rec_text::Element;
 use std::alloc::{AllocError, Global};
 use std::marker::Model;
@@ -89,15 +89,15 @@ impl<'f, 's> Filling<'f, 's> {
 
     pub fn of(alloc: Global, filled: &'f [FilledRecord<'s>]) -> Result<Filling<'f, 's>, AllocError>
         requires { (size : ℕ) × AreRanges size (ranges_of (filled_of filled.now)) }
-        ensures { IfOk result (λ plan. plan ≡ filled_of filled.now) }
+        ensures { IfOk result (λ layout. layout ≡ filled_of filled.now) }
     {
         let places = places_of(alloc, filled)?;
         Ok(Filling { filled, places })
     }
 }
 
-impl<'f, 's> Plan for Filling<'f, 's> {
-    ghost layout = { λ plan. filling plan };
+impl<'f, 's> Layout for Filling<'f, 's> {
+    ghost layout = { λ layout. filling layout };
 
     fn touches(&self, index: usize) -> bool {
         place_of(&self.places, index).is_some()

@@ -121,22 +121,22 @@ fn have_foldable_values(pairs: &[Pair]) -> bool
 }
 
 /// Whether a type, where one is given, is a name that recu writes.
-fn is_plain_kind(kind: &Option<Bytes>) -> bool
-    ensures { result ≡ list_all may_be_written (option_to_list kind.now) }
+fn is_plain_type(record_type: &Option<Bytes>) -> bool
+    ensures { result ≡ list_all may_be_written (option_to_list record_type.now) }
 {
-    match kind {
-        Some(kind) => is_plain_name(kind.as_slice()),
+    match record_type {
+        Some(record_type) => is_plain_name(record_type.as_slice()),
         None => true,
     }
 }
 
 /// Refuses a name that recu doesn't write, and then a value.
-fn require_written(kind: &Option<Bytes>, pairs: &[Pair]) -> Result<(), Fault>
+fn require_written(record_type: &Option<Bytes>, pairs: &[Pair]) -> Result<(), Fault>
     ensures { MatchResult result
-        (λ _. written_pairs kind.now pairs.now ≡ Ok pairs.now)
-        (λ fault. written_pairs kind.now pairs.now ≡ Err fault) }
+        (λ _. written_pairs record_type.now pairs.now ≡ Ok pairs.now)
+        (λ fault. written_pairs record_type.now pairs.now ≡ Err fault) }
 {
-    if !is_plain_kind(kind) || !have_plain_names(pairs) {
+    if !is_plain_type(record_type) || !have_plain_names(pairs) {
         return Err(Fault::BadName);
     }
     if !have_foldable_values(pairs) {
@@ -148,13 +148,13 @@ fn require_written(kind: &Option<Bytes>, pairs: &[Pair]) -> Result<(), Fault>
 /// The fields of a new record, of this type where one is given.
 pub(crate) fn new_record(
     alloc: Global,
-    kind: &Option<Bytes>,
+    record_type: &Option<Bytes>,
     fresh: &NewRecord,
 ) -> Result<Vec<Pair>, Fault>
-    ensures found { IfOk result (λ pairs. IsNewRecord kind.now (fresh_by fresh.now) (Ok pairs.items)) }
-    ensures refused { IfErr result (λ fault. IsMemoryOr fault (IsNewRecord kind.now (fresh_by fresh.now) (Err fault))) }
+    ensures found { IfOk result (λ pairs. IsNewRecord record_type.now (fresh_by fresh.now) (Ok pairs.items)) }
+    ensures refused { IfErr result (λ fault. IsMemoryOr fault (IsNewRecord record_type.now (fresh_by fresh.now) (Err fault))) }
 {
     let pairs = given_pairs(alloc, fresh)?;
-    require_written(kind, &pairs)?;
+    require_written(record_type, &pairs)?;
     Ok(pairs)
 }

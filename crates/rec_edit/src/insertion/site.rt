@@ -6,7 +6,7 @@ ghost use Rattle.rec_text.specs.Elements.{Piece};
 ghost use Rattle.rec_text.specs.Places.{pieces_of};
 ghost use Rattle.rec_check.specs.Stored.{described};
 ghost use Rattle.rec_edit.specs.proving.Drafts.{AreRanges};
-ghost use Rattle.rec_edit.specs.Insertions.{is_full, behind_paragraph, before_paragraph, at_end as end_insertion, last_of as last_record_of, last_at, descriptor_at, Insertion as InsertionOf, untyped_insertion, typed_insertion, insertion_for};
+ghost use Rattle.rec_edit.specs.Insertions.{is_full, after_paragraph, before_paragraph, at_end as end_insertion, last_of as last_record_of, last_at, descriptor_at, Insertion as InsertionOf, untyped_insertion, typed_insertion, insertion_for};
 ghost use Rattle.rec_edit.specs.proving.Sites.{placed, placed_or, heading};
 
 use rec_check::{Schema, Set_};
@@ -18,10 +18,10 @@ use std::ops::Range;
 pub(crate) enum Gap {
     Absent,
     Before,
-    Behind,
+    After,
 }
 
-/// Where a new record is put: before the element of an index; at the number of elements, behind them all.
+/// Where a new record is put: before the element of an index; at the number of elements, after them all.
 #[derive(Clone, Copy)]
 pub(crate) struct Site {
     pub place: usize,
@@ -50,10 +50,10 @@ fn full_count_back(elements: &[Element]) -> usize
 }
 
 /// At the end of a record's paragraph.
-fn behind(elements: &[Element], range: &Range<usize>) -> Site
+fn site_after(elements: &[Element], range: &Range<usize>) -> Site
     requires { range.now.end ≤ length (pieces_of elements.now) }
     ensures { (fields : List Piece)
-        → behind_paragraph (pieces_of elements.now) fields range.now ≡ placed result fields }
+        → after_paragraph (pieces_of elements.now) fields range.now ≡ placed result fields }
 {
     Site {
         place: range.end + full_count(&elements[range.end..]),
@@ -69,11 +69,11 @@ fn before(elements: &[Element], range: &Range<usize>) -> Site
 {
     Site {
         place: range.start - full_count_back(&elements[..range.start]),
-        gap: Gap::Behind,
+        gap: Gap::After,
     }
 }
 
-/// Behind all elements.
+/// After all elements.
 pub(crate) fn at_end(elements: &[Element]) -> Site
     ensures { (new : List Piece) → end_insertion (pieces_of elements.now) new ≡ placed result new }
 {
@@ -90,7 +90,7 @@ pub(crate) fn at_end(elements: &[Element]) -> Site
     }
 }
 
-/// The record behind which one more of a set is put.
+/// The record after which one more of a set is put.
 fn last_of(set: &Set_) -> Option<usize>
     ensures { result ≡ last_record_of set.now }
 {
@@ -101,8 +101,8 @@ fn last_of(set: &Set_) -> Option<usize>
     }
 }
 
-/// Behind the last record of the set at a place, or else behind its descriptor.
-fn behind_last(
+/// After the last record of the set at a place, or else after its descriptor.
+fn site_after_last(
     elements: &[Element],
     records: &[Range<usize>],
     sets: &[Set_],
@@ -110,12 +110,12 @@ fn behind_last(
 ) -> Option<Site>
     requires { AreRanges (length (pieces_of elements.now)) records.now }
     ensures { (fields : List Piece) (other : InsertionOf)
-        → option_map_or (behind_paragraph (pieces_of elements.now) fields) (last_at records.now sets.now place) other
+        → option_map_or (after_paragraph (pieces_of elements.now) fields) (last_at records.now sets.now place) other
         ≡ placed_or result fields other }
 {
     let index = last_of(sets.get(place)?)?;
     let last = records.get(index)?;
-    Some(behind(elements, last))
+    Some(site_after(elements, last))
 }
 
 /// Before the descriptor of the set at a place.
@@ -136,50 +136,50 @@ fn before_descriptor(
     Some(before(elements, descriptor))
 }
 
-/// Where an untyped record is put: behind the last one, or else before the first descriptor. There may be neither.
+/// Where an untyped record is put: after the last one, or else before the first descriptor. There may be neither.
 fn untyped_site(elements: &[Element], records: &[Range<usize>], sets: &[Set_]) -> Option<Site>
     requires { AreRanges (length (pieces_of elements.now)) records.now }
     ensures { (fields : List Piece) → untyped_insertion (pieces_of elements.now) records.now sets.now fields
         ≡ placed_or result fields (end_insertion (pieces_of elements.now) fields) }
 {
-    match behind_last(elements, records, sets, 0) {
+    match site_after_last(elements, records, sets, 0) {
         Some(site) => Some(site),
         None => before_descriptor(elements, records, sets, 1),
     }
 }
 
-/// Where a record of a type is put: behind the last one of its set, if there is the set.
+/// Where a record of a type is put: after the last one of its set, if there is the set.
 fn typed_site(
     elements: &[Element],
     records: &[Range<usize>],
     schema: &Schema,
-    kind: &[u8],
+    record_type: &[u8],
 ) -> Option<Site>
     requires { AreRanges (length (pieces_of elements.now)) records.now }
     ensures { (fields : List Piece)
-        → typed_insertion (pieces_of elements.now) records.now (described schema.now).sets fields kind.now
-        ≡ placed_or result fields (end_insertion (pieces_of elements.now) (heading (Some kind.now) ++ fields)) }
+        → typed_insertion (pieces_of elements.now) records.now (described schema.now).sets fields record_type.now
+        ≡ placed_or result fields (end_insertion (pieces_of elements.now) (heading (Some record_type.now) ++ fields)) }
 {
-    match schema.set_of_type(kind) {
-        Some(place) => behind_last(elements, records, schema.sets(), place),
+    match schema.set_of_type(record_type) {
+        Some(place) => site_after_last(elements, records, schema.sets(), place),
         None => None,
     }
 }
 
-/// Where a new record is put beside others. Where there are none it is put at the end, behind the descriptor of its type.
+/// Where a new record is put beside others. Where there are none it is put at the end, after the descriptor of its type.
 pub(crate) fn site_beside(
     elements: &[Element],
     records: &[Range<usize>],
     schema: &Schema,
-    kind: &Option<Bytes>,
+    record_type: &Option<Bytes>,
 ) -> Option<Site>
     requires { AreRanges (length (pieces_of elements.now)) records.now }
     ensures { (fields : List Piece)
-        → insertion_for (pieces_of elements.now) records.now (described schema.now).sets kind.now fields
-        ≡ placed_or result fields (end_insertion (pieces_of elements.now) (heading kind.now ++ fields)) }
+        → insertion_for (pieces_of elements.now) records.now (described schema.now).sets record_type.now fields
+        ≡ placed_or result fields (end_insertion (pieces_of elements.now) (heading record_type.now ++ fields)) }
 {
-    match kind {
-        Some(kind) => typed_site(elements, records, schema, kind.as_slice()),
+    match record_type {
+        Some(record_type) => typed_site(elements, records, schema, record_type.as_slice()),
         None => untyped_site(elements, records, schema.sets()),
     }
 }

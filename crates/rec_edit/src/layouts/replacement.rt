@@ -7,7 +7,7 @@ ghost use Rattle.rec_edit.specs.proving.Marks.{is_start, AreMarks};
 use crate::insertion::append_fields;
 use crate::layouts::covered::{Covered, has_mark, mark};
 use crate::request::Pair;
-use crate::script::plan::Plan;
+use crate::script::layout::Layout;
 use rec_text::Element;
 use std::alloc::{AllocError, Global};
 use std::ops::Range;
@@ -32,7 +32,7 @@ fn text_of_pairs(alloc: Global, pairs: &[Pair]) -> Result<Vec<u8>, AllocError>
     Ok(text)
 }
 
-/// New fields stand in the place of each record: their text, and a mark for each index at which a record begins. Contracts see
+/// New fields stand instead of each record: their text, and a mark for each index at which a record begins. Contracts see
 /// the fields.
 #[derive(Drop)]
 pub(crate) struct Replacement<'r> {
@@ -52,8 +52,8 @@ impl<'r> Replacement<'r> {
         pairs: &'r [Pair],
         chosen: &[Range<usize>],
     ) -> Result<Replacement<'r>, AllocError>
-        ensures pairs { IfOk result (λ plan. plan.pairs.now ≡ pairs.now) }
-        ensures chosen { IfOk result (λ plan. plan.own ≡ chosen.now) }
+        ensures pairs { IfOk result (λ layout. layout.pairs.now ≡ pairs.now) }
+        ensures chosen { IfOk result (λ layout. layout.own ≡ chosen.now) }
     {
         let text = text_of_pairs(alloc, pairs)?;
         let starts = start_marks(alloc, chosen)?;
@@ -67,8 +67,8 @@ impl<'r> Replacement<'r> {
     }
 }
 
-impl<'r> Plan for Replacement<'r> {
-    ghost layout = { λ plan. replacement (fields_of plan.pairs.now) plan.own };
+impl<'r> Layout for Replacement<'r> {
+    ghost layout = { λ layout. replacement (fields_of layout.pairs.now) layout.own };
 
     fn touches(&self, index: usize) -> bool {
         self.own.has(index) || has_mark(&self.starts, index)

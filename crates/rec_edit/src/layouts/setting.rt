@@ -4,15 +4,15 @@ ghost use Rattle.std.specs.List.{list_any, AllByRecursion};
 ghost use Rattle.rec_text.specs.Elements.{Piece, text_of};
 ghost use Rattle.rec_text.specs.Places.{piece_of, pieces_of};
 ghost use Rattle.rec_sex.specs.declared.lists.field_list.Item.{Item as ItemOf};
-ghost use Rattle.rec_edit.specs.Rules.{renamed, picked_becomes, picks_none as none_picked, added, is_picked, setting};
+ghost use Rattle.rec_edit.specs.Rules.{renamed, picked_becomes, picks_none as none_picked, added, is_picked, setting, is_picked_of};
 ghost use Rattle.rec_edit.specs.proving.Marks.{is_marked, AreMarks};
-ghost use Rattle.rec_edit.specs.proving.Endings.{fields_for, fields_lacking, picks_index, NoneEndsAt, EndsAt};
+ghost use Rattle.rec_edit.specs.proving.Endings.{fields_for, fields_lacking, NoneEndsAt, EndsAt};
 ghost use Rattle.rec_edit.specs.proving.Drafts.{AreRanges};
 
-use crate::layouts::commenting::append_commented;
 use crate::layouts::covered::{has_mark, mark};
+use crate::layouts::removal::append_commented;
 use crate::request::Action;
-use crate::script::plan::Plan;
+use crate::script::layout::Layout;
 use rec_check::RecFile;
 use rec_sex::{FieldList, Item};
 use rec_text::{Element, append_field, count_of, elements_in};
@@ -61,7 +61,7 @@ fn mark_picked(
     requires ordered { range.now.start ≤ range.now.end }
     requires within { range.now.end ≤ length (pieces_of elements.now) }
     ensures { OnOk result (AreMarks marks.new.items
-        (λ i. is_marked marks.old.items i || picks_index list.now (pieces_of elements.now) i range.now)) }
+        (λ i. is_marked marks.old.items i || is_picked_of list.now (pieces_of elements.now) i range.now)) }
 {
     let own = elements_in(elements, range);
     let Ok(places) = list.picks(alloc, own) else {
@@ -126,7 +126,7 @@ fn append_missing(
     Ok(())
 }
 
-/// Appends the fields that a record with these elements gets behind its last one.
+/// Appends the fields that a record with these elements gets after its last one.
 fn append_added(
     out: &mut Vec<u8>,
     action: &Action,
@@ -219,8 +219,8 @@ impl<'s, 't> Setting<'s, 't> {
         action: &'s Action,
     ) -> Result<Setting<'s, 't>, AllocError>
         requires { AreRanges (length file.now.pieces) chosen.now }
-        ensures { IfOk result (λ plan.
-            plan ≡ record { action = action.now; items = list.now; pieces = file.now.pieces; chosen = chosen.now }) }
+        ensures { IfOk result (λ layout.
+            layout ≡ record { action = action.now; items = list.now; pieces = file.now.pieces; chosen = chosen.now }) }
     {
         let elements = file.database().elements();
         let picked = picked_marks(alloc, elements, chosen, list)?;
@@ -234,8 +234,8 @@ impl<'s, 't> Setting<'s, 't> {
     }
 }
 
-impl<'s, 't> Plan for Setting<'s, 't> {
-    ghost layout = { λ plan. setting plan.action plan.items plan.pieces plan.chosen };
+impl<'s, 't> Layout for Setting<'s, 't> {
+    ghost layout = { λ layout. setting layout.action layout.items layout.pieces layout.chosen };
 
     fn touches(&self, index: usize) -> bool {
         if has_mark(&self.picked, index) {

@@ -1,7 +1,8 @@
 //! The patch and the text of an edit, made part by part.
 ghost use Rattle.std.specs.Prelude.{◌≡◌, ◌∷◌, ◌++◌, ◌+◌, ◌==◌, ◌^◌, ◌<◌, [], List, length, OnOk, IfOk};
 ghost use Rattle.rec_text.specs.Elements.{text_of};
-ghost use Rattle.rec_edit.specs.Script.{Part, edited_text, hunks_of, real_changes};
+ghost use Rattle.rec_edit.specs.Script.{Part, edited_text};
+ghost use Rattle.rec_edit.specs.proving.Changes.{hunks_of, real_changes};
 ghost use Rattle.rec_edit.specs.proving.Drafts.{IsDraft, IsRunHere, hunk_of, opening};
 
 use rec_journal::{Hunk, Patch};
@@ -68,7 +69,8 @@ pub(crate) struct Draft {
 impl Draft {
     ghost use Rattle.std.specs.Prelude.{◌≡◌, ◌∷◌, ◌+◌, ◌^◌, ◌<◌, [], List, length, OnOk, IfOk};
     ghost use Rattle.rec_text.specs.Elements.{text_of};
-    ghost use Rattle.rec_edit.specs.Script.{Part, edited_text, hunks_of};
+    ghost use Rattle.rec_edit.specs.Script.{Part, edited_text};
+    ghost use Rattle.rec_edit.specs.proving.Changes.{hunks_of};
     ghost use Rattle.rec_edit.specs.proving.Drafts.{IsDraft, IsRunHere};
 
     /// Nothing is done yet. The edited text is reckoned to be about as long as this.

@@ -11,30 +11,30 @@ use Rattle.rec_edit.proofs.batches.batch.Goals as goal
 
 pub returns-clause-found : goal.returns-clause-found
 returns-clause-found c =
-    subst (λ (file : ReadText). UnlessMemory c.all_kept.result (IsBatchOutcome c.args.force (map task_of c.args.edits.now) (text_of file.pieces))) c.new.ensures c.all_kept.ensures
+    subst (λ (file : ReadText). UnlessMemory c.all_made.result (IsBatchOutcome c.args.force (map task_of c.args.edits.now) (text_of file.pieces))) c.new.ensures c.all_made.ensures
 
 pub returns-clause-only : goal.returns-clause-only
 returns-clause-only c =
-    batch-only c.args.force (map task_of c.args.edits.now) (text_of c.args.database.now) c.all_kept.result
-    (subst (λ (file : ReadText). UnlessMemory c.all_kept.result (IsBatchOutcome c.args.force (map task_of c.args.edits.now) (text_of file.pieces))) c.new.ensures c.all_kept.ensures)
+    batch-only c.args.force (map task_of c.args.edits.now) (text_of c.args.database.now) c.all_made.result
+    (subst (λ (file : ReadText). UnlessMemory c.all_made.result (IsBatchOutcome c.args.force (map task_of c.args.edits.now) (text_of file.pieces))) c.new.ensures c.all_made.ensures)
 
 pub returns-clause-refusals : goal.returns-clause-refusals
 returns-clause-refusals c =
     batch-refusals c.args.force (map task_of c.args.edits.now) (text_of c.args.database.now) c.args.database.now (described c.args.schema.now)
-    (record { read = c.text-text.ensures.whole; is = c.requires.schema }) c.all_kept.result
-    (subst (λ (file : ReadText). UnlessMemory c.all_kept.result (IsBatchOutcome c.args.force (map task_of c.args.edits.now) (text_of file.pieces))) c.new.ensures c.all_kept.ensures)
+    (record { read = c.text-text.ensures.whole; is = c.requires.schema }) c.all_made.result
+    (subst (λ (file : ReadText). UnlessMemory c.all_made.result (IsBatchOutcome c.args.force (map task_of c.args.edits.now) (text_of file.pieces))) c.new.ensures c.all_made.ensures)
 
 pub returns-clause-leads : goal.returns-clause-leads
 returns-clause-leads c =
-    batch-leads c.args.force (map task_of c.args.edits.now) (text_of c.args.database.now) c.all_kept.result
-    (subst (λ (file : ReadText). UnlessMemory c.all_kept.result (IsBatchOutcome c.args.force (map task_of c.args.edits.now) (text_of file.pieces))) c.new.ensures c.all_kept.ensures)
+    batch-leads c.args.force (map task_of c.args.edits.now) (text_of c.args.database.now) c.all_made.result
+    (subst (λ (file : ReadText). UnlessMemory c.all_made.result (IsBatchOutcome c.args.force (map task_of c.args.edits.now) (text_of file.pieces))) c.new.ensures c.all_made.ensures)
 
 pub returns-clause-changes : goal.returns-clause-changes
 returns-clause-changes c =
-    batch-changes c.args.force (map task_of c.args.edits.now) (text_of c.args.database.now) c.all_kept.result
-    (subst (λ (file : ReadText). UnlessMemory c.all_kept.result (IsBatchOutcome c.args.force (map task_of c.args.edits.now) (text_of file.pieces))) c.new.ensures c.all_kept.ensures)
+    batch-changes c.args.force (map task_of c.args.edits.now) (text_of c.args.database.now) c.all_made.result
+    (subst (λ (file : ReadText). UnlessMemory c.all_made.result (IsBatchOutcome c.args.force (map task_of c.args.edits.now) (text_of file.pieces))) c.new.ensures c.all_made.ensures)
 
 pub returns-clause-effects : goal.returns-clause-effects
 returns-clause-effects c =
-    batch-effects c.args.force (map task_of c.args.edits.now) (text_of c.args.database.now) c.all_kept.result
-    (subst (λ (file : ReadText). UnlessMemory c.all_kept.result (IsBatchOutcome c.args.force (map task_of c.args.edits.now) (text_of file.pieces))) c.new.ensures c.all_kept.ensures)
+    batch-effects c.args.force (map task_of c.args.edits.now) (text_of c.args.database.now) c.all_made.result
+    (subst (λ (file : ReadText). UnlessMemory c.all_made.result (IsBatchOutcome c.args.force (map task_of c.args.edits.now) (text_of file.pieces))) c.new.ensures c.all_made.ensures)

@@ -1,6 +1,6 @@
 use Rattle.std.proofs.Common.{◌≡◌, filter_map, slice_get, Ok, inl, inr, ap, refl, sym}
 use Rattle.std.proofs.lemmas.Result.{err_from_is_err_and}
-use Rattle.rec_edit.proofs.lemmas.outcomes.AnswerLemmas.{memory_or_weaker}
+use Rattle.rec_text.proofs.lemmas.FaultLemmas.{memory_or_weaker}
 use Rattle.rec_edit.proofs.lemmas.records.MemberLemmas.{AreRanges-chosen, indexes_within, chosen_found}
 use Rattle.rec_edit.proofs.chosen.chosen_records.Goals as goal
 use Rattle.rec_edit.proofs.chosen.chosen_records.Goals.{In_ok-ranges_at}

@@ -13,51 +13,52 @@ use Rattle.rec_text.specs.Records.{AreRecords, elements_in, is_blank_piece, is_f
 use Rattle.rec_check.specs.Descriptors.{type_of}
 use Rattle.rec_check.specs.Violations.{names_of}
 use Rattle.rec_edit.specs.Automatic.{lacking, AreFilledSets}
-use Rattle.rec_edit.specs.Effect.{Entry, IsFilledUp, entries_from, kind_behind, HasEffect, automatic_at}
-use Rattle.rec_edit.specs.Script.{closed, new_pieces, parts_from, script_of, edited_text, hunks_of}
+use Rattle.rec_edit.specs.Effect.{TypedRecord, IsFilledUp, typed_records, type_after, HasEffect, automatic_at}
+use Rattle.rec_edit.specs.Script.{closed, new_pieces, parts_from, script_of, edited_text}
+use Rattle.rec_edit.specs.proving.Changes.{hunks_of}
 use Rattle.rec_edit.specs.Insertions.{Filled, Numbered, filling, numbered_fields}
 use Rattle.rec_check.specs.Schemas.{Described, IsSchema}
 use Rattle.rec_check.specs.Soundness.{descriptors, says}
 use Rattle.rec_edit.specs.Task.{auto_fill}
-use Rattle.rec_edit.specs.Outcome.{Step, IsStep, step_of}
+use Rattle.rec_edit.specs.Outcome.{EditScript, IsEditScript, edit_script}
 use Rattle.rec_edit.specs.Rules.{canonical}
-use Rattle.rec_text.proofs.lemmas.ListLemmas.{AllByRecursion-weaker, AllByRecursion-slice_get}
+use Rattle.rec_text.proofs.lemmas.ListLemmas.{AllByRecursion-weaker, AllByRecursion-slice_get, AllByRecursion-append}
 use Rattle.rec_edit.proofs.lemmas.records.ClosedLemmas.{name_of-closed}
 use Rattle.rec_edit.proofs.lemmas.outcomes.EffectLemmas.{closed_owns, elements_part, type_of-closed, map-map, said, said-records, script_is}
 use Rattle.rec_edit.proofs.lemmas.layouts.FieldsLaidLemmas.{IsOther}
 use Rattle.rec_edit.proofs.lemmas.automatic.FilledLemmas.{IsPut, LaysNeatly-filling, all_put, filled_are_put, filling_is_read, filling_unchanged, put_is_field, IsFilled, all_from, auto_fill_fills, given_at, names-given}
 use Rattle.rec_edit.proofs.lemmas.records.FitLemmas.{closed-own, list_any-closed, BeginsFrom, all_begin, Cut, Cut-AreRecords, IsOwn, between_fields-own, drop-part, length-part, with_own-some, own_of-records, records_there}
-use Rattle.rec_edit.proofs.lemmas.scripts.LaidLemmas.{Ends, LaysNeatly, Ends-laid_from, all_append, closed-blank, closed-field, closed-settled, laid_from, map-closed, new_pieces-parts_from, parts_reopen}
-use Rattle.rec_edit.proofs.lemmas.records.EntryLemmas.{Spaced, closes, kept, own_of, own_of-Spaced, with_own, own_of-map}
+use Rattle.rec_edit.proofs.lemmas.scripts.LaidLemmas.{Ends, LaysNeatly, Ends-laid_from, closed-blank, closed-field, closed-settled, laid_from, map-closed, new_pieces-parts_from, parts_reopen}
+use Rattle.rec_edit.proofs.lemmas.records.TypedRecordLemmas.{Spaced, closes, kept, own_of, own_of-Spaced, with_own, own_of-map}
 use Rattle.rec_check.proofs.lemmas.laws.SameDescriptorLemmas.{same_descriptors as schemas_of_same}
 use Rattle.rec_edit.proofs.lemmas.outcomes.AnswerLemmas.{IsFaithful}
 
--- ---- fields are put before records: the records of the new elements are those of the old ones, each behind what is put before it
+-- ---- fields are put before records: the records of the new elements are those of the old ones, each after what is put before it
 
 -- ---- what is put before elements that stay
 
 module _ (put : ℕ → List Piece) where
-  -- the elements, the first of which has this index, each behind what is put before it
+  -- the elements, the first of which has this index, each after what is put before it
   abbrev pub filled_from : ℕ → List Piece → List Piece
   filled_from i [] = []
   filled_from i (piece ∷ pieces) = put i ++ closed piece ∷ filled_from (i + 1) pieces
 
-  filled_from-append : (i : ℕ) (front behind : List Piece) → filled_from i (front ++ behind) ≡ filled_from i front ++ filled_from (i + length front) behind
-  filled_from-append i [] behind = ap (λ n. filled_from n behind) (let e : i ≡ i + 0 = omega arith in e)
-  filled_from-append i (piece ∷ front) behind =
-      let next : i + 1 + length front ≡ i + suc (length front) = omega arith in
-      ap (λ l. put i ++ closed piece ∷ l) (filled_from-append (i + 1) front behind ∙ ap (λ n. filled_from (i + 1) front ++ filled_from n behind) next)
-      ∙ sym (append_assoc (put i) (closed piece ∷ filled_from (i + 1) front) (filled_from (i + suc (length front)) behind))
+  filled_from-append : (i : ℕ) (prefix following : List Piece) → filled_from i (prefix ++ following) ≡ filled_from i prefix ++ filled_from (i + length prefix) following
+  filled_from-append i [] following = ap (λ n. filled_from n following) (let e : i ≡ i + 0 = omega arith in e)
+  filled_from-append i (piece ∷ prefix) following =
+      let next : i + 1 + length prefix ≡ i + suc (length prefix) = omega arith in
+      ap (λ l. put i ++ closed piece ∷ l) (filled_from-append (i + 1) prefix following ∙ ap (λ n. filled_from (i + 1) prefix ++ filled_from n following) next)
+      ∙ sym (append_assoc (put i) (closed piece ∷ filled_from (i + 1) prefix) (filled_from (i + suc (length prefix)) following))
 
   filled_from-none : (i : ℕ) (pieces : List Piece) → ((k : ℕ) → i ≤ k → k < i + length pieces → put k ≡ []) → filled_from i pieces ≡ map closed pieces
   filled_from-none i [] none = refl
   filled_from-none i (piece ∷ pieces) none =
-      ap₂ (λ front behind. front ++ closed piece ∷ behind) (none i (omega arith) (omega arith)) (filled_from-none (i + 1) pieces (λ k low high. none k (omega arith) (omega arith)))
+      ap₂ (λ prefix following. prefix ++ closed piece ∷ following) (none i (omega arith) (omega arith)) (filled_from-none (i + 1) pieces (λ k low high. none k (omega arith) (omega arith)))
 
   -- nothing is put before an element but the first
   filled_from-first : (i : ℕ) (pieces : List Piece) → 0 < length pieces → ((k : ℕ) → i < k → k < i + length pieces → put k ≡ []) → filled_from i pieces ≡ put i ++ map closed pieces
   filled_from-first i [] some none = absurd (omega arith)
-  filled_from-first i (piece ∷ pieces) some none = ap (λ behind. put i ++ closed piece ∷ behind) (filled_from-none (i + 1) pieces (λ k low high. none k (omega arith) (omega arith)))
+  filled_from-first i (piece ∷ pieces) some none = ap (λ following. put i ++ closed piece ∷ following) (filled_from-none (i + 1) pieces (λ k low high. none k (omega arith) (omega arith)))
 
 -- with their newlines, the new elements of the script
 module _ (filled : List Filled) where
@@ -74,7 +75,7 @@ module _ (filled : List Filled) where
   closed-filled pieces neatly none =
       let zeroth : 0 + length pieces ≡ length pieces = omega arith in
       let whole : List Piece = put_of 0 ++ laid_from (filling filled) 0 pieces in
-      let ends : AllByRecursion Ends whole = all_append Ends (put_of 0) (laid_from (filling filled) 0 pieces) (neatly.put 0) (Ends-laid_from (filling filled) 0 pieces neatly) in
+      let ends : AllByRecursion Ends whole = AllByRecursion-append Ends (put_of 0) (laid_from (filling filled) 0 pieces) (neatly.put 0) (Ends-laid_from (filling filled) 0 pieces neatly) in
       closed-settled (parts_from 0 (filling filled) pieces) (parts_reopen 0 (filling filled) pieces neatly)
       ∙ ap (map closed) (new_pieces-parts_from 0 (filling filled) pieces neatly.unties)
       ∙ map-closed whole ends ∙ filled_from-laid 0 pieces (ap put_of zeroth ∙ none)
@@ -93,16 +94,16 @@ kept-before : (piece : Piece) (pieces : List Piece) → 0 < length pieces → ke
 kept-before piece [] some = absurd (omega arith)
 kept-before piece (next ∷ pieces) some = refl
 
-IsOwn-behind : (front own : List Piece) → AreFields front → IsOwn own → IsOwn (front ++ own)
-IsOwn-behind [] own fields is = is
-IsOwn-behind (piece ∷ front) own fields is =
-    let more = IsOwn-behind front own fields.1 is in
+IsOwn-following : (prefix own : List Piece) → AreFields prefix → IsOwn own → IsOwn (prefix ++ own)
+IsOwn-following [] own fields is = is
+IsOwn-following (piece ∷ prefix) own fields is =
+    let more = IsOwn-following prefix own fields.1 is in
     let field = fields.0 in
     record {
       some = omega arith;
       first = rw field refl;
-      last = ap (kept piece) more.last ∙ kept-before piece (front ++ own) more.some;
-      full = or_from (is_blank_piece piece) (list_any is_blank_piece (front ++ own)) (field_no_blank piece.kind piece.bytes field) more.full;
+      last = ap (kept piece) more.last ∙ kept-before piece (prefix ++ own) more.some;
+      full = or_from (is_blank_piece piece) (list_any is_blank_piece (prefix ++ own)) (field_no_blank piece.kind piece.bytes field) more.full;
     }
 
 -- ---- the records of the new elements
@@ -112,7 +113,7 @@ abbrev pub BeginsNot : ℕ → Range ℕ → Type 0
 BeginsNot i q = q.start ≡ i → ⊥
 
 module _ (pieces : List Piece) (put : ℕ → List Piece) where
-  -- a record behind what is put before it
+  -- a record after what is put before it
   abbrev pub filled_own : Range ℕ → List Piece
   filled_own r = put r.start ++ map closed (elements_in pieces r)
 
@@ -152,7 +153,7 @@ module _ (pieces : List Piece) (put : ℕ → List Piece) where
       filled_from-first put r.start (elements_in pieces r) own.some (λ k above below.
       let high : k < r.end = omega (arith, length-part pieces r.start r.end (omega arith) within) in
       none_between n r records begun before k (omega arith) high (λ here. omega arith)) in
-      let is : IsOwn (filled_own r) = IsOwn-behind (put r.start) (map closed (elements_in pieces r)) (fields r.start) (closed-own (elements_in pieces r) own) in (
+      let is : IsOwn (filled_own r) = IsOwn-following (put r.start) (map closed (elements_in pieces r)) (fields r.start) (closed-own (elements_in pieces r) own) in (
         map closed gap,
         filled_from put r.end (drop r.end pieces),
         true,
@@ -167,7 +168,7 @@ module _ (pieces : List Piece) (put : ℕ → List Piece) where
   closes-filled : (apart : Bool) (n : ℕ) (records : List (Range ℕ)) → ((i : ℕ) → AreFields (put i)) → Cut pieces apart n records → closes (map filled_own records) ≡ map filled_own records
   closes-filled apart n [] fields cut = refl
   closes-filled apart n (r ∷ records) fields (low, some, within, none, between, own, more) =
-      let is : IsOwn (filled_own r) = IsOwn-behind (put r.start) (map closed (elements_in pieces r)) (fields r.start) (closed-own (elements_in pieces r) own) in
+      let is : IsOwn (filled_own r) = IsOwn-following (put r.start) (map closed (elements_in pieces r)) (fields r.start) (closed-own (elements_in pieces r) own) in
       ap (λ made. with_own made (closes (map filled_own records))) (between_fields-own (filled_own r) is)
       ∙ with_own-some (filled_own r) (closes (map filled_own records)) is.some
       ∙ ap (λ owns. filled_own r ∷ owns) (closes-filled true r.end records fields more)
@@ -179,9 +180,9 @@ module _ (pieces : List Piece) (put : ℕ → List Piece) where
 
 -- ---- what becomes of the records
 
-type_of-behind : (front own : List Piece) → AllByRecursion IsOther front → type_of (front ++ own) ≡ type_of own
-type_of-behind [] own others = refl
-type_of-behind (piece ∷ front) own others = let other = others.0 in rw other (type_of-behind front own others.1)
+type_of-following : (prefix own : List Piece) → AllByRecursion IsOther prefix → type_of (prefix ++ own) ≡ type_of own
+type_of-following [] own others = refl
+type_of-following (piece ∷ prefix) own others = let other = others.0 in rw other (type_of-following prefix own others.1)
 
 names_of-closed : (own : List Piece) → AllByRecursion IsElement own → names_of (map closed own) ≡ names_of own
 names_of-closed [] all = refl
@@ -197,10 +198,10 @@ IsPutBefore pieces put r = AllByRecursion (IsPut pieces r) (put r.start)
 module _ (pieces : List Piece) (put : ℕ → List Piece) (all : AllByRecursion IsElement pieces) where
   same_type : (r : Range ℕ) → IsPutBefore pieces put r → type_of (filled_own pieces put r) ≡ type_of (map closed (elements_in pieces r))
   same_type r are =
-      type_of-behind (put r.start) (map closed (elements_in pieces r)) (AllByRecursion-weaker (IsPut pieces r) IsOther (λ piece is. is.other) (put r.start) are)
+      type_of-following (put r.start) (map closed (elements_in pieces r)) (AllByRecursion-weaker (IsPut pieces r) IsOther (λ piece is. is.other) (put r.start) are)
 
-  kind_is : (kind : Option (List ℕ)) (r : Range ℕ) → IsPutBefore pieces put r → kind_behind kind (filled_own pieces put r) ≡ kind_behind kind (map closed (elements_in pieces r))
-  kind_is kind r are = ap (λ o. elim o as (λ x. Option (List ℕ)) [ None ↦ kind | Some named ↦ Some named ]) (same_type r are)
+  kind_is : (record_type : Option (List ℕ)) (r : Range ℕ) → IsPutBefore pieces put r → type_after record_type (filled_own pieces put r) ≡ type_after record_type (map closed (elements_in pieces r))
+  kind_is record_type r are = ap (λ o. elim o as (λ x. Option (List ℕ)) [ None ↦ record_type | Some named ↦ Some named ]) (same_type r are)
 
   module _ (automatic : ℕ → List (List ℕ)) where
     -- before the record of an index stand fields of the automatic names that it lacks
@@ -209,58 +210,58 @@ module _ (pieces : List Piece) (put : ℕ → List Piece) (all : AllByRecursion 
       pub are_put : put r.start ≡ numbered_fields given
       pub names : map (λ one. one.name) given ≡ lacking (automatic i) (names_of (elements_in pieces r))
 
-    filled_up : (kind : Option (List ℕ)) (i : ℕ) (r : Range ℕ) → IsPutBefore pieces put r → IsGivenTo i r
-        → IsFilledUp (automatic i) (record { kind = kind_behind kind (map closed (elements_in pieces r)); own = map closed (elements_in pieces r) })
-        (record { kind = kind_behind kind (filled_own pieces put r); own = filled_own pieces put r })
-    filled_up kind i r are gives =
+    filled_up : (record_type : Option (List ℕ)) (i : ℕ) (r : Range ℕ) → IsPutBefore pieces put r → IsGivenTo i r
+        → IsFilledUp (automatic i) (record { record_type = type_after record_type (map closed (elements_in pieces r)); own = map closed (elements_in pieces r) })
+        (record { record_type = type_after record_type (filled_own pieces put r); own = filled_own pieces put r })
+    filled_up record_type i r are gives =
         let own : List Piece = map closed (elements_in pieces r) in
-        let entry : Option (List ℕ) → List Piece → Entry = λ k front. record { kind = k; own = front ++ own } in
+        let typed : Option (List ℕ) → List Piece → TypedRecord = λ k prefix. record { record_type = k; own = prefix ++ own } in
         record {
           given = gives.given;
           names = gives.names ∙ ap (lacking (automatic i)) (sym (names_of-closed (elements_in pieces r) (elements_part pieces r all)));
-          is = ap₂ entry (kind_is kind r are) gives.are_put;
+          is = ap₂ typed (kind_is record_type r are) gives.are_put;
         }
 
-    pub filled_entries : (kind : Option (List ℕ)) (i : ℕ) (ranges : List (Range ℕ)) → AllByRecursion (IsPutBefore pieces put) ranges
+    pub filled_typed_records : (record_type : Option (List ℕ)) (i : ℕ) (ranges : List (Range ℕ)) → AllByRecursion (IsPutBefore pieces put) ranges
         → ((k : ℕ) (r : Range ℕ) → slice_get ranges k ≡ Some r → IsGivenTo (i + k) r)
-        → AllZip (λ (i, entry) filled. IsFilledUp (automatic i) entry filled) (enumerate_from i (entries_from kind (closed_owns pieces ranges)))
-        (entries_from kind (map (filled_own pieces put) ranges))
-    filled_entries kind i [] are gives = tt
-    filled_entries kind i (r ∷ ranges) are gives =
+        → AllZip (λ (i, typed) filled. IsFilledUp (automatic i) typed filled) (enumerate_from i (typed_records record_type (closed_owns pieces ranges)))
+        (typed_records record_type (map (filled_own pieces put) ranges))
+    filled_typed_records record_type i [] are gives = tt
+    filled_typed_records record_type i (r ∷ ranges) are gives =
         let own : List Piece = map closed (elements_in pieces r) in
         let zeroth : i + 0 ≡ i = omega arith in (
-          filled_up kind i r are.0 (subst (λ n. IsGivenTo n r) zeroth (gives 0 r refl)),
-          subst (λ k. AllZip (λ (i, entry) filled. IsFilledUp (automatic i) entry filled) (enumerate_from (i + 1) (entries_from (kind_behind kind own) (closed_owns pieces ranges)))
-              (entries_from k (map (filled_own pieces put) ranges))) (sym (kind_is kind r are.0))
-              (filled_entries (kind_behind kind own) (i + 1) ranges are.1
+          filled_up record_type i r are.0 (subst (λ n. IsGivenTo n r) zeroth (gives 0 r refl)),
+          subst (λ k. AllZip (λ (i, typed) filled. IsFilledUp (automatic i) typed filled) (enumerate_from (i + 1) (typed_records (type_after record_type own) (closed_owns pieces ranges)))
+              (typed_records k (map (filled_own pieces put) ranges))) (sym (kind_is record_type r are.0))
+              (filled_typed_records (type_after record_type own) (i + 1) ranges are.1
               (λ k q at. let next : i + suc k ≡ i + 1 + k = omega arith in subst (λ n. IsGivenTo n q) next (gives (suc k) q at))),
         )
 
   -- the descriptors stay
-  abbrev pub typed : List (List Piece) → List (List Piece)
-  typed owns = filter (λ own. is_some (type_of own)) owns
+  abbrev pub with_type : List (List Piece) → List (List Piece)
+  with_type owns = filter (λ own. is_some (type_of own)) owns
 
-  typed-no : (own : List Piece) (owns : List (List Piece)) → type_of own ≡ None → typed (own ∷ owns) ≡ typed owns
-  typed-no own owns none = ap (λ o. if is_some o then own ∷ typed owns else typed owns) none
+  with_type-no : (own : List Piece) (owns : List (List Piece)) → type_of own ≡ None → with_type (own ∷ owns) ≡ with_type owns
+  with_type-no own owns none = ap (λ o. if is_some o then own ∷ with_type owns else with_type owns) none
 
   -- nothing is put before it, or it is no descriptor
-  nothing_or_plain : (r : Range ℕ) (front : List Piece) → AllByRecursion (IsPut pieces r) front → (front ≡ []) ⊎ (type_of (elements_in pieces r) ≡ None)
+  nothing_or_plain : (r : Range ℕ) (prefix : List Piece) → AllByRecursion (IsPut pieces r) prefix → (prefix ≡ []) ⊎ (type_of (elements_in pieces r) ≡ None)
   nothing_or_plain r [] are = inl refl
-  nothing_or_plain r (piece ∷ front) are = inr are.0.plain
+  nothing_or_plain r (piece ∷ prefix) are = inr are.0.plain
 
-  pub typed-filled : (ranges : List (Range ℕ)) → AllByRecursion (IsPutBefore pieces put) ranges → typed (map (filled_own pieces put) ranges) ≡ typed (closed_owns pieces ranges)
-  typed-filled [] are = refl
-  typed-filled (r ∷ ranges) are =
+  pub with_type-filled : (ranges : List (Range ℕ)) → AllByRecursion (IsPutBefore pieces put) ranges → with_type (map (filled_own pieces put) ranges) ≡ with_type (closed_owns pieces ranges)
+  with_type-filled [] are = refl
+  with_type-filled (r ∷ ranges) are =
       let own : List Piece = map closed (elements_in pieces r) in
-      let more = typed-filled ranges are.1 in
+      let more = with_type-filled ranges are.1 in
       elim (nothing_or_plain r (put r.start) are.0) [
         | inl nothing ↦
-            ap (λ front. typed ((front ++ own) ∷ map (filled_own pieces put) ranges)) nothing
+            ap (λ prefix. with_type ((prefix ++ own) ∷ map (filled_own pieces put) ranges)) nothing
             ∙ ap (λ owns. if is_some (type_of own) then own ∷ owns else owns) more
         | inr plain ↦
             let none : type_of own ≡ None = type_of-closed (elements_in pieces r) (elements_part pieces r all) ∙ plain in
-            typed-no (filled_own pieces put r) (map (filled_own pieces put) ranges) (same_type r are.0 ∙ none) ∙ more
-            ∙ sym (typed-no own (closed_owns pieces ranges) none)
+            with_type-no (filled_own pieces put r) (map (filled_own pieces put) ranges) (same_type r are.0 ∙ none) ∙ more
+            ∙ sym (with_type-no own (closed_owns pieces ranges) none)
       ]
 
 -- ---- what the filling of all records makes of a text: the records stay, with automatic fields before those that lack them
@@ -268,9 +269,9 @@ module _ (pieces : List Piece) (put : ℕ → List Piece) (all : AllByRecursion 
 -- ---- where records begin
 
 module _ (pieces : List Piece) where
-  -- a record among those behind begins behind
-  behind_begins : (n start : ℕ) (records : List (Range ℕ)) (i : ℕ) (q : Range ℕ) → AllByRecursion (BeginsFrom n) records → slice_get records i ≡ Some q → start < n → q.start ≡ start → ⊥
-  behind_begins n start records i q all at low same = let begins = AllByRecursion-slice_get (BeginsFrom n) records i q all at in omega (arith, begins.1)
+  -- a record among those after begins after
+  after_begins : (n start : ℕ) (records : List (Range ℕ)) (i : ℕ) (q : Range ℕ) → AllByRecursion (BeginsFrom n) records → slice_get records i ≡ Some q → start < n → q.start ≡ start → ⊥
+  after_begins n start records i q all at low same = let begins = AllByRecursion-slice_get (BeginsFrom n) records i q all at in omega (arith, begins.1)
 
   -- two records that begin with one element are one
   starts_once : (apart : Bool) (n : ℕ) (records : List (Range ℕ)) → Cut pieces apart n records → (i j : ℕ) (q r : Range ℕ) → slice_get records i ≡ Some q → slice_get records j ≡ Some r
@@ -279,10 +280,10 @@ module _ (pieces : List Piece) where
   starts_once apart n (first ∷ records) cut zero zero q r at there same = refl
   starts_once apart n (first ∷ records) (low, some, within, none, between, own, more) zero (suc j) q r at there same =
       let is : first ≡ q = cc in
-      absurd (behind_begins first.end first.start records j r (all_begin pieces true first.end records more) there some (sym same ∙ ap (λ range. range.start) (sym is)))
+      absurd (after_begins first.end first.start records j r (all_begin pieces true first.end records more) there some (sym same ∙ ap (λ range. range.start) (sym is)))
   starts_once apart n (first ∷ records) (low, some, within, none, between, own, more) (suc i) zero q r at there same =
       let is : first ≡ r = cc in
-      absurd (behind_begins first.end first.start records i q (all_begin pieces true first.end records more) at some (same ∙ ap (λ range. range.start) (sym is)))
+      absurd (after_begins first.end first.start records i q (all_begin pieces true first.end records more) at some (same ∙ ap (λ range. range.start) (sym is)))
   starts_once apart n (first ∷ records) (low, some, within, none, between, own, more) (suc i) (suc j) q r at there same =
       ap suc (starts_once true first.end records more i j q r at there same)
 
@@ -355,14 +356,14 @@ module _ (pieces : List Piece) (whole : AllByRecursion IsElement pieces) (record
         names = names-given pieces schema records filled is are once found j r at;
       }) in
       record {
-        before = entries_from None (closed_owns pieces records);
+        before = typed_records None (closed_owns pieces records);
         are_before = (records, are, refl);
         edited = new;
         are_edited = filling_is_read pieces records filled fills whole;
-        after = entries_from None (closed_owns new there.0);
+        after = typed_records None (closed_owns new there.0);
         are_after = (there.0, there.1, refl);
-        leads = subst (λ owns. AllZip (λ (i, entry) filled. IsFilledUp (automatic_at schema i) entry filled) (enumerate_from 0 (entries_from None (closed_owns pieces records))) (entries_from None owns))
-            (sym (new_owns there.0 there.1)) (filled_entries pieces put whole (automatic_at schema) None 0 records are_put gives);
+        leads = subst (λ owns. AllZip (λ (i, typed) filled. IsFilledUp (automatic_at schema i) typed filled) (enumerate_from 0 (typed_records None (closed_owns pieces records))) (typed_records None owns))
+            (sym (new_owns there.0 there.1)) (filled_typed_records pieces put whole (automatic_at schema) None 0 records are_put gives);
       }
 
   -- the descriptors are the same
@@ -371,19 +372,19 @@ module _ (pieces : List Piece) (whole : AllByRecursion IsElement pieces) (record
       let there = records_there new in
       let read = filling_is_read pieces records filled fills whole in
       let same : descriptors pieces records ≡ descriptors new there.0 =
-      sym (said-records pieces records whole) ∙ ap (map (map says)) (sym (typed-filled pieces put whole records are_put)) ∙ ap said (sym (new_owns there.0 there.1))
+      sym (said-records pieces records whole) ∙ ap (map (map says)) (sym (with_type-filled pieces put whole records are_put)) ∙ ap said (sym (new_owns there.0 there.1))
       ∙ said-records new there.0 read.well_formed in
       let answer = schemas_of_same pieces new records there.0 schema are there.1 same is in
       (answer.0, answer.1)
 
 -- the filling of all records is faithful
-pub faithful_auto_fill : (pieces : List Piece) (schema : Described) (force : Bool) (step : Step)
-    → AreElementsOf pieces (text_of pieces) → IsSchema pieces (Ok schema) → IsStep pieces schema force auto_fill (Ok step)
-    → IsFaithful pieces schema auto_fill step
-faithful_auto_fill pieces schema force step elements is (records, are, inl (fault, refused, e)) = absurd (cc)
-faithful_auto_fill pieces schema force step elements is (records, are, inr (filled, found, same)) =
+pub faithful_auto_fill : (pieces : List Piece) (schema : Described) (force : Bool) (edit : EditScript)
+    → AreElementsOf pieces (text_of pieces) → IsSchema pieces (Ok schema) → IsEditScript pieces schema force auto_fill (Ok edit)
+    → IsFaithful pieces schema auto_fill edit
+faithful_auto_fill pieces schema force edit elements is (records, are, inl (fault, refused, e)) = absurd (cc)
+faithful_auto_fill pieces schema force edit elements is (records, are, inr (filled, found, same)) =
     let fills = auto_fill_fills pieces schema records filled is are found in
-    let layout_is : step.script ≡ script_of (filling filled) pieces = script_is step (step_of pieces (map (λ one. one.range) filled) (filling filled)) same in
+    let layout_is : edit.script ≡ script_of (filling filled) pieces = script_is edit (edit_script pieces (map (λ one. one.range) filled) (filling filled)) same in
     record {
       layout = filling filled;
       is = layout_is;

@@ -19,23 +19,24 @@ use Rattle.rec_check.specs.Counters.{AreCounters}
 use Rattle.rec_check.specs.Rules.{Rules}
 use Rattle.rec_check.specs.Sets.{AreFrom, named_in}
 use Rattle.rec_check.specs.Violations.{members, names_of}
-use Rattle.rec_check.specs.Walking.{AreWithin, IsNext}
+use Rattle.rec_check.specs.Walking.{AreWithin, IsNextSet}
 use Rattle.rec_edit.specs.Automatic.{AreFilled, AreFilledSets}
 use Rattle.rec_edit.specs.proving.Drafts.{AreRanges, LaysLines}
 use Rattle.rec_edit.specs.proving.Filling.{before, with_given, ranges_of, AreAllFilled, IsGiven, IsRefused, AddsFilled, numbered, filled_of, place_at, KeepsPlace, IsPlaced, ArePlaces}
 use Rattle.rec_edit.specs.Insertions.{Numbered, Filled, filling, numbered_fields}
 use Rattle.rec_text.specs.Faults.{IsMemoryOr}
 use Rattle.rec_check.specs.Descriptors.{type_of}
-use Rattle.rec_check.specs.Schemas.{Described, IsDescribed}
+use Rattle.rec_check.specs.Schemas.{Described, IsDescribed, IsSchema}
 use Rattle.rec_edit.specs.declared.outcome.Edited.{Edited}
-use Rattle.rec_edit.specs.proving.Edits.{IsEditOf}
-use Rattle.rec_edit.specs.Outcome.{step_of, edited_by}
+use Rattle.rec_edit.specs.proving.Edits.{IsEditOf, laid_script}
+use Rattle.rec_edit.proofs.lemmas.outcomes.CountedLemmas.{filling_counted}
+use Rattle.rec_edit.specs.Outcome.{edit_script, edited_by}
 use Rattle.rec_edit.specs.Task.{auto_fill}
 use Rattle.rec_text.specs.Bytes.{ends_newline}
 use Rattle.rec_edit.specs.declared.automatic.filled.FilledRecord.{FilledRecord}
 use Rattle.rec_edit.specs.declared.automatic.numbered.NumberedField.{NumberedField}
 use Rattle.rec_check.proofs.lemmas.checks.AheadLemmas.{ahead_of_members, part_and_rest, part_within}
-use Rattle.rec_edit.proofs.lemmas.outcomes.AnswerLemmas.{no_both, same_value, memory_or_weaker}
+use Rattle.rec_text.proofs.lemmas.FaultLemmas.{no_both, same_value, memory_or_weaker}
 use Rattle.rec_edit.proofs.lemmas.automatic.NumberLemmas.{before-before, before-nil}
 use Rattle.rec_text.proofs.lemmas.ListLemmas.{AllByRecursion-weaker}
 use Rattle.rec_check.proofs.lemmas.DescribedLemmas.{sets_within}
@@ -63,22 +64,22 @@ module _ (pieces : List Piece) (rules : Rules) (numbers : List ℕ → List ℤ)
     left = λ answer is. subst (AreFilled pieces rules numbers records) (sym (before-nil answer)) is;
   }
 
-  filled_next : (now : List ℕ → List ℤ) (record_ : Range ℕ) (rest : List (Range ℕ)) (given : List Numbered) (counters : List Counter) (answer : Result (List Filled) Fault)
-      → IsGiven rules now (names_of (elements_in pieces record_)) given counters → AreFilled pieces rules (with_given given now) rest answer
-      → AreFilled pieces rules now (record_ ∷ rest) (before (record { range = record_; given = given } ∷ []) answer)
-  filled_next now record_ rest given counters (Ok more) is left = inr (given, is.fields, inr (more, left, refl))
-  filled_next now record_ rest given counters (Err fault) is left = inr (given, is.fields, inl (fault, left, refl))
+  filled_next : (now : List ℕ → List ℤ) (own_range : Range ℕ) (rest : List (Range ℕ)) (given : List Numbered) (counters : List Counter) (answer : Result (List Filled) Fault)
+      → IsGiven rules now (names_of (elements_in pieces own_range)) given counters → AreFilled pieces rules (with_given given now) rest answer
+      → AreFilled pieces rules now (own_range ∷ rest) (before (record { range = own_range; given = given } ∷ []) answer)
+  filled_next now own_range rest given counters (Ok more) is left = inr (given, is.fields, inr (more, left, refl))
+  filled_next now own_range rest given counters (Err fault) is left = inr (given, is.fields, inl (fault, left, refl))
 
-  module _ (place : ℕ) (new : List Filled) (counters : List Counter) (record_ : Range ℕ) (names : List (List ℕ)) (within : place < length records) (at : get_or records place record_ ≡ record_)
-      (named : names ≡ names_of (elements_in pieces record_)) (so_far : IsFilledUpTo pieces rules numbers records place old new counters) where
-    records_left : drop place records ≡ record_ ∷ drop (place + 1) records
-    records_left = drop_more records place record_ within ∙ ap (λ r. r ∷ drop (place + 1) records) at
+  module _ (place : ℕ) (new : List Filled) (counters : List Counter) (own_range : Range ℕ) (names : List (List ℕ)) (within : place < length records) (at : get_or records place own_range ≡ own_range)
+      (named : names ≡ names_of (elements_in pieces own_range)) (so_far : IsFilledUpTo pieces rules numbers records place old new counters) where
+    records_left : drop place records ≡ own_range ∷ drop (place + 1) records
+    records_left = drop_more records place own_range within ∙ ap (λ r. r ∷ drop (place + 1) records) at
 
-    pub one_filled : (given : List Numbered) (next : List Counter) (more : List Filled) → IsGiven rules so_far.now names given next → more ≡ new ++ record { range = record_; given = given } ∷ []
+    pub one_filled : (given : List Numbered) (next : List Counter) (more : List Filled) → IsGiven rules so_far.now names given next → more ≡ new ++ record { range = own_range; given = given } ∷ []
         → IsFilledUpTo pieces rules numbers records (place + 1) old more next
     one_filled given next more is added =
-        let one : Filled = record { range = record_; given = given } in
-        let gives : IsGiven rules so_far.now (names_of (elements_in pieces record_)) given next = subst (λ ns. IsGiven rules so_far.now ns given next) named is in
+        let one : Filled = record { range = own_range; given = given } in
+        let gives : IsGiven rules so_far.now (names_of (elements_in pieces own_range)) given next = subst (λ ns. IsGiven rules so_far.now ns given next) named is in
         record {
           own = so_far.own ++ one ∷ [];
           now = with_given given so_far.now;
@@ -87,12 +88,12 @@ module _ (pieces : List Piece) (rules : Rules) (numbers : List ℕ → List ℤ)
           left = λ answer left.
               subst (AreFilled pieces rules numbers records) (before-before so_far.own (one ∷ []) answer)
               (so_far.left (before (one ∷ []) answer) (subst (λ rs. AreFilled pieces rules so_far.now rs (before (one ∷ []) answer)) (sym records_left)
-              (filled_next so_far.now record_ (drop (place + 1) records) given next answer gives left)));
+              (filled_next so_far.now own_range (drop (place + 1) records) given next answer gives left)));
         }
 
     pub one_refused : (fault : Fault) → IsRefused rules so_far.now names fault → AreFilled pieces rules numbers records (Err fault)
     one_refused fault is =
-        let refused : IsRefused rules so_far.now (names_of (elements_in pieces record_)) fault = subst (λ ns. IsRefused rules so_far.now ns fault) named is in
+        let refused : IsRefused rules so_far.now (names_of (elements_in pieces own_range)) fault = subst (λ ns. IsRefused rules so_far.now ns fault) named is in
         so_far.left (Err fault) (subst (λ rs. AreFilled pieces rules so_far.now rs (Err fault)) (sym records_left) (inl (fault, refused, refl)))
 
   pub all_filled : (place : ℕ) (new : List Filled) (counters : List Counter) → length records ≤ place → IsFilledUpTo pieces rules numbers records place old new counters
@@ -143,10 +144,10 @@ module _ (pieces : List Piece) (records : List (Range ℕ)) (sets : List Set_) (
 
 ranges-filled : (pieces : List Piece) (rules : Rules) (numbers : List ℕ → List ℤ) (records : List (Range ℕ)) (filled : List Filled) → AreFilled pieces rules numbers records (Ok filled) → ranges_of filled ≡ records
 ranges-filled pieces rules numbers [] filled is = ap ranges_of (same_value filled [] is)
-ranges-filled pieces rules numbers (record_ ∷ records) filled (inl (fault, refused, e)) = absurd (no_both filled fault e)
-ranges-filled pieces rules numbers (record_ ∷ records) filled (inr (given, is, inl (fault, refused, e))) = absurd (no_both filled fault e)
-ranges-filled pieces rules numbers (record_ ∷ records) filled (inr (given, is, inr (rest, are, e))) =
-    ap ranges_of (same_value filled (record { range = record_; given = given } ∷ rest) e) ∙ ap (λ rs. record_ ∷ rs) (ranges-filled pieces rules (with_given given numbers) records rest are)
+ranges-filled pieces rules numbers (own_range ∷ records) filled (inl (fault, refused, e)) = absurd (no_both filled fault e)
+ranges-filled pieces rules numbers (own_range ∷ records) filled (inr (given, is, inl (fault, refused, e))) = absurd (no_both filled fault e)
+ranges-filled pieces rules numbers (own_range ∷ records) filled (inr (given, is, inr (rest, are, e))) =
+    ap ranges_of (same_value filled (record { range = own_range; given = given } ∷ rest) e) ∙ ap (λ rs. own_range ∷ rs) (ranges-filled pieces rules (with_given given numbers) records rest are)
 
 pub ranges-filled_sets : (pieces : List Piece) (records : List (Range ℕ)) (sets : List Set_) (rules : List Rules) (filled : List Filled) → AreFilledSets pieces records sets rules (Ok filled)
     → ranges_of filled ≡ flat_map (members records) sets
@@ -162,19 +163,19 @@ ranges-filled_sets pieces records (s ∷ sets) (asked ∷ rules) filled (inr (ow
 
 other_rest : (passed : ℕ) (some rest other : List (Range ℕ)) → ((reached : ℕ) → AreAscending reached rest → AreAscending reached other) → AreAscending passed (some ++ rest) → AreAscending passed (some ++ other)
 other_rest passed [] rest other f ahead = f passed ahead
-other_rest passed (record_ ∷ some) rest other f ahead = (ahead.0, other_rest record_.end some rest other f ahead.1)
+other_rest passed (own_range ∷ some) rest other f ahead = (ahead.0, other_rest own_range.end some rest other f ahead.1)
 
 module _ (size : ℕ) (records : List (Range ℕ)) (within : AreWithin size records) where
   members_ahead : (at passed : ℕ) (sets : List Set_) → AreFrom at sets → AllByRecursion (λ s. s.members.end ≤ length records) sets → AreAscending passed (drop at records) → AreAscending passed (flat_map (members records) sets)
   members_ahead at passed [] from ends ahead = tt
   members_ahead at passed (s ∷ sets) from ends ahead =
-      let next : IsNext passed records s = record { at = at; begins = from.0; within = ends.0; ahead = ahead } in
+      let next : IsNextSet passed records s = record { at = at; begins = from.0; within = ends.0; ahead = ahead } in
       other_rest passed (members records s) (drop s.members.end records) (flat_map (members records) sets) (λ reached rest. members_ahead s.members.end reached sets from.1 ends.1 rest)
       (part_and_rest records s passed from.0.0 (ahead_of_members records size passed s within next))
 
   both_within : (some more : List (Range ℕ)) → AreWithin size some → AreWithin size more → AreWithin size (some ++ more)
-  both_within [] more front behind = behind
-  both_within (record_ ∷ some) more front behind = (front.0, both_within some more front.1 behind)
+  both_within [] more prefix following = following
+  both_within (own_range ∷ some) more prefix following = (prefix.0, both_within some more prefix.1 following)
 
   members_within : (sets : List Set_) → AreWithin size (flat_map (members records) sets)
   members_within [] = tt
@@ -190,8 +191,8 @@ module _ (pieces : List Piece) (schema : Described) where
   AreRanges-filled is filled are =
       let size : ℕ = length pieces in
       let within : AreWithin size is.records =
-      AllByRecursion-weaker (IsRecord pieces) (λ record_. (record_.start < record_.end) × (record_.end ≤ size)) (λ record_ inside. (inside.some, omega (arith, inside.high, inside.is_paragraph.within))) is.records is.are.each in
-      let total : 0 + length (flat_map named_in schema.sets) ≤ length is.records = omega (arith, ap length is.sets.joined, length-map is.records (λ record_. type_of (elements_in pieces record_))) in
+      AllByRecursion-weaker (IsRecord pieces) (λ own_range. (own_range.start < own_range.end) × (own_range.end ≤ size)) (λ own_range inside. (inside.some, omega (arith, inside.high, inside.is_paragraph.within))) is.records is.are.each in
+      let total : 0 + length (flat_map named_in schema.sets) ≤ length is.records = omega (arith, ap length is.sets.joined, length-map is.records (λ own_range. type_of (elements_in pieces own_range))) in
       subst (AreRanges size) (sym (ranges-filled_sets pieces is.records schema.sets schema.rules filled are))
       (AreRanges-members size is.records within schema.sets is.sets.places (sets_within 0 schema.sets (length is.records) is.sets.places total) is.are.ascending)
 
@@ -201,13 +202,14 @@ module _ (pieces : List Piece) (schema : Described) where
         memory_or_weaker fault (AreAllFilled pieces schema (Err fault)) (IsEditOf pieces schema force auto_fill (Err fault))
         (λ refused. inl (fault, (refused.0, refused.1, inl (fault, refused.2, refl)), refl)) is
 
-    pub auto_fill-made : (filled plan : List Filled) (given : List (Range ℕ)) (edited : Edited) → AreAllFilled pieces schema (Ok filled) → plan ≡ filled → given ≡ ranges_of filled
-        → edited ≡ edited_by (step_of pieces given (filling plan)) → IsEditOf pieces schema force auto_fill (Ok edited)
-    auto_fill-made filled plan given edited are_filled planned same is =
+    pub auto_fill-made : (filled taken : List Filled) (given : List (Range ℕ)) (edited : Edited) → IsSchema pieces (Ok schema) → AreAllFilled pieces schema (Ok filled) → taken ≡ filled
+        → given ≡ ranges_of filled → edited ≡ edited_by (laid_script pieces given (filling taken)) → IsEditOf pieces schema force auto_fill (Ok edited)
+    auto_fill-made filled taken given edited is_schema are_filled planned same is =
         inr (
-          step_of pieces (ranges_of filled) (filling filled),
+          edit_script pieces (ranges_of filled) (filling filled),
           (are_filled.0, are_filled.1, inr (filled, are_filled.2, refl)),
-          ap Ok (is ∙ ap (λ ranges. edited_by (step_of pieces ranges (filling plan))) same ∙ ap (λ f. edited_by (step_of pieces (ranges_of filled) (filling f))) planned),
+          ap Ok (is ∙ ap (λ ranges. edited_by (laid_script pieces ranges (filling taken))) same ∙ ap (λ f. edited_by (laid_script pieces (ranges_of filled) (filling f))) planned
+              ∙ ap edited_by (filling_counted pieces schema are_filled.0 filled is_schema are_filled.1 are_filled.2)),
         )
 
 -- ---- where the automatic fields of records are put, and how they are found by an index
@@ -236,15 +238,15 @@ none_before least (first ∷ filled) one ascending some =
     ap (λ l. l ++ put filled one.range.start) (cond-false (eqb first.range.start one.range.start) (numbered_fields first.given) [] (ne_eqb first.range.start one.range.start (λ e. omega arith)))
     ∙ none_before first.range.end filled one ascending.1 some.1
 
-ascending_front : (least n : ℕ) (filled : List Filled) → AreAscending least (ranges_of filled) → AreAscending least (ranges_of (take n filled))
-ascending_front least zero filled ascending = tt
-ascending_front least (suc n) [] ascending = tt
-ascending_front least (suc n) (one ∷ filled) ascending = (ascending.0, ascending_front one.range.end n filled ascending.1)
+ascending_prefix : (least n : ℕ) (filled : List Filled) → AreAscending least (ranges_of filled) → AreAscending least (ranges_of (take n filled))
+ascending_prefix least zero filled ascending = tt
+ascending_prefix least (suc n) [] ascending = tt
+ascending_prefix least (suc n) (one ∷ filled) ascending = (ascending.0, ascending_prefix one.range.end n filled ascending.1)
 
-some_front : (size n : ℕ) (filled : List Filled) → AllByRecursion (λ r. (r.start < r.end) × (r.end ≤ size)) (ranges_of filled) → AllByRecursion (λ o. o.range.start < o.range.end) (take n filled)
-some_front size zero filled each = tt
-some_front size (suc n) [] each = tt
-some_front size (suc n) (one ∷ filled) each = (each.0.0, some_front size n filled each.1)
+some_prefix : (size n : ℕ) (filled : List Filled) → AllByRecursion (λ r. (r.start < r.end) × (r.end ≤ size)) (ranges_of filled) → AllByRecursion (λ o. o.range.start < o.range.end) (take n filled)
+some_prefix size zero filled each = tt
+some_prefix size (suc n) [] each = tt
+some_prefix size (suc n) (one ∷ filled) each = (each.0.0, some_prefix size n filled each.1)
 
 -- ---- the places lead there
 
@@ -286,8 +288,8 @@ module _ (all : List Filled) (k : ℕ) (one : Filled) (within : k < length all) 
       let long : length (take k all) ≡ k = length-take-le k all (omega arith) in
       subst (ArePlaces new) (sym taken)
       (ArePlaces-kept places (take k all) one so_far new
-      (subst (λ l. AreAscending 0 (ranges_of l)) taken (ascending_front 0 (k + 1) all are.ascending))
-      (subst (AllByRecursion (λ o. o.range.start < o.range.end)) taken (some_front size (k + 1) all are.each))
+      (subst (λ l. AreAscending 0 (ranges_of l)) taken (ascending_prefix 0 (k + 1) all are.ascending))
+      (subst (AllByRecursion (λ o. o.range.start < o.range.end)) taken (some_prefix size (k + 1) all are.each))
       (subst (KeepsPlace places new one.range.start) (sym long) kept))
 
 -- what a place leads to is what is put
@@ -296,9 +298,9 @@ pub put_placed : {T E : Type 0} (r : Result T E) (own : List Filled) (records : 
     → OnOk r (new ≡ old ++ text_of (numbered_fields (numbered fields))) → OnOk r (new ≡ old ++ text_of (put own i))
 put_placed r own records i place kept fields one old new view is leads at same fact =
     let led : IsPlaced (filled_of records) i (Some place) = subst (IsPlaced (filled_of records) i) leads is in
-    let entry : FilledRecord → Filled = λ o. record { range = o.range; given = numbered o.given.items } in
-    let here : entry one ≡ get_or (filled_of records) place (entry one) = ap entry at ∙ sym (get_or-map entry records place one (entry one) (omega (arith, led.0, length-map records entry))) in
-    subst (λ p. OnOk r (new ≡ old ++ text_of p)) (ap (λ f. numbered_fields (numbered f)) same ∙ sym (led.1 (entry one) here) ∙ ap (λ f. put f i) view) fact
+    let typed : FilledRecord → Filled = λ o. record { range = o.range; given = numbered o.given.items } in
+    let here : typed one ≡ get_or (filled_of records) place (typed one) = ap typed at ∙ sym (get_or-map typed records place one (typed one) (omega (arith, led.0, length-map records typed))) in
+    subst (λ p. OnOk r (new ≡ old ++ text_of p)) (ap (λ f. numbered_fields (numbered f)) same ∙ sym (led.1 (typed one) here) ∙ ap (λ f. put f i) view) fact
 
 -- ---- the layout
 

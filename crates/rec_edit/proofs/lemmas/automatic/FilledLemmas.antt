@@ -21,16 +21,17 @@ use Rattle.rec_check.specs.Schemas.{Described, IsRuled, IsSchema}
 use Rattle.rec_check.specs.Sets.{AreFrom, BeginsAt}
 use Rattle.rec_check.specs.Violations.{members, names_of}
 use Rattle.rec_check.specs.Words.{is_among}
+use Rattle.rec_text.proofs.lemmas.FaultLemmas.{same_value}
 use Rattle.rec_edit.specs.Insertions.{Numbered, Filled, filling, numbered_fields}
 use Rattle.rec_edit.specs.Automatic.{AreFilled, AreFilledSets, AreNumbered, lacking, numbers_in}
 use Rattle.rec_edit.specs.Effect.{automatic_at}
-use Rattle.rec_edit.specs.Script.{script_of, new_pieces, edited_text, hunks_of}
+use Rattle.rec_edit.specs.Script.{script_of, new_pieces, edited_text}
+use Rattle.rec_edit.specs.proving.Changes.{hunks_of}
 use Rattle.rec_edit.specs.Rules.{canonical}
-use Rattle.rec_text.proofs.lemmas.ListLemmas.{AllByRecursion-weaker, slice_get-drop, slice_get-take, AllByRecursion-slice_get}
+use Rattle.rec_text.proofs.lemmas.ListLemmas.{AllByRecursion-weaker, slice_get-drop, slice_get-take, AllByRecursion-slice_get, AllByRecursion-append}
 use Rattle.rec_text.proofs.lemmas.records.RecordLemmas.{one_list_of_records}
 use Rattle.rec_edit.proofs.lemmas.insertions.NewRecordLemmas.{GivesFields, IsFieldName, automatic_are_fields, counter_is_plain, numbered_all, numbered_are_closed}
-use Rattle.rec_edit.proofs.lemmas.outcomes.EffectLemmas.{ok_same}
-use Rattle.rec_edit.proofs.lemmas.scripts.LaidLemmas.{all_append, Ends, LaysNeatly}
+use Rattle.rec_edit.proofs.lemmas.scripts.LaidLemmas.{Ends, LaysNeatly}
 use Rattle.rec_edit.proofs.lemmas.records.MemberLemmas.{Named, NameNothing, all_plain, set_with}
 use Rattle.rec_edit.proofs.lemmas.scripts.EqualLemmas.{PutsSome, unchanged_by_some}
 use Rattle.rec_edit.proofs.lemmas.layouts.FieldsLaidLemmas.{named_as, plain_canonical, plain_colon}
@@ -85,7 +86,7 @@ module _ (pieces : List Piece) (records : List (Range ℕ)) where
 
   are_filled : (rules : Rules) → GivesFields rules → (numbers : List ℕ → List ℤ) (ranges : List (Range ℕ)) (filled : List Filled)
       → AllByRecursion IsMember ranges → AreFilled pieces rules numbers ranges (Ok filled) → AllByRecursion IsFilled filled
-  are_filled rules names numbers [] filled all are = subst (AllByRecursion IsFilled) (sym (ok_same filled [] are)) tt
+  are_filled rules names numbers [] filled all are = subst (AllByRecursion IsFilled) (sym (same_value filled [] are)) tt
   are_filled rules names numbers (range ∷ ranges) filled all (inl (fault, refused, e)) = absurd (cc)
   are_filled rules names numbers (range ∷ ranges) filled all (inr (given, found, inl (fault, refused, e))) = absurd (cc)
   are_filled rules names numbers (range ∷ ranges) filled all (inr (given, found, inr (more, are, same))) =
@@ -94,11 +95,11 @@ module _ (pieces : List Piece) (records : List (Range ℕ)) where
       numbered_all (IsLacking own) (λ name. (is_plain_name name ≡ true) × (is_among own name ≡ false)) (λ name. IsNext rules name (numbers name))
       (λ name number lacks next. (counter_is_plain rules name lacks.0 next.0, lacks.1)) (lacking (automatic_names rules) own) given (all_lacking own (automatic_names rules) names) found in
       let rest = are_filled rules names (λ name. numbers_in given name ++ numbers name) ranges more all.1 are in
-      subst (AllByRecursion IsFilled) (sym (ok_same filled (record { range = range; given = given } ∷ more) same)) (record { member = all.0; lacked = lacked }, rest)
+      subst (AllByRecursion IsFilled) (sym (same_value filled (record { range = range; given = given } ∷ more) same)) (record { member = all.0; lacked = lacked }, rest)
 
   are_filled_sets : (sets : List Set_) (rules : List Rules) (filled : List Filled) → AllByRecursion (λ s. AllByRecursion IsMember (members records s)) sets
       → AllByRecursion GivesFields rules → AreFilledSets pieces records sets rules (Ok filled) → AllByRecursion IsFilled filled
-  are_filled_sets [] [] filled all names are = subst (AllByRecursion IsFilled) (sym (ok_same filled [] are)) tt
+  are_filled_sets [] [] filled all names are = subst (AllByRecursion IsFilled) (sym (same_value filled [] are)) tt
   are_filled_sets [] (one ∷ rules) filled all names are = absurd are
   are_filled_sets (s ∷ sets) [] filled all names are = absurd are
   are_filled_sets (s ∷ sets) (one ∷ rules) filled all names (inl (fault, refused, e)) = absurd (cc)
@@ -106,7 +107,7 @@ module _ (pieces : List Piece) (records : List (Range ℕ)) where
   are_filled_sets (s ∷ sets) (one ∷ rules) filled all names (inr (own, found, inr (more, are, same))) =
       let first = are_filled one names.0 (readings pieces (members records s)) (members records s) own all.0 found in
       let rest = are_filled_sets sets rules more all.1 names.1 are in
-      subst (AllByRecursion IsFilled) (sym (ok_same filled (own ++ more) same)) (all_append IsFilled own more first rest)
+      subst (AllByRecursion IsFilled) (sym (same_value filled (own ++ more) same)) (AllByRecursion-append IsFilled own more first rest)
 
   all_members : (s : Set_) → NameNothing (types_of pieces records) s.members → AllByRecursion IsMember (members records s)
   all_members s none = all_from IsMember (members records s) (λ i range at.
@@ -137,20 +138,20 @@ abbrev pub given_at : List Filled → ℕ → List Numbered
 given_at filled i = flat_map (λ one. if one.range.start == i then one.given else []) filled
 
 names-numbered : (next : List ℕ → Result ℤ Fault → Type 0) (names : List (List ℕ)) (given : List Numbered) → AreNumbered next names (Ok given) → map (λ one. one.name) given ≡ names
-names-numbered next [] given are = ap (λ (g : List Numbered). map (λ one. one.name) g) (ok_same given [] are)
+names-numbered next [] given are = ap (λ (g : List Numbered). map (λ one. one.name) g) (same_value given [] are)
 names-numbered next (name ∷ names) given (inl (fault, refused, e)) = absurd (cc)
 names-numbered next (name ∷ names) given (inr (number, found, inl (fault, refused, e))) = absurd (cc)
 names-numbered next (name ∷ names) given (inr (number, found, inr (more, are, same))) =
-    ap (λ (g : List Numbered). map (λ one. one.name) g) (ok_same given (record { name = name; number = number } ∷ more) same)
+    ap (λ (g : List Numbered). map (λ one. one.name) g) (same_value given (record { name = name; number = number } ∷ more) same)
     ∙ ap (λ rest. name ∷ rest) (names-numbered next names more are)
 
 -- the automatic names of the record of this index, by its typed set
 abbrev named_at : List Set_ → List Rules → ℕ → List (List ℕ)
 named_at sets rules i = option_map_or (λ (s, rules). automatic_names rules) (find (λ (s, rules). is_some s.kind && holds_index i s.members) (zip sets rules)) []
 
-begins_low : (at : ℕ) (kind : Named) (head : Option ℕ) (members : Range ℕ) → BeginsAt at (set_with kind head members) → at ≤ members.start
+begins_low : (at : ℕ) (record_type : Named) (head : Option ℕ) (members : Range ℕ) → BeginsAt at (set_with record_type head members) → at ≤ members.start
 begins_low at None head members begins = omega (arith, begins.1.1)
-begins_low at (Some kind) head members begins = omega (arith, begins.1.1)
+begins_low at (Some record_type) head members begins = omega (arith, begins.1.1)
 
 -- the sets from an index on have no record before it
 named_at-before : (j at : ℕ) (sets : List Set_) (rules : List Rules) → AreFrom at sets → j < at → named_at sets rules j ≡ []
@@ -165,14 +166,14 @@ named_at-before j at (s ∷ sets) (asked ∷ rules) from below =
 
 module _ (pieces : List Piece) (records : List (Range ℕ)) where
   -- of a member of the set; the untyped set has no automatic name
-  named_at-member : (j at : ℕ) (kind : Named) (head : Option ℕ) (members : Range ℕ) (sets : List Set_) (asked : Rules) (rules : List Rules) → BeginsAt at (set_with kind head members)
-      → AreFrom members.end sets → IsRuled pieces records (set_with kind head members) asked → holds_index j members ≡ true
-      → named_at (set_with kind head members ∷ sets) (asked ∷ rules) j ≡ automatic_names asked
+  named_at-member : (j at : ℕ) (record_type : Named) (head : Option ℕ) (members : Range ℕ) (sets : List Set_) (asked : Rules) (rules : List Rules) → BeginsAt at (set_with record_type head members)
+      → AreFrom members.end sets → IsRuled pieces records (set_with record_type head members) asked → holds_index j members ≡ true
+      → named_at (set_with record_type head members ∷ sets) (asked ∷ rules) j ≡ automatic_names asked
   named_at-member j at None None members sets asked rules begins from ruled holds =
       let below : j < members.end = ltb-true j members.end (and_parts (nat_le members.start j) (nat_lt j members.end) holds).1 in
       named_at-before j members.end sets rules from below ∙ sym (ap automatic_names ruled)
   named_at-member j at None (Some head) members sets asked rules begins from ruled holds = let none = begins.1.0 in absurd (cc)
-  named_at-member j at (Some kind) head members sets asked rules begins from ruled holds = rw holds refl
+  named_at-member j at (Some record_type) head members sets asked rules begins from ruled holds = rw holds refl
 
   module _ (once : (i j : ℕ) (q r : Range ℕ) → slice_get records i ≡ Some q → slice_get records j ≡ Some r → q.start ≡ r.start → i ≡ j)
       (j : ℕ) (r : Range ℕ) (there : slice_get records j ≡ Some r) where
@@ -192,12 +193,12 @@ module _ (pieces : List Piece) (records : List (Range ℕ)) where
     -- the record isn't one of these
     given_at-others : (rules : Rules) (numbers : List ℕ → List ℤ) (b : ℕ) (ranges : List (Range ℕ)) (filled : List Filled) → StandFrom b ranges
         → AreFilled pieces rules numbers ranges (Ok filled) → ((k : ℕ) → b ≤ k → k < b + length ranges → k ≡ j → ⊥) → given_at filled r.start ≡ []
-    given_at-others rules numbers b [] filled stand are outside = ap (λ f. given_at f r.start) (ok_same filled [] are)
+    given_at-others rules numbers b [] filled stand are outside = ap (λ f. given_at f r.start) (same_value filled [] are)
     given_at-others rules numbers b (q ∷ ranges) filled stand (inl (fault, refused, e)) outside = absurd (cc)
     given_at-others rules numbers b (q ∷ ranges) filled stand (inr (given, found, inl (fault, refused, e))) outside = absurd (cc)
     given_at-others rules numbers b (q ∷ ranges) filled stand (inr (given, found, inr (more, are, same))) outside =
         let other : (q.start == r.start) ≡ false = ne_eqb q.start r.start (λ e. outside b (omega arith) (omega arith) (once b j q r (stand_first b q ranges stand) there e)) in
-        ap (λ f. given_at f r.start) (ok_same filled (record { range = q; given = given } ∷ more) same)
+        ap (λ f. given_at f r.start) (same_value filled (record { range = q; given = given } ∷ more) same)
         ∙ rw other (given_at-others rules (λ name. numbers_in given name ++ numbers name) (b + 1) ranges more (stand_later b q ranges stand) are
         (λ k low high. outside k (omega arith) (omega arith)))
 
@@ -213,7 +214,7 @@ module _ (pieces : List Piece) (records : List (Range ℕ)) where
         let later : List ℕ → List ℤ = λ name. numbers_in given name ++ numbers name in
         let names : List Numbered → List (List ℕ) = λ given. map (λ one. one.name) given in
         let lacks : Range ℕ → List (List ℕ) = λ range. lacking (automatic_names rules) (names_of (elements_in pieces range)) in
-        ap (λ f. names (given_at f r.start)) (ok_same filled (record { range = q; given = given } ∷ more) same)
+        ap (λ f. names (given_at f r.start)) (same_value filled (record { range = q; given = given } ∷ more) same)
         ∙ elim (cases_Bool (q.start == r.start)) [
           | inl here ↦
               let place : b ≡ j = once b j q r at there (eqb-true q.start r.start here) in
@@ -238,7 +239,7 @@ module _ (pieces : List Piece) (records : List (Range ℕ)) where
     names-given_in_sets : (at : ℕ) (sets : List Set_) (rules : List Rules) (filled : List Filled) → AreFrom at sets → AllZip (IsRuled pieces records) sets rules
         → AreFilledSets pieces records sets rules (Ok filled)
         → map (λ one. one.name) (given_at filled r.start) ≡ lacking (named_at sets rules j) (names_of (elements_in pieces r))
-    names-given_in_sets at [] [] filled from ruled are = ap (λ f. map (λ (one : Numbered). one.name) (given_at f r.start)) (ok_same filled [] are)
+    names-given_in_sets at [] [] filled from ruled are = ap (λ f. map (λ (one : Numbered). one.name) (given_at f r.start)) (same_value filled [] are)
     names-given_in_sets at [] (asked ∷ rules) filled from ruled are = absurd are
     names-given_in_sets at (s ∷ sets) [] filled from ruled are = absurd are
     names-given_in_sets at (s ∷ sets) (asked ∷ rules) filled from ruled (inl (fault, refused, e)) = absurd (cc)
@@ -253,7 +254,7 @@ module _ (pieces : List Piece) (records : List (Range ℕ)) where
         let rest : names (given_at more r.start) ≡ lacks (named_at sets rules j) = names-given_in_sets s.members.end sets rules more from.1 ruled.1 are in
         let stand = members_stand s in
         let numbers = readings pieces (members records s) in
-        ap (λ f. names (given_at f r.start)) (ok_same filled (own ++ more) same)
+        ap (λ f. names (given_at f r.start)) (same_value filled (own ++ more) same)
         ∙ ap names (flat_map-append (λ (one : Filled). if one.range.start == r.start then one.given else []) own more)
         ∙ map-append (λ (one : Numbered). one.name) (given_at own r.start) (given_at more r.start)
         ∙ elim (cases_Bool (holds_index j s.members)) [

@@ -37,7 +37,7 @@ use Rattle.rec_sex.proofs.lemmas.meaning.PatternLemmas.{map-set_same}
 use Rattle.rec_check.proofs.lemmas.checks.NameLemmas.{names_of-push}
 use Rattle.rec_text.proofs.lemmas.ListLemmas.{same_bytes, bytes_eq-self, AllByRecursion-push}
 use Rattle.rec_check.proofs.lemmas.TypeLemmas.{bytes_eq-sym}
-use Rattle.rec_edit.proofs.lemmas.outcomes.AnswerLemmas.{memory_or_weaker}
+use Rattle.rec_text.proofs.lemmas.FaultLemmas.{memory_or_weaker}
 
 -- ---- counters that give their next numbers one after another
 
@@ -258,8 +258,8 @@ module _ (rules : Rules) (numbers : List ℕ → List ℤ) (own : List (List ℕ
       next_is : IsCounterOf rules (with_given (given ++ one ∷ []) numbers next.name.now) next
       next_is = subst (λ n. IsCounterOf rules (with_given (given ++ one ∷ []) numbers n) next) (sym (ap (λ (n : Bor (List ℕ)). n.now) named)) (subst (λ ns. IsCounterOf rules (ns ++ numbers counter.name.now) next) (sym own_numbers) counted)
 
-      none_behind : (name : List ℕ) → is_among (drop (i + 1) all) name ≡ true → numbers_in (given ++ one ∷ []) name ≡ []
-      none_behind name among = elim (cases_Bool (bytes_eq counter.name.now name)) [
+      none_after : (name : List ℕ) → is_among (drop (i + 1) all) name ≡ true → numbers_in (given ++ one ∷ []) name ≡ []
+      none_after name among = elim (cases_Bool (bytes_eq counter.name.now name)) [
         | inl same ↦ absurd (let clash : false ≡ true = sym apart ∙ ap (is_among (drop (i + 1) all)) (same_bytes counter.name.now name same) ∙ among in cc)
         | inr other ↦ numbers_in-other given one name other ∙ so_far.none_left name (still_left name among)
       ]
@@ -271,7 +271,7 @@ module _ (rules : Rules) (numbers : List ℕ → List ℤ) (own : List (List ℕ
             (AllByRecursion-push (λ c. IsCounterOf rules (with_given (given ++ one ∷ []) numbers c.name.now) c) (take i now) next (still_asked (take i now) before_it so_far.asked) next_is);
         left = subst (AllByRecursion (λ c. IsCounterOf rules (numbers c.name.now) c)) (sym (drop-set-lt (i + 1) now i next (omega arith))) parts.1;
         names = map-set_same (λ (c : Counter). c.name.now) now i counter next within (ap (λ (n : Bor (List ℕ)). n.now) named ∙ ap (λ (c : Counter). c.name.now) at) ∙ so_far.names;
-        none_left = none_behind;
+        none_left = none_after;
         fields = λ answer is_rest.
             subst (AreNumbered (λ name. IsNext rules name (numbers name)) (lacking all own)) (before-before given (one ∷ []) answer)
             (so_far.fields (before (one ∷ []) answer) (subst (λ l. AreNumbered (λ name. IsNext rules name (numbers name)) l (before (one ∷ []) answer)) (sym (lacking_left false none))
@@ -287,10 +287,6 @@ module _ (rules : Rules) (numbers : List ℕ → List ℤ) (own : List (List ℕ
             (so_far.fields (Ok []) (subst (λ l. AreNumbered (λ name. IsNext rules name (numbers name)) (lacking l own) (Ok [])) (sym (drop_all i (automatic_names rules) long)) refl));
         counters_are = record { names = so_far.names; each = subst (AllByRecursion (λ c. IsCounterOf rules (with_given given numbers c.name.now) c)) (take_all i now past) so_far.asked };
       }
-
-pub memory_or : (fault : Fault) (P : Type 0) → P → IsMemoryOr fault P
-memory_or OutOfMemory P h = tt
-memory_or _ P h = h
 
 -- ---- the automatic fields that a new record of the set at a place lacks
 

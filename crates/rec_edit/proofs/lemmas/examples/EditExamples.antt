@@ -6,21 +6,21 @@ use Rattle.rec_sex.specs.declared.lists.field_list.Item.{Item}
 use Rattle.rec_edit.specs.declared.request.Action.{Action}
 use Rattle.rec_edit.specs.declared.request.Action.TheVariants.{Set, Add, SetAdd, Rename, Delete, Comment as CommentFields}
 use Rattle.rec_edit.specs.Task.{Pair}
-use Rattle.rec_edit.specs.Script.{hunks_of}
+use Rattle.rec_edit.specs.proving.Changes.{hunks_of}
 use Rattle.rec_edit.specs.Rules.{fields_of, deletion, commenting, replacement, setting}
-use Rattle.rec_edit.specs.Outcome.{Step}
+use Rattle.rec_edit.specs.Outcome.{EditScript}
 use Rattle.rec_edit.proofs.lemmas.examples.WordingExamples.{over, shown, expected, hunk, pair, every, nth}
 
-abbrev delete : List ℕ → List ℕ → Step
+abbrev delete : List ℕ → List ℕ → EditScript
 delete = over deletion
 
-abbrev comment_out : List ℕ → List ℕ → Step
+abbrev comment_out : List ℕ → List ℕ → EditScript
 comment_out = over (λ pieces chosen. commenting chosen)
 
-abbrev replace : List Pair → List ℕ → List ℕ → Step
+abbrev replace : List Pair → List ℕ → List ℕ → EditScript
 replace pairs = over (λ pieces chosen. replacement (fields_of pairs) chosen)
 
-abbrev set : List Item → Action → List ℕ → List ℕ → Step
+abbrev set : List Item → Action → List ℕ → List ℕ → EditScript
 set items action = over (setting action items)
 
 abbrev one_line : List ℕ
@@ -44,7 +44,7 @@ folded_field = codes "N: a\\\nb\n+ c\n"
 
 -- ---- delete
 
--- comments around a record stay, and with the one behind it the blank line
+-- comments around a record stay, and with the one after it the blank line
 delete_between_comments : shown commented_around (delete (0 ∷ []) commented_around) ≡ expected (codes "# head\n# tail\n\nC: 3\n") 1
 unfolding runs_from narrowed_from
 delete_between_comments = refl
@@ -95,7 +95,7 @@ delete_none_hunks : hunks_of (delete [] three_records).script ≡ []
 unfolding runs_from narrowed_from
 delete_none_hunks = refl
 
--- a run of blank lines behind goes, and one before stays
+-- a run of blank lines after goes, and one before stays
 abbrev spaced : List ℕ
 spaced = codes "\nA: 1\n \t\n\n\nB: 2\n\n \n"
 
@@ -224,7 +224,7 @@ add_at_unended_hunks : hunks_of (set (every (codes "B") ∷ []) (Add (codes "2")
 unfolding runs_from narrowed_from
 add_at_unended_hunks = refl
 
--- one for each item, before the comments behind the record
+-- one for each item, before the comments after the record
 add_before_tail : shown commented_around (set (every (codes "D") ∷ every (codes "A") ∷ every (codes "D") ∷ []) (Add (codes "9")) (0 ∷ []) commented_around)
     ≡ expected (codes "# head\nA: 1\n# inner\nB: 2\nD: 9\nA: 9\nD: 9\n# tail\n\nC: 3\n") 1
 unfolding runs_from narrowed_from
@@ -253,9 +253,9 @@ set_add_same : shown unended (set (every (codes "A") ∷ every (codes "C") ∷ [
 unfolding runs_from narrowed_from
 set_add_same = refl
 
-set_add_behind : shown two_fields (set (every (codes "A") ∷ every (codes "C") ∷ []) (SetAdd (codes "3")) (0 ∷ []) two_fields) ≡ expected (codes "A: 3\nB: 2\nC: 3\n") 1
+set_add_after : shown two_fields (set (every (codes "A") ∷ every (codes "C") ∷ []) (SetAdd (codes "3")) (0 ∷ []) two_fields) ≡ expected (codes "A: 3\nB: 2\nC: 3\n") 1
 unfolding runs_from narrowed_from
-set_add_behind = refl
+set_add_after = refl
 
 -- each item picks from the record as it was
 set_add_twice : shown one_line (set (every (codes "C") ∷ every (codes "C") ∷ []) (SetAdd (codes "3")) (0 ∷ []) one_line) ≡ expected (codes "A: 1\nC: 3\nC: 3\n") 1
@@ -297,7 +297,7 @@ delete_last_field : shown (codes "A: 1\nB: 2") (set (every (codes "B") ∷ []) D
 unfolding runs_from narrowed_from
 delete_last_field = refl
 
--- a field joins the empty line behind it
+-- a field joins the empty line after it
 delete_field_with_joined_blank : shown (codes "A: x\\\\\n\nB: 2\n") (set (every (codes "A") ∷ []) Delete (0 ∷ []) (codes "A: x\\\\\n\nB: 2\n")) ≡ expected (codes "B: 2\n") 1
 unfolding runs_from narrowed_from
 delete_field_with_joined_blank = refl
@@ -347,7 +347,7 @@ replace_spelling : shown (codes "A:1\n") (replace (pair (codes "A") (codes "1") 
 unfolding runs_from narrowed_from
 replace_spelling = refl
 
--- each of two gives way, and the blank line between stays
+-- each of two is replaced, and the blank line between stays
 replace_two : shown three_records (replace (pair (codes "X") (codes "1") ∷ []) (0 ∷ 1 ∷ []) three_records) ≡ expected (codes "X: 1\n\nX: 1\n\nC: 3\n") 2
 unfolding runs_from narrowed_from
 replace_two = refl

@@ -9,27 +9,31 @@ use Rattle.rec_check.specs.Automatic.{IsAutomatic, last_integer}
 use Rattle.rec_check.specs.Rules.{Rules, no_rules}
 use Rattle.rec_check.specs.Schemas.{Described}
 use Rattle.rec_check.specs.Types.{integer, truth}
-use Rattle.rec_check.specs.Meanings.{meaning_in}
+use Rattle.rec_check.specs.proving.Meanings.{meaning_in}
 use Rattle.rec_check.specs.Resolving.{is_known_kind}
 use Rattle.rec_check.proofs.lemmas.automatic.CounterLemmas.{greatest_is}
 use Rattle.rec_check.proofs.lemmas.SetLemmas.{set_of}
-use Rattle.rec_edit.specs.Script.{hunks_of}
+use Rattle.rec_edit.specs.proving.Changes.{hunks_of}
 use Rattle.rec_edit.specs.Rules.{fields_of}
 use Rattle.rec_edit.specs.Insertions.{Numbered, Filled, numbered_fields, filling}
 use Rattle.rec_edit.specs.Automatic.{AreAutomatic, AreFilled, AreFilledSets, lacking}
-use Rattle.rec_edit.specs.Outcome.{Step, step_of, step_of_insert}
+use Rattle.rec_edit.specs.Outcome.{EditScript, edit_script, insert_script}
 use Rattle.rec_edit.proofs.lemmas.examples.WordingExamples.{elements, records_of, AreRecords-records_of, sets_of, shown, expected, hunk, pair}
 
 -- ---- the place of a new record
 
-abbrev insert_pieces : Option (List ℕ) → List Piece → List ℕ → Step
-insert_pieces kind fields text = step_of_insert (elements text) (records_of (elements text)) (sets_of (elements text)) kind fields
+abbrev insert_pieces : Option (List ℕ) → List Piece → List ℕ → EditScript
+insert_pieces record_type fields text = insert_script (elements text) (records_of (elements text)) (sets_of (elements text)) record_type fields
 
-abbrev insert : Option (List ℕ) → List ℕ → List ℕ → List ℕ → Step
-insert kind name value = insert_pieces kind (fields_of (pair name value ∷ []))
+abbrev insert : Option (List ℕ) → List ℕ → List ℕ → List ℕ → EditScript
+insert record_type name value = insert_pieces record_type (fields_of (pair name value ∷ []))
 
--- into an empty text, and behind a last line without newline
-first_record : shown [] (insert None (codes "Name") (codes "A") []) ≡ expected (codes "Name: A\n") 1
+-- a record of this type, with one field, that is put into a text makes this of it
+abbrev gives : Option (List ℕ) → List ℕ → List ℕ → List ℕ → List ℕ → Type 0
+gives record_type name value text after = shown text (insert record_type name value text) ≡ expected after 1
+
+-- into an empty text, and after a last line without newline
+first_record : gives None (codes "Name") (codes "A") [] (codes "Name: A\n")
 unfolding runs_from narrowed_from
 first_record = refl
 
@@ -37,81 +41,80 @@ first_record_hunks : hunks_of (insert None (codes "Name") (codes "A") []).script
 unfolding runs_from narrowed_from
 first_record_hunks = refl
 
-behind_unended : shown (codes "Name: A") (insert None (codes "Name") (codes "B") (codes "Name: A")) ≡ expected (codes "Name: A\n\nName: B\n") 1
+after_unended : gives None (codes "Name") (codes "B") (codes "Name: A") (codes "Name: A\n\nName: B\n")
 unfolding runs_from narrowed_from
-behind_unended = refl
+after_unended = refl
 
-behind_unended_hunks : hunks_of (insert None (codes "Name") (codes "B") (codes "Name: A")).script ≡ hunk 0 (codes "Name: A") (codes "Name: A\n\nName: B\n") ∷ []
+after_unended_hunks : hunks_of (insert None (codes "Name") (codes "B") (codes "Name: A")).script ≡ hunk 0 (codes "Name: A") (codes "Name: A\n\nName: B\n") ∷ []
 unfolding runs_from narrowed_from
-behind_unended_hunks = refl
+after_unended_hunks = refl
 
--- behind the comments of the last record, and before the blank lines
-behind_comments : shown (codes "A: 1\n\nA: 2\n# t\n\n\n# c\n") (insert None (codes "A") (codes "3") (codes "A: 1\n\nA: 2\n# t\n\n\n# c\n")) ≡ expected (codes "A: 1\n\nA: 2\n# t\n\nA: 3\n\n\n# c\n") 1
+-- after the comments of the last record, and before the blank lines
+after_comments : gives None (codes "A") (codes "3") (codes "A: 1\n\nA: 2\n# t\n\n\n# c\n") (codes "A: 1\n\nA: 2\n# t\n\nA: 3\n\n\n# c\n")
 unfolding runs_from narrowed_from
-behind_comments = refl
+after_comments = refl
 
-behind_comments_hunks : hunks_of (insert None (codes "A") (codes "3") (codes "A: 1\n\nA: 2\n# t\n\n\n# c\n")).script ≡ hunk 15 [] (codes "\nA: 3\n") ∷ []
+after_comments_hunks : hunks_of (insert None (codes "A") (codes "3") (codes "A: 1\n\nA: 2\n# t\n\n\n# c\n")).script ≡ hunk 15 [] (codes "\nA: 3\n") ∷ []
 unfolding runs_from narrowed_from
-behind_comments_hunks = refl
+after_comments_hunks = refl
 
--- a last blank line stays as it is, behind the new record
-before_unended_blank : shown (codes "A: 1\n  ") (insert None (codes "A") (codes "2") (codes "A: 1\n  ")) ≡ expected (codes "A: 1\n\nA: 2\n  ") 1
+-- a last blank line stays as it is, after the new record
+before_unended_blank : gives None (codes "A") (codes "2") (codes "A: 1\n  ") (codes "A: 1\n\nA: 2\n  ")
 unfolding runs_from narrowed_from
 before_unended_blank = refl
 
--- an untyped record before a descriptor and the comments above it, behind other paragraphs
-before_descriptor : shown (codes "%rec: P\n") (insert None (codes "A") (codes "1") (codes "%rec: P\n")) ≡ expected (codes "A: 1\n\n%rec: P\n") 1
+-- an untyped record before a descriptor and the comments above it, after other paragraphs
+before_descriptor : gives None (codes "A") (codes "1") (codes "%rec: P\n") (codes "A: 1\n\n%rec: P\n")
 unfolding runs_from narrowed_from
 before_descriptor = refl
 
-before_comments_of_descriptor : shown (codes "# head\n\n# P\n%rec: P\n\nN: 1\n") (insert None (codes "A") (codes "1") (codes "# head\n\n# P\n%rec: P\n\nN: 1\n"))
-    ≡ expected (codes "# head\n\nA: 1\n\n# P\n%rec: P\n\nN: 1\n") 1
+before_comments_of_descriptor : gives None (codes "A") (codes "1") (codes "# head\n\n# P\n%rec: P\n\nN: 1\n") (codes "# head\n\nA: 1\n\n# P\n%rec: P\n\nN: 1\n")
 unfolding runs_from narrowed_from
 before_comments_of_descriptor = refl
 
-behind_untyped : shown (codes "X: 1\n\n%rec: P\n\nN: 1\n") (insert None (codes "A") (codes "1") (codes "X: 1\n\n%rec: P\n\nN: 1\n")) ≡ expected (codes "X: 1\n\nA: 1\n\n%rec: P\n\nN: 1\n") 1
+after_untyped : gives None (codes "A") (codes "1") (codes "X: 1\n\n%rec: P\n\nN: 1\n") (codes "X: 1\n\nA: 1\n\n%rec: P\n\nN: 1\n")
 unfolding runs_from narrowed_from
-behind_untyped = refl
+after_untyped = refl
 
--- with neither record nor descriptor at the end, behind an empty line only where the last element isn't blank
-behind_lone_comment : shown (codes "# c") (insert None (codes "A") (codes "1") (codes "# c")) ≡ expected (codes "# c\n\nA: 1\n") 1
+-- with neither record nor descriptor at the end, after an empty line only where the last element isn't blank
+after_lone_comment : gives None (codes "A") (codes "1") (codes "# c") (codes "# c\n\nA: 1\n")
 unfolding runs_from narrowed_from
-behind_lone_comment = refl
+after_lone_comment = refl
 
-behind_blank : shown (codes "# c\n\n") (insert None (codes "A") (codes "1") (codes "# c\n\n")) ≡ expected (codes "# c\n\nA: 1\n") 1
+after_blank : gives None (codes "A") (codes "1") (codes "# c\n\n") (codes "# c\n\nA: 1\n")
 unfolding runs_from narrowed_from
-behind_blank = refl
+after_blank = refl
 
-behind_unended_blank : shown (codes "  ") (insert None (codes "A") (codes "1") (codes "  ")) ≡ expected (codes "  \nA: 1\n") 1
+after_unended_blank : gives None (codes "A") (codes "1") (codes "  ") (codes "  \nA: 1\n")
 unfolding runs_from narrowed_from
-behind_unended_blank = refl
+after_unended_blank = refl
 
--- of a type: behind its last record and that one's comments, or behind its descriptor
+-- of a type: after its last record and that one's comments, or after its descriptor
 abbrev two_sets : List ℕ
 two_sets = codes "%rec: P\n\nN: 1\n# t\n\n%rec: Q\n"
 
-into_first_set : shown two_sets (insert (Some (codes "P")) (codes "N") (codes "2") two_sets) ≡ expected (codes "%rec: P\n\nN: 1\n# t\n\nN: 2\n\n%rec: Q\n") 1
+into_first_set : gives (Some (codes "P")) (codes "N") (codes "2") two_sets (codes "%rec: P\n\nN: 1\n# t\n\nN: 2\n\n%rec: Q\n")
 unfolding runs_from narrowed_from
 into_first_set = refl
 
-into_empty_set : shown two_sets (insert (Some (codes "Q")) (codes "N") (codes "2") two_sets) ≡ expected (codes "%rec: P\n\nN: 1\n# t\n\n%rec: Q\n\nN: 2\n") 1
+into_empty_set : gives (Some (codes "Q")) (codes "N") (codes "2") two_sets (codes "%rec: P\n\nN: 1\n# t\n\n%rec: Q\n\nN: 2\n")
 unfolding runs_from narrowed_from
 into_empty_set = refl
 
-into_unended_set : shown (codes "%rec: P\n# c") (insert (Some (codes "P")) (codes "N") (codes "1") (codes "%rec: P\n# c")) ≡ expected (codes "%rec: P\n# c\n\nN: 1\n") 1
+into_unended_set : gives (Some (codes "P")) (codes "N") (codes "1") (codes "%rec: P\n# c") (codes "%rec: P\n# c\n\nN: 1\n")
 unfolding runs_from narrowed_from
 into_unended_set = refl
 
 -- of a type that no descriptor names
-new_type : shown (codes "A: 1\n") (insert (Some (codes "Q")) (codes "B") (codes "2") (codes "A: 1\n")) ≡ expected (codes "A: 1\n\n%rec: Q\n\nB: 2\n") 1
+new_type : gives (Some (codes "Q")) (codes "B") (codes "2") (codes "A: 1\n") (codes "A: 1\n\n%rec: Q\n\nB: 2\n")
 unfolding runs_from narrowed_from
 new_type = refl
 
-new_type_behind_blank : shown (codes "A: 1\n  ") (insert (Some (codes "Q")) (codes "B") (codes "2") (codes "A: 1\n  ")) ≡ expected (codes "A: 1\n  \n%rec: Q\n\nB: 2\n") 1
+new_type_after_blank : gives (Some (codes "Q")) (codes "B") (codes "2") (codes "A: 1\n  ") (codes "A: 1\n  \n%rec: Q\n\nB: 2\n")
 unfolding runs_from narrowed_from
-new_type_behind_blank = refl
+new_type_after_blank = refl
 
-new_type_in_empty : shown [] (insert (Some (codes "Q")) (codes "B") (codes "2") []) ≡ expected (codes "%rec: Q\n\nB: 2\n") 1
+new_type_in_empty : gives (Some (codes "Q")) (codes "B") (codes "2") [] (codes "%rec: Q\n\nB: 2\n")
 unfolding runs_from narrowed_from
 new_type_in_empty = refl
 
@@ -127,7 +130,7 @@ numbered n = record { name = id; number = pos n }
 abbrev counting : Rules
 counting = record no_rules {
   automatic = id ∷ id ∷ [];
-  types = record { names = id ∷ []; kind = codes "int"; type_ = integer } ∷ [];
+  types = record { names = id ∷ []; kind = codes "int"; value_type = integer } ∷ [];
 }
 
 abbrev described : List Piece → Rules → Described
@@ -175,13 +178,13 @@ counted_record : shown at_four (insert_pieces (Some (codes "P")) (numbered_field
 unfolding runs_from narrowed_from digits
 counted_record = refl
 
--- behind the last integer there is none
+-- after the last integer there is none
 abbrev at_last : List ℕ
 at_last = codes "%rec: P\n%auto: Id\n%type: Id int\n\nId: 9223372036854775807\n"
 
-none_behind_last : AreAutomatic (elements at_last) (described (elements at_last) counting) (Some (codes "P")) true (codes "N" ∷ []) (Err AutoImpossible)
+none_after_last : AreAutomatic (elements at_last) (described (elements at_last) counting) (Some (codes "P")) true (codes "N" ∷ []) (Err AutoImpossible)
 unfolding runs_from narrowed_from
-none_behind_last = inl (
+none_after_last = inl (
   AutoImpossible,
   record {
     records = records_of (elements at_last);
@@ -258,12 +261,12 @@ all_are_filled =
       ),
     )
 
-filled_text : shown some_lack (step_of (elements some_lack) (map (λ one. one.range) filled) (filling filled))
+filled_text : shown some_lack (edit_script (elements some_lack) (map (λ one. one.range) filled) (filling filled))
     ≡ expected (codes "%rec: P\n%auto: Id\n\nId: 5\nN: a\n\nId: 4\n\nId: 6\nN: b\n") 2
 unfolding runs_from narrowed_from digits
 filled_text = refl
 
-filled_hunks : hunks_of (step_of (elements some_lack) (map (λ one. one.range) filled) (filling filled)).script ≡ hunk 19 [] (codes "Id: 5\n") ∷ hunk 32 [] (codes "Id: 6\n") ∷ []
+filled_hunks : hunks_of (edit_script (elements some_lack) (map (λ one. one.range) filled) (filling filled)).script ≡ hunk 19 [] (codes "Id: 5\n") ∷ hunk 32 [] (codes "Id: 6\n") ∷ []
 unfolding runs_from narrowed_from digits
 filled_hunks = refl
 
@@ -272,7 +275,7 @@ lacked : lacking (id ∷ codes "No" ∷ []) (codes "N" ∷ id ∷ []) ≡ codes 
 lacked = refl
 
 -- a field of another type is no counter
-no_counter : AreFilled (elements some_lack) (record untyped_counting { types = record { names = id ∷ []; kind = codes "bool"; type_ = truth } ∷ [] }) (λ name. []) (range 3 4 ∷ []) (Err AutoImpossible)
+no_counter : AreFilled (elements some_lack) (record untyped_counting { types = record { names = id ∷ []; kind = codes "bool"; value_type = truth } ∷ [] }) (λ name. []) (range 3 4 ∷ []) (Err AutoImpossible)
 unfolding meaning_in is_known_kind
 no_counter = inl (AutoImpossible, inl (AutoImpossible, inl refl, refl), refl)
 
@@ -283,14 +286,14 @@ negative = codes "%rec: P\n%auto: Id\n\nId: -5\n\nN: a"
 abbrev filled_negative : List Filled
 filled_negative = filling_in 5 6 (record { name = id; number = negsuc 3 } ∷ []) ∷ []
 
-behind_negative : AreFilled (elements negative) untyped_counting (λ name. negsuc 4 ∷ []) (range 5 6 ∷ []) (Ok filled_negative)
+after_negative : AreFilled (elements negative) untyped_counting (λ name. negsuc 4 ∷ []) (range 5 6 ∷ []) (Ok filled_negative)
 unfolding runs_from narrowed_from
-behind_negative = inr (
+after_negative = inr (
   record { name = id; number = negsuc 3 } ∷ [],
   inr (negsuc 3, (refl, inr (negsuc 4, greatest_is (negsuc 4 ∷ []) (negsuc 4) refl, refl, refl)), inr ([], refl, refl)),
   inr ([], refl, refl),
 )
 
-negative_text : shown negative (step_of (elements negative) (map (λ one. one.range) filled_negative) (filling filled_negative)) ≡ expected (codes "%rec: P\n%auto: Id\n\nId: -5\n\nId: -4\nN: a") 1
+negative_text : shown negative (edit_script (elements negative) (map (λ one. one.range) filled_negative) (filling filled_negative)) ≡ expected (codes "%rec: P\n%auto: Id\n\nId: -5\n\nId: -4\nN: a") 1
 unfolding runs_from narrowed_from digits
 negative_text = refl

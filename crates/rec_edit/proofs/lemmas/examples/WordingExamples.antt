@@ -18,7 +18,7 @@ use Rattle.rec_journal.specs.declared.patch.Hunk.{Hunk}
 use Rattle.rec_sex.specs.declared.lists.field_list.Item.{Item}
 use Rattle.rec_edit.specs.Task.{Pair, of_pairs, of_text}
 use Rattle.rec_edit.specs.Script.{Layout, old_pieces, new_pieces, edited_text, closed}
-use Rattle.rec_edit.specs.Outcome.{Step, step_of, allowed, step_of_insert}
+use Rattle.rec_edit.specs.Outcome.{EditScript, edit_script, allowed, insert_script}
 use Rattle.rec_text.specs.declared.fault.Fault.TheVariants.{BadFieldList, NoSelection, BadName, BadValue, BadRecord}
 use Rattle.rec_sex.specs.Lists.{AreItems}
 use Rattle.rec_select.specs.Selection.{all, at_places, with_text}
@@ -26,7 +26,7 @@ use Rattle.rec_edit.specs.declared.request.Action.TheVariants.{Set, Add, SetAdd,
 use Rattle.rec_edit.specs.Wording.{AreItemsFor, IsNewRecord}
 use Rattle.rec_edit.specs.declared.request.Action.{Action}
 use Rattle.rec_edit.specs.Rules.{fields_of, deletion, commenting, replacement, setting}
-use Rattle.rec_edit.specs.Effect.{Entry, entries_from, remade, with_fields, with_new}
+use Rattle.rec_edit.specs.Effect.{TypedRecord, typed_records, remade, with_fields, with_new}
 use Rattle.rec_text.proofs.lemmas.records.RunLemmas.{AreRuns-runs_to}
 use Rattle.rec_text.proofs.lemmas.records.RecordLemmas.{AreRecords-all_narrowed}
 use Rattle.rec_check.proofs.lemmas.SetLemmas.{set_of}
@@ -81,9 +81,9 @@ chosen_of indexes pieces = filter_map (slice_get (records_of pieces)) indexes
 
 -- the sets of records that name these types, the first of which has this index; one is begun
 abbrev pub sets_from : ℕ → Option (List ℕ) → Option ℕ → ℕ → List (Option (List ℕ)) → List Set_
-sets_from i kind head start [] = set_of kind head start i ∷ []
-sets_from i kind head start (None ∷ types) = sets_from (i + 1) kind head start types
-sets_from i kind head start (Some named ∷ types) = set_of kind head start i ∷ sets_from (i + 1) (Some named) (Some i) (i + 1) types
+sets_from i record_type head start [] = set_of record_type head start i ∷ []
+sets_from i record_type head start (None ∷ types) = sets_from (i + 1) record_type head start types
+sets_from i record_type head start (Some named ∷ types) = set_of record_type head start i ∷ sets_from (i + 1) (Some named) (Some i) (i + 1) types
 
 abbrev pub sets_of : List Piece → List Set_
 sets_of pieces = sets_from 0 None None 0 (types_of pieces (records_of pieces))
@@ -91,15 +91,15 @@ sets_of pieces = sets_from 0 None None 0 (types_of pieces (records_of pieces))
 -- ---- what a step makes of a text
 
 -- the step by a layout for these records of the text
-abbrev pub over : (List Piece → List (Range ℕ) → Layout) → List ℕ → List ℕ → Step
-over layout indexes text = step_of (elements text) (chosen_of indexes (elements text)) (layout (elements text) (chosen_of indexes (elements text)))
+abbrev pub over : (List Piece → List (Range ℕ) → Layout) → List ℕ → List ℕ → EditScript
+over layout indexes text = edit_script (elements text) (chosen_of indexes (elements text)) (layout (elements text) (chosen_of indexes (elements text)))
 
 -- the text after it and how many records it changes; and its old and new elements are those of the two texts
 abbrev pub Shown : Type 0
 Shown = Bool × List ℕ × ℕ
 
-abbrev pub shown : List ℕ → Step → Shown
-shown text step = (are_elements (old_pieces step.script) text && are_elements (new_pieces step.script) (edited_text step.script), edited_text step.script, step.changed)
+abbrev pub shown : List ℕ → EditScript → Shown
+shown text edit = (are_elements (old_pieces edit.script) text && are_elements (new_pieces edit.script) (edited_text edit.script), edited_text edit.script, edit.changed)
 
 abbrev pub expected : List ℕ → ℕ → Shown
 expected text changed = (true, text, changed)
@@ -228,32 +228,32 @@ some_records = refl
 
 -- ---- what edits mean for the records, at small texts: the records that are meant are those of the edited text. Each example computes
 
-abbrev entries : List ℕ → List Entry
-entries text = entries_from None (map (λ record_. map closed (elements_in (elements text) record_)) (records_of (elements text)))
+abbrev all_typed : List ℕ → List TypedRecord
+all_typed text = typed_records None (map (λ own_range. map closed (elements_in (elements text) own_range)) (records_of (elements text)))
 
 -- comments, two types, joined and plus lines, and no last newline
 abbrev untidy : List ℕ
 untidy = codes "# h\nA: 1\n# c\nB: x\\\ny\n# t\n\n%rec: P\n\nA: 1\nA:2\n\n \nB:\n+ z\n# c\nA: 3"
 
-deleted : entries (edited_text (over deletion (0 ∷ 3 ∷ []) untidy).script) ≡ remade (0 ∷ 3 ∷ []) (λ own. []) (entries untidy)
+deleted : all_typed (edited_text (over deletion (0 ∷ 3 ∷ []) untidy).script) ≡ remade (0 ∷ 3 ∷ []) (λ own. []) (all_typed untidy)
 unfolding runs_from narrowed_from
 deleted = refl
 
-commented_out : entries (edited_text (over (λ pieces chosen. commenting chosen) (0 ∷ 3 ∷ []) untidy).script) ≡ remade (0 ∷ 3 ∷ []) (λ own. []) (entries untidy)
+commented_out : all_typed (edited_text (over (λ pieces chosen. commenting chosen) (0 ∷ 3 ∷ []) untidy).script) ≡ remade (0 ∷ 3 ∷ []) (λ own. []) (all_typed untidy)
 unfolding runs_from narrowed_from
 commented_out = refl
 
 abbrev fresh : List Piece
 fresh = fields_of (pair (codes "C") (codes "a\nb") ∷ pair (codes "D") [] ∷ [])
 
-replaced : entries (edited_text (over (λ pieces chosen. replacement fresh chosen) (0 ∷ 3 ∷ []) untidy).script) ≡ remade (0 ∷ 3 ∷ []) (λ own. fresh) (entries untidy)
+replaced : all_typed (edited_text (over (λ pieces chosen. replacement fresh chosen) (0 ∷ 3 ∷ []) untidy).script) ≡ remade (0 ∷ 3 ∷ []) (λ own. fresh) (all_typed untidy)
 unfolding runs_from narrowed_from
 replaced = refl
 
 -- ---- fields
 
 abbrev IsMeant : Action → List Item → List ℕ → Type 0
-IsMeant action items indexes = entries (edited_text (over (setting action items) indexes untidy).script) ≡ remade indexes (with_fields action items) (entries untidy)
+IsMeant action items indexes = all_typed (edited_text (over (setting action items) indexes untidy).script) ≡ remade indexes (with_fields action items) (all_typed untidy)
 
 set_fields : IsMeant (Set (codes "9")) (every (codes "A") ∷ every (codes "B") ∷ []) (0 ∷ 2 ∷ 3 ∷ [])
 unfolding runs_from narrowed_from
@@ -283,16 +283,16 @@ commented_fields = refl
 -- ---- a new record
 
 abbrev IsInserted : Option (List ℕ) → List ℕ → Type 0
-IsInserted kind text = entries (edited_text (step_of_insert (elements text) (records_of (elements text)) (sets_of (elements text)) kind fresh).script)
-    ≡ with_new (sets_of (elements text)) kind fresh (entries text)
+IsInserted record_type text = all_typed (edited_text (insert_script (elements text) (records_of (elements text)) (sets_of (elements text)) record_type fresh).script)
+    ≡ with_new (sets_of (elements text)) record_type fresh (all_typed text)
 
 untyped : IsInserted None untidy
 unfolding runs_from narrowed_from
 untyped = refl
 
-typed : IsInserted (Some (codes "P")) untidy
+of_a_type : IsInserted (Some (codes "P")) untidy
 unfolding runs_from narrowed_from
-typed = refl
+of_a_type = refl
 
 of_new_type : IsInserted (Some (codes "Q")) untidy
 unfolding runs_from narrowed_from

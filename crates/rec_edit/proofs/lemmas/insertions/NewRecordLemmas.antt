@@ -22,6 +22,8 @@ use Rattle.rec_check.specs.Rules.{Rules, AreRules, field_type}
 use Rattle.rec_check.specs.Schemas.{Described, IsSchema}
 use Rattle.rec_check.specs.Sets.{is_of_type}
 use Rattle.rec_check.specs.Words.{words, distinct, is_among}
+use Rattle.rec_text.proofs.lemmas.FaultLemmas.{same_value}
+use Rattle.rec_text.proofs.lemmas.StepLemmas.{Then-ok}
 use Rattle.rec_edit.specs.Rules.{canonical, fields_of}
 use Rattle.rec_edit.specs.Insertions.{Numbered, numbered_fields}
 use Rattle.rec_edit.specs.Automatic.{AreNumbered, AreAutomatic, lacking}
@@ -29,18 +31,18 @@ use Rattle.rec_check.specs.Soundness.{says}
 use Rattle.rec_edit.specs.Task.{Pair, NewRecord, of_pairs, of_text}
 use Rattle.rec_edit.specs.Wording.{ArePairs, IsNewRecord, pairs_of, some_pairs, written}
 use Rattle.rec_edit.specs.Effect.{from_field}
-use Rattle.rec_text.proofs.lemmas.ListLemmas.{AllByRecursion-weaker, AllByRecursion-slice_get, same_bytes}
+use Rattle.rec_text.proofs.lemmas.ListLemmas.{AllByRecursion-weaker, AllByRecursion-slice_get, same_bytes, AllByRecursion-append}
 use Rattle.rec_check.proofs.lemmas.descriptors.FlawLemmas.{own_flaw}
 use Rattle.rec_check.proofs.lemmas.laws.SameDescriptorLemmas.{schema_apart}
 use Rattle.rec_check.proofs.lemmas.laws.SoundLemmas.{AreSound, AreSound-heads, heads, new_type}
-use Rattle.rec_edit.proofs.lemmas.scripts.LaidLemmas.{all_append, closed-neat}
+use Rattle.rec_edit.proofs.lemmas.scripts.LaidLemmas.{closed-neat}
 use Rattle.rec_edit.proofs.lemmas.layouts.NeatLemmas.{AllByRecursion-filter, canonical_neat}
 use Rattle.rec_edit.proofs.lemmas.scripts.WellFormedLemmas.{IsClosed, AllByRecursion-map, canonical_is_closed}
 use Rattle.rec_text.proofs.lemmas.values.CanonicalLemmas.{is_field-field_of, value_of-field_of}
 use Rattle.rec_text.proofs.lemmas.values.ValueLemmas.{passes_apart}
-use Rattle.rec_edit.proofs.lemmas.records.EntryLemmas.{type_of-none, kept-field, up_to_field, kept}
+use Rattle.rec_edit.proofs.lemmas.records.TypedRecordLemmas.{type_of-none, kept-field, up_to_field, kept}
 use Rattle.rec_edit.proofs.lemmas.layouts.FieldsLaidLemmas.{plain_canonical}
-use Rattle.rec_edit.proofs.lemmas.outcomes.OutcomeLemmas.{IsWritten, then_ok, written_by}
+use Rattle.rec_edit.proofs.lemmas.outcomes.OutcomeLemmas.{IsWritten, written_by}
 use Rattle.rec_edit.proofs.lemmas.records.FitLemmas.{Cut, Cut-AreRecords, IsOwn}
 
 -- ---- the automatic fields that an edit puts in: their names are plain, and their numbers can be written
@@ -83,7 +85,7 @@ names_of_values [] are = tt
 names_of_values (piece ∷ own) are =
     let more = names_of_values own (λ k field at is. are (suc k) field at is) in
     cond_both (bytes_eq (name_of piece) auto_name) (value_of piece ∷ values_of auto_name own) (values_of auto_name own) (λ values. AllByRecursion IsFieldName (flat_map words values))
-    (λ is. all_append IsFieldName (words (value_of piece)) (flat_map words (values_of auto_name own)) (all_field_names (words (value_of piece)) (are 0 piece refl is)) more)
+    (λ is. AllByRecursion-append IsFieldName (words (value_of piece)) (flat_map words (values_of auto_name own)) (all_field_names (words (value_of piece)) (are 0 piece refl is)) more)
     (λ _. more)
 
 -- ---- the automatic names of a schema
@@ -134,17 +136,14 @@ counter_is_plain rules (b ∷ bs) named counts = elim (cases_Bool (begins_name b
 
 -- ---- numbers that are given
 
-ok_given : (given other : List Numbered) → ◌≡◌ {A = Result (List Numbered) Fault} (Ok given) (Ok other) → given ≡ other
-ok_given given other same = cc
-
 -- what holds of each name for which a number is given
 pub numbered_all : (P Q : List ℕ → Type 0) (next : List ℕ → Result ℤ Fault → Type 0) → ((name : List ℕ) (number : ℤ) → P name → next name (Ok number) → Q name)
     → (names : List (List ℕ)) (given : List Numbered) → AllByRecursion P names → AreNumbered next names (Ok given) → AllByRecursion (λ one. Q one.name) given
-numbered_all P Q next each [] given all are = subst (AllByRecursion (λ one. Q one.name)) (sym (ok_given given [] are)) tt
+numbered_all P Q next each [] given all are = subst (AllByRecursion (λ one. Q one.name)) (sym (same_value given [] are)) tt
 numbered_all P Q next each (name ∷ names) given all (inl (fault, refused, e)) = absurd (cc)
 numbered_all P Q next each (name ∷ names) given all (inr (number, found, inl (fault, refused, e))) = absurd (cc)
 numbered_all P Q next each (name ∷ names) given all (inr (number, found, inr (more, are, same))) =
-    subst (AllByRecursion (λ one. Q one.name)) (sym (ok_given given (record { name = name; number = number } ∷ more) same))
+    subst (AllByRecursion (λ one. Q one.name)) (sym (same_value given (record { name = name; number = number } ∷ more) same))
     (each name number all.0 found, numbered_all P Q next each names more all.1 are)
 
 -- ---- numbers as text
@@ -162,12 +161,12 @@ glyph_is_ordinary d low =
     cond_both (nat_lt d 10) (48 + d) (87 + d) IsOrdinary (λ _. (ne_eqb (48 + d) 10 (λ e. omega arith), ne_eqb (48 + d) 92 (λ e. omega arith)))
     (λ high. absurd (let le : 10 ≤ d = ltb-false d 10 high in omega arith))
 
-digits_are_ordinary : (k n : ℕ) (behind : List ℕ) → AllByRecursion IsOrdinary behind → AllByRecursion IsOrdinary (digits_onto k 10 false n behind)
-digits_are_ordinary zero n behind all = all
-digits_are_ordinary (suc k) n behind all =
+digits_are_ordinary : (k n : ℕ) (following : List ℕ) → AllByRecursion IsOrdinary following → AllByRecursion IsOrdinary (digits_onto k 10 false n following)
+digits_are_ordinary zero n following all = all
+digits_are_ordinary (suc k) n following all =
     let glyph : ℕ = digit_glyph false (n % 10) in
-    let here : AllByRecursion IsOrdinary (glyph ∷ behind) = (glyph_is_ordinary (n % 10) (omega arith), all) in
-    cond_both (n / 10 == 0) (glyph ∷ behind) (digits_onto k 10 false (n / 10) (glyph ∷ behind)) (AllByRecursion IsOrdinary) (λ _. here) (λ _. digits_are_ordinary k (n / 10) (glyph ∷ behind) here)
+    let here : AllByRecursion IsOrdinary (glyph ∷ following) = (glyph_is_ordinary (n % 10) (omega arith), all) in
+    cond_both (n / 10 == 0) (glyph ∷ following) (digits_onto k 10 false (n / 10) (glyph ∷ following)) (AllByRecursion IsOrdinary) (λ _. here) (λ _. digits_are_ordinary k (n / 10) (glyph ∷ following) here)
 
 decimal_is_ordinary : (n : ℕ) → AllByRecursion IsOrdinary (decimal n)
 unfolding digits
@@ -192,17 +191,17 @@ automatic_at schema place all = elim (slice_get_cases schema.rules place).1 [
 ]
 
 -- the automatic fields of a new record have plain names
-pub automatic_are_plain : (pieces : List Piece) (schema : Described) (kind : Option (List ℕ)) (auto : Bool) (names : List (List ℕ)) (given : List Numbered) → IsSchema pieces (Ok schema)
-    → AreAutomatic pieces schema kind auto names (Ok given) → AllByRecursion (λ one. is_plain_name one.name ≡ true) given
-automatic_are_plain pieces schema None auto names given is are = subst (AllByRecursion (λ one. is_plain_name one.name ≡ true)) (sym (ok_given given [] are)) tt
-automatic_are_plain pieces schema (Some kind) false names given is are = subst (AllByRecursion (λ one. is_plain_name one.name ≡ true)) (sym (ok_given given [] are)) tt
-automatic_are_plain pieces schema (Some kind) true names given is are = by_place (position (is_of_type kind) schema.sets) are
+pub automatic_are_plain : (pieces : List Piece) (schema : Described) (record_type : Option (List ℕ)) (auto : Bool) (names : List (List ℕ)) (given : List Numbered) → IsSchema pieces (Ok schema)
+    → AreAutomatic pieces schema record_type auto names (Ok given) → AllByRecursion (λ one. is_plain_name one.name ≡ true) given
+automatic_are_plain pieces schema None auto names given is are = subst (AllByRecursion (λ one. is_plain_name one.name ≡ true)) (sym (same_value given [] are)) tt
+automatic_are_plain pieces schema (Some record_type) false names given is are = subst (AllByRecursion (λ one. is_plain_name one.name ≡ true)) (sym (same_value given [] are)) tt
+automatic_are_plain pieces schema (Some record_type) true names given is are = by_place (position (is_of_type record_type) schema.sets) are
   where
     by_place : (place : Option ℕ) → elim place as (λ _. Type 0) [
       | None ↦ ◌≡◌ {A = Result (List Numbered) Fault} (Ok given) (Ok [])
       | Some place ↦ AreNumbered (IsAutomatic pieces schema place) (lacking (automatic_of schema place) names) (Ok given)
     ] → AllByRecursion (λ one. is_plain_name one.name ≡ true) given
-    by_place None none = subst (AllByRecursion (λ one. is_plain_name one.name ≡ true)) (sym (ok_given given [] none)) tt
+    by_place None none = subst (AllByRecursion (λ one. is_plain_name one.name ≡ true)) (sym (same_value given [] none)) tt
     by_place (Some place) numbered =
         let fields : AllByRecursion IsFieldName (automatic_of schema place) =
         automatic_at schema place (automatic_are_fields pieces schema is) in
@@ -261,7 +260,7 @@ type_of-writable fields all = type_of-none fields (none_rec fields all)
 -- ---- the descriptor of a new set
 
 abbrev pub descriptor : List ℕ → Piece
-descriptor kind = canonical rec_name kind
+descriptor record_type = canonical rec_name record_type
 
 foldable_from : (before : ℕ) (bs : List ℕ) → (before == 92) ≡ false → list_all continues_name bs ≡ true → is_foldable before bs ≡ true
 foldable_from before [] apart all = rw apart refl
@@ -275,25 +274,25 @@ plain_foldable (b ∷ bs) plain =
     let parts = and_parts (is_letter b) (list_all continues_name bs) plain in
     rw (passes_apart is_letter b 10 parts.0 refl) (foldable_from b bs (passes_apart is_letter b 92 parts.0 refl) parts.1)
 
--- behind the colon it stands as behind that of any other name
+-- after the colon it stands as after that of any other name
 abbrev other_name : List ℕ
 other_name = codes "r"
 
-module _ (kind : List ℕ) (plain : is_plain_name kind ≡ true) where
-  pub descriptor_is_line : IsClosed (descriptor kind)
+module _ (record_type : List ℕ) (plain : is_plain_name record_type ≡ true) where
+  pub descriptor_is_line : IsClosed (descriptor record_type)
   descriptor_is_line = record {
-    element = is_field-field_of other_name kind refl (plain_foldable kind plain);
-    ends = closed-neat (descriptor kind) (canonical_neat rec_name kind);
+    element = is_field-field_of other_name record_type refl (plain_foldable record_type plain);
+    ends = closed-neat (descriptor record_type) (canonical_neat rec_name record_type);
   }
 
-  pub descriptor_says : map says (descriptor kind ∷ []) ≡ (rec_name, kind) ∷ []
-  descriptor_says = ap (λ value. (rec_name, value) ∷ []) (value_of-field_of other_name kind refl (plain_foldable kind plain))
+  pub descriptor_says : map says (descriptor record_type ∷ []) ≡ (rec_name, record_type) ∷ []
+  descriptor_says = ap (λ value. (rec_name, value) ∷ []) (value_of-field_of other_name record_type refl (plain_foldable record_type plain))
 
-  pub type_of-descriptor : type_of (descriptor kind ∷ []) ≡ Some kind
-  type_of-descriptor = new_type kind (descriptor kind ∷ []) descriptor_says plain
+  pub type_of-descriptor : type_of (descriptor record_type ∷ []) ≡ Some record_type
+  type_of-descriptor = new_type record_type (descriptor record_type ∷ []) descriptor_says plain
 
-pub IsOwn-descriptor : (kind : List ℕ) → IsOwn (descriptor kind ∷ [])
-IsOwn-descriptor kind = record { some = omega arith; first = refl; last = refl; full = refl }
+pub IsOwn-descriptor : (record_type : List ℕ) → IsOwn (descriptor record_type ∷ [])
+IsOwn-descriptor record_type = record { some = omega arith; first = refl; last = refl; full = refl }
 
 -- ---- the fields of a new record
 
@@ -343,34 +342,34 @@ numbered-writable (one ∷ given) plain = (
 )
 
 -- the type, if one is given, is a name
-abbrev pub IsPlainKind : Option (List ℕ) → Type 0
-IsPlainKind None = Unit {0}
-IsPlainKind (Some kind) = is_plain_name kind ≡ true
+abbrev pub IsPlainType : Option (List ℕ) → Type 0
+IsPlainType None = Unit {0}
+IsPlainType (Some record_type) = is_plain_name record_type ≡ true
 
-kind_apart : (kind : Option (List ℕ)) (names : List (List ℕ)) → list_all is_plain_name (option_to_list kind ++ names) ≡ true → IsPlainKind kind × (list_all is_plain_name names ≡ true)
-kind_apart None names all = (tt, all)
-kind_apart (Some kind) names all = and_parts (is_plain_name kind) (list_all is_plain_name names) all
+type_apart : (record_type : Option (List ℕ)) (names : List (List ℕ)) → list_all is_plain_name (option_to_list record_type ++ names) ≡ true → IsPlainType record_type × (list_all is_plain_name names ≡ true)
+type_apart None names all = (tt, all)
+type_apart (Some record_type) names all = and_parts (is_plain_name record_type) (list_all is_plain_name names) all
 
 -- the new record's fields can be written, and there is one
-pub record CanBePutIn (kind : Option (List ℕ)) (fields : List Piece) : Type 0 where
-  pub plain : IsPlainKind kind
+pub record CanBePutIn (record_type : Option (List ℕ)) (fields : List Piece) : Type 0 where
+  pub plain : IsPlainType record_type
   pub some : 0 < length fields
   pub writable : AllByRecursion IsWritable fields
 
-pub new_record_can_be_put_in : (pieces : List Piece) (schema : Described) (kind : Option (List ℕ)) (fresh : NewRecord) (auto : Bool) (pairs : List Pair) (automatic : List Numbered) → IsSchema pieces (Ok schema)
-    → IsNewRecord kind fresh (Ok pairs) → AreAutomatic pieces schema kind auto (map (λ pair. pair.name) pairs) (Ok automatic) → CanBePutIn kind (numbered_fields automatic ++ fields_of pairs)
-new_record_can_be_put_in pieces schema kind fresh auto pairs automatic is new numbered =
-    let found = then_ok (ArePairs fresh)
-    (λ pairs answer. answer ≡ written (option_to_list kind ++ map (λ pair. pair.name) pairs) (map (λ pair. pair.value) pairs) pairs) pairs new in
+pub new_record_can_be_put_in : (pieces : List Piece) (schema : Described) (record_type : Option (List ℕ)) (fresh : NewRecord) (auto : Bool) (pairs : List Pair) (automatic : List Numbered) → IsSchema pieces (Ok schema)
+    → IsNewRecord record_type fresh (Ok pairs) → AreAutomatic pieces schema record_type auto (map (λ pair. pair.name) pairs) (Ok automatic) → CanBePutIn record_type (numbered_fields automatic ++ fields_of pairs)
+new_record_can_be_put_in pieces schema record_type fresh auto pairs automatic is new numbered =
+    let found = Then-ok (ArePairs fresh)
+    (λ pairs answer. answer ≡ written (option_to_list record_type ++ map (λ pair. pair.name) pairs) (map (λ pair. pair.value) pairs) pairs) pairs new in
     let given : List Pair = found.0 in
-    let can : IsWritten (option_to_list kind ++ map (λ pair. pair.name) given) (map (λ pair. pair.value) given) given pairs =
-    written_by (option_to_list kind ++ map (λ pair. pair.name) given) (map (λ pair. pair.value) given) given pairs _ _ refl refl found.2 in
-    let names = kind_apart kind (map (λ pair. pair.name) given) can.names_are in
+    let can : IsWritten (option_to_list record_type ++ map (λ pair. pair.name) given) (map (λ pair. pair.value) given) given pairs =
+    written_by (option_to_list record_type ++ map (λ pair. pair.name) given) (map (λ pair. pair.value) given) given pairs _ _ refl refl found.2 in
+    let names = type_apart record_type (map (λ pair. pair.name) given) can.names_are in
     let own : AllByRecursion IsWritable (fields_of pairs) = subst (λ ps. AllByRecursion IsWritable (fields_of ps)) (sym can.same) (fields_of-writable given names.1 can.values_are) in
     let count : 0 < length pairs = subst (λ (ps : List Pair). 0 < length ps) (sym can.same) (pairs_there fresh given found.1) in
     record {
       plain = names.0;
       some = omega (arith, count, length-append (numbered_fields automatic) (fields_of pairs), length-map pairs (λ pair. canonical pair.name pair.value));
-      writable = all_append IsWritable (numbered_fields automatic) (fields_of pairs)
-          (numbered-writable automatic (automatic_are_plain pieces schema kind auto (map (λ pair. pair.name) pairs) automatic is numbered)) own;
+      writable = AllByRecursion-append IsWritable (numbered_fields automatic) (fields_of pairs)
+          (numbered-writable automatic (automatic_are_plain pieces schema record_type auto (map (λ pair. pair.name) pairs) automatic is numbered)) own;
     }

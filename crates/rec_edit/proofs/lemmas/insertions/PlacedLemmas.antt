@@ -11,22 +11,22 @@ use Rattle.std.proofs.lemmas.Option.{slice_get_within, slice_get_cases}
 use Rattle.std.specs.Option.{option_map_or}
 use Rattle.rec_text.specs.Elements.{Piece}
 use Rattle.rec_text.specs.Records.{is_blank_piece, is_field_piece, is_full_at, AreRecords, elements_in}
-use Rattle.rec_edit.specs.Effect.{from_field, Entry, put_at, with_new}
-use Rattle.rec_edit.specs.Insertions.{is_full, paragraph_start, paragraph_end, at_end, Insertion, before_paragraph, behind_paragraph, last_of, range_of, typed_insertion, untyped_insertion}
+use Rattle.rec_text.proofs.lemmas.ListLemmas.{AllByRecursion-append}
+use Rattle.rec_edit.specs.Effect.{from_field, TypedRecord, put_at, with_new}
+use Rattle.rec_edit.specs.Insertions.{is_full, paragraph_start, paragraph_end, at_end, Insertion, before_paragraph, after_paragraph, last_of, range_of, typed_insertion, untyped_insertion}
 use Rattle.rec_edit.specs.Rules.{empty_line}
 use Rattle.rec_check.specs.declared.set.Set_.{Set_}
 use Rattle.rec_check.specs.Descriptors.{type_of, types_of}
 use Rattle.rec_check.specs.Sets.{is_of_type, named_in, AreSets}
 use Rattle.rec_text.specs.Canonical.{is_plain_name}
-use Rattle.rec_edit.proofs.lemmas.records.EntryLemmas.{kept, with_own, open_of, done_of, own_of, own_of-shut, own_of-Spaced, own_of-gap, own_of-full, own_of-none, open_of-none, Spaced-shut}
+use Rattle.rec_edit.proofs.lemmas.records.TypedRecordLemmas.{kept, with_own, open_of, done_of, own_of, own_of-shut, own_of-Spaced, own_of-gap, own_of-full, own_of-none, open_of-none, Spaced-shut}
 use Rattle.rec_edit.proofs.lemmas.records.FitLemmas.{Cut, Cut-AreRecords, Cut-Spaced, IsOwn, between_fields-own, closes-Cut, own_of-records, with_own-some}
 use Rattle.rec_check.proofs.lemmas.DescribedLemmas.{sets_within}
-use Rattle.rec_edit.proofs.lemmas.scripts.LaidLemmas.{all_append}
-use Rattle.rec_edit.proofs.lemmas.records.MemberLemmas.{Named, end_of, IsSetOf, IsUntypedSet, begins_typed, set_found, type_behind, untyped_set}
+use Rattle.rec_edit.proofs.lemmas.records.MemberLemmas.{Named, end_of, IsSetOf, IsUntypedSet, begins_typed, set_found, last_type, untyped_set}
 use Rattle.rec_edit.proofs.lemmas.insertions.NewRecordLemmas.{IsOwn-descriptor, descriptor, descriptor_is_line}
 use Rattle.rec_edit.proofs.lemmas.scripts.WellFormedLemmas.{IsClosed}
 
--- ---- places where the records of some elements fall apart: behind a blank element, and before one
+-- ---- places where the records of some elements fall apart: after a blank element, and before one
 
 -- ---- before a blank element
 
@@ -34,28 +34,28 @@ with_own-append : (own : List Piece) (owns more : List (List Piece)) → with_ow
 with_own-append [] owns more = refl
 with_own-append (piece ∷ own) owns more = refl
 
-open_of-append : (front behind : List Piece) → open_of behind ≡ [] → open_of (front ++ behind) ≡ open_of front
-open_of-append [] behind shut = shut
-open_of-append (piece ∷ front) behind shut = elim (cases_Bool (is_blank_piece piece)) [
+open_of-append : (prefix following : List Piece) → open_of following ≡ [] → open_of (prefix ++ following) ≡ open_of prefix
+open_of-append [] following shut = shut
+open_of-append (piece ∷ prefix) following shut = elim (cases_Bool (is_blank_piece piece)) [
   | inl blank ↦ rw blank refl
-  | inr full ↦ rw full (ap (kept piece) (open_of-append front behind shut))
+  | inr full ↦ rw full (ap (kept piece) (open_of-append prefix following shut))
 ]
 
-done_of-append : (front behind : List Piece) → open_of behind ≡ [] → done_of (front ++ behind) ≡ done_of front ++ own_of behind
-done_of-append [] behind shut = sym (own_of-shut behind shut)
-done_of-append (piece ∷ front) behind shut = elim (cases_Bool (is_blank_piece piece)) [
+done_of-append : (prefix following : List Piece) → open_of following ≡ [] → done_of (prefix ++ following) ≡ done_of prefix ++ own_of following
+done_of-append [] following shut = sym (own_of-shut following shut)
+done_of-append (piece ∷ prefix) following shut = elim (cases_Bool (is_blank_piece piece)) [
   | inl blank ↦ rw blank (
-      ap₂ (λ begun done. with_own (from_field begun) done) (open_of-append front behind shut) (done_of-append front behind shut)
-      ∙ with_own-append (from_field (open_of front)) (done_of front) (own_of behind)
+      ap₂ (λ begun done. with_own (from_field begun) done) (open_of-append prefix following shut) (done_of-append prefix following shut)
+      ∙ with_own-append (from_field (open_of prefix)) (done_of prefix) (own_of following)
       )
-  | inr full ↦ rw full (done_of-append front behind shut)
+  | inr full ↦ rw full (done_of-append prefix following shut)
 ]
 
--- no record is open behind the border
-pub own_of-append : (front behind : List Piece) → open_of behind ≡ [] → own_of (front ++ behind) ≡ own_of front ++ own_of behind
-own_of-append front behind shut =
-    ap₂ (λ begun done. with_own (from_field begun) done) (open_of-append front behind shut) (done_of-append front behind shut)
-    ∙ with_own-append (from_field (open_of front)) (done_of front) (own_of behind)
+-- no record is open after the border
+pub own_of-append : (prefix following : List Piece) → open_of following ≡ [] → own_of (prefix ++ following) ≡ own_of prefix ++ own_of following
+own_of-append prefix following shut =
+    ap₂ (λ begun done. with_own (from_field begun) done) (open_of-append prefix following shut) (done_of-append prefix following shut)
+    ∙ with_own-append (from_field (open_of prefix)) (done_of prefix) (own_of following)
 
 -- there is no first element that isn't blank
 abbrev pub begins_blank : List Piece → Bool
@@ -69,20 +69,20 @@ open_of-begins_blank (piece ∷ pieces) blank = rw blank refl
 own_of-blank : (piece : Piece) (pieces : List Piece) → is_blank_piece piece ≡ true → own_of (piece ∷ pieces) ≡ own_of pieces
 own_of-blank piece pieces blank = rw blank refl
 
--- ---- behind a blank element
+-- ---- after a blank element
 
 -- there is no last element, or it is blank
 abbrev pub EndsBlank : List Piece → Type 0
-EndsBlank pieces = (pieces ≡ []) ⊎ ((front : List Piece) × (last : Piece) × (pieces ≡ front ++ last ∷ []) × (is_blank_piece last ≡ true))
+EndsBlank pieces = (pieces ≡ []) ⊎ ((prefix : List Piece) × (last : Piece) × (pieces ≡ prefix ++ last ∷ []) × (is_blank_piece last ≡ true))
 
-pub own_of-behind_blank : (front behind : List Piece) → EndsBlank front → own_of (front ++ behind) ≡ own_of front ++ own_of behind
-own_of-behind_blank front behind (inl none) = ap (λ l. own_of (l ++ behind)) none ∙ sym (ap (λ l. own_of l ++ own_of behind) none)
-own_of-behind_blank front behind (inr (before, last, is, blank)) =
+pub own_of-after_blank : (prefix following : List Piece) → EndsBlank prefix → own_of (prefix ++ following) ≡ own_of prefix ++ own_of following
+own_of-after_blank prefix following (inl none) = ap (λ l. own_of (l ++ following)) none ∙ sym (ap (λ l. own_of l ++ own_of following) none)
+own_of-after_blank prefix following (inr (before, last, is, blank)) =
     let here : own_of (before ++ last ∷ []) ≡ own_of before =
     own_of-append before (last ∷ []) (open_of-begins_blank (last ∷ []) blank) ∙ ap (λ l. own_of before ++ l) (own_of-blank last [] blank) ∙ append-nil (own_of before) in
-    ap (λ l. own_of (l ++ behind)) is ∙ ap own_of (append_assoc before (last ∷ []) behind)
-    ∙ own_of-append before (last ∷ behind) (open_of-begins_blank (last ∷ behind) blank) ∙ ap (λ l. own_of before ++ l) (own_of-blank last behind blank)
-    ∙ sym (ap (λ l. own_of l ++ own_of behind) is ∙ ap (λ l. l ++ own_of behind) here)
+    ap (λ l. own_of (l ++ following)) is ∙ ap own_of (append_assoc before (last ∷ []) following)
+    ∙ own_of-append before (last ∷ following) (open_of-begins_blank (last ∷ following) blank) ∙ ap (λ l. own_of before ++ l) (own_of-blank last following blank)
+    ∙ sym (ap (λ l. own_of l ++ own_of following) is ∙ ap (λ l. l ++ own_of following) here)
 
 not_blank : (b : Bool) → not b ≡ false → b ≡ true
 not_blank true e = refl
@@ -90,7 +90,7 @@ not_blank false e = absurd (false≢true (sym e))
 
 EndsBlank-cons : (piece next : Piece) (pieces : List Piece) → EndsBlank (next ∷ pieces) → EndsBlank (piece ∷ next ∷ pieces)
 EndsBlank-cons piece next pieces (inl none) = let no : ⊥ = cc in absurd no
-EndsBlank-cons piece next pieces (inr (front, last, is, blank)) = inr (piece ∷ front, last, ap (λ l. piece ∷ l) is, blank)
+EndsBlank-cons piece next pieces (inr (prefix, last, is, blank)) = inr (piece ∷ prefix, last, ap (λ l. piece ∷ l) is, blank)
 
 -- where the last element is no full one
 pub EndsBlank-last : (pieces : List Piece) → is_full_at pieces (length pieces - 1) ≡ false → EndsBlank pieces
@@ -102,11 +102,11 @@ EndsBlank-last (piece ∷ next ∷ pieces) none =
 
 -- ---- the full elements that come first
 
-pub begins_blank-behind : (pieces : List Piece) → begins_blank (drop (prefix_len is_full pieces) pieces) ≡ true
-begins_blank-behind [] = refl
-begins_blank-behind (piece ∷ pieces) = elim (cases_Bool (is_blank_piece piece)) [
+pub begins_blank-following : (pieces : List Piece) → begins_blank (drop (prefix_len is_full pieces) pieces) ≡ true
+begins_blank-following [] = refl
+begins_blank-following (piece ∷ pieces) = elim (cases_Bool (is_blank_piece piece)) [
   | inl blank ↦ rw blank blank
-  | inr full ↦ rw (full, one-add) (begins_blank-behind pieces)
+  | inr full ↦ rw (full, one-add) (begins_blank-following pieces)
 ]
 
 no_field-kept : (piece : Piece) (pieces : List Piece) → kept piece pieces ≡ [] → (is_field_piece piece ≡ false) × (pieces ≡ [])
@@ -132,24 +132,24 @@ pub EndsBlank-reverse : (pieces : List Piece) → begins_blank pieces ≡ true �
 EndsBlank-reverse [] blank = inl refl
 EndsBlank-reverse (piece ∷ pieces) blank = inr (reverse pieces, piece, reverse-append (piece ∷ []) pieces, blank)
 
--- ---- the records of a text, where elements are put in at a border of it: behind a paragraph, before one, or at the end
+-- ---- the records of a text, where elements are put in at a border of it: after a paragraph, before one, or at the end
 
 -- Elements are put in at a place. This many records stand before it, and those that are made stand between them and the others.
 pub record IsPutIn (pieces new : List Piece) (place count : ℕ) (made : List (List Piece)) : Type 0 where
-  pub front : List Piece
-  pub behind : List Piece
-  pub parts : pieces ≡ front ++ behind
-  pub here : place ≡ length front
-  pub counts : length (own_of front) ≡ count
-  pub before : own_of pieces ≡ own_of front ++ own_of behind
-  pub after : own_of (front ++ (new ++ behind)) ≡ own_of front ++ (made ++ own_of behind)
+  pub prefix : List Piece
+  pub following : List Piece
+  pub parts : pieces ≡ prefix ++ following
+  pub here : place ≡ length prefix
+  pub counts : length (own_of prefix) ≡ count
+  pub before : own_of pieces ≡ own_of prefix ++ own_of following
+  pub after : own_of (prefix ++ (new ++ following)) ≡ own_of prefix ++ (made ++ own_of following)
 
 -- a record before a border
 pub own_first : (own rest : List Piece) → IsOwn own → open_of rest ≡ [] → own_of (own ++ rest) ≡ own ∷ own_of rest
 own_first own rest is shut =
     own_of-full own rest is.full shut ∙ ap (λ made. with_own made (own_of rest)) (between_fields-own own is) ∙ with_own-some own (own_of rest) is.some
 
--- the cut behind the record of an index
+-- the cut after the record of an index
 cut_at : (pieces : List Piece) (apart : Bool) (n : ℕ) (records : List (Range ℕ)) (i : ℕ) (r : Range ℕ) → Cut pieces apart n records → slice_get records i ≡ Some r
     → (r.end ≤ length pieces) × Cut pieces true r.end (drop (suc i) records)
 cut_at pieces apart n [] i r cut at = let no : ⊥ = cc in absurd no
@@ -166,43 +166,43 @@ gap_before pieces (q ∷ records) r (low, some, within, none, between, own, more
     let same : q ≡ r = cc in
     subst (λ (s : Range ℕ). (s.start ≤ length pieces) × (list_any is_field_piece (take s.start pieces) ≡ false)) same (omega arith, none)
 
-no_field-front : (front behind : List Piece) → list_any is_field_piece (front ++ behind) ≡ false → list_any is_field_piece front ≡ false
-no_field-front [] behind none = refl
-no_field-front (piece ∷ front) behind none =
-    let parts = or_parts (is_field_piece piece) (list_any is_field_piece (front ++ behind)) none in
-    rw (parts.0, no_field-front front behind parts.1) refl
+no_field-prefix : (prefix following : List Piece) → list_any is_field_piece (prefix ++ following) ≡ false → list_any is_field_piece prefix ≡ false
+no_field-prefix [] following none = refl
+no_field-prefix (piece ∷ prefix) following none =
+    let parts = or_parts (is_field_piece piece) (list_any is_field_piece (prefix ++ following)) none in
+    rw (parts.0, no_field-prefix prefix following parts.1) refl
 
 module _ (pieces : List Piece) where
   module _ (records : List (Range ℕ)) (are : AreRecords pieces records) (fields : List Piece) (is : IsOwn fields) where
-    pub put_behind : (i : ℕ) (r : Range ℕ) → slice_get records i ≡ Some r → IsPutIn pieces (empty_line ∷ fields) (paragraph_end pieces r.end) (suc i) (fields ∷ [])
-    put_behind i r at =
+    pub put_after : (i : ℕ) (r : Range ℕ) → slice_get records i ≡ Some r → IsPutIn pieces (empty_line ∷ fields) (paragraph_end pieces r.end) (suc i) (fields ∷ [])
+    put_after i r at =
         let left : List (Range ℕ) = drop (suc i) records in
         let cut : (r.end ≤ length pieces) × Cut pieces true r.end left = cut_at pieces false 0 records i r (Cut-AreRecords pieces records are) at in
         let first : List Piece = take r.end pieces in
         let rest : List Piece = drop r.end pieces in
         let full : List Piece = take (prefix_len is_full rest) rest in
-        let behind : List Piece = drop (prefix_len is_full rest) rest in
+        let following : List Piece = drop (prefix_len is_full rest) rest in
         let spaced = Cut-Spaced pieces true r.end left cut.0 cut.1 in
         let shut : open_of rest ≡ [] = Spaced-shut rest (map (elements_in pieces) left) spaced in
         let later : own_of rest ≡ map (elements_in pieces) left = own_of-Spaced true rest (map (elements_in pieces) left) spaced ∙ closes-Cut pieces true r.end left cut.1 in
         let all : own_of pieces ≡ own_of first ++ own_of rest = ap own_of (sym (take-append-drop r.end pieces)) ∙ own_of-append first rest shut in
         let none : list_any is_field_piece full ≡ false = no_field-full rest shut in
-        let front_is : own_of (first ++ full) ≡ own_of first =
+        let prefix_is : own_of (first ++ full) ≡ own_of first =
         own_of-append first full (open_of-none full none) ∙ ap (λ l. own_of first ++ l) (own_of-none full none) ∙ append-nil (own_of first) in
-        let rest_is : own_of rest ≡ own_of behind = ap own_of (sym (take-append-drop (prefix_len is_full rest) rest)) ∙ own_of-gap full behind none in
-        let behind_shut : open_of behind ≡ [] = open_of-begins_blank behind (begins_blank-behind rest) in
+        let rest_is : own_of rest ≡ own_of following = ap own_of (sym (take-append-drop (prefix_len is_full rest) rest)) ∙ own_of-gap full following none in
+        let after_shut : open_of following ≡ [] = open_of-begins_blank following (begins_blank-following rest) in
         let total : length (own_of pieces) ≡ length records = ap length (sym (own_of-records pieces records are)) ∙ length-map records (elements_in pieces) in
         let total_is : length (own_of pieces) ≡ length (own_of first) + length (own_of rest) = ap length all ∙ length-append (own_of first) (own_of rest) in
         let later_is : length (own_of rest) ≡ length records - suc i = ap length later ∙ length-map left (elements_in pieces) ∙ length-drop (suc i) records in
         let some : i < length records = slice_get_within records i r at in
         record {
-          front = first ++ full;
-          behind = behind;
-          parts = sym (take-append-drop r.end pieces) ∙ ap (λ l. first ++ l) (sym (take-append-drop (prefix_len is_full rest) rest)) ∙ sym (append_assoc first full behind);
+          prefix = first ++ full;
+          following = following;
+          parts = sym (take-append-drop r.end pieces) ∙ ap (λ l. first ++ l) (sym (take-append-drop (prefix_len is_full rest) rest)) ∙ sym (append_assoc first full following);
           here = omega (arith, length-append first full, length-take-le r.end pieces cut.0, length-prefix_len is_full rest);
-          counts = ap length front_is ∙ omega (arith, total, total_is, later_is, some);
-          before = all ∙ ap₂ (λ a b. a ++ b) (sym front_is) rest_is;
-          after = own_of-append (first ++ full) (empty_line ∷ (fields ++ behind)) refl ∙ ap (λ l. own_of (first ++ full) ++ l) (own_first fields behind is behind_shut);
+          counts = ap length prefix_is ∙ omega (arith, total, total_is, later_is, some);
+          before = all ∙ ap₂ (λ a b. a ++ b) (sym prefix_is) rest_is;
+          after = own_of-append (first ++ full) (empty_line ∷ (fields ++ following)) refl ∙ ap (λ l. own_of (first ++ full) ++ l) (own_first fields following is after_shut);
         }
 
     pub put_before : (r : Range ℕ) → slice_get records 0 ≡ Some r → IsPutIn pieces (fields ++ empty_line ∷ []) (paragraph_start pieces r.start) 0 (fields ∷ [])
@@ -212,23 +212,23 @@ module _ (pieces : List Piece) where
         let n : ℕ = prefix_len is_full (reverse first) in
         let back : List Piece = drop n (reverse first) in
         let tail : List Piece = reverse (take n (reverse first)) in
-        let behind : List Piece = tail ++ drop r.start pieces in
+        let following : List Piece = tail ++ drop r.start pieces in
         let first_is : first ≡ reverse back ++ tail =
         sym (reverse-reverse first) ∙ ap reverse (sym (take-append-drop n (reverse first))) ∙ reverse-append (take n (reverse first)) back in
-        let parts : pieces ≡ reverse back ++ behind =
+        let parts : pieces ≡ reverse back ++ following =
         sym (take-append-drop r.start pieces) ∙ ap (λ l. l ++ drop r.start pieces) first_is ∙ append_assoc (reverse back) tail (drop r.start pieces) in
-        let none : own_of (reverse back) ≡ [] = own_of-none (reverse back) (no_field-front (reverse back) tail (ap (list_any is_field_piece) (sym first_is) ∙ gap.1)) in
-        let blank : EndsBlank (reverse back) = EndsBlank-reverse back (begins_blank-behind (reverse first)) in
+        let none : own_of (reverse back) ≡ [] = own_of-none (reverse back) (no_field-prefix (reverse back) tail (ap (list_any is_field_piece) (sym first_is) ∙ gap.1)) in
+        let blank : EndsBlank (reverse back) = EndsBlank-reverse back (begins_blank-following (reverse first)) in
         record {
-          front = reverse back;
-          behind = behind;
+          prefix = reverse back;
+          following = following;
           parts = parts;
           here = omega (arith, length-reverse back, length-drop n (reverse first), length-reverse first, length-take-le r.start pieces gap.0);
           counts = ap length none;
-          before = ap own_of parts ∙ own_of-behind_blank (reverse back) behind blank;
-          after = own_of-behind_blank (reverse back) ((fields ++ empty_line ∷ []) ++ behind) blank
-              ∙ ap (λ l. own_of (reverse back) ++ own_of l) (append_assoc fields (empty_line ∷ []) behind)
-              ∙ ap (λ l. own_of (reverse back) ++ l) (own_first fields (empty_line ∷ behind) is refl);
+          before = ap own_of parts ∙ own_of-after_blank (reverse back) following blank;
+          after = own_of-after_blank (reverse back) ((fields ++ empty_line ∷ []) ++ following) blank
+              ∙ ap (λ l. own_of (reverse back) ++ own_of l) (append_assoc fields (empty_line ∷ []) following)
+              ∙ ap (λ l. own_of (reverse back) ++ l) (own_first fields (empty_line ∷ following) is refl);
         }
 
   module _ (new : List Piece) (made : List (List Piece)) (makes : own_of new ≡ made) where
@@ -236,13 +236,13 @@ module _ (pieces : List Piece) where
     own_of-at_end true full =
         own_of-append pieces (empty_line ∷ (new ++ [])) refl ∙ ap (λ l. own_of pieces ++ own_of l) (append-nil new) ∙ ap (λ l. own_of pieces ++ l) (makes ∙ sym (append-nil made))
     own_of-at_end false full =
-        own_of-behind_blank pieces (new ++ []) (EndsBlank-last pieces full) ∙ ap (λ l. own_of pieces ++ own_of l) (append-nil new)
+        own_of-after_blank pieces (new ++ []) (EndsBlank-last pieces full) ∙ ap (λ l. own_of pieces ++ own_of l) (append-nil new)
         ∙ ap (λ l. own_of pieces ++ l) (makes ∙ sym (append-nil made))
 
     pub put_at_end : IsPutIn pieces (at_end pieces new).new (length pieces) (length (own_of pieces)) made
     put_at_end = record {
-      front = pieces;
-      behind = [];
+      prefix = pieces;
+      following = [];
       parts = sym (append-nil pieces);
       here = refl;
       counts = refl;
@@ -250,7 +250,7 @@ module _ (pieces : List Piece) where
       after = own_of-at_end (is_full_at pieces (length pieces - 1)) refl;
     }
 
--- ---- where a new record is put in: as the last record of its set, or behind a new descriptor at the end
+-- ---- where a new record is put in: as the last record of its set, or after a new descriptor at the end
 
 found_or_not : {X : Type 0} (o : Option X) → (o ≡ None) ⊎ ((x : X) × (o ≡ Some x))
 found_or_not None = inl refl
@@ -262,33 +262,33 @@ empty_is_line = record { element = refl; ends = refl }
 -- the records of a text, its sets, and the fields of a new record
 module _ (pieces : List Piece) (records : List (Range ℕ)) (are : AreRecords pieces records) (sets : List Set_) (fields : List Piece) where
   -- the new record is the last one of its set
-  pub record JoinsSet (kind : Named) (insertion : Insertion) : Type 0 where
+  pub record JoinsSet (record_type : Named) (insertion : Insertion) : Type 0 where
     pub count : ℕ
     pub put : IsPutIn pieces insertion.new insertion.place count (fields ∷ [])
     pub lines : AllByRecursion IsClosed insertion.new
-    pub behind : type_behind None (take count (types_of pieces records)) ≡ kind
-    pub puts : (before : List Entry) → with_new sets kind fields before ≡ put_at count (record { kind = kind; own = fields } ∷ []) before
+    pub following : last_type None (take count (types_of pieces records)) ≡ record_type
+    pub puts : (before : List TypedRecord) → with_new sets record_type fields before ≡ put_at count (record { record_type = record_type; own = fields } ∷ []) before
 
-  -- it is the first one of a new set, behind all records
-  pub record OpensSet (kind : List ℕ) (insertion : Insertion) : Type 0 where
-    pub put : IsPutIn pieces insertion.new insertion.place (length (own_of pieces)) ((descriptor kind ∷ []) ∷ fields ∷ [])
+  -- it is the first one of a new set, after all records
+  pub record OpensSet (record_type : List ℕ) (insertion : Insertion) : Type 0 where
+    pub put : IsPutIn pieces insertion.new insertion.place (length (own_of pieces)) ((descriptor record_type ∷ []) ∷ fields ∷ [])
     pub lines : AllByRecursion IsClosed insertion.new
-    pub absent : find (is_of_type kind) sets ≡ None
+    pub absent : find (is_of_type record_type) sets ≡ None
 
   module _ (own : IsOwn fields) (written : AllByRecursion IsClosed fields) (are_sets : AreSets (types_of pieces records) sets) where
-    -- ---- behind the last record of a set that has one
+    -- ---- after the last record of a set that has one
 
-    joins_behind : (kind : Named) (s : Set_) → IsSetOf kind 0 None (types_of pieces records) s
-        → ((before : List Entry) → with_new sets kind fields before ≡ put_at s.members.end (record { kind = kind; own = fields } ∷ []) before)
-        → (r : Range ℕ) → slice_get records (s.members.end - 1) ≡ Some r → JoinsSet kind (behind_paragraph pieces fields r)
-    joins_behind kind s is puts r at =
+    joins_after : (record_type : Named) (s : Set_) → IsSetOf record_type 0 None (types_of pieces records) s
+        → ((before : List TypedRecord) → with_new sets record_type fields before ≡ put_at s.members.end (record { record_type = record_type; own = fields } ∷ []) before)
+        → (r : Range ℕ) → slice_get records (s.members.end - 1) ≡ Some r → JoinsSet record_type (after_paragraph pieces fields r)
+    joins_after record_type s is puts r at =
         let last : suc (s.members.end - 1) ≡ s.members.end = omega (arith, is.some) in
         let zeroth : s.members.end - 0 ≡ s.members.end = omega arith in
         record {
           count = s.members.end;
-          put = subst (λ n. IsPutIn pieces (empty_line ∷ fields) (paragraph_end pieces r.end) n (fields ∷ [])) last (put_behind pieces records are fields own (s.members.end - 1) r at);
+          put = subst (λ n. IsPutIn pieces (empty_line ∷ fields) (paragraph_end pieces r.end) n (fields ∷ [])) last (put_after pieces records are fields own (s.members.end - 1) r at);
           lines = (empty_is_line, written);
-          behind = ap (λ n. type_behind None (take n (types_of pieces records))) (sym zeroth) ∙ is.behind;
+          following = ap (λ n. last_type None (take n (types_of pieces records))) (sym zeroth) ∙ is.following;
           puts = puts;
         }
 
@@ -299,8 +299,8 @@ module _ (pieces : List Piece) (records : List (Range ℕ)) (are : AreRecords pi
       | inr (past, at) ↦ absurd (omega (arith, past))
     ]
 
-    last_there : (kind : Named) (s : Set_) → IsSetOf kind 0 None (types_of pieces records) s → (r : Range ℕ) × (slice_get records (s.members.end - 1) ≡ Some r)
-    last_there kind s is = there (s.members.end - 1) (let size = length-map records (λ r. type_of (elements_in pieces r)) in omega (arith, size, is.high, is.some))
+    last_there : (record_type : Named) (s : Set_) → IsSetOf record_type 0 None (types_of pieces records) s → (r : Range ℕ) × (slice_get records (s.members.end - 1) ≡ Some r)
+    last_there record_type s is = there (s.members.end - 1) (let size = length-map records (λ r. type_of (elements_in pieces r)) in omega (arith, size, is.high, is.some))
 
     lines_at_end : (new : List Piece) → AllByRecursion IsClosed new → AllByRecursion IsClosed (at_end pieces new).new
     lines_at_end new lines = cond_both (is_full_at pieces (length pieces - 1)) (empty_line ∷ new) new (AllByRecursion IsClosed) (λ _. (empty_is_line, lines)) (λ _. lines)
@@ -311,35 +311,35 @@ module _ (pieces : List Piece) (records : List (Range ℕ)) (are : AreRecords pi
     -- ---- of a type
 
     abbrev typed_by : List ℕ → Option (Range ℕ) → Insertion
-    typed_by kind last = option_map_or (behind_paragraph pieces fields) last (at_end pieces (descriptor kind ∷ empty_line ∷ fields))
+    typed_by record_type last = option_map_or (after_paragraph pieces fields) last (at_end pieces (descriptor record_type ∷ empty_line ∷ fields))
 
-    typed_joins : (kind : List ℕ) (s : Set_) → find (is_of_type kind) sets ≡ Some s → JoinsSet (Some kind) (typed_insertion pieces records sets fields kind)
-    typed_joins kind s found =
-        let is : IsSetOf (Some kind) 0 None (types_of pieces records) s =
-        subst (λ types. IsSetOf (Some kind) 0 None types s) are_sets.joined (set_found kind 0 None sets s are_sets.places found) in
-        let last = last_there (Some kind) s is in
-        let by : range_of records (option_and_then last_of (find (is_of_type kind) sets)) ≡ Some last.0 =
+    typed_joins : (record_type : List ℕ) (s : Set_) → find (is_of_type record_type) sets ≡ Some s → JoinsSet (Some record_type) (typed_insertion pieces records sets fields record_type)
+    typed_joins record_type s found =
+        let is : IsSetOf (Some record_type) 0 None (types_of pieces records) s =
+        subst (λ types. IsSetOf (Some record_type) 0 None types s) are_sets.joined (set_found record_type 0 None sets s are_sets.places found) in
+        let last = last_there (Some record_type) s is in
+        let by : range_of records (option_and_then last_of (find (is_of_type record_type) sets)) ≡ Some last.0 =
         ap (λ o. range_of records (option_and_then last_of o)) found ∙ ap (range_of records) is.last ∙ last.1 in
-        let puts : (before : List Entry) → with_new sets (Some kind) fields before ≡ put_at s.members.end (record { kind = Some kind; own = fields } ∷ []) before =
+        let puts : (before : List TypedRecord) → with_new sets (Some record_type) fields before ≡ put_at s.members.end (record { record_type = Some record_type; own = fields } ∷ []) before =
         λ before. rw found refl in
-        subst (λ o. JoinsSet (Some kind) (typed_by kind o)) (sym by) (joins_behind (Some kind) s is puts last.0 last.1)
+        subst (λ o. JoinsSet (Some record_type) (typed_by record_type o)) (sym by) (joins_after (Some record_type) s is puts last.0 last.1)
 
-    typed_opens : (kind : List ℕ) → is_plain_name kind ≡ true → find (is_of_type kind) sets ≡ None → OpensSet kind (typed_insertion pieces records sets fields kind)
-    typed_opens kind plain absent =
-        let made : own_of (descriptor kind ∷ empty_line ∷ fields) ≡ (descriptor kind ∷ []) ∷ fields ∷ [] =
-        own_first (descriptor kind ∷ []) (empty_line ∷ fields) (IsOwn-descriptor kind) refl ∙ ap (λ l. (descriptor kind ∷ []) ∷ l) own_of-fields in
-        let here : OpensSet kind (at_end pieces (descriptor kind ∷ empty_line ∷ fields)) = record {
-          put = put_at_end pieces (descriptor kind ∷ empty_line ∷ fields) ((descriptor kind ∷ []) ∷ fields ∷ []) made;
-          lines = lines_at_end (descriptor kind ∷ empty_line ∷ fields) (descriptor_is_line kind plain, (empty_is_line, written));
+    typed_opens : (record_type : List ℕ) → is_plain_name record_type ≡ true → find (is_of_type record_type) sets ≡ None → OpensSet record_type (typed_insertion pieces records sets fields record_type)
+    typed_opens record_type plain absent =
+        let made : own_of (descriptor record_type ∷ empty_line ∷ fields) ≡ (descriptor record_type ∷ []) ∷ fields ∷ [] =
+        own_first (descriptor record_type ∷ []) (empty_line ∷ fields) (IsOwn-descriptor record_type) refl ∙ ap (λ l. (descriptor record_type ∷ []) ∷ l) own_of-fields in
+        let here : OpensSet record_type (at_end pieces (descriptor record_type ∷ empty_line ∷ fields)) = record {
+          put = put_at_end pieces (descriptor record_type ∷ empty_line ∷ fields) ((descriptor record_type ∷ []) ∷ fields ∷ []) made;
+          lines = lines_at_end (descriptor record_type ∷ empty_line ∷ fields) (descriptor_is_line record_type plain, (empty_is_line, written));
           absent = absent;
         } in
-        subst (λ o. OpensSet kind (typed_by kind (range_of records (option_and_then last_of o)))) (sym absent) here
+        subst (λ o. OpensSet record_type (typed_by record_type (range_of records (option_and_then last_of o)))) (sym absent) here
 
-    pub typed_placed : (kind : List ℕ) → is_plain_name kind ≡ true
-        → JoinsSet (Some kind) (typed_insertion pieces records sets fields kind) ⊎ OpensSet kind (typed_insertion pieces records sets fields kind)
-    typed_placed kind plain = elim (found_or_not (find (is_of_type kind) sets)) [
-      | inl absent ↦ inr (typed_opens kind plain absent)
-      | inr (s, found) ↦ inl (typed_joins kind s found)
+    pub typed_placed : (record_type : List ℕ) → is_plain_name record_type ≡ true
+        → JoinsSet (Some record_type) (typed_insertion pieces records sets fields record_type) ⊎ OpensSet record_type (typed_insertion pieces records sets fields record_type)
+    typed_placed record_type plain = elim (found_or_not (find (is_of_type record_type) sets)) [
+      | inl absent ↦ inr (typed_opens record_type plain absent)
+      | inr (s, found) ↦ inl (typed_joins record_type s found)
     ]
 
 -- ---- without a type
@@ -347,7 +347,7 @@ module _ (pieces : List Piece) (records : List (Range ℕ)) (are : AreRecords pi
 module _ (pieces : List Piece) (records : List (Range ℕ)) (are : AreRecords pieces records) (fields : List Piece) (own : IsOwn fields) (written : AllByRecursion IsClosed fields) where
   abbrev untyped_by : Option (Range ℕ) → Option (Range ℕ) → Insertion
   untyped_by last head = elim last as (λ o. Insertion) [
-    | Some r ↦ behind_paragraph pieces fields r
+    | Some r ↦ after_paragraph pieces fields r
     | None ↦ option_map_or (before_paragraph pieces fields) head (at_end pieces fields)
   ]
 
@@ -375,7 +375,7 @@ module _ (pieces : List Piece) (records : List (Range ℕ)) (are : AreRecords pi
         put = subst (λ n. IsPutIn pieces (at_end pieces fields).new (length pieces) n (fields ∷ [])) (omega (arith, end, types, ranges, total, only, owns))
             (put_at_end pieces fields (fields ∷ []) (own_of-fields pieces records are (s ∷ []) fields own written are_sets));
         lines = lines_at_end pieces records are (s ∷ []) fields own written are_sets fields written;
-        behind = is.behind;
+        following = is.following;
         puts = λ before. refl;
       }
   memberless s (t ∷ typed) are_sets is none =
@@ -383,9 +383,9 @@ module _ (pieces : List Piece) (records : List (Range ℕ)) (are : AreRecords pi
       let here : JoinsSet pieces records are (s ∷ t ∷ typed) fields None (before_paragraph pieces fields first.0) = record {
         count = 0;
         put = put_before pieces records are fields own first.0 first.1;
-        lines = all_append IsClosed fields (empty_line ∷ []) written (empty_is_line, tt);
-        behind = refl;
-        puts = λ before. ap (λ n. put_at n (record { kind = None; own = fields } ∷ []) before) none;
+        lines = AllByRecursion-append IsClosed fields (empty_line ∷ []) written (empty_is_line, tt);
+        following = refl;
+        puts = λ before. ap (λ n. put_at n (record { record_type = None; own = fields } ∷ []) before) none;
       } in
       subst (λ o. JoinsSet pieces records are (s ∷ t ∷ typed) fields None (untyped_by None o)) (sym first.2) here
 
@@ -400,7 +400,7 @@ module _ (pieces : List Piece) (records : List (Range ℕ)) (are : AreRecords pi
             let set_is : IsSetOf None 0 None (types_of pieces records) s = is.has_some some in
             let last = last_there pieces records are (s ∷ typed) fields own written are_sets None s set_is in
             subst (λ o. JoinsSet pieces records are (s ∷ typed) fields None (untyped_by o head)) (sym (ap (range_of records) set_is.last ∙ last.1))
-            (joins_behind pieces records are (s ∷ typed) fields own written are_sets None s set_is (λ before. refl) last.0 last.1)
+            (joins_after pieces records are (s ∷ typed) fields own written are_sets None s set_is (λ before. refl) last.0 last.1)
         | inr past ↦
             let none = is.has_none past in
             subst (λ o. JoinsSet pieces records are (s ∷ typed) fields None (untyped_by o head)) (sym (ap (range_of records) none.1)) (memberless s typed are_sets is none.0)

@@ -17,19 +17,20 @@ use Rattle.rec_text.specs.Elements.{Piece, text_of}
 use Rattle.rec_text.specs.Places.{piece_of, pieces_of}
 use Rattle.rec_check.specs.declared.set.Set_.{Set_}
 use Rattle.rec_check.specs.Sets.{is_of_type}
-use Rattle.rec_edit.specs.Insertions.{Insertion, is_full, paragraph_start, paragraph_end, behind_paragraph, before_paragraph, last_of, range_of, at_end, untyped_insertion, insertion_for, inserting, Numbered, numbered_fields}
+use Rattle.rec_edit.specs.Insertions.{Insertion, is_full, paragraph_start, paragraph_end, after_paragraph, before_paragraph, last_of, range_of, at_end, untyped_insertion, insertion_for, inserting, Numbered, numbered_fields}
 use Rattle.rec_text.specs.Records.{AreRecords}
 use Rattle.rec_edit.specs.declared.insertion.site.Gap.{Gap}
-use Rattle.rec_edit.specs.declared.insertion.site.Gap.TheVariants.{Absent, Before, Behind}
+use Rattle.rec_edit.specs.declared.insertion.site.Gap.TheVariants.{Absent, Before, After}
 use Rattle.rec_edit.specs.declared.insertion.site.Site.{Site}
 use Rattle.rec_edit.specs.Task.{Pair, NewRecord, insert}
 use Rattle.rec_edit.specs.Rules.{fields_of, canonical, empty_line}
-use Rattle.rec_edit.specs.proving.Sites.{line_before, line_behind, around, placed, heading, Begins, IsPut, IsRecordPut, block}
+use Rattle.rec_edit.specs.proving.Sites.{empty_line_before, empty_line_after, around, placed, heading, Begins, IsPut, IsRecordPut, block}
 use Rattle.rec_text.specs.Bytes.{ends_newline}
 use Rattle.rec_journal.specs.declared.patch.Hunk.{Hunk}
 use Rattle.rec_edit.specs.declared.outcome.Edited.{Edited}
-use Rattle.rec_edit.specs.Script.{Part, Layout, closed, opened, lacks_newline, putting, settled, parts_from, script_of, new_pieces, changes_from, joined, real_changes, hunks_of, edited_text}
-use Rattle.rec_edit.specs.Outcome.{edited_by, step_of_insert}
+use Rattle.rec_edit.specs.Script.{Part, Layout, closed, opened, lacks_newline, putting, settled, parts_from, script_of, new_pieces, changes_from, edited_text}
+use Rattle.rec_edit.specs.proving.Changes.{joined, real_changes, hunks_of}
+use Rattle.rec_edit.specs.Outcome.{edited_by, insert_script}
 use Rattle.rec_edit.specs.proving.Drafts.{LaysLines}
 use Rattle.rec_text.specs.declared.fault.Fault.{Fault}
 use Rattle.rec_text.specs.Faults.{IsMemoryOr}
@@ -43,28 +44,28 @@ use Rattle.rec_text.proofs.lemmas.elements.ElementLemmas.{text_of-append}
 use Rattle.rec_text.proofs.lemmas.elements.FieldLemmas.{ends_newline-append}
 use Rattle.rec_edit.proofs.lemmas.scripts.LaidLemmas.{AreEnded, AreEnded-append, canonical-ends}
 use Rattle.rec_edit.proofs.lemmas.scripts.WellFormedLemmas.{parts_from-cons}
-use Rattle.rec_edit.proofs.lemmas.outcomes.AnswerLemmas.{memory_or_weaker}
+use Rattle.rec_text.proofs.lemmas.FaultLemmas.{memory_or_weaker}
 
 -- ---- where a new record is put: beside which record, and at which end of its paragraph
 
 -- ---- the set of a type
 
-pub find-place : (kind : List ℕ) (sets : List Set_) (place : ℕ) → Some place ≡ position (is_of_type kind) sets → find (is_of_type kind) sets ≡ slice_get sets place
-find-place kind sets place found =
+pub find-place : (record_type : List ℕ) (sets : List Set_) (place : ℕ) → Some place ≡ position (is_of_type record_type) sets → find (is_of_type record_type) sets ≡ slice_get sets place
+find-place record_type sets place found =
     let no_set : Set_ = record { kind = None; head = None; members = record { start = 0; end = 0 } } in
-    let at = position-Some (is_of_type kind) sets place no_set (sym found) in
+    let at = position-Some (is_of_type record_type) sets place no_set (sym found) in
     let within = at.0 in
-    let first : position_or_len (is_of_type kind) sets ≡ place =
-    position_or_len_is (is_of_type kind) sets place no_set (omega arith)
-    (λ k below. let early = position-Some (is_of_type kind) sets place no_set (sym found) in early.2 k below) (λ _. at.1) in
-    find_at (is_of_type kind) sets ∙ ap (slice_get sets) first
+    let first : position_or_len (is_of_type record_type) sets ≡ place =
+    position_or_len_is (is_of_type record_type) sets place no_set (omega arith)
+    (λ k below. let early = position-Some (is_of_type record_type) sets place no_set (sym found) in early.2 k below) (λ _. at.1) in
+    find_at (is_of_type record_type) sets ∙ ap (slice_get sets) first
 
-pub find-none : (kind : List ℕ) (sets : List Set_) → None ≡ position (is_of_type kind) sets → find (is_of_type kind) sets ≡ None
-find-none kind sets none =
-    let at : ℕ = position_or_len (is_of_type kind) sets in
+pub find-none : (record_type : List ℕ) (sets : List Set_) → None ≡ position (is_of_type record_type) sets → find (is_of_type record_type) sets ≡ None
+find-none record_type sets none =
+    let at : ℕ = position_or_len (is_of_type record_type) sets in
     elim (cases_lt at (length sets)) [
       | inl within ↦ absurd (let there = lt-ltb at (length sets) within in let missing = rw there at none in cc)
-      | inr past ↦ find_at (is_of_type kind) sets ∙ slice_get_past sets at past
+      | inr past ↦ find_at (is_of_type record_type) sets ∙ slice_get_past sets at past
     ]
 
 -- ---- the ends of a paragraph
@@ -75,15 +76,15 @@ map-reverse f (x ∷ xs) =
     ap (map f) (reverse-append (x ∷ []) xs) ∙ map-append f (reverse xs) (x ∷ []) ∙ ap (λ l. l ++ f x ∷ []) (map-reverse f xs) ∙ sym (reverse-append (f x ∷ []) (map f xs))
 
 module _ (elements : List Element) where
-  -- those behind an index that aren't blank, counted in the code's slice
-  pub full_behind : (end count : ℕ) → count ≡ prefix_len is_full (pieces_of (take (length elements - end) (drop end elements))) → end + count ≡ paragraph_end (pieces_of elements) end
-  full_behind end count counted =
+  -- those after an index that aren't blank, counted in the code's slice
+  pub full_after : (end count : ℕ) → count ≡ prefix_len is_full (pieces_of (take (length elements - end) (drop end elements))) → end + count ≡ paragraph_end (pieces_of elements) end
+  full_after end count counted =
       ap (λ n. end + n) (counted ∙ ap (λ e. prefix_len is_full (pieces_of e)) (take_rest elements end) ∙ ap (prefix_len is_full) (sym (drop-map piece_of end elements)))
 
   pub full_fits : (end count : ℕ) → count ≡ prefix_len is_full (pieces_of (take (length elements - end) (drop end elements))) → end ≤ length (pieces_of elements) → end + count ≤ length elements
   full_fits end count counted within =
       let few = prefix_len-le-length is_full (drop end (pieces_of elements)) in
-      omega (arith, full_behind end count counted, few, length-drop end (pieces_of elements), length-map elements piece_of)
+      omega (arith, full_after end count counted, few, length-drop end (pieces_of elements), length-map elements piece_of)
 
   -- those before an index
   pub full_before : (start count : ℕ) → count ≡ prefix_len is_full (reverse (pieces_of (take start elements))) → start - count ≡ paragraph_start (pieces_of elements) start
@@ -97,71 +98,71 @@ module _ (elements : List Element) where
 -- ---- without a type
 
 module _ (pieces : List Piece) (records : List (Range ℕ)) (sets : List Set_) (fields : List Piece) where
-  -- behind no untyped record
+  -- after no untyped record
   abbrev pub beside_descriptor : Insertion
   beside_descriptor =
       option_map_or (before_paragraph pieces fields) (range_of records (option_and_then (λ s. s.head) (slice_get sets 1))) (at_end pieces fields)
 
   untyped-by : (last : Option (Range ℕ)) → range_of records (option_and_then last_of (slice_get sets 0)) ≡ last
-      → untyped_insertion pieces records sets fields ≡ option_map_or (behind_paragraph pieces fields) last beside_descriptor
+      → untyped_insertion pieces records sets fields ≡ option_map_or (after_paragraph pieces fields) last beside_descriptor
   untyped-by None e = rw (e, untyped_insertion) refl
   untyped-by (Some last) e = rw (e, untyped_insertion) refl
 
   pub untyped_insertion-is : untyped_insertion pieces records sets fields
-      ≡ option_map_or (behind_paragraph pieces fields) (range_of records (option_and_then last_of (slice_get sets 0))) beside_descriptor
+      ≡ option_map_or (after_paragraph pieces fields) (range_of records (option_and_then last_of (slice_get sets 0))) beside_descriptor
   untyped_insertion-is = untyped-by (range_of records (option_and_then last_of (slice_get sets 0))) refl
 
 -- ---- what stands before the fields of a new record, and the text that is put in with them
 
 -- ---- before the fields
 
-module _ (pieces shown : List Piece) (sets : List Set_) (kind : Option (List ℕ)) (records slice : List (Range ℕ)) (site : Site) (same : shown ≡ pieces) (all : slice ≡ records) (are : AreRecords pieces records) where
+module _ (pieces shown : List Piece) (sets : List Set_) (record_type : Option (List ℕ)) (records slice : List (Range ℕ)) (site : Site) (same : shown ≡ pieces) (all : slice ≡ records) (are : AreRecords pieces records) where
   -- the site, as it was found among the elements and the records that were read
-  sited : (front : List Piece) → ((fields : List Piece) → insertion_for shown slice sets kind fields ≡ placed site (front ++ fields))
-      → (fields : List Piece) → insertion_for pieces records sets kind fields ≡ placed site (front ++ fields)
-  sited front is fields =
-      ap (λ ps. insertion_for ps records sets kind fields) (sym same) ∙ ap (λ rs. insertion_for shown rs sets kind fields) (sym all) ∙ is fields
+  sited : (prefix : List Piece) → ((fields : List Piece) → insertion_for shown slice sets record_type fields ≡ placed site (prefix ++ fields))
+      → (fields : List Piece) → insertion_for pieces records sets record_type fields ≡ placed site (prefix ++ fields)
+  sited prefix is fields =
+      ap (λ ps. insertion_for ps records sets record_type fields) (sym same) ∙ ap (λ rs. insertion_for shown rs sets record_type fields) (sym all) ∙ is fields
 
-  pub Begins-heading : (old before new : List ℕ) → before ≡ old ++ text_of (line_before site.gap) → new ≡ before ++ text_of (heading kind)
-      → ((fields : List Piece) → insertion_for shown slice sets kind fields ≡ at_end shown (heading kind ++ fields)) → ((new : List Piece) → at_end shown new ≡ placed site new)
-      → Begins pieces sets kind site old new
+  pub Begins-heading : (old before new : List ℕ) → before ≡ old ++ text_of (empty_line_before site.gap) → new ≡ before ++ text_of (heading record_type)
+      → ((fields : List Piece) → insertion_for shown slice sets record_type fields ≡ at_end shown (heading record_type ++ fields)) → ((new : List Piece) → at_end shown new ≡ placed site new)
+      → Begins pieces sets record_type site old new
   Begins-heading old before new lined headed is at = record {
     records = records;
     are = are;
-    front = heading kind;
-    grown = headed ∙ ap (λ t. t ++ text_of (heading kind)) lined ∙ append_assoc old (text_of (line_before site.gap)) (text_of (heading kind))
-        ∙ ap (λ t. old ++ t) (sym (text_of-append (line_before site.gap) (heading kind)));
-    is = sited (heading kind) (λ fields. is fields ∙ at (heading kind ++ fields));
+    prefix = heading record_type;
+    grown = headed ∙ ap (λ t. t ++ text_of (heading record_type)) lined ∙ append_assoc old (text_of (empty_line_before site.gap)) (text_of (heading record_type))
+        ∙ ap (λ t. old ++ t) (sym (text_of-append (empty_line_before site.gap) (heading record_type)));
+    is = sited (heading record_type) (λ fields. is fields ∙ at (heading record_type ++ fields));
   }
 
 -- ---- the whole text
 
-around-is : (gap : Gap) (new : List Piece) → (line_before gap ++ new) ++ line_behind gap ≡ around gap new
+around-is : (gap : Gap) (new : List Piece) → (empty_line_before gap ++ new) ++ empty_line_after gap ≡ around gap new
 around-is Absent new = append-nil new
-around-is Before new = append-nil (line_before Before ++ new)
-around-is Behind new = refl
+around-is Before new = append-nil (empty_line_before Before ++ new)
+around-is After new = refl
 
-pub IsRecordPut-text : (pieces : List Piece) (sets : List Set_) (kind : Option (List ℕ)) (site : Site) (automatic : List ℕ) (pairs : List Pair) (old begun given filled whole : List ℕ)
-    → Begins pieces sets kind site old begun → old ≡ [] → given ≡ begun ++ automatic → filled ≡ given ++ text_of (fields_of pairs) → whole ≡ filled ++ text_of (line_behind site.gap)
-    → IsRecordPut pieces sets kind automatic pairs site.place whole
-IsRecordPut-text pieces sets kind site automatic pairs old begun given filled whole begins none gives fills ends = record {
+pub IsRecordPut-text : (pieces : List Piece) (sets : List Set_) (record_type : Option (List ℕ)) (site : Site) (automatic : List ℕ) (pairs : List Pair) (old begun given filled whole : List ℕ)
+    → Begins pieces sets record_type site old begun → old ≡ [] → given ≡ begun ++ automatic → filled ≡ given ++ text_of (fields_of pairs) → whole ≡ filled ++ text_of (empty_line_after site.gap)
+    → IsRecordPut pieces sets record_type automatic pairs site.place whole
+IsRecordPut-text pieces sets record_type site automatic pairs old begun given filled whole begins none gives fills ends = record {
   records = begins.records;
   are = begins.are;
   is = λ fields are.
-      let before = line_before site.gap in
-      let behind = line_behind site.gap in
-      let front = begins.front in
+      let before = empty_line_before site.gap in
+      let following = empty_line_after site.gap in
+      let prefix = begins.prefix in
       let own = fields_of pairs in
-      let begun_is : begun ≡ text_of (before ++ front) = begins.grown ∙ ap (λ t. t ++ text_of (before ++ front)) none in
-      let given_is : given ≡ text_of ((before ++ front) ++ fields) =
-      gives ∙ ap (λ t. t ++ automatic) begun_is ∙ ap (λ t. text_of (before ++ front) ++ t) are ∙ sym (text_of-append (before ++ front) fields) in
-      let filled_is : filled ≡ text_of (((before ++ front) ++ fields) ++ own) =
-      fills ∙ ap (λ t. t ++ text_of own) given_is ∙ sym (text_of-append ((before ++ front) ++ fields) own) in
-      let whole_is : whole ≡ text_of ((((before ++ front) ++ fields) ++ own) ++ behind) =
-      ends ∙ ap (λ t. t ++ text_of behind) filled_is ∙ sym (text_of-append (((before ++ front) ++ fields) ++ own) behind) in
-      let order : ((before ++ front) ++ fields) ++ own ≡ before ++ (front ++ (fields ++ own)) = simp append_assoc in
-      let put : IsPut site.place whole (placed site (front ++ (fields ++ own))) =
-      record { same_place = refl; same_text = whole_is ∙ ap text_of (ap (λ l. l ++ behind) order ∙ around-is site.gap (front ++ (fields ++ own))) } in
+      let begun_is : begun ≡ text_of (before ++ prefix) = begins.grown ∙ ap (λ t. t ++ text_of (before ++ prefix)) none in
+      let given_is : given ≡ text_of ((before ++ prefix) ++ fields) =
+      gives ∙ ap (λ t. t ++ automatic) begun_is ∙ ap (λ t. text_of (before ++ prefix) ++ t) are ∙ sym (text_of-append (before ++ prefix) fields) in
+      let filled_is : filled ≡ text_of (((before ++ prefix) ++ fields) ++ own) =
+      fills ∙ ap (λ t. t ++ text_of own) given_is ∙ sym (text_of-append ((before ++ prefix) ++ fields) own) in
+      let whole_is : whole ≡ text_of ((((before ++ prefix) ++ fields) ++ own) ++ following) =
+      ends ∙ ap (λ t. t ++ text_of following) filled_is ∙ sym (text_of-append (((before ++ prefix) ++ fields) ++ own) following) in
+      let order : ((before ++ prefix) ++ fields) ++ own ≡ before ++ (prefix ++ (fields ++ own)) = simp append_assoc in
+      let put : IsPut site.place whole (placed site (prefix ++ (fields ++ own))) =
+      record { same_place = refl; same_text = whole_is ∙ ap text_of (ap (λ l. l ++ following) order ∙ around-is site.gap (prefix ++ (fields ++ own))) } in
       subst (IsPut site.place whole) (sym (begins.is (fields ++ own))) put;
 }
 
@@ -346,52 +347,52 @@ module _ (pieces : List Piece) (records : List (Range ℕ)) (sets : List Set_) w
   at_end-ended : (new : List Piece) → AreEnded new → PutsLines (at_end pieces new)
   at_end-ended new ended = cond_both _ (empty_line ∷ new) new AreEnded (λ _. (refl, ended)) (λ _. ended)
 
-  insertion_for-ended : (kind : Option (List ℕ)) (fields : List Piece) → AreEnded fields → PutsLines (insertion_for pieces records sets kind fields)
+  insertion_for-ended : (record_type : Option (List ℕ)) (fields : List Piece) → AreEnded fields → PutsLines (insertion_for pieces records sets record_type fields)
   insertion_for-ended None fields ended =
       let beside = by_option (before_paragraph pieces fields) (range_of records (option_and_then (λ s. s.head) (slice_get sets 1))) (at_end pieces fields)
       (λ _. AreEnded-append fields (empty_line ∷ []) ended (refl, tt)) (at_end-ended fields ended) in
       subst PutsLines (sym (untyped_insertion-is pieces records sets fields))
-      (by_option (behind_paragraph pieces fields) (range_of records (option_and_then last_of (slice_get sets 0))) (beside_descriptor pieces records sets fields) (λ _. (refl, ended)) beside)
-  insertion_for-ended (Some kind) fields ended =
-      by_option (behind_paragraph pieces fields) (range_of records (option_and_then last_of (find (is_of_type kind) sets))) (at_end pieces (canonical rec_name kind ∷ empty_line ∷ fields))
-      (λ _. (refl, ended)) (at_end-ended (canonical rec_name kind ∷ empty_line ∷ fields) (canonical-ends rec_name kind, (refl, ended)))
+      (by_option (after_paragraph pieces fields) (range_of records (option_and_then last_of (slice_get sets 0))) (beside_descriptor pieces records sets fields) (λ _. (refl, ended)) beside)
+  insertion_for-ended (Some record_type) fields ended =
+      by_option (after_paragraph pieces fields) (range_of records (option_and_then last_of (find (is_of_type record_type) sets))) (at_end pieces (canonical rec_name record_type ∷ empty_line ∷ fields))
+      (λ _. (refl, ended)) (at_end-ended (canonical rec_name record_type ∷ empty_line ∷ fields) (canonical-ends rec_name record_type, (refl, ended)))
 
 -- ---- the edit
 
-module _ (pieces : List Piece) (schema : Described) (kind : Option (List ℕ)) (fresh : NewRecord) (auto : Bool) where
-  pub insert-no_record : (force : Bool) (fault : Fault) → IsMemoryOr fault (IsNewRecord kind fresh (Err fault)) → IsMemoryOr fault (IsEditOf pieces schema force (insert kind fresh auto) (Err fault))
+module _ (pieces : List Piece) (schema : Described) (record_type : Option (List ℕ)) (fresh : NewRecord) (auto : Bool) where
+  pub insert-no_record : (force : Bool) (fault : Fault) → IsMemoryOr fault (IsNewRecord record_type fresh (Err fault)) → IsMemoryOr fault (IsEditOf pieces schema force (insert record_type fresh auto) (Err fault))
   insert-no_record force fault is =
-      memory_or_weaker fault (IsNewRecord kind fresh (Err fault)) (IsEditOf pieces schema force (insert kind fresh auto) (Err fault))
+      memory_or_weaker fault (IsNewRecord record_type fresh (Err fault)) (IsEditOf pieces schema force (insert record_type fresh auto) (Err fault))
       (λ refused. inl (fault, inl (fault, refused, refl), refl)) is
 
-  module _ (pairs : List Pair) (is_new : IsNewRecord kind fresh (Ok pairs)) where
+  module _ (pairs : List Pair) (is_new : IsNewRecord record_type fresh (Ok pairs)) where
     abbrev pub names : List (List ℕ)
     names = map (λ pair. pair.name) pairs
 
-    pub insert-no_number : (force : Bool) (fault : Fault) → IsMemoryOr fault (AreAutomatic pieces schema kind auto names (Err fault))
-        → IsMemoryOr fault (IsEditOf pieces schema force (insert kind fresh auto) (Err fault))
+    pub insert-no_number : (force : Bool) (fault : Fault) → IsMemoryOr fault (AreAutomatic pieces schema record_type auto names (Err fault))
+        → IsMemoryOr fault (IsEditOf pieces schema force (insert record_type fresh auto) (Err fault))
     insert-no_number force fault is =
-        memory_or_weaker fault (AreAutomatic pieces schema kind auto names (Err fault)) (IsEditOf pieces schema force (insert kind fresh auto) (Err fault))
+        memory_or_weaker fault (AreAutomatic pieces schema record_type auto names (Err fault)) (IsEditOf pieces schema force (insert record_type fresh auto) (Err fault))
         (λ refused. inl (fault, inr (pairs, is_new, inl (fault, refused, refl)), refl)) is
 
-    module _ (automatic : List ℕ) (place : ℕ) (text : List ℕ) (given : IsAutomaticText pieces schema kind auto names automatic) (put : IsRecordPut pieces schema.sets kind automatic pairs place text) where
+    module _ (automatic : List ℕ) (place : ℕ) (text : List ℕ) (given : IsAutomaticText pieces schema record_type auto names automatic) (put : IsRecordPut pieces schema.sets record_type automatic pairs place text) where
       abbrev fields : List Piece
       fields = numbered_fields given.0 ++ fields_of pairs
 
-      is_put : IsPut place text (insertion_for pieces put.records schema.sets kind fields)
+      is_put : IsPut place text (insertion_for pieces put.records schema.sets record_type fields)
       is_put = put.is (numbered_fields given.0) given.2
 
-      ended : PutsLines (insertion_for pieces put.records schema.sets kind fields)
-      ended = insertion_for-ended pieces put.records schema.sets kind fields (AreEnded-append (numbered_fields given.0) (fields_of pairs) (numbered_fields-ended given.0) (fields_of-ended pairs))
+      ended : PutsLines (insertion_for pieces put.records schema.sets record_type fields)
+      ended = insertion_for-ended pieces put.records schema.sets record_type fields (AreEnded-append (numbered_fields given.0) (fields_of pairs) (numbered_fields-ended given.0) (fields_of-ended pairs))
 
       pub LaysLines-insert : LaysLines (inserting (in_one place text))
-      LaysLines-insert = LaysLines-in_one place text (insertion_for pieces put.records schema.sets kind fields).new ended is_put.same_text
+      LaysLines-insert = LaysLines-in_one place text (insertion_for pieces put.records schema.sets record_type fields).new ended is_put.same_text
 
       pub insert-made : (force : Bool) (edited : Edited) → edited ≡ edited_by (record { script = script_of (inserting (in_one place text)) pieces; changed = 1 })
-          → IsEditOf pieces schema force (insert kind fresh auto) (Ok edited)
+          → IsEditOf pieces schema force (insert record_type fresh auto) (Ok edited)
       insert-made force edited is =
           inr (
-            step_of_insert pieces put.records schema.sets kind fields,
+            insert_script pieces put.records schema.sets record_type fields,
             inr (pairs, is_new, inr (given.0, given.1, (put.records, put.are, refl))),
-            ap Ok (is ∙ put_in_one pieces place text (insertion_for pieces put.records schema.sets kind fields) 1 ended is_put),
+            ap Ok (is ∙ put_in_one pieces place text (insertion_for pieces put.records schema.sets record_type fields) 1 ended is_put),
           )

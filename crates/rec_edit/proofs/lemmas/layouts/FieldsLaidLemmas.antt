@@ -27,14 +27,14 @@ use Rattle.rec_edit.specs.Script.{Layout, closed}
 use Rattle.rec_edit.specs.Rules.{added, canonical, is_picked, picked_becomes, picks_none, renamed, setting}
 use Rattle.rec_edit.proofs.lemmas.records.FitLemmas.{length-part, KeepsAt, laid_at, laid_from-fails, flat_map_fails, EndsBy, BeginsFrom, LeavesOut, StandsBetween, IsInner}
 use Rattle.rec_edit.proofs.lemmas.scripts.LaidLemmas.{laid_from, closed-blank}
-use Rattle.rec_edit.proofs.lemmas.records.MemberLemmas.{AreOnce, any_chosen, none_chosen, given_by_chosen, nothing_chosen, holds_index-before, holds_index-behind, holds_index-in}
+use Rattle.rec_edit.proofs.lemmas.records.MemberLemmas.{AreOnce, any_chosen, none_chosen, given_by_chosen, nothing_chosen, holds_index-before, holds_index-following, holds_index-in}
 use Rattle.rec_edit.proofs.lemmas.records.ClosedLemmas.{colon_of-more, field_colon, name_of-closed, picks-closed}
 use Rattle.rec_edit.proofs.lemmas.layouts.NeatLemmas.{IsPlainAction}
 use Rattle.rec_edit.proofs.lemmas.layouts.TakingOutLemmas.{commented_fails, left_out_fails}
 
 -- ---- what is laid of a record, element by element
 
--- the elements of a record with their places in it, and what is put behind the last
+-- the elements of a record with their places in it, and what is put after the last
 laid_as : (layout : Layout) (becomes : ℕ → Piece → List Piece) (put : List Piece) (start k : ℕ) (pieces : List Piece) → 0 < length pieces
     → ((j : ℕ) (piece : Piece) → k ≤ j → j < k + length pieces → layout.becomes (start + j) piece ≡ becomes j piece)
     → ((j : ℕ) → k ≤ j → j + 1 < k + length pieces → layout.put (start + j + 1) ≡ []) → layout.put (start + (k + length pieces)) ≡ put
@@ -45,13 +45,13 @@ laid_as layout becomes put start k (piece ∷ []) some made alone last =
     ap₂ (λ a b. a ++ (b ++ [])) (made k (closed piece) (omega arith) (omega arith)) (ap layout.put end ∙ last)
     ∙ ap (λ b. becomes k (closed piece) ++ b) (append-nil put) ∙ ap (λ a. a ++ put) (sym (append-nil (becomes k (closed piece))))
 laid_as layout becomes put start k (piece ∷ next ∷ pieces) some made alone last =
-    let step : start + k + 1 ≡ start + (k + 1) = omega arith in
+    let edit : start + k + 1 ≡ start + (k + 1) = omega arith in
     let size : start + (k + length (piece ∷ next ∷ pieces)) ≡ start + (k + 1 + length (next ∷ pieces)) = omega arith in
     let more : laid_from layout (start + (k + 1)) (next ∷ pieces) ≡ flat_map (λ (i, piece). becomes i piece) (enumerate_from (k + 1) (map closed (next ∷ pieces))) ++ put =
     laid_as layout becomes put start (k + 1) (next ∷ pieces) (omega arith) (λ j piece low high. made j piece (omega arith) (omega arith)) (λ j low high. alone j (omega arith) (omega arith))
     (ap layout.put (sym size) ∙ last) in
     ap₂ (λ a b. a ++ (b ++ laid_from layout (start + k + 1) (next ∷ pieces))) (made k (closed piece) (omega arith) (omega arith)) (alone k (omega arith) (omega arith))
-    ∙ ap (λ m. becomes k (closed piece) ++ laid_from layout m (next ∷ pieces)) step
+    ∙ ap (λ m. becomes k (closed piece) ++ laid_from layout m (next ∷ pieces)) edit
     ∙ ap (λ l. becomes k (closed piece) ++ l) more
     ∙ sym (append_assoc (becomes k (closed piece)) (flat_map (λ (i, piece). becomes i piece) (enumerate_from (k + 1) (map closed (next ∷ pieces)))) put)
 
@@ -174,7 +174,7 @@ renamed_more name Field bytes more plain is =
 renamed_other : (name : List ℕ) (piece : Piece) → is_plain_name name ≡ true → IsElement piece → has_name rec_name (renamed name (closed piece)) ≡ false
 renamed_other name piece plain is = elim (cases_Bool (ends_newline piece.bytes)) [
   | inl ends ↦ rw ends (ap (λ bs. has_name rec_name (renamed name (record { kind = piece.kind; bytes = bs }))) (sym (append-nil piece.bytes)) ∙ renamed_more name piece.kind piece.bytes [] plain is)
-  | inr open_ ↦ rw open_ (renamed_more name piece.kind piece.bytes (10 ∷ []) plain is)
+  | inr is_left_open ↦ rw is_left_open (renamed_more name piece.kind piece.bytes (10 ∷ []) plain is)
 ]
 
 alone_fails : (test : Piece → Bool) (piece : Piece) → test piece ≡ false → list_any test (piece ∷ []) ≡ false
@@ -237,8 +237,8 @@ same_any : {X : Type 0} (f g : X → Bool) (xs : List X) → ((x : X) → f x �
 same_any f g [] same = refl
 same_any f g (x ∷ xs) same = ap₂ (λ a b. a || b) (same x) (same_any f g xs same)
 
-eq_behind : (s p j : ℕ) → (s + p == s + j) ≡ (p == j)
-eq_behind s p j = grind (arith, nat_tests)
+eq_after : (s p j : ℕ) → (s + p == s + j) ≡ (p == j)
+eq_after s p j = grind (arith, nat_tests)
 
 nil_if : {X : Type 0} (b : Bool) → ◌≡◌ {A = List X} (if b then [] else []) []
 nil_if true = refl
@@ -303,23 +303,23 @@ module _ (action : Action) (items : List Item) (pieces : List Piece) (selected :
       nothing_chosen (put_in action items pieces 0) selected records
       (AllByRecursion-weaker (λ q. q.start < q.end) (λ q. put_in action items pieces 0 q ≡ []) (λ q more. put_nothing 0 q (λ same. omega (arith, same, more))) records some)
 
-  module _ (once : AreOnce selected) (before : List (Range ℕ)) (r : Range ℕ) (behind : List (Range ℕ))
-      (stands : StandsBetween pieces (set_of action items pieces selected records) selected (with_fields action items) records before r behind) where
+  module _ (once : AreOnce selected) (before : List (Range ℕ)) (r : Range ℕ) (following : List (Range ℕ))
+      (stands : StandsBetween pieces (set_of action items pieces selected records) selected (with_fields action items) records before r following) where
     picked_inside : (i : ℕ) → r.start ≤ i → i < r.end → is_picked items pieces (filter_map (slice_get records) selected) i
         ≡ (list_any (λ k. k == length before) selected && (true && list_any (λ place. r.start + place == i) (picks items (elements_in pieces r))))
     picked_inside i low high =
         ap (λ rs. list_any (picked_in items pieces i) (filter_map (slice_get rs) selected)) stands.parts
-        ∙ any_chosen (picked_in items pieces i) selected before r behind
-        (AllByRecursion-weaker (EndsBy r.start) (λ q. picked_in items pieces i q ≡ false) (λ q ends. and_left _ _ (holds_index-behind i q (omega (arith, ends.1)))) before stands.ended)
-        (AllByRecursion-weaker (BeginsFrom r.end) (λ q. picked_in items pieces i q ≡ false) (λ q begins. and_left _ _ (holds_index-before i q (omega (arith, begins.1)))) behind stands.begun)
+        ∙ any_chosen (picked_in items pieces i) selected before r following
+        (AllByRecursion-weaker (EndsBy r.start) (λ q. picked_in items pieces i q ≡ false) (λ q ends. and_left _ _ (holds_index-following i q (omega (arith, ends.1)))) before stands.ended)
+        (AllByRecursion-weaker (BeginsFrom r.end) (λ q. picked_in items pieces i q ≡ false) (λ q begins. and_left _ _ (holds_index-before i q (omega (arith, begins.1)))) following stands.begun)
         ∙ ap (λ b. list_any (λ k. k == length before) selected && (b && list_any (λ place. r.start + place == i) (picks items (elements_in pieces r)))) (holds_index-in i r low high)
 
     put_inside : (i : ℕ) → r.start < i → i ≤ r.end → (set_of action items pieces selected records).put i ≡ (if list_any (λ k. k == length before) selected then put_in action items pieces i r else [])
     put_inside i low high =
         ap (λ rs. flat_map (put_in action items pieces i) (filter_map (slice_get rs) selected)) stands.parts
-        ∙ given_by_chosen (put_in action items pieces i) selected before r behind
+        ∙ given_by_chosen (put_in action items pieces i) selected before r following
         (AllByRecursion-weaker (EndsBy r.start) (λ q. put_in action items pieces i q ≡ []) (λ q ends. put_nothing i q (λ same. omega (arith, same, ends.1))) before stands.ended)
-        (AllByRecursion-weaker (BeginsFrom r.end) (λ q. put_in action items pieces i q ≡ []) (λ q begins. put_nothing i q (λ same. omega (arith, same, begins.0, begins.1))) behind stands.begun)
+        (AllByRecursion-weaker (BeginsFrom r.end) (λ q. put_in action items pieces i q ≡ []) (λ q begins. put_nothing i q (λ same. omega (arith, same, begins.0, begins.1))) following stands.begun)
         once
 
     set_unchosen : list_any (λ k. k == length before) selected ≡ false → (i : ℕ) → r.start ≤ i → i < r.end → KeepsAt (set_of action items pieces selected records) i
@@ -331,10 +331,10 @@ module _ (action : Action) (items : List Item) (pieces : List Piece) (selected :
         → ((piece : Piece) → IsFine piece → list_any test (picked_becomes action (closed piece)) ≡ false) → ((piece : Piece) → IsFine piece → test (closed piece) ≡ false)
         → ((own : List Piece) → list_any test (added action items own) ≡ false)
         → list_any test (laid_at pieces (set_of action items pieces selected records) selected (with_fields action items) r) ≡ false
-    set_fails test IsFine all picked kept_ put =
+    set_fails test IsFine all picked kept_all put =
         laid_from-fails test (set_of action items pieces selected records) IsFine r.start (elements_in pieces r) all
         (λ k piece low high fine.
-        if_both test (is_picked items pieces (filter_map (slice_get records) selected) k) (picked_becomes action (closed piece)) (closed piece ∷ []) (picked piece fine) (alone_fails test (closed piece) (kept_ piece fine)))
+        if_both test (is_picked items pieces (filter_map (slice_get records) selected) k) (picked_becomes action (closed piece)) (closed piece ∷ []) (picked piece fine) (alone_fails test (closed piece) (kept_all piece fine)))
         (λ k low high.
         flat_map_fails test (put_in action items pieces (k + 1)) (filter_map (slice_get records) selected) (λ q. if_both test (q.end == k + 1) (added action items (elements_in pieces q)) [] (put (elements_in pieces q)) refl))
 
@@ -353,7 +353,7 @@ module _ (action : Action) (items : List Item) (pieces : List Piece) (selected :
         ap (λ b. if b then picked_becomes action piece else piece ∷ []) (
         picked_inside (r.start + j) (omega arith) (omega (arith, stands.some))
         ∙ ap (λ b. b && (true && list_any (λ place. r.start + place == r.start + j) (picks items own))) takes
-        ∙ same_any (λ place. r.start + place == r.start + j) (λ place. place == j) (picks items own) (λ place. eq_behind r.start place j)
+        ∙ same_any (λ place. r.start + place == r.start + j) (λ place. place == j) (picks items own) (λ place. eq_after r.start place j)
         ∙ ap (list_any (λ place. place == j)) (sym (picks-closed items own all))
         ))
         (λ j low high.
@@ -364,20 +364,20 @@ module _ (action : Action) (items : List Item) (pieces : List Piece) (selected :
         ∙ ap (λ b. if b then added action items own else []) self ∙ sym (added-closed action items own all))
 
   pub IsInner-setting : AreOnce selected → IsPlainAction action → ArePlainItems items → ((r : Range ℕ) → AllByRecursion IsElement (elements_in pieces r))
-      → ((before : List (Range ℕ)) (r : Range ℕ) (behind : List (Range ℕ)) → records ≡ before ++ r ∷ behind → list_any (λ k. k == length before) selected ≡ true → list_any (has_name rec_name) (elements_in pieces r) ≡ false)
+      → ((before : List (Range ℕ)) (r : Range ℕ) (following : List (Range ℕ)) → records ≡ before ++ r ∷ following → list_any (λ k. k == length before) selected ≡ true → list_any (has_name rec_name) (elements_in pieces r) ≡ false)
       → IsInner pieces (set_of action items pieces selected records) selected (with_fields action items) records
   IsInner-setting once plain names elements unnamed = record {
     outside = set_outside;
-    unchosen = λ before r behind stands leaves i low high. set_unchosen once before r behind stands leaves i low high;
-    full = λ before r behind stands takes.
-        set_fails once before r behind stands is_blank_piece (λ piece. is_blank_piece piece ≡ false) (all_fail is_blank_piece (elements_in pieces r) stands.own.full)
+    unchosen = λ before r following stands leaves i low high. set_unchosen once before r following stands leaves i low high;
+    full = λ before r following stands takes.
+        set_fails once before r following stands is_blank_piece (λ piece. is_blank_piece piece ≡ false) (all_fail is_blank_piece (elements_in pieces r) stands.own.full)
         (λ piece full. picked_full action piece full) (λ piece full. closed-blank piece ∙ full)
         (λ own. added_fails is_blank_piece action items own names (λ name value p. refl));
-    changes = λ before r behind stands takes. ap between_fields (set_changes once before r behind stands (elements r) takes);
-    still = λ before r behind stands takes.
-        set_fails once before r behind stands (has_name rec_name) (λ piece. IsElement piece × (is_blank_piece piece ≡ false) × (has_name rec_name piece ≡ false))
+    changes = λ before r following stands takes. ap between_fields (set_changes once before r following stands (elements r) takes);
+    still = λ before r following stands takes.
+        set_fails once before r following stands (has_name rec_name) (λ piece. IsElement piece × (is_blank_piece piece ≡ false) × (has_name rec_name piece ≡ false))
         (all_three IsElement (λ piece. is_blank_piece piece ≡ false) (λ piece. has_name rec_name piece ≡ false) (elements_in pieces r) (elements r)
-        (all_fail is_blank_piece (elements_in pieces r) stands.own.full) (all_fail (has_name rec_name) (elements_in pieces r) (unnamed before r behind stands.parts takes)))
+        (all_fail is_blank_piece (elements_in pieces r) stands.own.full) (all_fail (has_name rec_name) (elements_in pieces r) (unnamed before r following stands.parts takes)))
         (λ piece fine. picked_other action piece plain fine) (λ piece fine. ap (λ name. bytes_eq name rec_name) (name_of-closed piece fine.0) ∙ fine.2)
         (λ own. added_fails (has_name rec_name) action items own names (λ name value p. plain_canonical name value p));
   }

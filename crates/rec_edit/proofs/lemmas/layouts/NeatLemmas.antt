@@ -19,23 +19,19 @@ use Rattle.rec_check.specs.Descriptors.{holds_index}
 use Rattle.rec_edit.specs.declared.request.Action.{Action}
 use Rattle.rec_edit.specs.declared.request.Action.TheVariants.{Set, Add, SetAdd, Rename, Delete, Comment as CommentFields}
 use Rattle.rec_edit.specs.Script.{closed}
-use Rattle.rec_edit.specs.Rules.{canonical, commented, renamed, is_picked, picked_becomes, picks_none, added, commenting, deletion, is_own, physical_lines, setting, with_blanks}
+use Rattle.rec_edit.specs.Rules.{canonical, comments_of, renamed, is_picked, picked_becomes, picks_none, added, commenting, deletion, is_own, physical_lines, setting, with_blanks}
 use Rattle.rec_edit.specs.Wording.{names_of_action, values_of_action}
 use Rattle.rec_text.specs.Bytes.{continues_name, ends_newline, is_letter}
 use Rattle.rec_text.specs.Values.{on_first}
-use Rattle.rec_text.proofs.lemmas.ListLemmas.{AllByRecursion-weaker, AllByRecursion-front, AllByRecursion-behind, slice_get-drop, slice_get-take, same_bytes}
+use Rattle.rec_text.proofs.lemmas.ListLemmas.{AllByRecursion-weaker, AllByRecursion-prefix, AllByRecursion-following, slice_get-drop, slice_get-take, same_bytes, AllByRecursion-append}
 use Rattle.rec_edit.proofs.lemmas.scripts.WellFormedLemmas.{IsClosed, IsClosed-closed, bare-closed, commented_are_closed, commented_are_bare, canonical_is_closed, canonical_is_bare, renamed_is_closed, renamed_is_bare, name_of-closed, kind-closed, AllByRecursion-map, CanStandFor}
 use Rattle.rec_text.proofs.lemmas.elements.NameLemmas.{IsBelow, colon_of_is_below}
 use Rattle.rec_text.proofs.lemmas.values.ValueLemmas.{passes_apart}
-use Rattle.rec_edit.proofs.lemmas.scripts.LaidLemmas.{Ends, Neat, LaysNeatly, all_append, closed-neat, ends_newline-push}
+use Rattle.rec_edit.proofs.lemmas.scripts.LaidLemmas.{Ends, Neat, LaysNeatly, closed-neat, ends_newline-push}
 
 -- ---- the fields that an edit picks have plain names, and what stands in their place is well formed
 
 -- ---- lists
-
-pub AllByRecursion-append : {X : Type 0} (P : X → Type 0) (front rest : List X) → AllByRecursion P front → AllByRecursion P rest → AllByRecursion P (front ++ rest)
-AllByRecursion-append P [] rest fronts rests = rests
-AllByRecursion-append P (x ∷ front) rest fronts rests = (fronts.0, AllByRecursion-append P front rest fronts.1 rests)
 
 pub AllByRecursion-flat_map : {X Y : Type 0} (P : X → Type 0) (Q : Y → Type 0) (f : X → List Y) → ((x : X) → P x → AllByRecursion Q (f x)) → (xs : List X) → AllByRecursion P xs → AllByRecursion Q (flat_map f xs)
 AllByRecursion-flat_map P Q f each [] all = tt
@@ -52,10 +48,10 @@ AllByRecursion-filter P test (x ∷ xs) all =
     cond_both (test x) (x ∷ filter test xs) (filter test xs) (AllByRecursion P) (λ _. (all.0, more)) (λ _. more)
 
 AllByRecursion-take : {X : Type 0} (P : X → Type 0) (n : ℕ) (xs : List X) → AllByRecursion P xs → AllByRecursion P (take n xs)
-AllByRecursion-take P n xs all = AllByRecursion-front P (take n xs) (drop n xs) (subst (AllByRecursion P) (sym (take-append-drop n xs)) all)
+AllByRecursion-take P n xs all = AllByRecursion-prefix P (take n xs) (drop n xs) (subst (AllByRecursion P) (sym (take-append-drop n xs)) all)
 
 AllByRecursion-drop : {X : Type 0} (P : X → Type 0) (n : ℕ) (xs : List X) → AllByRecursion P xs → AllByRecursion P (drop n xs)
-AllByRecursion-drop P n xs all = AllByRecursion-behind P (take n xs) (drop n xs) (subst (AllByRecursion P) (sym (take-append-drop n xs)) all)
+AllByRecursion-drop P n xs all = AllByRecursion-following P (take n xs) (drop n xs) (subst (AllByRecursion P) (sym (take-append-drop n xs)) all)
 
 -- one that passes the test, and of which holds what holds of each
 pub found : {X : Type 0} (P : X → Type 0) (test : X → Bool) (xs : List X) → AllByRecursion P xs → list_any test xs ≡ true → (x : X) × P x × (test x ≡ true)
@@ -122,7 +118,7 @@ slice_get-elements_in pieces range place i at within =
 pub picked_is_plain : (items : List Item) (pieces : List Piece) (chosen : List (Range ℕ)) (i : ℕ) (piece : Piece) → AllByRecursion HasPlainName items
     → slice_get pieces i ≡ Some piece → is_picked items pieces chosen i ≡ true → is_plain_name (name_of piece) ≡ true
 picked_is_plain items pieces chosen i piece plain is picked =
-    let in_record = passing (λ record_. holds_index i record_ && list_any (λ place. record_.start + place == i) (picks items (elements_in pieces record_))) chosen picked in
+    let in_record = passing (λ own_range. holds_index i own_range && list_any (λ place. own_range.start + place == i) (picks items (elements_in pieces own_range))) chosen picked in
     let range = in_record.0 in
     let own = elements_in pieces range in
     let parts = and_parts (holds_index i range) (list_any (λ place. range.start + place == i) (picks items own)) in_record.1 in
@@ -130,7 +126,7 @@ picked_is_plain items pieces chosen i piece plain is picked =
     let one = found (IsPlainAt own) (λ place. range.start + place == i) (picks items own) (picks_are_plain items own plain) parts.1 in
     one.1 piece (slice_get-elements_in pieces range one.0 i (eqb-true (range.start + one.0) i one.2) within ∙ is)
 
--- ---- what stands in the place of an element
+-- ---- what stands instead of an element
 
 -- an element with a plain name is a field
 named_is_field : (kind : Kind) (bytes : List ℕ) → is_plain_name (name_of (record { kind = kind; bytes = bytes })) ≡ true → kind ≡ Field
@@ -148,7 +144,7 @@ module _ (piece : Piece) (whole : IsElement piece) where
     bares = λ lacks. (subst IsElement (sym (bare-closed piece lacks)) whole, tt);
   }
 
-  pub CanStandFor-commented : CanStandFor piece (commented (closed piece))
+  pub CanStandFor-commented : CanStandFor piece (comments_of (closed piece).bytes)
   CanStandFor-commented =
       let ends = (IsClosed-closed piece whole).ends in
       record { lines = commented_are_closed (closed piece) ends; bares = λ _. commented_are_bare (closed piece) ends }
@@ -196,15 +192,15 @@ added_are_closed CommentFields items own plain values = tt
 
 -- ---- bytes that end in one newline
 
-ends_newline-behind : (xs : List ℕ) (b : ℕ) (ys : List ℕ) → ends_newline (xs ++ b ∷ ys) ≡ ends_newline (b ∷ ys)
-ends_newline-behind [] b ys = refl
-ends_newline-behind (x ∷ []) b ys = refl
-ends_newline-behind (x ∷ c ∷ xs) b ys = ends_newline-behind (c ∷ xs) b ys
+ends_newline-following : (xs : List ℕ) (b : ℕ) (ys : List ℕ) → ends_newline (xs ++ b ∷ ys) ≡ ends_newline (b ∷ ys)
+ends_newline-following [] b ys = refl
+ends_newline-following (x ∷ []) b ys = refl
+ends_newline-following (x ∷ c ∷ xs) b ys = ends_newline-following (c ∷ xs) b ys
 
 -- a byte that is none, before bytes that don't end in one
-open_behind : (b : ℕ) (bs : List ℕ) → (b == 10) ≡ false → ends_newline bs ≡ false → ends_newline (b ∷ bs) ≡ false
-open_behind b [] other shut = other
-open_behind b (c ∷ bs) other shut = shut
+open_after : (b : ℕ) (bs : List ℕ) → (b == 10) ≡ false → ends_newline bs ≡ false → ends_newline (b ∷ bs) ≡ false
+open_after b [] other shut = other
+open_after b (c ∷ bs) other shut = shut
 
 open_rest : (b : ℕ) (bs : List ℕ) → ends_newline (b ∷ bs) ≡ false → ends_newline bs ≡ false
 open_rest b [] shut = refl
@@ -217,18 +213,18 @@ open_drop (suc k) (b ∷ bs) shut = open_drop k bs (open_rest b bs shut)
 
 open_append : (xs ys : List ℕ) → ends_newline xs ≡ false → ends_newline ys ≡ false → ends_newline (xs ++ ys) ≡ false
 open_append xs [] first second = ap ends_newline (append-nil xs) ∙ first
-open_append xs (y ∷ ys) first second = ends_newline-behind xs y ys ∙ second
+open_append xs (y ∷ ys) first second = ends_newline-following xs y ys ∙ second
 
-front_of : (bs : List ℕ) → ends_newline bs ≡ true → (front : List ℕ) × (bs ≡ front ++ 10 ∷ [])
-front_of [] ends = absurd (false≢true ends)
-front_of (b ∷ []) ends = ([], ap (λ c. c ∷ []) (eqb-true b 10 ends))
-front_of (b ∷ c ∷ bs) ends = let rest = front_of (c ∷ bs) ends in (b ∷ rest.0, ap (λ l. b ∷ l) rest.1)
+prefix_of : (bs : List ℕ) → ends_newline bs ≡ true → (prefix : List ℕ) × (bs ≡ prefix ++ 10 ∷ [])
+prefix_of [] ends = absurd (false≢true ends)
+prefix_of (b ∷ []) ends = ([], ap (λ c. c ∷ []) (eqb-true b 10 ends))
+prefix_of (b ∷ c ∷ bs) ends = let rest = prefix_of (c ∷ bs) ends in (b ∷ rest.0, ap (λ l. b ∷ l) rest.1)
 
 -- ---- lines of comments
 
 -- one newline at the end of a line, whatever stands before it
 abbrev IsNeatLine : List ℕ → Type 0
-IsNeatLine line = (front : List ℕ) × (line ≡ front ++ 10 ∷ []) × (ends_newline front ≡ false)
+IsNeatLine line = (prefix : List ℕ) × (line ≡ prefix ++ 10 ∷ []) × (ends_newline prefix ≡ false)
 
 -- some lines, all of them neat
 abbrev AreNeatLines : List (List ℕ) → Type 0
@@ -237,7 +233,7 @@ AreNeatLines (line ∷ lines) = IsNeatLine line × AllByRecursion IsNeatLine lin
 
 on_first-neat : (b : ℕ) (lines : List (List ℕ)) → (b == 10) ≡ false → AreNeatLines lines → AreNeatLines (on_first b lines)
 on_first-neat b [] other neat = absurd neat
-on_first-neat b (line ∷ lines) other ((front, is, shut), more) = ((b ∷ front, ap (λ l. b ∷ l) is, open_behind b front other shut), more)
+on_first-neat b (line ∷ lines) other ((prefix, is, shut), more) = ((b ∷ prefix, ap (λ l. b ∷ l) is, open_after b prefix other shut), more)
 
 all_neat : (lines : List (List ℕ)) → AreNeatLines lines → AllByRecursion IsNeatLine lines
 all_neat [] neat = tt
@@ -254,13 +250,13 @@ lines_neat (b ∷ c ∷ bs) ends =
     ]
 
 comment_neat : (line : List ℕ) → IsNeatLine line → Neat (record { kind = Comment; bytes = 35 ∷ line })
-comment_neat line (front, is, shut) = (35 ∷ front, ap (λ l. 35 ∷ l) is, open_behind 35 front refl shut)
+comment_neat line (prefix, is, shut) = (35 ∷ prefix, ap (λ l. 35 ∷ l) is, open_after 35 prefix refl shut)
 
 comments_neat : (lines : List (List ℕ)) → AllByRecursion IsNeatLine lines → AllByRecursion Neat (map (λ line. record { kind = Comment; bytes = 35 ∷ line }) lines)
 comments_neat [] all = tt
 comments_neat (line ∷ lines) all = (comment_neat line all.0, comments_neat lines all.1)
 
-pub commented_neat : (piece : Piece) → Ends piece → AllByRecursion Neat (commented piece)
+pub commented_neat : (piece : Piece) → Ends piece → AllByRecursion Neat (comments_of piece.bytes)
 commented_neat piece ends = comments_neat (physical_lines piece.bytes) (all_neat (physical_lines piece.bytes) (lines_neat piece.bytes ends))
 
 all_end : (pieces : List Piece) → AllByRecursion Neat pieces → AllByRecursion Ends pieces
@@ -278,19 +274,19 @@ folded_open c (b ∷ value) other = elim (cases_Bool (b == 10)) [
 
 pub canonical_neat : (name value : List ℕ) → Neat (canonical name value)
 canonical_neat name value =
-    (name ++ (58 ∷ 32 ∷ folded value), sym (append_assoc name (58 ∷ 32 ∷ folded value) (10 ∷ [])), ends_newline-behind name 58 (32 ∷ folded value) ∙ folded_open 32 value refl)
+    (name ++ (58 ∷ 32 ∷ folded value), sym (append_assoc name (58 ∷ 32 ∷ folded value) (10 ∷ [])), ends_newline-following name 58 (32 ∷ folded value) ∙ folded_open 32 value refl)
 
 name_open : (bs : List ℕ) → IsTrue (list_all continues_name bs) → ends_newline bs ≡ false
 name_open [] all = refl
 name_open (b ∷ bs) all =
     let parts = and_parts (continues_name b) (list_all continues_name bs) all in
-    open_behind b bs (passes_apart continues_name b 10 parts.0 refl) (name_open bs parts.1)
+    open_after b bs (passes_apart continues_name b 10 parts.0 refl) (name_open bs parts.1)
 
 plain_open : (name : List ℕ) → is_plain_name name ≡ true → ends_newline name ≡ false
 plain_open [] plain = absurd (false≢true plain)
 plain_open (b ∷ bs) plain =
     let parts = and_parts (is_letter b) (list_all continues_name bs) plain in
-    open_behind b bs (passes_apart is_letter b 10 parts.0 refl) (name_open bs parts.1)
+    open_after b bs (passes_apart is_letter b 10 parts.0 refl) (name_open bs parts.1)
 
 short_name : (bytes : List ℕ) (o : Option ℕ) → IsBelow (length bytes) o → 0 < length bytes → length (option_map_or (λ c. take c bytes) o []) < length bytes
 short_name bytes None below some = omega (arith, some)
@@ -301,22 +297,22 @@ name_within Blank bytes some = omega (arith, some)
 name_within Comment bytes some = omega (arith, some)
 name_within Field bytes some = short_name bytes (colon_of bytes) (colon_of_is_below bytes) some
 
--- behind the name, up to the newline
-renamed_parts : (name : List ℕ) (piece : Piece) (front : List ℕ) → piece.bytes ≡ front ++ 10 ∷ [] → (renamed name piece).bytes ≡ (name ++ drop (length (name_of piece)) front) ++ 10 ∷ []
-renamed_parts name piece front is =
-    let within = name_within piece.kind piece.bytes (omega (arith, ap length is, length-append front (10 ∷ []))) in
+-- after the name, up to the newline
+renamed_parts : (name : List ℕ) (piece : Piece) (prefix : List ℕ) → piece.bytes ≡ prefix ++ 10 ∷ [] → (renamed name piece).bytes ≡ (name ++ drop (length (name_of piece)) prefix) ++ 10 ∷ []
+renamed_parts name piece prefix is =
+    let within = name_within piece.kind piece.bytes (omega (arith, ap length is, length-append prefix (10 ∷ []))) in
     ap (λ l. name ++ drop (length (name_of piece)) l) is
-    ∙ ap (λ l. name ++ l) (drop-append-le (length (name_of piece)) front (10 ∷ []) (omega (arith, within, ap length is, length-append front (10 ∷ []))))
-    ∙ sym (append_assoc name (drop (length (name_of piece)) front) (10 ∷ []))
+    ∙ ap (λ l. name ++ l) (drop-append-le (length (name_of piece)) prefix (10 ∷ []) (omega (arith, within, ap length is, length-append prefix (10 ∷ []))))
+    ∙ sym (append_assoc name (drop (length (name_of piece)) prefix) (10 ∷ []))
 
 renamed_ends : (name : List ℕ) (piece : Piece) → Ends piece → Ends (renamed name piece)
 renamed_ends name piece ends =
-    let front = front_of piece.bytes ends in
-    ap ends_newline (renamed_parts name piece front.0 front.1) ∙ ends_newline-push (name ++ drop (length (name_of piece)) front.0)
+    let prefix = prefix_of piece.bytes ends in
+    ap ends_newline (renamed_parts name piece prefix.0 prefix.1) ∙ ends_newline-push (name ++ drop (length (name_of piece)) prefix.0)
 
 renamed_neat : (name : List ℕ) (piece : Piece) → is_plain_name name ≡ true → Neat piece → Neat (renamed name piece)
-renamed_neat name piece plain (front, is, shut) =
-    (name ++ drop (length (name_of piece)) front, renamed_parts name piece front is, open_append name (drop (length (name_of piece)) front) (plain_open name plain) (open_drop (length (name_of piece)) front shut))
+renamed_neat name piece plain (prefix, is, shut) =
+    (name ++ drop (length (name_of piece)) prefix, renamed_parts name piece prefix is, open_append name (drop (length (name_of piece)) prefix) (plain_open name plain) (open_drop (length (name_of piece)) prefix shut))
 
 -- ---- the layouts
 
@@ -335,7 +331,7 @@ picked_ends (Add value) piece ends = (ends, tt)
 picked_ends (SetAdd value) piece ends = (closed-neat (canonical (name_of piece) value) (canonical_neat (name_of piece) value), tt)
 picked_ends (Rename name) piece ends = (renamed_ends name piece ends, tt)
 picked_ends Delete piece ends = tt
-picked_ends CommentFields piece ends = all_end (commented piece) (commented_neat piece ends)
+picked_ends CommentFields piece ends = all_end (comments_of piece.bytes) (commented_neat piece ends)
 
 picked_neat : (action : Action) (piece : Piece) → IsPlainAction action → Neat piece → AllByRecursion Neat (picked_becomes action piece)
 picked_neat (Set value) piece plain neat = (canonical_neat (name_of piece) value, tt)
@@ -366,10 +362,10 @@ if_added true some all = all
 if_added false some all = tt
 
 put_neat : (action : Action) (items : List Item) (pieces : List Piece) (i : ℕ) (chosen : List (Range ℕ))
-    → AllByRecursion Neat (flat_map (λ record_. if record_.end == i then added action items (elements_in pieces record_) else []) chosen)
+    → AllByRecursion Neat (flat_map (λ own_range. if own_range.end == i then added action items (elements_in pieces own_range) else []) chosen)
 put_neat action items pieces i [] = tt
 put_neat action items pieces i (r ∷ chosen) =
-    all_append Neat (if r.end == i then added action items (elements_in pieces r) else []) (flat_map (λ record_. if record_.end == i then added action items (elements_in pieces record_) else []) chosen)
+    AllByRecursion-append Neat (if r.end == i then added action items (elements_in pieces r) else []) (flat_map (λ own_range. if own_range.end == i then added action items (elements_in pieces own_range) else []) chosen)
     (if_added (r.end == i) (added action items (elements_in pieces r)) (added_neat action items (elements_in pieces r))) (put_neat action items pieces i chosen)
 
 pub LaysNeatly-deletion : (pieces : List Piece) (chosen : List (Range ℕ)) → LaysNeatly (deletion pieces chosen)
@@ -383,8 +379,8 @@ LaysNeatly-deletion pieces chosen = record {
 pub LaysNeatly-commenting : (chosen : List (Range ℕ)) → LaysNeatly (commenting chosen)
 LaysNeatly-commenting chosen = record {
   unties = λ i. refl;
-  ends = λ i piece ends. if_all Ends (is_own chosen i) (commented piece) piece (all_end (commented piece) (commented_neat piece ends)) ends;
-  neat = λ i piece neat. if_all Neat (is_own chosen i) (commented piece) piece (commented_neat piece (closed-neat piece neat)) neat;
+  ends = λ i piece ends. if_all Ends (is_own chosen i) (comments_of piece.bytes) piece (all_end (comments_of piece.bytes) (commented_neat piece ends)) ends;
+  neat = λ i piece neat. if_all Neat (is_own chosen i) (comments_of piece.bytes) piece (commented_neat piece (closed-neat piece neat)) neat;
   put = λ i. tt;
 }
 
@@ -393,5 +389,5 @@ LaysNeatly-setting action items pieces chosen plain = record {
   unties = λ i. refl;
   ends = λ i piece ends. if_all Ends (is_picked items pieces chosen i) (picked_becomes action piece) piece (picked_ends action piece ends) ends;
   neat = λ i piece neat. if_all Neat (is_picked items pieces chosen i) (picked_becomes action piece) piece (picked_neat action piece plain neat) neat;
-  put = λ i. all_end (flat_map (λ record_. if record_.end == i then added action items (elements_in pieces record_) else []) chosen) (put_neat action items pieces i chosen);
+  put = λ i. all_end (flat_map (λ own_range. if own_range.end == i then added action items (elements_in pieces own_range) else []) chosen) (put_neat action items pieces i chosen);
 }

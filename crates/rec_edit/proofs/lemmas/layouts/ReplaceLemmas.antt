@@ -11,9 +11,10 @@ use Rattle.rec_edit.specs.Rules.{is_own, fields_of, replacement}
 use Rattle.rec_text.specs.Canonical.{is_plain_name, is_foldable}
 use Rattle.rec_check.specs.Schemas.{Described, IsDescribed, IsSchema}
 use Rattle.rec_edit.specs.Task.{Pair, NewRecord, Wanted, replace}
-use Rattle.rec_edit.specs.Script.{Layout, script_of, new_pieces, edited_text, hunks_of}
+use Rattle.rec_edit.specs.Script.{Layout, script_of, new_pieces, edited_text}
+use Rattle.rec_edit.specs.proving.Changes.{hunks_of}
 use Rattle.rec_edit.specs.Wording.{IsNewRecord}
-use Rattle.rec_edit.specs.Outcome.{Step, IsStep, step_of}
+use Rattle.rec_edit.specs.Outcome.{EditScript, IsEditScript, edit_script}
 use Rattle.rec_text.proofs.lemmas.ListLemmas.{AllByRecursion-weaker, AllByRecursion-both, AllByRecursion-slice_get}
 use Rattle.rec_edit.proofs.lemmas.records.MemberLemmas.{holds_index-in, selected_plain}
 use Rattle.rec_edit.proofs.lemmas.layouts.NeatLemmas.{found}
@@ -98,11 +99,11 @@ module _ (pieces : List Piece) (chosen : List (Range ℕ)) (records : AllByRecur
         | inr past ↦ past
       ] in
       let apart : i + 1 ≤ later.r.start = elim (cases_lt i later.r.start) [
-        | inl behind ↦ omega (arith, behind)
+        | inl following ↦ omega (arith, following)
         | inr before ↦ absurd (false≢true (sym over ∙ later.own.owns (i + 1) (omega (arith, before)) (omega (arith, low, later.high))))
       ] in
       elim (cases_lt k is.paragraph.end) [
-        | inl inside ↦ absurd (false≢true (sym (is.behind later.r.start (omega (arith, last, apart)) (omega (arith, inside, later.low))) ∙ lies.first))
+        | inl inside ↦ absurd (false≢true (sym (is.following later.r.start (omega (arith, last, apart)) (omega (arith, inside, later.low))) ∙ lies.first))
         | inr past ↦
             let ends : is_full_at pieces is.paragraph.end ≡ false = is.is_paragraph.ends (omega (arith, past, later.high, lies.high, lies.is_paragraph.within)) in
             let full : is_full_at pieces k ≡ true = own_is_full k there in
@@ -124,13 +125,13 @@ module _ (pieces : List Piece) (chosen : List (Range ℕ)) (records : AllByRecur
 -- ---- what a replacement works on
 
 -- a new record that can be written, and the records that are meant
-record IsReplacement (pieces : List Piece) (schema : Described) (wanted : Wanted) (fresh : NewRecord) (step : Step) : Type 0 where
+record IsReplacement (pieces : List Piece) (schema : Described) (wanted : Wanted) (fresh : NewRecord) (edit : EditScript) : Type 0 where
   pairs : List Pair
   pairs_are : IsNewRecord None fresh (Ok pairs)
   written : AllByRecursion CanBeWritten pairs
   chosen : List (Range ℕ)
   meant : AreMeant pieces schema.sets wanted chosen
-  is : step.script ≡ script_of (replacement (fields_of pairs) chosen) pieces
+  is : edit.script ≡ script_of (replacement (fields_of pairs) chosen) pieces
 
 pub new_record_can_be_written : (fresh : NewRecord) (pairs : List Pair) → IsNewRecord None fresh (Ok pairs) → AllByRecursion CanBeWritten pairs
 new_record_can_be_written fresh pairs (inl (fault, refused, e)) = absurd (cc)
@@ -140,17 +141,17 @@ new_record_can_be_written fresh pairs (inr (given, are, same)) =
     let is = written_by names values given pairs (list_all is_plain_name names) (list_all (is_foldable 32) values) refl refl same in
     subst (AllByRecursion CanBeWritten) (sym is.same) (pairs_can_be_written given is.names_are is.values_are)
 
-step_replaces : (pieces : List Piece) (schema : Described) (force : Bool) (wanted : Wanted) (fresh : NewRecord) (step : Step) → IsStep pieces schema force (replace wanted fresh) (Ok step)
-    → IsReplacement pieces schema wanted fresh step
-step_replaces pieces schema force wanted fresh step (inl (fault, refused, e)) = absurd (cc)
-step_replaces pieces schema force wanted fresh step (inr (pairs, pairs_are, inl (fault, refused, e))) = absurd (cc)
-step_replaces pieces schema force wanted fresh step (inr (pairs, pairs_are, inr (chosen, are, same))) = record {
+step_replaces : (pieces : List Piece) (schema : Described) (force : Bool) (wanted : Wanted) (fresh : NewRecord) (edit : EditScript) → IsEditScript pieces schema force (replace wanted fresh) (Ok edit)
+    → IsReplacement pieces schema wanted fresh edit
+step_replaces pieces schema force wanted fresh edit (inl (fault, refused, e)) = absurd (cc)
+step_replaces pieces schema force wanted fresh edit (inr (pairs, pairs_are, inl (fault, refused, e))) = absurd (cc)
+step_replaces pieces schema force wanted fresh edit (inr (pairs, pairs_are, inr (chosen, are, same))) = record {
   pairs = pairs;
   pairs_are = pairs_are;
   written = new_record_can_be_written fresh pairs pairs_are;
   chosen = chosen;
   meant = chosen_meant pieces schema.sets wanted chosen are;
-  is = script_is step (step_of pieces chosen (replacement (fields_of pairs) chosen)) same;
+  is = script_is edit (edit_script pieces chosen (replacement (fields_of pairs) chosen)) same;
 }
 
 -- ---- the text stays where its elements do
@@ -206,7 +207,7 @@ replacement_is_done pieces schema wanted fresh pairs chosen is all pairs_are wri
       selected = selected;
       made = λ own. fields_of pairs;
       gives = laid_gives_way pieces (replacement (fields_of pairs) chosen_are) selected (λ own. fields_of pairs) records meant.are all
-          (selected_plain pieces schema wanted.kind wanted.filter selected records is meant.are meant.selects)
+          (selected_plain pieces schema wanted.record_type wanted.filter selected records is meant.are meant.selects)
           (closed-tied (replacement (fields_of pairs) chosen_are) pieces (replacement_lays_neatly pairs chosen_are written) all)
           (Fits-inner pieces (replacement (fields_of pairs) chosen_are) selected (λ own. fields_of pairs) records (IsInner-replacement pairs pieces selected records written) (Cut-AreRecords pieces records meant.are));
       leads = λ before after same. (selected, pairs, meant.selects, pairs_are, same);
@@ -215,17 +216,17 @@ replacement_is_done pieces schema wanted fresh pairs chosen is all pairs_are wri
 
 -- ---- what holds of the step
 
-pub faithful_replace : (pieces : List Piece) (schema : Described) (force : Bool) (wanted : Wanted) (fresh : NewRecord) (step : Step) → AreElementsOf pieces (text_of pieces) → IsSchema pieces (Ok schema)
-    → IsStep pieces schema force (replace wanted fresh) (Ok step) → IsFaithful pieces schema (replace wanted fresh) step
-faithful_replace pieces schema force wanted fresh step elements is found =
-    let by = step_replaces pieces schema force wanted fresh step found in
+pub faithful_replace : (pieces : List Piece) (schema : Described) (force : Bool) (wanted : Wanted) (fresh : NewRecord) (edit : EditScript) → AreElementsOf pieces (text_of pieces) → IsSchema pieces (Ok schema)
+    → IsEditScript pieces schema force (replace wanted fresh) (Ok edit) → IsFaithful pieces schema (replace wanted fresh) edit
+faithful_replace pieces schema force wanted fresh edit elements is found =
+    let by = step_replaces pieces schema force wanted fresh edit found in
     let layout : Layout = replacement (fields_of by.pairs) by.chosen in
-    let read : AreElementsOf (new_pieces step.script) (edited_text step.script) =
+    let read : AreElementsOf (new_pieces edit.script) (edited_text edit.script) =
     subst (λ script. AreElementsOf (new_pieces script) (edited_text script)) (sym by.is)
     (tied_pieces_are_read layout pieces (replacement_lays_well by.pairs by.chosen by.written) elements.well_formed) in
-    let done : IsDone pieces schema (replace wanted fresh) step.script =
+    let done : IsDone pieces schema (replace wanted fresh) edit.script =
     subst (IsDone pieces schema (replace wanted fresh)) (sym by.is) (replacement_is_done pieces schema wanted fresh by.pairs by.chosen is elements.well_formed by.pairs_are by.written by.meant) in
-    let kept = done_keeps_sets pieces schema (replace wanted fresh) step.script done read is elements in
+    let kept = done_keeps_sets pieces schema (replace wanted fresh) edit.script done read is elements in
     record {
       layout = layout;
       is = by.is;
@@ -233,5 +234,5 @@ faithful_replace pieces schema force wanted fresh step elements is found =
       unchanged = subst (λ script. edited_text script ≡ text_of pieces → hunks_of script ≡ []) (sym by.is)
           (replacement_unchanged pieces by.pairs by.chosen elements by.written (records_of_meant pieces schema wanted by.chosen by.meant));
       sound = (kept.0, kept.1);
-      effect = effect_of_done pieces schema (replace wanted fresh) step.script done read;
+      effect = effect_of_done pieces schema (replace wanted fresh) edit.script done read;
     }

@@ -81,7 +81,7 @@ settled-full part (next ∷ parts) full apart = inr (refl, full, apart)
 
 -- ---- the parts of a layout that replaces records
 
--- it puts nothing, keeps all but the records' own elements, puts none that is blank in the place of these, and changes each record as one
+-- it puts nothing, keeps all but the records' own elements, puts none that is blank instead of these, and changes each record as one
 pub record ReplacesOwn (layout : Layout) (own : ℕ → Bool) : Type 0 where
   pub put : PutsNone layout
   pub tied : (i : ℕ) → layout.tied i ≡ (own i && own (i + 1))
@@ -203,14 +203,14 @@ module _ (layout : Layout) (own : ℕ → Bool) (replaces : ReplacesOwn layout o
     | inr full ↦ rw full (more.outside (outside full))
   ]
 
-  ends_behind : (piece : Piece) (pieces : List Piece) → EndInNewlines (piece ∷ pieces) → EndInNewlines pieces
-  ends_behind piece [] ends = tt
-  ends_behind piece (next ∷ pieces) ends = ends.1
+  ends_after : (piece : Piece) (pieces : List Piece) → EndInNewlines (piece ∷ pieces) → EndInNewlines pieces
+  ends_after piece [] ends = tt
+  ends_after piece (next ∷ pieces) ends = ends.1
 
   spaced_from : (i : ℕ) (pieces : List Piece) → AllByRecursion IsElement pieces → EndInNewlines pieces → AreSpaced own i pieces → IsSpacedFrom i pieces
   spaced_from i [] whole ends spaced = spaced_end i
   spaced_from i (piece ∷ pieces) whole ends spaced =
-      let more : IsSpacedFrom (i + 1) pieces = spaced_from (i + 1) pieces whole.1 (ends_behind piece pieces ends) spaced.2 in
+      let more : IsSpacedFrom (i + 1) pieces = spaced_from (i + 1) pieces whole.1 (ends_after piece pieces ends) spaced.2 in
       let before : EndsBefore piece (parts_from (i + 1) layout pieces) = ends_before_rest (i + 1) piece pieces ends in
       record {
         outside = λ out. kept_is_apart false i piece pieces whole.0 before out.0 (outside_is_apart i piece pieces out.1 more);
@@ -273,7 +273,7 @@ module _ (pieces : List Piece) (own : ℕ → Bool) where
     pub are_spaced : AreSpaced own 0 pieces
     are_spaced = are_spaced_from 0 pieces (λ j. let there : j ≡ 0 + j = omega arith in ap (is_blank_at pieces) there)
 
--- ---- what the layout of a replacement lays: the new fields in the place of each chosen record, and all else as it stands
+-- ---- what the layout of a replacement lays: the new fields instead of each chosen record, and all else as it stands
 
 -- ---- the new fields
 
@@ -318,11 +318,11 @@ fields_unnamed pairs written =
     list_any-fails (has_name rec_name) (fields_of pairs)
     (fields_hold pairs written (λ piece. has_name rec_name piece ≡ false) (λ pair can. plain_canonical pair.name pair.value can.plain))
 
--- ---- what stands in the place of an element
+-- ---- what stands instead of an element
 
 -- one of the chosen records begins with the element of this index
 abbrev pub begins_at : List (Range ℕ) → ℕ → Bool
-begins_at chosen i = list_any (λ record_. record_.start == i) chosen
+begins_at chosen i = list_any (λ own_range. own_range.start == i) chosen
 
 becomes_all : (P : Piece → Type 0) (begins own : Bool) (fields : List Piece) (piece : Piece) → AllByRecursion P fields → (own ≡ false → P piece)
     → AllByRecursion P (if begins then fields else if own then [] else piece ∷ [])
@@ -356,9 +356,9 @@ module _ (pairs : List Pair) (chosen : List (Range ℕ)) (written : AllByRecursi
         (λ other. Neat-closed piece (kept_is_open chosen k piece open_or_tied other));
   }
 
--- ---- what is laid in the place of a record
+-- ---- what is laid instead of a record
 
--- nothing is put behind the element of this index, and nothing stands in its place
+-- nothing is put after the element of this index, and nothing stands in its place
 record IsGone (layout : Layout) (i : ℕ) : Type 0 where
   becomes : (piece : Piece) → layout.becomes i piece ≡ []
   put : layout.put (i + 1) ≡ []
@@ -394,17 +394,17 @@ module _ (fields : List Piece) (pieces : List Piece) (selected : List ℕ) (reco
       → KeepsAt (replacement fields (filter_map (slice_get records) selected)) i
   keeps i first own = record { stays = λ piece. rw first (rw own refl); alone = refl }
 
-  module _ (before : List (Range ℕ)) (r : Range ℕ) (behind : List (Range ℕ))
-      (stands : StandsBetween pieces (replacement fields (filter_map (slice_get records) selected)) selected (λ own. fields) records before r behind) where
+  module _ (before : List (Range ℕ)) (r : Range ℕ) (following : List (Range ℕ))
+      (stands : StandsBetween pieces (replacement fields (filter_map (slice_get records) selected)) selected (λ own. fields) records before r following) where
     begins_at-inside : (i : ℕ) → r.start ≤ i → i < r.end → begins_at (filter_map (slice_get records) selected) i ≡ (list_any (λ k. k == length before) selected && (r.start == i))
     begins_at-inside i low high =
         ap (λ rs. list_any (λ q. q.start == i) (filter_map (slice_get rs) selected)) stands.parts
-        ∙ any_chosen (λ q. q.start == i) selected before r behind
+        ∙ any_chosen (λ q. q.start == i) selected before r following
         (AllByRecursion-weaker (EndsBy r.start) (λ q. (q.start == i) ≡ false) (λ q ends. ne_eqb q.start i (λ same. omega (arith, same, ends.0, ends.1))) before stands.ended)
-        (AllByRecursion-weaker (BeginsFrom r.end) (λ q. (q.start == i) ≡ false) (λ q begins. ne_eqb q.start i (λ same. omega (arith, same, begins.1))) behind stands.begun)
+        (AllByRecursion-weaker (BeginsFrom r.end) (λ q. (q.start == i) ≡ false) (λ q begins. ne_eqb q.start i (λ same. omega (arith, same, begins.1))) following stands.begun)
 
     own_inside : (i : ℕ) → r.start ≤ i → i < r.end → is_own (filter_map (slice_get records) selected) i ≡ (list_any (λ k. k == length before) selected && true)
-    own_inside i low high = is_own-inside pieces selected records (replacement fields (filter_map (slice_get records) selected)) (λ own. fields) before r behind stands i low high
+    own_inside i low high = is_own-inside pieces selected records (replacement fields (filter_map (slice_get records) selected)) (λ own. fields) before r following stands i low high
 
     unchosen_keeps : list_any (λ k. k == length before) selected ≡ false → (i : ℕ) → r.start ≤ i → i < r.end → KeepsAt (replacement fields (filter_map (slice_get records) selected)) i
     unchosen_keeps leaves i low high = keeps i (begins_at-inside i low high ∙ and_left _ _ leaves) (own_inside i low high ∙ and_left _ _ leaves)
@@ -435,12 +435,12 @@ module _ (fields : List Piece) (pieces : List Piece) (selected : List ℕ) (reco
   inner_replacement full unnamed = record {
     outside = λ i all. keeps i (begins_at-outside i all) (is_own-outside pieces selected records i all);
     unchosen = unchosen_keeps;
-    full = λ before r behind stands takes. ap (list_any is_blank_piece) (laid_is_fields before r behind stands takes) ∙ full;
-    changes = λ before r behind stands takes. ap between_fields (laid_is_fields before r behind stands takes);
-    still = λ before r behind stands takes. ap (list_any (has_name rec_name)) (laid_is_fields before r behind stands takes) ∙ unnamed;
+    full = λ before r following stands takes. ap (list_any is_blank_piece) (laid_is_fields before r following stands takes) ∙ full;
+    changes = λ before r following stands takes. ap between_fields (laid_is_fields before r following stands takes);
+    still = λ before r following stands takes. ap (list_any (has_name rec_name)) (laid_is_fields before r following stands takes) ∙ unnamed;
   }
 
--- the new fields stand in the place of each chosen record
+-- the new fields stand instead of each chosen record
 pub IsInner-replacement : (pairs : List Pair) (pieces : List Piece) (selected : List ℕ) (records : List (Range ℕ)) → AllByRecursion CanBeWritten pairs
     → IsInner pieces (replacement (fields_of pairs) (filter_map (slice_get records) selected)) selected (λ own. fields_of pairs) records
 IsInner-replacement pairs pieces selected records written = inner_replacement (fields_of pairs) pieces selected records (fields_full pairs written) (fields_unnamed pairs written)

@@ -16,8 +16,8 @@ use Rattle.rec_sex.specs.declared.lists.field_list.Item.{Item}
 use Rattle.rec_sex.specs.Lists.{places_from, occurrences, picks}
 use Rattle.rec_check.specs.Descriptors.{holds_index}
 use Rattle.rec_edit.specs.declared.request.Action.{Action}
-use Rattle.rec_edit.specs.Rules.{picks_none, picked_becomes, added, is_picked, setting}
-use Rattle.rec_edit.specs.proving.Endings.{FieldEdit, picks_index, behind, NoneEndsAt, EndsAt}
+use Rattle.rec_edit.specs.Rules.{picks_none, picked_becomes, added, is_picked, setting, is_picked_of}
+use Rattle.rec_edit.specs.proving.Endings.{FieldEdit, following, NoneEndsAt, EndsAt}
 use Rattle.rec_edit.specs.proving.Drafts.{AreRanges, Keeps}
 use Rattle.rec_text.proofs.lemmas.ListLemmas.{AllByRecursion-weaker}
 
@@ -27,7 +27,7 @@ or_false : (b : Bool) → b ≡ (b || false)
 or_false true = refl
 or_false false = refl
 
--- places behind the table's end that get no mark
+-- places after the table's end that get no mark
 padded : (marks : List Bool) (count i : ℕ) → is_marked (marks ++ replicate count false) i ≡ is_marked marks i
 padded marks count i = elim (cases_lt i (length marks)) [
   | inl within ↦ get_or-append marks (replicate count false) false i within
@@ -62,18 +62,18 @@ module _ (marks : List Bool) (index : ℕ) where
             ∙ sym (or_right (is_marked marks i) (eqb index i) (eq-eqb index i (sym same)))
         | inr (inl before) ↦
             get_or-append (marks ++ replicate count false) (true ∷ []) false i (omega (arith, size)) ∙ padded marks count i ∙ unmarked i (λ e. omega arith)
-        | inr (inr behind) ↦
+        | inr (inr following) ↦
             get_or_past ((marks ++ replicate count false) ++ true ∷ []) i false (omega (arith, size, length-append (marks ++ replicate count false) (true ∷ [])))
             ∙ sym (get_or_past marks i false (omega arith)) ∙ unmarked i (λ e. omega arith)
       ]
 
--- the code's steps: the table is filled up to the index, and a mark is put behind
+-- the code's steps: the table is filled up to the index, and a mark is put after
 pub grown_marks : (marks filled more : List Bool) (index size : ℕ) → size ≡ length marks → size ≤ index → filled ≡ take index marks ++ replicate (index - size) false
     → more ≡ filled ++ true ∷ [] → (i : ℕ) → is_marked more i ≡ (is_marked marks i || eqb index i)
 grown_marks marks filled more index size is past fill push i =
     let same : filled ≡ marks ++ replicate (index - length marks) false =
-    fill ∙ ap (λ front. front ++ replicate (index - size) false) (take_all index marks (omega arith)) ∙ ap (λ n. marks ++ replicate (index - n) false) is in
-    ap (λ table. is_marked table i) (push ∙ ap (λ front. front ++ true ∷ []) same) ∙ is_marked-grown marks index i (omega arith)
+    fill ∙ ap (λ prefix. prefix ++ replicate (index - size) false) (take_all index marks (omega arith)) ∙ ap (λ n. marks ++ replicate (index - n) false) is in
+    ap (λ table. is_marked table i) (push ∙ ap (λ prefix. prefix ++ true ∷ []) same) ∙ is_marked-grown marks index i (omega arith)
 
 -- ---- a range, index by index
 
@@ -95,7 +95,7 @@ module _ (start end : ℕ) where
   pub is_done-all : (index i : ℕ) → end ≤ index → is_done index i ≡ (leb start i && ltb i end)
   is_done-all index i all = ap (λ n. leb start i && ltb i n) (omega arith)
 
--- ---- the edit of fields: which elements are picked, which record ends at an index, and what is added behind it
+-- ---- the edit of fields: which elements are picked, which record ends at an index, and what is added after it
 
 -- ---- which range ends at an index
 
@@ -118,44 +118,44 @@ ends_rise least (range ∷ ranges) ascending some (suc i) zero d ordered within 
 ends_rise least (range ∷ ranges) ascending some (suc i) (suc j) d ordered within = ends_rise range.end ranges ascending.1 some.1 i j d (omega arith) (omega arith)
 
 module _ (new : Range ℕ → List Piece) (i : ℕ) where
-  behind-other : (range : Range ℕ) (ranges : List (Range ℕ)) → (range.end ≡ i → ⊥) → behind new (range ∷ ranges) i ≡ behind new ranges i
-  behind-other range ranges other = ap (λ front. front ++ behind new ranges i) (cond-false (eqb range.end i) (new range) [] (ne_eqb range.end i other))
+  following-other : (range : Range ℕ) (ranges : List (Range ℕ)) → (range.end ≡ i → ⊥) → following new (range ∷ ranges) i ≡ following new ranges i
+  following-other range ranges other = ap (λ prefix. prefix ++ following new ranges i) (cond-false (eqb range.end i) (new range) [] (ne_eqb range.end i other))
 
-  behind-past : (least : ℕ) (ranges : List (Range ℕ)) → AreAscending least ranges → AreSome ranges → i ≤ least → behind new ranges i ≡ []
-  behind-past least [] ascending some past = refl
-  behind-past least (range ∷ ranges) ascending some past =
+  following-past : (least : ℕ) (ranges : List (Range ℕ)) → AreAscending least ranges → AreSome ranges → i ≤ least → following new ranges i ≡ []
+  following-past least [] ascending some past = refl
+  following-past least (range ∷ ranges) ascending some past =
       let later : i < range.end = omega (arith, ascending.0, some.0) in
-      behind-other range ranges (λ e. omega arith) ∙ behind-past range.end ranges ascending.1 some.1 (omega arith)
+      following-other range ranges (λ e. omega arith) ∙ following-past range.end ranges ascending.1 some.1 (omega arith)
 
-  -- the ranges before a place end before the index, and the one at that place behind it, if there is one
-  behind-none : (least : ℕ) (ranges : List (Range ℕ)) (at : ℕ) (d : Range ℕ) → AreAscending least ranges → AreSome ranges
-      → ((k : ℕ) → k < at → k < length ranges → (get_or ranges k d).end < i) → (at < length ranges → i < (get_or ranges at d).end) → behind new ranges i ≡ []
-  behind-none least [] at d ascending some before later = refl
-  behind-none least (range ∷ ranges) zero d ascending some before later =
+  -- the ranges before a place end before the index, and the one at that place after it, if there is one
+  following-none : (least : ℕ) (ranges : List (Range ℕ)) (at : ℕ) (d : Range ℕ) → AreAscending least ranges → AreSome ranges
+      → ((k : ℕ) → k < at → k < length ranges → (get_or ranges k d).end < i) → (at < length ranges → i < (get_or ranges at d).end) → following new ranges i ≡ []
+  following-none least [] at d ascending some before later = refl
+  following-none least (range ∷ ranges) zero d ascending some before later =
       let past : i < range.end = later (omega arith) in
-      behind-other range ranges (λ e. omega arith) ∙ behind-past range.end ranges ascending.1 some.1 (omega arith)
-  behind-none least (range ∷ ranges) (suc at) d ascending some before later =
+      following-other range ranges (λ e. omega arith) ∙ following-past range.end ranges ascending.1 some.1 (omega arith)
+  following-none least (range ∷ ranges) (suc at) d ascending some before later =
       let first : range.end < i = before 0 (omega arith) (omega arith) in
-      behind-other range ranges (λ e. omega arith)
-      ∙ behind-none range.end ranges at d ascending.1 some.1 (λ k low within. before (suc k) (omega arith) (omega arith)) (λ within. later (omega arith))
+      following-other range ranges (λ e. omega arith)
+      ∙ following-none range.end ranges at d ascending.1 some.1 (λ k low within. before (suc k) (omega arith) (omega arith)) (λ within. later (omega arith))
 
   -- the ranges before a place end before the index, and the one at that place ends at it
-  behind-one : (least : ℕ) (ranges : List (Range ℕ)) (at : ℕ) (d : Range ℕ) → AreAscending least ranges → AreSome ranges
-      → ((k : ℕ) → k < at → k < length ranges → (get_or ranges k d).end < i) → at < length ranges → (get_or ranges at d).end ≡ i → behind new ranges i ≡ new (get_or ranges at d)
-  behind-one least [] at d ascending some before within here = absurd (omega arith)
-  behind-one least (range ∷ ranges) zero d ascending some before within here =
-      ap (λ front. front ++ behind new ranges i) (cond-true (eqb range.end i) (new range) [] (eq-eqb range.end i here))
-      ∙ ap (λ rest. new range ++ rest) (behind-past range.end ranges ascending.1 some.1 (omega arith)) ∙ append-nil (new range)
-  behind-one least (range ∷ ranges) (suc at) d ascending some before within here =
+  following-one : (least : ℕ) (ranges : List (Range ℕ)) (at : ℕ) (d : Range ℕ) → AreAscending least ranges → AreSome ranges
+      → ((k : ℕ) → k < at → k < length ranges → (get_or ranges k d).end < i) → at < length ranges → (get_or ranges at d).end ≡ i → following new ranges i ≡ new (get_or ranges at d)
+  following-one least [] at d ascending some before within here = absurd (omega arith)
+  following-one least (range ∷ ranges) zero d ascending some before within here =
+      ap (λ prefix. prefix ++ following new ranges i) (cond-true (eqb range.end i) (new range) [] (eq-eqb range.end i here))
+      ∙ ap (λ rest. new range ++ rest) (following-past range.end ranges ascending.1 some.1 (omega arith)) ∙ append-nil (new range)
+  following-one least (range ∷ ranges) (suc at) d ascending some before within here =
       let first : range.end < i = before 0 (omega arith) (omega arith) in
-      behind-other range ranges (λ e. omega arith)
-      ∙ behind-one range.end ranges at d ascending.1 some.1 (λ k low within. before (suc k) (omega arith) (omega arith)) (omega arith) here
+      following-other range ranges (λ e. omega arith)
+      ∙ following-one range.end ranges at d ascending.1 some.1 (λ k low within. before (suc k) (omega arith) (omega arith)) (omega arith) here
 
-  pub behind-nothing : (ranges : List (Range ℕ)) → ((range : Range ℕ) → new range ≡ []) → behind new ranges i ≡ []
-  behind-nothing [] nothing = refl
-  behind-nothing (range ∷ ranges) nothing = elim (cases_Bool (eqb range.end i)) [
-    | inl here ↦ ap (λ front. front ++ behind new ranges i) (cond-true (eqb range.end i) (new range) [] here ∙ nothing range) ∙ behind-nothing ranges nothing
-    | inr other ↦ ap (λ front. front ++ behind new ranges i) (cond-false (eqb range.end i) (new range) [] other) ∙ behind-nothing ranges nothing
+  pub following-nothing : (ranges : List (Range ℕ)) → ((range : Range ℕ) → new range ≡ []) → following new ranges i ≡ []
+  following-nothing [] nothing = refl
+  following-nothing (range ∷ ranges) nothing = elim (cases_Bool (eqb range.end i)) [
+    | inl here ↦ ap (λ prefix. prefix ++ following new ranges i) (cond-true (eqb range.end i) (new range) [] here ∙ nothing range) ∙ following-nothing ranges nothing
+    | inr other ↦ ap (λ prefix. prefix ++ following new ranges i) (cond-false (eqb range.end i) (new range) [] other) ∙ following-nothing ranges nothing
   ]
 
 -- what a search by halves says of the ranges
@@ -172,19 +172,19 @@ module _ (size : ℕ) (ranges : List (Range ℕ)) (i at : ℕ) (are : AreRanges 
     place = at;
     within = within;
     here = here;
-    alone = λ new. behind-one new i 0 ranges at range are.ascending (some_of size ranges are) (before range) within (ap (λ r. r.end) (sym here) ∙ ends) ∙ ap new (sym here);
+    alone = λ new. following-one new i 0 ranges at range are.ascending (some_of size ranges are) (before range) within (ap (λ r. r.end) (sym here) ∙ ends) ∙ ap new (sym here);
   }
 
   pub other_ends : (range : Range ℕ) → at < length ranges → range ≡ get_or ranges at range → (range.end ≡ i → ⊥) → NoneEndsAt ranges i
   other_ends range within here other new =
       let later : i ≤ (get_or ranges at range).end = ltb-false (get_or ranges at range).end i (cut.1 at range (omega arith) within) in
       let end : range.end ≡ (get_or ranges at range).end = ap (λ r. r.end) here in
-      behind-none new i 0 ranges at range are.ascending (some_of size ranges are) (before range)
+      following-none new i 0 ranges at range are.ascending (some_of size ranges are) (before range)
       (λ _. elim (cases_eq range.end i) [ inl same ↦ absurd (other same) | inr differs ↦ omega (arith, later, end) ])
 
   pub none_ends : length ranges ≤ at → NoneEndsAt ranges i
   none_ends past new =
-      behind-none new i 0 ranges at (record { start = 0; end = 0 }) are.ascending (some_of size ranges are) (before (record { start = 0; end = 0 })) (λ within. absurd (omega arith))
+      following-none new i 0 ranges at (record { start = 0; end = 0 }) are.ascending (some_of size ranges are) (before (record { start = 0; end = 0 })) (λ within. absurd (omega arith))
 
 -- ---- which elements are picked
 
@@ -200,8 +200,8 @@ module _ (P : ℕ → Type 0) where
   all_dropped (suc n) (x ∷ xs) all = all_dropped n xs all.1
 
   all_joined : (xs ys : List ℕ) → AllByRecursion P xs → AllByRecursion P ys → AllByRecursion P (xs ++ ys)
-  all_joined [] ys front behind = behind
-  all_joined (x ∷ xs) ys front behind = (front.0, all_joined xs ys front.1 behind)
+  all_joined [] ys prefix following = following
+  all_joined (x ∷ xs) ys prefix following = (prefix.0, all_joined xs ys prefix.1 following)
 
   all_occurrences : (span : Option Span) (places : List ℕ) → AllByRecursion P places → AllByRecursion P (occurrences span places)
   all_occurrences None places all = all
@@ -239,9 +239,9 @@ held start end i len (place ∷ places) fits all some = elim (or_cases (eqb (sta
 ]
 
 -- an index that a list picks of a record lies in its range
-pub picks_index-held : (items : List Item) (pieces : List Piece) (i : ℕ) (range : Range ℕ) → range.start ≤ range.end → range.end ≤ length pieces
-    → list_any (λ place. eqb (range.start + place) i) (picks items (elements_in pieces range)) ≡ picks_index items pieces i range
-picks_index-held items pieces i range ordered within =
+pub is_picked_of-held : (items : List Item) (pieces : List Piece) (i : ℕ) (range : Range ℕ) → range.start ≤ range.end → range.end ≤ length pieces
+    → list_any (λ place. eqb (range.start + place) i) (picks items (elements_in pieces range)) ≡ is_picked_of items pieces i range
+is_picked_of-held items pieces i range ordered within =
     let places : List ℕ = picks items (elements_in pieces range) in
     let size = length-elements_in pieces range ordered within in
     elim (cases_Bool (list_any (λ place. eqb (range.start + place) i) places)) [
@@ -257,7 +257,7 @@ length-places_from : (i : ℕ) (name : List ℕ) (own : List Piece) → length (
 length-places_from i name [] = refl
 length-places_from i name (piece ∷ own) =
     let rest : length (places_from (i + 1) name own) ≡ count_by (has_name name) own = length-places_from (i + 1) name own in
-    let step : count_by (has_name name) (piece ∷ own) ≡ cond (has_name name piece) 1 0 + count_by (has_name name) own = sum_by-cons (λ x. cond (has_name name x) 1 0) piece own in
+    let edit : count_by (has_name name) (piece ∷ own) ≡ cond (has_name name piece) 1 0 + count_by (has_name name) own = sum_by-cons (λ x. cond (has_name name x) 1 0) piece own in
     cond_both (has_name name piece) (i ∷ places_from (i + 1) name own) (places_from (i + 1) name own) (λ places. length places ≡ count_by (has_name name) (piece ∷ own))
     (λ same. omega (arith, cond-true {A = ℕ} (has_name name piece) 1 0 same))
     (λ other. omega (arith, cond-false {A = ℕ} (has_name name piece) 1 0 other))
@@ -294,7 +294,7 @@ module _ (own : List Piece) (item : Item) (name : List ℕ) (count : ℕ) (named
   item_picks-some span is =
       subst (λ o. (leb count span.first || ltb span.last span.first) ≡ picks_none own (record { name = item.name; occurrences = o })) (sym is) (picks_none-some own item.name count with_name span)
 
--- ---- the plan
+-- ---- the layout
 
 -- the marks are also those of a test that agrees
 pub marks_as : {T E : Type 0} (r : Result T E) (marks : List Bool) (test other : ℕ → Bool) → ((i : ℕ) → test i ≡ other i) → OnOk r (AreMarks marks test) → OnOk r (AreMarks marks other)
@@ -307,8 +307,8 @@ none_there some (Some x) there is absent cases = absurd (let clash : false ≡ t
 
 module _ (edit : FieldEdit) (action : Action) (items : List Item) (pieces : List Piece) (chosen : List (Range ℕ)) (i : ℕ)
     (view : record { action = action; items = items; pieces = pieces; chosen = chosen } ≡ edit) where
-  added_is : behind (λ range. added action items (elements_in pieces range)) chosen i ≡ (setting edit.action edit.items edit.pieces edit.chosen).put i
-  added_is = ap (λ e. behind (λ range. added e.action e.items (elements_in e.pieces range)) e.chosen i) view
+  added_is : following (λ range. added action items (elements_in pieces range)) chosen i ≡ (setting edit.action edit.items edit.pieces edit.chosen).put i
+  added_is = ap (λ e. following (λ range. added e.action e.items (elements_in e.pieces range)) e.chosen i) view
 
   pub put_one : {T E : Type 0} (r : Result T E) (old new : List ℕ) (given : List Item) (own : List Piece) (range : Range ℕ) → EndsAt chosen i range
       → given ≡ items → own ≡ elements_in pieces range → OnOk r (new ≡ old ++ text_of (added action given own)) → OnOk r (new ≡ old ++ text_of ((setting edit.action edit.items edit.pieces edit.chosen).put i))
@@ -321,7 +321,7 @@ module _ (edit : FieldEdit) (action : Action) (items : List Item) (pieces : List
   put_none old none = sym (append-nil old) ∙ ap (λ new_pieces. old ++ text_of new_pieces) (sym (none (λ r. added action items (elements_in pieces r))) ∙ added_is)
 
   pub stays : (marks looked : List Bool) → AreMarks marks (is_picked items pieces chosen) → looked ≡ marks → false ≡ is_marked looked i
-      → behind (λ range. added action items (elements_in pieces range)) chosen i ≡ [] → Keeps (setting edit.action edit.items edit.pieces edit.chosen) i
+      → following (λ range. added action items (elements_in pieces range)) chosen i ≡ [] → Keeps (setting edit.action edit.items edit.pieces edit.chosen) i
   stays marks looked are same unmarked nothing =
       let other : is_picked items pieces chosen i ≡ false = sym (are i) ∙ ap (λ table. is_marked table i) (sym same) ∙ sym unmarked in
       subst (λ e. Keeps (setting e.action e.items e.pieces e.chosen) i) view

@@ -1,4 +1,4 @@
--- Each step of an edit has one answer at most, a refused pattern aside; and the refusals that an edit has at all.
+-- What holds of each step of an edit, and the refusals that an edit has at all.
 use Rattle.std.proofs.Common.{◌≡◌, ◌∙◌, inl, inr, Result, Ok, Err, sym, ap, subst, ◌≢◌, List, [], ◌==◌, ℕ, position, Option, Some, None, ◌∷◌, length, ℤ, Bool, true, false, cond, ◌++◌, map, filter_map, slice_get, find, option_to_list}
 use Rattle.std.specs.Option.{option_map_or}
 use Rattle.std.specs.declared.ops.Range.{Range}
@@ -6,13 +6,14 @@ use Rattle.std.proofs.lemmas.Bool.{cond_both}
 use Rattle.std.specs.List.{list_all}
 use Rattle.rec_text.specs.declared.fault.Fault.{Fault}
 use Rattle.rec_text.specs.declared.fault.Fault.TheVariants.{BadPattern, OutOfMemory, BadFieldList, BadDescriptor, Unsupported, NoSuchType, BadName, BadValue, BadRecord, AutoImpossible}
-use Rattle.rec_text.specs.Faults.{IsMemoryOr}
+use Rattle.rec_text.specs.Faults.{IsMemoryOr, UnlessMemory}
 use Rattle.rec_text.specs.Steps.{Then}
 use Rattle.rec_text.specs.Elements.{Piece, AreElementsOf, text_of}
 use Rattle.rec_check.specs.Schemas.{Described, IsSchema}
 use Rattle.rec_edit.specs.Task.{Task, Pair, Wanted, NewRecord, of_pairs, of_text, insert, replace, delete, comment_out, set, auto_fill}
-use Rattle.rec_edit.specs.Script.{Layout, script_of, new_pieces, edited_text, hunks_of}
-use Rattle.rec_edit.specs.Outcome.{Step, allowed, AreChosen, AreRemovable, IsStep, none_of, IsSoundUnlessForced, edited_by, IsOutcome, IsEditRefusal}
+use Rattle.rec_edit.specs.Script.{Layout, script_of, new_pieces, edited_text}
+use Rattle.rec_edit.specs.proving.Changes.{hunks_of}
+use Rattle.rec_edit.specs.Outcome.{EditScript, allowed, AreChosen, AreRemovable, IsEditScript, none_of, IsSoundUnlessForced, edited_by, IsOutcome, IsEditRefusal}
 use Rattle.rec_edit.specs.Effect.{HasEffect}
 use Rattle.rec_sex.specs.declared.lists.field_list.Item.{Item}
 use Rattle.rec_edit.specs.declared.request.Action.TheVariants.{Add}
@@ -36,100 +37,26 @@ use Rattle.rec_edit.specs.Automatic.{lacking, AreNumbered, AreAutomatic, numbers
 use Rattle.rec_text.proofs.lemmas.records.RecordLemmas.{OneListOfRecords-holds}
 use Rattle.rec_text.proofs.lemmas.reading.ReadingLemmas.{one_reading}
 use Rattle.rec_check.proofs.lemmas.laws.SameLemmas.{one_schema}
+use Rattle.rec_text.proofs.lemmas.FaultLemmas.{memory_or_weaker, no_both, same_value}
 
--- ---- each step of an edit has one answer at most, and so has one step after another; a refused pattern may stand aside
+-- ---- answers aside from memory
 
--- ---- one answer
-
-pub no_both : {A : Type 0} (a : A) (fault : Fault) → ◌≡◌ {A = Result A Fault} (Ok a) (Err fault) → ⊥
-no_both a fault e = cc
-
-pub same_fault : {A : Type 0} (one other : Fault) → ◌≡◌ {A = Result A Fault} (Err one) (Err other) → one ≡ other
-same_fault one other e = cc
-
-pub same_value : {A : Type 0} (one other : A) → ◌≡◌ {A = Result A Fault} (Ok one) (Ok other) → one ≡ other
-same_value one other e = cc
-
--- two steps have one answer together, at most
-abbrev pub AreOne : {A : Type 0} → (Result A Fault → Type 0) → (Result A Fault → Type 0) → Type 0
-AreOne {A} step same = (one other : Result A Fault) → step one → same other → one ≡ other
-
--- a step has one answer at most
-abbrev pub HasOne : {A : Type 0} → (Result A Fault → Type 0) → Type 0
-HasOne step = AreOne step step
-
--- a step has one answer at most, a refused pattern aside
-abbrev pub HasOneBut : {A : Type 0} → (Result A Fault → Type 0) → Type 0
-HasOneBut {A} step = (one other : Result A Fault) → step one → step other → one ≢ Err BadPattern → other ≢ Err BadPattern → one ≡ other
-
-pub HasOneBut-of : {A : Type 0} (step : Result A Fault → Type 0) → HasOne step → HasOneBut step
-HasOneBut-of step has_one one other is is_too _ _ = has_one one other is is_too
-
-pub HasOne-same : {A : Type 0} (outcome : Result A Fault) → HasOne (λ answer. answer ≡ outcome)
-HasOne-same outcome one other is is_too = is ∙ sym is_too
-
-pub refused_too : {A B : Type 0} (answer : Result B Fault) (fault : Fault) → answer ≡ Err fault → answer ≢ Err BadPattern
-    → ◌≢◌ {A = Result A Fault} (Err fault) (Err BadPattern)
-refused_too answer fault e built k = built (e ∙ ap Err (same_fault fault BadPattern k))
-
--- ---- one step after another
-
-pub AreOne-Then : {A B : Type 0} (first alike : Result A Fault → Type 0) (next behind : A → Result B Fault → Type 0)
-    → AreOne first alike → ((a : A) → AreOne (next a) (behind a)) → AreOne (Then first next) (Then alike behind)
-AreOne-Then first alike next behind first_one next_one one other (inl (f, is, e)) (inl (g, is_too, k)) = e ∙ ap Err (same_fault f g (first_one (Err f) (Err g) is is_too)) ∙ sym k
-AreOne-Then first alike next behind first_one next_one one other (inl (f, is, e)) (inr (b, is_too, k)) = absurd (no_both b f (sym (first_one (Err f) (Ok b) is is_too)))
-AreOne-Then first alike next behind first_one next_one one other (inr (a, is, e)) (inl (g, is_too, k)) = absurd (no_both a g (first_one (Ok a) (Err g) is is_too))
-AreOne-Then first alike next behind first_one next_one one other (inr (a, is, e)) (inr (b, is_too, k)) =
-    next_one b one other (subst (λ x. next x one) (same_value a b (first_one (Ok a) (Ok b) is is_too)) e) k
-
-pub HasOne-Then : {A B : Type 0} (first : Result A Fault → Type 0) (next : A → Result B Fault → Type 0)
-    → HasOne first → ((a : A) → HasOne (next a)) → HasOne (Then first next)
-HasOne-Then first next first_one next_one = AreOne-Then first first next next first_one next_one
-
--- of the steps, only the later one may refuse a pattern
-pub HasOneBut-after : {A B : Type 0} (first alike : Result A Fault → Type 0) (next : A → Result B Fault → Type 0) → AreOne first alike → ((a : A) → HasOneBut (next a))
-    → (one other : Result B Fault) → Then first next one → Then alike next other → one ≢ Err BadPattern → other ≢ Err BadPattern → one ≡ other
-HasOneBut-after first alike next first_one next_one one other (inl (f, is, e)) (inl (g, is_too, k)) _ _ =
-    e ∙ ap Err (same_fault f g (first_one (Err f) (Err g) is is_too)) ∙ sym k
-HasOneBut-after first alike next first_one next_one one other (inl (f, is, e)) (inr (b, is_too, k)) _ _ = absurd (no_both b f (sym (first_one (Err f) (Ok b) is is_too)))
-HasOneBut-after first alike next first_one next_one one other (inr (a, is, e)) (inl (g, is_too, k)) _ _ = absurd (no_both a g (first_one (Ok a) (Err g) is is_too))
-HasOneBut-after first alike next first_one next_one one other (inr (a, is, e)) (inr (b, is_too, k)) built built_too =
-    next_one b one other (subst (λ x. next x one) (same_value a b (first_one (Ok a) (Ok b) is is_too)) e) k built built_too
-
--- of the steps, only the first may refuse a pattern
-pub HasOneBut-before : {A B : Type 0} (first : Result A Fault → Type 0) (next : A → Result B Fault → Type 0)
-    → HasOneBut first → ((a : A) → HasOne (next a)) → HasOneBut (Then first next)
-HasOneBut-before first next first_one next_one one other (inl (f, is, e)) (inl (g, is_too, k)) built built_too =
-    e ∙ ap Err (same_fault f g (first_one (Err f) (Err g) is is_too (refused_too one f e built) (refused_too other g k built_too))) ∙ sym k
-HasOneBut-before first next first_one next_one one other (inl (f, is, e)) (inr (b, is_too, k)) built built_too =
-    absurd (no_both b f (first_one (Ok b) (Err f) is_too is (no_both b BadPattern) (refused_too one f e built)))
-HasOneBut-before first next first_one next_one one other (inr (a, is, e)) (inl (g, is_too, k)) built built_too =
-    absurd (no_both a g (first_one (Ok a) (Err g) is is_too (no_both a BadPattern) (refused_too other g k built_too)))
-HasOneBut-before first next first_one next_one one other (inr (a, is, e)) (inr (b, is_too, k)) built built_too =
-    next_one b one other (subst (λ x. next x one) (same_value a b (first_one (Ok a) (Ok b) is is_too (no_both a BadPattern) (no_both b BadPattern))) e) k
-
--- ---- refusals aside from memory
-
-pub memory_or_weaker : (fault : Fault) (P Q : Type 0) → (P → Q) → IsMemoryOr fault P → IsMemoryOr fault Q
-memory_or_weaker OutOfMemory P Q f h = tt
-memory_or_weaker _ P Q f h = f h
-
--- the parts of an answer
-pub Then-ok : {A B : Type 0} (first : Result A Fault → Type 0) (next : A → Result B Fault → Type 0) (b : B) → Then first next (Ok b) → (a : A) × first (Ok a) × next a (Ok b)
-Then-ok first next b (inl (fault, is, e)) = absurd (no_both b fault e)
-Then-ok first next b (inr (a, is, h)) = (a, is, h)
+pub unless_memory-weaker : {X : Type 0} (result : Result X Fault) (P Q : Result X Fault → Type 0) → ((answer : Result X Fault) → P answer → Q answer)
+    → UnlessMemory result P → UnlessMemory result Q
+unless_memory-weaker (Ok x) P Q weaker holds = weaker (Ok x) holds
+unless_memory-weaker (Err fault) P Q weaker holds = memory_or_weaker fault (P (Err fault)) (Q (Err fault)) (weaker (Err fault)) holds
 
 -- ---- what holds of each step of an edit
 
 -- Its script is that of a layout; the new elements are those of the edited text, whose descriptors are sound; where that text
 -- is the old one there is no hunk; and it has its effect on the records.
-pub record IsFaithful (pieces : List Piece) (schema : Described) (task : Task) (step : Step) : Type 0 where
+pub record IsFaithful (pieces : List Piece) (schema : Described) (task : Task) (edit : EditScript) : Type 0 where
   pub layout : Layout
-  pub is : step.script ≡ script_of layout pieces
-  pub read : AreElementsOf (new_pieces step.script) (edited_text step.script)
-  pub unchanged : edited_text step.script ≡ text_of pieces → hunks_of step.script ≡ []
-  pub sound : (same : Described) × IsSchema (new_pieces step.script) (Ok same)
-  pub effect : HasEffect pieces schema task (edited_text step.script)
+  pub is : edit.script ≡ script_of layout pieces
+  pub read : AreElementsOf (new_pieces edit.script) (edited_text edit.script)
+  pub unchanged : edited_text edit.script ≡ text_of pieces → hunks_of edit.script ≡ []
+  pub sound : (same : Described) × IsSchema (new_pieces edit.script) (Ok same)
+  pub effect : HasEffect pieces schema task (edited_text edit.script)
 
 -- ---- the place of the first subscript in a list
 
@@ -149,15 +76,15 @@ unnumbered-none value list items none = ap (fault_or items) none
 pub unread_is_refused : (text : List ℕ) (fault : Fault) → ((other : Result (List Piece) Fault) → IsReading text other → IsMemoryOr fault (Err fault ≡ other))
     → IsMemoryOr (cause_of fault) (IsRecordText text (Err (cause_of fault)))
 unread_is_refused text OutOfMemory only = tt
-unread_is_refused text fault only = λ pieces record_ are records. no_both pieces fault (sym (only (Ok pieces) are))
+unread_is_refused text fault only = λ pieces own_range are records. no_both pieces fault (sym (only (Ok pieces) are))
 
 -- a text whose records aren't one record
 pub other_records_are_refused : (text : List ℕ) (pieces : List Piece) (records : List (Range ℕ)) → AreElementsOf pieces text → AreRecords pieces records → length records ≢ 1
-    → (others : List Piece) (record_ : Range ℕ) → AreElementsOf others text → AreRecords others (record_ ∷ []) → ⊥
-other_records_are_refused text pieces records are are_records other others record_ are_too one =
+    → (others : List Piece) (own_range : Range ℕ) → AreElementsOf others text → AreRecords others (own_range ∷ []) → ⊥
+other_records_are_refused text pieces records are are_records other others own_range are_too one =
     let same : others ≡ pieces = same_value others pieces (one_reading text (Ok others) (Ok pieces) are_too are) in
-    let P : List Piece → Type 0 = λ ps. AreRecords ps (record_ ∷ []) in
-    other (ap length (OneListOfRecords-holds.records pieces records (record_ ∷ []) are_records (subst P same one)))
+    let P : List Piece → Type 0 = λ ps. AreRecords ps (own_range ∷ []) in
+    other (ap length (OneListOfRecords-holds.records pieces records (own_range ∷ []) are_records (subst P same one)))
 
 -- ---- the refusals that an edit has at all
 
@@ -168,7 +95,7 @@ MayBe (Err fault) = IsEditRefusal fault
 
 -- a step has these refusals alone
 abbrev pub RefusesSo : {A : Type 0} → (Result A Fault → Type 0) → Type 0
-RefusesSo {A} step = (answer : Result A Fault) → step answer → MayBe answer
+RefusesSo {A} edit = (answer : Result A Fault) → edit answer → MayBe answer
 
 pub RefusesSo-same : {A : Type 0} (outcome : Result A Fault) → MayBe outcome → RefusesSo (λ answer. answer ≡ outcome)
 RefusesSo-same outcome may answer is = subst MayBe (sym is) may
@@ -218,14 +145,14 @@ MayBe-found_set : (found : Option Set_) → MayBe (found_set found)
 MayBe-found_set None = tt
 MayBe-found_set (Some s) = tt
 
-MayBe-set_for : (kind : Option (List ℕ)) (sets : List Set_) → MayBe (set_for kind sets)
+MayBe-set_for : (record_type : Option (List ℕ)) (sets : List Set_) → MayBe (set_for record_type sets)
 MayBe-set_for None [] = tt
 MayBe-set_for None (untyped ∷ typed) = cond_both (has_members untyped) (Ok untyped) (only_set untyped typed) MayBe (λ _. tt) (λ _. MayBe-only_set untyped typed)
-MayBe-set_for (Some kind) sets = MayBe-found_set (find (is_of_type kind) sets)
+MayBe-set_for (Some record_type) sets = MayBe-found_set (find (is_of_type record_type) sets)
 
-RefusesSo-selection : (pieces : List Piece) (sets : List Set_) (wanted : Wanted) → RefusesSo (IsSelection pieces sets wanted.kind wanted.filter)
+RefusesSo-selection : (pieces : List Piece) (sets : List Set_) (wanted : Wanted) → RefusesSo (IsSelection pieces sets wanted.record_type wanted.filter)
 RefusesSo-selection pieces sets wanted (Ok selected) is = tt
-RefusesSo-selection pieces sets wanted (Err fault) is = subst MayBe is (MayBe-set_for wanted.kind sets)
+RefusesSo-selection pieces sets wanted (Err fault) is = subst MayBe is (MayBe-set_for wanted.record_type sets)
 
 RefusesSo-of_records : {A : Type 0} (pieces : List Piece) (made : List (Range ℕ) → A)
     → RefusesSo {A = A} (λ answer. (records : List (Range ℕ)) × AreRecords pieces records × (answer ≡ Ok (made records)))
@@ -233,7 +160,7 @@ RefusesSo-of_records pieces made answer (records, are, e) = subst MayBe (sym e) 
 
 RefusesSo-chosen : (pieces : List Piece) (sets : List Set_) (wanted : Wanted) → RefusesSo (AreChosen pieces sets wanted)
 RefusesSo-chosen pieces sets wanted =
-    RefusesSo-Then (IsSelection pieces sets wanted.kind wanted.filter) _ (RefusesSo-selection pieces sets wanted)
+    RefusesSo-Then (IsSelection pieces sets wanted.record_type wanted.filter) _ (RefusesSo-selection pieces sets wanted)
     (λ selected. RefusesSo-of_records pieces (λ records. filter_map (slice_get records) selected))
 
 MayBe-allowed : (wanted : Filter) (force : Bool) → MayBe (allowed wanted force)
@@ -263,10 +190,10 @@ RefusesSo-pairs : (fresh : NewRecord) → RefusesSo (ArePairs fresh)
 RefusesSo-pairs (of_pairs given) = RefusesSo-same _ (MayBe-some_pairs given)
 RefusesSo-pairs (of_text text) = RefusesSo-record_text text
 
-RefusesSo-new : (kind : Option (List ℕ)) (fresh : NewRecord) → RefusesSo (IsNewRecord kind fresh)
-RefusesSo-new kind fresh =
+RefusesSo-new : (record_type : Option (List ℕ)) (fresh : NewRecord) → RefusesSo (IsNewRecord record_type fresh)
+RefusesSo-new record_type fresh =
     RefusesSo-Then (ArePairs fresh) _ (RefusesSo-pairs fresh) (λ pairs.
-    RefusesSo-same _ (MayBe-written (option_to_list kind ++ map (λ pair. pair.name) pairs) (map (λ pair. pair.value) pairs) pairs))
+    RefusesSo-same _ (MayBe-written (option_to_list record_type ++ map (λ pair. pair.name) pairs) (map (λ pair. pair.value) pairs) pairs))
 
 -- ---- automatic fields
 
@@ -288,15 +215,15 @@ module _ (pieces : List Piece) where
   RefusesSo-numbered_at schema names (Some place) =
       RefusesSo-numbered (IsAutomatic pieces schema place) (λ name answer is. RefusesSo-next is.rules name (readings pieces (members is.records is.s) name) answer is.next) _
 
-  RefusesSo-automatic : (schema : Described) (kind : Option (List ℕ)) (auto : Bool) (names : List (List ℕ)) → RefusesSo (AreAutomatic pieces schema kind auto names)
-  RefusesSo-automatic schema (Some kind) true names = RefusesSo-numbered_at schema names (position (is_of_type kind) schema.sets)
-  RefusesSo-automatic schema (Some kind) false names = RefusesSo-same _ tt
+  RefusesSo-automatic : (schema : Described) (record_type : Option (List ℕ)) (auto : Bool) (names : List (List ℕ)) → RefusesSo (AreAutomatic pieces schema record_type auto names)
+  RefusesSo-automatic schema (Some record_type) true names = RefusesSo-numbered_at schema names (position (is_of_type record_type) schema.sets)
+  RefusesSo-automatic schema (Some record_type) false names = RefusesSo-same _ tt
   RefusesSo-automatic schema None auto names = RefusesSo-same _ tt
 
   RefusesSo-filled : (rules : Rules) (numbers : List ℕ → List ℤ) (records : List (Range ℕ)) → RefusesSo (AreFilled pieces rules numbers records)
   RefusesSo-filled rules numbers [] = RefusesSo-same _ tt
-  RefusesSo-filled rules numbers (record_ ∷ records) =
-      RefusesSo-Then (AreNumbered (λ name. IsNext rules name (numbers name)) (lacking (automatic_names rules) (names_of (elements_in pieces record_)))) _
+  RefusesSo-filled rules numbers (own_range ∷ records) =
+      RefusesSo-Then (AreNumbered (λ name. IsNext rules name (numbers name)) (lacking (automatic_names rules) (names_of (elements_in pieces own_range)))) _
       (RefusesSo-numbered (λ name. IsNext rules name (numbers name)) (λ name. RefusesSo-next rules name (numbers name)) _) (λ given.
       RefusesSo-Then (AreFilled pieces rules (λ name. numbers_in given name ++ numbers name) records) _ (RefusesSo-filled rules (λ name. numbers_in given name ++ numbers name) records)
       (λ filled. RefusesSo-same _ tt))
@@ -311,10 +238,10 @@ module _ (pieces : List Piece) where
 
 -- ---- one edit
 
-pub RefusesSo-step : (pieces : List Piece) (schema : Described) (force : Bool) (task : Task) → RefusesSo (IsStep pieces schema force task)
-RefusesSo-step pieces schema force (insert kind fresh auto) =
-    RefusesSo-Then (IsNewRecord kind fresh) _ (RefusesSo-new kind fresh) (λ pairs.
-    RefusesSo-Then (AreAutomatic pieces schema kind auto (map (λ pair. pair.name) pairs)) _ (RefusesSo-automatic pieces schema kind auto (map (λ pair. pair.name) pairs)) (λ automatic.
+pub RefusesSo-step : (pieces : List Piece) (schema : Described) (force : Bool) (task : Task) → RefusesSo (IsEditScript pieces schema force task)
+RefusesSo-step pieces schema force (insert record_type fresh auto) =
+    RefusesSo-Then (IsNewRecord record_type fresh) _ (RefusesSo-new record_type fresh) (λ pairs.
+    RefusesSo-Then (AreAutomatic pieces schema record_type auto (map (λ pair. pair.name) pairs)) _ (RefusesSo-automatic pieces schema record_type auto (map (λ pair. pair.name) pairs)) (λ automatic.
     RefusesSo-of_records pieces _))
 RefusesSo-step pieces schema force (replace wanted fresh) =
     RefusesSo-Then (IsNewRecord None fresh) _ (RefusesSo-new None fresh) (λ pairs.
@@ -354,10 +281,10 @@ module _ (text : List ℕ) (new : List Piece) (same : Described) (read : AreElem
   RefusesSo-sound false = RefusesSo-Then (AreViolationsOf text) _ RefusesSo-violations (λ found. RefusesSo-same _ (MayBe-none_of found))
 
 pub RefusesSo-outcome : (pieces : List Piece) (schema : Described) (force : Bool) (task : Task)
-    → ((step : Step) → IsStep pieces schema force task (Ok step) → IsFaithful pieces schema task step) → RefusesSo (IsOutcome pieces schema force task)
+    → ((edit : EditScript) → IsEditScript pieces schema force task (Ok edit) → IsFaithful pieces schema task edit) → RefusesSo (IsOutcome pieces schema force task)
 RefusesSo-outcome pieces schema force task faithful answer (inl (fault, is, e)) =
     subst (λ (r : Result Edited Fault). MayBe r) (sym e) (RefusesSo-step pieces schema force task (Err fault) is)
-RefusesSo-outcome pieces schema force task faithful answer (inr (step, is, rest)) =
-    let of_step = faithful step is in
-    RefusesSo-Then (IsSoundUnlessForced force (edited_text step.script)) (λ _ answer. answer ≡ Ok (edited_by step))
-    (RefusesSo-sound (edited_text step.script) (new_pieces step.script) of_step.sound.0 of_step.read of_step.sound.1 force) (λ _. RefusesSo-same (Ok (edited_by step)) tt) answer rest
+RefusesSo-outcome pieces schema force task faithful answer (inr (edit, is, rest)) =
+    let of_step = faithful edit is in
+    RefusesSo-Then (IsSoundUnlessForced force (edited_text edit.script)) (λ _ answer. answer ≡ Ok (edited_by edit))
+    (RefusesSo-sound (edited_text edit.script) (new_pieces edit.script) of_step.sound.0 of_step.read of_step.sound.1 force) (λ _. RefusesSo-same (Ok (edited_by edit)) tt) answer rest

@@ -1,9 +1,9 @@
 -- Edits one after another: each text between is read, the steps lead from the first text to the last, and what is done and
 -- what is left are the whole.
-use Rattle.std.proofs.Common.{◌≡◌, ◌≢◌, ◌∙◌, ℕ, ◌+◌, ◌<◌, ◌≤◌, length, map, drop, get_or, Bool, true, false, List, [], ◌∷◌, ◌++◌, refl, ap, ap₂, sym, subst, inl, inr, arith, append_assoc, append-nil, Result, Ok, Err}
-use Rattle.std.specs.Prelude.{IfOk, IfErr}
+use Rattle.std.proofs.Common.{◌≡◌, ◌≢◌, ◌∙◌, ℕ, ◌+◌, ◌-◌, ◌<◌, ◌≤◌, length, map, take, drop, get_or, Bool, true, false, List, [], ◌∷◌, ◌++◌, refl, ap, ap₂, sym, subst, inl, inr, arith, append_assoc, append-nil, Result, Ok, Err}
+use Rattle.std.specs.Prelude.{IfOk, IfErr, min}
 use Rattle.std.proofs.lemmas.Int.{clamps}
-use Rattle.std.proofs.lemmas.List.{at_drop_more, drop_all}
+use Rattle.std.proofs.lemmas.List.{at_drop_more, drop_all, take_rest}
 use Rattle.rec_text.specs.declared.fault.Fault.{Fault}
 use Rattle.rec_text.specs.Elements.{Piece, text_of, AreElementsOf}
 use Rattle.rec_text.specs.Faults.{IsMemoryOr, UnlessMemory}
@@ -20,21 +20,24 @@ use Rattle.rec_edit.specs.declared.batches.BatchEdited.{BatchEdited}
 use Rattle.rec_edit.specs.declared.outcome.Edited.{Edited}
 use Rattle.rec_edit.specs.declared.request.Edit.{Edit}
 use Rattle.rec_edit.specs.Task.{Task, task_of, tool_of, insert, replace, delete, comment_out, set, auto_fill}
-use Rattle.rec_edit.specs.Script.{edited_text, old_pieces, new_pieces, hunks_of}
-use Rattle.rec_edit.specs.Outcome.{Step, IsStep, IsSound, IsSoundUnlessForced, IsEditRefusal, edited_by}
-use Rattle.rec_edit.specs.Batch.{IsStepOn, step_with, at_most_greatest, joined, AreSteps, IsBatchOutcome, HaveEffects}
+use Rattle.rec_edit.specs.Script.{edited_text, old_pieces, new_pieces}
+use Rattle.rec_edit.specs.proving.Changes.{hunks_of}
+use Rattle.rec_edit.specs.Outcome.{EditScript, IsEditScript, IsSound, IsSoundUnlessForced, IsEditRefusal, edited_by}
+use Rattle.rec_edit.specs.Batch.{IsEditScriptOn, step_with, at_most_greatest, joined, AreSteps, IsBatchOutcome, HaveEffects}
 use Rattle.rec_edit.specs.Effect.{HasEffect}
 use Rattle.rec_edit.specs.proving.Batches.{IsEditOn, untouched, after_edit, followed, IsUnderWay}
 use Rattle.rec_edit.specs.proving.Edits.{IsEditOf}
 use Rattle.rec_text.proofs.lemmas.reading.ReadingLemmas.{one_reading}
-use Rattle.rec_edit.proofs.lemmas.outcomes.AnswerLemmas.{no_both, same_value, memory_or_weaker, Then-ok, IsFaithful, MayBe, RefusesSo, RefusesSo-same, RefusesSo-step, RefusesSo-sound, schema_refusal}
+use Rattle.rec_text.proofs.lemmas.FaultLemmas.{no_both, same_value, memory_or_weaker}
+use Rattle.rec_text.proofs.lemmas.StepLemmas.{Then-ok}
+use Rattle.rec_edit.proofs.lemmas.outcomes.AnswerLemmas.{IsFaithful, MayBe, RefusesSo, RefusesSo-same, RefusesSo-step, RefusesSo-sound, schema_refusal}
 use Rattle.rec_edit.proofs.lemmas.outcomes.EditLemmas.{fault_is}
 use Rattle.rec_edit.proofs.lemmas.outcomes.UnruledLemmas.{faithful}
 use Rattle.rec_edit.proofs.lemmas.scripts.ScriptLemmas.{old_pieces-script_of, Splices-hunks_of, same_where_no_hunk}
 
 -- an edit is done by a tool of its own
 pub is_batch-tool_of : (task : Task) → is_batch (tool_of task) ≡ false
-is_batch-tool_of (insert kind fresh auto) = refl
+is_batch-tool_of (insert record_type fresh auto) = refl
 is_batch-tool_of (replace wanted fresh) = refl
 is_batch-tool_of (delete wanted) = refl
 is_batch-tool_of (comment_out wanted) = refl
@@ -61,33 +64,47 @@ as_it_is a small = omega (arith, clamps, small)
 
 module _ (force : Bool) where
   -- the first edit is made
-  pub first_edit : (task : Task) (left : List Task) (text empty : List ℕ) (step : Step) → IsStepOn force task text (Ok step)
-      → IsUnderWay force (task ∷ left) text (after_edit (untouched empty) (tool_of task) (edited_by step)) left
-  first_edit task left text empty step is = record {
+  pub first_edit : (task : Task) (left : List Task) (text empty : List ℕ) (edit : EditScript) → IsEditScriptOn force task text (Ok edit)
+      → IsUnderWay force (task ∷ left) text (after_edit (untouched empty) (tool_of task) (edited_by edit)) left
+  first_edit task left text empty edit is = record {
     goes_on = λ rest are. inr (
-      step,
+      edit,
       is,
-      inr (rest, are, ap Ok (same_made _ _ rest.text _ _ refl (sum_of_two step.changed rest.changed))),
+      inr (rest, are, ap Ok (same_made _ _ rest.text _ _ refl (sum_of_two edit.changed rest.changed))),
     );
-    fits = at_most (0 + step.changed);
-    stops = λ fault refused. inr (step, is, inl (fault, refused, refl));
+    fits = at_most (0 + edit.changed);
+    stops = λ fault refused. inr (edit, is, inl (fault, refused, refl));
   }
+
+  -- there is no edit
+  no_edit : (text : List ℕ) → IsUnderWay force [] text (untouched text) []
+  no_edit text = record {
+    goes_on = λ rest are. subst (λ r. ◌≡◌ {A = Result BatchEdited Fault} (Ok (followed (untouched text) r)) (Ok (untouched text))) (sym (same_value rest (untouched text) are)) refl;
+    fits = omega arith;
+    stops = λ fault refused. refused;
+  }
+
+  -- where no edit is the first, none is made of a copy of the text
+  pub no_first : (edits : List Edit) (text copy : List ℕ) (done : BatchEdited) → length edits ≡ 0 → copy ≡ text → done ≡ untouched copy
+      → IsUnderWay force (map task_of edits) text done (map task_of (drop 1 edits))
+  no_first [] text copy done none same is = subst (λ d. IsUnderWay force [] text d []) (sym (is ∙ ap untouched same)) (no_edit text)
+  no_first (edit ∷ edits) text copy done none same is = absurd (omega arith)
 
   module _ (tasks : List Task) (text : List ℕ) (done : BatchEdited) where
     -- one edit more
-    pub next_edit : (task : Task) (left : List Task) (step : Step) → IsUnderWay force tasks text done (task ∷ left) → IsStepOn force task done.text (Ok step)
-        → IsUnderWay force tasks text (after_edit done (tool_of task) (edited_by step)) left
-    next_edit task left step under_way is = record {
+    pub next_edit : (task : Task) (left : List Task) (edit : EditScript) → IsUnderWay force tasks text done (task ∷ left) → IsEditScriptOn force task done.text (Ok edit)
+        → IsUnderWay force tasks text (after_edit done (tool_of task) (edited_by edit)) left
+    next_edit task left edit under_way is = record {
       goes_on = λ rest are.
-          let same : followed done (joined task step rest) ≡ followed (after_edit done (tool_of task) (edited_by step)) rest =
-          same_made _ _ rest.text _ _ (sym (append_assoc done.steps (step_with (tool_of task) (hunks_of step.script)) rest.steps)) (sum_of_three done.changed step.changed rest.changed) in
-          subst (λ r. AreSteps force tasks text (Ok r)) same (under_way.goes_on (joined task step rest) (inr (step, is, inr (rest, are, refl))));
-      fits = at_most (done.changed + step.changed);
-      stops = λ fault refused. under_way.stops fault (inr (step, is, inl (fault, refused, refl)));
+          let same : followed done (joined task edit rest) ≡ followed (after_edit done (tool_of task) (edited_by edit)) rest =
+          same_made _ _ rest.text _ _ (sym (append_assoc done.steps (step_with (tool_of task) (hunks_of edit.script)) rest.steps)) (sum_of_three done.changed edit.changed rest.changed) in
+          subst (λ r. AreSteps force tasks text (Ok r)) same (under_way.goes_on (joined task edit rest) (inr (edit, is, inr (rest, are, refl))));
+      fits = at_most (done.changed + edit.changed);
+      stops = λ fault refused. under_way.stops fault (inr (edit, is, inl (fault, refused, refl)));
     }
 
     -- the next edit is refused
-    pub next_refused : (task : Task) (left : List Task) (fault : Fault) → IsUnderWay force tasks text done (task ∷ left) → IsStepOn force task done.text (Err fault)
+    pub next_refused : (task : Task) (left : List Task) (fault : Fault) → IsUnderWay force tasks text done (task ∷ left) → IsEditScriptOn force task done.text (Err fault)
         → AreSteps force tasks text (Err fault)
     next_refused task left fault under_way refused = under_way.stops fault (inl (fault, refused, refl))
 
@@ -100,15 +117,15 @@ module _ (force : Bool) where
 
 -- the step that an edit of a text is
 pub step_on : (force : Bool) (task : Task) (text : List ℕ) (edited : Edited) → IsEditOn force task text (Ok edited)
-    → (step : Step) × IsStepOn force task text (Ok step) × (edited ≡ edited_by step)
+    → (edit : EditScript) × IsEditScriptOn force task text (Ok edit) × (edited ≡ edited_by edit)
 step_on force task text edited is =
-    let parts = Then-ok (IsStepOn force task text) (λ step answer. answer ≡ Ok (edited_by step)) edited is in
+    let parts = Then-ok (IsEditScriptOn force task text) (λ edit answer. answer ≡ Ok (edited_by edit)) edited is in
     (parts.0, parts.1, same_value edited (edited_by parts.0) parts.2)
 
 -- an edit that is refused
-pub refused_on : (force : Bool) (task : Task) (text : List ℕ) (fault : Fault) → IsEditOn force task text (Err fault) → IsStepOn force task text (Err fault)
-refused_on force task text fault (inl (other, is, e)) = subst (λ (r : Result Step Fault). IsStepOn force task text r) (let same : fault ≡ other = cc in ap Err (sym same)) is
-refused_on force task text fault (inr (step, is, e)) = absurd (no_both (edited_by step) fault (sym e))
+pub refused_on : (force : Bool) (task : Task) (text : List ℕ) (fault : Fault) → IsEditOn force task text (Err fault) → IsEditScriptOn force task text (Err fault)
+refused_on force task text fault (inl (other, is, e)) = subst (λ (r : Result EditScript Fault). IsEditScriptOn force task text r) (let same : fault ≡ other = cc in ap Err (sym same)) is
+refused_on force task text fault (inr (edit, is, e)) = absurd (no_both (edited_by edit) fault (sym e))
 
 -- ---- one edit of a text that is read
 
@@ -131,32 +148,32 @@ pub read_is_described : (text : List ℕ) (pieces : List Piece) (schema : Descri
 read_is_described text pieces schema there = inr (pieces, there.read, inr (schema, there.is, refl))
 
 -- an edit of the elements of a text is one of the text
-pub edit_on : (force : Bool) (task : Task) (text : List ℕ) (pieces : List Piece) (schema : Described) (answer : Result Step Fault) → IsRead text pieces schema
-    → IsStep pieces schema force task answer → IsStepOn force task text answer
+pub edit_on : (force : Bool) (task : Task) (text : List ℕ) (pieces : List Piece) (schema : Described) (answer : Result EditScript Fault) → IsRead text pieces schema
+    → IsEditScript pieces schema force task answer → IsEditScriptOn force task text answer
 edit_on force task text pieces schema answer there is = inr (record { pieces = pieces; schema = schema }, read_is_described text pieces schema there, is)
 
 -- what holds of an edit of a text
-pub record IsFaithfulOn (task : Task) (text : List ℕ) (step : Step) : Type 0 where
-  pub leads : Splices (hunks_of step.script) text (edited_text step.script)
-  pub unchanged : hunks_of step.script ≡ [] → text ≡ edited_text step.script
+pub record IsFaithfulOn (task : Task) (text : List ℕ) (edit : EditScript) : Type 0 where
+  pub leads : Splices (hunks_of edit.script) text (edited_text edit.script)
+  pub unchanged : hunks_of edit.script ≡ [] → text ≡ edited_text edit.script
   pub pieces : List Piece
   pub schema : Described
-  pub read : IsRead (edited_text step.script) pieces schema
-  pub effect : (described : DescribedText) × IsDescribedText text (Ok described) × HasEffect described.pieces described.schema task (edited_text step.script)
+  pub read : IsRead (edited_text edit.script) pieces schema
+  pub effect : (described : DescribedText) × IsDescribedText text (Ok described) × HasEffect described.pieces described.schema task (edited_text edit.script)
 
-pub faithful_on : (force : Bool) (task : Task) (text : List ℕ) (step : Step) → IsStepOn force task text (Ok step) → IsFaithfulOn task text step
-faithful_on force task text step is =
-    let parts = Then-ok (IsDescribedText text) (λ described. IsStep described.pieces described.schema force task) step is in
+pub faithful_on : (force : Bool) (task : Task) (text : List ℕ) (edit : EditScript) → IsEditScriptOn force task text (Ok edit) → IsFaithfulOn task text edit
+faithful_on force task text edit is =
+    let parts = Then-ok (IsDescribedText text) (λ described. IsEditScript described.pieces described.schema force task) edit is in
     let described = parts.0 in
     let there = described_parts text described parts.1 in
     let whole : AreElementsOf described.pieces (text_of described.pieces) = subst (AreElementsOf described.pieces) (sym there.read.joined) there.read in
-    let of_step = faithful described.pieces described.schema force task whole there.is step parts.2 in
-    let old : text_of (old_pieces step.script) ≡ text =
+    let of_step = faithful described.pieces described.schema force task whole there.is edit parts.2 in
+    let old : text_of (old_pieces edit.script) ≡ text =
     ap text_of (ap old_pieces of_step.is ∙ old_pieces-script_of of_step.layout described.pieces) ∙ there.read.joined in
     record {
-      leads = subst (λ before. Splices (hunks_of step.script) before (edited_text step.script)) old (Splices-hunks_of step.script);
-      unchanged = λ none. sym (same_where_no_hunk step.script none ∙ old);
-      pieces = new_pieces step.script;
+      leads = subst (λ before. Splices (hunks_of edit.script) before (edited_text edit.script)) old (Splices-hunks_of edit.script);
+      unchanged = λ none. sym (same_where_no_hunk edit.script none ∙ old);
+      pieces = new_pieces edit.script;
       schema = of_step.sound.0;
       read = record { read = of_step.read; is = of_step.sound.1 };
       effect = (described, parts.1, of_step.effect);
@@ -164,7 +181,7 @@ faithful_on force task text step is =
 
 -- a text that is read has only the refusals of an edit
 step_refusal : (force : Bool) (task : Task) (text : List ℕ) (pieces : List Piece) (schema : Described) (fault : Fault) → IsRead text pieces schema
-    → IsStepOn force task text (Err fault) → IsEditRefusal fault
+    → IsEditScriptOn force task text (Err fault) → IsEditRefusal fault
 step_refusal force task text pieces schema fault there (inr (described, is, refused)) = RefusesSo-step described.pieces described.schema force task (Err fault) refused
 step_refusal force task text pieces schema fault there (inl (other, inl (unread, is, k), e)) =
     absurd (no_both pieces unread (one_reading text (Ok pieces) (Err unread) there.read is))
@@ -179,17 +196,17 @@ step_refusal force task text pieces schema fault there (inl (other, inr (more, i
 
 -- the parts of what a first edit and those after it make
 record AreParts (force : Bool) (task : Task) (tasks : List Task) (text : List ℕ) (made : BatchEdited) : Type 0 where
-  step : Step
-  is : IsStepOn force task text (Ok step)
+  edit : EditScript
+  is : IsEditScriptOn force task text (Ok edit)
   rest : BatchEdited
-  are : AreSteps force tasks (edited_text step.script) (Ok rest)
-  joins : made ≡ joined task step rest
+  are : AreSteps force tasks (edited_text edit.script) (Ok rest)
+  joins : made ≡ joined task edit rest
 
 parts_of : (force : Bool) (task : Task) (tasks : List Task) (text : List ℕ) (made : BatchEdited) → AreSteps force (task ∷ tasks) text (Ok made) → AreParts force task tasks text made
 parts_of force task tasks text made steps =
-    let first = Then-ok (IsStepOn force task text) (λ step. Then (AreSteps force tasks (edited_text step.script)) (λ rest answer. answer ≡ Ok (joined task step rest))) made steps in
+    let first = Then-ok (IsEditScriptOn force task text) (λ edit. Then (AreSteps force tasks (edited_text edit.script)) (λ rest answer. answer ≡ Ok (joined task edit rest))) made steps in
     let others = Then-ok (AreSteps force tasks (edited_text first.0.script)) (λ rest answer. answer ≡ Ok (joined task first.0 rest)) made first.2 in
-    record { step = first.0; is = first.1; rest = others.0; are = others.1; joins = same_value made (joined task first.0 others.0) others.2 }
+    record { edit = first.0; is = first.1; rest = others.0; are = others.1; joins = same_value made (joined task first.0 others.0) others.2 }
 
 leads-step_with : (tool : Tool) (hunks : List Hunk) (steps : List EditStep) (before between after : List ℕ) → Splices hunks before between → (hunks ≡ [] → before ≡ between)
     → LeadsBy steps between after → LeadsBy (step_with tool hunks ++ steps) before after
@@ -205,25 +222,25 @@ module _ (force : Bool) where
   steps_lead [] text made is = subst (λ (m : BatchEdited). LeadsBy m.steps text m.text) (sym (same_value made (untouched text) is)) refl
   steps_lead (task ∷ tasks) text made is =
       let parts = parts_of force task tasks text made is in
-      let holds = faithful_on force task text parts.step parts.is in
+      let holds = faithful_on force task text parts.edit parts.is in
       subst (λ (m : BatchEdited). LeadsBy m.steps text m.text) (sym parts.joins)
-      (leads-step_with (tool_of task) (hunks_of parts.step.script) parts.rest.steps text (edited_text parts.step.script) parts.rest.text holds.leads holds.unchanged
-      (steps_lead tasks (edited_text parts.step.script) parts.rest parts.are))
+      (leads-step_with (tool_of task) (hunks_of parts.edit.script) parts.rest.steps text (edited_text parts.edit.script) parts.rest.text holds.leads holds.unchanged
+      (steps_lead tasks (edited_text parts.edit.script) parts.rest parts.are))
 
   steps_are_done : (tasks : List Task) (text : List ℕ) (made : BatchEdited) → AreSteps force tasks text (Ok made) → AreDone made.steps
   steps_are_done [] text made is = subst (λ (m : BatchEdited). AreDone m.steps) (sym (same_value made (untouched text) is)) tt
   steps_are_done (task ∷ tasks) text made is =
       let parts = parts_of force task tasks text made is in
       subst (λ (m : BatchEdited). AreDone m.steps) (sym parts.joins)
-      (done-step_with (tool_of task) (hunks_of parts.step.script) parts.rest.steps (is_batch-tool_of task) (steps_are_done tasks (edited_text parts.step.script) parts.rest parts.are))
+      (done-step_with (tool_of task) (hunks_of parts.edit.script) parts.rest.steps (is_batch-tool_of task) (steps_are_done tasks (edited_text parts.edit.script) parts.rest parts.are))
 
   steps_have_effects : (tasks : List Task) (text : List ℕ) (made : BatchEdited) → AreSteps force tasks text (Ok made) → HaveEffects tasks text made.text
   steps_have_effects [] text made is = ap (λ (m : BatchEdited). m.text) (sym (same_value made (untouched text) is))
   steps_have_effects (task ∷ tasks) text made is =
       let parts = parts_of force task tasks text made is in
-      let effect = (faithful_on force task text parts.step parts.is).effect in
+      let effect = (faithful_on force task text parts.edit parts.is).effect in
       subst (λ (m : BatchEdited). HaveEffects (task ∷ tasks) text m.text) (sym parts.joins)
-      (effect.0, edited_text parts.step.script, effect.1, effect.2, steps_have_effects tasks (edited_text parts.step.script) parts.rest parts.are)
+      (effect.0, edited_text parts.edit.script, effect.1, effect.2, steps_have_effects tasks (edited_text parts.edit.script) parts.rest parts.are)
 
   -- the last text is read
   last_is_read : (tasks : List Task) (text : List ℕ) (pieces : List Piece) (schema : Described) (made : BatchEdited) → IsRead text pieces schema
@@ -232,8 +249,8 @@ module _ (force : Bool) where
       (pieces, schema, subst (λ (m : BatchEdited). IsRead m.text pieces schema) (sym (same_value made (untouched text) is)) there)
   last_is_read (task ∷ tasks) text pieces schema made there is =
       let parts = parts_of force task tasks text made is in
-      let next = faithful_on force task text parts.step parts.is in
-      let last = last_is_read tasks (edited_text parts.step.script) next.pieces next.schema parts.rest next.read parts.are in
+      let next = faithful_on force task text parts.edit parts.is in
+      let last = last_is_read tasks (edited_text parts.edit.script) next.pieces next.schema parts.rest next.read parts.are in
       (last.0, last.1, subst (λ (m : BatchEdited). IsRead m.text last.0 last.1) (sym parts.joins) last.2)
 
   steps_refusal : (tasks : List Task) (text : List ℕ) (pieces : List Piece) (schema : Described) (fault : Fault) → IsRead text pieces schema
@@ -242,11 +259,11 @@ module _ (force : Bool) where
   steps_refusal (task ∷ tasks) text pieces schema fault there (inl (other, is, e)) =
       let one : other ≡ fault = cc in
       subst IsEditRefusal one (step_refusal force task text pieces schema other there is)
-  steps_refusal (task ∷ tasks) text pieces schema fault there (inr (step, is, inl (other, are, e))) =
-      let next = faithful_on force task text step is in
+  steps_refusal (task ∷ tasks) text pieces schema fault there (inr (edit, is, inl (other, are, e))) =
+      let next = faithful_on force task text edit is in
       let one : other ≡ fault = cc in
-      subst IsEditRefusal one (steps_refusal tasks (edited_text step.script) next.pieces next.schema other next.read are)
-  steps_refusal (task ∷ tasks) text pieces schema fault there (inr (step, is, inr (rest, are, e))) = absurd (no_both (joined task step rest) fault (sym e))
+      subst IsEditRefusal one (steps_refusal tasks (edited_text edit.script) next.pieces next.schema other next.read are)
+  steps_refusal (task ∷ tasks) text pieces schema fault there (inr (edit, is, inr (rest, are, e))) = absurd (no_both (joined task edit rest) fault (sym e))
 
   -- ---- the outcome of a batch
 
@@ -302,7 +319,7 @@ module _ (force : Bool) (task : Task) (text : List ℕ) where
 
   edit_of : (pieces : List Piece) (schema : Described) (answer : Result Edited Fault) → IsRead text pieces schema → IsEditOf pieces schema force task answer → IsEditOn force task text answer
   edit_of pieces schema answer there (inl (fault, is, e)) = inl (fault, edit_on force task text pieces schema (Err fault) there is, e)
-  edit_of pieces schema answer there (inr (step, is, e)) = inr (step, edit_on force task text pieces schema (Ok step) there is, e)
+  edit_of pieces schema answer there (inr (edit, is, e)) = inr (edit, edit_on force task text pieces schema (Ok edit) there is, e)
 
   pub edit_of_read : (pieces : List Piece) (schema : Described) (result : Result Edited Fault) → IsRead text pieces schema → UnlessMemory result (IsEditOf pieces schema force task)
       → UnlessMemory result (IsEditOn force task text)
@@ -363,3 +380,11 @@ tasks_left edits i edit within is = at_drop_more (map task_of) edits i edit with
 
 pub none_left : (edits : List Edit) (i : ℕ) → length edits ≤ i → map task_of (drop i edits) ≡ []
 none_left edits i past = ap (map task_of) (drop_all i edits past)
+
+drop_first : (edits : List Edit) (n : ℕ) → n ≡ min (length edits) 1 → drop n edits ≡ drop 1 edits
+drop_first [] n is = let none : n ≡ 0 = omega (arith, is) in ap (λ k. drop k []) none
+drop_first (edit ∷ edits) n is = let one : n ≡ 1 = omega (arith, is) in ap (λ k. drop k (edit ∷ edits)) one
+
+-- the code's slice of the edits after the first one
+pub tasks_after_first : (edits : List Edit) (n : ℕ) → n ≡ min (length edits) 1 → map task_of (take (length edits - n) (drop n edits)) ≡ map task_of (drop 1 edits)
+tasks_after_first edits n is = ap (map task_of) (take_rest edits n ∙ drop_first edits n is)

@@ -1,28 +1,33 @@
--- The number of changed records, as the script of an edit tells it.
-use Rattle.std.proofs.Common.{◌≡◌, ◌∙◌, ◌⊎◌, ℕ, zero, suc, ◌+◌, ◌<◌, ◌≤◌, Bool, true, false, cond, ◌==◌, List, [], ◌∷◌, ◌++◌, length, map, Some, Result, Ok, refl, ap, ap₂, sym, subst, inl, inr, arith}
+-- The records that a layout changes are those of which its script makes something else.
+use Rattle.std.proofs.Common.{◌≡◌, ◌∙◌, ◌⊎◌, ℕ, zero, suc, ◌+◌, ◌<◌, ◌≤◌, Bool, true, false, cond, ◌==◌, List, [], ◌∷◌, ◌++◌, length, map, Some, None, Result, Ok, refl, ap, ap₂, sym, subst, inl, inr, arith}
 use Rattle.std.specs.Prelude.{count_by, filter_map, flat_map, slice_get, if◌then◌else◌}
 use Rattle.std.specs.List.{AllByRecursion, fold}
 use Rattle.std.specs.declared.ops.Range.{Range}
 use Rattle.std.proofs.lemmas.Bool.{cases_lt, false≢true, and_left, and_right, ne_eqb, or_from}
 use Rattle.rec_text.specs.declared.fault.Fault.{Fault}
-use Rattle.rec_text.specs.Elements.{Piece, IsElement}
+use Rattle.rec_text.specs.Elements.{Piece, IsElement, AreElementsOf, text_of}
 use Rattle.rec_text.specs.Records.{AreAscending, AreRecords, IsRecord, elements_in, is_field_at, is_full_at}
-use Rattle.rec_text.proofs.lemmas.ListLemmas.{AllByRecursion-slice_get, AllByRecursion-weaker}
+use Rattle.rec_text.proofs.lemmas.ListLemmas.{AllByRecursion-slice_get, AllByRecursion-weaker, AllByRecursion-append}
 use Rattle.rec_text.proofs.lemmas.records.RecordLemmas.{field_is_full, field_is_there}
 use Rattle.rec_check.specs.declared.set.Set_.{Set_}
 use Rattle.rec_check.specs.Descriptors.{holds_index}
-use Rattle.rec_check.specs.Schemas.{Described}
+use Rattle.rec_check.specs.Schemas.{Described, IsSchema}
 use Rattle.rec_sex.specs.declared.lists.field_list.Item.{Item}
+use Rattle.rec_text.proofs.lemmas.FaultLemmas.{same_value}
 use Rattle.rec_edit.specs.declared.request.Action.{Action}
-use Rattle.rec_edit.specs.Task.{Wanted, insert, replace, delete, comment_out, set, auto_fill}
+use Rattle.rec_edit.specs.Task.{Pair, Wanted, NewRecord}
 use Rattle.rec_edit.specs.Script.{Layout, parts_from, script_of, new_pieces}
 use Rattle.rec_edit.specs.Rules.{added, commenting, deletion, fields_of, is_own, replacement, setting}
 use Rattle.rec_edit.specs.Insertions.{Filled, filling, numbered_fields}
-use Rattle.rec_edit.specs.Outcome.{AreChosen, AreRemovable, ChangedAreCounted, Counts, CountsChanged, CountsChosen, Step, is_changed, is_changed_by, step_of}
-use Rattle.rec_edit.proofs.lemmas.records.MemberLemmas.{holds_index-before, holds_index-behind}
-use Rattle.rec_edit.proofs.lemmas.outcomes.EffectLemmas.{AreMeant, chosen_meant, items_plain, ok_same}
+use Rattle.rec_edit.specs.Wording.{AreItemsFor, IsNewRecord}
+use Rattle.rec_edit.specs.Automatic.{AreFilledOf}
+use Rattle.rec_edit.specs.Outcome.{AreChosen, AreRemovable, is_changed_by, edit_script}
+use Rattle.rec_edit.specs.proving.Drafts.{is_changed}
+use Rattle.rec_edit.specs.proving.Edits.{laid_script}
+use Rattle.rec_edit.proofs.lemmas.records.MemberLemmas.{holds_index-before, holds_index-following}
+use Rattle.rec_edit.proofs.lemmas.outcomes.EffectLemmas.{AreMeant, chosen_meant, items_plain}
 use Rattle.rec_edit.proofs.lemmas.automatic.FilledLemmas.{IsFilled, all_from, auto_fill_fills, LaysNeatly-filling}
-use Rattle.rec_edit.proofs.lemmas.scripts.LaidLemmas.{Ends, Neat, LaysNeatly, Reopens, Ends-laid_from, all_append, laid_from, new_pieces-parts_from, parts_reopen}
+use Rattle.rec_edit.proofs.lemmas.scripts.LaidLemmas.{Ends, Neat, LaysNeatly, Reopens, Ends-laid_from, laid_from, new_pieces-parts_from, parts_reopen}
 use Rattle.rec_edit.proofs.lemmas.layouts.NeatLemmas.{LaysNeatly-commenting, LaysNeatly-deletion, LaysNeatly-setting}
 use Rattle.rec_edit.proofs.lemmas.layouts.ReplaceLemmas.{all_chosen, new_record_can_be_written}
 use Rattle.rec_edit.proofs.lemmas.scripts.OwnPartLemmas.{StandsAlone, is_changed-by}
@@ -39,7 +44,7 @@ module _ (pieces : List Piece) where
   -- no field follows a record at once
   no_field_after : (r : Range ℕ) → IsRecord pieces r → is_field_at pieces r.end ≡ true → ⊥
   no_field_after r is field = elim (cases_lt r.end is.paragraph.end) [
-    | inl below ↦ false≢true (sym (is.behind r.end (omega arith) below) ∙ field)
+    | inl below ↦ false≢true (sym (is.following r.end (omega arith) below) ∙ field)
     | inr past ↦
         let same : is.paragraph.end ≡ r.end = omega (arith, is.high, past) in
         let there : r.end < length pieces = field_is_there pieces r.end field in
@@ -68,13 +73,13 @@ module _ (pieces : List Piece) where
   all_apart least (q ∷ records) each ascending zero r at =
       let same : q ≡ r = cc in
       let is : IsRecord pieces r = subst (IsRecord pieces) same each.0 in
-      let behind = all_after r.end records each.1 (subst (λ x. AreAscending x.end records) same ascending.1) in (
+      let following = all_after r.end records each.1 (subst (λ x. AreAscending x.end records) same ascending.1) in (
         (is.some, each.0.some, inl (ap (λ x. x.start) same, ap (λ x. x.end) same)),
-        AllByRecursion-weaker (λ p. IsRecord pieces p × (r.end ≤ p.start)) (IsApart r) (λ p at. (is.some, at.0.some, inr (inr (apart_after r p is at.0 at.1)))) records behind,
+        AllByRecursion-weaker (λ p. IsRecord pieces p × (r.end ≤ p.start)) (IsApart r) (λ p at. (is.some, at.0.some, inr (inr (apart_after r p is at.0 at.1)))) records following,
       )
   all_apart least (q ∷ records) each ascending (suc j) r at =
-      let behind = AllByRecursion-slice_get (λ p. IsRecord pieces p × (q.end ≤ p.start)) records j r (all_after q.end records each.1 ascending.1) at in
-      ((behind.0.some, each.0.some, inr (inl (apart_after q r each.0 behind.0 behind.1))), all_apart q.end records each.1 ascending.1 j r at)
+      let following = AllByRecursion-slice_get (λ p. IsRecord pieces p × (q.end ≤ p.start)) records j r (all_after q.end records each.1 ascending.1) at in
+      ((following.0.some, each.0.some, inr (inl (apart_after q r each.0 following.0 following.1))), all_apart q.end records each.1 ascending.1 j r at)
 
 -- a record of the text, and all of these stand apart from it
 record IsOneOf (pieces : List Piece) (others : List (Range ℕ)) (r : Range ℕ) : Type 0 where
@@ -105,14 +110,14 @@ alone_untied layout r unties none = record { begins = λ k at. unties k; ends = 
 alone_setting : (action : Action) (items : List Item) (pieces : List Piece) (chosen : List (Range ℕ)) (r : Range ℕ) → AllByRecursion (IsApart r) chosen
     → StandsAlone (setting action items pieces chosen) r
 alone_setting action items pieces chosen r apart = alone_untied (setting action items pieces chosen) r (λ k. refl) (λ k low high.
-    flat_map-nothing (λ record_. if record_.end == k then added action items (elements_in pieces record_) else []) chosen
-    (AllByRecursion-weaker (IsApart r) (λ record_. (if record_.end == k then added action items (elements_in pieces record_) else []) ≡ [])
+    flat_map-nothing (λ own_range. if own_range.end == k then added action items (elements_in pieces own_range) else []) chosen
+    (AllByRecursion-weaker (IsApart r) (λ own_range. (if own_range.end == k then added action items (elements_in pieces own_range) else []) ≡ [])
     (λ q is. nothing_elsewhere q.end k (added action items (elements_in pieces q)) (ends_elsewhere r q k low high is)) chosen apart))
   where
     ends_elsewhere : (r q : Range ℕ) (k : ℕ) → r.start < k → k < r.end → IsApart r q → q.end ≡ k → ⊥
     ends_elsewhere r q k low high (here, some, inl same) at = omega (arith, same.1)
     ends_elsewhere r q k low high (here, some, inr (inl before)) at = omega arith
-    ends_elsewhere r q k low high (here, some, inr (inr behind)) at = omega arith
+    ends_elsewhere r q k low high (here, some, inr (inr following)) at = omega arith
 
 alone_filling : (filled : List Filled) (r : Range ℕ) → AllByRecursion (λ one. IsApart r one.range) filled → StandsAlone (filling filled) r
 alone_filling filled r apart = alone_untied (filling filled) r (λ k. refl) (λ k low high.
@@ -123,19 +128,19 @@ alone_filling filled r apart = alone_untied (filling filled) r (λ k. refl) (λ 
     begins_elsewhere : (r q : Range ℕ) (k : ℕ) → r.start < k → k < r.end → IsApart r q → q.start ≡ k → ⊥
     begins_elsewhere r q k low high (here, some, inl same) at = omega (arith, same.0)
     begins_elsewhere r q k low high (here, some, inr (inl before)) at = omega arith
-    begins_elsewhere r q k low high (here, some, inr (inr behind)) at = omega arith
+    begins_elsewhere r q k low high (here, some, inr (inr following)) at = omega arith
 
 none_own : (chosen : List (Range ℕ)) (k : ℕ) → AllByRecursion (λ q. (k < q.start) ⊎ (q.end ≤ k)) chosen → is_own chosen k ≡ false
 none_own [] k all = refl
 none_own (q ∷ chosen) k (inl before, rest) = or_from (holds_index k q) (is_own chosen k) (holds_index-before k q before) (none_own chosen k rest)
-none_own (q ∷ chosen) k (inr behind, rest) = or_from (holds_index k q) (is_own chosen k) (holds_index-behind k q behind) (none_own chosen k rest)
+none_own (q ∷ chosen) k (inr following, rest) = or_from (holds_index k q) (is_own chosen k) (holds_index-following k q following) (none_own chosen k rest)
 
 alone_replacement : (fields : List Piece) (chosen : List (Range ℕ)) (r : Range ℕ) → AllByRecursion (IsApart r) chosen → StandsAlone (replacement fields chosen) r
 alone_replacement fields chosen r apart = record {
   begins = λ k at. and_left (is_own chosen k) (is_own chosen (k + 1))
       (none_own chosen k (AllByRecursion-weaker (IsApart r) (λ q. (k < q.start) ⊎ (q.end ≤ k)) (λ q is. before r q k at is) chosen apart));
   ends = λ k at. and_right (is_own chosen k) (is_own chosen (k + 1))
-      (none_own chosen (k + 1) (AllByRecursion-weaker (IsApart r) (λ q. (k + 1 < q.start) ⊎ (q.end ≤ k + 1)) (λ q is. behind r q (k + 1) at is) chosen apart));
+      (none_own chosen (k + 1) (AllByRecursion-weaker (IsApart r) (λ q. (k + 1 < q.start) ⊎ (q.end ≤ k + 1)) (λ q is. following r q (k + 1) at is) chosen apart));
   inner = λ k low high. refl;
 }
   where
@@ -144,10 +149,10 @@ alone_replacement fields chosen r apart = record {
     before r q k at (here, some, inr (inl early)) = inr (omega arith)
     before r q k at (here, some, inr (inr late)) = inl (omega (arith, late))
 
-    behind : (r q : Range ℕ) (k : ℕ) → k ≡ r.end → IsApart r q → (k < q.start) ⊎ (q.end ≤ k)
-    behind r q k at (here, some, inl same) = inr (omega (arith, same.1))
-    behind r q k at (here, some, inr (inl early)) = inr (omega (arith, early))
-    behind r q k at (here, some, inr (inr late)) = inl (omega arith)
+    following : (r q : Range ℕ) (k : ℕ) → k ≡ r.end → IsApart r q → (k < q.start) ⊎ (q.end ≤ k)
+    following r q k at (here, some, inl same) = inr (omega (arith, same.1))
+    following r q k at (here, some, inr (inl early)) = inr (omega (arith, early))
+    following r q k at (here, some, inr (inr late)) = inl (omega arith)
 
 -- ---- the count
 
@@ -169,7 +174,7 @@ closed_neatly : (layout : Layout) (pieces : List Piece) → LaysNeatly layout �
 closed_neatly layout pieces neatly = record {
   reopen = parts_reopen 0 layout pieces neatly;
   end = subst (AllByRecursion Ends) (sym (new_pieces-parts_from 0 layout pieces neatly.unties))
-      (all_append Ends (layout.put 0) (laid_from layout 0 pieces) (neatly.put 0) (Ends-laid_from layout 0 pieces neatly));
+      (AllByRecursion-append Ends (layout.put 0) (laid_from layout 0 pieces) (neatly.put 0) (Ends-laid_from layout 0 pieces neatly));
 }
 
 closed_tied : (layout : Layout) (pieces : List Piece) → LaysTied Ends Neat layout → AllByRecursion IsElement pieces → LaysClosed layout pieces
@@ -185,15 +190,18 @@ record IsLeft (pieces : List Piece) (layout : Layout) (r : Range ℕ) : Type 0 w
   is : IsRecord pieces r
   alone : StandsAlone layout r
 
-counts_of : (pieces : List Piece) (chosen : List (Range ℕ)) (layout : Layout) → LaysClosed layout pieces → AllByRecursion (IsLeft pieces layout) chosen → Counts (step_of pieces chosen layout) chosen
+counts_of : (pieces : List Piece) (chosen : List (Range ℕ)) (layout : Layout) → LaysClosed layout pieces → AllByRecursion (IsLeft pieces layout) chosen
+    → laid_script pieces chosen layout ≡ edit_script pieces chosen layout
 counts_of pieces chosen layout lays left =
-    count_by-same (is_changed layout pieces) (is_changed_by (script_of layout pieces)) chosen
+    ap (λ n. record { script = script_of layout pieces; changed = n })
+    (count_by-same (is_changed layout pieces) (is_changed_by (script_of layout pieces)) chosen
     (AllByRecursion-weaker (IsLeft pieces layout) (λ r. is_changed layout pieces r ≡ is_changed_by (script_of layout pieces) r)
-    (λ r one. is_changed-by layout pieces r one.is.some (let high = one.is.high in let within = one.is.is_paragraph.within in omega (arith, high, within)) one.alone lays.reopen lays.end) chosen left)
+    (λ r one. is_changed-by layout pieces r one.is.some (let high = one.is.high in let within = one.is.is_paragraph.within in omega (arith, high, within)) one.alone lays.reopen lays.end) chosen left))
 
 -- of records that are meant
 meant_counts : (pieces : List Piece) (sets : List Set_) (wanted : Wanted) (chosen : List (Range ℕ)) (layout : Layout) → AreMeant pieces sets wanted chosen → LaysClosed layout pieces
-    → ((r : Range ℕ) → AllByRecursion (IsApart r) chosen → StandsAlone layout r) → Counts (step_of pieces chosen layout) chosen
+    → ((r : Range ℕ) → AllByRecursion (IsApart r) chosen → StandsAlone layout r)
+    → laid_script pieces chosen layout ≡ edit_script pieces chosen layout
 meant_counts pieces sets wanted chosen layout meant lays alone =
     let all : AllByRecursion (IsOneOf pieces chosen) chosen =
     subst (λ c. AllByRecursion (IsOneOf pieces c) c) (sym meant.chosen_are) (chosen_apart pieces meant.records meant.selected meant.are) in
@@ -206,56 +214,48 @@ removable_chosen : (pieces : List Piece) (sets : List Set_) (wanted : Wanted) (f
 removable_chosen pieces sets wanted force chosen (inl (fault, refused, e)) = absurd (cc)
 removable_chosen pieces sets wanted force chosen (inr (found, are, inl (fault, refused, e))) = absurd (cc)
 removable_chosen pieces sets wanted force chosen (inr (found, are, inr (unit, allowed, same))) =
-    subst (λ c. AreChosen pieces sets wanted (Ok c)) (sym (ok_same chosen found same)) are
+    subst (λ c. AreChosen pieces sets wanted (Ok c)) (sym (same_value chosen found same)) are
 
 module _ (pieces : List Piece) (schema : Described) where
-  step_counts : (step : Step) (wanted : Wanted) (chosen : List (Range ℕ)) (layout : Layout) → ◌≡◌ {A = Result Step Fault} (Ok step) (Ok (step_of pieces chosen layout))
-      → AreChosen pieces schema.sets wanted (Ok chosen) → LaysClosed layout pieces → ((r : Range ℕ) → AllByRecursion (IsApart r) chosen → StandsAlone layout r)
-      → CountsChosen pieces schema wanted step
-  step_counts step wanted chosen layout same are lays alone =
-      subst (CountsChosen pieces schema wanted) (sym (ok_same step (step_of pieces chosen layout) same))
-      (chosen, are, meant_counts pieces schema.sets wanted chosen layout (chosen_meant pieces schema.sets wanted chosen are) lays alone)
+  chosen_counted : (wanted : Wanted) (chosen : List (Range ℕ)) (layout : Layout) → AreChosen pieces schema.sets wanted (Ok chosen) → LaysClosed layout pieces
+      → ((r : Range ℕ) → AllByRecursion (IsApart r) chosen → StandsAlone layout r) → laid_script pieces chosen layout ≡ edit_script pieces chosen layout
+  chosen_counted wanted chosen layout are lays alone = meant_counts pieces schema.sets wanted chosen layout (chosen_meant pieces schema.sets wanted chosen are) lays alone
 
-  removal_counts : (force : Bool) (wanted : Wanted) (step : Step) (made : List (Range ℕ) → Layout) (chosen : List (Range ℕ)) → AreRemovable pieces schema.sets wanted force (Ok chosen)
-      → ◌≡◌ {A = Result Step Fault} (Ok step) (Ok (step_of pieces chosen (made chosen))) → LaysNeatly (made chosen) → ((k : ℕ) → (made chosen).put k ≡ []) → CountsChosen pieces schema wanted step
-  removal_counts force wanted step made chosen are same neatly none =
-      step_counts step wanted chosen (made chosen) same (removable_chosen pieces schema.sets wanted force chosen are) (closed_neatly (made chosen) pieces neatly)
-      (λ r apart. alone_untied (made chosen) r neatly.unties (λ k low high. none k))
+  removal_counted : (wanted : Wanted) (force : Bool) (chosen : List (Range ℕ)) (layout : Layout) → AreRemovable pieces schema.sets wanted force (Ok chosen) → LaysNeatly layout
+      → ((k : ℕ) → layout.put k ≡ []) → laid_script pieces chosen layout ≡ edit_script pieces chosen layout
+  removal_counted wanted force chosen layout are neatly none =
+      chosen_counted wanted chosen layout (removable_chosen pieces schema.sets wanted force chosen are) (closed_neatly layout pieces neatly)
+      (λ r apart. alone_untied layout r neatly.unties (λ k low high. none k))
 
-pub changed_are_counted : ChangedAreCounted
-changed_are_counted pieces schema force (insert kind fresh auto) step elements is_schema (inl (fault, refused, e)) = absurd (cc)
-changed_are_counted pieces schema force (insert kind fresh auto) step elements is_schema (inr (pairs, pairs_are, inl (fault, refused, e))) = absurd (cc)
-changed_are_counted pieces schema force (insert kind fresh auto) step elements is_schema (inr (pairs, pairs_are, inr (automatic, found, (records, are, same)))) =
-    ap (λ s. s.changed) (ok_same step _ same)
-changed_are_counted pieces schema force (replace wanted fresh) step elements is_schema (inl (fault, refused, e)) = absurd (cc)
-changed_are_counted pieces schema force (replace wanted fresh) step elements is_schema (inr (pairs, pairs_are, inl (fault, refused, e))) = absurd (cc)
-changed_are_counted pieces schema force (replace wanted fresh) step elements is_schema (inr (pairs, pairs_are, inr (chosen, are, same))) =
-    step_counts pieces schema step wanted chosen (replacement (fields_of pairs) chosen) same are
-    (closed_tied (replacement (fields_of pairs) chosen) pieces (replacement_lays_neatly pairs chosen (new_record_can_be_written fresh pairs pairs_are)) elements.well_formed)
-    (alone_replacement (fields_of pairs) chosen)
-changed_are_counted pieces schema force (delete wanted) step elements is_schema (inl (fault, refused, e)) = absurd (cc)
-changed_are_counted pieces schema force (delete wanted) step elements is_schema (inr (chosen, are, same)) =
-    removal_counts pieces schema force wanted step (deletion pieces) chosen are same (LaysNeatly-deletion pieces chosen) (λ k. refl)
-changed_are_counted pieces schema force (comment_out wanted) step elements is_schema (inl (fault, refused, e)) = absurd (cc)
-changed_are_counted pieces schema force (comment_out wanted) step elements is_schema (inr (chosen, are, same)) =
-    removal_counts pieces schema force wanted step commenting chosen are same (LaysNeatly-commenting chosen) (λ k. refl)
-changed_are_counted pieces schema force (set wanted list action) step elements is_schema (inl (fault, refused, e)) = absurd (cc)
-changed_are_counted pieces schema force (set wanted list action) step elements is_schema (inr (items, items_are, inl (fault, refused, e))) = absurd (cc)
-changed_are_counted pieces schema force (set wanted list action) step elements is_schema (inr (items, items_are, inr (chosen, are, same))) =
-    step_counts pieces schema step wanted chosen (setting action items pieces chosen) same are
-    (closed_neatly (setting action items pieces chosen) pieces (LaysNeatly-setting action items pieces chosen (items_plain action list items items_are).1))
-    (alone_setting action items pieces chosen)
-changed_are_counted pieces schema force auto_fill step elements is_schema (records, are, inl (fault, refused, e)) = absurd (cc)
-changed_are_counted pieces schema force auto_fill step elements is_schema (records, are, inr (filled, found, same)) =
+  pub deletion_counted : (wanted : Wanted) (force : Bool) (chosen : List (Range ℕ)) → AreRemovable pieces schema.sets wanted force (Ok chosen)
+      → laid_script pieces chosen (deletion pieces chosen) ≡ edit_script pieces chosen (deletion pieces chosen)
+  deletion_counted wanted force chosen are = removal_counted wanted force chosen (deletion pieces chosen) are (LaysNeatly-deletion pieces chosen) (λ k. refl)
+
+  pub commenting_counted : (wanted : Wanted) (force : Bool) (chosen : List (Range ℕ)) → AreRemovable pieces schema.sets wanted force (Ok chosen)
+      → laid_script pieces chosen (commenting chosen) ≡ edit_script pieces chosen (commenting chosen)
+  commenting_counted wanted force chosen are = removal_counted wanted force chosen (commenting chosen) are (LaysNeatly-commenting chosen) (λ k. refl)
+
+  pub replacement_counted : (wanted : Wanted) (fresh : NewRecord) (pairs : List Pair) (chosen : List (Range ℕ)) → AreElementsOf pieces (text_of pieces) → IsNewRecord None fresh (Ok pairs)
+      → AreChosen pieces schema.sets wanted (Ok chosen) → laid_script pieces chosen (replacement (fields_of pairs) chosen) ≡ edit_script pieces chosen (replacement (fields_of pairs) chosen)
+  replacement_counted wanted fresh pairs chosen elements pairs_are are =
+      chosen_counted wanted chosen (replacement (fields_of pairs) chosen) are
+      (closed_tied (replacement (fields_of pairs) chosen) pieces (replacement_lays_neatly pairs chosen (new_record_can_be_written fresh pairs pairs_are)) elements.well_formed)
+      (alone_replacement (fields_of pairs) chosen)
+
+  pub setting_counted : (wanted : Wanted) (list : List ℕ) (action : Action) (items : List Item) (chosen : List (Range ℕ)) → AreItemsFor action list (Ok items)
+      → AreChosen pieces schema.sets wanted (Ok chosen) → laid_script pieces chosen (setting action items pieces chosen) ≡ edit_script pieces chosen (setting action items pieces chosen)
+  setting_counted wanted list action items chosen items_are are =
+      chosen_counted wanted chosen (setting action items pieces chosen) are
+      (closed_neatly (setting action items pieces chosen) pieces (LaysNeatly-setting action items pieces chosen (items_plain action list items items_are).1))
+      (alone_setting action items pieces chosen)
+
+pub filling_counted : (pieces : List Piece) (schema : Described) (records : List (Range ℕ)) (filled : List Filled) → IsSchema pieces (Ok schema) → AreRecords pieces records
+    → AreFilledOf pieces records schema (Ok filled)
+    → laid_script pieces (map (λ one. one.range) filled) (filling filled) ≡ edit_script pieces (map (λ one. one.range) filled) (filling filled)
+filling_counted pieces schema records filled is_schema are found =
     let fills = auto_fill_fills pieces schema records filled is_schema are found in
-    subst (CountsChanged pieces schema auto_fill) (sym (ok_same step (step_of pieces (map (λ one. one.range) filled) (filling filled)) same)) (
-      records,
-      filled,
-      are,
-      found,
-      counts_of pieces (map (λ one. one.range) filled) (filling filled) (closed_neatly (filling filled) pieces (LaysNeatly-filling pieces records filled fills))
-          (filled_left pieces records are filled fills),
-    )
+    counts_of pieces (map (λ one. one.range) filled) (filling filled) (closed_neatly (filling filled) pieces (LaysNeatly-filling pieces records filled fills))
+    (filled_left pieces records are filled fills)
   where
     all_map : {X Y : Type 0} (P : Y → Type 0) (f : X → Y) (xs : List X) → AllByRecursion (λ x. P (f x)) xs → AllByRecursion P (map f xs)
     all_map P f [] all = tt

@@ -4,16 +4,17 @@ use Rattle.std.specs.List.{AllByRecursion}
 use Rattle.std.specs.Str.{bytes_eq}
 use Rattle.std.proofs.lemmas.Bool.{cases_Bool, eq-eqb, ne_eqb, cond_both}
 use Rattle.std.proofs.lemmas.List.{length-append}
-use Rattle.std.specs.Prelude.{◌↔◌, IfOk, IfErr}
+use Rattle.std.specs.Prelude.{◌↔◌, IsTrue, IfOk, IfErr}
 use Rattle.std.specs.declared.ops.Range.{Range}
 use Rattle.rec_text.specs.Elements.{Piece, IsElement, text_of, AreElementsOf}
 use Rattle.rec_journal.specs.declared.event.Event.TheVariants.{Edited as Revised}
 use Rattle.rec_journal.specs.declared.patch.Hunk.{Hunk}
 use Rattle.rec_journal.specs.Bound.{most_bytes, most_of_batch}
-use Rattle.rec_journal.specs.Revisions.{hunks_of as hunks_in}
+use Rattle.rec_journal.specs.Revisions.{all_hunks}
 use Rattle.rec_journal.specs.Event.{spelling}
-use Rattle.rec_edit.specs.Outcome.{HunksAreChanges, AreChosen, AreRemovable, Step, step_of, IsStep, IsSound, IsSoundUnlessForced, edited_by, IsOutcome, IsEditRefusal, PutsNoDescriptorIn}
-use Rattle.rec_edit.specs.Script.{Part, Layout, closed, putting, changing, parts_from, script_of, is_kept, old_pieces, new_pieces, edited_text, changes_from, joining, joined, real_changes, hunks_of, as_one, AreInTurn, AreChangesOf, TakesWhole}
+use Rattle.rec_edit.specs.Outcome.{HunksAreChanges, AreChosen, AreRemovable, EditScript, edit_script, IsEditScript, IsSound, IsSoundUnlessForced, edited_by, IsOutcome, IsEditRefusal, PutsNoDescriptorIn}
+use Rattle.rec_edit.specs.Script.{Part, Layout, closed, putting, changing, parts_from, script_of, is_kept, old_pieces, new_pieces, edited_text, changes_from, as_one, AreInTurn, AreChangesOf, TakesWhole}
+use Rattle.rec_edit.specs.proving.Changes.{joining, joined, real_changes, hunks_of}
 use Rattle.rec_text.specs.declared.fault.Fault.{Fault}
 use Rattle.rec_text.specs.declared.fault.Fault.TheVariants.{OutOfMemory, BadPattern}
 use Rattle.rec_text.specs.Faults.{IsMemoryOr, UnlessMemory}
@@ -24,22 +25,26 @@ use Rattle.rec_journal.specs.Patch.{Splices}
 use Rattle.rec_edit.specs.declared.request.Action.{Action}
 use Rattle.rec_edit.specs.declared.outcome.Edited.{Edited}
 use Rattle.rec_edit.specs.Task.{Wanted, Task, delete, comment_out, set, Pair, NewRecord, replace}
-use Rattle.rec_edit.specs.Rules.{with_blanks, taking_out, deletion, commenting, setting, fields_of, is_own, replacement}
+use Rattle.rec_edit.specs.Rules.{with_blanks, removing, deletion, commenting, setting, fields_of, is_own, replacement}
 use Rattle.rec_edit.specs.Wording.{AreItemsFor, IsNewRecord}
-use Rattle.rec_edit.specs.proving.Edits.{IsEditOf}
+use Rattle.rec_edit.specs.proving.Edits.{IsEditOf, IsChecked, laid_script}
 use Rattle.rec_edit.specs.Effect.{HasEffect}
 use Rattle.rec_edit.specs.proving.Endings.{FieldEdit}
 use Rattle.rec_text.specs.Bytes.{ends_newline}
 use Rattle.rec_edit.specs.proving.Marks.{is_start}
 use Rattle.rec_edit.specs.proving.Drafts.{LaysLines}
 use Rattle.rec_text.proofs.lemmas.elements.ElementLemmas.{text_of-append}
-use Rattle.rec_text.proofs.lemmas.ListLemmas.{AllByRecursion-behind, AllByRecursion-front, bytes_eq-self, same_bytes}
+use Rattle.rec_text.proofs.lemmas.ListLemmas.{AllByRecursion-following, AllByRecursion-prefix, bytes_eq-self, same_bytes}
 use Rattle.rec_journal.proofs.lemmas.events.BoundLemmas.{events_are_bounded}
 use Rattle.rec_edit.proofs.lemmas.scripts.PassLemmas.{some_text}
 use Rattle.rec_edit.proofs.lemmas.scripts.EqualLemmas.{length-opened, settled-all}
 use Rattle.rec_edit.proofs.lemmas.outcomes.UnruledLemmas.{faithful, unruled_edit_is_sound}
+use Rattle.rec_edit.proofs.lemmas.scripts.RunLemmas.{one_list_of_changes}
 use Rattle.rec_edit.proofs.lemmas.scripts.ScriptLemmas.{old_pieces-script_of, Splices-hunks_of, TakesWhole-hunks_of, same_where_no_hunk}
-use Rattle.rec_edit.proofs.lemmas.outcomes.AnswerLemmas.{same_value, memory_or_weaker, Then-ok, IsFaithful, RefusesSo-outcome}
+use Rattle.rec_text.proofs.lemmas.FaultLemmas.{no_both, same_value, memory_or_weaker}
+use Rattle.rec_text.proofs.lemmas.StepLemmas.{Then-ok}
+use Rattle.rec_edit.proofs.lemmas.outcomes.AnswerLemmas.{IsFaithful, RefusesSo-outcome}
+use Rattle.rec_edit.proofs.lemmas.outcomes.CountedLemmas.{deletion_counted, commenting_counted, replacement_counted, setting_counted}
 use Rattle.rec_edit.proofs.lemmas.outcomes.OutcomeLemmas.{one_outcome}
 use Rattle.rec_edit.proofs.lemmas.scripts.LaidLemmas.{canonical-ends}
 
@@ -183,7 +188,7 @@ cut_of (part ∷ script) full = cut_more part script (is_kept part) refl full.1 
 same_text : (run : List Part) → AllByRecursion (λ part. is_kept part ≡ true) run → text_of (old_pieces run) ≡ edited_text run
 same_text [] kept = refl
 same_text (part ∷ run) kept =
-    text_of-append part.old (old_pieces run) ∙ ap₂ (λ front rest. front ++ rest) (same_bytes (text_of part.old) (text_of part.new) kept.0) (same_text run kept.1)
+    text_of-append part.old (old_pieces run) ∙ ap₂ (λ prefix rest. prefix ++ rest) (same_bytes (text_of part.old) (text_of part.new) kept.0) (same_text run kept.1)
     ∙ sym (text_of-append part.new (new_pieces run))
 
 changes_from-runs : (kept : Bool) (at : ℕ) (runs : List (List Part)) → AreInTurn kept runs → real_changes (run_hunks kept at runs) ≡ changes_from at (map as_one runs)
@@ -254,21 +259,23 @@ full_part (piece ∷ old) new old_all new_all some kept = text_full (piece ∷ o
 full_parts : (parts : List Part) → AllByRecursion IsElement (old_pieces parts) → AllByRecursion IsElement (new_pieces parts) → AllByRecursion IsSome parts → AllByRecursion IsFull parts
 full_parts [] old_all new_all some = tt
 full_parts (part ∷ parts) old_all new_all some = (
-  full_part part.old part.new (AllByRecursion-front IsElement part.old (old_pieces parts) old_all) (AllByRecursion-front IsElement part.new (new_pieces parts) new_all) some.0,
-  full_parts parts (AllByRecursion-behind IsElement part.old (old_pieces parts) old_all) (AllByRecursion-behind IsElement part.new (new_pieces parts) new_all) some.1,
+  full_part part.old part.new (AllByRecursion-prefix IsElement part.old (old_pieces parts) old_all) (AllByRecursion-prefix IsElement part.new (new_pieces parts) new_all) some.0,
+  full_parts parts (AllByRecursion-following IsElement part.old (old_pieces parts) old_all) (AllByRecursion-following IsElement part.new (new_pieces parts) new_all) some.1,
 )
 
 pub hunks_are_changes : HunksAreChanges
-hunks_are_changes pieces schema force task step elements is_schema is =
-    let told = faithful pieces schema force task elements is_schema step is in
-    let old : old_pieces step.script ≡ pieces = ap old_pieces told.is ∙ old_pieces-script_of told.layout pieces in
-    let some : AllByRecursion IsSome step.script = subst (AllByRecursion IsSome) (sym told.is) (some-script_of told.layout pieces) in
+hunks_are_changes pieces schema force task edit elements is_schema is =
+    let told = faithful pieces schema force task elements is_schema edit is in
+    let old : old_pieces edit.script ≡ pieces = ap old_pieces told.is ∙ old_pieces-script_of told.layout pieces in
+    let some : AllByRecursion IsSome edit.script = subst (AllByRecursion IsSome) (sym told.is) (some-script_of told.layout pieces) in
+    let changes = changes_of_script edit.script (full_parts edit.script (subst (AllByRecursion IsElement) (sym old) elements.well_formed) told.read.well_formed some) in
     record {
       old = old;
       new = told.read;
-      changes = changes_of_script step.script (full_parts step.script (subst (AllByRecursion IsElement) (sym old) elements.well_formed) told.read.well_formed some);
+      changes = changes;
+      only = λ hunks are. one_list_of_changes edit.script hunks (hunks_of edit.script) are changes;
       bounded = λ event fits one same. subst (λ hunks. length (spelling (Revised event)) ≤ most_bytes hunks) same
-          (subst (λ batch. length (spelling (Revised event)) ≤ (if batch then most_of_batch event.steps else most_bytes (hunks_in event.steps))) one (events_are_bounded (Revised event) fits));
+          (subst (λ batch. length (spelling (Revised event)) ≤ (if batch then most_of_batch event.steps else most_bytes (all_hunks event.steps))) one (events_are_bounded (Revised event) fits));
     }
 
 -- ---- what an edit makes of a text, by its kind, and the outcome that it comes to
@@ -276,10 +283,11 @@ hunks_are_changes pieces schema force task step elements is_schema is =
 -- ---- by its kind
 
 -- a step of the same chosen records and the same layout
-pub same_step : (pieces : List Piece) (given chosen : List (Range ℕ)) (laid layout : Layout) (edited : Edited) → edited ≡ edited_by (step_of pieces given laid)
-    → given ≡ chosen → laid ≡ layout → ◌≡◌ {A = Result Edited Fault} (Ok edited) (Ok (edited_by (step_of pieces chosen layout)))
-same_step pieces given chosen laid layout edited is same alike =
-    ap Ok (is ∙ ap (λ ranges. edited_by (step_of pieces ranges laid)) same ∙ ap (λ l. edited_by (step_of pieces chosen l)) alike)
+same_script : (pieces : List Piece) (given chosen : List (Range ℕ)) (done layout : Layout) (edited : Edited) → edited ≡ edited_by (laid_script pieces given done)
+    → given ≡ chosen → done ≡ layout → laid_script pieces chosen layout ≡ edit_script pieces chosen layout
+    → ◌≡◌ {A = Result Edited Fault} (Ok edited) (Ok (edited_by (edit_script pieces chosen layout)))
+same_script pieces given chosen done layout edited is same alike counted =
+    ap Ok (is ∙ ap (λ ranges. edited_by (laid_script pieces ranges done)) same ∙ ap (λ l. edited_by (laid_script pieces chosen l)) alike ∙ ap edited_by counted)
 
 module _ (pieces : List Piece) (schema : Described) (force : Bool) (wanted : Wanted) where
   pub delete-refused : (fault : Fault) → IsMemoryOr fault (AreRemovable pieces schema.sets wanted force (Err fault)) → IsMemoryOr fault (IsEditOf pieces schema force (delete wanted) (Err fault))
@@ -287,14 +295,15 @@ module _ (pieces : List Piece) (schema : Described) (force : Bool) (wanted : Wan
       memory_or_weaker fault (AreRemovable pieces schema.sets wanted force (Err fault)) (IsEditOf pieces schema force (delete wanted) (Err fault))
       (λ refused. inl (fault, inl (fault, refused, refl), refl)) is
 
-  pub delete-made : (chosen given covered gone : List (Range ℕ)) (edited : Edited) → AreRemovable pieces schema.sets wanted force (Ok chosen)
-      → covered ≡ chosen → gone ≡ map (with_blanks pieces) covered → given ≡ chosen → edited ≡ edited_by (step_of pieces given (taking_out gone))
+  pub delete-made : (chosen given covered gone : List (Range ℕ)) (as_comments : Bool) (edited : Edited) → AreRemovable pieces schema.sets wanted force (Ok chosen)
+      → covered ≡ chosen → gone ≡ map (with_blanks pieces) covered → as_comments ≡ false → given ≡ chosen → edited ≡ edited_by (laid_script pieces given (removing as_comments gone))
       → IsEditOf pieces schema force (delete wanted) (Ok edited)
-  delete-made chosen given covered gone edited are all goes same is =
+  delete-made chosen given covered gone as_comments edited are all goes none same is =
       inr (
-        step_of pieces chosen (deletion pieces chosen),
+        edit_script pieces chosen (deletion pieces chosen),
         inr (chosen, are, refl),
-        same_step pieces given chosen (taking_out gone) (deletion pieces chosen) edited is same (ap taking_out (goes ∙ ap (map (with_blanks pieces)) all)),
+        same_script pieces given chosen (removing as_comments gone) (deletion pieces chosen) edited is same (ap₂ removing none (goes ∙ ap (map (with_blanks pieces)) all))
+            (deletion_counted pieces schema wanted force chosen are),
       )
 
   pub comment_out-refused : (fault : Fault) → IsMemoryOr fault (AreRemovable pieces schema.sets wanted force (Err fault))
@@ -303,14 +312,15 @@ module _ (pieces : List Piece) (schema : Described) (force : Bool) (wanted : Wan
       memory_or_weaker fault (AreRemovable pieces schema.sets wanted force (Err fault)) (IsEditOf pieces schema force (comment_out wanted) (Err fault))
       (λ refused. inl (fault, inl (fault, refused, refl), refl)) is
 
-  pub comment_out-made : (chosen given covered own : List (Range ℕ)) (edited : Edited) → AreRemovable pieces schema.sets wanted force (Ok chosen)
-      → covered ≡ chosen → own ≡ covered → given ≡ chosen → edited ≡ edited_by (step_of pieces given (commenting own))
+  pub comment_out-made : (chosen given covered own : List (Range ℕ)) (as_comments : Bool) (edited : Edited) → AreRemovable pieces schema.sets wanted force (Ok chosen)
+      → covered ≡ chosen → own ≡ covered → as_comments ≡ true → given ≡ chosen → edited ≡ edited_by (laid_script pieces given (removing as_comments own))
       → IsEditOf pieces schema force (comment_out wanted) (Ok edited)
-  comment_out-made chosen given covered own edited are all goes same is =
+  comment_out-made chosen given covered own as_comments edited are all goes all_comments same is =
       inr (
-        step_of pieces chosen (commenting chosen),
+        edit_script pieces chosen (commenting chosen),
         inr (chosen, are, refl),
-        same_step pieces given chosen (commenting own) (commenting chosen) edited is same (ap commenting (goes ∙ all)),
+        same_script pieces given chosen (removing as_comments own) (commenting chosen) edited is same (ap₂ removing all_comments (goes ∙ all))
+            (commenting_counted pieces schema wanted force chosen are),
       )
 
   module _ (list : List ℕ) (action : Action) where
@@ -325,49 +335,74 @@ module _ (pieces : List Piece) (schema : Described) (force : Bool) (wanted : Wan
         memory_or_weaker fault (AreChosen pieces schema.sets wanted (Err fault)) (IsEditOf pieces schema force (set wanted list action) (Err fault))
         (λ refused. inl (fault, inr (items, are, inl (fault, refused, refl)), refl)) is
 
-    -- a plan of the same edit
-    pub set-made : (items : List Item) (chosen given covered : List (Range ℕ)) (plan : FieldEdit) (edited : Edited) → AreItemsFor action list (Ok items)
-        → AreChosen pieces schema.sets wanted (Ok chosen) → plan ≡ record { action = action; items = items; pieces = pieces; chosen = covered } → covered ≡ chosen → given ≡ chosen
-        → edited ≡ edited_by (step_of pieces given (setting plan.action plan.items plan.pieces plan.chosen)) → IsEditOf pieces schema force (set wanted list action) (Ok edited)
-    set-made items chosen given covered plan edited are are_chosen planned all same is =
+    -- the same edit as its layout keeps it
+    pub set-made : (items : List Item) (chosen given covered : List (Range ℕ)) (edit : FieldEdit) (edited : Edited) → AreItemsFor action list (Ok items)
+        → AreChosen pieces schema.sets wanted (Ok chosen) → edit ≡ record { action = action; items = items; pieces = pieces; chosen = covered } → covered ≡ chosen → given ≡ chosen
+        → edited ≡ edited_by (laid_script pieces given (setting edit.action edit.items edit.pieces edit.chosen)) → IsEditOf pieces schema force (set wanted list action) (Ok edited)
+    set-made items chosen given covered edit edited are are_chosen planned all same is =
         inr (
-          step_of pieces chosen (setting action items pieces chosen),
+          edit_script pieces chosen (setting action items pieces chosen),
           inr (items, are, inr (chosen, are_chosen, refl)),
-          same_step pieces given chosen (setting plan.action plan.items plan.pieces plan.chosen) (setting action items pieces chosen) edited is same
-              (ap (λ (p : FieldEdit). setting p.action p.items p.pieces p.chosen) planned ∙ ap (setting action items pieces) all),
+          same_script pieces given chosen (setting edit.action edit.items edit.pieces edit.chosen) (setting action items pieces chosen) edited is same
+              (ap (λ (p : FieldEdit). setting p.action p.items p.pieces p.chosen) planned ∙ ap (setting action items pieces) all)
+              (setting_counted pieces schema wanted list action items chosen are are_chosen),
         )
 
 -- ---- the outcome
 
 module _ (pieces : List Piece) (schema : Described) (task : Task) where
   -- the step that an edit is
-  step_of_edit : (force : Bool) (edited : Edited) → IsEditOf pieces schema force task (Ok edited) → (step : Step) × IsStep pieces schema force task (Ok step) × (edited ≡ edited_by step)
-  step_of_edit force edited is =
-      let parts = Then-ok (IsStep pieces schema force task) (λ step answer. answer ≡ Ok (edited_by step)) edited is in
+  edit_script_of : (force : Bool) (edited : Edited) → IsEditOf pieces schema force task (Ok edited) → (edit : EditScript) × IsEditScript pieces schema force task (Ok edit) × (edited ≡ edited_by edit)
+  edit_script_of force edited is =
+      let parts = Then-ok (IsEditScript pieces schema force task) (λ edit answer. answer ≡ Ok (edited_by edit)) edited is in
       (parts.0, parts.1, same_value edited (edited_by parts.0) parts.2)
+
+  refused_outcome : (force : Bool) (fault : Fault) → IsEditOf pieces schema force task (Err fault) → IsOutcome pieces schema force task (Err fault)
+  refused_outcome force fault (inl (other, refused, e)) = inl (other, refused, e)
+  refused_outcome force fault (inr (edit, is, e)) = absurd (no_both (edited_by edit) fault (sym e))
 
   pub outcome-unruled : (edited : Edited) → IsEditOf pieces schema false task (Ok edited) → PutsNoDescriptorIn task → AreElementsOf pieces (text_of pieces) → IsSchema pieces (Ok schema)
       → length schema.sets ≡ 1 → IsSound edited.text (Ok tt)
   outcome-unruled edited is puts elements has one =
-      let step = step_of_edit false edited is in
-      subst (λ t. IsSound t (Ok tt)) (sym (ap (λ e. e.text) step.2)) (unruled_edit_is_sound pieces schema false task step.0 elements puts has one step.1)
+      let edit = edit_script_of false edited is in
+      subst (λ t. IsSound t (Ok tt)) (sym (ap (λ e. e.text) edit.2)) (unruled_edit_is_sound pieces schema false task edit.0 elements puts has one edit.1)
 
-  pub outcome-forced : (edited : Edited) → IsEditOf pieces schema true task (Ok edited) → IsOutcome pieces schema true task (Ok edited)
-  outcome-forced edited is =
-      let step = step_of_edit true edited is in
-      inr (step.0, step.1, inr (tt, refl, ap Ok step.2))
+  -- what an edit comes to that was made
+  pub outcome-checked : (force keeps_rules : Bool) (edited : Edited) → IsEditOf pieces schema force task (Ok edited)
+      → (IsTrue keeps_rules → IsSoundUnlessForced force edited.text (Ok tt)) → (keeps_rules ≡ false → force ≡ false)
+      → (answer : Result Edited Fault) → IsChecked edited keeps_rules answer → IsOutcome pieces schema force task answer
+  outcome-checked force true edited is kept unforced answer (inl (fault, refused, e)) = absurd (no_both tt fault (sym refused))
+  outcome-checked force true edited is kept unforced answer (inr (_, sound, e)) =
+      let edit = edit_script_of force edited is in
+      inr (edit.0, edit.1, inr (tt, subst (λ made. IsSoundUnlessForced force made.text (Ok tt)) edit.2 (kept refl), e ∙ ap Ok edit.2))
+  outcome-checked force false edited is kept unforced answer checks =
+      let edit = edit_script_of force edited is in
+      inr (
+        edit.0,
+        edit.1,
+        subst (λ made. Then (IsSoundUnlessForced force made.text) (λ _ answer. answer ≡ Ok made) answer) edit.2
+            (subst (λ f. Then (IsSoundUnlessForced f edited.text) (λ _ answer. answer ≡ Ok edited) answer) (sym (unforced refl)) checks),
+      )
 
-  pub outcome-sound : (edited : Edited) (text : List ℕ) → IsEditOf pieces schema false task (Ok edited) → text ≡ edited.text → IsSound text (Ok tt) → IsOutcome pieces schema false task (Ok edited)
-  outcome-sound edited text is same sound =
-      let step = step_of_edit false edited is in
-      inr (step.0, step.1, inr (tt, subst (λ t. IsSound t (Ok tt)) (same ∙ ap (λ e. e.text) step.2) sound, ap Ok step.2))
+  -- an edit that is refused comes to that
+  pub outcome-refused : (force : Bool) (fault : Fault) → IsMemoryOr fault (IsEditOf pieces schema force task (Err fault)) → IsMemoryOr fault (IsOutcome pieces schema force task (Err fault))
+  outcome-refused force fault is =
+      memory_or_weaker fault (IsEditOf pieces schema force task (Err fault)) (IsOutcome pieces schema force task (Err fault)) (refused_outcome force fault) is
 
-  pub outcome-unsound : (edited : Edited) (text : List ℕ) (fault : Fault) → IsEditOf pieces schema false task (Ok edited) → text ≡ edited.text → IsMemoryOr fault (IsSound text (Err fault))
-      → IsMemoryOr fault (IsOutcome pieces schema false task (Err fault))
-  outcome-unsound edited text fault is same unsound =
-      let step = step_of_edit false edited is in
-      memory_or_weaker fault (IsSound text (Err fault)) (IsOutcome pieces schema false task (Err fault))
-      (λ refused. inr (step.0, step.1, inl (fault, subst (λ t. IsSound t (Err fault)) (same ∙ ap (λ e. e.text) step.2) refused, refl))) unsound
+-- ---- the check of what an edit made
+
+module _ (edited : Edited) (keeps_rules : Bool) where
+  pub checked-kept : keeps_rules ≡ true → IsChecked edited keeps_rules (Ok edited)
+  checked-kept keeps = rw keeps (inr (tt, refl, refl))
+
+  module _ (checks : keeps_rules ≡ false) (text : List ℕ) (same : text ≡ edited.text) where
+    pub checked-sound : IsSound text (Ok tt) → IsChecked edited keeps_rules (Ok edited)
+    checked-sound sound = rw checks (inr (tt, subst (λ t. IsSound t (Ok tt)) same sound, refl))
+
+    pub checked-unsound : (fault : Fault) → IsMemoryOr fault (IsSound text (Err fault)) → IsMemoryOr fault (IsChecked edited keeps_rules (Err fault))
+    checked-unsound fault unsound =
+        memory_or_weaker fault (IsSound text (Err fault)) (IsChecked edited keeps_rules (Err fault))
+        (λ refused. rw checks (inl (fault, subst (λ t. IsSound t (Err fault)) same refused, refl))) unsound
 
 -- ---- what follows from the outcome
 
@@ -386,41 +421,41 @@ module _ (pieces : List Piece) (schema : Described) (force : Bool) (task : Task)
       (λ there built_too. one_outcome pieces schema schema force task (Err fault) other is_schema is_schema there is built_too built) found
 
   -- the step of an outcome
-  outcome_step : (edited : Edited) → IsOutcome pieces schema force task (Ok edited) → (step : Step) × IsStep pieces schema force task (Ok step) × (edited ≡ edited_by step)
+  outcome_step : (edited : Edited) → IsOutcome pieces schema force task (Ok edited) → (edit : EditScript) × IsEditScript pieces schema force task (Ok edit) × (edited ≡ edited_by edit)
   outcome_step edited is =
-      let parts = Then-ok (IsStep pieces schema force task) (λ step. Then (IsSoundUnlessForced force (edited_text step.script)) (λ _ answer. answer ≡ Ok (edited_by step))) edited is in
+      let parts = Then-ok (IsEditScript pieces schema force task) (λ edit. Then (IsSoundUnlessForced force (edited_text edit.script)) (λ _ answer. answer ≡ Ok (edited_by edit))) edited is in
       let rest = Then-ok (IsSoundUnlessForced force (edited_text parts.0.script)) (λ _ answer. answer ≡ Ok (edited_by parts.0)) edited parts.2 in
       (parts.0, parts.1, same_value edited (edited_by parts.0) rest.2)
 
-  module _ (faithful : (step : Step) → IsStep pieces schema force task (Ok step) → IsFaithful pieces schema task step) where
+  module _ (faithful : (edit : EditScript) → IsEditScript pieces schema force task (Ok edit) → IsFaithful pieces schema task edit) where
     -- the old elements of the step are those of the text
-    old_pieces-step : (step : Step) → IsStep pieces schema force task (Ok step) → old_pieces step.script ≡ pieces
-    old_pieces-step step is =
-        let of_step = faithful step is in
+    old_pieces-step : (edit : EditScript) → IsEditScript pieces schema force task (Ok edit) → old_pieces edit.script ≡ pieces
+    old_pieces-step edit is =
+        let of_step = faithful edit is in
         ap old_pieces of_step.is ∙ old_pieces-script_of of_step.layout pieces
 
     pub outcome-leads : (result : Result Edited Fault) → UnlessMemory result (IsOutcome pieces schema force task)
         → IfOk result (λ edited. Splices edited.patch (text_of pieces) edited.text)
     outcome-leads (Ok edited) found =
-        let (step, is, made) = outcome_step edited found in
+        let (edit, is, made) = outcome_step edited found in
         subst (λ e. Splices e.patch (text_of pieces) e.text) (sym made)
-        (subst (λ old. Splices (hunks_of step.script) (text_of old) (edited_text step.script)) (old_pieces-step step is) (Splices-hunks_of step.script))
+        (subst (λ old. Splices (hunks_of edit.script) (text_of old) (edited_text edit.script)) (old_pieces-step edit is) (Splices-hunks_of edit.script))
     outcome-leads (Err fault) found = tt
 
     pub outcome-unchanged : (result : Result Edited Fault) → UnlessMemory result (IsOutcome pieces schema force task)
         → IfOk result (λ edited. (edited.patch ≡ []) ↔ (edited.text ≡ text_of pieces))
     outcome-unchanged (Ok edited) found =
-        let (step, is, made) = outcome_step edited found in
-        let same = λ (no_hunk : hunks_of step.script ≡ []). same_where_no_hunk step.script no_hunk ∙ ap text_of (old_pieces-step step is) in
-        subst (λ e. (e.patch ≡ []) ↔ (e.text ≡ text_of pieces)) (sym made) (same, (faithful step is).unchanged)
+        let (edit, is, made) = outcome_step edited found in
+        let same = λ (no_hunk : hunks_of edit.script ≡ []). same_where_no_hunk edit.script no_hunk ∙ ap text_of (old_pieces-step edit is) in
+        subst (λ e. (e.patch ≡ []) ↔ (e.text ≡ text_of pieces)) (sym made) (same, (faithful edit is).unchanged)
     outcome-unchanged (Err fault) found = tt
 
     pub outcome-whole : (result : Result Edited Fault) → UnlessMemory result (IsOutcome pieces schema force task)
         → IfOk result (λ edited. AllByRecursion (TakesWhole pieces) edited.patch)
     outcome-whole (Ok edited) found =
-        let (step, is, made) = outcome_step edited found in
+        let (edit, is, made) = outcome_step edited found in
         subst (λ e. AllByRecursion (TakesWhole pieces) e.patch) (sym made)
-        (subst (λ old. AllByRecursion (TakesWhole old) (hunks_of step.script)) (old_pieces-step step is) (TakesWhole-hunks_of step.script))
+        (subst (λ old. AllByRecursion (TakesWhole old) (hunks_of edit.script)) (old_pieces-step edit is) (TakesWhole-hunks_of edit.script))
     outcome-whole (Err fault) found = tt
 
     pub outcome-refusals : (result : Result Edited Fault) → UnlessMemory result (IsOutcome pieces schema force task) → IfErr result IsEditRefusal
@@ -430,11 +465,11 @@ module _ (pieces : List Piece) (schema : Described) (force : Bool) (task : Task)
 
     pub outcome-effect : (result : Result Edited Fault) → UnlessMemory result (IsOutcome pieces schema force task) → IfOk result (λ edited. HasEffect pieces schema task edited.text)
     outcome-effect (Ok edited) found =
-        let (step, is, made) = outcome_step edited found in
-        subst (λ e. HasEffect pieces schema task e.text) (sym made) (faithful step is).effect
+        let (edit, is, made) = outcome_step edited found in
+        subst (λ e. HasEffect pieces schema task e.text) (sym made) (faithful edit is).effect
     outcome-effect (Err fault) found = tt
 
--- ---- the plan of a replacement, and what the edit makes of a text
+-- ---- the layout of a replacement, and what the edit makes of a text
 
 -- ---- the layout
 
@@ -465,13 +500,14 @@ module _ (pieces : List Piece) (schema : Described) (force : Bool) (wanted : Wan
       memory_or_weaker fault (AreChosen pieces schema.sets wanted (Err fault)) (IsEditOf pieces schema force (replace wanted fresh) (Err fault))
       (λ refused. inl (fault, inr (pairs, are, inl (fault, refused, refl)), refl)) is
 
-  pub replace-made : (pairs written : List Pair) (chosen given covered own : List (Range ℕ)) (edited : Edited) → IsNewRecord None fresh (Ok pairs)
+  pub replace-made : (pairs written : List Pair) (chosen given covered own : List (Range ℕ)) (edited : Edited) → AreElementsOf pieces (text_of pieces) → IsNewRecord None fresh (Ok pairs)
       → AreChosen pieces schema.sets wanted (Ok chosen) → written ≡ pairs → own ≡ covered → covered ≡ chosen → given ≡ chosen
-      → edited ≡ edited_by (step_of pieces given (replacement (fields_of written) own)) → IsEditOf pieces schema force (replace wanted fresh) (Ok edited)
-  replace-made pairs written chosen given covered own edited are are_chosen same_pairs goes all same is =
+      → edited ≡ edited_by (laid_script pieces given (replacement (fields_of written) own)) → IsEditOf pieces schema force (replace wanted fresh) (Ok edited)
+  replace-made pairs written chosen given covered own edited elements are are_chosen same_pairs goes all same is =
       inr (
-        step_of pieces chosen (replacement (fields_of pairs) chosen),
+        edit_script pieces chosen (replacement (fields_of pairs) chosen),
         inr (pairs, are, inr (chosen, are_chosen, refl)),
-        same_step pieces given chosen (replacement (fields_of written) own) (replacement (fields_of pairs) chosen) edited is same
-            (ap (λ p. replacement (fields_of p) own) same_pairs ∙ ap (replacement (fields_of pairs)) (goes ∙ all)),
+        same_script pieces given chosen (replacement (fields_of written) own) (replacement (fields_of pairs) chosen) edited is same
+            (ap (λ p. replacement (fields_of p) own) same_pairs ∙ ap (replacement (fields_of pairs)) (goes ∙ all))
+            (replacement_counted pieces schema wanted fresh pairs chosen elements are are_chosen),
       )

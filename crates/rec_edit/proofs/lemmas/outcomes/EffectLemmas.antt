@@ -10,7 +10,7 @@ use Rattle.rec_text.specs.declared.fault.Fault.{Fault}
 use Rattle.rec_text.specs.Elements.{Piece, AreElementsOf, IsElement, text_of, has_name}
 use Rattle.rec_text.specs.Records.{AreRecords, elements_in}
 use Rattle.rec_text.specs.Steps.{Then}
-use Rattle.rec_text.proofs.lemmas.ListLemmas.{AllByRecursion-front, AllByRecursion-behind, AllByRecursion-weaker}
+use Rattle.rec_text.proofs.lemmas.ListLemmas.{AllByRecursion-prefix, AllByRecursion-following, AllByRecursion-weaker}
 use Rattle.rec_text.specs.declared.fault.Fault.TheVariants.{BadName, BadValue}
 use Rattle.rec_text.specs.Canonical.{is_plain_name, is_foldable}
 use Rattle.rec_text.specs.Values.{value_of}
@@ -19,18 +19,19 @@ use Rattle.rec_check.specs.Soundness.{descriptors, says}
 use Rattle.rec_check.proofs.lemmas.laws.SameDescriptorLemmas.{same_descriptors as schemas_of_same}
 use Rattle.rec_check.specs.Descriptors.{first_word, rec_name, type_of, types_of}
 use Rattle.rec_sex.specs.declared.lists.field_list.Item.{Item}
+use Rattle.rec_text.proofs.lemmas.FaultLemmas.{same_value}
 use Rattle.rec_edit.specs.declared.request.Action.{Action}
 use Rattle.rec_edit.specs.declared.request.Action.TheVariants.{Set, Add, SetAdd, Rename, Delete, Comment as CommentFields}
 use Rattle.rec_edit.specs.Wording.{AreItemsFor, names_of_action, values_of_action}
-use Rattle.rec_edit.specs.Effect.{with_fields, Entry, HasEffect, Leads, entries_from, remade}
+use Rattle.rec_edit.specs.Effect.{with_fields, TypedRecord, HasEffect, Leads, typed_records, remade}
 use Rattle.rec_edit.specs.Rules.{setting, deletion, commenting}
 use Rattle.rec_check.specs.Schemas.{Described, IsDescribed, IsSchema}
 use Rattle.rec_check.specs.declared.set.Set_.{Set_}
 use Rattle.rec_select.specs.Selection.{IsSelection}
 use Rattle.rec_edit.specs.Task.{Wanted, Task, insert, replace, delete, comment_out, set, auto_fill}
 use Rattle.rec_edit.specs.Script.{Layout, Part, closed, script_of, new_pieces, edited_text}
-use Rattle.rec_edit.specs.Outcome.{AreChosen, AreRemovable, Step, IsStep, step_of}
-use Rattle.rec_edit.proofs.lemmas.records.EntryLemmas.{closes, own_of, own_of-Spaced, AreTurned, described, none-type_of, own_of-map, remade-turned, same_descriptors, type_of-none}
+use Rattle.rec_edit.specs.Outcome.{AreChosen, AreRemovable, EditScript, IsEditScript, edit_script}
+use Rattle.rec_edit.proofs.lemmas.records.TypedRecordLemmas.{closes, own_of, own_of-Spaced, AreTurned, described, none-type_of, own_of-map, remade-turned, same_descriptors, type_of-none}
 use Rattle.rec_edit.proofs.lemmas.records.FitLemmas.{Cut, Cut-AreRecords, own_of-records, records_there, ArePlain, AreTurned-Fits, Fits, Spaced-Fits, laid_at, Fits-inner, IsInner, BeginsFrom, all_begin}
 use Rattle.rec_edit.proofs.lemmas.scripts.LaidLemmas.{LaysNeatly, closed-blank, closed-field, closed-new_pieces, laid_from}
 use Rattle.rec_edit.proofs.lemmas.records.ClosedLemmas.{name_of-closed, named-closed, value_of-closed}
@@ -46,12 +47,12 @@ map-map f g (x ∷ xs) = ap (λ l. f (g x) ∷ l) (map-map f g xs)
 
 pub elements_part : (pieces : List Piece) (r : Range ℕ) → AllByRecursion IsElement pieces → AllByRecursion IsElement (elements_in pieces r)
 elements_part pieces r all =
-    let front : AllByRecursion IsElement (take r.end pieces) =
-    AllByRecursion-front IsElement (take r.end pieces) (drop r.end pieces) (subst (AllByRecursion IsElement) (sym (take-append-drop r.end pieces)) all) in
-    AllByRecursion-behind IsElement (take r.start (take r.end pieces)) (drop r.start (take r.end pieces))
-    (subst (AllByRecursion IsElement) (sym (take-append-drop r.start (take r.end pieces))) front)
+    let prefix : AllByRecursion IsElement (take r.end pieces) =
+    AllByRecursion-prefix IsElement (take r.end pieces) (drop r.end pieces) (subst (AllByRecursion IsElement) (sym (take-append-drop r.end pieces)) all) in
+    AllByRecursion-following IsElement (take r.start (take r.end pieces)) (drop r.start (take r.end pieces))
+    (subst (AllByRecursion IsElement) (sym (take-append-drop r.start (take r.end pieces))) prefix)
 
--- ---- each record gives way to what is laid in its place
+-- ---- each record is replaced by what is laid in its place
 
 -- the own elements of the records, with the newline at the end
 abbrev pub closed_owns : List Piece → List (Range ℕ) → List (List Piece)
@@ -61,7 +62,7 @@ closed_owns pieces records = map (λ r. map closed (elements_in pieces r)) recor
 pub record GivesWay (pieces new : List Piece) (selected : List ℕ) (made : List Piece → List Piece) (records : List (Range ℕ)) : Type 0 where
   pub ranges : List (Range ℕ)
   pub are : AreRecords new ranges
-  pub remade_are : entries_from None (closed_owns new ranges) ≡ remade selected made (entries_from None (closed_owns pieces records))
+  pub remade_are : typed_records None (closed_owns new ranges) ≡ remade selected made (typed_records None (closed_owns pieces records))
   pub same : described selected made (closed_owns new ranges) ≡ described selected made (closed_owns pieces records)
 
 module _ (pieces : List Piece) (layout : Layout) (selected : List ℕ) (made : List Piece → List Piece) (records : List (Range ℕ)) where
@@ -89,7 +90,7 @@ module _ (pieces : List Piece) (layout : Layout) (selected : List ℕ) (made : L
       record {
         ranges = there.0;
         are = there.1;
-        remade_are = ap (entries_from None) owns ∙ sym (remade-turned selected made (closed_owns pieces records) news turned);
+        remade_are = ap (typed_records None) owns ∙ sym (remade-turned selected made (closed_owns pieces records) news turned);
         same = ap (described selected made) owns ∙ same_descriptors selected made 0 (closed_owns pieces records) news turned;
       }
 
@@ -99,17 +100,10 @@ module _ (pieces : List Piece) (layout : Layout) (selected : List ℕ) (made : L
 
 -- ---- the steps of an edit that isn't refused
 
-then_ok : {A B : Type 0} (first : Result A Fault → Type 0) (next : A → Result B Fault → Type 0) (b : B) → Then first next (Ok b) → (a : A) × first (Ok a) × next a (Ok b)
-then_ok first next b (inl (fault, refused, e)) = absurd (cc)
-then_ok first next b (inr found) = found
-
-pub ok_same : {A : Type 0} (a b : A) → ◌≡◌ {A = Result A Fault} (Ok a) (Ok b) → a ≡ b
-ok_same a b e = cc
-
 -- the records that are meant
 pub record AreMeant (pieces : List Piece) (sets : List Set_) (wanted : Wanted) (chosen : List (Range ℕ)) : Type 0 where
   pub selected : List ℕ
-  pub selects : IsSelection pieces sets wanted.kind wanted.filter (Ok selected)
+  pub selects : IsSelection pieces sets wanted.record_type wanted.filter (Ok selected)
   pub records : List (Range ℕ)
   pub are : AreRecords pieces records
   pub chosen_are : chosen ≡ filter_map (slice_get records) selected
@@ -121,19 +115,19 @@ chosen_meant pieces sets wanted chosen (inr (selected, selects, (records, are, s
   selects = selects;
   records = records;
   are = are;
-  chosen_are = ok_same chosen (filter_map (slice_get records) selected) same;
+  chosen_are = same_value chosen (filter_map (slice_get records) selected) same;
 }
 
 removable_meant : (pieces : List Piece) (sets : List Set_) (wanted : Wanted) (force : Bool) (chosen : List (Range ℕ)) → AreRemovable pieces sets wanted force (Ok chosen) → AreMeant pieces sets wanted chosen
 removable_meant pieces sets wanted force chosen (inl (fault, refused, e)) = absurd (cc)
 removable_meant pieces sets wanted force chosen (inr (found, are, inl (fault, refused, e))) = absurd (cc)
 removable_meant pieces sets wanted force chosen (inr (found, are, inr (unit, allowed, same))) =
-    subst (AreMeant pieces sets wanted) (sym (ok_same chosen found same)) (chosen_meant pieces sets wanted found are)
+    subst (AreMeant pieces sets wanted) (sym (same_value chosen found same)) (chosen_meant pieces sets wanted found are)
 
 -- ---- the items of a set
 
 written_ok : {X : Type 0} (names values : Bool) (x y : X) → ◌≡◌ {A = Result X Fault} (Ok y) (if names then (if values then Ok x else Err BadValue) else Err BadName) → (names ≡ true) × (y ≡ x)
-written_ok true true x y e = (refl, ok_same y x e)
+written_ok true true x y e = (refl, same_value y x e)
 written_ok true false x y e = absurd (cc)
 written_ok false values x y e = absurd (cc)
 
@@ -155,46 +149,46 @@ action_plain CommentFields plain = tt
 pub items_plain : (action : Action) (list : List ℕ) (items : List Item) → AreItemsFor action list (Ok items) → ArePlainItems items × IsPlainAction action
 items_plain action list items (inl (fault, refused, e)) = absurd (cc)
 items_plain action list items (inr (found, are, inl (fault, refused, e))) = absurd (cc)
-items_plain action list items (inr (found, are, inr (unnumbered_, is, same))) =
+items_plain action list items (inr (found, are, inr (without_numbers, is, same))) =
     let names : List (List ℕ) = map (λ item. item.name) found ++ names_of_action action in
     let ok = written_ok (list_all is_plain_name names) (list_all (is_foldable 32) (values_of_action action)) found items same in
     let both = names_plain found (names_of_action action) ok.0 in
     (subst ArePlainItems (sym ok.1) both.0, action_plain action both.1)
 
-named_there : (pieces : List Piece) (selected : List ℕ) (i : ℕ) (before : List (Range ℕ)) (r : Range ℕ) (behind : List (Range ℕ)) → NoneNamed selected i (types_of pieces (before ++ r ∷ behind))
+named_there : (pieces : List Piece) (selected : List ℕ) (i : ℕ) (before : List (Range ℕ)) (r : Range ℕ) (following : List (Range ℕ)) → NoneNamed selected i (types_of pieces (before ++ r ∷ following))
     → list_any (λ k. k == i + length before) selected ≡ true → type_of (elements_in pieces r) ≡ None
-named_there pieces selected i [] r behind none takes =
+named_there pieces selected i [] r following none takes =
     let here : i + 0 ≡ i = omega arith in
     none.0 (ap (λ n. list_any (λ k. k == n) selected) (sym here) ∙ takes)
-named_there pieces selected i (q ∷ before) r behind none takes =
+named_there pieces selected i (q ∷ before) r following none takes =
     let there : i + 1 + length before ≡ i + suc (length before) = omega arith in
-    named_there pieces selected (i + 1) before r behind none.1 (ap (λ n. list_any (λ k. k == n) selected) there ∙ takes)
+    named_there pieces selected (i + 1) before r following none.1 (ap (λ n. list_any (λ k. k == n) selected) there ∙ takes)
 
 -- ---- the effect of a step
 
--- what a task makes of the records, and the ones that give way
+-- what a task makes of the records, and the ones that are replaced
 pub record IsDone (pieces : List Piece) (schema : Described) (task : Task) (script : List Part) : Type 0 where
   pub records : List (Range ℕ)
   pub are : AreRecords pieces records
   pub selected : List ℕ
   pub made : List Piece → List Piece
   pub gives : GivesWay pieces (new_pieces script) selected made records
-  pub leads : (before after : List Entry) → after ≡ remade selected made before → Leads pieces schema task before after
+  pub leads : (before after : List TypedRecord) → after ≡ remade selected made before → Leads pieces schema task before after
 
 pub effect_of_done : (pieces : List Piece) (schema : Described) (task : Task) (script : List Part) → IsDone pieces schema task script → AreElementsOf (new_pieces script) (edited_text script)
     → HasEffect pieces schema task (edited_text script)
 effect_of_done pieces schema task script done are = record {
-  before = entries_from None (closed_owns pieces done.records);
+  before = typed_records None (closed_owns pieces done.records);
   are_before = (done.records, done.are, refl);
   edited = new_pieces script;
   are_edited = are;
-  after = entries_from None (closed_owns (new_pieces script) done.gives.ranges);
+  after = typed_records None (closed_owns (new_pieces script) done.gives.ranges);
   are_after = (done.gives.ranges, done.gives.are, refl);
-  leads = done.leads (entries_from None (closed_owns pieces done.records)) (entries_from None (closed_owns (new_pieces script) done.gives.ranges)) done.gives.remade_are;
+  leads = done.leads (typed_records None (closed_owns pieces done.records)) (typed_records None (closed_owns (new_pieces script) done.gives.ranges)) done.gives.remade_are;
 }
 
-pub script_is : (step other : Step) → ◌≡◌ {A = Result Step Fault} (Ok step) (Ok other) → step.script ≡ other.script
-script_is step other e = ap (λ s. s.script) (ok_same step other e)
+pub script_is : (edit other : EditScript) → ◌≡◌ {A = Result EditScript Fault} (Ok edit) (Ok other) → edit.script ≡ other.script
+script_is edit other e = ap (λ s. s.script) (same_value edit other e)
 
 module _ (pieces : List Piece) (schema : Described) (is : IsDescribed pieces schema) (all : AllByRecursion IsElement pieces) where
   delete_done : (wanted : Wanted) (chosen : List (Range ℕ)) → AreMeant pieces schema.sets wanted chosen → IsDone pieces schema (delete wanted) (script_of (deletion pieces chosen) pieces)
@@ -207,7 +201,7 @@ module _ (pieces : List Piece) (schema : Described) (is : IsDescribed pieces sch
         are = meant.are;
         selected = selected;
         made = λ own. [];
-        gives = gives_way pieces (deletion pieces chosen_is) selected (λ own. []) records meant.are all (selected_plain pieces schema wanted.kind wanted.filter selected records is meant.are meant.selects)
+        gives = gives_way pieces (deletion pieces chosen_is) selected (λ own. []) records meant.are all (selected_plain pieces schema wanted.record_type wanted.filter selected records is meant.are meant.selects)
             (LaysNeatly-deletion pieces chosen_is) refl (Fits-deletion pieces selected records (Cut-AreRecords pieces records meant.are));
         leads = λ before after same. (selected, meant.selects, same);
       } in
@@ -223,22 +217,22 @@ module _ (pieces : List Piece) (schema : Described) (is : IsDescribed pieces sch
         are = meant.are;
         selected = selected;
         made = λ own. [];
-        gives = gives_way pieces (commenting chosen_is) selected (λ own. []) records meant.are all (selected_plain pieces schema wanted.kind wanted.filter selected records is meant.are meant.selects)
+        gives = gives_way pieces (commenting chosen_is) selected (λ own. []) records meant.are all (selected_plain pieces schema wanted.record_type wanted.filter selected records is meant.are meant.selects)
             (LaysNeatly-commenting chosen_is) refl
             (Fits-inner pieces (commenting chosen_is) selected (λ own. []) records (IsInner-commenting pieces selected records) (Cut-AreRecords pieces records meant.are));
         leads = λ before after same. (selected, meant.selects, same);
       } in
       subst (λ c. IsDone pieces schema (comment_out wanted) (script_of (commenting c) pieces)) (sym meant.chosen_are) done
 
-  pub done_delete : (force : Bool) (wanted : Wanted) (step : Step) → IsStep pieces schema force (delete wanted) (Ok step) → IsDone pieces schema (delete wanted) step.script
-  done_delete force wanted step (inl (fault, refused, e)) = absurd (cc)
-  done_delete force wanted step (inr (chosen, are, same)) =
-      subst (IsDone pieces schema (delete wanted)) (sym (script_is step (step_of pieces chosen (deletion pieces chosen)) same)) (delete_done wanted chosen (removable_meant pieces schema.sets wanted force chosen are))
+  pub done_delete : (force : Bool) (wanted : Wanted) (edit : EditScript) → IsEditScript pieces schema force (delete wanted) (Ok edit) → IsDone pieces schema (delete wanted) edit.script
+  done_delete force wanted edit (inl (fault, refused, e)) = absurd (cc)
+  done_delete force wanted edit (inr (chosen, are, same)) =
+      subst (IsDone pieces schema (delete wanted)) (sym (script_is edit (edit_script pieces chosen (deletion pieces chosen)) same)) (delete_done wanted chosen (removable_meant pieces schema.sets wanted force chosen are))
 
-  pub done_comment : (force : Bool) (wanted : Wanted) (step : Step) → IsStep pieces schema force (comment_out wanted) (Ok step) → IsDone pieces schema (comment_out wanted) step.script
-  done_comment force wanted step (inl (fault, refused, e)) = absurd (cc)
-  done_comment force wanted step (inr (chosen, are, same)) =
-      subst (IsDone pieces schema (comment_out wanted)) (sym (script_is step (step_of pieces chosen (commenting chosen)) same)) (comment_done wanted chosen (removable_meant pieces schema.sets wanted force chosen are))
+  pub done_comment : (force : Bool) (wanted : Wanted) (edit : EditScript) → IsEditScript pieces schema force (comment_out wanted) (Ok edit) → IsDone pieces schema (comment_out wanted) edit.script
+  done_comment force wanted edit (inl (fault, refused, e)) = absurd (cc)
+  done_comment force wanted edit (inr (chosen, are, same)) =
+      subst (IsDone pieces schema (comment_out wanted)) (sym (script_is edit (edit_script pieces chosen (commenting chosen)) same)) (comment_done wanted chosen (removable_meant pieces schema.sets wanted force chosen are))
 
   set_done : (wanted : Wanted) (list : List ℕ) (action : Action) (items : List Item) (chosen : List (Range ℕ)) → AreItemsFor action list (Ok items) → AreMeant pieces schema.sets wanted chosen
       → IsDone pieces schema (set wanted list action) (script_of (setting action items pieces chosen) pieces)
@@ -248,11 +242,11 @@ module _ (pieces : List Piece) (schema : Described) (is : IsDescribed pieces sch
       let chosen_is : List (Range ℕ) = filter_map (slice_get records) selected in
       let plain = items_plain action list items items_are in
       let cut : Cut pieces false 0 records = Cut-AreRecords pieces records meant.are in
-      let none = selected_plain pieces schema wanted.kind wanted.filter selected records is meant.are meant.selects in
+      let none = selected_plain pieces schema wanted.record_type wanted.filter selected records is meant.are meant.selects in
       let inner : IsInner pieces (set_of action items pieces selected records) selected (with_fields action items) records =
-      IsInner-setting action items pieces selected records (selected_once pieces schema.sets wanted.kind wanted.filter selected meant.selects) plain.1 plain.0 (λ r. elements_part pieces r all)
-      (λ before r behind parts takes.
-      none-type_of (elements_in pieces r) (named_there pieces selected 0 before r behind (subst (λ rs. NoneNamed selected 0 (types_of pieces rs)) parts none)
+      IsInner-setting action items pieces selected records (selected_once pieces schema.sets wanted.record_type wanted.filter selected meant.selects) plain.1 plain.0 (λ r. elements_part pieces r all)
+      (λ before r following parts takes.
+      none-type_of (elements_in pieces r) (named_there pieces selected 0 before r following (subst (λ rs. NoneNamed selected 0 (types_of pieces rs)) parts none)
       (let zeroth : 0 + length before ≡ length before = omega arith in ap (λ n. list_any (λ k. k == n) selected) zeroth ∙ takes))) in
       let done : IsDone pieces schema (set wanted list action) (script_of (setting action items pieces chosen_is) pieces) = record {
         records = records;
@@ -267,26 +261,26 @@ module _ (pieces : List Piece) (schema : Described) (is : IsDescribed pieces sch
       } in
       subst (λ c. IsDone pieces schema (set wanted list action) (script_of (setting action items pieces c) pieces)) (sym meant.chosen_are) done
 
-  pub done_set : (force : Bool) (wanted : Wanted) (list : List ℕ) (action : Action) (step : Step) → IsStep pieces schema force (set wanted list action) (Ok step) → IsDone pieces schema (set wanted list action) step.script
-  done_set force wanted list action step (inl (fault, refused, e)) = absurd (cc)
-  done_set force wanted list action step (inr (items, items_are, inl (fault, refused, e))) = absurd (cc)
-  done_set force wanted list action step (inr (items, items_are, inr (chosen, are, same))) =
-      subst (IsDone pieces schema (set wanted list action)) (sym (script_is step (step_of pieces chosen (setting action items pieces chosen)) same))
+  pub done_set : (force : Bool) (wanted : Wanted) (list : List ℕ) (action : Action) (edit : EditScript) → IsEditScript pieces schema force (set wanted list action) (Ok edit) → IsDone pieces schema (set wanted list action) edit.script
+  done_set force wanted list action edit (inl (fault, refused, e)) = absurd (cc)
+  done_set force wanted list action edit (inr (items, items_are, inl (fault, refused, e))) = absurd (cc)
+  done_set force wanted list action edit (inr (items, items_are, inr (chosen, are, same))) =
+      subst (IsDone pieces schema (set wanted list action)) (sym (script_is edit (edit_script pieces chosen (setting action items pieces chosen)) same))
       (set_done wanted list action items chosen items_are (chosen_meant pieces schema.sets wanted chosen are))
 
-  pub step_done : (force : Bool) (task : Task) (step : Step) → PutsNoneIn task → IsStep pieces schema force task (Ok step) → IsDone pieces schema task step.script
-  step_done force (insert kind fresh auto) step puts found = absurd puts
-  step_done force (replace wanted fresh) step puts found = absurd puts
-  step_done force (delete wanted) step puts found = done_delete force wanted step found
-  step_done force (comment_out wanted) step puts found = done_comment force wanted step found
-  step_done force (set wanted list action) step puts found = done_set force wanted list action step found
-  step_done force auto_fill step puts found = absurd puts
+  pub step_done : (force : Bool) (task : Task) (edit : EditScript) → PutsNoneIn task → IsEditScript pieces schema force task (Ok edit) → IsDone pieces schema task edit.script
+  step_done force (insert record_type fresh auto) edit puts found = absurd puts
+  step_done force (replace wanted fresh) edit puts found = absurd puts
+  step_done force (delete wanted) edit puts found = done_delete force wanted edit found
+  step_done force (comment_out wanted) edit puts found = done_comment force wanted edit found
+  step_done force (set wanted list action) edit puts found = done_set force wanted list action edit found
+  step_done force auto_fill edit puts found = absurd puts
 
 -- an edit that puts nothing in has its effect on the records
-pub step_has_effect : (pieces : List Piece) (schema : Described) (force : Bool) (task : Task) (step : Step) → PutsNoneIn task → AreElementsOf (new_pieces step.script) (edited_text step.script)
-    → IsSchema pieces (Ok schema) → AreElementsOf pieces (text_of pieces) → IsStep pieces schema force task (Ok step) → HasEffect pieces schema task (edited_text step.script)
-step_has_effect pieces schema force task step puts edited is elements found =
-    effect_of_done pieces schema task step.script (step_done pieces schema is elements.well_formed force task step puts found) edited
+pub step_has_effect : (pieces : List Piece) (schema : Described) (force : Bool) (task : Task) (edit : EditScript) → PutsNoneIn task → AreElementsOf (new_pieces edit.script) (edited_text edit.script)
+    → IsSchema pieces (Ok schema) → AreElementsOf pieces (text_of pieces) → IsEditScript pieces schema force task (Ok edit) → HasEffect pieces schema task (edited_text edit.script)
+step_has_effect pieces schema force task edit puts edited is elements found =
+    effect_of_done pieces schema task edit.script (step_done pieces schema is elements.well_formed force task edit puts found) edited
 
 -- ---- the descriptors say the same
 
@@ -348,9 +342,9 @@ done_keeps_sets pieces schema task script done edited is elements =
     let answer = schemas_of_same pieces new done.records done.gives.ranges schema done.are done.gives.are same is in
     (answer.0, answer.1, answer.3)
 
-pub step_is_sound : (pieces : List Piece) (schema : Described) (force : Bool) (task : Task) (step : Step) → PutsNoneIn task → AreElementsOf (new_pieces step.script) (edited_text step.script)
-    → IsSchema pieces (Ok schema) → AreElementsOf pieces (text_of pieces) → IsStep pieces schema force task (Ok step)
-    → (same : Described) × IsSchema (new_pieces step.script) (Ok same)
-step_is_sound pieces schema force task step puts edited is elements found =
-    let kept = done_keeps_sets pieces schema task step.script (step_done pieces schema is elements.well_formed force task step puts found) edited is elements in
+pub step_is_sound : (pieces : List Piece) (schema : Described) (force : Bool) (task : Task) (edit : EditScript) → PutsNoneIn task → AreElementsOf (new_pieces edit.script) (edited_text edit.script)
+    → IsSchema pieces (Ok schema) → AreElementsOf pieces (text_of pieces) → IsEditScript pieces schema force task (Ok edit)
+    → (same : Described) × IsSchema (new_pieces edit.script) (Ok same)
+step_is_sound pieces schema force task edit puts edited is elements found =
+    let kept = done_keeps_sets pieces schema task edit.script (step_done pieces schema is elements.well_formed force task edit puts found) edited is elements in
     (kept.0, kept.1)

@@ -15,10 +15,11 @@ use Rattle.rec_check.specs.Schemas.{Described, AreSameSchemas}
 use Rattle.rec_edit.specs.declared.request.Action.{Action}
 use Rattle.rec_edit.specs.declared.request.Action.TheVariants.{Set, Add, SetAdd, Rename, Delete, Comment as CommentFields}
 use Rattle.rec_edit.specs.Task.{Task, insert, replace, delete, comment_out, set, auto_fill, Wanted, NewRecord, of_pairs, of_text}
-use Rattle.rec_edit.specs.Script.{Part, Layout, closed, script_of, new_pieces, edited_text, hunks_of}
-use Rattle.rec_edit.specs.Rules.{commented, is_own, is_picked, taking_out, deletion, commenting, setting, picked_becomes, added, with_blanks, fields_of}
+use Rattle.rec_edit.specs.Script.{Part, Layout, closed, script_of, new_pieces, edited_text}
+use Rattle.rec_edit.specs.proving.Changes.{hunks_of}
+use Rattle.rec_edit.specs.Rules.{comments_of, is_own, is_picked, taking_out, deletion, commenting, setting, picked_becomes, added, with_blanks, fields_of}
 use Rattle.rec_edit.specs.Wording.{written, unnumbered, names_of_action, values_of_action, AreItemsFor, pairs_of, IsRecordText, ArePairs, IsNewRecord}
-use Rattle.rec_edit.specs.Outcome.{Step, AreChosen, AreRemovable, step_of, IsStep, step_of_insert, none_of, IsSoundUnlessForced, edited_by, OneOutcome}
+use Rattle.rec_edit.specs.Outcome.{EditScript, AreChosen, AreRemovable, edit_script, IsEditScript, insert_script, none_of, IsSoundUnlessForced, edited_by, OneOutcome}
 use Rattle.rec_text.specs.declared.violations.Violation.{Violation}
 use Rattle.rec_check.specs.declared.set.Set_.{Set_}
 use Rattle.rec_check.specs.Automatic.{automatic_names, automatic_of, readings, IsNext, IsAutomatic}
@@ -27,7 +28,7 @@ use Rattle.rec_check.specs.Sets.{is_of_type}
 use Rattle.rec_check.specs.Violations.{AreViolationsOf, members, names_of}
 use Rattle.rec_check.specs.Words.{distinct}
 use Rattle.rec_edit.specs.declared.outcome.Edited.{Edited}
-use Rattle.rec_edit.specs.Insertions.{Numbered, numbered_fields, filling}
+use Rattle.rec_edit.specs.Insertions.{Filled, Numbered, numbered_fields, filling}
 use Rattle.rec_edit.specs.Automatic.{lacking, AreNumbered, AreAutomatic, numbers_in, AreFilled, AreFilledSets}
 use Rattle.rec_text.proofs.lemmas.ListLemmas.{AllByRecursion-slice_get}
 use Rattle.rec_text.proofs.lemmas.reading.ReadingLemmas.{one_reading}
@@ -40,11 +41,12 @@ use Rattle.rec_check.proofs.lemmas.laws.CheckLemmas.{one_check}
 use Rattle.rec_check.proofs.lemmas.automatic.NextLemmas.{is_counter-same, one_next, automatic_of-same, one_automatic}
 use Rattle.rec_check.proofs.lemmas.laws.SameLemmas.{one_schema}
 use Rattle.rec_select.proofs.SelectionLemmas.{one_selection}
-use Rattle.rec_edit.proofs.lemmas.outcomes.AnswerLemmas.{no_both, AreOne, HasOne, HasOneBut, HasOneBut-of, HasOne-same, AreOne-Then, HasOne-Then, HasOneBut-after, HasOneBut-before}
+use Rattle.rec_text.proofs.lemmas.FaultLemmas.{no_both}
+use Rattle.rec_text.proofs.lemmas.StepLemmas.{AreOne, HasOne, HasOneBut, HasOneBut-of, HasOne-same, AreOne-Then, HasOne-Then, AgreeBut-of, AgreeBut-Then, HasOneBut-Then, Then-ok}
 
 -- ---- what an edit makes of a text are the elements of the edited text, and where that is the old text the edit has no hunk
 
--- The script is that of a layout that lays well-formed elements, and puts at least one in the place of each, or at most one
+-- The script is that of a layout that lays well-formed elements, and puts at least one instead of each, or at most one
 -- and nothing between.
 pub record IsLaid (pieces : List Piece) (script : List Part) : Type 0 where
   pub layout : Layout
@@ -80,16 +82,16 @@ module _ (pieces : List Piece) (whole : AllByRecursion IsElement pieces) where
   commenting_lays chosen = record {
     untied = λ _. refl;
     put = λ _. tt;
-    becomes = λ k piece at. cond_both (is_own chosen (0 + k)) (commented (closed piece)) (closed piece ∷ []) (CanStandFor piece)
+    becomes = λ k piece at. cond_both (is_own chosen (0 + k)) (comments_of (closed piece).bytes) (closed piece ∷ []) (CanStandFor piece)
         (λ _. CanStandFor-commented piece (element_at k piece at)) (λ _. CanStandFor-kept piece (element_at k piece at));
   }
 
-  length-commented_closed : (k : ℕ) (piece : Piece) → slice_get pieces k ≡ Some piece → 1 ≤ length (commented (closed piece))
+  length-commented_closed : (k : ℕ) (piece : Piece) → slice_get pieces k ≡ Some piece → 1 ≤ length (comments_of (closed piece).bytes)
   length-commented_closed k piece at = length-commented (closed piece) (IsClosed-closed piece (element_at k piece at)).element
 
   commenting_puts_some : (chosen : List (Range ℕ)) → PutsSome (commenting chosen) pieces
   commenting_puts_some chosen k piece at =
-      cond_both (is_own chosen k) (commented (closed piece)) (closed piece ∷ []) (λ new. 1 ≤ length new) (λ _. length-commented_closed k piece at) (λ _. omega arith)
+      cond_both (is_own chosen k) (comments_of (closed piece).bytes) (closed piece ∷ []) (λ new. 1 ≤ length new) (λ _. length-commented_closed k piece at) (λ _. omega arith)
 
   -- set: names and values can be written
   module _ (action : Action) (items : List Item) (plain : AllByRecursion HasPlainName items)
@@ -98,9 +100,9 @@ module _ (pieces : List Piece) (whole : AllByRecursion IsElement pieces) where
     setting_lays : LaysWell 0 (setting action items pieces chosen) pieces
     setting_lays = record {
       untied = λ _. refl;
-      put = λ k. AllByRecursion-all IsClosed (λ record_. if record_.end == k then added action items (elements_in pieces record_) else [])
-          (λ record_. cond_both (record_.end == k) (added action items (elements_in pieces record_)) [] (AllByRecursion IsClosed)
-          (λ _. added_are_closed action items (elements_in pieces record_) plain values) (λ _. tt)) chosen;
+      put = λ k. AllByRecursion-all IsClosed (λ own_range. if own_range.end == k then added action items (elements_in pieces own_range) else [])
+          (λ own_range. cond_both (own_range.end == k) (added action items (elements_in pieces own_range)) [] (AllByRecursion IsClosed)
+          (λ _. added_are_closed action items (elements_in pieces own_range) plain values) (λ _. tt)) chosen;
       becomes = λ k piece at.
           let whole_piece = element_at k piece at in
           let same : 0 + k ≡ k = omega arith in
@@ -109,7 +111,7 @@ module _ (pieces : List Piece) (whole : AllByRecursion IsElement pieces) where
           (λ _. CanStandFor-kept piece whole_piece);
     }
 
-  -- a picked field gives way to at least one element
+  -- a picked field is replaced by at least one element
   setting_puts_some : (action : Action) (items : List Item) (chosen : List (Range ℕ))
       → ((k : ℕ) (piece : Piece) → slice_get pieces k ≡ Some piece → 1 ≤ length (picked_becomes action (closed piece))) → PutsSome (setting action items pieces chosen) pieces
   setting_puts_some action items chosen some k piece at =
@@ -117,8 +119,8 @@ module _ (pieces : List Piece) (whole : AllByRecursion IsElement pieces) where
 
   deleting_puts_few : (items : List Item) (chosen : List (Range ℕ)) → PutsFew (setting Delete items pieces chosen)
   deleting_puts_few items chosen = record {
-    put = λ k. flat_map-none (λ (record_ : Range ℕ). if record_.end == k then added Delete items (elements_in pieces record_) else [])
-        (λ record_. cond_both (record_.end == k) (added Delete items (elements_in pieces record_)) [] (λ new. new ≡ []) (λ _. refl) (λ _. refl)) chosen;
+    put = λ k. flat_map-none (λ (own_range : Range ℕ). if own_range.end == k then added Delete items (elements_in pieces own_range) else [])
+        (λ own_range. cond_both (own_range.end == k) (added Delete items (elements_in pieces own_range)) [] (λ new. new ≡ []) (λ _. refl) (λ _. refl)) chosen;
     becomes = λ k piece. cond_both (is_picked items pieces chosen k) [] (piece ∷ []) (λ new. length new ≤ 1) (λ _. omega arith) (λ _. omega arith);
   }
 
@@ -131,10 +133,6 @@ module _ (pieces : List Piece) (whole : AllByRecursion IsElement pieces) where
   setting_sizes CommentFields items chosen = inl (setting_puts_some CommentFields items chosen length-commented_closed)
 
 -- ---- what an edit has made of its texts
-
-pub then_ok : {A B : Type 0} (first : Result A Fault → Type 0) (next : A → Result B Fault → Type 0) (b : B) → Then first next (Ok b) → (a : A) × first (Ok a) × next a (Ok b)
-then_ok first next b (inl (fault, refused, e)) = absurd (cc)
-then_ok first next b (inr (a, is, rest)) = (a, is, rest)
 
 names_split : (items : List Item) (more : List (List ℕ)) → list_all is_plain_name (map (λ item. item.name) items ++ more) ≡ true → AllByRecursion HasPlainName items × (list_all is_plain_name more ≡ true)
 names_split [] more all = (tt, all)
@@ -163,27 +161,27 @@ pub record AreWritten (action : Action) (items : List Item) : Type 0 where
 
 pub AreItemsFor-written : (action : Action) (list : List ℕ) (items : List Item) → AreItemsFor action list (Ok items) → AreWritten action items
 AreItemsFor-written action list items are =
-    let listed = then_ok (IsFieldList list)
+    let listed = Then-ok (IsFieldList list)
     (λ given. Then (λ answer. answer ≡ unnumbered action list given) (λ _ answer. answer ≡ written (map (λ item. item.name) given ++ names_of_action action) (values_of_action action) given))
     items are in
     let given = listed.0 in
-    let numbered = then_ok (λ answer. answer ≡ unnumbered action list given)
+    let numbered = Then-ok (λ answer. answer ≡ unnumbered action list given)
     (λ _ answer. answer ≡ written (map (λ item. item.name) given ++ names_of_action action) (values_of_action action) given) items listed.2 in
     let is = written_by (map (λ item. item.name) given ++ names_of_action action) (values_of_action action) given items _ _ refl refl numbered.2 in
     let split = names_split given (names_of_action action) is.names_are in
     record { plain = subst (AllByRecursion HasPlainName) (sym is.same) split.0; names = split.1; values = is.values_are }
 
 -- the answer of a step
-abbrev ok_step : Step → Result Step Fault
-ok_step step = Ok step
+abbrev ok_step : EditScript → Result EditScript Fault
+ok_step edit = Ok edit
 
 -- the script of a step that this layout makes
-script_is : (pieces : List Piece) (chosen : List (Range ℕ)) (layout : Layout) (step : Step) → ok_step step ≡ ok_step (step_of pieces chosen layout) → step.script ≡ script_of layout pieces
-script_is pieces chosen layout step e = let same : step ≡ step_of pieces chosen layout = cc in ap (λ s. s.script) same
+script_is : (pieces : List Piece) (chosen : List (Range ℕ)) (layout : Layout) (edit : EditScript) → ok_step edit ≡ ok_step (edit_script pieces chosen layout) → edit.script ≡ script_of layout pieces
+script_is pieces chosen layout edit e = let same : edit ≡ edit_script pieces chosen layout = cc in ap (λ s. s.script) same
 
 -- no new record is put in, and no automatic field
 abbrev pub PutsNoneIn : Task → Type 0
-PutsNoneIn (insert kind fresh auto) = ⊥
+PutsNoneIn (insert record_type fresh auto) = ⊥
 PutsNoneIn (replace wanted fresh) = ⊥
 PutsNoneIn (delete wanted) = Unit {0}
 PutsNoneIn (comment_out wanted) = Unit {0}
@@ -191,45 +189,45 @@ PutsNoneIn (set wanted list action) = Unit {0}
 PutsNoneIn auto_fill = ⊥
 
 -- the step of each kind of edit
-pub step_is_laid : (pieces : List Piece) (schema : Described) (force : Bool) (task : Task) (step : Step) → AreElementsOf pieces (text_of pieces) → PutsNoneIn task
-    → IsStep pieces schema force task (Ok step) → IsLaid pieces step.script
-step_is_laid pieces schema force (insert kind fresh auto) step are none is = absurd none
-step_is_laid pieces schema force (replace wanted fresh) step are none is = absurd none
-step_is_laid pieces schema force (delete wanted) step are none is =
-    let by = then_ok (AreRemovable pieces schema.sets wanted force) (λ chosen answer. answer ≡ Ok (step_of pieces chosen (deletion pieces chosen))) step is in
+pub step_is_laid : (pieces : List Piece) (schema : Described) (force : Bool) (task : Task) (edit : EditScript) → AreElementsOf pieces (text_of pieces) → PutsNoneIn task
+    → IsEditScript pieces schema force task (Ok edit) → IsLaid pieces edit.script
+step_is_laid pieces schema force (insert record_type fresh auto) edit are none is = absurd none
+step_is_laid pieces schema force (replace wanted fresh) edit are none is = absurd none
+step_is_laid pieces schema force (delete wanted) edit are none is =
+    let by = Then-ok (AreRemovable pieces schema.sets wanted force) (λ chosen answer. answer ≡ Ok (edit_script pieces chosen (deletion pieces chosen))) edit is in
     let ranges = map (with_blanks pieces) by.0 in
     record {
       layout = taking_out ranges;
-      is = script_is pieces by.0 (taking_out ranges) step by.2;
+      is = script_is pieces by.0 (taking_out ranges) edit by.2;
       lays = taking_out_lays pieces are.well_formed ranges;
       sizes = inr (taking_out_puts_few pieces are.well_formed ranges);
     }
-step_is_laid pieces schema force (comment_out wanted) step are none is =
-    let by = then_ok (AreRemovable pieces schema.sets wanted force) (λ chosen answer. answer ≡ Ok (step_of pieces chosen (commenting chosen))) step is in
+step_is_laid pieces schema force (comment_out wanted) edit are none is =
+    let by = Then-ok (AreRemovable pieces schema.sets wanted force) (λ chosen answer. answer ≡ Ok (edit_script pieces chosen (commenting chosen))) edit is in
     record {
       layout = commenting by.0;
-      is = script_is pieces by.0 (commenting by.0) step by.2;
+      is = script_is pieces by.0 (commenting by.0) edit by.2;
       lays = commenting_lays pieces are.well_formed by.0;
       sizes = inl (commenting_puts_some pieces are.well_formed by.0);
     }
-step_is_laid pieces schema force (set wanted list action) step are none is =
-    let listed = then_ok (AreItemsFor action list) (λ items. Then (AreChosen pieces schema.sets wanted) (λ chosen answer. answer ≡ Ok (step_of pieces chosen (setting action items pieces chosen)))) step is in
+step_is_laid pieces schema force (set wanted list action) edit are none is =
+    let listed = Then-ok (AreItemsFor action list) (λ items. Then (AreChosen pieces schema.sets wanted) (λ chosen answer. answer ≡ Ok (edit_script pieces chosen (setting action items pieces chosen)))) edit is in
     let items = listed.0 in
-    let by = then_ok (AreChosen pieces schema.sets wanted) (λ chosen answer. answer ≡ Ok (step_of pieces chosen (setting action items pieces chosen))) step listed.2 in
+    let by = Then-ok (AreChosen pieces schema.sets wanted) (λ chosen answer. answer ≡ Ok (edit_script pieces chosen (setting action items pieces chosen))) edit listed.2 in
     let can = AreItemsFor-written action list items listed.1 in
     record {
       layout = setting action items pieces by.0;
-      is = script_is pieces by.0 (setting action items pieces by.0) step by.2;
+      is = script_is pieces by.0 (setting action items pieces by.0) edit by.2;
       lays = setting_lays pieces are.well_formed action items can.plain can.names can.values by.0;
       sizes = setting_sizes pieces are.well_formed action items by.0;
     }
-step_is_laid pieces schema force auto_fill step are none is = absurd none
+step_is_laid pieces schema force auto_fill edit are none is = absurd none
 
 -- what a step makes of a text are elements again
-pub step_is_read : (pieces : List Piece) (schema : Described) (force : Bool) (task : Task) (step : Step) → AreElementsOf pieces (text_of pieces) → PutsNoneIn task
-    → IsStep pieces schema force task (Ok step) → AreElementsOf (new_pieces step.script) (edited_text step.script)
-step_is_read pieces schema force task step are none is =
-    let laid = step_is_laid pieces schema force task step are none is in
+pub step_is_read : (pieces : List Piece) (schema : Described) (force : Bool) (task : Task) (edit : EditScript) → AreElementsOf pieces (text_of pieces) → PutsNoneIn task
+    → IsEditScript pieces schema force task (Ok edit) → AreElementsOf (new_pieces edit.script) (edited_text edit.script)
+step_is_read pieces schema force task edit are none is =
+    let laid = step_is_laid pieces schema force task edit are none is in
     subst (λ script. AreElementsOf (new_pieces script) (edited_text script)) (sym laid.is) (new_pieces_are_read laid.layout pieces laid.lays)
 
 -- two lists of elements of one text are equal
@@ -242,12 +240,12 @@ unchanged_script layout pieces lays (inl some) same = unchanged_by_some layout p
 unchanged_script layout pieces lays (inr few) same = unchanged_by_few layout pieces lays.untied same few
 
 -- where a step makes the old text, it has no hunk
-pub step_unchanged : (pieces : List Piece) (schema : Described) (force : Bool) (task : Task) (step : Step) → AreElementsOf pieces (text_of pieces) → PutsNoneIn task
-    → IsStep pieces schema force task (Ok step) → edited_text step.script ≡ text_of pieces → hunks_of step.script ≡ []
-step_unchanged pieces schema force task step are none is unchanged =
-    let laid = step_is_laid pieces schema force task step are none is in
-    let read = step_is_read pieces schema force task step are none is in
-    let same : new_pieces step.script ≡ pieces = one_list_of_elements (text_of pieces) (new_pieces step.script) pieces (subst (AreElementsOf (new_pieces step.script)) unchanged read) are in
+pub step_unchanged : (pieces : List Piece) (schema : Described) (force : Bool) (task : Task) (edit : EditScript) → AreElementsOf pieces (text_of pieces) → PutsNoneIn task
+    → IsEditScript pieces schema force task (Ok edit) → edited_text edit.script ≡ text_of pieces → hunks_of edit.script ≡ []
+step_unchanged pieces schema force task edit are none is unchanged =
+    let laid = step_is_laid pieces schema force task edit are none is in
+    let read = step_is_read pieces schema force task edit are none is in
+    let same : new_pieces edit.script ≡ pieces = one_list_of_elements (text_of pieces) (new_pieces edit.script) pieces (subst (AreElementsOf (new_pieces edit.script)) unchanged read) are in
     ap hunks_of laid.is ∙ unchanged_script laid.layout pieces laid.lays laid.sizes (ap new_pieces (sym laid.is) ∙ same)
 
 -- ---- the outcome of an edit
@@ -266,7 +264,7 @@ none_of-none (one ∷ more) empty is none = absurd (let e : false ≡ true = sym
 
 HasOne-items : (action : Action) (list : List ℕ) → HasOne (AreItemsFor action list)
 HasOne-items action list =
-    HasOne-Then _ _ (λ one other is is_too. one_field_list list one is other is_too) (λ items. HasOne-Then _ _ (HasOne-same _) (λ _. HasOne-same _))
+    HasOne-Then _ _ (λ one other is is_too. one_field_list list one is other is_too) (λ items _. HasOne-Then _ _ (HasOne-same _) (λ _ _. HasOne-same _))
 
 -- what is made of the records
 HasOne-of_records : {A : Type 0} (pieces : List Piece) (made : List (Range ℕ) → A)
@@ -276,23 +274,23 @@ HasOne-of_records pieces made one other (records, are, e) (others, are_too, k) =
 
 HasOne-chosen : (pieces : List Piece) (sets : List Set_) (wanted : Wanted) → HasOne (AreChosen pieces sets wanted)
 HasOne-chosen pieces sets wanted =
-    HasOne-Then _ _ (one_selection pieces sets wanted.kind wanted.filter) (λ selected. HasOne-of_records pieces (λ records. filter_map (slice_get records) selected))
+    HasOne-Then _ _ (one_selection pieces sets wanted.record_type wanted.filter) (λ selected _. HasOne-of_records pieces (λ records. filter_map (slice_get records) selected))
 
 HasOne-removable : (pieces : List Piece) (sets : List Set_) (wanted : Wanted) (force : Bool) → HasOne (AreRemovable pieces sets wanted force)
 HasOne-removable pieces sets wanted force =
-    HasOne-Then _ _ (HasOne-chosen pieces sets wanted) (λ chosen. HasOne-Then _ _ (HasOne-same _) (λ _. HasOne-same _))
+    HasOne-Then _ _ (HasOne-chosen pieces sets wanted) (λ chosen _. HasOne-Then _ _ (HasOne-same _) (λ _ _. HasOne-same _))
 
 -- ---- the new record
 
 HasOne-record_text : (text : List ℕ) → HasOne (IsRecordText text)
-HasOne-record_text text (Ok pairs) (Ok others) (pieces, record_, read, are, e) (more, second, read_too, are_too, k) =
+HasOne-record_text text (Ok pairs) (Ok others) (pieces, own_range, read, are, e) (more, second, read_too, are_too, k) =
     let same : pieces ≡ more = one_list_of_elements text pieces more read read_too in
-    let records : record_ ∷ [] ≡ second ∷ [] =
-    OneListOfRecords-holds.records more (record_ ∷ []) (second ∷ []) (subst (λ ps. AreRecords ps (record_ ∷ [])) same are) are_too in
-    let one_record : record_ ≡ second = cc in
-    ap Ok (e ∙ ap (λ ps. pairs_of (elements_in ps record_)) same ∙ ap (λ r. pairs_of (elements_in more r)) one_record ∙ sym k)
-HasOne-record_text text (Ok pairs) (Err BadRecord) (pieces, record_, read, are, e) none = absurd (none pieces record_ read are)
-HasOne-record_text text (Err BadRecord) (Ok pairs) none (pieces, record_, read, are, e) = absurd (none pieces record_ read are)
+    let records : own_range ∷ [] ≡ second ∷ [] =
+    OneListOfRecords-holds.records more (own_range ∷ []) (second ∷ []) (subst (λ ps. AreRecords ps (own_range ∷ [])) same are) are_too in
+    let one_record : own_range ≡ second = cc in
+    ap Ok (e ∙ ap (λ ps. pairs_of (elements_in ps own_range)) same ∙ ap (λ r. pairs_of (elements_in more r)) one_record ∙ sym k)
+HasOne-record_text text (Ok pairs) (Err BadRecord) (pieces, own_range, read, are, e) none = absurd (none pieces own_range read are)
+HasOne-record_text text (Err BadRecord) (Ok pairs) none (pieces, own_range, read, are, e) = absurd (none pieces own_range read are)
 HasOne-record_text text (Err BadRecord) (Err BadRecord) none none_too = refl
 HasOne-record_text text (Ok pairs) (Err fault) is is_too = absurd is_too
 HasOne-record_text text (Err BadRecord) (Err fault) is is_too = absurd is_too
@@ -302,8 +300,8 @@ HasOne-pairs : (fresh : NewRecord) → HasOne (ArePairs fresh)
 HasOne-pairs (of_pairs given) = HasOne-same _
 HasOne-pairs (of_text text) = HasOne-record_text text
 
-HasOne-new : (kind : Option (List ℕ)) (fresh : NewRecord) → HasOne (IsNewRecord kind fresh)
-HasOne-new kind fresh = HasOne-Then _ _ (HasOne-pairs fresh) (λ pairs. HasOne-same _)
+HasOne-new : (record_type : Option (List ℕ)) (fresh : NewRecord) → HasOne (IsNewRecord record_type fresh)
+HasOne-new record_type fresh = HasOne-Then _ _ (HasOne-pairs fresh) (λ pairs _. HasOne-same _)
 
 -- ---- automatic fields, of two schemas of one text
 
@@ -311,7 +309,7 @@ AreOne-numbered : (next alike : List ℕ → Result ℤ Fault → Type 0) → ((
     → AreOne (AreNumbered next names) (AreNumbered alike names)
 AreOne-numbered next alike next_one [] = HasOne-same _
 AreOne-numbered next alike next_one (name ∷ names) =
-    AreOne-Then _ _ _ _ (next_one name) (λ number. AreOne-Then _ _ _ _ (AreOne-numbered next alike next_one names) (λ given. HasOne-same _))
+    AreOne-Then _ _ _ _ (next_one name) (λ number _. AreOne-Then _ _ _ _ (AreOne-numbered next alike next_one names) (λ given _. HasOne-same _))
 
 -- the automatic fields of the set at a place, where there is one
 abbrev numbered_at : List Piece → Described → List (List ℕ) → Option ℕ → Result (List Numbered) Fault → Type 0
@@ -328,46 +326,49 @@ module _ (pieces : List Piece) (schema same : Described) (alike : AreSameSchemas
       (automatic_of-same schema same place alike.1)
       (AreOne-numbered (IsAutomatic pieces schema place) (IsAutomatic pieces same place) (λ name one other. one_automatic pieces schema same place name one other alike) _)
 
-  AreOne-automatic : (kind : Option (List ℕ)) (auto : Bool) (names : List (List ℕ)) → AreOne (AreAutomatic pieces schema kind auto names) (AreAutomatic pieces same kind auto names)
-  AreOne-automatic (Some kind) true names =
-      subst (λ sets. AreOne (numbered_at pieces schema names (position (is_of_type kind) schema.sets)) (numbered_at pieces same names (position (is_of_type kind) sets))) alike.0
-      (AreOne-numbered_at names (position (is_of_type kind) schema.sets))
-  AreOne-automatic (Some kind) false names = HasOne-same _
+  AreOne-automatic : (record_type : Option (List ℕ)) (auto : Bool) (names : List (List ℕ)) → AreOne (AreAutomatic pieces schema record_type auto names) (AreAutomatic pieces same record_type auto names)
+  AreOne-automatic (Some record_type) true names =
+      subst (λ sets. AreOne (numbered_at pieces schema names (position (is_of_type record_type) schema.sets)) (numbered_at pieces same names (position (is_of_type record_type) sets))) alike.0
+      (AreOne-numbered_at names (position (is_of_type record_type) schema.sets))
+  AreOne-automatic (Some record_type) false names = HasOne-same _
   AreOne-automatic None auto names = HasOne-same _
 
 module _ (pieces : List Piece) where
   AreOne-filled : (rules other : Rules) → AreSameRules rules other → (numbers : List ℕ → List ℤ) (records : List (Range ℕ)) → AreOne (AreFilled pieces rules numbers records) (AreFilled pieces other numbers records)
   AreOne-filled rules other alike numbers [] = HasOne-same _
-  AreOne-filled rules other alike numbers (record_ ∷ records) =
-      let names : List (List ℕ) = names_of (elements_in pieces record_) in
+  AreOne-filled rules other alike numbers (own_range ∷ records) =
+      let names : List (List ℕ) = names_of (elements_in pieces own_range) in
       let next : List ℕ → Result ℤ Fault → Type 0 = λ name. IsNext rules name (numbers name) in
       let next_too : List ℕ → Result ℤ Fault → Type 0 = λ name. IsNext other name (numbers name) in
       let first : AreOne (AreNumbered next (lacking (automatic_names rules) names)) (AreNumbered next_too (lacking (automatic_names other) names)) =
       subst (λ automatic. AreOne (AreNumbered next (lacking (automatic_names rules) names)) (AreNumbered next_too (lacking (distinct automatic) names))) alike.automatic
       (AreOne-numbered next next_too (λ name one second. one_next rules other name (numbers name) one second (is_counter-same rules other name alike)) _) in
-      AreOne-Then _ _ _ _ first (λ given. AreOne-Then _ _ _ _ (AreOne-filled rules other alike (λ name. numbers_in given name ++ numbers name) records) (λ filled. HasOne-same _))
+      AreOne-Then _ _ _ _ first (λ given _. AreOne-Then _ _ _ _ (AreOne-filled rules other alike (λ name. numbers_in given name ++ numbers name) records) (λ filled _. HasOne-same _))
 
   AreOne-filled_sets : (records : List (Range ℕ)) (sets : List Set_) (rules others : List Rules) → AllZip AreSameRules rules others
       → AreOne (AreFilledSets pieces records sets rules) (AreFilledSets pieces records sets others)
   AreOne-filled_sets records [] [] [] alike = HasOne-same _
   AreOne-filled_sets records (s ∷ sets) (a ∷ rules) (b ∷ others) alike =
-      AreOne-Then _ _ _ _ (AreOne-filled a b alike.0 (readings pieces (members records s)) (members records s)) (λ own.
-      AreOne-Then _ _ _ _ (AreOne-filled_sets records sets rules others alike.1) (λ filled. HasOne-same _))
+      AreOne-Then _ _ _ _ (AreOne-filled a b alike.0 (readings pieces (members records s)) (members records s)) (λ own _.
+      AreOne-Then _ _ _ _ (AreOne-filled_sets records sets rules others alike.1) (λ filled _. HasOne-same _))
   AreOne-filled_sets records sets [] (b ∷ others) alike = absurd alike
   AreOne-filled_sets records sets (a ∷ rules) [] alike = absurd alike
   AreOne-filled_sets records (s ∷ sets) [] [] alike = λ one other is is_too. absurd is
   AreOne-filled_sets records [] (a ∷ rules) (b ∷ others) alike = λ one other is is_too. absurd is
 
   -- what is made of the automatic fields
-  abbrev are_filled : List Set_ → List Rules → List (Range ℕ) → Result Step Fault → Type 0
-  are_filled sets rules records = Then (AreFilledSets pieces records sets rules) (λ filled answer. answer ≡ Ok (step_of pieces (map (λ one. one.range) filled) (filling filled)))
+  abbrev are_filled : List Set_ → List Rules → List (Range ℕ) → Result EditScript Fault → Type 0
+  are_filled sets rules records = Then (AreFilledSets pieces records sets rules) (λ filled answer. answer ≡ Ok (edit_script pieces (map (λ one. one.range) filled) (filling filled)))
 
   AreOne-auto_fill : (sets : List Set_) (rules others : List Rules) → AllZip AreSameRules rules others
       → AreOne (λ answer. (records : List (Range ℕ)) × AreRecords pieces records × are_filled sets rules records answer)
       (λ answer. (records : List (Range ℕ)) × AreRecords pieces records × are_filled sets others records answer)
   AreOne-auto_fill sets rules others alike one other (records, are, is) (more, are_too, is_too) =
       let same : more ≡ records = OneListOfRecords-holds.records pieces more records are_too are in
-      AreOne-Then _ _ _ _ (AreOne-filled_sets records sets rules others alike) (λ filled. HasOne-same _) one other is (subst (λ rs. are_filled sets others rs other) same is_too)
+      let script = λ (filled : List Filled). edit_script pieces (map (λ one. one.range) filled) (filling filled) in
+      AreOne-Then _ _ (λ filled answer. answer ≡ Ok (script filled)) (λ filled answer. answer ≡ Ok (script filled))
+      (AreOne-filled_sets records sets rules others alike) (λ filled _. HasOne-same (Ok (script filled)))
+      one other is (subst (λ rs. are_filled sets others rs other) same is_too)
 
 -- ---- one edit
 
@@ -375,35 +376,35 @@ module _ (pieces : List Piece) where
 abbrev ruled : List Set_ → List Rules → Described
 ruled sets rules = record { sets = sets; rules = rules }
 
-AreOne-step_of : (pieces : List Piece) (sets : List Set_) (rules others : List Rules) (force : Bool) (task : Task) → AllZip AreSameRules rules others
-    → AreOne (IsStep pieces (ruled sets rules) force task) (IsStep pieces (ruled sets others) force task)
-AreOne-step_of pieces sets rules others force (insert kind fresh auto) alike =
-    AreOne-Then _ _ _ _ (HasOne-new kind fresh) (λ pairs.
-    AreOne-Then _ _ _ _ (AreOne-automatic pieces (ruled sets rules) (ruled sets others) (refl, alike) kind auto (map (λ pair. pair.name) pairs)) (λ automatic.
-    HasOne-of_records pieces (λ records. step_of_insert pieces records sets kind (numbered_fields automatic ++ fields_of pairs))))
-AreOne-step_of pieces sets rules others force (replace wanted fresh) alike =
-    HasOne-Then _ _ (HasOne-new None fresh) (λ pairs. HasOne-Then _ _ (HasOne-chosen pieces sets wanted) (λ _. HasOne-same _))
-AreOne-step_of pieces sets rules others force (delete wanted) alike = HasOne-Then _ _ (HasOne-removable pieces sets wanted force) (λ _. HasOne-same _)
-AreOne-step_of pieces sets rules others force (comment_out wanted) alike = HasOne-Then _ _ (HasOne-removable pieces sets wanted force) (λ _. HasOne-same _)
-AreOne-step_of pieces sets rules others force (set wanted list action) alike =
-    HasOne-Then _ _ (HasOne-items action list) (λ items. HasOne-Then _ _ (HasOne-chosen pieces sets wanted) (λ _. HasOne-same _))
-AreOne-step_of pieces sets rules others force auto_fill alike = AreOne-auto_fill pieces sets rules others alike
+AreOne-edit_script : (pieces : List Piece) (sets : List Set_) (rules others : List Rules) (force : Bool) (task : Task) → AllZip AreSameRules rules others
+    → AreOne (IsEditScript pieces (ruled sets rules) force task) (IsEditScript pieces (ruled sets others) force task)
+AreOne-edit_script pieces sets rules others force (insert record_type fresh auto) alike =
+    AreOne-Then _ _ _ _ (HasOne-new record_type fresh) (λ pairs _.
+    AreOne-Then _ _ _ _ (AreOne-automatic pieces (ruled sets rules) (ruled sets others) (refl, alike) record_type auto (map (λ pair. pair.name) pairs)) (λ automatic _.
+    HasOne-of_records pieces (λ records. insert_script pieces records sets record_type (numbered_fields automatic ++ fields_of pairs))))
+AreOne-edit_script pieces sets rules others force (replace wanted fresh) alike =
+    HasOne-Then _ _ (HasOne-new None fresh) (λ pairs _. HasOne-Then _ _ (HasOne-chosen pieces sets wanted) (λ _ _. HasOne-same _))
+AreOne-edit_script pieces sets rules others force (delete wanted) alike = HasOne-Then _ _ (HasOne-removable pieces sets wanted force) (λ _ _. HasOne-same _)
+AreOne-edit_script pieces sets rules others force (comment_out wanted) alike = HasOne-Then _ _ (HasOne-removable pieces sets wanted force) (λ _ _. HasOne-same _)
+AreOne-edit_script pieces sets rules others force (set wanted list action) alike =
+    HasOne-Then _ _ (HasOne-items action list) (λ items _. HasOne-Then _ _ (HasOne-chosen pieces sets wanted) (λ _ _. HasOne-same _))
+AreOne-edit_script pieces sets rules others force auto_fill alike = AreOne-auto_fill pieces sets rules others alike
 
 pub AreOne-step : (pieces : List Piece) (schema same : Described) (force : Bool) (task : Task) → AreSameSchemas (Ok schema) (Ok same)
-    → AreOne (IsStep pieces schema force task) (IsStep pieces same force task)
+    → AreOne (IsEditScript pieces schema force task) (IsEditScript pieces same force task)
 AreOne-step pieces schema same force task (sets, rules) =
-    subst (λ ss. AreOne (IsStep pieces schema force task) (IsStep pieces (ruled ss same.rules) force task)) sets (AreOne-step_of pieces schema.sets schema.rules same.rules force task rules)
+    subst (λ ss. AreOne (IsEditScript pieces schema force task) (IsEditScript pieces (ruled ss same.rules) force task)) sets (AreOne-edit_script pieces schema.sets schema.rules same.rules force task rules)
 
 pub HasOneBut-sound : (force : Bool) (text : List ℕ) → HasOneBut (IsSoundUnlessForced force text)
 HasOneBut-sound true text = HasOneBut-of _ (HasOne-same _)
-HasOneBut-sound false text = HasOneBut-before (AreViolationsOf text) _ (one_check text) (λ found. HasOne-same _)
+HasOneBut-sound false text = HasOneBut-Then (AreViolationsOf text) _ (one_check text) (λ found _. HasOneBut-of _ (HasOne-same _))
 
 -- what follows the step
-abbrev finishing : Bool → Step → Result Edited Fault → Type 0
-finishing force step = Then (IsSoundUnlessForced force (edited_text step.script)) (λ _ answer. answer ≡ Ok (edited_by step))
+abbrev finishing : Bool → EditScript → Result Edited Fault → Type 0
+finishing force edit = Then (IsSoundUnlessForced force (edited_text edit.script)) (λ _ answer. answer ≡ Ok (edited_by edit))
 
 pub one_outcome : OneOutcome
 one_outcome pieces schema same force task one other is is_too outcome outcome_too =
-    HasOneBut-after (IsStep pieces schema force task) (IsStep pieces same force task) (finishing force)
-    (AreOne-step pieces schema same force task (one_schema pieces (Ok schema) (Ok same) is is_too (no_both schema BadPattern) (no_both same BadPattern)))
-    (λ step. HasOneBut-before _ _ (HasOneBut-sound force (edited_text step.script)) (λ _. HasOne-same _)) one other outcome outcome_too
+    AgreeBut-Then (IsEditScript pieces schema force task) (IsEditScript pieces same force task) (finishing force) (finishing force)
+    (AgreeBut-of _ _ (AreOne-step pieces schema same force task (one_schema pieces (Ok schema) (Ok same) is is_too (no_both schema BadPattern) (no_both same BadPattern))))
+    (λ edit _. HasOneBut-Then _ _ (HasOneBut-sound force (edited_text edit.script)) (λ _ _. HasOneBut-of _ (HasOne-same _))) one other outcome outcome_too

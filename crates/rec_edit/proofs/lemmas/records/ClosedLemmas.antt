@@ -19,7 +19,7 @@ use Rattle.rec_text.proofs.lemmas.elements.NameLemmas.{colon_is_within}
 
 -- ---- a field has the same name with and without the newline at its end, and a list of fields picks the same
 
--- ---- the colon stays where it is, whatever stands behind
+-- ---- the colon stays where it is, whatever stands after
 
 found_suc : (o : Option ℕ) (c : ℕ) → option_map suc o ≡ Some c → (k : ℕ) × (o ≡ Some k) × (c ≡ suc k)
 found_suc None c e = absurd (cc)
@@ -59,7 +59,7 @@ field_colon bytes is = colon_there (λ c. is_body (drop (c + 1) bytes)) (colon_o
 named_at : (bytes : List ℕ) (c : ℕ) → colon_of bytes ≡ Some c → name_of (record { kind = Field; bytes = bytes }) ≡ take c bytes
 named_at bytes c at = ap (λ o. option_map_or (λ c. take c bytes) o []) at
 
--- the name, with more behind the field
+-- the name, with more after the field
 name_of-more : (kind : Kind) (bytes more : List ℕ) → IsTrue (is_element kind bytes) → name_of (record { kind = kind; bytes = bytes ++ more }) ≡ name_of (record { kind = kind; bytes = bytes })
 name_of-more Blank bytes more is = refl
 name_of-more Comment bytes more is = refl
@@ -140,10 +140,10 @@ both_true : (a b : Bool) → a && b ≡ true → a ≡ true
 both_true true b e = refl
 both_true false b e = e
 
--- a newline ends a line, where more stands behind it
-more_behind : (before b : ℕ) (bs : List ℕ) → (b == 10 && not (before == 92)) ≡ true → ends_newline (b ∷ bs) ≡ false → SomeLine (logical_lines b bs)
-more_behind before b [] cut shut = absurd (false≢true (sym shut ∙ both_true (b == 10) (not (before == 92)) cut))
-more_behind before b (c ∷ bs) cut shut = some_line b c bs
+-- a newline ends a line, where more stands after it
+more_after : (before b : ℕ) (bs : List ℕ) → (b == 10 && not (before == 92)) ≡ true → ends_newline (b ∷ bs) ≡ false → SomeLine (logical_lines b bs)
+more_after before b [] cut shut = absurd (false≢true (sym shut ∙ both_true (b == 10) (not (before == 92)) cut))
+more_after before b (c ∷ bs) cut shut = some_line b c bs
 
 logical_lines-closing : (before : ℕ) (bs : List ℕ) → ends_newline bs ≡ false → is_dangling before bs ≡ false → logical_lines before (bs ++ 10 ∷ []) ≡ closing (logical_lines before bs)
 logical_lines-closing before [] shut whole = let apart : (before == 92) ≡ false = whole in rw apart refl
@@ -153,7 +153,7 @@ logical_lines-closing before (b ∷ bs) shut whole =
     elim (cases_Bool (b == 10 && not (before == 92))) [
       | inl cut ↦
           ap (λ t. if t then (b ∷ []) ∷ logical_lines b (bs ++ 10 ∷ []) else on_first b (logical_lines b (bs ++ 10 ∷ []))) cut
-          ∙ ap (λ l. (b ∷ []) ∷ l) rest ∙ sym (closing-cons (b ∷ []) (logical_lines b bs) (more_behind before b bs cut shut))
+          ∙ ap (λ l. (b ∷ []) ∷ l) rest ∙ sym (closing-cons (b ∷ []) (logical_lines b bs) (more_after before b bs cut shut))
           ∙ sym (ap (λ t. closing (if t then (b ∷ []) ∷ logical_lines b bs else on_first b (logical_lines b bs))) cut)
       | inr on ↦
           ap (λ t. if t then (b ∷ []) ∷ logical_lines b (bs ++ 10 ∷ []) else on_first b (logical_lines b (bs ++ 10 ∷ []))) on
@@ -202,7 +202,7 @@ logical_lines-shut before (b ∷ bs) shut whole =
     let inner : is_dangling b bs ≡ false = (or_parts (before == 92 && b == 10 && is_nil bs) (is_dangling b bs) whole).1 in
     let rest : EndShut (logical_lines b bs) = logical_lines-shut b bs (open_tail b bs shut) inner in
     elim (cases_Bool (b == 10 && not (before == 92))) [
-      | inl cut ↦ subst (λ t. EndShut (if t then (b ∷ []) ∷ logical_lines b bs else on_first b (logical_lines b bs))) (sym cut) (end_shut-cons (b ∷ []) (logical_lines b bs) (more_behind before b bs cut shut) rest)
+      | inl cut ↦ subst (λ t. EndShut (if t then (b ∷ []) ∷ logical_lines b bs else on_first b (logical_lines b bs))) (sym cut) (end_shut-cons (b ∷ []) (logical_lines b bs) (more_after before b bs cut shut) rest)
       | inr on ↦ subst (λ t. EndShut (if t then (b ∷ []) ∷ logical_lines b bs else on_first b (logical_lines b bs))) (sym on) (on_first-shut b bs shut inner rest)
     ]
 

@@ -13,12 +13,12 @@ use Rattle.rec_text.specs.proving.Scanned.{all_narrowed, runs_to}
 use Rattle.rec_edit.specs.Effect.{from_field, between_fields}
 use Rattle.rec_check.specs.Descriptors.{rec_name, type_of}
 use Rattle.rec_edit.specs.Script.{Layout, closed}
-use Rattle.rec_text.proofs.lemmas.ListLemmas.{AllByRecursion-weaker, slice_get-drop, slice_get-take, AllByRecursion-push}
+use Rattle.rec_text.proofs.lemmas.ListLemmas.{AllByRecursion-weaker, slice_get-drop, slice_get-take, AllByRecursion-push, AllByRecursion-append}
 use Rattle.rec_text.proofs.lemmas.records.RangeLemmas.{LiesIn-cases, LiesIn-low, LiesIn-nil}
 use Rattle.rec_text.proofs.lemmas.records.RecordLemmas.{AreRecords-all_narrowed, field_is_full}
 use Rattle.rec_text.proofs.lemmas.records.RunLemmas.{AreRuns-runs_to}
-use Rattle.rec_edit.proofs.lemmas.records.EntryLemmas.{kept, up_to_field, between_fields-up_to, Spaced, closes, with_own, own_of, own_of-Spaced, IsTurned, AreTurned, from_field-map, up_to_field-map, type_of-none, between_fields-fails}
-use Rattle.rec_edit.proofs.lemmas.scripts.LaidLemmas.{laid_from, laid_from-append, closed-blank, closed-field, all_append}
+use Rattle.rec_edit.proofs.lemmas.records.TypedRecordLemmas.{kept, up_to_field, between_fields-up_to, Spaced, closes, with_own, own_of, own_of-Spaced, IsTurned, AreTurned, from_field-map, up_to_field-map, type_of-none, between_fields-fails}
+use Rattle.rec_edit.proofs.lemmas.scripts.LaidLemmas.{laid_from, laid_from-append, closed-blank, closed-field}
 
 -- ---- a text, cut at its records: what stands between them, by index
 
@@ -106,12 +106,12 @@ module _ (pieces : List Piece) where
   own_is : (r : Range ℕ) → IsRecord pieces r → r.end ≤ length pieces → IsOwn (elements_in pieces r)
   own_is r is within =
       let size : length (elements_in pieces r) ≡ r.end - r.start = length-part pieces r.start r.end (omega (arith, is.some)) within in
-      let front : r.start + 0 ≡ r.start = omega arith in
+      let prefix : r.start + 0 ≡ r.start = omega arith in
       let back : r.start + (length (elements_in pieces r) - 1) ≡ r.end - 1 = omega (arith, is.some) in
       record {
         some = omega (arith, is.some);
         first = begins_field (elements_in pieces r) (omega (arith, is.some))
-            (passes_at-part is_field_piece pieces r.start r.end 0 (omega (arith, is.some)) ∙ ap (is_field_at pieces) front ∙ is.first);
+            (passes_at-part is_field_piece pieces r.start r.end 0 (omega (arith, is.some)) ∙ ap (is_field_at pieces) prefix ∙ is.first);
         last = ends_field (elements_in pieces r) (omega (arith, is.some))
             (passes_at-part is_field_piece pieces r.start r.end (length (elements_in pieces r) - 1) (omega (arith, is.some)) ∙ ap (is_field_at pieces) back ∙ is.last);
         full = none_passes is_blank_piece (elements_in pieces r) (λ i below.
@@ -140,8 +140,8 @@ module _ (pieces : List Piece) where
     ]
   ]
 
-  no_field_behind : (n : ℕ) → ((i : ℕ) → n ≤ i → is_field_at pieces i ≡ true → LiesIn [] i) → list_any is_field_piece (drop n pieces) ≡ false
-  no_field_behind n complete =
+  no_field_past : (n : ℕ) → ((i : ℕ) → n ≤ i → is_field_at pieces i ≡ true → LiesIn [] i) → list_any is_field_piece (drop n pieces) ≡ false
+  no_field_past n complete =
       none_passes is_field_piece (drop n pieces) (λ i below. passes_at-drop is_field_piece pieces n i ∙ elim (cases_Bool (is_field_at pieces (n + i))) [
         | inl field ↦ absurd (LiesIn-nil (n + i) (complete (n + i) (omega arith) field))
         | inr other ↦ other
@@ -162,7 +162,7 @@ module _ (pieces : List Piece) where
 
   cut_from : (apart : Bool) (n : ℕ) (records : List (Range ℕ)) → AllByRecursion (IsRecord pieces) records → AreAscending n records
       → ((i : ℕ) → n ≤ i → is_field_at pieces i ≡ true → LiesIn records i) → (apart ≡ true → (b : ℕ) × IsBorder n b) → Cut apart n records
-  cut_from apart n [] each ascending complete border = no_field_behind n complete
+  cut_from apart n [] each ascending complete border = no_field_past n complete
   cut_from apart n (r ∷ records) each ascending complete border =
       let is = each.0 in
       let within : r.end ≤ length pieces = omega (arith, is.high, is.is_paragraph.within) in (
@@ -177,7 +177,7 @@ module _ (pieces : List Piece) where
               | inl here ↦ absurd (omega (arith, here.1))
               | inr there ↦ there
             ])
-            (λ needed. (is.paragraph.end, record { low = is.high; none = is.behind; ends = is.is_paragraph.ends })),
+            (λ needed. (is.paragraph.end, record { low = is.high; none = is.following; ends = is.is_paragraph.ends })),
       )
 
   pub Cut-AreRecords : (records : List (Range ℕ)) → AreRecords pieces records → Cut false 0 records
@@ -216,11 +216,11 @@ module _ (pieces : List Piece) where
       let paragraphs = runs_to (is_full_at pieces) (length pieces) 0 in
       (all_narrowed (is_field_at pieces) paragraphs, AreRecords-all_narrowed pieces paragraphs (AreRuns-runs_to (is_full_at pieces) (length pieces)))
 
--- ---- a layout, record by record: what stands in the place of each of them, and what between them
+-- ---- a layout, record by record: what stands instead of each of them, and what between them
 
 -- ---- stretches that stay
 
--- the element of an index stays, and nothing is put behind it
+-- the element of an index stays, and nothing is put after it
 pub record KeepsAt (layout : Layout) (i : ℕ) : Type 0 where
   pub stays : (piece : Piece) → layout.becomes i piece ≡ piece ∷ []
   pub alone : layout.put (i + 1) ≡ []
@@ -248,11 +248,11 @@ closed-own own is = record {
 -- ---- what fits
 
 module _ (pieces : List Piece) (layout : Layout) (selected : List ℕ) (made : List Piece → List Piece) where
-  -- what is laid in the place of a record
+  -- what is laid instead of a record
   abbrev pub laid_at : Range ℕ → List Piece
   laid_at r = laid_from layout r.start (elements_in pieces r)
 
-  -- what is laid in the place of the record of this index
+  -- what is laid instead of the record of this index
   pub record IsLaid (i : ℕ) (own laid : List Piece) : Type 0 where
     pub full : list_any is_blank_piece laid ≡ false
     pub stays : list_any (λ k. k == i) selected ≡ false → laid ≡ map closed own
@@ -260,7 +260,7 @@ module _ (pieces : List Piece) (layout : Layout) (selected : List ℕ) (made : L
     pub still : list_any (λ k. k == i) selected ≡ true → list_any (has_name rec_name) laid ≡ false
 
   -- What is laid from an element on, in which these are the records, the first of this index among all. No field is laid between
-  -- records. A blank element is, except behind one of which nothing is left; before the first where `apart` says so.
+  -- records. A blank element is, except after one of which nothing is left; before the first where `apart` says so.
   abbrev pub Fits : Bool → ℕ → ℕ → List (Range ℕ) → Type 0
   Fits apart n i [] = list_any is_field_piece (laid_from layout n (drop n pieces)) ≡ false
   Fits apart n i (r ∷ records) = (later : Bool) × (list_any is_field_piece (laid_from layout n (drop n (take r.start pieces))) ≡ false)
@@ -350,9 +350,9 @@ pub all_fine : (pieces : List Piece) → AllByRecursion (λ piece. Unit {0}) pie
 all_fine [] = tt
 all_fine (piece ∷ pieces) = (tt, all_fine pieces)
 
--- ---- records before and behind an index
+-- ---- records before and after an index
 
--- a record that ends here or before, one that begins here or behind
+-- a record that ends here or before, one that begins here or after
 abbrev pub EndsBy : ℕ → Range ℕ → Type 0
 EndsBy n q = (q.start < q.end) × (q.end ≤ n)
 
@@ -371,42 +371,42 @@ all_begin pieces apart n (r ∷ records) (low, some, within, none, between, own,
 pub all_end : (n m : ℕ) (records : List (Range ℕ)) → n ≤ m → AllByRecursion (EndsBy n) records → AllByRecursion (EndsBy m) records
 all_end n m records le all = AllByRecursion-weaker (EndsBy n) (EndsBy m) (λ q ends. (ends.0, omega (arith, ends.0, ends.1))) records all
 
-left_out : (i n m : ℕ) (before behind : List (Range ℕ)) → n ≤ i → i < m → AllByRecursion (EndsBy n) before → AllByRecursion (BeginsFrom m) behind → AllByRecursion (LeavesOut i) (before ++ behind)
-left_out i n m before behind low high ended begun =
-    all_append (LeavesOut i) before behind
+left_out : (i n m : ℕ) (before following : List (Range ℕ)) → n ≤ i → i < m → AllByRecursion (EndsBy n) before → AllByRecursion (BeginsFrom m) following → AllByRecursion (LeavesOut i) (before ++ following)
+left_out i n m before following low high ended begun =
+    AllByRecursion-append (LeavesOut i) before following
     (AllByRecursion-weaker (EndsBy n) (LeavesOut i) (λ q ends. (ends.0, inr (omega (arith, ends.1)))) before ended)
-    (AllByRecursion-weaker (BeginsFrom m) (LeavesOut i) (λ q begins. (begins.0, inl (omega (arith, begins.1)))) behind begun)
+    (AllByRecursion-weaker (BeginsFrom m) (LeavesOut i) (λ q begins. (begins.0, inl (omega (arith, begins.1)))) following begun)
 
 -- ---- the walk
 
 module _ (pieces : List Piece) (layout : Layout) (selected : List ℕ) (made : List Piece → List Piece) (records : List (Range ℕ)) where
-  -- the records before this one, and those behind it
-  pub record StandsBetween (before : List (Range ℕ)) (r : Range ℕ) (behind : List (Range ℕ)) : Type 0 where
-    pub parts : records ≡ before ++ r ∷ behind
+  -- the records before this one, and those after it
+  pub record StandsBetween (before : List (Range ℕ)) (r : Range ℕ) (following : List (Range ℕ)) : Type 0 where
+    pub parts : records ≡ before ++ r ∷ following
     pub some : r.start < r.end
     pub within : r.end ≤ length pieces
     pub ended : AllByRecursion (EndsBy r.start) before
-    pub begun : AllByRecursion (BeginsFrom r.end) behind
+    pub begun : AllByRecursion (BeginsFrom r.end) following
     pub own : IsOwn (elements_in pieces r)
 
   -- Elements stay outside of the records and in those that aren't selected.
   pub record IsInner : Type 0 where
     pub outside : (i : ℕ) → AllByRecursion (LeavesOut i) records → KeepsAt layout i
-    pub unchosen : (before : List (Range ℕ)) (r : Range ℕ) (behind : List (Range ℕ)) → StandsBetween before r behind → list_any (λ k. k == length before) selected ≡ false
+    pub unchosen : (before : List (Range ℕ)) (r : Range ℕ) (following : List (Range ℕ)) → StandsBetween before r following → list_any (λ k. k == length before) selected ≡ false
         → (i : ℕ) → r.start ≤ i → i < r.end → KeepsAt layout i
-    pub full : (before : List (Range ℕ)) (r : Range ℕ) (behind : List (Range ℕ)) → StandsBetween before r behind → list_any (λ k. k == length before) selected ≡ true
+    pub full : (before : List (Range ℕ)) (r : Range ℕ) (following : List (Range ℕ)) → StandsBetween before r following → list_any (λ k. k == length before) selected ≡ true
         → list_any is_blank_piece (laid_at pieces layout selected made r) ≡ false
-    pub changes : (before : List (Range ℕ)) (r : Range ℕ) (behind : List (Range ℕ)) → StandsBetween before r behind → list_any (λ k. k == length before) selected ≡ true
+    pub changes : (before : List (Range ℕ)) (r : Range ℕ) (following : List (Range ℕ)) → StandsBetween before r following → list_any (λ k. k == length before) selected ≡ true
         → between_fields (laid_at pieces layout selected made r) ≡ between_fields (made (map closed (elements_in pieces r)))
-    pub still : (before : List (Range ℕ)) (r : Range ℕ) (behind : List (Range ℕ)) → StandsBetween before r behind → list_any (λ k. k == length before) selected ≡ true
+    pub still : (before : List (Range ℕ)) (r : Range ℕ) (following : List (Range ℕ)) → StandsBetween before r following → list_any (λ k. k == length before) selected ≡ true
         → list_any (has_name rec_name) (laid_at pieces layout selected made r) ≡ false
 
   module _ (inner : IsInner) where
-    gap_stays : (n m : ℕ) (before behind : List (Range ℕ)) → records ≡ before ++ behind → n ≤ m → m ≤ length pieces → AllByRecursion (EndsBy n) before → AllByRecursion (BeginsFrom m) behind
+    gap_stays : (n m : ℕ) (before following : List (Range ℕ)) → records ≡ before ++ following → n ≤ m → m ≤ length pieces → AllByRecursion (EndsBy n) before → AllByRecursion (BeginsFrom m) following
         → laid_from layout n (drop n (take m pieces)) ≡ map closed (drop n (take m pieces))
-    gap_stays n m before behind parts low within ended begun =
+    gap_stays n m before following parts low within ended begun =
         laid_from-kept layout n (drop n (take m pieces)) (λ k above below.
-        inner.outside k (subst (AllByRecursion (LeavesOut k)) (sym parts) (left_out k n m before behind above (omega (arith, length-part pieces n m low within)) ended begun)))
+        inner.outside k (subst (AllByRecursion (LeavesOut k)) (sym parts) (left_out k n m before following above (omega (arith, length-part pieces n m low within)) ended begun)))
 
     rest_stays : (n : ℕ) (before : List (Range ℕ)) → records ≡ before → AllByRecursion (EndsBy n) before → laid_from layout n (drop n pieces) ≡ map closed (drop n pieces)
     rest_stays n before parts ended =
@@ -414,41 +414,41 @@ module _ (pieces : List Piece) (layout : Layout) (selected : List ℕ) (made : L
         inner.outside k (subst (AllByRecursion (LeavesOut k)) (sym parts)
         (AllByRecursion-weaker (EndsBy n) (LeavesOut k) (λ q ends. (ends.0, inr (omega (arith, ends.1)))) before ended)))
 
-    laid_so : (before : List (Range ℕ)) (r : Range ℕ) (behind : List (Range ℕ)) → StandsBetween before r behind → IsLaid pieces layout selected made (length before) (elements_in pieces r) (laid_at pieces layout selected made r)
-    laid_so before r behind stands =
+    laid_so : (before : List (Range ℕ)) (r : Range ℕ) (following : List (Range ℕ)) → StandsBetween before r following → IsLaid pieces layout selected made (length before) (elements_in pieces r) (laid_at pieces layout selected made r)
+    laid_so before r following stands =
         let stays : list_any (λ k. k == length before) selected ≡ false → laid_at pieces layout selected made r ≡ map closed (elements_in pieces r) = λ leaves.
         laid_from-kept layout r.start (elements_in pieces r) (λ k low high.
-        inner.unchosen before r behind stands leaves k low (omega (arith, length-part pieces r.start r.end (omega (arith, stands.some)) stands.within, stands.some))) in
+        inner.unchosen before r following stands leaves k low (omega (arith, length-part pieces r.start r.end (omega (arith, stands.some)) stands.within, stands.some))) in
         record {
           full = elim (cases_Bool (list_any (λ k. k == length before) selected)) [
-            | inl takes ↦ inner.full before r behind stands takes
+            | inl takes ↦ inner.full before r following stands takes
             | inr leaves ↦ ap (list_any is_blank_piece) (stays leaves) ∙ list_any-closed is_blank_piece closed-blank (elements_in pieces r) ∙ stands.own.full
           ];
           stays = stays;
-          changes = inner.changes before r behind stands;
-          still = inner.still before r behind stands;
+          changes = inner.changes before r following stands;
+          still = inner.still before r following stands;
         }
 
-    inner_fits : (apart : Bool) (n : ℕ) (before behind : List (Range ℕ)) → records ≡ before ++ behind → AllByRecursion (EndsBy n) before → Cut pieces apart n behind
-        → Fits pieces layout selected made apart n (length before) behind
+    inner_fits : (apart : Bool) (n : ℕ) (before following : List (Range ℕ)) → records ≡ before ++ following → AllByRecursion (EndsBy n) before → Cut pieces apart n following
+        → Fits pieces layout selected made apart n (length before) following
     inner_fits apart n before [] parts ended cut =
         ap (list_any is_field_piece) (rest_stays n before (parts ∙ append-nil before) ended) ∙ list_any-closed is_field_piece closed-field (drop n pieces) ∙ cut
-    inner_fits apart n before (r ∷ behind) parts ended (low, some, within, none, between, own, more) =
-        let begun : AllByRecursion (BeginsFrom r.end) behind = all_begin pieces true r.end behind more in
-        let stands : StandsBetween before r behind =
+    inner_fits apart n before (r ∷ following) parts ended (low, some, within, none, between, own, more) =
+        let begun : AllByRecursion (BeginsFrom r.end) following = all_begin pieces true r.end following more in
+        let stands : StandsBetween before r following =
         record { parts = parts; some = some; within = within; ended = all_end n r.start before low ended; begun = begun; own = own } in
-        let all_behind : AllByRecursion (BeginsFrom r.start) (r ∷ behind) =
-        ((some, omega arith), AllByRecursion-weaker (BeginsFrom r.end) (BeginsFrom r.start) (λ q begins. (begins.0, omega (arith, begins.1))) behind begun) in
-        let gap = gap_stays n r.start before (r ∷ behind) parts low (omega arith) ended all_behind in
-        let moved : records ≡ (before ++ r ∷ []) ++ behind = parts ∙ sym (append_assoc before (r ∷ []) behind) in
+        let all_following : AllByRecursion (BeginsFrom r.start) (r ∷ following) =
+        ((some, omega arith), AllByRecursion-weaker (BeginsFrom r.end) (BeginsFrom r.start) (λ q begins. (begins.0, omega (arith, begins.1))) following begun) in
+        let gap = gap_stays n r.start before (r ∷ following) parts low (omega arith) ended all_following in
+        let moved : records ≡ (before ++ r ∷ []) ++ following = parts ∙ sym (append_assoc before (r ∷ []) following) in
         let count : length (before ++ r ∷ []) ≡ length before + 1 = length_push before r in (
           true,
           ap (list_any is_field_piece) gap ∙ list_any-closed is_field_piece closed-field (drop n (take r.start pieces)) ∙ none,
           λ needed. ap (list_any is_blank_piece) gap ∙ list_any-closed is_blank_piece closed-blank (drop n (take r.start pieces)) ∙ between needed,
-          laid_so before r behind stands,
+          laid_so before r following stands,
           λ gone. absurd (false≢true (sym gone)),
-          subst (λ m. Fits pieces layout selected made true r.end m behind) count
-              (inner_fits true r.end (before ++ r ∷ []) behind moved
+          subst (λ m. Fits pieces layout selected made true r.end m following) count
+              (inner_fits true r.end (before ++ r ∷ []) following moved
               (AllByRecursion-push (EndsBy r.end) before r (all_end n r.end before (omega arith) ended) (some, omega arith)) more),
         )
 

@@ -57,20 +57,20 @@ module _ {X : Type 0} (test : X → Bool) where
   fails_at (x ∷ xs) zero all = all.0
   fails_at (x ∷ xs) (suc k) all = fails_at xs k all.1
 
-  passes_here : (before : List X) (x : X) (behind : List X) (k : ℕ) → AllByRecursion (λ y. test y ≡ false) before → AllByRecursion (λ y. test y ≡ false) behind
-      → option_map_or test (slice_get (before ++ x ∷ behind) k) false ≡ (k == length before && test x)
-  passes_here [] x behind zero early late = refl
-  passes_here [] x behind (suc k) early late = fails_at behind k late ∙ sym (ap (λ b. b && test x) (suc_zero k))
-  passes_here (y ∷ before) x behind zero early late = early.0 ∙ sym (ap (λ b. b && test x) (zero_suc (length before)))
-  passes_here (y ∷ before) x behind (suc k) early late = passes_here before x behind k early.1 late ∙ sym (ap (λ b. b && test x) (suc_suc k (length before)))
+  passes_here : (before : List X) (x : X) (following : List X) (k : ℕ) → AllByRecursion (λ y. test y ≡ false) before → AllByRecursion (λ y. test y ≡ false) following
+      → option_map_or test (slice_get (before ++ x ∷ following) k) false ≡ (k == length before && test x)
+  passes_here [] x following zero early late = refl
+  passes_here [] x following (suc k) early late = fails_at following k late ∙ sym (ap (λ b. b && test x) (suc_zero k))
+  passes_here (y ∷ before) x following zero early late = early.0 ∙ sym (ap (λ b. b && test x) (zero_suc (length before)))
+  passes_here (y ∷ before) x following (suc k) early late = passes_here before x following k early.1 late ∙ sym (ap (λ b. b && test x) (suc_suc k (length before)))
 
   -- one of the items at these indexes passes, where at most this one does
-  pub any_chosen : (selected : List ℕ) (before : List X) (x : X) (behind : List X) → AllByRecursion (λ y. test y ≡ false) before → AllByRecursion (λ y. test y ≡ false) behind
-      → list_any test (filter_map (slice_get (before ++ x ∷ behind)) selected) ≡ (list_any (λ k. k == length before) selected && test x)
-  any_chosen [] before x behind early late = refl
-  any_chosen (k ∷ selected) before x behind early late =
-      list_any-cons_option test (slice_get (before ++ x ∷ behind) k) (filter_map (slice_get (before ++ x ∷ behind)) selected)
-      ∙ ap₂ (λ a b. a || b) (passes_here before x behind k early late) (any_chosen selected before x behind early late)
+  pub any_chosen : (selected : List ℕ) (before : List X) (x : X) (following : List X) → AllByRecursion (λ y. test y ≡ false) before → AllByRecursion (λ y. test y ≡ false) following
+      → list_any test (filter_map (slice_get (before ++ x ∷ following)) selected) ≡ (list_any (λ k. k == length before) selected && test x)
+  any_chosen [] before x following early late = refl
+  any_chosen (k ∷ selected) before x following early late =
+      list_any-cons_option test (slice_get (before ++ x ∷ following) k) (filter_map (slice_get (before ++ x ∷ following)) selected)
+      ∙ ap₂ (λ a b. a || b) (passes_here before x following k early late) (any_chosen selected before x following early late)
       ∙ and_or (k == length before) (list_any (λ k. k == length before) selected) (test x)
 
   pub none_chosen : (selected : List ℕ) (xs : List X) → AllByRecursion (λ y. test y ≡ false) xs → list_any test (filter_map (slice_get xs) selected) ≡ false
@@ -94,22 +94,22 @@ module _ {X Y : Type 0} (f : X → List Y) where
   nothing_at (x ∷ xs) zero all = all.0
   nothing_at (x ∷ xs) (suc k) all = nothing_at xs k all.1
 
-  gives_here : (before : List X) (x : X) (behind : List X) (k : ℕ) → AllByRecursion (λ y. f y ≡ []) before → AllByRecursion (λ y. f y ≡ []) behind
-      → option_map_or f (slice_get (before ++ x ∷ behind) k) [] ≡ (if k == length before then f x else [])
-  gives_here [] x behind zero early late = refl
-  gives_here [] x behind (suc k) early late = nothing_at behind k late ∙ sym (ap (λ b. if b then f x else []) (suc_zero k))
-  gives_here (y ∷ before) x behind zero early late = early.0 ∙ sym (ap (λ b. if b then f x else []) (zero_suc (length before)))
-  gives_here (y ∷ before) x behind (suc k) early late = gives_here before x behind k early.1 late ∙ sym (ap (λ b. if b then f x else []) (suc_suc k (length before)))
+  gives_here : (before : List X) (x : X) (following : List X) (k : ℕ) → AllByRecursion (λ y. f y ≡ []) before → AllByRecursion (λ y. f y ≡ []) following
+      → option_map_or f (slice_get (before ++ x ∷ following) k) [] ≡ (if k == length before then f x else [])
+  gives_here [] x following zero early late = refl
+  gives_here [] x following (suc k) early late = nothing_at following k late ∙ sym (ap (λ b. if b then f x else []) (suc_zero k))
+  gives_here (y ∷ before) x following zero early late = early.0 ∙ sym (ap (λ b. if b then f x else []) (zero_suc (length before)))
+  gives_here (y ∷ before) x following (suc k) early late = gives_here before x following k early.1 late ∙ sym (ap (λ b. if b then f x else []) (suc_suc k (length before)))
 
   -- what the items at these indexes give, where at most this one gives anything
-  pub given_by_chosen : (selected : List ℕ) (before : List X) (x : X) (behind : List X) → AllByRecursion (λ y. f y ≡ []) before → AllByRecursion (λ y. f y ≡ []) behind → AreOnce selected
-      → flat_map f (filter_map (slice_get (before ++ x ∷ behind)) selected) ≡ (if list_any (λ k. k == length before) selected then f x else [])
-  given_by_chosen [] before x behind early late once = refl
-  given_by_chosen (k ∷ selected) before x behind early late once =
-      let all : List X = before ++ x ∷ behind in
-      let more : flat_map f (filter_map (slice_get all) selected) ≡ (if list_any (λ k. k == length before) selected then f x else []) = given_by_chosen selected before x behind early late once.1 in
+  pub given_by_chosen : (selected : List ℕ) (before : List X) (x : X) (following : List X) → AllByRecursion (λ y. f y ≡ []) before → AllByRecursion (λ y. f y ≡ []) following → AreOnce selected
+      → flat_map f (filter_map (slice_get (before ++ x ∷ following)) selected) ≡ (if list_any (λ k. k == length before) selected then f x else [])
+  given_by_chosen [] before x following early late once = refl
+  given_by_chosen (k ∷ selected) before x following early late once =
+      let all : List X = before ++ x ∷ following in
+      let more : flat_map f (filter_map (slice_get all) selected) ≡ (if list_any (λ k. k == length before) selected then f x else []) = given_by_chosen selected before x following early late once.1 in
       flat_map-cons_option f (slice_get all k) (filter_map (slice_get all) selected)
-      ∙ ap₂ (λ a b. a ++ b) (gives_here before x behind k early late) more
+      ∙ ap₂ (λ a b. a ++ b) (gives_here before x following k early late) more
       ∙ at_most_once (k == length before) (list_any (λ k. k == length before) selected) (f x) (λ here.
       (let same : k ≡ length before = eqb-true k (length before) here in subst (λ n. list_any (λ j. j == n) selected ≡ false) same once.0))
 
@@ -131,8 +131,8 @@ AreOnce-ascending (k ∷ ks) ascending =
 
 -- ---- indexes in ranges
 
-pub holds_index-behind : (i : ℕ) (r : Range ℕ) → r.end ≤ i → holds_index i r ≡ false
-holds_index-behind i r past = and_right _ _ (le-ltb i r.end past)
+pub holds_index-following : (i : ℕ) (r : Range ℕ) → r.end ≤ i → holds_index i r ≡ false
+holds_index-following i r past = and_right _ _ (le-ltb i r.end past)
 
 pub holds_index-before : (i : ℕ) (r : Range ℕ) → i < r.start → holds_index i r ≡ false
 holds_index-before i r early = and_left _ _ (lt-leb r.start i early)
@@ -175,7 +175,7 @@ increasing-pairs size least (index ∷ rest) low pairs below = (
 abbrev IsWithin : ℕ → Range ℕ → Type 0
 IsWithin size range = (range.start < range.end) × (range.end ≤ size)
 
--- behind the one of an index stand later ones, and it stands behind those before
+-- after the one of an index stand later ones, and it stands after those before
 ascending-at : (size least : ℕ) (ranges : List (Range ℕ)) (k index : ℕ) (range : Range ℕ) → AllByRecursion (IsWithin size) ranges → AreAscending least (drop k ranges)
     → k ≤ index → slice_get ranges index ≡ Some range → (least ≤ range.start) × AreAscending range.end (drop (suc index) ranges)
 ascending-at size least [] k index range each ascending later at = absurd (let none : ◌≡◌ {A = Option (Range ℕ)} None (Some range) = at in cc)
@@ -198,10 +198,10 @@ AreAscending-chosen size least k ranges [] each ascending increasing = tt
 AreAscending-chosen size least k ranges (index ∷ rest) each ascending increasing =
     let range = get_or ranges index no_range in
     let at = slice_get-get_or ranges index no_range increasing.1 in
-    let behind = ascending-at size least ranges k index range each ascending increasing.0 at in
-    let next : AreAscending range.end (drop (index + 1) ranges) = subst (λ n. AreAscending range.end (drop n ranges)) (let e : suc index ≡ index + 1 = omega arith in e) behind.1 in
+    let following = ascending-at size least ranges k index range each ascending increasing.0 at in
+    let next : AreAscending range.end (drop (index + 1) ranges) = subst (λ n. AreAscending range.end (drop n ranges)) (let e : suc index ≡ index + 1 = omega arith in e) following.1 in
     subst (λ o. AreAscending least (cons_option o (filter_map (slice_get ranges) rest))) (sym at)
-    (behind.0, AreAscending-chosen size range.end (index + 1) ranges rest each next increasing.2)
+    (following.0, AreAscending-chosen size range.end (index + 1) ranges rest each next increasing.2)
 
 each-chosen : (size : ℕ) (ranges : List (Range ℕ)) (selected : List ℕ) → AllByRecursion (IsWithin size) ranges → AllByRecursion (λ i. i < length ranges) selected
     → AllByRecursion (IsWithin size) (filter_map (slice_get ranges) selected)
@@ -247,10 +247,10 @@ Named = Option (List ℕ)
 abbrev pub nothing : Named
 nothing = None
 
-slice_get-behind : {X : Type 0} (front xs : List X) (i j : ℕ) → i ≡ length front + j → slice_get (front ++ xs) i ≡ slice_get xs j
-slice_get-behind [] xs i j e = ap (slice_get xs) (let same : i ≡ j = omega (arith, e) in same)
-slice_get-behind (x ∷ front) xs zero j e = absurd (omega (arith, e))
-slice_get-behind (x ∷ front) xs (suc i) j e = slice_get-behind front xs i j (omega (arith, e))
+slice_get-following : {X : Type 0} (prefix xs : List X) (i j : ℕ) → i ≡ length prefix + j → slice_get (prefix ++ xs) i ≡ slice_get xs j
+slice_get-following [] xs i j e = ap (slice_get xs) (let same : i ≡ j = omega (arith, e) in same)
+slice_get-following (x ∷ prefix) xs zero j e = absurd (omega (arith, e))
+slice_get-following (x ∷ prefix) xs (suc i) j e = slice_get-following prefix xs i j (omega (arith, e))
 
 replicate_at : (n j : ℕ) (more : List Named) → j < n → slice_get (replicate n nothing ++ more) j ≡ Some nothing
 replicate_at zero j more below = absurd (omega arith)
@@ -261,28 +261,28 @@ replicate_at (suc n) (suc j) more below = replicate_at n j more (omega arith)
 abbrev pub NameNothing : List Named → Range ℕ → Type 0
 NameNothing types members = (i : ℕ) → members.start ≤ i → i < members.end → slice_get types i ≡ Some nothing
 
-members_plain : (front more types : List Named) (kind : Named) (head : Option ℕ) (members : Range ℕ) → BeginsAt (length front) (record { kind = kind; head = head; members = members })
-    → types ≡ front ++ (named_in (record { kind = kind; head = head; members = members }) ++ more) → NameNothing types members
-members_plain front more types None head members begins joined i low high =
+members_plain : (prefix more types : List Named) (record_type : Named) (head : Option ℕ) (members : Range ℕ) → BeginsAt (length prefix) (record { kind = record_type; head = head; members = members })
+    → types ≡ prefix ++ (named_in (record { kind = record_type; head = head; members = members }) ++ more) → NameNothing types members
+members_plain prefix more types None head members begins joined i low high =
     ap (λ ts. slice_get ts i) joined
-    ∙ slice_get-behind front (replicate (members.end - members.start) nothing ++ more) i (i - members.start) (omega (arith, begins.1.1))
+    ∙ slice_get-following prefix (replicate (members.end - members.start) nothing ++ more) i (i - members.start) (omega (arith, begins.1.1))
     ∙ replicate_at (members.end - members.start) (i - members.start) more (omega arith)
-members_plain front more types (Some kind) head members begins joined i low high =
+members_plain prefix more types (Some record_type) head members begins joined i low high =
     ap (λ ts. slice_get ts i) joined
-    ∙ slice_get-behind front (Some kind ∷ replicate (members.end - members.start) nothing ++ more) i (suc (i - members.start)) (omega (arith, begins.1.1))
+    ∙ slice_get-following prefix (Some record_type ∷ replicate (members.end - members.start) nothing ++ more) i (suc (i - members.start)) (omega (arith, begins.1.1))
     ∙ replicate_at (members.end - members.start) (i - members.start) more (omega arith)
 
-pub end_of : (at : ℕ) (kind : Named) (head : Option ℕ) (members : Range ℕ) → BeginsAt at (record { kind = kind; head = head; members = members })
-    → members.end ≡ at + length (named_in (record { kind = kind; head = head; members = members }))
+pub end_of : (at : ℕ) (record_type : Named) (head : Option ℕ) (members : Range ℕ) → BeginsAt at (record { kind = record_type; head = head; members = members })
+    → members.end ≡ at + length (named_in (record { kind = record_type; head = head; members = members }))
 end_of at None head members begins = omega (arith, begins.0, begins.1.1, length-replicate (members.end - members.start) nothing)
-end_of at (Some kind) head members begins = omega (arith, begins.0, begins.1.1, length-replicate (members.end - members.start) nothing)
+end_of at (Some record_type) head members begins = omega (arith, begins.0, begins.1.1, length-replicate (members.end - members.start) nothing)
 
-pub all_plain : (front types : List Named) (sets : List Set_) → AreFrom (length front) sets → types ≡ front ++ flat_map named_in sets → AllByRecursion (λ s. NameNothing types s.members) sets
-all_plain front types [] from joined = tt
-all_plain front types (s ∷ sets) from joined =
-    let end : s.members.end ≡ length (front ++ named_in s) = end_of (length front) s.kind s.head s.members from.0 ∙ sym (length-append front (named_in s)) in (
-      members_plain front (flat_map named_in sets) types s.kind s.head s.members from.0 joined,
-      all_plain (front ++ named_in s) types sets (subst (λ n. AreFrom n sets) end from.1) (joined ∙ sym (append_assoc front (named_in s) (flat_map named_in sets))),
+pub all_plain : (prefix types : List Named) (sets : List Set_) → AreFrom (length prefix) sets → types ≡ prefix ++ flat_map named_in sets → AllByRecursion (λ s. NameNothing types s.members) sets
+all_plain prefix types [] from joined = tt
+all_plain prefix types (s ∷ sets) from joined =
+    let end : s.members.end ≡ length (prefix ++ named_in s) = end_of (length prefix) s.kind s.head s.members from.0 ∙ sym (length-append prefix (named_in s)) in (
+      members_plain prefix (flat_map named_in sets) types s.kind s.head s.members from.0 joined,
+      all_plain (prefix ++ named_in s) types sets (subst (λ n. AreFrom n sets) end from.1) (joined ∙ sym (append_assoc prefix (named_in s) (flat_map named_in sets))),
     )
 
 -- ---- the selection
@@ -312,60 +312,60 @@ none_named selected i (named ∷ types) plain =
           plain (suc j) (omega arith) (ap (λ n. list_any (λ k. k == n) selected) there ∙ takes)),
     )
 
-pub selected_plain : (pieces : List Piece) (schema : Described) (kind : Option (List ℕ)) (wanted : Filter) (selected : List ℕ) (records : List (Range ℕ)) → IsDescribed pieces schema → AreRecords pieces records
-    → IsSelection pieces schema.sets kind wanted (Ok selected) → NoneNamed selected 0 (types_of pieces records)
-selected_plain pieces schema kind wanted selected records is are (s, found, taken) =
+pub selected_plain : (pieces : List Piece) (schema : Described) (record_type : Option (List ℕ)) (wanted : Filter) (selected : List ℕ) (records : List (Range ℕ)) → IsDescribed pieces schema → AreRecords pieces records
+    → IsSelection pieces schema.sets record_type wanted (Ok selected) → NoneNamed selected 0 (types_of pieces records)
+selected_plain pieces schema record_type wanted selected records is are (s, found, taken) =
     let same : is.records ≡ records = one_list_of_records pieces is.records records is.are are in
     let types : List Named = types_of pieces is.records in
     let plain : NameNothing types s.members =
-    of_set_for (λ s. NameNothing types s.members) kind schema.sets s (all_plain [] types schema.sets is.sets.places (sym is.sets.joined)) found in
+    of_set_for (λ s. NameNothing types s.members) record_type schema.sets s (all_plain [] types schema.sets is.sets.places (sym is.sets.joined)) found in
     let all : NoneNamed selected 0 types = none_named selected 0 types (λ j below takes.
     let place : 0 + j ≡ j = omega arith in
     let member = (taken.members j).0 (contained selected j (ap (λ n. list_any (λ k. k == n) selected) (sym place) ∙ takes)) in
     plain j member.0 member.1) in
     subst (λ rs. NoneNamed selected 0 (types_of pieces rs)) same all
 
-pub selected_once : (pieces : List Piece) (sets : List Set_) (kind : Option (List ℕ)) (wanted : Filter) (selected : List ℕ) → IsSelection pieces sets kind wanted (Ok selected) → AreOnce selected
-selected_once pieces sets kind wanted selected (s, found, taken) = AreOnce-ascending selected taken.ascending
+pub selected_once : (pieces : List Piece) (sets : List Set_) (record_type : Option (List ℕ)) (wanted : Filter) (selected : List ℕ) → IsSelection pieces sets record_type wanted (Ok selected) → AreOnce selected
+selected_once pieces sets record_type wanted selected (s, found, taken) = AreOnce-ascending selected taken.ascending
 
--- ---- the sets of a text by the types of its records: where each ends, and of which type a record behind its last one is
+-- ---- the sets of a text by the types of its records: where each ends, and of which type a record after its last one is
 
--- the type that a record behind these has, where it names none
-abbrev pub type_behind : Named → List Named → Named
-type_behind kind [] = kind
-type_behind kind (named ∷ types) = type_behind (elim named as (λ n. Named) [ None ↦ kind | Some own ↦ Some own ]) types
+-- the type that a record after these has, where it names none
+abbrev pub last_type : Named → List Named → Named
+last_type record_type [] = record_type
+last_type record_type (named ∷ types) = last_type (elim named as (λ n. Named) [ None ↦ record_type | Some own ↦ Some own ]) types
 
-type_behind-append : (kind : Named) (front behind : List Named) → type_behind kind (front ++ behind) ≡ type_behind (type_behind kind front) behind
-type_behind-append kind [] behind = refl
-type_behind-append kind (named ∷ front) behind = type_behind-append (elim named as (λ n. Named) [ None ↦ kind | Some own ↦ Some own ]) front behind
+last_type-append : (record_type : Named) (prefix following : List Named) → last_type record_type (prefix ++ following) ≡ last_type (last_type record_type prefix) following
+last_type-append record_type [] following = refl
+last_type-append record_type (named ∷ prefix) following = last_type-append (elim named as (λ n. Named) [ None ↦ record_type | Some own ↦ Some own ]) prefix following
 
-type_behind-members : (kind : Named) (n : ℕ) → type_behind kind (replicate n nothing) ≡ kind
-type_behind-members kind zero = refl
-type_behind-members kind (suc n) = type_behind-members kind n
+last_type-members : (record_type : Named) (n : ℕ) → last_type record_type (replicate n nothing) ≡ record_type
+last_type-members record_type zero = refl
+last_type-members record_type (suc n) = last_type-members record_type n
 
--- A set among those of records of these types, the first of this index, behind a record of a type: its records end within these,
--- its last one is its descriptor or a member, and a record behind that one has the set's type.
-pub record IsSetOf (kind : Named) (at : ℕ) (first : Named) (types : List Named) (s : Set_) : Type 0 where
+-- A set among those of records of these types, the first of this index, after a record of a type: its records end within these,
+-- its last one is its descriptor or a member, and a record after that one has the set's type.
+pub record IsSetOf (record_type : Named) (at : ℕ) (first : Named) (types : List Named) (s : Set_) : Type 0 where
   pub low : at ≤ s.members.end
   pub high : s.members.end ≤ at + length types
   pub some : 1 ≤ s.members.end
   pub last : last_of s ≡ Some (s.members.end - 1)
-  pub behind : type_behind first (take (s.members.end - at) types) ≡ kind
+  pub following : last_type first (take (s.members.end - at) types) ≡ record_type
 
 abbrev pub set_with : Named → Option ℕ → Range ℕ → Set_
-set_with kind head members = record { kind = kind; head = head; members = members }
+set_with record_type head members = record { kind = record_type; head = head; members = members }
 
 -- the types up to the end of the set
-own_types : (at : ℕ) (kind : Named) (head : Option ℕ) (members : Range ℕ) (more : List Named) → BeginsAt at (set_with kind head members)
-    → take (members.end - at) (named_in (set_with kind head members) ++ more) ≡ named_in (set_with kind head members)
-own_types at kind head members more begins =
-    let end = end_of at kind head members begins in
-    take_at (named_in (set_with kind head members)) more (members.end - at) (omega (arith, end))
+own_types : (at : ℕ) (record_type : Named) (head : Option ℕ) (members : Range ℕ) (more : List Named) → BeginsAt at (set_with record_type head members)
+    → take (members.end - at) (named_in (set_with record_type head members) ++ more) ≡ named_in (set_with record_type head members)
+own_types at record_type head members more begins =
+    let end = end_of at record_type head members begins in
+    take_at (named_in (set_with record_type head members)) more (members.end - at) (omega (arith, end))
 
-this_set : (kind : List ℕ) (at : ℕ) (first own : Named) (head : Option ℕ) (members : Range ℕ) (more : List Named) → option_map_or (λ named. bytes_eq named kind) own false ≡ true
-    → BeginsAt at (set_with own head members) → IsSetOf (Some kind) at first (named_in (set_with own head members) ++ more) (set_with own head members)
-this_set kind at first None head members more is begins = absurd (false≢true is)
-this_set kind at first (Some named) head members more is begins =
+this_set : (record_type : List ℕ) (at : ℕ) (first own : Named) (head : Option ℕ) (members : Range ℕ) (more : List Named) → option_map_or (λ named. bytes_eq named record_type) own false ≡ true
+    → BeginsAt at (set_with own head members) → IsSetOf (Some record_type) at first (named_in (set_with own head members) ++ more) (set_with own head members)
+this_set record_type at first None head members more is begins = absurd (false≢true is)
+this_set record_type at first (Some named) head members more is begins =
     let end = end_of at (Some named) head members begins in
     let both = length-append (named_in (set_with (Some named) head members)) more in
     record {
@@ -374,13 +374,13 @@ this_set kind at first (Some named) head members more is begins =
       some = omega (arith, begins.0, begins.1.1);
       last = cond_both (nat_lt members.start members.end) (Some (members.end - 1)) head (λ (o : Option ℕ). o ≡ Some (members.end - 1)) (λ _. refl)
           (λ none. begins.1.0 ∙ ap Some (let past : members.end ≤ members.start = ltb-false members.start members.end none in omega (arith, begins.0, begins.1.1, past)));
-      behind = ap (type_behind first) (own_types at (Some named) head members more begins) ∙ type_behind-members (Some named) (members.end - members.start) ∙ ap Some (same_bytes named kind is);
+      following = ap (last_type first) (own_types at (Some named) head members more begins) ∙ last_type-members (Some named) (members.end - members.start) ∙ ap Some (same_bytes named record_type is);
     }
 
--- a set of the sets behind this one
-later_set : (kind : Named) (at : ℕ) (first : Named) (t s : Set_) (more : List Named) → BeginsAt at t → IsSetOf kind t.members.end (type_behind first (named_in t)) more s
-    → IsSetOf kind at first (named_in t ++ more) s
-later_set kind at first t s more begins is =
+-- a set of the sets after this one
+later_set : (record_type : Named) (at : ℕ) (first : Named) (t s : Set_) (more : List Named) → BeginsAt at t → IsSetOf record_type t.members.end (last_type first (named_in t)) more s
+    → IsSetOf record_type at first (named_in t ++ more) s
+later_set record_type at first t s more begins is =
     let end = end_of at t.kind t.head t.members begins in
     let rest : s.members.end - at ≡ length (named_in t) + (s.members.end - t.members.end) = omega (arith, end, is.low) in
     record {
@@ -388,27 +388,27 @@ later_set kind at first t s more begins is =
       high = omega (arith, end, is.high, length-append (named_in t) more);
       some = is.some;
       last = is.last;
-      behind = ap (λ n. type_behind first (take n (named_in t ++ more))) rest ∙ ap (type_behind first) (take-append-add (named_in t) more (s.members.end - t.members.end))
-          ∙ type_behind-append first (named_in t) (take (s.members.end - t.members.end) more) ∙ is.behind;
+      following = ap (λ n. last_type first (take n (named_in t ++ more))) rest ∙ ap (last_type first) (take-append-add (named_in t) more (s.members.end - t.members.end))
+          ∙ last_type-append first (named_in t) (take (s.members.end - t.members.end) more) ∙ is.following;
     }
 
 -- the set of a type
-pub set_found : (kind : List ℕ) (at : ℕ) (first : Named) (sets : List Set_) (s : Set_) → AreFrom at sets → find (is_of_type kind) sets ≡ Some s
-    → IsSetOf (Some kind) at first (flat_map named_in sets) s
-set_found kind at first [] s from found = let no : ⊥ = cc in absurd no
-set_found kind at first (t ∷ sets) s from found = elim (cases_Bool (is_of_type kind t)) [
+pub set_found : (record_type : List ℕ) (at : ℕ) (first : Named) (sets : List Set_) (s : Set_) → AreFrom at sets → find (is_of_type record_type) sets ≡ Some s
+    → IsSetOf (Some record_type) at first (flat_map named_in sets) s
+set_found record_type at first [] s from found = let no : ⊥ = cc in absurd no
+set_found record_type at first (t ∷ sets) s from found = elim (cases_Bool (is_of_type record_type t)) [
   | inl is ↦
       let here = rw is at found in
       let same : t ≡ s = cc in
-      subst (IsSetOf (Some kind) at first (named_in t ++ flat_map named_in sets)) same (this_set kind at first t.kind t.head t.members (flat_map named_in sets) is from.0)
+      subst (IsSetOf (Some record_type) at first (named_in t ++ flat_map named_in sets)) same (this_set record_type at first t.kind t.head t.members (flat_map named_in sets) is from.0)
   | inr other ↦
-      later_set (Some kind) at first t s (flat_map named_in sets) from.0 (set_found kind t.members.end (type_behind first (named_in t)) sets s from.1 (rw other at found))
+      later_set (Some record_type) at first t s (flat_map named_in sets) from.0 (set_found record_type t.members.end (last_type first (named_in t)) sets s from.1 (rw other at found))
 ]
 
 -- where a typed set begins
 pub begins_typed : (at : ℕ) (own : Named) (head : Option ℕ) (members : Range ℕ) → is_some own ≡ true → BeginsAt at (set_with own head members) → (head ≡ Some at) × (1 ≤ members.end)
 begins_typed at None head members typed begins = absurd (false≢true typed)
-begins_typed at (Some kind) head members typed begins = (begins.1.0, omega (arith, begins.0, begins.1.1))
+begins_typed at (Some record_type) head members typed begins = (begins.1.0, omega (arith, begins.0, begins.1.1))
 
 -- ---- the untyped set
 
@@ -416,7 +416,7 @@ begins_typed at (Some kind) head members typed begins = (begins.1.0, omega (arit
 pub record IsUntypedSet (types : List Named) (s : Set_) : Type 0 where
   pub has_some : nat_lt s.members.start s.members.end ≡ true → IsSetOf None 0 None types s
   pub has_none : nat_lt s.members.start s.members.end ≡ false → (s.members.end ≡ 0) × (last_of s ≡ None)
-  pub behind : type_behind None (take s.members.end types) ≡ None
+  pub following : last_type None (take s.members.end types) ≡ None
 
 pub untyped_set : (own : Named) (head : Option ℕ) (members : Range ℕ) (more : List Named) → own ≡ None → BeginsAt 0 (set_with own head members)
     → IsUntypedSet (named_in (set_with own head members) ++ more) (set_with own head members)
@@ -424,8 +424,8 @@ untyped_set (Some named) head members more none begins = let no : ⊥ = cc in ab
 untyped_set None head members more none begins =
     let end = end_of 0 None head members begins in
     let both = length-append (named_in (set_with None head members)) more in
-    let own : type_behind None (take (members.end - 0) (named_in (set_with None head members) ++ more)) ≡ None =
-    ap (type_behind None) (own_types 0 None head members more begins) ∙ type_behind-members None (members.end - members.start) in
+    let own : last_type None (take (members.end - 0) (named_in (set_with None head members) ++ more)) ≡ None =
+    ap (last_type None) (own_types 0 None head members more begins) ∙ last_type-members None (members.end - members.start) in
     let zeroth : members.end - 0 ≡ members.end = omega arith in
     record {
       has_some = λ some. record {
@@ -433,8 +433,8 @@ untyped_set None head members more none begins =
         high = omega (arith, end, both);
         some = (let less : members.start < members.end = ltb-true members.start members.end some in omega (arith, less));
         last = rw some refl;
-        behind = own;
+        following = own;
       };
       has_none = λ past. ((let high : members.end ≤ members.start = ltb-false members.start members.end past in omega (arith, begins.1.1, high)), rw past begins.1.0);
-      behind = ap (λ n. type_behind None (take n (named_in (set_with None head members) ++ more))) (sym zeroth) ∙ own;
+      following = ap (λ n. last_type None (take n (named_in (set_with None head members) ++ more))) (sym zeroth) ∙ own;
     }

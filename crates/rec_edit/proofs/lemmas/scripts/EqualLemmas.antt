@@ -5,13 +5,14 @@ use Rattle.std.proofs.lemmas.Bool.{cond_both, cases_Bool, false≢true, or_parts
 use Rattle.std.proofs.lemmas.List.{length-append, take_at, append_cancel_left, append_cancel_right, append_assoc, append-nil}
 use Rattle.std.specs.Prelude.{if◌then◌else◌}
 use Rattle.rec_text.specs.Elements.{Piece, text_of, IsElement, AreElementsOf}
-use Rattle.rec_edit.specs.Script.{Part, Layout, closed, opened, lacks_newline, settled, putting, parts_from, script_of, old_pieces, new_pieces, is_kept, changes_from, hunks_of, changing, edited_text}
+use Rattle.rec_edit.specs.Script.{Part, Layout, closed, opened, lacks_newline, settled, putting, parts_from, script_of, old_pieces, new_pieces, is_kept, changes_from, changing, edited_text}
+use Rattle.rec_edit.specs.proving.Changes.{hunks_of}
 use Rattle.rec_text.specs.Records.{is_blank_piece}
 use Rattle.rec_text.specs.Bytes.{ends_newline}
-use Rattle.rec_text.proofs.lemmas.ListLemmas.{bytes_eq-self, AllByRecursion-weaker}
+use Rattle.rec_text.proofs.lemmas.ListLemmas.{bytes_eq-self, AllByRecursion-weaker, AllByRecursion-append}
 use Rattle.rec_edit.proofs.lemmas.scripts.WellFormedLemmas.{parts_from-cons, AreWhole, AreWhole-nil, AreWhole-append, AreWhole-closed, AreWhole-opened, IsClosed, IsBare, lacks_newline-ends}
 use Rattle.rec_text.proofs.lemmas.elements.FieldLemmas.{ends_newline-append}
-use Rattle.rec_edit.proofs.lemmas.scripts.LaidLemmas.{Ends, Neat, Reopens, laid_from, all_append, closed-settled, map-closed, map-closed-opened}
+use Rattle.rec_edit.proofs.lemmas.scripts.LaidLemmas.{Ends, Neat, Reopens, laid_from, closed-settled, map-closed, map-closed-opened}
 
 -- ---- where the new elements of a script are the old ones, each part stays as it is: a script whose parts all grow, or all shrink, has no hunk
 
@@ -51,11 +52,11 @@ abbrev pub Stays : Part → Type 0
 Stays part = part.old ≡ part.new
 
 module _ (old new olds news : List Piece) (same : old ++ olds ≡ new ++ news) where
-  same_front : length old ≡ length new → old ≡ new
-  same_front sizes = sym (take_at old olds (length new) sizes) ∙ ap (take (length new)) same ∙ take_at new news (length new) refl
+  same_prefix : length old ≡ length new → old ≡ new
+  same_prefix sizes = sym (take_at old olds (length new) sizes) ∙ ap (take (length new)) same ∙ take_at new news (length new) refl
 
   pub same_rest : old ≡ new → olds ≡ news
-  same_rest fronts = append_cancel_left new olds news (ap (λ front. front ++ olds) (sym fronts) ∙ same)
+  same_rest prefixes = append_cancel_left new olds news (ap (λ prefix. prefix ++ olds) (sym prefixes) ∙ same)
 
   same_sizes : length old + length olds ≡ length new + length news
   same_sizes = sym (length-append old olds) ∙ ap length same ∙ length-append new news
@@ -75,7 +76,7 @@ grown_parts_stay [] grow same = tt
 grown_parts_stay (part ∷ parts) grow same =
     let sizes : length part.old ≡ length part.new =
     omega (arith, same_sizes part.old part.new (old_pieces parts) (new_pieces parts) same, grow.0, length-grown parts grow.1) in
-    let stays = same_front part.old part.new (old_pieces parts) (new_pieces parts) same sizes in
+    let stays = same_prefix part.old part.new (old_pieces parts) (new_pieces parts) same sizes in
     (stays, grown_parts_stay parts grow.1 (same_rest part.old part.new (old_pieces parts) (new_pieces parts) same stays))
 
 shrunk_parts_stay : (parts : List Part) → AllByRecursion Shrinks parts → old_pieces parts ≡ new_pieces parts → AllByRecursion Stays parts
@@ -83,7 +84,7 @@ shrunk_parts_stay [] shrink same = tt
 shrunk_parts_stay (part ∷ parts) shrink same =
     let sizes : length part.old ≡ length part.new =
     omega (arith, same_sizes part.old part.new (old_pieces parts) (new_pieces parts) same, shrink.0, length-shrunk parts shrink.1) in
-    let stays = same_front part.old part.new (old_pieces parts) (new_pieces parts) same sizes in
+    let stays = same_prefix part.old part.new (old_pieces parts) (new_pieces parts) same sizes in
     (stays, shrunk_parts_stay parts shrink.1 (same_rest part.old part.new (old_pieces parts) (new_pieces parts) same stays))
 
 -- ---- parts that stay have no hunk
@@ -98,13 +99,13 @@ changes_from-kept at (part ∷ parts) stay = rw (kept part stay.0) (changes_from
 pub hunks_of-kept : (parts : List Part) → AllByRecursion Stays parts → hunks_of parts ≡ []
 hunks_of-kept parts stay = rw (changes_from-kept 0 parts stay) refl
 
--- ---- a layout that puts at least one element in the place of each, or at most one and nothing between
+-- ---- a layout that puts at least one element instead of each, or at most one and nothing between
 
--- it puts at least one element in the place of each
+-- it puts at least one element instead of each
 abbrev pub PutsSome : Layout → List Piece → Type 0
 PutsSome layout pieces = (k : ℕ) (piece : Piece) → slice_get pieces k ≡ Some piece → 1 ≤ length (layout.becomes k (closed piece))
 
--- it puts at most one element in the place of each, and nothing between
+-- it puts at most one element instead of each, and nothing between
 pub record PutsFew (layout : Layout) : Type 0 where
   pub put : (k : ℕ) → layout.put k ≡ []
   pub becomes : (k : ℕ) (piece : Piece) → length (layout.becomes k piece) ≤ 1
@@ -175,24 +176,24 @@ abbrev pub up_to_blank : List Piece → List Piece
 up_to_blank [] = []
 up_to_blank (piece ∷ pieces) = if is_blank_piece piece then [] else piece ∷ up_to_blank pieces
 
-up_to_blank-full : (front rest : List Piece) → list_any is_blank_piece front ≡ false → up_to_blank (front ++ rest) ≡ front ++ up_to_blank rest
+up_to_blank-full : (prefix rest : List Piece) → list_any is_blank_piece prefix ≡ false → up_to_blank (prefix ++ rest) ≡ prefix ++ up_to_blank rest
 up_to_blank-full [] rest full = refl
-up_to_blank-full (piece ∷ front) rest full =
-    let parts = or_parts (is_blank_piece piece) (list_any is_blank_piece front) full in
+up_to_blank-full (piece ∷ prefix) rest full =
+    let parts = or_parts (is_blank_piece piece) (list_any is_blank_piece prefix) full in
     let other : is_blank_piece piece ≡ false = parts.0 in
-    rw other (ap (λ l. piece ∷ l) (up_to_blank-full front rest parts.1))
+    rw other (ap (λ l. piece ∷ l) (up_to_blank-full prefix rest parts.1))
 
-up_to_blank-blank : (front some other : List Piece) → list_any is_blank_piece front ≡ true → up_to_blank (front ++ some) ≡ up_to_blank (front ++ other)
+up_to_blank-blank : (prefix some other : List Piece) → list_any is_blank_piece prefix ≡ true → up_to_blank (prefix ++ some) ≡ up_to_blank (prefix ++ other)
 up_to_blank-blank [] some other blank = absurd (false≢true blank)
-up_to_blank-blank (piece ∷ front) some other blank = elim (cases_Bool (is_blank_piece piece)) [
+up_to_blank-blank (piece ∷ prefix) some other blank = elim (cases_Bool (is_blank_piece piece)) [
   | inl is ↦ rw is refl
-  | inr full ↦ rw full (ap (λ l. piece ∷ l) (up_to_blank-blank front some other (rw full at blank)))
+  | inr full ↦ rw full (ap (λ l. piece ∷ l) (up_to_blank-blank prefix some other (rw full at blank)))
 ]
 
-up_to_blank-front : (front some other : List Piece) → (list_any is_blank_piece front ≡ false → up_to_blank some ≡ up_to_blank other) → up_to_blank (front ++ some) ≡ up_to_blank (front ++ other)
-up_to_blank-front front some other same = elim (cases_Bool (list_any is_blank_piece front)) [
-  | inl blank ↦ up_to_blank-blank front some other blank
-  | inr full ↦ up_to_blank-full front some full ∙ ap (λ l. front ++ l) (same full) ∙ sym (up_to_blank-full front other full)
+up_to_blank-prefix : (prefix some other : List Piece) → (list_any is_blank_piece prefix ≡ false → up_to_blank some ≡ up_to_blank other) → up_to_blank (prefix ++ some) ≡ up_to_blank (prefix ++ other)
+up_to_blank-prefix prefix some other same = elim (cases_Bool (list_any is_blank_piece prefix)) [
+  | inl blank ↦ up_to_blank-blank prefix some other blank
+  | inr full ↦ up_to_blank-full prefix some full ∙ ap (λ l. prefix ++ l) (same full) ∙ sym (up_to_blank-full prefix other full)
 ]
 
 -- ---- parts that change, apart from each other
@@ -203,7 +204,7 @@ pub record IsFullPart (part : Part) : Type 0 where
   pub new : list_any is_blank_piece part.new ≡ false
 
 -- Each part stays, or none of its elements is blank and a blank one stands between it and the part before it that changes; `free` says
--- that none before these changes, or that a blank element stands behind that one.
+-- that none before these changes, or that a blank element stands after that one.
 abbrev pub ChangeApart : Bool → List Part → Type 0
 ChangeApart free [] = Unit {0}
 ChangeApart free (part ∷ parts) = (Stays part × ChangeApart (free || list_any is_blank_piece part.old) parts) ⊎ ((free ≡ true) × IsFullPart part × ChangeApart false parts)
@@ -211,7 +212,7 @@ ChangeApart free (part ∷ parts) = (Stays part × ChangeApart (free || list_any
 same_up_to_blank : (parts : List Part) → ChangeApart false parts → up_to_blank (old_pieces parts) ≡ up_to_blank (new_pieces parts)
 same_up_to_blank [] apart = refl
 same_up_to_blank (part ∷ parts) (inl (stays, rest)) =
-    up_to_blank-front part.old (old_pieces parts) (new_pieces parts) (λ full. same_up_to_blank parts (rw full at rest))
+    up_to_blank-prefix part.old (old_pieces parts) (new_pieces parts) (λ full. same_up_to_blank parts (rw full at rest))
     ∙ ap (λ old. up_to_blank (old ++ new_pieces parts)) stays
 same_up_to_blank (part ∷ parts) (inr (free, full, rest)) = absurd (false≢true free)
 
@@ -282,15 +283,15 @@ module _ (layout : Layout) (none : PutsNone layout) where
 
 -- ---- what all new elements hold, and what they hold where the text lacks its last newline
 
-rest_is_open : (front rest : List ℕ) → ends_newline (front ++ rest) ≡ false → ends_newline rest ≡ false
-rest_is_open front rest lacks = false_from_ne_true (ends_newline rest) (λ ends. false≢true (sym lacks ∙ ends_newline-append front rest ends))
+rest_is_open : (prefix rest : List ℕ) → ends_newline (prefix ++ rest) ≡ false → ends_newline rest ≡ false
+rest_is_open prefix rest lacks = false_from_ne_true (ends_newline rest) (λ ends. false≢true (sym lacks ∙ ends_newline-append prefix rest ends))
 
 module _ (P Q : Piece → Type 0) where
   pub record IsPartOf (part : Part) : Type 0 where
     pub lines : AllByRecursion P part.new
     pub bares : ends_newline (text_of part.old) ≡ false → AllByRecursion Q part.new
 
-  -- nothing is put, and what stands in the place of an element holds the one, and the other where the element lacks a newline or is
+  -- nothing is put, and what stands instead of an element holds the one, and the other where the element lacks a newline or is
   -- tied to the next
   pub record LaysTied (layout : Layout) : Type 0 where
     pub put : PutsNone layout
@@ -305,8 +306,8 @@ module _ (P Q : Piece → Type 0) where
       (record { lines = lines; bares = λ lacks. bares (inl (ap ends_newline (sym (append-nil piece.bytes)) ∙ lacks)) }, all)
   are_parts-changing true piece new (next ∷ parts) lines bares all = (
     record {
-      lines = all_append P new next.new lines all.0.lines;
-      bares = λ lacks. all_append Q new next.new (bares (inr refl)) (all.0.bares (rest_is_open piece.bytes (text_of next.old) lacks));
+      lines = AllByRecursion-append P new next.new lines all.0.lines;
+      bares = λ lacks. AllByRecursion-append Q new next.new (bares (inr refl)) (all.0.bares (rest_is_open piece.bytes (text_of next.old) lacks));
     },
     all.1,
   )
@@ -320,7 +321,7 @@ module _ (P Q : Piece → Type 0) where
 
   pub lines_of_parts : (parts : List Part) → AllByRecursion IsPartOf parts → AllByRecursion P (new_pieces parts)
   lines_of_parts [] all = tt
-  lines_of_parts (part ∷ parts) all = all_append P part.new (new_pieces parts) all.0.lines (lines_of_parts parts all.1)
+  lines_of_parts (part ∷ parts) all = AllByRecursion-append P part.new (new_pieces parts) all.0.lines (lines_of_parts parts all.1)
 
 -- ---- the new elements are those of the edited text
 

@@ -9,6 +9,7 @@ use Rattle.rec_text.specs.declared.element.Kind.{Kind}
 use Rattle.rec_text.specs.Bytes.{is_nil, ends_newline}
 use Rattle.rec_text.specs.Elements.{Piece, text_of, colon_of, name_of}
 use Rattle.rec_text.specs.Records.{is_blank_piece, is_field_piece, elements_in}
+use Rattle.rec_text.proofs.lemmas.ListLemmas.{AllByRecursion-append}
 use Rattle.rec_edit.specs.Script.{Part, Layout, closed, without_newline, opened, lacks_newline, settled, putting, changing, parts_from, script_of, new_pieces}
 use Rattle.rec_text.specs.Canonical.{field_of, folded}
 use Rattle.rec_text.specs.Values.{on_first}
@@ -16,30 +17,29 @@ use Rattle.rec_text.specs.declared.element.Kind.TheVariants.{Blank, Comment, Fie
 use Rattle.rec_sex.specs.declared.lists.field_list.Item.{Item}
 use Rattle.rec_edit.specs.declared.request.Action.{Action}
 use Rattle.rec_edit.specs.declared.request.Action.TheVariants.{Set, Add, SetAdd, Rename, Delete, Comment as CommentFields}
-use Rattle.rec_edit.specs.Rules.{physical_lines, canonical, is_own, is_picked, picked_becomes, picks_none, added, taking_out, commenting, setting}
-use Rattle.rec_edit.specs.proving.Comments.{comments_of}
+use Rattle.rec_edit.specs.Rules.{physical_lines, canonical, is_own, is_picked, picked_becomes, picks_none, added, removing, setting, comments_of}
 use Rattle.rec_edit.specs.proving.Drafts.{LaysLines}
 use Rattle.rec_text.proofs.lemmas.elements.FieldLemmas.{ends_newline-cons, ends_newline-append, colon_of-byte}
 
 -- ---- the elements that a layout makes of those of a text, and the newline at their end
 
--- ---- the elements that are laid, put behind their places
+-- ---- the elements that are laid, put after their places
 
--- what a layout makes of these elements, the first of which has this index, and puts behind each of them
+-- what a layout makes of these elements, the first of which has this index, and puts after each of them
 abbrev pub laid_from : Layout → ℕ → List Piece → List Piece
 laid_from layout i [] = []
 laid_from layout i (piece ∷ pieces) = layout.becomes i (closed piece) ++ (layout.put (i + 1) ++ laid_from layout (i + 1) pieces)
 
-pub laid_from-append : (layout : Layout) (i : ℕ) (front behind : List Piece) → laid_from layout i (front ++ behind) ≡ laid_from layout i front ++ laid_from layout (i + length front) behind
-laid_from-append layout i [] behind = ap (λ n. laid_from layout n behind) (let e : i ≡ i + 0 = omega arith in e)
-laid_from-append layout i (piece ∷ front) behind =
-    let next : i + 1 + length front ≡ i + suc (length front) = omega arith in
-    let more : laid_from layout (i + 1) (front ++ behind) ≡ laid_from layout (i + 1) front ++ laid_from layout (i + suc (length front)) behind =
-    laid_from-append layout (i + 1) front behind ∙ ap (λ n. laid_from layout (i + 1) front ++ laid_from layout n behind) next in
-    let there = laid_from layout (i + suc (length front)) behind in
+pub laid_from-append : (layout : Layout) (i : ℕ) (prefix following : List Piece) → laid_from layout i (prefix ++ following) ≡ laid_from layout i prefix ++ laid_from layout (i + length prefix) following
+laid_from-append layout i [] following = ap (λ n. laid_from layout n following) (let e : i ≡ i + 0 = omega arith in e)
+laid_from-append layout i (piece ∷ prefix) following =
+    let next : i + 1 + length prefix ≡ i + suc (length prefix) = omega arith in
+    let more : laid_from layout (i + 1) (prefix ++ following) ≡ laid_from layout (i + 1) prefix ++ laid_from layout (i + suc (length prefix)) following =
+    laid_from-append layout (i + 1) prefix following ∙ ap (λ n. laid_from layout (i + 1) prefix ++ laid_from layout n following) next in
+    let there = laid_from layout (i + suc (length prefix)) following in
     ap (λ l. layout.becomes i (closed piece) ++ (layout.put (i + 1) ++ l)) more
-    ∙ ap (λ l. layout.becomes i (closed piece) ++ l) (sym (append_assoc (layout.put (i + 1)) (laid_from layout (i + 1) front) there))
-    ∙ sym (append_assoc (layout.becomes i (closed piece)) (layout.put (i + 1) ++ laid_from layout (i + 1) front) there)
+    ∙ ap (λ l. layout.becomes i (closed piece) ++ l) (sym (append_assoc (layout.put (i + 1)) (laid_from layout (i + 1) prefix) there))
+    ∙ sym (append_assoc (layout.becomes i (closed piece)) (layout.put (i + 1) ++ laid_from layout (i + 1) prefix) there)
 
 -- ---- the new elements of the script, the newline at its end aside
 
@@ -77,7 +77,7 @@ reopened piece = record { kind = piece.kind; bytes = without_newline piece.bytes
 
 -- it ends in one newline
 abbrev pub Neat : Piece → Type 0
-Neat piece = (front : List ℕ) × (piece.bytes ≡ front ++ 10 ∷ []) × (ends_newline front ≡ false)
+Neat piece = (prefix : List ℕ) × (piece.bytes ≡ prefix ++ 10 ∷ []) × (ends_newline prefix ≡ false)
 
 pub closed-ends : (piece : Piece) → Ends piece → closed piece ≡ piece
 closed-ends piece ends = let e : ends_newline piece.bytes ≡ true = ends in rw e refl
@@ -104,17 +104,17 @@ Ends-closed piece = elim (cases_Bool (ends_newline piece.bytes)) [
   | inr other ↦ rw other (ends_newline-push piece.bytes)
 ]
 
--- a newline behind bytes that end in none
+-- a newline after bytes that end in none
 pub Neat-closed : (piece : Piece) → ends_newline piece.bytes ≡ false → Neat (closed piece)
 Neat-closed piece other = (piece.bytes, ap (λ p. p.bytes) (closed-open piece.kind piece.bytes other), other)
 
 closed-reopened : (piece : Piece) → Neat piece → closed (reopened piece) ≡ piece
-closed-reopened piece (front, is, other) =
-    ap (λ bs. closed (piece_with piece.kind (without_newline bs))) is ∙ ap (λ bs. closed (piece_with piece.kind bs)) (without_newline-push front)
-    ∙ closed-open piece.kind front other ∙ ap (piece_with piece.kind) (sym is)
+closed-reopened piece (prefix, is, other) =
+    ap (λ bs. closed (piece_with piece.kind (without_newline bs))) is ∙ ap (λ bs. closed (piece_with piece.kind bs)) (without_newline-push prefix)
+    ∙ closed-open piece.kind prefix other ∙ ap (piece_with piece.kind) (sym is)
 
 pub closed-neat : (piece : Piece) → Neat piece → Ends piece
-closed-neat piece (front, is, other) = ap ends_newline is ∙ ends_newline-push front
+closed-neat piece (prefix, is, other) = ap ends_newline is ∙ ends_newline-push prefix
 
 pub map-closed-opened : (pieces : List Piece) → AllByRecursion Neat pieces → map closed (opened pieces) ≡ pieces
 map-closed-opened [] all = refl
@@ -124,10 +124,6 @@ map-closed-opened (piece ∷ next ∷ pieces) all = ap₂ (λ p ps. p ∷ ps) (c
 pub map-closed : (pieces : List Piece) → AllByRecursion Ends pieces → map closed pieces ≡ pieces
 map-closed [] all = refl
 map-closed (piece ∷ pieces) all = ap₂ (λ p ps. p ∷ ps) (closed-ends piece all.0) (map-closed pieces all.1)
-
-pub all_append : {X : Type 0} (P : X → Type 0) (some more : List X) → AllByRecursion P some → AllByRecursion P more → AllByRecursion P (some ++ more)
-all_append P [] more all rest = rest
-all_append P (x ∷ some) more all rest = (all.0, all_append P some more all.1 rest)
 
 -- A layout that makes and puts elements with newlines, and neat ones of neat ones.
 pub record LaysNeatly (layout : Layout) : Type 0 where
@@ -139,8 +135,8 @@ pub record LaysNeatly (layout : Layout) : Type 0 where
 pub Ends-laid_from : (layout : Layout) (i : ℕ) (pieces : List Piece) → LaysNeatly layout → AllByRecursion Ends (laid_from layout i pieces)
 Ends-laid_from layout i [] neatly = tt
 Ends-laid_from layout i (piece ∷ pieces) neatly =
-    all_append Ends (layout.becomes i (closed piece)) (layout.put (i + 1) ++ laid_from layout (i + 1) pieces) (neatly.ends i (closed piece) (Ends-closed piece))
-    (all_append Ends (layout.put (i + 1)) (laid_from layout (i + 1) pieces) (neatly.put (i + 1)) (Ends-laid_from layout (i + 1) pieces neatly))
+    AllByRecursion-append Ends (layout.becomes i (closed piece)) (layout.put (i + 1) ++ laid_from layout (i + 1) pieces) (neatly.ends i (closed piece) (Ends-closed piece))
+    (AllByRecursion-append Ends (layout.put (i + 1)) (laid_from layout (i + 1) pieces) (neatly.put (i + 1)) (Ends-laid_from layout (i + 1) pieces neatly))
 
 -- a part whose old elements lack a newline has neat new ones
 abbrev pub Reopens : Part → Type 0
@@ -199,12 +195,6 @@ closed-new_pieces layout pieces neatly none =
 
 -- ---- a kept element
 
-pub closed-kind : (piece : Piece) → (closed piece).kind ≡ piece.kind
-closed-kind piece = elim (cases_Bool (ends_newline piece.bytes)) [
-  | inl ends ↦ rw ends refl
-  | inr other ↦ rw other refl
-]
-
 pub closed-blank : (piece : Piece) → is_blank_piece (closed piece) ≡ is_blank_piece piece
 closed-blank piece = elim (cases_Bool (ends_newline piece.bytes)) [
   | inl ends ↦ rw ends refl
@@ -217,7 +207,7 @@ closed-field piece = elim (cases_Bool (ends_newline piece.bytes)) [
   | inr other ↦ rw other refl
 ]
 
--- ---- what layouts put in the place of elements that end in newlines ends in newlines
+-- ---- what layouts put instead of elements that end in newlines ends in newlines
 
 -- the text, or each of these elements, ends in a newline
 abbrev pub IsEnded : List ℕ → Type 0
@@ -277,7 +267,7 @@ some_byte : (bs : List ℕ) → IsEnded bs → 0 < length bs
 some_byte [] ends = absurd (let clash : false ≡ true = ends in cc)
 some_byte (b ∷ bs) ends = omega arith
 
--- behind the name of a field stands its colon
+-- after the name of a field stands its colon
 before_colon : (bs : List ℕ) (colon : Option ℕ) → IsEnded bs → colon_of bs ≡ colon → length (option_map_or (λ c. take c bs) colon []) < length bs
 before_colon bs None ends found = some_byte bs ends
 before_colon bs (Some c) ends found =
@@ -314,8 +304,8 @@ added-ends Delete items own = tt
 added-ends CommentFields items own = tt
 
 pub AreEnded-append : (some more : List Piece) → AreEnded some → AreEnded more → AreEnded (some ++ more)
-AreEnded-append [] more front behind = behind
-AreEnded-append (piece ∷ some) more front behind = (front.0, AreEnded-append some more front.1 behind)
+AreEnded-append [] more prefix following = following
+AreEnded-append (piece ∷ some) more prefix following = (prefix.0, AreEnded-append some more prefix.1 following)
 
 AreEnded-flat_map : (new : Range ℕ → List Piece) (ranges : List (Range ℕ)) → ((range : Range ℕ) → AreEnded (new range)) → AreEnded (flat_map new ranges)
 AreEnded-flat_map new [] each = tt
@@ -323,15 +313,10 @@ AreEnded-flat_map new (range ∷ ranges) each = AreEnded-append (new range) (fla
 
 -- ---- the layouts
 
-pub LaysLines-taking_out : (ranges : List (Range ℕ)) → LaysLines (taking_out ranges)
-LaysLines-taking_out ranges = record {
-  becomes = λ i piece ends. cond_both (is_own ranges i) [] (piece ∷ []) AreEnded (λ _. tt) (λ _. (ends, tt));
-  put = λ i. tt;
-}
-
-pub LaysLines-commenting : (chosen : List (Range ℕ)) → LaysLines (commenting chosen)
-LaysLines-commenting chosen = record {
-  becomes = λ i piece ends. cond_both (is_own chosen i) (comments_of piece.bytes) (piece ∷ []) AreEnded (λ _. comments_of-end piece.bytes ends) (λ _. (ends, tt));
+pub LaysLines-removing : (as_comments : Bool) (ranges : List (Range ℕ)) → LaysLines (removing as_comments ranges)
+LaysLines-removing as_comments ranges = record {
+  becomes = λ i piece ends. cond_both (is_own ranges i) (if as_comments then comments_of piece.bytes else []) (piece ∷ []) AreEnded
+      (λ _. cond_both as_comments (comments_of piece.bytes) [] AreEnded (λ _. comments_of-end piece.bytes ends) (λ _. tt)) (λ _. (ends, tt));
   put = λ i. tt;
 }
 

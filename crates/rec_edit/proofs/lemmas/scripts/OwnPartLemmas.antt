@@ -9,10 +9,10 @@ use Rattle.std.proofs.lemmas.Bool.{cond_both}
 use Rattle.std.proofs.lemmas.List.{length-take-le, take-append-drop}
 use Rattle.rec_text.specs.Elements.{Piece, text_of}
 use Rattle.rec_text.specs.Records.{elements_in}
-use Rattle.rec_text.proofs.lemmas.ListLemmas.{AllByRecursion-front, AllByRecursion-behind}
+use Rattle.rec_text.proofs.lemmas.ListLemmas.{AllByRecursion-prefix, AllByRecursion-following}
 use Rattle.rec_edit.specs.Script.{Part, Layout, closed, opened, lacks_newline, settled, putting, changing, parts_from, parts_in, script_of, old_pieces, new_pieces}
-use Rattle.rec_edit.specs.proving.Drafts.{laying}
-use Rattle.rec_edit.specs.Outcome.{laid, is_changed, is_changed_by}
+use Rattle.rec_edit.specs.proving.Drafts.{laying, laid, is_changed}
+use Rattle.rec_edit.specs.Outcome.{is_changed_by}
 use Rattle.rec_edit.proofs.lemmas.scripts.LaidLemmas.{Ends, Reopens, closed-settled, map-closed}
 use Rattle.rec_edit.proofs.lemmas.records.FitLemmas.{drop-part, length-part}
 use Rattle.rec_edit.proofs.lemmas.scripts.ScriptLemmas.{old_pieces-settled, old_pieces-putting, old_pieces-changing}
@@ -79,9 +79,9 @@ module _ (range : Range ℕ) where
       parts_in-append next xs ys ∙ ap (λ n. parts_in range next xs ++ parts_in range n ys) reached in
       one_more (leb range.start i && leb next range.end) x (parts_in range next (xs ++ ys)) (parts_in range next xs) (parts_in range (i + length (old_pieces (x ∷ xs))) ys) more
     where
-      one_more : (b : Bool) (y : Part) (whole front rest : List Part) → whole ≡ front ++ rest → (if b then y ∷ whole else whole) ≡ (if b then y ∷ front else front) ++ rest
-      one_more true y whole front rest is = ap (λ l. y ∷ l) is
-      one_more false y whole front rest is = is
+      one_more : (b : Bool) (y : Part) (whole prefix rest : List Part) → whole ≡ prefix ++ rest → (if b then y ∷ whole else whole) ≡ (if b then y ∷ prefix else prefix) ++ rest
+      one_more true y whole prefix rest is = ap (λ l. y ∷ l) is
+      one_more false y whole prefix rest is = is
 
   -- one that begins early, one that ends late
   early : (i n : ℕ) → i < range.start → (leb range.start i && leb n range.end) ≡ false
@@ -160,23 +160,23 @@ module _ (layout : Layout) where
       put_some [] parts some = some
       put_some (one ∷ put) parts some = omega arith
 
-  parts_from-cut : (i : ℕ) (front rest : List Piece) → IsFreeAt (i + length front) → parts_from i layout (front ++ rest) ≡ parts_of i front ++ parts_from (i + length front) layout rest
+  parts_from-cut : (i : ℕ) (prefix rest : List Piece) → IsFreeAt (i + length prefix) → parts_from i layout (prefix ++ rest) ≡ parts_of i prefix ++ parts_from (i + length prefix) layout rest
   parts_from-cut i [] rest free = ap (λ n. parts_from n layout rest) (let e : i ≡ i + 0 = omega arith in e)
   parts_from-cut i (piece ∷ []) rest free =
       let new : List Piece = layout.becomes i (closed piece) in
       ap (putting (layout.put i)) (changing-free (layout.tied i) piece new (parts_from (i + 1) layout rest) (free i refl))
       ∙ putting-append (layout.put i) (changing (layout.tied i) piece new []) (parts_from (i + 1) layout rest)
-  parts_from-cut i (piece ∷ next ∷ front) rest free =
+  parts_from-cut i (piece ∷ next ∷ prefix) rest free =
       let new : List Piece = layout.becomes i (closed piece) in
-      let end : i + 1 + length (next ∷ front) ≡ i + length (piece ∷ next ∷ front) = omega arith in
-      let behind : List Part = parts_from (i + length (piece ∷ next ∷ front)) layout rest in
-      let more : parts_from (i + 1) layout (next ∷ (front ++ rest)) ≡ parts_of (i + 1) (next ∷ front) ++ behind =
-      parts_from-cut (i + 1) (next ∷ front) rest (λ k at. free k (at ∙ end)) ∙ ap (λ n. parts_of (i + 1) (next ∷ front) ++ parts_from n layout rest) end in
+      let end : i + 1 + length (next ∷ prefix) ≡ i + length (piece ∷ next ∷ prefix) = omega arith in
+      let following : List Part = parts_from (i + length (piece ∷ next ∷ prefix)) layout rest in
+      let more : parts_from (i + 1) layout (next ∷ (prefix ++ rest)) ≡ parts_of (i + 1) (next ∷ prefix) ++ following =
+      parts_from-cut (i + 1) (next ∷ prefix) rest (λ k at. free k (at ∙ end)) ∙ ap (λ n. parts_of (i + 1) (next ∷ prefix) ++ parts_from n layout rest) end in
       ap (putting (layout.put i)) (
       ap (changing (layout.tied i) piece new) more
-      ∙ changing-append (layout.tied i) piece new (parts_of (i + 1) (next ∷ front)) behind (parts_of-some (i + 1) next front)
+      ∙ changing-append (layout.tied i) piece new (parts_of (i + 1) (next ∷ prefix)) following (parts_of-some (i + 1) next prefix)
       )
-      ∙ putting-append (layout.put i) (changing (layout.tied i) piece new (parts_of (i + 1) (next ∷ front))) behind
+      ∙ putting-append (layout.put i) (changing (layout.tied i) piece new (parts_of (i + 1) (next ∷ prefix))) following
 
   parts_from-put : (i : ℕ) (pieces : List Piece) → parts_from i layout pieces ≡ putting (layout.put i) [] ++ parts_after i pieces
   parts_from-put i [] = sym (append-nil (putting (layout.put i) []))
@@ -247,17 +247,17 @@ module _ (layout : Layout) where
 
     parts_are : parts_from 0 layout pieces ≡ before ++ (own_parts ++ after)
     parts_are =
-        let behind : List Piece = drop r.end pieces in
-        let cut : pieces ≡ take r.start pieces ++ (own ++ behind) =
+        let following : List Piece = drop r.end pieces in
+        let cut : pieces ≡ take r.start pieces ++ (own ++ following) =
         sym (take-append-drop r.start pieces) ∙ ap (λ l. take r.start pieces ++ l) (drop-part pieces r.start r.end (omega arith) within) in
         let start : 0 + length (take r.start pieces) ≡ r.start = omega (arith, size_before) in
         ap (parts_from 0 layout) cut
-        ∙ parts_from-cut 0 (take r.start pieces) (own ++ behind) (λ k at. alone.begins k (at ∙ start))
-        ∙ ap (λ n. before ++ parts_from n layout (own ++ behind)) start
+        ∙ parts_from-cut 0 (take r.start pieces) (own ++ following) (λ k at. alone.begins k (at ∙ start))
+        ∙ ap (λ n. before ++ parts_from n layout (own ++ following)) start
         ∙ ap (λ l. before ++ l) (
-        parts_from-cut r.start own behind (λ k at. alone.ends k (at ∙ size_own))
-        ∙ ap (λ n. parts_of r.start own ++ parts_from n layout behind) size_own
-        ∙ ap (λ l. parts_of r.start own ++ l) (parts_from-put r.end behind)
+        parts_from-cut r.start own following (λ k at. alone.ends k (at ∙ size_own))
+        ∙ ap (λ n. parts_of r.start own ++ parts_from n layout following) size_own
+        ∙ ap (λ l. parts_of r.start own ++ l) (parts_from-put r.end following)
         ∙ sym (append_assoc (parts_of r.start own) (putting (layout.put r.end) []) after)
         )
 
@@ -331,11 +331,11 @@ module _ (layout : Layout) where
         some_part true piece new (next ∷ parts) = settle_inner (record { old = piece ∷ next.old; new = new ++ next.new }) parts (omega arith)
         some_part false piece new (next ∷ parts) = settle_inner (record { old = piece ∷ []; new = new }) (next ∷ parts) (omega arith)
 
-        by_rest : (behind : List Piece) (parts : List Part) → parts_after r.end behind ≡ parts → Settle (settled (before ++ (own_parts ++ parts)))
+        by_rest : (following : List Piece) (parts : List Part) → parts_after r.end following ≡ parts → Settle (settled (before ++ (own_parts ++ parts)))
         by_rest [] parts is = subst (λ l. Settle (settled (before ++ (own_parts ++ l)))) is (some_own own_parts refl)
-        by_rest (piece ∷ behind) parts is =
+        by_rest (piece ∷ following) parts is =
             subst (λ l. Settle (settled (before ++ (own_parts ++ l)))) is
-            (some_part (layout.tied r.end) piece (layout.becomes r.end (closed piece)) (parts_from (r.end + 1) layout behind))
+            (some_part (layout.tied r.end) piece (layout.becomes r.end (closed piece)) (parts_from (r.end + 1) layout following))
 
     -- the parts of the script that stand for the record
     pub own_is_laid : AllByRecursion Reopens (parts_from 0 layout pieces) → AllByRecursion Ends (new_pieces (parts_from 0 layout pieces))
@@ -344,13 +344,13 @@ module _ (layout : Layout) where
         let one : Settle (settled (before ++ (own_parts ++ after))) = settle after refl in
         let here : parts_in r 0 (script_of layout pieces) ≡ one.parts = ap (λ parts. parts_in r 0 (settled parts)) parts_are ∙ one.are in
         let reopen_own : AllByRecursion Reopens own_parts =
-        AllByRecursion-front Reopens own_parts after (AllByRecursion-behind Reopens before (own_parts ++ after) (subst (AllByRecursion Reopens) parts_are reopen)) in
+        AllByRecursion-prefix Reopens own_parts after (AllByRecursion-following Reopens before (own_parts ++ after) (subst (AllByRecursion Reopens) parts_are reopen)) in
         let new_are : new_pieces (parts_from 0 layout pieces) ≡ new_pieces before ++ (new_pieces own_parts ++ new_pieces after) =
         ap new_pieces parts_are ∙ pieces-append (λ part. part.new) before (own_parts ++ after)
         ∙ ap (λ l. new_pieces before ++ l) (pieces-append (λ part. part.new) own_parts after) in
         let end_own : AllByRecursion Ends (new_pieces own_parts) =
-        AllByRecursion-front Ends (new_pieces own_parts) (new_pieces after)
-        (AllByRecursion-behind Ends (new_pieces before) (new_pieces own_parts ++ new_pieces after) (subst (AllByRecursion Ends) new_are end)) in (
+        AllByRecursion-prefix Ends (new_pieces own_parts) (new_pieces after)
+        (AllByRecursion-following Ends (new_pieces before) (new_pieces own_parts ++ new_pieces after) (subst (AllByRecursion Ends) new_are end)) in (
           ap old_pieces here ∙ one.old,
           ap (λ parts. map closed (new_pieces parts)) here ∙ one.new reopen_own ∙ map-closed (new_pieces own_parts) end_own ∙ new_pieces-own,
         )

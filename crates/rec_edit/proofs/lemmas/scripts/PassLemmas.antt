@@ -13,14 +13,12 @@ use Rattle.rec_text.specs.declared.element.Element.{Element}
 use Rattle.rec_text.specs.Places.{piece_of, pieces_of}
 use Rattle.rec_edit.specs.declared.script.draft.Draft.{Draft}
 use Rattle.rec_edit.specs.Script.{Part, closed, opened, without_newline, lacks_newline, putting, settled, Layout, changing, parts_from, script_of, old_pieces}
-use Rattle.rec_edit.specs.proving.Drafts.{IsDraft, settling, laying, closed_text, Keeps, IsTie, IsLaid, LaysLines, settled_as}
+use Rattle.rec_edit.specs.proving.Drafts.{IsDraft, settling, laying, closed_text, Keeps, IsTie, IsLaid, LaysLines, settled_as, laid, is_changed}
 use Rattle.rec_text.specs.Records.{elements_in}
-use Rattle.rec_edit.specs.Outcome.{laid, is_changed}
 use Rattle.rec_text.proofs.lemmas.elements.FieldLemmas.{ends_newline-append}
 use Rattle.rec_edit.proofs.lemmas.scripts.ScriptLemmas.{draft_kept, old_pieces-script_of}
 use Rattle.rec_text.proofs.lemmas.elements.ElementLemmas.{text_of-append}
-use Rattle.rec_text.proofs.lemmas.ListLemmas.{AllByRecursion-front, AllByRecursion-behind, same_bytes, bytes_eq-self}
-use Rattle.rec_edit.proofs.lemmas.layouts.NeatLemmas.{AllByRecursion-append}
+use Rattle.rec_text.proofs.lemmas.ListLemmas.{AllByRecursion-prefix, AllByRecursion-following, same_bytes, bytes_eq-self, AllByRecursion-append}
 
 -- ---- a script carried out element by element
 
@@ -35,10 +33,10 @@ settled-putting [] parts = refl
 settled-putting (piece ∷ new) parts = settled-cons (record { old = []; new = piece ∷ new }) parts refl
 
 -- a last element that lacks its newline
-pub settled-last : (part : Part) (behind : List Piece) → lacks_newline (text_of part.old) ≡ true
-    → settled (part ∷ putting behind []) ≡ (record { old = part.old; new = settling behind part.new }) ∷ putting behind []
+pub settled-last : (part : Part) (following : List Piece) → lacks_newline (text_of part.old) ≡ true
+    → settled (part ∷ putting following []) ≡ (record { old = part.old; new = settling following part.new }) ∷ putting following []
 settled-last part [] lacks = rw lacks refl
-settled-last part (piece ∷ behind) lacks = refl
+settled-last part (piece ∷ following) lacks = refl
 
 -- ---- one element
 
@@ -83,7 +81,7 @@ laid_something before after text none is some nothing = some (ap length (laid_fr
 pub closed_ends : (piece : Piece) → IsTrue (ends_newline (closed piece).bytes)
 closed_ends piece = elim (cases_Bool (ends_newline piece.bytes)) [
   | inl ends ↦ rw (ends, ends) refl
-  | inr open_ ↦ rw open_ (ends_newline-append piece.bytes (10 ∷ []) refl)
+  | inr is_left_open ↦ rw is_left_open (ends_newline-append piece.bytes (10 ∷ []) refl)
 ]
 
 abbrev pub AreLines : List Piece → Type 0
@@ -107,19 +105,19 @@ pub text_of-opened : (pieces : List Piece) (text popped : List ℕ) (size : ℕ)
 text_of-opened [] text popped size all is sized pop = pop ∙ ap (take (size - 1)) is ∙ take-nil (size - 1)
 text_of-opened (piece ∷ pieces) text popped size all is sized pop =
     let parts = is ∙ opened_parts piece pieces all in
-    let front = text_of (opened (piece ∷ pieces)) in
-    let short : length front ≡ size - 1 = omega (arith, ap length parts, length-append front (10 ∷ [])) in
-    pop ∙ ap (take (size - 1)) parts ∙ take_at front (10 ∷ []) (size - 1) short
+    let prefix = text_of (opened (piece ∷ pieces)) in
+    let short : length prefix ≡ size - 1 = omega (arith, ap length parts, length-append prefix (10 ∷ [])) in
+    pop ∙ ap (take (size - 1)) parts ∙ take_at prefix (10 ∷ []) (size - 1) short
 
-pub settling-nothing : (behind new : List Piece) → AreLines behind → text_of behind ≡ [] → settling behind new ≡ opened new
+pub settling-nothing : (following new : List Piece) → AreLines following → text_of following ≡ [] → settling following new ≡ opened new
 settling-nothing [] new all none = refl
-settling-nothing (piece ∷ behind) new all none =
-    let gone : piece.bytes ≡ [] = nil_from_length piece.bytes (omega (arith, ap length none, length-append piece.bytes (text_of behind))) in
+settling-nothing (piece ∷ following) new all none =
+    let gone : piece.bytes ≡ [] = nil_from_length piece.bytes (omega (arith, ap length none, length-append piece.bytes (text_of following))) in
     absurd (false≢true (ap ends_newline (sym gone) ∙ all.0))
 
-pub settling-something : (behind new : List Piece) → text_of behind ≢ [] → settling behind new ≡ new
+pub settling-something : (following new : List Piece) → text_of following ≢ [] → settling following new ≡ new
 settling-something [] new some = absurd (some refl)
-settling-something (piece ∷ behind) new some = refl
+settling-something (piece ∷ following) new some = refl
 
 -- ---- element by element
 
@@ -136,7 +134,7 @@ element_some Comment [] is none = false≢true is
 element_some Field [] is none = false≢true is
 element_some kind (b ∷ bytes) is none = cc
 
--- ---- what stands in the place of a record, compared with the record
+-- ---- what stands instead of a record, compared with the record
 
 -- ---- element by element
 
@@ -182,28 +180,28 @@ newline_both a b = elim (cases_Bool (bytes_eq a b)) [
   | inr differ ↦ false_from_ne_true _ (λ e. false≢true (sym differ ∙ ap (λ t. bytes_eq t b) (without_last a b (same_bytes _ _ e)) ∙ bytes_eq-self b)) ∙ sym differ
 ]
 
-pub closed_some : (laid front text : List ℕ) (test : Bool) → ends_newline text ≡ false → laid ≡ front ++ 10 ∷ [] → test ≡ bytes_eq front text → test ≡ bytes_eq laid (closed_text text)
-closed_some laid front text test open_ is tested =
-    tested ∙ sym (newline_both front text) ∙ ap (λ t. bytes_eq t (text ++ 10 ∷ [])) (sym is) ∙ ap (bytes_eq laid) (sym (closed_text-open text open_))
+pub closed_some : (laid prefix text : List ℕ) (test : Bool) → ends_newline text ≡ false → laid ≡ prefix ++ 10 ∷ [] → test ≡ bytes_eq prefix text → test ≡ bytes_eq laid (closed_text text)
+closed_some laid prefix text test is_left_open is tested =
+    tested ∙ sym (newline_both prefix text) ∙ ap (λ t. bytes_eq t (text ++ 10 ∷ [])) (sym is) ∙ ap (bytes_eq laid) (sym (closed_text-open text is_left_open))
 
-pub closed_none : (laid text : List ℕ) → ends_newline text ≡ false → ((front : List ℕ) → laid ≢ front ++ 10 ∷ []) → false ≡ bytes_eq laid (closed_text text)
-closed_none laid text open_ none =
-    sym (ap (bytes_eq laid) (closed_text-open text open_) ∙ false_from_ne_true _ (λ e. none text (same_bytes laid (text ++ 10 ∷ []) e)))
+pub closed_none : (laid text : List ℕ) → ends_newline text ≡ false → ((prefix : List ℕ) → laid ≢ prefix ++ 10 ∷ []) → false ≡ bytes_eq laid (closed_text text)
+closed_none laid text is_left_open none =
+    sym (ap (bytes_eq laid) (closed_text-open text is_left_open) ∙ false_from_ne_true _ (λ e. none text (same_bytes laid (text ++ 10 ∷ []) e)))
 
 -- ---- a record with a newline at its end
 
-ends_newline-behind : (front text : List ℕ) → text ≢ [] → ends_newline (front ++ text) ≡ ends_newline text
-ends_newline-behind [] text some = refl
-ends_newline-behind (a ∷ []) [] some = absurd (some refl)
-ends_newline-behind (a ∷ []) (b ∷ text) some = refl
-ends_newline-behind (a ∷ b ∷ front) text some = ends_newline-behind (b ∷ front) text some
+ends_newline-following : (prefix text : List ℕ) → text ≢ [] → ends_newline (prefix ++ text) ≡ ends_newline text
+ends_newline-following [] text some = refl
+ends_newline-following (a ∷ []) [] some = absurd (some refl)
+ends_newline-following (a ∷ []) (b ∷ text) some = refl
+ends_newline-following (a ∷ b ∷ prefix) text some = ends_newline-following (b ∷ prefix) text some
 
-closed_text-append : (front text : List ℕ) → text ≢ [] → closed_text (front ++ text) ≡ front ++ closed_text text
-closed_text-append front text some =
-    let same = ends_newline-behind front text some in
+closed_text-append : (prefix text : List ℕ) → text ≢ [] → closed_text (prefix ++ text) ≡ prefix ++ closed_text text
+closed_text-append prefix text some =
+    let same = ends_newline-following prefix text some in
     elim (cases_Bool (ends_newline text)) [
-      | inl ends ↦ closed_text-closed (front ++ text) (same ∙ ends) ∙ ap (λ t. front ++ t) (sym (closed_text-closed text ends))
-      | inr open_ ↦ closed_text-open (front ++ text) (same ∙ open_) ∙ append_assoc front text (10 ∷ []) ∙ ap (λ t. front ++ t) (sym (closed_text-open text open_))
+      | inl ends ↦ closed_text-closed (prefix ++ text) (same ∙ ends) ∙ ap (λ t. prefix ++ t) (sym (closed_text-closed text ends))
+      | inr is_left_open ↦ closed_text-open (prefix ++ text) (same ∙ is_left_open) ∙ append_assoc prefix text (10 ∷ []) ∙ ap (λ t. prefix ++ t) (sym (closed_text-open text is_left_open))
     ]
 
 first_nil : (a b : List ℕ) → a ++ b ≡ [] → a ≡ []
@@ -216,7 +214,7 @@ some_text piece pieces is none = element_some piece.kind piece.bytes is (first_n
 bytes-closed : (piece : Piece) → (closed piece).bytes ≡ closed_text piece.bytes
 bytes-closed piece = elim (cases_Bool (ends_newline piece.bytes)) [
   | inl ends ↦ rw ends refl
-  | inr open_ ↦ rw open_ refl
+  | inr is_left_open ↦ rw is_left_open refl
 ]
 
 pub text_of-closed : (piece : Piece) (pieces : List Piece) → AllByRecursion IsElement (piece ∷ pieces) → EndInNewlines (piece ∷ pieces)
@@ -245,41 +243,41 @@ record_closed : (own : List Piece) → 0 < length own → AllByRecursion IsEleme
 record_closed [] some all ends = absurd (omega (arith, some))
 record_closed (piece ∷ pieces) some all ends = text_of-closed piece pieces all ends
 
-pub IsElement-in : (pieces : List Piece) (record_ : Range ℕ) → AreElementsOf pieces (text_of pieces) → AllByRecursion IsElement (elements_in pieces record_)
-IsElement-in pieces record_ are =
-    let front = take record_.end pieces in
+pub IsElement-in : (pieces : List Piece) (own_range : Range ℕ) → AreElementsOf pieces (text_of pieces) → AllByRecursion IsElement (elements_in pieces own_range)
+IsElement-in pieces own_range are =
+    let prefix = take own_range.end pieces in
     let P : List Piece → Type 0 = AllByRecursion IsElement in
-    let early = AllByRecursion-front IsElement front (drop record_.end pieces) (subst P (sym (take-append-drop record_.end pieces)) are.well_formed) in
-    AllByRecursion-behind IsElement (take record_.start front) (drop record_.start front) (subst P (sym (take-append-drop record_.start front)) early)
+    let early = AllByRecursion-prefix IsElement prefix (drop own_range.end pieces) (subst P (sym (take-append-drop own_range.end pieces)) are.well_formed) in
+    AllByRecursion-following IsElement (take own_range.start prefix) (drop own_range.start prefix) (subst P (sym (take-append-drop own_range.start prefix)) early)
 
-pub elements_in-closed : (pieces : List Piece) (record_ : Range ℕ) → record_.start < record_.end → record_.end ≤ length pieces → AreElementsOf pieces (text_of pieces)
-    → text_of (map closed (elements_in pieces record_)) ≡ closed_text (text_of (elements_in pieces record_))
-elements_in-closed pieces record_ some within are =
-    let front = take record_.end pieces in
-    let own = drop record_.start front in
-    let size : 0 < length own = omega (arith, length-drop record_.start front, length-take-le record_.end pieces within) in
-    record_closed own size (IsElement-in pieces record_ are) (EndInNewlines-drop record_.start front (EndInNewlines-take record_.end pieces are.lines_end))
+pub elements_in-closed : (pieces : List Piece) (own_range : Range ℕ) → own_range.start < own_range.end → own_range.end ≤ length pieces → AreElementsOf pieces (text_of pieces)
+    → text_of (map closed (elements_in pieces own_range)) ≡ closed_text (text_of (elements_in pieces own_range))
+elements_in-closed pieces own_range some within are =
+    let prefix = take own_range.end pieces in
+    let own = drop own_range.start prefix in
+    let size : 0 < length own = omega (arith, length-drop own_range.start prefix, length-take-le own_range.end pieces within) in
+    record_closed own size (IsElement-in pieces own_range are) (EndInNewlines-drop own_range.start prefix (EndInNewlines-take own_range.end pieces are.lines_end))
 
 -- ---- the comparison
 
-pub laid_is : (layout : Layout) (pieces : List Piece) (record_ : Range ℕ) (own : List Piece) (none first second third : List ℕ) → own ≡ elements_in pieces record_ → none ≡ []
-    → first ≡ none ++ text_of (layout.put record_.start) → second ≡ first ++ text_of (laying layout record_.start own) → third ≡ second ++ text_of (layout.put record_.end)
-    → third ≡ text_of (laid layout pieces record_)
-laid_is layout pieces record_ own none first second third own_is empty one two three =
-    let begun = layout.put record_.start in
-    let middle = laying layout record_.start (elements_in pieces record_) in
-    let ended = layout.put record_.end in
-    three ∙ ap (λ t. t ++ text_of ended) (two ∙ ap (λ t. t ++ text_of (laying layout record_.start own)) (one ∙ ap (λ t. t ++ text_of begun) empty)
-    ∙ ap (λ p. text_of begun ++ text_of (laying layout record_.start p)) own_is)
+pub laid_is : (layout : Layout) (pieces : List Piece) (own_range : Range ℕ) (own : List Piece) (none first second third : List ℕ) → own ≡ elements_in pieces own_range → none ≡ []
+    → first ≡ none ++ text_of (layout.put own_range.start) → second ≡ first ++ text_of (laying layout own_range.start own) → third ≡ second ++ text_of (layout.put own_range.end)
+    → third ≡ text_of (laid layout pieces own_range)
+laid_is layout pieces own_range own none first second third own_is empty one two three =
+    let begun = layout.put own_range.start in
+    let middle = laying layout own_range.start (elements_in pieces own_range) in
+    let ended = layout.put own_range.end in
+    three ∙ ap (λ t. t ++ text_of ended) (two ∙ ap (λ t. t ++ text_of (laying layout own_range.start own)) (one ∙ ap (λ t. t ++ text_of begun) empty)
+    ∙ ap (λ p. text_of begun ++ text_of (laying layout own_range.start p)) own_is)
     ∙ append_assoc (text_of begun) (text_of middle) (text_of ended) ∙ ap (λ t. text_of begun ++ t) (sym (text_of-append middle ended)) ∙ sym (text_of-append begun (middle ++ ended))
 
-pub changed_is : (layout : Layout) (pieces : List Piece) (record_ : Range ℕ) (bytes text : List ℕ) (test : Bool) → record_.start < record_.end → record_.end ≤ length pieces
-    → AreElementsOf pieces (text_of pieces) → bytes ≡ text_of (laid layout pieces record_) → text ≡ text_of (elements_in pieces record_) → test ≡ bytes_eq bytes (closed_text text)
-    → not test ≡ is_changed layout pieces record_
-changed_is layout pieces record_ bytes text test some within are bytes_are text_is tested =
+pub changed_is : (layout : Layout) (pieces : List Piece) (own_range : Range ℕ) (bytes text : List ℕ) (test : Bool) → own_range.start < own_range.end → own_range.end ≤ length pieces
+    → AreElementsOf pieces (text_of pieces) → bytes ≡ text_of (laid layout pieces own_range) → text ≡ text_of (elements_in pieces own_range) → test ≡ bytes_eq bytes (closed_text text)
+    → not test ≡ is_changed layout pieces own_range
+changed_is layout pieces own_range bytes text test some within are bytes_are text_is tested =
     ap not (
     tested ∙ ap (λ t. bytes_eq t (closed_text text)) bytes_are
-    ∙ ap (bytes_eq (text_of (laid layout pieces record_))) (ap closed_text text_is ∙ sym (elements_in-closed pieces record_ some within are))
+    ∙ ap (bytes_eq (text_of (laid layout pieces own_range))) (ap closed_text text_is ∙ sym (elements_in-closed pieces own_range some within are))
     )
 
 -- ---- elements that are changed as one: a part of a script, carried out
@@ -292,8 +290,8 @@ changing-alone tied piece new [] alone = refl
 changing-alone tied piece new (next ∷ parts) (inl untied) = rw untied refl
 changing-alone tied piece new (next ∷ parts) (inr none) = cc
 
-settled_as-open : (text : List ℕ) (behind new : List Piece) → ends_newline text ≡ false → settled_as text behind new ≡ settling behind new
-settled_as-open text behind new open_ = rw open_ refl
+settled_as-open : (text : List ℕ) (following new : List Piece) → ends_newline text ≡ false → settled_as text following new ≡ settling following new
+settled_as-open text following new is_left_open = rw is_left_open refl
 
 module _ (layout : Layout) where
   parts_from-none : (i : ℕ) (pieces : List Piece) → length pieces ≡ 0 → layout.put i ≡ [] → parts_from i layout pieces ≡ []
@@ -302,66 +300,66 @@ module _ (layout : Layout) where
   IsTie-next : (count first end : ℕ) → IsTie layout count first end → first + 1 < end → IsTie layout count (first + 1) end
   IsTie-next count first end tie more = record { some = more; within = tie.within; each = λ i low high. tie.each i (omega arith) high; last = tie.last }
 
-  parts_from-tie : (count first end : ℕ) (own behind : List Piece) → IsTie layout count first end → first + length own ≡ end → end + length behind ≡ count
-      → parts_from first layout (own ++ behind) ≡ putting (layout.put first) ((record { old = own; new = laying layout first own }) ∷ parts_from end layout behind)
-  parts_from-tie count first end [] behind tie size rest = absurd (omega (arith, tie.some))
-  parts_from-tie count first end (piece ∷ []) behind tie size rest =
+  parts_from-tie : (count first end : ℕ) (own following : List Piece) → IsTie layout count first end → first + length own ≡ end → end + length following ≡ count
+      → parts_from first layout (own ++ following) ≡ putting (layout.put first) ((record { old = own; new = laying layout first own }) ∷ parts_from end layout following)
+  parts_from-tie count first end [] following tie size rest = absurd (omega (arith, tie.some))
+  parts_from-tie count first end (piece ∷ []) following tie size rest =
       let new = layout.becomes first (closed piece) in
       let made : List Piece → Part = λ n. record { old = piece ∷ []; new = n } in
-      let P : Type 0 = (layout.tied first ≡ false) ⊎ (parts_from (first + 1) layout behind ≡ []) in
+      let P : Type 0 = (layout.tied first ≡ false) ⊎ (parts_from (first + 1) layout following ≡ []) in
       let alone : P = elim (tie.last first size) [
         | inl untied ↦ inl untied
-        | inr (ends, none) ↦ inr (parts_from-none (first + 1) behind (omega arith) (ap layout.put size ∙ none))
+        | inr (ends, none) ↦ inr (parts_from-none (first + 1) following (omega arith) (ap layout.put size ∙ none))
       ] in
       ap (putting (layout.put first)) (
-      changing-alone (layout.tied first) piece new (parts_from (first + 1) layout behind) alone
-      ∙ ap (λ n. made n ∷ parts_from (first + 1) layout behind) (sym (append-nil new))
-      ∙ ap (λ n. made (new ++ []) ∷ parts_from n layout behind) size
+      changing-alone (layout.tied first) piece new (parts_from (first + 1) layout following) alone
+      ∙ ap (λ n. made n ∷ parts_from (first + 1) layout following) (sym (append-nil new))
+      ∙ ap (λ n. made (new ++ []) ∷ parts_from n layout following) size
       )
-  parts_from-tie count first end (piece ∷ next ∷ own) behind tie size rest =
+  parts_from-tie count first end (piece ∷ next ∷ own) following tie size rest =
       let more : first + 1 < end = omega arith in
-      let step = tie.each first (omega arith) more in
+      let edit = tie.each first (omega arith) more in
       let new = layout.becomes first (closed piece) in
       let part : Part = record { old = next ∷ own; new = laying layout (first + 1) (next ∷ own) } in
-      let others = parts_from end layout behind in
-      let later = parts_from-tie count (first + 1) end (next ∷ own) behind (IsTie-next count first end tie more) (omega arith) rest in
+      let others = parts_from end layout following in
+      let later = parts_from-tie count (first + 1) end (next ∷ own) following (IsTie-next count first end tie more) (omega arith) rest in
       ap (putting (layout.put first)) (
-      ap (λ t. changing t piece new (parts_from (first + 1) layout (next ∷ (own ++ behind)))) step.0
-      ∙ ap (changing true piece new) (later ∙ ap (λ p. putting p (part ∷ others)) step.1)
+      ap (λ t. changing t piece new (parts_from (first + 1) layout (next ∷ (own ++ following)))) edit.0
+      ∙ ap (changing true piece new) (later ∙ ap (λ p. putting p (part ∷ others)) edit.1)
       )
 
-  settled-part : (end : ℕ) (part : Part) (behind : List Piece) → text_of part.old ≢ [] → (ends_newline (text_of part.old) ≡ false → behind ≡ [])
-      → settled (part ∷ parts_from end layout behind) ≡ (record { old = part.old; new = settled_as (text_of part.old) (layout.put end) part.new }) ∷ settled (parts_from end layout behind)
-  settled-part end part behind some last = elim (cases_Bool (ends_newline (text_of part.old))) [
-    | inl ends ↦ settled-cons part (parts_from end layout behind) (lacks_newline-ended (text_of part.old) ends) ∙ rw ends refl
-    | inr open_ ↦
+  settled-part : (end : ℕ) (part : Part) (following : List Piece) → text_of part.old ≢ [] → (ends_newline (text_of part.old) ≡ false → following ≡ [])
+      → settled (part ∷ parts_from end layout following) ≡ (record { old = part.old; new = settled_as (text_of part.old) (layout.put end) part.new }) ∷ settled (parts_from end layout following)
+  settled-part end part following some last = elim (cases_Bool (ends_newline (text_of part.old))) [
+    | inl ends ↦ settled-cons part (parts_from end layout following) (lacks_newline-ended (text_of part.old) ends) ∙ rw ends refl
+    | inr is_left_open ↦
         let P : List Piece → Type 0 = λ b. settled (part ∷ parts_from end layout b)
         ≡ (record { old = part.old; new = settled_as (text_of part.old) (layout.put end) part.new }) ∷ settled (parts_from end layout b) in
         let here : Part = record { old = part.old; new = settled_as (text_of part.old) (layout.put end) part.new } in
         let made : List Piece → Part = λ new. record { old = part.old; new = new } in
-        subst P (sym (last open_)) (
-        settled-last part (layout.put end) (lacks_newline-open (text_of part.old) some open_)
-        ∙ ap (λ new. made new ∷ putting (layout.put end) []) (sym (settled_as-open (text_of part.old) (layout.put end) part.new open_))
+        subst P (sym (last is_left_open)) (
+        settled-last part (layout.put end) (lacks_newline-open (text_of part.old) some is_left_open)
+        ∙ ap (λ new. made new ∷ putting (layout.put end) []) (sym (settled_as-open (text_of part.old) (layout.put end) part.new is_left_open))
         ∙ ap (λ parts. here ∷ parts) (sym (settled-putting (layout.put end) []))
         )
   ]
 
 -- ---- their end, index by index
 
--- those from an index up to another are tied to the ones behind them
+-- those from an index up to another are tied to the ones after them
 abbrev pub AreTied : Layout → ℕ → ℕ → Type 0
 AreTied layout first end = (i : ℕ) → first ≤ i → i < end → (layout.tied i ≡ true) × (layout.put (i + 1) ≡ [])
 
 -- ---- elements of a text
 
-text_ends : (own : List Piece) (next : Piece) (behind : List Piece) → 0 < length own → EndInNewlines (own ++ next ∷ behind) → ends_newline (text_of own) ≡ true
-text_ends [] next behind some ends = absurd (omega arith)
-text_ends (piece ∷ []) next behind some ends = ap ends_newline (append-nil piece.bytes) ∙ ends.0
-text_ends (piece ∷ more ∷ own) next behind some ends = ends_newline-append piece.bytes (text_of (more ∷ own)) (text_ends (more ∷ own) next behind (omega arith) ends.1)
+text_ends : (own : List Piece) (next : Piece) (following : List Piece) → 0 < length own → EndInNewlines (own ++ next ∷ following) → ends_newline (text_of own) ≡ true
+text_ends [] next following some ends = absurd (omega arith)
+text_ends (piece ∷ []) next following some ends = ap ends_newline (append-nil piece.bytes) ∙ ends.0
+text_ends (piece ∷ more ∷ own) next following some ends = ends_newline-append piece.bytes (text_of (more ∷ own)) (text_ends (more ∷ own) next following (omega arith) ends.1)
 
-last_open : (own behind : List Piece) → 0 < length own → EndInNewlines (own ++ behind) → ends_newline (text_of own) ≡ false → behind ≡ []
-last_open own [] some ends open_ = refl
-last_open own (next ∷ behind) some ends open_ = absurd (false≢true (sym open_ ∙ text_ends own next behind some ends))
+last_open : (own following : List Piece) → 0 < length own → EndInNewlines (own ++ following) → ends_newline (text_of own) ≡ false → following ≡ []
+last_open own [] some ends is_left_open = refl
+last_open own (next ∷ following) some ends is_left_open = absurd (false≢true (sym is_left_open ∙ text_ends own next following some ends))
 
 text_some : (own : List Piece) → 0 < length own → AllByRecursion IsElement own → text_of own ≢ []
 text_some [] some all = absurd (omega arith)
@@ -412,7 +410,7 @@ kept_begun draft layout pieces elements first d are within ends keeps untied is 
     ∙ settled-cons (made (piece ∷ [])) rest (lacks_newline-ended (text_of (piece ∷ [])) (ap ends_newline (append-nil piece.bytes) ∙ ends))
     ) is
 
--- behind the last element
+-- after the last element
 pub laid_end : (draft : Draft) (layout : Layout) (pieces : List Piece) (elements : List Element) → pieces_of elements ≡ pieces → IsLaid draft layout pieces (length pieces)
     → IsDraft draft (putting (layout.put (length elements)) []) (script_of layout pieces)
 laid_end draft layout pieces elements are is =
@@ -424,15 +422,15 @@ laid_end draft layout pieces elements are is =
     ) is
 
 module _ (layout : Layout) (pieces : List Piece) (range : Range ℕ) (are : AreElementsOf pieces (text_of pieces)) (tie : IsTie layout (length pieces) range.start range.end) where
-  length-front : length (take range.end pieces) ≡ range.end
-  length-front = length-take-le range.end pieces tie.within
+  length-prefix : length (take range.end pieces) ≡ range.end
+  length-prefix = length-take-le range.end pieces tie.within
 
   length-tie : range.start + length (elements_in pieces range) ≡ range.end
-  length-tie = omega (arith, tie.some, length-front, length-drop range.start (take range.end pieces))
+  length-tie = omega (arith, tie.some, length-prefix, length-drop range.start (take range.end pieces))
 
   drop-tie : drop range.start pieces ≡ elements_in pieces range ++ drop range.end pieces
   drop-tie =
-      ap (drop range.start) (sym (take-append-drop range.end pieces)) ∙ drop-append-le range.start (take range.end pieces) (drop range.end pieces) (omega (arith, tie.some, length-front))
+      ap (drop range.start) (sym (take-append-drop range.end pieces)) ∙ drop-append-le range.start (take range.end pieces) (drop range.end pieces) (omega (arith, tie.some, length-prefix))
 
   -- a draft that reaches them, part by part
   pub tie_begun : (draft : Draft) → IsLaid draft layout pieces range.start
@@ -442,19 +440,19 @@ module _ (layout : Layout) (pieces : List Piece) (range : Range ℕ) (are : AreE
       }) ∷ settled (parts_from range.end layout (drop range.end pieces)))) (script_of layout pieces)
   tie_begun draft is =
       let own = elements_in pieces range in
-      let behind = drop range.end pieces in
+      let following = drop range.end pieces in
       let some : 0 < length own = omega (arith, tie.some, length-tie) in
       let part : Part = record { old = own; new = laying layout range.start own } in
       let E : List Piece → Type 0 = EndInNewlines in
       let ends = subst E drop-tie (EndInNewlines-drop range.start pieces are.lines_end) in
       let P : List Part → Type 0 = λ parts. IsDraft draft parts (script_of layout pieces) in
-      let count : range.end + length behind ≡ length pieces = omega (arith, tie.within, length-drop range.end pieces) in
+      let count : range.end + length following ≡ length pieces = omega (arith, tie.within, length-drop range.end pieces) in
       subst P (
       ap (λ p. settled (parts_from range.start layout p)) drop-tie
-      ∙ ap settled (parts_from-tie layout (length pieces) range.start range.end own behind tie length-tie count)
-      ∙ settled-putting (layout.put range.start) (part ∷ parts_from range.end layout behind)
+      ∙ ap settled (parts_from-tie layout (length pieces) range.start range.end own following tie length-tie count)
+      ∙ settled-putting (layout.put range.start) (part ∷ parts_from range.end layout following)
       ∙ ap (putting (layout.put range.start))
-      (settled-part layout range.end part behind (text_some own some (IsElement-in pieces range are)) (last_open own behind some ends))
+      (settled-part layout range.end part following (text_some own some (IsElement-in pieces range are)) (last_open own following some ends))
       ) is
 
   -- what the code writes for them

@@ -8,7 +8,8 @@ use Rattle.std.specs.Option.{SomeIff, IsSome}
 use Rattle.rec_text.specs.Elements.{Piece, text_of}
 use Rattle.rec_journal.specs.declared.patch.Hunk.{Hunk}
 use Rattle.rec_journal.specs.Patch.{AreApartFrom, IsPatch, SplicesFrom, Splices}
-use Rattle.rec_edit.specs.Script.{Part, Layout, lacks_newline, settled, closed, putting, changing, parts_from, script_of, old_pieces, edited_text, new_pieces, is_kept, changes_from, joining, joined, real_changes, hunks_of, TakesWhole}
+use Rattle.rec_edit.specs.Script.{Part, Layout, lacks_newline, settled, closed, putting, changing, parts_from, script_of, old_pieces, edited_text, new_pieces, is_kept, changes_from, TakesWhole}
+use Rattle.rec_edit.specs.proving.Changes.{joining, joined, real_changes, hunks_of}
 use Rattle.rec_edit.specs.declared.script.draft.Draft.{Draft}
 use Rattle.rec_edit.specs.declared.script.draft.Run.{Run}
 use Rattle.rec_edit.specs.proving.Drafts.{hunk_of, opening, EndsBy, IsDraft, IsRunHere}
@@ -52,21 +53,21 @@ old_pieces-script_of layout pieces = old_pieces-settled (parts_from 0 layout pie
 -- after it has the text of those that are kept, and each hunk's new text.
 abbrev pub Cuts : ℕ → List Hunk → List Piece → List ℕ → Type 0
 Cuts place [] pieces after = text_of pieces ≡ after
-Cuts place (hunk ∷ hunks) pieces after = (kept old behind : List Piece) × (rest : List ℕ) × (place + length (text_of kept) ≡ hunk.at)
-    × (pieces ≡ kept ++ (old ++ behind)) × (hunk.old ≡ text_of old) × (after ≡ text_of kept ++ (hunk.new ++ rest))
-    × Cuts (hunk.at + length hunk.old) hunks behind rest
+Cuts place (hunk ∷ hunks) pieces after = (kept old following : List Piece) × (rest : List ℕ) × (place + length (text_of kept) ≡ hunk.at)
+    × (pieces ≡ kept ++ (old ++ following)) × (hunk.old ≡ text_of old) × (after ≡ text_of kept ++ (hunk.new ++ rest))
+    × Cuts (hunk.at + length hunk.old) hunks following rest
 
 -- elements that are kept, before others
 pub Cuts-keep : (place : ℕ) (kept : List Piece) (hunks : List Hunk) (pieces : List Piece) (after : List ℕ) → Cuts (place + length (text_of kept)) hunks pieces after
     → Cuts place hunks (kept ++ pieces) (text_of kept ++ after)
 Cuts-keep place kept [] pieces after cuts = text_of-append kept pieces ∙ ap (λ t. text_of kept ++ t) cuts
-Cuts-keep place kept (hunk ∷ hunks) pieces after (more, old, behind, rest, place_is, before_is, old_is, after_is, cuts) = (
+Cuts-keep place kept (hunk ∷ hunks) pieces after (more, old, following, rest, place_is, before_is, old_is, after_is, cuts) = (
   kept ++ more,
   old,
-  behind,
+  following,
   rest,
   let size = ap length (text_of-append kept more) in omega (arith, size, length-append (text_of kept) (text_of more)),
-  ap (λ p. kept ++ p) before_is ∙ sym (append_assoc kept more (old ++ behind)),
+  ap (λ p. kept ++ p) before_is ∙ sym (append_assoc kept more (old ++ following)),
   old_is,
   ap (λ t. text_of kept ++ t) after_is ∙ sym (append_assoc (text_of kept) (text_of more) (hunk.new ++ rest)) ∙ ap (λ t. t ++ (hunk.new ++ rest)) (sym (text_of-append kept more)),
   cuts,
@@ -75,31 +76,31 @@ Cuts-keep place kept (hunk ∷ hunks) pieces after (more, old, behind, rest, pla
 pub Cuts-changes_from : (place : ℕ) (parts : List Part) → Cuts place (changes_from place parts) (old_pieces parts) (edited_text parts)
 Cuts-changes_from place [] = refl
 Cuts-changes_from place (part ∷ parts) =
-    let behind = Cuts-changes_from (place + length (text_of part.old)) parts in
+    let following = Cuts-changes_from (place + length (text_of part.old)) parts in
     elim (cases_Bool (is_kept part)) [
       | inl kept ↦
           let same : text_of part.old ≡ text_of part.new = same_bytes _ _ kept in
           let P : List ℕ → Type 0 = Cuts place (changes_from (place + length (text_of part.old)) parts) (part.old ++ old_pieces parts) in
           let after : text_of part.old ++ edited_text parts ≡ edited_text (part ∷ parts) = ap (λ t. t ++ edited_text parts) same ∙ sym (text_of-append part.new (new_pieces parts)) in
-          rw kept (subst P after (Cuts-keep place part.old _ _ _ behind))
-      | inr changes ↦ rw changes ([], part.old, old_pieces parts, edited_text parts, omega arith, refl, refl, text_of-append part.new (new_pieces parts), behind)
+          rw kept (subst P after (Cuts-keep place part.old _ _ _ following))
+      | inr changes ↦ rw changes ([], part.old, old_pieces parts, edited_text parts, omega arith, refl, refl, text_of-append part.new (new_pieces parts), following)
     ]
 
 -- a hunk that begins where the one before it ends
 cuts_touch : (place : ℕ) (hunk next : Hunk) (hunks : List Hunk) (pieces : List Piece) (after : List ℕ) → hunk.at + length hunk.old ≡ next.at → Cuts place (hunk ∷ next ∷ hunks) pieces after
     → Cuts place (record { at = hunk.at; old = hunk.old ++ next.old; new = hunk.new ++ next.new } ∷ hunks) pieces after
 cuts_touch place hunk next hunks pieces after touch
-    (kept, old, behind, rest, place_is, before_is, old_is, after_is, (between, old', behind', rest', place_is', before_is', old_is', after_is', cuts)) =
+    (kept, old, following, rest, place_is, before_is, old_is, after_is, (between, old', following', rest', place_is', before_is', old_is', after_is', cuts)) =
     let nothing : text_of between ≡ [] = nil_from_length _ (omega arith) in
     let taken : hunk.old ++ next.old ≡ text_of (old ++ (between ++ old')) =
     ap (λ t. t ++ next.old) old_is ∙ ap (λ t. text_of old ++ t) (old_is' ∙ sym (text_of-append between old' ∙ ap (λ t. t ++ text_of old') nothing)) ∙ sym (text_of-append old (between ++ old')) in
-    let P : ℕ → Type 0 = λ at. Cuts at hunks behind' rest' in (
+    let P : ℕ → Type 0 = λ at. Cuts at hunks following' rest' in (
       kept,
       old ++ (between ++ old'),
-      behind',
+      following',
       rest',
       place_is,
-      before_is ∙ ap (λ p. kept ++ p) (ap (λ p. old ++ p) (before_is' ∙ sym (append_assoc between old' behind')) ∙ sym (append_assoc old (between ++ old') behind')),
+      before_is ∙ ap (λ p. kept ++ p) (ap (λ p. old ++ p) (before_is' ∙ sym (append_assoc between old' following')) ∙ sym (append_assoc old (between ++ old') following')),
       taken,
       after_is ∙ ap (λ t. text_of kept ++ t) (ap (λ t. hunk.new ++ t) (after_is' ∙ ap (λ t. t ++ (next.new ++ rest')) nothing) ∙ sym (append_assoc hunk.new next.new rest')),
       subst P (let e : next.at + length next.old ≡ hunk.at + length (hunk.old ++ next.old) = omega (arith, length-append hunk.old next.old) in e) cuts,
@@ -114,26 +115,26 @@ Cuts-joining place hunk (next ∷ hunks) pieces after cuts = elim (cases_Bool (h
 
 pub Cuts-joined : (place : ℕ) (hunks : List Hunk) (pieces : List Piece) (after : List ℕ) → Cuts place hunks pieces after → Cuts place (joined hunks) pieces after
 Cuts-joined place [] pieces after cuts = cuts
-Cuts-joined place (hunk ∷ hunks) pieces after (kept, old, behind, rest, place_is, before_is, old_is, after_is, cuts) =
-    Cuts-joining place hunk (joined hunks) pieces after (kept, old, behind, rest, place_is, before_is, old_is, after_is, Cuts-joined (hunk.at + length hunk.old) hunks behind rest cuts)
+Cuts-joined place (hunk ∷ hunks) pieces after (kept, old, following, rest, place_is, before_is, old_is, after_is, cuts) =
+    Cuts-joining place hunk (joined hunks) pieces after (kept, old, following, rest, place_is, before_is, old_is, after_is, Cuts-joined (hunk.at + length hunk.old) hunks following rest cuts)
 
 pub Cuts-real_changes : (place : ℕ) (hunks : List Hunk) (pieces : List Piece) (after : List ℕ) → Cuts place hunks pieces after → Cuts place (real_changes hunks) pieces after
 Cuts-real_changes place [] pieces after cuts = cuts
-Cuts-real_changes place (hunk ∷ hunks) pieces after (kept, old, behind, rest, place_is, before_is, old_is, after_is, cuts) =
-    let more = Cuts-real_changes (hunk.at + length hunk.old) hunks behind rest cuts in
+Cuts-real_changes place (hunk ∷ hunks) pieces after (kept, old, following, rest, place_is, before_is, old_is, after_is, cuts) =
+    let more = Cuts-real_changes (hunk.at + length hunk.old) hunks following rest cuts in
     elim (cases_Bool (bytes_eq hunk.old hunk.new)) [
       | inl same ↦
           let old_new : hunk.new ≡ text_of old = sym (same_bytes _ _ same) ∙ old_is in
           let gone = kept ++ old in
           let gone_text : text_of gone ≡ text_of kept ++ text_of old = text_of-append kept old in
           let place' : place + length (text_of gone) ≡ hunk.at + length hunk.old = omega (arith, ap length gone_text, length-append (text_of kept) (text_of old), ap length old_is) in
-          let at_place : ℕ → Type 0 = λ at. Cuts at (real_changes hunks) behind rest in
+          let at_place : ℕ → Type 0 = λ at. Cuts at (real_changes hunks) following rest in
           let P : List Piece → Type 0 = λ p. Cuts place (real_changes hunks) p (text_of gone ++ rest) in
           let Q : List ℕ → Type 0 = Cuts place (real_changes hunks) pieces in
-          let before' : gone ++ behind ≡ pieces = append_assoc kept old behind ∙ sym before_is in
+          let before' : gone ++ following ≡ pieces = append_assoc kept old following ∙ sym before_is in
           let after' : text_of gone ++ rest ≡ after = ap (λ t. t ++ rest) gone_text ∙ append_assoc (text_of kept) (text_of old) rest ∙ ap (λ t. text_of kept ++ (t ++ rest)) (sym old_new) ∙ sym after_is in
-          rw same (subst Q after' (subst P before' (Cuts-keep place gone (real_changes hunks) behind rest (subst at_place (sym place') more))))
-      | inr changes ↦ rw changes (kept, old, behind, rest, place_is, before_is, old_is, after_is, more)
+          rw same (subst Q after' (subst P before' (Cuts-keep place gone (real_changes hunks) following rest (subst at_place (sym place') more))))
+      | inr changes ↦ rw changes (kept, old, following, rest, place_is, before_is, old_is, after_is, more)
     ]
 
 pub Cuts-hunks_of : (script : List Part) → Cuts 0 (hunks_of script) (old_pieces script) (edited_text script)
@@ -144,14 +145,14 @@ Cuts-hunks_of script =
 
 splices_from_cuts : (place : ℕ) (hunks : List Hunk) (pieces : List Piece) (after : List ℕ) → Cuts place hunks pieces after → SplicesFrom place hunks (text_of pieces) after
 splices_from_cuts place [] pieces after cuts = cuts
-splices_from_cuts place (hunk ∷ hunks) pieces after (kept, old, behind, rest, place_is, before_is, old_is, after_is, cuts) = (
+splices_from_cuts place (hunk ∷ hunks) pieces after (kept, old, following, rest, place_is, before_is, old_is, after_is, cuts) = (
   text_of kept,
-  text_of behind,
+  text_of following,
   rest,
   place_is,
-  ap text_of before_is ∙ text_of-append kept (old ++ behind) ∙ ap (λ t. text_of kept ++ t) (text_of-append old behind ∙ ap (λ t. t ++ text_of behind) (sym old_is)),
+  ap text_of before_is ∙ text_of-append kept (old ++ following) ∙ ap (λ t. text_of kept ++ t) (text_of-append old following ∙ ap (λ t. t ++ text_of following) (sym old_is)),
   after_is,
-  splices_from_cuts (hunk.at + length hunk.old) hunks behind rest cuts,
+  splices_from_cuts (hunk.at + length hunk.old) hunks following rest cuts,
 )
 
 pub Splices-hunks_of : (script : List Part) → Splices (hunks_of script) (text_of (old_pieces script)) (edited_text script)
@@ -164,18 +165,18 @@ same_where_no_hunk script none =
 
 -- ---- whole elements
 
-takes_from_cuts : (place : ℕ) (front : List Piece) (hunks : List Hunk) (pieces : List Piece) (after : List ℕ) → place ≡ length (text_of front) → Cuts place hunks pieces after
-    → AllByRecursion (TakesWhole (front ++ pieces)) hunks
-takes_from_cuts place front [] pieces after place_is cuts = tt
-takes_from_cuts place front (hunk ∷ hunks) pieces after place_is (kept, old, behind, rest, at_is, before_is, old_is, after_is, cuts) =
-    let kept_size : length (text_of (front ++ kept)) ≡ hunk.at = omega (arith, ap length (text_of-append front kept), length-append (text_of front) (text_of kept)) in
-    let old_size : length (text_of ((front ++ kept) ++ old)) ≡ hunk.at + length hunk.old =
-    omega (arith, ap length (text_of-append (front ++ kept) old), length-append (text_of (front ++ kept)) (text_of old), ap length old_is) in
-    let here : front ++ pieces ≡ (front ++ kept) ++ (old ++ behind) = ap (λ p. front ++ p) before_is ∙ sym (append_assoc front kept (old ++ behind)) in
-    let later : ((front ++ kept) ++ old) ++ behind ≡ front ++ pieces = append_assoc (front ++ kept) old behind ∙ sym here in
+takes_from_cuts : (place : ℕ) (prefix : List Piece) (hunks : List Hunk) (pieces : List Piece) (after : List ℕ) → place ≡ length (text_of prefix) → Cuts place hunks pieces after
+    → AllByRecursion (TakesWhole (prefix ++ pieces)) hunks
+takes_from_cuts place prefix [] pieces after place_is cuts = tt
+takes_from_cuts place prefix (hunk ∷ hunks) pieces after place_is (kept, old, following, rest, at_is, before_is, old_is, after_is, cuts) =
+    let kept_size : length (text_of (prefix ++ kept)) ≡ hunk.at = omega (arith, ap length (text_of-append prefix kept), length-append (text_of prefix) (text_of kept)) in
+    let old_size : length (text_of ((prefix ++ kept) ++ old)) ≡ hunk.at + length hunk.old =
+    omega (arith, ap length (text_of-append (prefix ++ kept) old), length-append (text_of (prefix ++ kept)) (text_of old), ap length old_is) in
+    let here : prefix ++ pieces ≡ (prefix ++ kept) ++ (old ++ following) = ap (λ p. prefix ++ p) before_is ∙ sym (append_assoc prefix kept (old ++ following)) in
+    let later : ((prefix ++ kept) ++ old) ++ following ≡ prefix ++ pieces = append_assoc (prefix ++ kept) old following ∙ sym here in
     let P : List Piece → Type 0 = λ p. AllByRecursion (TakesWhole p) hunks in (
-      (front ++ kept, old, behind, here, sym kept_size, old_is),
-      subst P later (takes_from_cuts (hunk.at + length hunk.old) ((front ++ kept) ++ old) hunks behind rest (sym old_size) cuts),
+      (prefix ++ kept, old, following, here, sym kept_size, old_is),
+      subst P later (takes_from_cuts (hunk.at + length hunk.old) ((prefix ++ kept) ++ old) hunks following rest (sym old_size) cuts),
     )
 
 pub TakesWhole-hunks_of : (script : List Part) → AllByRecursion (TakesWhole (old_pieces script)) (hunks_of script)
@@ -200,10 +201,10 @@ AreInOrder-lower least more (hunk ∷ hunks) lower order = (omega (arith, order.
 AreInOrder-changes_from : (place : ℕ) (parts : List Part) → AreInOrder place (changes_from place parts)
 AreInOrder-changes_from place [] = tt
 AreInOrder-changes_from place (part ∷ parts) =
-    let behind = AreInOrder-changes_from (place + length (text_of part.old)) parts in
+    let following = AreInOrder-changes_from (place + length (text_of part.old)) parts in
     elim (cases_Bool (is_kept part)) [
-      | inl kept ↦ rw kept (AreInOrder-lower place (place + length (text_of part.old)) _ (omega arith) behind)
-      | inr changes ↦ rw changes (omega arith, behind)
+      | inl kept ↦ rw kept (AreInOrder-lower place (place + length (text_of part.old)) _ (omega arith) following)
+      | inr changes ↦ rw changes (omega arith, following)
     ]
 
 AreSeparate-joining : (least : ℕ) (hunk : Hunk) (hunks : List Hunk) → least ≤ hunk.at → AreSeparate (hunk.at + length hunk.old) hunks → AreSeparate least (joining hunk hunks)
@@ -299,11 +300,11 @@ pub new_run_here : (draft new : Draft) (last run : Run) → draft.run ≡ Some l
     → new.hunks.items ≡ draft.hunks.items ++ real_changes (hunk_of last ∷ []) → new.text.items ≡ draft.text.items → new.at ≡ draft.at → IsRunHere draft run new
 new_run_here draft new last run is_open ends at_is old_is new_is hunks text at = record {
   hunks = λ next more next_at.
-      let behind = joining next more in
+      let following = joining next more in
       let apart : (last.at + length last.old.items == next.at) ≡ false = ap (λ n. last.at + length last.old.items == n) next_at ∙ ends in
-      ap (λ r. draft.hunks.items ++ real_changes (opening r behind)) is_open ∙ ap (λ h. draft.hunks.items ++ real_changes h) (joining-apart (hunk_of last) next more apart)
-      ∙ ap (λ h. draft.hunks.items ++ h) (real_changes-cons (hunk_of last) behind) ∙ sym (append_assoc draft.hunks.items (real_changes (hunk_of last ∷ [])) (real_changes behind))
-      ∙ ap (λ h. h ++ real_changes behind) (sym hunks) ∙ ap (λ h. new.hunks.items ++ real_changes h) (sym (joining-empty (hunk_of run) next more (at_is ∙ sym next_at) old_is new_is));
+      ap (λ r. draft.hunks.items ++ real_changes (opening r following)) is_open ∙ ap (λ h. draft.hunks.items ++ real_changes h) (joining-apart (hunk_of last) next more apart)
+      ∙ ap (λ h. draft.hunks.items ++ h) (real_changes-cons (hunk_of last) following) ∙ sym (append_assoc draft.hunks.items (real_changes (hunk_of last ∷ [])) (real_changes following))
+      ∙ ap (λ h. h ++ real_changes following) (sym hunks) ∙ ap (λ h. new.hunks.items ++ real_changes h) (sym (joining-empty (hunk_of run) next more (at_is ∙ sym next_at) old_is new_is));
   ends = omega (arith, ap length old_is);
   text = text;
   at = at;
@@ -327,32 +328,32 @@ EndsBy-later : (run : Option Run) (at more : ℕ) → at ≤ more → EndsBy run
 EndsBy-later None at more later ends = tt
 EndsBy-later (Some run) at more later ends = omega arith
 
--- the text and the place behind one part
+-- the text and the place after one part
 module _ (draft new : Draft) (old_bytes new_bytes : List ℕ) (part : Part) (rest whole : List Part) (old_is : old_bytes ≡ text_of part.old) (new_is : new_bytes ≡ text_of part.new)
     (text : new.text.items ≡ draft.text.items ++ new_bytes) (at : new.at ≡ draft.at + length old_bytes) (is : IsDraft draft (part ∷ rest) whole) where
-  text_behind : edited_text whole ≡ new.text.items ++ edited_text rest
-  text_behind =
+  text_after_label : edited_text whole ≡ new.text.items ++ edited_text rest
+  text_after_label =
       is.text ∙ ap (λ t. draft.text.items ++ t) (text_of-append part.new (new_pieces rest) ∙ ap (λ t. t ++ edited_text rest) (sym new_is))
       ∙ sym (append_assoc draft.text.items new_bytes (edited_text rest)) ∙ ap (λ t. t ++ edited_text rest) (sym text)
 
-  at_behind : length (text_of (old_pieces whole)) ≡ new.at + length (text_of (old_pieces rest))
-  at_behind = omega (arith, is.at, ap length (text_of-append part.old (old_pieces rest)), length-append (text_of part.old) (text_of (old_pieces rest)), ap length old_is)
+  at_after : length (text_of (old_pieces whole)) ≡ new.at + length (text_of (old_pieces rest))
+  at_after = omega (arith, is.at, ap length (text_of-append part.old (old_pieces rest)), length-append (text_of part.old) (text_of (old_pieces rest)), ap length old_is)
 
-  place_behind : draft.at + length (text_of part.old) ≡ new.at
-  place_behind = omega (arith, ap length old_is)
+  place_after : draft.at + length (text_of part.old) ≡ new.at
+  place_after = omega (arith, ap length old_is)
 
   -- one that is kept
   pub draft_kept : new.hunks.items ≡ draft.hunks.items → new.run ≡ draft.run → old_bytes ≡ new_bytes → IsDraft new rest whole
   draft_kept hunks run same =
       let kept : is_kept part ≡ true = ap (λ t. bytes_eq t (text_of part.new)) (sym old_is ∙ same ∙ new_is) ∙ bytes_eq-self (text_of part.new) in
-      let left : changes_from draft.at (part ∷ rest) ≡ changes_from new.at rest = rw kept (ap (λ n. changes_from n rest) place_behind) in
+      let left : changes_from draft.at (part ∷ rest) ≡ changes_from new.at rest = rw kept (ap (λ n. changes_from n rest) place_after) in
       let ends : EndsBy draft.run new.at = EndsBy-later draft.run draft.at new.at (omega arith) is.run_ends in
       record {
         hunks = is.hunks ∙ ap (λ h. draft.hunks.items ++ real_changes (opening draft.run (joined h))) left
             ∙ ap (λ h. h ++ real_changes (opening draft.run (joined (changes_from new.at rest)))) (sym hunks)
             ∙ ap (λ r. new.hunks.items ++ real_changes (opening r (joined (changes_from new.at rest)))) (sym run);
-        text = text_behind;
-        at = at_behind;
+        text = text_after_label;
+        at = at_after;
         run_ends = subst (λ (r : Option Run). EndsBy r new.at) (sym run) ends;
       }
 
@@ -363,7 +364,7 @@ module _ (draft new : Draft) (old_bytes new_bytes : List ℕ) (part : Part) (res
       let next : Hunk = record { at = draft.at; old = text_of part.old; new = text_of part.new } in
       let changes : is_kept part ≡ false = ap (λ t. bytes_eq t (text_of part.new)) (sym old_is) ∙ ap (bytes_eq old_bytes) (sym new_is) ∙ differ in
       let more = joined (changes_from new.at rest) in
-      let left : changes_from draft.at (part ∷ rest) ≡ next ∷ changes_from new.at rest = rw changes (ap (λ n. next ∷ changes_from n rest) place_behind) in
+      let left : changes_from draft.at (part ∷ rest) ≡ next ∷ changes_from new.at rest = rw changes (ap (λ n. next ∷ changes_from n rest) place_after) in
       let made : ℕ → List ℕ → List ℕ → Hunk = λ a o n. record { at = a; old = o; new = n } in
       let goes_on : both (hunk_of run) next ≡ hunk_of last =
       ap (λ a. made a (run.old.items ++ text_of part.old) (run.new.items ++ text_of part.new)) (sym last_at)
@@ -376,8 +377,8 @@ module _ (draft new : Draft) (old_bytes new_bytes : List ℕ) (part : Part) (res
             ∙ ap (λ h. mid.hunks.items ++ real_changes h) (joining-joining (hunk_of run) next more here.ends ∙ ap (λ h. joining h more) goes_on)
             ∙ ap (λ h. h ++ real_changes (joining (hunk_of last) more)) (sym hunks)
             ∙ ap (λ r. new.hunks.items ++ real_changes (opening r more)) (sym open_is);
-        text = text_behind;
-        at = at_behind;
+        text = text_after_label;
+        at = at_after;
         run_ends = subst (λ (r : Option Run). EndsBy r new.at) (sym open_is) ends;
       }
 

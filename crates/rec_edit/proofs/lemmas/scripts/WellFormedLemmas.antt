@@ -11,12 +11,12 @@ use Rattle.rec_text.specs.Canonical.{is_plain_name, is_foldable, folded, field_o
 use Rattle.rec_text.specs.Elements.{Piece, IsElement, is_element, is_line, is_blank_line, is_comment, is_field, is_body, is_joined, is_dangling, colon_of, name_of, EndInNewlines, AreElementsOf, text_of}
 use Rattle.rec_text.specs.Values.{on_first}
 use Rattle.rec_edit.specs.Script.{closed, without_newline, lacks_newline, Part, Layout, opened, settled, putting, changing, parts_from, script_of, new_pieces, edited_text}
-use Rattle.rec_edit.specs.Rules.{canonical, physical_lines, commented, renamed}
+use Rattle.rec_edit.specs.Rules.{canonical, physical_lines, comments_of, renamed}
 use Rattle.rec_text.proofs.lemmas.ListLemmas.{is_nil-push}
 use Rattle.rec_text.proofs.lemmas.values.FoldLemmas.{is_foldable-same}
 use Rattle.rec_text.proofs.lemmas.elements.FieldLemmas.{is_named-at, colon_of-append, colon_of-byte, ends_newline-cons, ends_newline-append}
 use Rattle.rec_text.proofs.lemmas.reading.CutLemmas.{IsNamed, IsNamed-true, element_is_some}
-use Rattle.rec_text.proofs.lemmas.values.CanonicalLemmas.{name_end-all, behind_colon, is_field-field_of}
+use Rattle.rec_text.proofs.lemmas.values.CanonicalLemmas.{name_end-all, after_colon, is_field-field_of}
 
 -- ---- well-formed elements: with a newline added, without their newline, commented, written anew and renamed
 
@@ -40,10 +40,10 @@ without_newline-push [] = refl
 without_newline-push (b ∷ []) = refl
 without_newline-push (b ∷ c ∷ bs) = ap (λ rest. b ∷ rest) (without_newline-push (c ∷ bs))
 
-pub ends_newline-at : (front : List ℕ) (b : ℕ) (bs : List ℕ) → ends_newline (front ++ b ∷ bs) ≡ ends_newline (b ∷ bs)
+pub ends_newline-at : (prefix : List ℕ) (b : ℕ) (bs : List ℕ) → ends_newline (prefix ++ b ∷ bs) ≡ ends_newline (b ∷ bs)
 ends_newline-at [] b bs = refl
 ends_newline-at (x ∷ []) b bs = refl
-ends_newline-at (x ∷ y ∷ front) b bs = ends_newline-at (y ∷ front) b bs
+ends_newline-at (x ∷ y ∷ prefix) b bs = ends_newline-at (y ∷ prefix) b bs
 
 ends_newline-rest : (b : ℕ) (bs : List ℕ) → ends_newline (b ∷ bs) ≡ false → ends_newline bs ≡ false
 ends_newline-rest b [] lacks = refl
@@ -64,9 +64,9 @@ is_line-closed : (test : ℕ → Bool) (bs : List ℕ) → is_line test bs ≡ t
 is_line-closed test [] line lacks = refl
 is_line-closed test (b ∷ []) line lacks = rw lacks (rw lacks at line)
 is_line-closed test (b ∷ c ∷ cs) line lacks =
-    let step = plain_step (b == 10) (test b && is_line test (c ∷ cs)) line in
-    let parts = and_parts (test b) (is_line test (c ∷ cs)) step.1 in
-    rw step.0 (and_from (test b) _ parts.0 (is_line-closed test (c ∷ cs) parts.1 lacks))
+    let edit = plain_step (b == 10) (test b && is_line test (c ∷ cs)) line in
+    let parts = and_parts (test b) (is_line test (c ∷ cs)) edit.1 in
+    rw edit.0 (and_from (test b) _ parts.0 (is_line-closed test (c ∷ cs) parts.1 lacks))
 
 is_blank_line-closed : (bs : List ℕ) → is_blank_line bs ≡ true → ends_newline bs ≡ false → is_blank_line (bs ++ 10 ∷ []) ≡ true
 is_blank_line-closed [] whole lacks = absurd (false≢true whole)
@@ -175,9 +175,9 @@ is_line-bare : (test : ℕ → Bool) (bs : List ℕ) → is_line test bs ≡ tru
 is_line-bare test [] line = refl
 is_line-bare test (b ∷ []) line = cond_both (b == 10) [] (b ∷ []) (λ rest. is_line test rest ≡ true) (λ _. refl) (λ _. line)
 is_line-bare test (b ∷ c ∷ cs) line =
-    let step = plain_step (b == 10) (test b && is_line test (c ∷ cs)) line in
-    let parts = and_parts (test b) (is_line test (c ∷ cs)) step.1 in
-    rw step.0 (and_from (test b) _ parts.0 (is_line-bare test (c ∷ cs) parts.1))
+    let edit = plain_step (b == 10) (test b && is_line test (c ∷ cs)) line in
+    let parts = and_parts (test b) (is_line test (c ∷ cs)) edit.1 in
+    rw edit.0 (and_from (test b) _ parts.0 (is_line-bare test (c ∷ cs) parts.1))
 
 is_comment-bare : (line : List ℕ) → is_line (λ _. true) line ≡ true → is_comment (without_newline (35 ∷ line)) ≡ true
 is_comment-bare [] one = refl
@@ -188,12 +188,12 @@ abbrev comment_of : List ℕ → Piece
 comment_of line = record { kind = Comment; bytes = 35 ∷ line }
 
 module _ (piece : Piece) (ends : ends_newline piece.bytes ≡ true) where
-  pub commented_are_closed : AllByRecursion IsClosed (commented piece)
+  pub commented_are_closed : AllByRecursion IsClosed (comments_of piece.bytes)
   commented_are_closed =
       AllByRecursion-map IsPhysicalLine IsClosed comment_of (λ line is. record { element = is.one; ends = ends_newline-cons 35 line is.ends })
       (physical_lines piece.bytes) (physical_lines-all piece.bytes ends)
 
-  pub commented_are_bare : AllByRecursion IsBare (commented piece)
+  pub commented_are_bare : AllByRecursion IsBare (comments_of piece.bytes)
   commented_are_bare =
       AllByRecursion-map IsPhysicalLine IsBare comment_of (λ line is. is_comment-bare line is.one) (physical_lines piece.bytes) (physical_lines-all piece.bytes ends)
 
@@ -201,7 +201,7 @@ length-physical_lines : (bs : List ℕ) → 0 < length bs → 0 < length (physic
 length-physical_lines [] some = absurd (omega (arith, some))
 length-physical_lines (b ∷ bs) some = physical_lines-some b bs
 
-pub length-commented : (piece : Piece) → IsElement piece → 1 ≤ length (commented piece)
+pub length-commented : (piece : Piece) → IsElement piece → 1 ≤ length (comments_of piece.bytes)
 length-commented piece whole =
     omega (arith, length-map (physical_lines piece.bytes) comment_of, length-physical_lines piece.bytes (element_is_some piece.kind piece.bytes whole))
 
@@ -215,7 +215,7 @@ colon_of-name (x ∷ xs) rest plain =
 
 is_field-named : (name body : List ℕ) → is_plain_name name ≡ true → is_body body ≡ true → is_field (name ++ 58 ∷ body) ≡ true
 is_field-named name body plain passes =
-    is_named-at is_body (name ++ 58 ∷ body) (length name) (colon_of-name name body plain) ∙ ap is_body (behind_colon name body) ∙ passes
+    is_named-at is_body (name ++ 58 ∷ body) (length name) (colon_of-name name body plain) ∙ ap is_body (after_colon name body) ∙ passes
 
 -- ---- the canonical field
 
@@ -353,9 +353,9 @@ AreWhole-cons : (piece : Piece) (pieces : List Piece) → IsClosed piece → Are
 AreWhole-cons piece [] is are = record { well_formed = (is.element, tt); lines_end = tt }
 AreWhole-cons piece (next ∷ pieces) is are = record { well_formed = (is.element, are.well_formed); lines_end = (is.ends, are.lines_end) }
 
-pub AreWhole-append : (front rest : List Piece) → AllByRecursion IsClosed front → AreWhole rest → AreWhole (front ++ rest)
+pub AreWhole-append : (prefix rest : List Piece) → AllByRecursion IsClosed prefix → AreWhole rest → AreWhole (prefix ++ rest)
 AreWhole-append [] rest closed are = are
-AreWhole-append (piece ∷ front) rest closed are = AreWhole-cons piece (front ++ rest) closed.0 (AreWhole-append front rest closed.1 are)
+AreWhole-append (piece ∷ prefix) rest closed are = AreWhole-cons piece (prefix ++ rest) closed.0 (AreWhole-append prefix rest closed.1 are)
 
 pub AreWhole-closed : (pieces : List Piece) → AllByRecursion IsClosed pieces → AreWhole pieces
 AreWhole-closed pieces closed = subst AreWhole (append-nil pieces) (AreWhole-append pieces [] closed AreWhole-nil)
@@ -367,7 +367,7 @@ AreWhole-opened (piece ∷ next ∷ pieces) closed bares = AreWhole-cons piece (
 
 -- ---- what a layout lays
 
--- What stands in the place of an element is well formed, with newlines and, where the element has none at its end, without.
+-- What stands instead of an element is well formed, with newlines and, where the element has none at its end, without.
 pub record CanStandFor (piece : Piece) (new : List Piece) : Type 0 where
   pub lines : AllByRecursion IsClosed new
   pub bares : ends_newline piece.bytes ≡ false → AllByRecursion IsBare new

@@ -17,9 +17,9 @@ returns-in_err-chosen c = λ force.
     c.in_ok-items.ensures c.in_err-chosen.ensures.refused)
 
 pub carried_out-requires-clause-lines : goal.carried_out-requires-clause-lines
-carried_out-requires-clause-lines c = LaysLines-setting c.in_ok-plan.plan.action c.in_ok-plan.plan.items c.in_ok-plan.plan.pieces c.in_ok-plan.plan.chosen
+carried_out-requires-clause-lines c = LaysLines-setting c.in_ok-layout.layout.action c.in_ok-layout.layout.items c.in_ok-layout.layout.pieces c.in_ok-layout.layout.chosen
 
 pub returns : goal.returns
 returns c = λ force.
     set-made c.args.file.now.pieces (described c.args.file.now.schema) force (wanted_by c.args.selection.now) c.args.list.now c.args.action.now c.in_ok-items.items c.in_ok-chosen.chosen.items c.deref-2.result.now c.deref.result.now
-    c.in_ok-plan.plan c.in_ok-carried_out.field-0 c.in_ok-items.ensures c.in_ok-chosen.ensures.found c.in_ok-plan.ensures c.deref.ensures.value c.deref-2.ensures.value c.in_ok-carried_out.ensures
+    c.in_ok-layout.layout c.in_ok-carried_out.field-0 c.in_ok-items.ensures c.in_ok-chosen.ensures.found c.in_ok-layout.ensures c.deref.ensures.value c.deref-2.ensures.value c.in_ok-carried_out.ensures

@@ -7,7 +7,7 @@ use Rattle.rec_edit.proofs.script.changes.Goals as goal
 
 pub returns : goal.returns
 returns g c =
-    let layout = g.P.Plan.layout c.args.plan.now in
+    let layout = g.P.Layout.layout c.args.layout.now in
     let pieces = c.args.database.now in
     let own_is = c.elements_in-elements.ensures.pieces ∙ ap (λ (p : List Piece). elements_in p c.args.range.now) c.elements.ensures.pieces in
     let bytes_are =

@@ -8,6 +8,6 @@ lay_put-requires g c = record { fits = omega (arith, at_within _ _ c.args.databa
 
 pub returns : goal.returns
 returns g c =
-    let layout = g.P.Plan.layout c.args.plan.now in
+    let layout = g.P.Layout.layout c.args.layout.now in
     let pieces = c.args.database.now in
     c.in_ok-lay_put.ensures.carried_out [] (script_of layout pieces) (laid_end _ layout pieces c.elements.result.now c.elements.ensures.pieces c.in_ok-lay_all.ensures)

@@ -10,8 +10,8 @@ returns-then-ends_newline c = c.eq.ensures ∙ ap (bytes_eq c.args.laid.now) (sy
 
 pub returns-in-Some : goal.returns-in-Some
 returns-in-Some c =
-    let parts = strip_suffix_is Decides-eqb c.args.laid.now (10 ∷ []) (Some c.in-Some.front) c.in-Some.ensures.cases in
-    closed_some c.args.laid.now c.in-Some.front.now c.args.text.now _ (sym c.if-ends_newline.ensures) parts c.eq-in-Some.ensures
+    let parts = strip_suffix_is Decides-eqb c.args.laid.now (10 ∷ []) (Some c.in-Some.prefix) c.in-Some.ensures.cases in
+    closed_some c.args.laid.now c.in-Some.prefix.now c.args.text.now _ (sym c.if-ends_newline.ensures) parts c.eq-in-Some.ensures
 
 pub returns-in-None : goal.returns-in-None
 returns-in-None c =

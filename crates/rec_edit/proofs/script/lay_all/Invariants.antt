@@ -4,7 +4,7 @@ use Rattle.rec_edit.proofs.script.lay_all.Given as goal
 
 abbrev pub invariant-loop-index : goal.invariant-loop-index
 invariant-loop-index g l = record {
-  laid : IsLaid l.draft (g.P.Plan.layout l.plan) l.database l.index;
+  laid : IsLaid l.draft (g.P.Layout.layout l.layout) l.database l.index;
   within : l.index ≤ length l.database;
 }
 

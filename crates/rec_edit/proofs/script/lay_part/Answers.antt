@@ -9,13 +9,13 @@ lay_put-requires g c = record { fits = omega (arith, at_within _ _ c.args.databa
 
 pub change-requires : goal.change-requires
 change-requires g c =
-    let layout = g.P.Plan.layout c.args.plan.now in
+    let layout = g.P.Layout.layout c.args.layout.now in
     let begun = tie_begun layout c.args.database.now c.args.range.now c.elements.ensures.whole c.requires.tie c.args.draft.now c.requires.before in
     record { fits = omega (arith, part_within _ layout c.args.database.now _ _ (c.in_ok-lay_put.ensures.carried_out _ _ begun), ap length c.text_in-text.ensures, c.requires.few) }
 
 pub returns : goal.returns
 returns g c =
-    let layout = g.P.Plan.layout c.args.plan.now in
+    let layout = g.P.Layout.layout c.args.layout.now in
     let pieces = c.args.database.now in
     let range = c.args.range.now in
     let begun = tie_begun layout pieces range c.elements.ensures.whole c.requires.tie c.args.draft.now c.requires.before in

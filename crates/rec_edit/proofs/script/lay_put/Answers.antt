@@ -10,11 +10,11 @@ pub returns-then-is_empty-clause-carried_out : goal.returns-then-is_empty-clause
 returns-then-is_empty-clause-carried_out g c = λ rest whole is.
     let size : vec_len c.put.new.out ≡ 0 = eqb-true _ 0 (sym c.if-is_empty.ensures) in
     let none : length c.put.new.out.items ≡ 0 = omega (arith, size) in
-    put_nothing c.args.draft.now ((g.P.Plan.layout c.args.plan.now).put c.args.index) rest whole (laid_nothing _ _ _ c.clear.ensures.items c.in_ok-put.ensures none) is
+    put_nothing c.args.draft.now ((g.P.Layout.layout c.args.layout.now).put c.args.index) rest whole (laid_nothing _ _ _ c.clear.ensures.items c.in_ok-put.ensures none) is
 
 pub returns-clause-carried_out : goal.returns-clause-carried_out
 returns-clause-carried_out g c = λ rest whole is.
-    let new = (g.P.Plan.layout c.args.plan.now).put c.args.index in
+    let new = (g.P.Layout.layout c.args.layout.now).put c.args.index in
     let size : vec_len c.put.new.out ≢ 0 = eqb-false _ 0 (sym c.if-is_empty.ensures) in
     let some : length c.put.new.out.items ≢ 0 = omega (arith, size) in
     let P : List Part → Type 0 = λ parts. IsDraft c.args.draft.now parts whole in

@@ -6,5 +6,5 @@ use Rattle.rec_edit.proofs.script.lay_record.Given as goal
 
 abbrev pub invariant-loop-index : goal.invariant-loop-index
 invariant-loop-index g l =
-    l.out.items ++ text_of (laying (g.P.Plan.layout l.plan) (l.first + l.index) (drop l.index (pieces_of l.elements)))
-    ≡ l.fn.out.items ++ text_of (laying (g.P.Plan.layout l.plan) l.first (pieces_of l.elements))
+    l.out.items ++ text_of (laying (g.P.Layout.layout l.layout) (l.first + l.index) (drop l.index (pieces_of l.elements)))
+    ≡ l.fn.out.items ++ text_of (laying (g.P.Layout.layout l.layout) l.first (pieces_of l.elements))

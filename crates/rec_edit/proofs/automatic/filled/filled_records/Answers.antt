@@ -8,7 +8,7 @@ use Rattle.rec_check.specs.Rules.{Rules, no_rules}
 use Rattle.rec_check.specs.Schemas.{IsRuled}
 use Rattle.rec_check.specs.Stored.{described}
 use Rattle.rec_edit.specs.proving.Filling.{filled_of}
-use Rattle.rec_edit.proofs.lemmas.outcomes.AnswerLemmas.{memory_or_weaker}
+use Rattle.rec_text.proofs.lemmas.FaultLemmas.{memory_or_weaker}
 use Rattle.rec_edit.proofs.lemmas.automatic.FillLemmas.{one_set_filled, set_refused, all_sets_filled, AreRanges-filled}
 use Rattle.rec_edit.proofs.automatic.filled.filled_records.Goals as goal
 use Rattle.rec_edit.proofs.automatic.filled.filled_records.Goals.{After-sets-place-end}

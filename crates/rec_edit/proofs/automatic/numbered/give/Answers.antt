@@ -5,10 +5,11 @@ use mir.Val.{SFits}
 use Rattle.std.proofs.lemmas.Result.{err_from_is_err_and}
 use Rattle.rec_check.specs.declared.automatic.counter.Counter.{Counter}
 use Rattle.rec_check.specs.proving.Names.{has_name}
+use Rattle.rec_text.proofs.lemmas.FaultLemmas.{from_fact}
 use Rattle.rec_edit.specs.declared.automatic.numbered.NumberedField.{NumberedField}
 use Rattle.rec_edit.specs.proving.Filling.{numbered, AreNamesOf, IsRefused}
 use Rattle.rec_edit.specs.Insertions.{Numbered}
-use Rattle.rec_edit.proofs.lemmas.automatic.NumberLemmas.{IsGivenUpTo, none_lacking, counter_here, refused_here, one_given, all_asked, memory_or}
+use Rattle.rec_edit.proofs.lemmas.automatic.NumberLemmas.{IsGivenUpTo, none_lacking, counter_here, refused_here, one_given, all_asked}
 use Rattle.rec_edit.proofs.automatic.numbered.give.Goals as goal
 use Rattle.rec_edit.proofs.automatic.numbered.give.Goals.{After-contains}
 
@@ -37,7 +38,7 @@ returns-in_err-number-clause-refused c = λ rules numbers own are named.
     let kept = err_from_is_err_and c.from_residual.result c.from_residual.ensures.1 in
     let so_far = c.loop-i.invariant rules numbers own are named in
     let counted = counter_here rules numbers own c.args.counters.now c.loop-i.counters c.loop-i.i (numbered c.loop-i.given.items) (omega arith) so_far (own_counter at) (here at) in
-    rw (kept.1, kept.2) (memory_or c.in_err-number.field-0.0 (IsRefused rules numbers own c.in_err-number.field-0.0)
+    rw (kept.1, kept.2) (from_fact c.in_err-number.field-0.0 (IsRefused rules numbers own c.in_err-number.field-0.0)
     (refused_here rules numbers own c.args.counters.now c.loop-i.counters c.loop-i.i (numbered c.loop-i.given.items) (omega arith) so_far (own_counter at) (here at) c.in_err-number.field-0.0
     (sym (named (own_counter at).name.now) ∙ among at false own named c.if-contains.false) (c.in_err-number.ensures.next rules (numbers (own_counter at).name.now) counted)))
 
@@ -49,10 +50,10 @@ loop-i-preserved c = λ asked numbers own are named.
     let number = c.in_ok-number.number in
     let counted = counter_here asked numbers own c.args.counters.now c.loop-i.counters c.loop-i.i (numbered given) (omega arith) so_far (own_counter at) (here at) in
     let fits : SFits w64 number = search rules in
-    let entry : NumberedField → Numbered = λ field. record { name = field.name.now; number = field.number } in
+    let typed : NumberedField → Numbered = λ field. record { name = field.name.now; number = field.number } in
     let one : NumberedField = record { name = c.name-name.result; number = number } in
     let more : numbered c.push.new.self.items ≡ numbered given ++ record { name = (own_counter at).name.now; number = number } ∷ [] =
-    ap numbered c.in_ok-push.ensures.items ∙ ap (λ z. numbered (given ++ record { name = c.name-name.result; number = z } ∷ [])) (to_z-of_z w64 number fits) ∙ map_push entry given one ∙ ap (λ n. numbered given ++ record { name = n; number = number } ∷ []) c.name-name.ensures in
+    ap numbered c.in_ok-push.ensures.items ∙ ap (λ z. numbered (given ++ record { name = c.name-name.result; number = z } ∷ [])) (to_z-of_z w64 number fits) ∙ map_push typed given one ∙ ap (λ n. numbered given ++ record { name = n; number = number } ∷ []) c.name-name.ensures in
     subst (IsGivenUpTo asked numbers own c.args.counters.now _ _) (sym more)
     (one_given asked numbers own c.args.counters.now c.loop-i.counters c.loop-i.i (numbered given) (omega arith) so_far (own_counter at) (here at) c.next_number.new.self number
     (sym (named (own_counter at).name.now) ∙ among at false own named c.if-contains.false) (c.in_ok-number.ensures.next asked (numbers (own_counter at).name.now) counted)

@@ -4,9 +4,9 @@ use Rattle.std.specs.List.{AllByRecursion, list_any}
 use Rattle.rec_text.specs.Places.{piece_of, pieces_of}
 use Rattle.rec_text.specs.Records.{elements_in}
 use Rattle.rec_sex.specs.Lists.{picks}
+use Rattle.rec_edit.specs.Rules.{is_picked_of}
 use Rattle.rec_edit.specs.proving.Marks.{is_marked}
-use Rattle.rec_edit.specs.proving.Endings.{picks_index}
-use Rattle.rec_edit.proofs.lemmas.layouts.SettingLemmas.{picks-below, picks_index-held, marks_as}
+use Rattle.rec_edit.proofs.lemmas.layouts.SettingLemmas.{picks-below, is_picked_of-held, marks_as}
 use Rattle.rec_edit.proofs.layouts.setting.mark_picked.Goals as goal
 use Rattle.rec_edit.proofs.layouts.setting.mark_picked.Goals.{After-deref}
 
@@ -24,7 +24,7 @@ returns c =
     let range = c.args.range.now in
     let pieces = pieces_of c.args.elements.now in
     marks_as c.mark_places.result c.mark_places.new.marks.items (λ i. is_marked c.args.marks.now.items i || list_any (λ place. eqb (range.start + place) i) c.deref.result.now)
-    (λ i. is_marked c.args.marks.now.items i || picks_index c.args.list.now pieces i range)
+    (λ i. is_marked c.args.marks.now.items i || is_picked_of c.args.list.now pieces i range)
     (λ i. ap (λ b. is_marked c.args.marks.now.items i || b)
-    (ap (list_any (λ place. eqb (range.start + place) i)) (places_are (goal.at.returns c).After-deref) ∙ picks_index-held c.args.list.now pieces i range c.requires.ordered c.requires.within))
+    (ap (list_any (λ place. eqb (range.start + place) i)) (places_are (goal.at.returns c).After-deref) ∙ is_picked_of-held c.args.list.now pieces i range c.requires.ordered c.requires.within))
     c.mark_places.ensures

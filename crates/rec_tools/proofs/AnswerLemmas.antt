@@ -20,103 +20,9 @@ use Rattle.rec_tools.specs.declared.request.Ask.{Ask}
 use Rattle.rec_tools.specs.declared.request.Ask.TheVariants.{All, Expr, Index, Quick}
 use Rattle.rec_tools.specs.Steps.{Then}
 use Rattle.rec_tools.specs.Asking.{IsExpressionFilter, IsIndexFilter, IsFilter}
-use Rattle.rec_tools.proofs.FaultLemmas.{same_fault, same_value}
-
--- ---- one answer
-
-pub no_both : {A : Type 0} (a : A) (fault : Fault) → ◌≡◌ {A = Result A Fault} (Ok a) (Err fault) → ⊥
-no_both a fault e = cc
-
--- a step has one answer at most
-abbrev pub HasOne : {A : Type 0} → (Result A Fault → Type 0) → Type 0
-HasOne {A} step = (one other : Result A Fault) → step one → step other → one ≡ other
-
--- two steps have the same answer, a refused pattern aside
-abbrev pub AgreeBut : {A : Type 0} → (Result A Fault → Type 0) → (Result A Fault → Type 0) → Type 0
-AgreeBut {A} step same = (one other : Result A Fault) → step one → same other → one ≢ Err BadPattern → other ≢ Err BadPattern → one ≡ other
-
--- a step has one answer at most, a refused pattern aside
-abbrev pub HasOneBut : {A : Type 0} → (Result A Fault → Type 0) → Type 0
-HasOneBut step = AgreeBut step step
-
-pub HasOneBut-of : {A : Type 0} (step : Result A Fault → Type 0) → HasOne step → HasOneBut step
-HasOneBut-of step has_one one other is is_too _ _ = has_one one other is is_too
-
-pub HasOne-same : {A : Type 0} (outcome : Result A Fault) → HasOne (λ answer. answer ≡ outcome)
-HasOne-same outcome one other is is_too = is ∙ sym is_too
-
-pub refused_too : {A B : Type 0} (answer : Result B Fault) (fault : Fault) → answer ≡ Err fault → answer ≢ Err BadPattern
-    → ◌≢◌ {A = Result A Fault} (Err fault) (Err BadPattern)
-refused_too answer fault e built k = built (e ∙ ap Err (same_fault fault BadPattern k))
-
--- where what is found is one, so is what is made of it
-module _ {A : Type 0} (step : Result A Fault → Type 0) (has_one : HasOneBut step) where
-  pub one_value : (a b : A) → step (Ok a) → step (Ok b) → a ≡ b
-  one_value a b is is_too = same_value a b (has_one (Ok a) (Ok b) is is_too (no_both a BadPattern) (no_both b BadPattern))
-
-  pub no_value : {B : Type 0} (a : A) (fault : Fault) → step (Ok a) → step (Err fault) → ◌≢◌ {A = Result B Fault} (Err fault) (Err BadPattern) → ⊥
-  no_value a fault is is_too built = no_both a fault (has_one (Ok a) (Err fault) is is_too (no_both a BadPattern) (refused_too (Err fault) fault refl built))
-
-  pub one_fault : {B : Type 0} (fault other : Fault) → step (Err fault) → step (Err other)
-      → ◌≢◌ {A = Result B Fault} (Err fault) (Err BadPattern) → ◌≢◌ {A = Result B Fault} (Err other) (Err BadPattern) → fault ≡ other
-  one_fault fault other is is_too built built_too =
-      same_fault fault other (has_one (Err fault) (Err other) is is_too (refused_too (Err fault) fault refl built) (refused_too (Err other) other refl built_too))
-
--- ---- one step after another
-
-pub HasOne-Then : {A B : Type 0} (first : Result A Fault → Type 0) (next : A → Result B Fault → Type 0)
-    → HasOne first → ((a : A) → first (Ok a) → HasOne (next a)) → HasOne (Then first next)
-HasOne-Then first next first_one next_one one other (inl (f, is, e)) (inl (g, is_too, k)) = e ∙ ap Err (same_fault f g (first_one (Err f) (Err g) is is_too)) ∙ sym k
-HasOne-Then first next first_one next_one one other (inl (f, is, e)) (inr (b, is_too, k)) = absurd (no_both b f (first_one (Ok b) (Err f) is_too is))
-HasOne-Then first next first_one next_one one other (inr (a, is, e)) (inl (g, is_too, k)) = absurd (no_both a g (first_one (Ok a) (Err g) is is_too))
-HasOne-Then first next first_one next_one one other (inr (a, is, e)) (inr (b, is_too, k)) =
-    next_one b is_too one other (subst (λ x. next x one) (same_value a b (first_one (Ok a) (Ok b) is is_too)) e) k
-
--- the same first step, and later steps that agree
-pub AgreeBut-after : {A B : Type 0} (first : Result A Fault → Type 0) (next last : A → Result B Fault → Type 0)
-    → HasOne first → ((a : A) → first (Ok a) → AgreeBut (next a) (last a)) → AgreeBut (Then first next) (Then first last)
-AgreeBut-after first next last first_one agree one other (inl (f, is, e)) (inl (g, is_too, k)) _ _ =
-    e ∙ ap Err (same_fault f g (first_one (Err f) (Err g) is is_too)) ∙ sym k
-AgreeBut-after first next last first_one agree one other (inl (f, is, e)) (inr (b, is_too, k)) _ _ = absurd (no_both b f (first_one (Ok b) (Err f) is_too is))
-AgreeBut-after first next last first_one agree one other (inr (a, is, e)) (inl (g, is_too, k)) _ _ = absurd (no_both a g (first_one (Ok a) (Err g) is is_too))
-AgreeBut-after first next last first_one agree one other (inr (a, is, e)) (inr (b, is_too, k)) built built_too =
-    agree b is_too one other (subst (λ x. next x one) (same_value a b (first_one (Ok a) (Ok b) is is_too)) e) k built built_too
-
--- first steps that agree, and the same later step
-pub AgreeBut-before : {A B : Type 0} (first same : Result A Fault → Type 0) (next : A → Result B Fault → Type 0)
-    → AgreeBut first same → ((a : A) → HasOneBut (next a)) → AgreeBut (Then first next) (Then same next)
-AgreeBut-before first same next agree next_one one other (inl (f, is, e)) (inl (g, is_too, k)) built built_too =
-    e ∙ ap Err (same_fault f g (agree (Err f) (Err g) is is_too (refused_too one f e built) (refused_too other g k built_too))) ∙ sym k
-AgreeBut-before first same next agree next_one one other (inl (f, is, e)) (inr (b, is_too, k)) built built_too =
-    absurd (no_both b f (sym (agree (Err f) (Ok b) is is_too (refused_too one f e built) (no_both b BadPattern))))
-AgreeBut-before first same next agree next_one one other (inr (a, is, e)) (inl (g, is_too, k)) built built_too =
-    absurd (no_both a g (agree (Ok a) (Err g) is is_too (no_both a BadPattern) (refused_too other g k built_too)))
-AgreeBut-before first same next agree next_one one other (inr (a, is, e)) (inr (b, is_too, k)) built built_too =
-    next_one b one other (subst (λ x. next x one) (same_value a b (agree (Ok a) (Ok b) is is_too (no_both a BadPattern) (no_both b BadPattern))) e) k built built_too
-
--- three steps are the first and the two others
-pub Then-parts : {A B C : Type 0} (first : Result A Fault → Type 0) (second : A → Result B Fault → Type 0) (third : B → Result C Fault → Type 0)
-    (answer : Result C Fault) → Then (Then first second) third answer → Then first (λ a. Then (second a) third) answer
-Then-parts first second third answer (inl (f, inl (g, is, k), e)) = inl (g, is, e ∙ ap Err (same_fault f g k))
-Then-parts first second third answer (inl (f, inr (a, is, h), e)) = inr (a, is, inl (f, h, e))
-Then-parts first second third answer (inr (b, inl (g, is, k), h)) = absurd (no_both b g k)
-Then-parts first second third answer (inr (b, inr (a, is, h), t)) = inr (a, is, inr (b, h, t))
-
--- a step that gives this value
-pub Then-value : {A B : Type 0} (a : A) (next : A → Result B Fault → Type 0) (answer : Result B Fault)
-    → Then (λ given. given ≡ Ok a) next answer → next a answer
-Then-value a next answer (inl (f, e, k)) = absurd (no_both a f (sym e))
-Then-value a next answer (inr (b, e, h)) = subst (λ x. next x answer) (same_value b a e) h
-
-pub Then-first : {A B : Type 0} (first weaker : Result A Fault → Type 0) (next : A → Result B Fault → Type 0) → ((r : Result A Fault) → first r → weaker r)
-    → (answer : Result B Fault) → Then first next answer → Then weaker next answer
-Then-first first weaker next f answer (inl (fault, is, e)) = inl (fault, f (Err fault) is, e)
-Then-first first weaker next f answer (inr (a, is, h)) = inr (a, f (Ok a) is, h)
-
-pub Then-next : {A B : Type 0} (first : Result A Fault → Type 0) (next weaker : A → Result B Fault → Type 0) → ((a : A) (r : Result B Fault) → next a r → weaker a r)
-    → (answer : Result B Fault) → Then first next answer → Then first weaker answer
-Then-next first next weaker f answer (inl (fault, is, e)) = inl (fault, is, e)
-Then-next first next weaker f answer (inr (a, is, h)) = inr (a, is, f a answer h)
+use Rattle.rec_text.proofs.lemmas.FaultLemmas.{no_both, same_fault, same_value}
+use Rattle.rec_text.proofs.lemmas.StepLemmas.{AgreeBut, HasOneBut, HasOneBut-of, AgreeLike, AgreeBut-like, HasOneBut-Then, Then-parts, Then-value, Then-next}
+use Rattle.rec_check.proofs.lemmas.laws.AlikeLemmas.{SameSchemas, AgreeLike-schema}
 
 -- ---- the filter that is asked for
 
@@ -194,50 +100,6 @@ alike_of ask wanted other is is_too = record {
   allowed_too = same_allowed ask wanted other is is_too;
 }
 
--- ---- answers that are alike
-
--- the same refusal, or values that are alike
-abbrev pub AreLike : {A : Type 0} → (A → A → Type 0) → Result A Fault → Result A Fault → Type 0
-AreLike R (Ok a) (Ok b) = R a b
-AreLike R (Ok a) (Err fault) = ⊥
-AreLike R (Err fault) (Ok b) = ⊥
-AreLike R (Err fault) (Err other) = fault ≡ other
-
--- two steps have answers that are alike, a refused pattern aside
-abbrev pub AgreeLike : {A : Type 0} → (A → A → Type 0) → (Result A Fault → Type 0) → (Result A Fault → Type 0) → Type 0
-AgreeLike {A} R step same =
-    (one other : Result A Fault) → step one → same other → one ≢ Err BadPattern → other ≢ Err BadPattern → AreLike R one other
-
-like_on : {A : Type 0} (R : A → A → Type 0) (one other like also : Result A Fault) → one ≡ like → other ≡ also → AreLike R like also → AreLike R one other
-like_on R one other like also e k alike = subst (λ x. AreLike R x other) (sym e) (subst (λ x. AreLike R like x) (sym k) alike)
-
-pub AgreeLike-value : {A : Type 0} (R : A → A → Type 0) (a b : A) → R a b → AgreeLike R (λ answer. answer ≡ Ok a) (λ answer. answer ≡ Ok b)
-AgreeLike-value R a b alike one other e k _ _ = like_on R one other (Ok a) (Ok b) e k alike
-
--- steps that are alike, and later steps that are alike where their values are
-pub AgreeLike-Then : {A B : Type 0} (R : A → A → Type 0) (S : B → B → Type 0) (first same : Result A Fault → Type 0) (next last : A → Result B Fault → Type 0)
-    → AgreeLike R first same → ((a b : A) → R a b → AgreeLike S (next a) (last b)) → AgreeLike S (Then first next) (Then same last)
-AgreeLike-Then R S first same next last agree later one other (inl (f, is, e)) (inl (g, is_too, k)) built built_too =
-    like_on S one other (Err f) (Err g) e k (agree (Err f) (Err g) is is_too (refused_too one f e built) (refused_too other g k built_too))
-AgreeLike-Then R S first same next last agree later one other (inl (f, is, e)) (inr (b, is_too, k)) built built_too =
-    absurd (agree (Err f) (Ok b) is is_too (refused_too one f e built) (no_both b BadPattern))
-AgreeLike-Then R S first same next last agree later one other (inr (a, is, e)) (inl (g, is_too, k)) built built_too =
-    absurd (agree (Ok a) (Err g) is is_too (no_both a BadPattern) (refused_too other g k built_too))
-AgreeLike-Then R S first same next last agree later one other (inr (a, is, e)) (inr (b, is_too, k)) built built_too =
-    later a b (agree (Ok a) (Ok b) is is_too (no_both a BadPattern) (no_both b BadPattern)) one other e k built built_too
-
--- steps that are alike, and later steps that agree where their values are alike
-pub AgreeBut-like : {A B : Type 0} (R : A → A → Type 0) (first same : Result A Fault → Type 0) (next last : A → Result B Fault → Type 0)
-    → AgreeLike R first same → ((a b : A) → R a b → AgreeBut (next a) (last b)) → AgreeBut (Then first next) (Then same last)
-AgreeBut-like R first same next last agree later one other (inl (f, is, e)) (inl (g, is_too, k)) built built_too =
-    e ∙ ap Err (agree (Err f) (Err g) is is_too (refused_too one f e built) (refused_too other g k built_too)) ∙ sym k
-AgreeBut-like R first same next last agree later one other (inl (f, is, e)) (inr (b, is_too, k)) built built_too =
-    absurd (agree (Err f) (Ok b) is is_too (refused_too one f e built) (no_both b BadPattern))
-AgreeBut-like R first same next last agree later one other (inr (a, is, e)) (inl (g, is_too, k)) built built_too =
-    absurd (agree (Ok a) (Err g) is is_too (no_both a BadPattern) (refused_too other g k built_too))
-AgreeBut-like R first same next last agree later one other (inr (a, is, e)) (inr (b, is_too, k)) built built_too =
-    later a b (agree (Ok a) (Ok b) is is_too (no_both a BadPattern) (no_both b BadPattern)) one other e k built built_too
-
 -- the filters that are asked for are alike
 pub AgreeLike-filter : (ask : Ask) → AgreeLike AreAlike (IsFilter ask) (IsFilter ask)
 AgreeLike-filter ask (Ok a) (Ok b) is is_too built built_too = alike_of ask a b is is_too
@@ -252,7 +114,7 @@ pub HasOneBut-filter : {B : Type 0} (ask : Ask) (next : Filter → Result B Faul
     → ((wanted : Filter) → HasOneBut (next wanted)) → HasOneBut (Then (IsFilter ask) next)
 HasOneBut-filter ask next same next_one =
     AgreeBut-like AreAlike (IsFilter ask) (IsFilter ask) next next (AgreeLike-filter ask)
-    (λ a b alike one other h k. next_one b one other (same a b alike one h) k)
+    (λ a b _ _ alike one other h k. next_one b one other (same a b alike one h) k)
 
 -- ---- the text
 
@@ -268,13 +130,8 @@ AgreeOnSchemas pieces next = (schema same : Described) → IsSchema pieces (Ok s
 -- a step after the schema has one answer where it gives the same for each schema of the elements
 HasOneBut-schema : {B : Type 0} (pieces : List Piece) (next : DescribedText → Result B Fault → Type 0) → AgreeOnSchemas pieces next
     → HasOneBut (Then (IsSchema pieces) (λ schema. next (with_schema pieces schema)))
-HasOneBut-schema pieces next agree one other (inl (f, is, e)) (inl (g, is_too, k)) built built_too =
-    e ∙ ap Err (one_schema pieces (Err f) (Err g) is is_too (refused_too one f e built) (refused_too other g k built_too)) ∙ sym k
-HasOneBut-schema pieces next agree one other (inl (f, is, e)) (inr (b, is_too, k)) built built_too =
-    absurd (one_schema pieces (Err f) (Ok b) is is_too (refused_too one f e built) (no_both b BadPattern))
-HasOneBut-schema pieces next agree one other (inr (a, is, e)) (inl (g, is_too, k)) built built_too =
-    absurd (one_schema pieces (Ok a) (Err g) is is_too (no_both a BadPattern) (refused_too other g k built_too))
-HasOneBut-schema pieces next agree one other (inr (a, is, e)) (inr (b, is_too, k)) built built_too = agree a b is is_too one other e k built built_too
+HasOneBut-schema pieces next agree =
+    AgreeBut-like SameSchemas (IsSchema pieces) (IsSchema pieces) _ _ (AgreeLike-schema pieces) (λ schema same is is_too _. agree schema same is is_too)
 
 by_schema : {B : Type 0} (pieces : List Piece) (next : DescribedText → Result B Fault → Type 0) (answer : Result B Fault)
     → Then (AreDescribed pieces) next answer → Then (IsSchema pieces) (λ schema. next (with_schema pieces schema)) answer
@@ -291,7 +148,7 @@ HasOneBut-elements pieces next agree one other is is_too =
 pub HasOneBut-text : {B : Type 0} (file : List ℕ) (next : DescribedText → Result B Fault → Type 0) → ((pieces : List Piece) → AgreeOnSchemas pieces next)
     → HasOneBut (Then (IsDescribedText file) next)
 HasOneBut-text file next agree one other is is_too =
-    AgreeBut-after (IsReading file) (λ pieces. Then (AreDescribed pieces) next) (λ pieces. Then (AreDescribed pieces) next) (one_reading file)
+    HasOneBut-Then (IsReading file) (λ pieces. Then (AreDescribed pieces) next) (HasOneBut-of (IsReading file) (one_reading file))
     (λ pieces _. HasOneBut-elements pieces next (agree pieces)) one other
     (Then-parts (IsReading file) AreDescribed next one is) (Then-parts (IsReading file) AreDescribed next other is_too)
 
@@ -305,11 +162,11 @@ agree_by_sets next has_one pieces schema same is is_too one other h k =
 
 -- ---- a selection
 
-pub same_selection : (pieces : List Piece) (sets : List Set_) (kind : Option (List ℕ)) (wanted other : Filter)
+pub same_selection : (pieces : List Piece) (sets : List Set_) (record_type : Option (List ℕ)) (wanted other : Filter)
     → ((some : List Piece) (place : ℕ) → Passes wanted some place → Passes other some place)
     → ((some : List Piece) (place : ℕ) → Passes other some place → Passes wanted some place)
-    → (r : Result (List ℕ) Fault) → IsSelection pieces sets kind wanted r → IsSelection pieces sets kind other r
-same_selection pieces sets kind wanted other into back (Ok selected) (s, is, are) = (
+    → (r : Result (List ℕ) Fault) → IsSelection pieces sets record_type wanted r → IsSelection pieces sets record_type other r
+same_selection pieces sets record_type wanted other into back (Ok selected) (s, is, are) = (
   s,
   is,
   record {
@@ -322,4 +179,4 @@ same_selection pieces sets kind wanted other into back (Ok selected) (s, is, are
     );
   },
 )
-same_selection pieces sets kind wanted other into back (Err fault) is = is
+same_selection pieces sets record_type wanted other into back (Err fault) is = is

@@ -7,7 +7,7 @@ use Rattle.rec_text.specs.declared.fault.Fault.{Fault}
 use Rattle.rec_text.specs.declared.fault.Fault.TheVariants.{BadLine, OpenLine, BadBatch}
 use Rattle.rec_text.specs.Elements.{Piece, AreElementsOf, name_of, text_of}
 use Rattle.rec_text.specs.Reading.{IsReading, line_after}
-use Rattle.rec_text.proofs.lemmas.ListLemmas.{AllByRecursion-behind}
+use Rattle.rec_text.proofs.lemmas.ListLemmas.{AllByRecursion-following}
 use Rattle.rec_text.proofs.lemmas.elements.ElementLemmas.{text_of-take}
 use Rattle.rec_text.proofs.lemmas.reading.ReadingLemmas.{one_reading}
 use Rattle.rec_text.proofs.lemmas.records.RecordLemmas.{OneListOfRecords-holds}
@@ -21,6 +21,8 @@ use Rattle.rec_journal.specs.Event.{tool_name}
 use Rattle.rec_edit.specs.declared.request.Action.{Action}
 use Rattle.rec_edit.specs.declared.request.NewRecord.{NewRecord}
 use Rattle.rec_edit.specs.declared.request.NewRecord.TheVariants.{Pairs, Text as TextOfIt}
+use Rattle.rec_text.proofs.lemmas.FaultLemmas.{no_both, same_fault, same_value}
+use Rattle.rec_journal.proofs.lemmas.events.PartLemmas.{tool-same}
 use Rattle.rec_tools.specs.declared.batches.Refusal.{Refusal}
 use Rattle.rec_tools.specs.declared.batches.Refusal.TheVariants.{NotAnEdit, OutOfMemory}
 use Rattle.rec_tools.specs.declared.request.Ask.TheVariants.{All}
@@ -38,31 +40,12 @@ one_option None (Some y) same = absurd (cc)
 one_option (Some x) None same = absurd (cc)
 one_option (Some x) (Some y) same = cc
 
--- a number for each tool, by its name: its fourth letter tells the editing tools apart
-abbrev which : Tool → ℕ
-which tool = get_or (tool_name tool) 3 0
-
-abbrev tool_at : ℕ → Tool
-tool_at n = if n == 105 then RecIns else if n == 100 then RecDel else if n == 115 then RecSet else if n == 102 then RecFix else Batch
-
-tool_at-which : (tool : Tool) → tool_at (which tool) ≡ tool
-tool_at-which RecIns = refl
-tool_at-which RecDel = refl
-tool_at-which RecSet = refl
-tool_at-which RecFix = refl
-tool_at-which Batch = refl
-
--- no two tools have one name
-pub one_tool_name : (a b : Tool) → tool_name a ≡ tool_name b → a ≡ b
-one_tool_name a b same =
-    sym (tool_at-which a) ∙ (ap (λ name. tool_at (get_or name 3 0)) same ∙ tool_at-which b)
-
 one_item : {X : Type 0} (a b : X) → a ∷ [] ≡ b ∷ [] → a ≡ b
 one_item a b same = cc
 
 -- a record names one tool
 pub one_tool : (own : List Piece) (a b : Tool) → IsBy a own → IsBy b own → a ≡ b
-one_tool own a b by_a by_b = one_tool_name a b (one_item (tool_name a) (tool_name b) (sym by_a.named ∙ by_b.named))
+one_tool own a b by_a by_b = tool-same a b (one_item (tool_name a) (tool_name b) (sym by_a.named ∙ by_b.named))
 
 -- ---- the first record that is no edit
 
@@ -107,7 +90,7 @@ AllZip-from-map R f (x ∷ xs) (z ∷ zs) zipped = ((z, zipped.0), AllZip-from-m
 
 pub insertion_parts : (own : List Piece) (request : Request) → AsksTool RecIns own request
     → ((pick : Pick) × IsPickOf own pick) × ((fresh : NewRecord) × IsFreshOf own fresh) × ((auto : Bool) × IsAutoOf own auto)
-insertion_parts own (Insert kind fresh auto force) asks = ((record { kind = kind; by = All }, asks.0), (fresh, asks.1), (auto, asks.2))
+insertion_parts own (Insert record_type fresh auto force) asks = ((record { kind = record_type; by = All }, asks.0), (fresh, asks.1), (auto, asks.2))
 insertion_parts own (Replace pick fresh force) asks = ((pick, asks.1), (fresh, asks.2), asks.3)
 insertion_parts own _ asks = absurd asks
 
@@ -202,7 +185,7 @@ edits_or_line : (pieces : List Piece) (records : List (Range ℕ)) (requests : L
 edits_or_line pieces records requests line zipped no_edit =
     let all = AllZip-from-map AsksFor (elements_in pieces) records requests zipped in
     let parts = subst (AllByRecursion (λ own. IsEdit (elements_in pieces own))) no_edit.parts all in
-    no_edit.none (AllByRecursion-behind (λ own. IsEdit (elements_in pieces own)) no_edit.earlier (no_edit.bad ∷ no_edit.rest) parts).0
+    no_edit.none (AllByRecursion-following (λ own. IsEdit (elements_in pieces own)) no_edit.earlier (no_edit.bad ∷ no_edit.rest) parts).0
 
 agree_edits : (one other : Result (List Request) Fault) (requests others : List Request) → one ≡ Ok requests → other ≡ Ok others
     → AllZip (λ one other. (own : List Piece) × AsksFor own one × AsksFor own other) requests others → Agree one other
@@ -225,29 +208,20 @@ unread_fault : (text : List ℕ) (line : ℕ) → IsUnreadAt text line
 unread_fault text line (inl bad) = (BadLine line, bad, refl)
 unread_fault text line (inr bad) = (OpenLine line, bad, refl)
 
-one_fault : (one other : Fault) → ◌≡◌ {A = Result (List Piece) Fault} (Err one) (Err other) → one ≡ other
-one_fault one other same = cc
-
 one_bad_line : (line number : ℕ) → BadBatch line ≡ BadBatch number → line ≡ number
 one_bad_line line number same = cc
-
-fault_or_read : (fault : Fault) (pieces : List Piece) → ◌≡◌ {A = Result (List Piece) Fault} (Err fault) (Ok pieces) → ⊥
-fault_or_read fault pieces same = absurd (cc)
-
-one_elements : (pieces others : List Piece) → ◌≡◌ {A = Result (List Piece) Fault} (Ok pieces) (Ok others) → pieces ≡ others
-one_elements pieces others same = cc
 
 one_unread : (text : List ℕ) (line number : ℕ) → IsUnreadAt text line → IsUnreadAt text number → line ≡ number
 one_unread text line number a b =
     let one = unread_fault text line a in
     let other = unread_fault text number b in
-    let same = one_fault one.0 other.0 (one_reading text (Err one.0) (Err other.0) one.1 other.1) in
+    let same = same_fault one.0 other.0 (one_reading text (Err one.0) (Err other.0) one.1 other.1) in
     one_bad_line line number (sym one.2 ∙ (ap unread_by same ∙ other.2))
 
 unread_or_read : (text : List ℕ) (line : ℕ) (pieces : List Piece) → IsUnreadAt text line → AreElementsOf pieces text → ⊥
 unread_or_read text line pieces unread read =
     let one = unread_fault text line unread in
-    fault_or_read one.0 pieces (one_reading text (Err one.0) (Ok pieces) one.1 read)
+    no_both pieces one.0 (one_reading text (Ok pieces) (Err one.0) read one.1)
 
 -- all answers of a text agree
 pub one_answer : (text : List ℕ) → HasOneAnswer text
@@ -255,7 +229,7 @@ one_answer text one other (inl a) (inl b) = agree_lines one other a.0 b.0 a.2 b.
 one_answer text one other (inl a) (inr b) = absurd (unread_or_read text a.0 b.0 a.1 b.2)
 one_answer text one other (inr a) (inl b) = absurd (unread_or_read text b.0 a.0 b.1 a.2)
 one_answer text one other (inr a) (inr b) =
-    let pieces = one_elements a.0 b.0 (one_reading text (Ok a.0) (Ok b.0) a.2 b.2) in
+    let pieces = same_value a.0 b.0 (one_reading text (Ok a.0) (Ok b.0) a.2 b.2) in
     let b_records : AreRecords a.0 b.1 = subst (λ pieces. AreRecords pieces b.1) (sym pieces) b.3 in
     let records = OneListOfRecords-holds.records a.0 a.1 b.1 a.3 b_records in
     let b_edits : AreEditsOf a.0 a.1 other =

@@ -19,9 +19,9 @@ pub left_by_all-append : (c : Contents) (calls later : List Call) → left_by_al
 left_by_all-append c [] later = refl
 left_by_all-append c (call ∷ calls) later = left_by_all-append (left_by c call) calls later
 
-pub TellAll-front : (c : Contents) (calls later : List Call) → TellAll c (calls ++ later) → TellAll c calls
-TellAll-front c [] later told = tt
-TellAll-front c (call ∷ calls) later told = (told.0, TellAll-front (left_by c call) calls later told.1)
+pub TellAll-prefix : (c : Contents) (calls later : List Call) → TellAll c (calls ++ later) → TellAll c calls
+TellAll-prefix c [] later told = tt
+TellAll-prefix c (call ∷ calls) later told = (told.0, TellAll-prefix (left_by c call) calls later told.1)
 
 pub TellAll-rest : (c : Contents) (calls later : List Call) → TellAll c (calls ++ later) → TellAll (left_by_all c calls) later
 TellAll-rest c [] later told = told
@@ -31,10 +31,10 @@ pub TellAll-join : (c : Contents) (calls later : List Call) → TellAll c calls 
 TellAll-join c [] later told more = more
 TellAll-join c (call ∷ calls) later told more = (told.0, TellAll-join (left_by c call) calls later told.1 more)
 
-pub HasFailed-front : (calls later : List Call) → HasFailed calls → HasFailed (calls ++ later)
-HasFailed-front [] later failed = absurd failed
-HasFailed-front (call ∷ calls) later (inl failed) = inl failed
-HasFailed-front (call ∷ calls) later (inr failed) = inr (HasFailed-front calls later failed)
+pub HasFailed-prefix : (calls later : List Call) → HasFailed calls → HasFailed (calls ++ later)
+HasFailed-prefix [] later failed = absurd failed
+HasFailed-prefix (call ∷ calls) later (inl failed) = inl failed
+HasFailed-prefix (call ∷ calls) later (inr failed) = inr (HasFailed-prefix calls later failed)
 
 pub HasFailed-rest : (calls later : List Call) → HasFailed later → HasFailed (calls ++ later)
 HasFailed-rest [] later failed = failed

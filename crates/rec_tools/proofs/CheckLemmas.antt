@@ -1,4 +1,4 @@
--- What `check` puts out: its report, or a front of it where that is cut short.
+-- What `check` puts out: its report, or a prefix of it where that is cut short.
 use Rattle.std.proofs.Common.{◌≡◌, inl, inr, ℕ, List, Option, Ok, Err, refl, subst, sym}
 use Rattle.rec_text.specs.declared.fault.Fault.{Fault}
 use Rattle.rec_text.specs.declared.fault.Fault.TheVariants.{StoreFailed}
@@ -12,7 +12,7 @@ use Rattle.rec_select.specs.Taken.{PrintsAndCounts, Puts}
 use Rattle.rec_select.specs.Report.{IsReport, report}
 use Rattle.rec_tools.specs.declared.request.Reply.{Reply}
 use Rattle.rec_tools.specs.Printouts.{IsReportText, PutsPrintout, verdict}
-use Rattle.rec_tools.proofs.FaultLemmas.{memory_or_weaker, ok_is_no_err, same_fault, same_value}
+use Rattle.rec_text.proofs.lemmas.FaultLemmas.{memory_or_weaker, ok_is_no_err, same_fault, same_value}
 use Rattle.rec_tools.proofs.PutsLemmas.{refused_before, PutsPrintout-err}
 
 pub no_store_report : (file : List ℕ) → AreViolationsOf file (Err StoreFailed) → ⊥

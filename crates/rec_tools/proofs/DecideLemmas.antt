@@ -22,7 +22,7 @@ use Rattle.rec_edit.specs.declared.outcome.Edited.{Edited}
 use Rattle.rec_edit.specs.declared.batches.BatchEdited.{BatchEdited}
 use Rattle.rec_edit.specs.Task.{Task, insert, replace, delete, comment_out, set, auto_fill, tool_of}
 use Rattle.rec_edit.specs.Batch.{IsBatchOutcome}
-use Rattle.rec_edit.specs.Outcome.{IsOutcome as IsOutcomeOf}
+use Rattle.rec_edit.specs.Outcome.{IsOutcome}
 use Rattle.rec_check.specs.DescribedTexts.{DescribedText, IsDescribedText}
 use Rattle.rec_tools.specs.declared.decision.Decision.{Decision}
 use Rattle.rec_tools.specs.declared.making.Made.{Made}
@@ -35,9 +35,9 @@ use Rattle.rec_tools.specs.Home.{Contents}
 use Rattle.rec_tools.specs.Steps.{Then}
 use Rattle.rec_tools.specs.Batches.{AreEdits}
 use Rattle.rec_tools.specs.Requests.{Edits, one_edit, batch_of, Asked, looking, listing, editing, moving, forgetting, asked_of, IsTaskOf, AreTasks, IsOneEdit, IsBatch}
-use Rattle.rec_tools.specs.Outcomes.{Outcome, by_one, IsMade, IsEditOutcome, IsOutcome, Decides, staying, putting, outcome_of, reply_of}
+use Rattle.rec_tools.specs.Outcomes.{Outcome, by_one, IsMade, IsEditOutcome, IsRequestOutcome, Decides, staying, putting, outcome_of, reply_of}
 use Rattle.rec_tools.specs.proving.Editing.{IsEditing, IsEditOf, IsOne, force_of, IsMadeBy, IsPut, told_by, TellsChanges, IsChange}
-use Rattle.rec_tools.proofs.FaultLemmas.{memory_or_weaker, ok_is_no_err, same_value}
+use Rattle.rec_text.proofs.lemmas.FaultLemmas.{memory_or_weaker, ok_is_no_err, same_value}
 
 -- ---- two texts that share a digest
 
@@ -60,7 +60,7 @@ differs b text file idle is_false same = true_is_not_false (sym (idle.1 same) �
 
 -- the one edit of a request is what it asks for
 told_one : (request : Request) → IsOne request → (r : Result (Edits × Bool) Fault) → IsOneEdit request (force_of request) r → IsEditOf (asked_of request) r
-told_one (Insert kind fresh auto force) one r h = h
+told_one (Insert record_type fresh auto force) one r h = h
 told_one (Replace pick fresh force) one r h = h
 told_one (Delete pick force) one r h = h
 told_one (CommentOut pick force) one r h = h
@@ -70,7 +70,7 @@ told_one _ one r h = absurd one
 
 -- no task is done by a batch
 by_one_tool : (task : Task) → is_batch (tool_of task) ≡ false
-by_one_tool (insert kind fresh auto) = refl
+by_one_tool (insert record_type fresh auto) = refl
 by_one_tool (replace wanted fresh) = refl
 by_one_tool (delete wanted) = refl
 by_one_tool (comment_out wanted) = refl
@@ -86,12 +86,12 @@ module _ (request : Request) (one : IsOne request) (text : DescribedText) where
     told : IsEditOf (asked_of request) (Ok (one_edit task, force))
     told = told_one request one (Ok (one_edit task, force)) (inr (task, is, ap (λ f. Ok (one_edit task, f)) forced))
 
-    pub edit-refused : (fault : Fault) → IsMemoryOr fault (IsOutcomeOf text.pieces text.schema force task (Err fault))
+    pub edit-refused : (fault : Fault) → IsMemoryOr fault (IsOutcome text.pieces text.schema force task (Err fault))
         → IsMemoryOr fault (IsMadeBy (asked_of request) text (Err fault))
     edit-refused fault h = memory_or_weaker fault _ _ (λ none. inr ((one_edit task, force), told, inl (fault, none, refl))) h
 
     module _ (edited : Edited) (tool : Tool) (by : tool ≡ tool_of task) where
-      pub edit-made : IsOutcomeOf text.pieces text.schema force task (Ok edited) → IsMadeBy (asked_of request) text (Ok (One tool edited))
+      pub edit-made : IsOutcome text.pieces text.schema force task (Ok edited) → IsMadeBy (asked_of request) text (Ok (One tool edited))
       edit-made made = inr ((one_edit task, force), told, inr (edited, made, ap (λ t. Ok (t, by_one t edited)) by))
 
       pub edit-tells : (before : List ℕ) → Splices edited.patch before edited.text → TellsChanges before (One tool edited)
@@ -147,34 +147,34 @@ module _ (file journal : List ℕ) (asked : Asked) (edits : IsEditing asked) whe
   -- what an edit comes to, step by step
   by_steps : (r : Result Outcome Fault)
       → Then (IsDescribedText file) (λ text. Then (IsOpening file journal) (λ o. Then (IsMade (IsEditOf asked) text) (λ made. IsEditOutcome o on made.0 made.1))) r
-      → IsOutcome on asked r
+      → IsRequestOutcome on asked r
   by_steps = of_edit asked edits where
     of_edit : (asked : Asked) → IsEditing asked → (r : Result Outcome Fault)
         → Then (IsDescribedText file) (λ text. Then (IsOpening file journal) (λ o. Then (IsMade (IsEditOf asked) text) (λ made. IsEditOutcome o on made.0 made.1))) r
-        → IsOutcome on asked r
+        → IsRequestOutcome on asked r
     of_edit (looking IsText) none r h = absurd none
     of_edit listing none r h = absurd none
     of_edit (editing IsEdit) edits r h = h
     of_edit (moving direction) none r h = absurd none
     of_edit (forgetting n) none r h = absurd none
 
-  pub change-no_text : (fault : Fault) → IsMemoryOr fault (IsDescribedText file (Err fault)) → IsMemoryOr fault (IsOutcome on asked (Err fault))
+  pub change-no_text : (fault : Fault) → IsMemoryOr fault (IsDescribedText file (Err fault)) → IsMemoryOr fault (IsRequestOutcome on asked (Err fault))
   change-no_text fault h = memory_or_weaker fault _ _ (λ none. by_steps (Err fault) (inl (fault, none, refl))) h
 
   module _ (text : DescribedText) (is : IsDescribedText file (Ok text)) where
-    pub change-no_opening : (fault : Fault) → IsMemoryOr fault (IsOpening file journal (Err fault)) → IsMemoryOr fault (IsOutcome on asked (Err fault))
+    pub change-no_opening : (fault : Fault) → IsMemoryOr fault (IsOpening file journal (Err fault)) → IsMemoryOr fault (IsRequestOutcome on asked (Err fault))
     change-no_opening fault h = memory_or_weaker fault _ _ (λ none. by_steps (Err fault) (inr (text, is, inl (fault, none, refl)))) h
 
     pub change-no_edit : (o : Opened) → IsOpening file journal (Ok o) → (fault : Fault) → IsMemoryOr fault (IsMade (IsEditOf asked) text (Err fault))
-        → IsMemoryOr fault (IsOutcome on asked (Err fault))
+        → IsMemoryOr fault (IsRequestOutcome on asked (Err fault))
     change-no_edit o opens fault h = memory_or_weaker fault _ _ (λ none. by_steps (Err fault) (inr (text, is, inr (o, opens, inl (fault, none, refl))))) h
 
   module _ (o : Opened) (made : Made) (change : IsChange file journal asked (o, made)) where
     -- what becomes of the edit
-    edit-ends : (r : Result Outcome Fault) → IsEditOutcome o on (told_by made).0 (told_by made).1 r → IsOutcome on asked r
+    edit-ends : (r : Result Outcome Fault) → IsEditOutcome o on (told_by made).0 (told_by made).1 r → IsRequestOutcome on asked r
     edit-ends r h = by_steps r (inr (change.text, change.is, inr (o, change.opens, inr (told_by made, change.made, h))))
 
-    pub edit-unchanged : ((told_by made).1).text ≡ file → IsOutcome on asked (Ok (staying Unchanged))
+    pub edit-unchanged : ((told_by made).1).text ≡ file → IsRequestOutcome on asked (Ok (staying Unchanged))
     edit-unchanged same = edit-ends (Ok (staying Unchanged)) (inl (same, refl))
 
     pub edit-put : (r : Result Decision Fault) → UnlessMemory r (IsPut o file journal made) → UnlessMemory r (Decides file journal asked)
@@ -243,17 +243,17 @@ module _ (file journal : List ℕ) (direction : Direction) where
   abbrev contents : Contents
   contents = record { file = file; journal = journal }
 
-  pub move-no_opening : (fault : Fault) → IsMemoryOr fault (IsOpening file journal (Err fault)) → IsMemoryOr fault (IsOutcome contents (moving direction) (Err fault))
+  pub move-no_opening : (fault : Fault) → IsMemoryOr fault (IsOpening file journal (Err fault)) → IsMemoryOr fault (IsRequestOutcome contents (moving direction) (Err fault))
   move-no_opening fault h = memory_or_weaker fault _ _ (λ none. inl (fault, none, refl)) h
 
   module _ (o : Opened) (opens : IsOpening file journal (Ok o)) where
-    pub move-refused : (fault : Fault) → IsMemoryOr fault (IsMovePlan direction o file journal (Err fault)) → IsMemoryOr fault (IsOutcome contents (moving direction) (Err fault))
+    pub move-refused : (fault : Fault) → IsMemoryOr fault (IsMovePlan direction o file journal (Err fault)) → IsMemoryOr fault (IsRequestOutcome contents (moving direction) (Err fault))
     move-refused fault h = memory_or_weaker fault _ _ (λ refused. inr (o, opens, refused)) h
 
     module _ (plan : Plan) (planned : IsMovePlan direction o file journal (Ok plan))
         (safe : (e : Revision) (others : List Revision) → edits_on direction o ≡ e ∷ others → IsSafe file journal o (after_move direction o journal e others) plan) where
       move-planned : (number : ℕ) (nearest : Revision) (others : List Revision) → edits_on direction o ≡ nearest ∷ others → number ≡ nearest.number
-          → IsOutcome contents (moving direction) (Ok (putting plan (reply_of direction number)))
+          → IsRequestOutcome contents (moving direction) (Ok (putting plan (reply_of direction number)))
       move-planned number nearest others there named =
           let moves = planned.1 in
           let same : nearest ≡ moves.nearest = same_nearest (sym there ∙ moves.there) in
@@ -272,7 +272,7 @@ module _ (file journal : List ℕ) (direction : Direction) where
           )
 
       pub move-replied : (number : Option ℕ) → IsNearestNumber direction o number → (reply : Reply) → IsReplied direction number (Ok reply)
-          → IsOutcome contents (moving direction) (Ok (putting plan reply))
+          → IsRequestOutcome contents (moving direction) (Ok (putting plan reply))
       move-replied None none reply e = ok_is_no_err reply (nothing_there direction) _ (sym e)
       move-replied (Some n) (e, others, there, named) reply is =
-          subst (λ r. IsOutcome contents (moving direction) (Ok (putting plan r))) (sym (same_value reply (reply_of direction n) is)) (move-planned n e others there named)
+          subst (λ r. IsRequestOutcome contents (moving direction) (Ok (putting plan r))) (sym (same_value reply (reply_of direction n) is)) (move-planned n e others there named)

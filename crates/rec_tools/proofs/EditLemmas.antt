@@ -22,14 +22,15 @@ use Rattle.rec_edit.specs.declared.request.Pair.{Pair}
 use Rattle.rec_edit.specs.declared.request.Action.{Action}
 use Rattle.rec_edit.specs.declared.request.Action.TheVariants.{Set, Add, SetAdd, Rename, Delete, Comment as CommentFields}
 use Rattle.rec_edit.specs.declared.batches.BatchEdited.{BatchEdited}
-use Rattle.rec_edit.specs.Batch.{IsStepOn, step_with, at_most_greatest, AreSteps, IsBatchOutcome}
+use Rattle.rec_edit.specs.Batch.{IsEditScriptOn, step_with, at_most_greatest, AreSteps, IsBatchOutcome}
 use Rattle.rec_edit.specs.Task.{NewRecord, Wanted, Task, insert, replace, delete, comment_out, set, auto_fill, fresh_by, tool_of}
 use Rattle.rec_edit.specs.Insertions.{Numbered, Filled, numbered_fields, filling}
 use Rattle.rec_edit.specs.Automatic.{AreAutomatic, AreFilledSets}
-use Rattle.rec_edit.specs.Script.{Layout, edited_text, hunks_of}
+use Rattle.rec_edit.specs.Script.{Layout, edited_text}
+use Rattle.rec_edit.specs.proving.Changes.{hunks_of}
 use Rattle.rec_edit.specs.Rules.{fields_of, deletion, commenting, replacement, setting}
 use Rattle.rec_edit.specs.Wording.{unnumbered, names_of_action, values_of_action, written, AreItemsFor, IsNewRecord}
-use Rattle.rec_edit.specs.Outcome.{AreChosen, AreRemovable, allowed, Step, step_of, step_of_insert, IsStep, none_of, IsSoundUnlessForced, edited_by, IsOutcome}
+use Rattle.rec_edit.specs.Outcome.{AreChosen, AreRemovable, allowed, EditScript, edit_script, insert_script, IsEditScript, none_of, IsSoundUnlessForced, edited_by, IsOutcome}
 use Rattle.rec_edit.proofs.lemmas.outcomes.OneBatchLemmas.{one_batch}
 use Rattle.rec_edit.proofs.lemmas.outcomes.OutcomeLemmas.{one_outcome}
 use Rattle.rec_tools.specs.declared.request.Pick.{Pick}
@@ -40,8 +41,9 @@ use Rattle.rec_tools.specs.Asking.{IsFilter}
 use Rattle.rec_tools.specs.Batches.{AsksFor, AreEdits, Agree}
 use Rattle.rec_tools.specs.Requests.{Edits, one_edit, batch_of, IsTaskBy, IsTaskOf, AreTasks, IsOneEdit, IsBatch}
 use Rattle.rec_tools.specs.Outcomes.{by_one, Makes, IsMade}
-use Rattle.rec_tools.proofs.FaultLemmas.{ok_is_no_err}
-use Rattle.rec_tools.proofs.AnswerLemmas.{HasOne-same, HasOneBut, HasOneBut-of, Then-first, Then-next, Then-parts, Then-value, AreAlike, AgreeBut, AgreeBut-before, AreLike, AgreeLike, AgreeLike-value, AgreeLike-Then, AgreeLike-filter, AgreeBut-like, with_schema, AgreeOnSchemas, same_selection}
+use Rattle.rec_text.proofs.lemmas.FaultLemmas.{ok_is_no_err}
+use Rattle.rec_text.proofs.lemmas.StepLemmas.{HasOne-same, HasOneBut, HasOneBut-of, Then-first, Then-next, Then-parts, Then-value, AgreeBut, AgreeBut-Then, AreLike, AgreeLike, AgreeLike-value, AgreeLike-Then, AgreeBut-like}
+use Rattle.rec_tools.proofs.AnswerLemmas.{AreAlike, AgreeLike-filter, with_schema, AgreeOnSchemas, same_selection}
 use Rattle.rec_tools.proofs.BatchLemmas.{one_answer}
 use Rattle.rec_tools.proofs.SameTaskLemmas.{same_tasks}
 use Rattle.rec_tools.proofs.TaskLemmas.{no_store_edits}
@@ -53,61 +55,61 @@ use Rattle.rec_tools.proofs.FreshLemmas.{no_store_written, no_store_new_record, 
 -- ---- filters that are alike
 
 abbrev by_filter : Option (List ℕ) → Filter → Wanted
-by_filter kind filter = record { kind = kind; filter = filter }
+by_filter record_type filter = record { record_type = record_type; filter = filter }
 
 -- these records, where they may be taken out
 abbrev MayGo : Filter → Bool → List (Range ℕ) → Result (List (Range ℕ)) Fault → Type 0
 MayGo filter force chosen = Then (λ answer. answer ≡ allowed filter force) (λ _ answer. answer ≡ Ok chosen)
 
-module _ (kind : Option (List ℕ)) (wanted other : Filter) (alike : AreAlike wanted other) (pieces : List Piece) (sets : List Set_) where
-  chosen_alike : (r : Result (List (Range ℕ)) Fault) → AreChosen pieces sets (by_filter kind wanted) r → AreChosen pieces sets (by_filter kind other) r
-  chosen_alike = Then-first (IsSelection pieces sets kind wanted) (IsSelection pieces sets kind other) _ (same_selection pieces sets kind wanted other alike.into alike.back)
+module _ (record_type : Option (List ℕ)) (wanted other : Filter) (alike : AreAlike wanted other) (pieces : List Piece) (sets : List Set_) where
+  chosen_alike : (r : Result (List (Range ℕ)) Fault) → AreChosen pieces sets (by_filter record_type wanted) r → AreChosen pieces sets (by_filter record_type other) r
+  chosen_alike = Then-first (IsSelection pieces sets record_type wanted) (IsSelection pieces sets record_type other) _ (same_selection pieces sets record_type wanted other alike.into alike.back)
 
-  removable_alike : (force : Bool) (r : Result (List (Range ℕ)) Fault) → AreRemovable pieces sets (by_filter kind wanted) force r
-      → AreRemovable pieces sets (by_filter kind other) force r
+  removable_alike : (force : Bool) (r : Result (List (Range ℕ)) Fault) → AreRemovable pieces sets (by_filter record_type wanted) force r
+      → AreRemovable pieces sets (by_filter record_type other) force r
   removable_alike force r h =
-      Then-next (AreChosen pieces sets (by_filter kind other)) (MayGo wanted force) (MayGo other force)
+      Then-next (AreChosen pieces sets (by_filter record_type other)) (MayGo wanted force) (MayGo other force)
       (λ chosen. Then-first (λ answer. answer ≡ allowed wanted force) (λ answer. answer ≡ allowed other force) (λ _ answer. answer ≡ Ok chosen)
       (λ answer e. e ∙ alike.allowed_too force)) r
-      (Then-first (AreChosen pieces sets (by_filter kind wanted)) (AreChosen pieces sets (by_filter kind other)) (MayGo wanted force) chosen_alike r h)
+      (Then-first (AreChosen pieces sets (by_filter record_type wanted)) (AreChosen pieces sets (by_filter record_type other)) (MayGo wanted force) chosen_alike r h)
 
 -- for filters that are alike, the task is the same, and the tool is the same in any case
 pub record IsSameTask (task_for : Wanted → Task) : Type 0 where
-  pub step : (pieces : List Piece) (schema : Described) (force : Bool) (kind : Option (List ℕ)) (wanted other : Filter) → AreAlike wanted other
-      → (r : Result Step Fault) → IsStep pieces schema force (task_for (by_filter kind wanted)) r → IsStep pieces schema force (task_for (by_filter kind other)) r
+  pub step : (pieces : List Piece) (schema : Described) (force : Bool) (record_type : Option (List ℕ)) (wanted other : Filter) → AreAlike wanted other
+      → (r : Result EditScript Fault) → IsEditScript pieces schema force (task_for (by_filter record_type wanted)) r → IsEditScript pieces schema force (task_for (by_filter record_type other)) r
   pub tool : (wanted other : Wanted) → tool_of (task_for wanted) ≡ tool_of (task_for other)
 
 pub delete_alike : IsSameTask delete
 delete_alike = record {
-  step = λ pieces schema force kind wanted other alike.
-      Then-first (AreRemovable pieces schema.sets (by_filter kind wanted) force) (AreRemovable pieces schema.sets (by_filter kind other) force) _
-      (removable_alike kind wanted other alike pieces schema.sets force);
+  step = λ pieces schema force record_type wanted other alike.
+      Then-first (AreRemovable pieces schema.sets (by_filter record_type wanted) force) (AreRemovable pieces schema.sets (by_filter record_type other) force) _
+      (removable_alike record_type wanted other alike pieces schema.sets force);
   tool = λ wanted other. refl;
 }
 
 pub comment_out_alike : IsSameTask comment_out
 comment_out_alike = record {
-  step = λ pieces schema force kind wanted other alike.
-      Then-first (AreRemovable pieces schema.sets (by_filter kind wanted) force) (AreRemovable pieces schema.sets (by_filter kind other) force) _
-      (removable_alike kind wanted other alike pieces schema.sets force);
+  step = λ pieces schema force record_type wanted other alike.
+      Then-first (AreRemovable pieces schema.sets (by_filter record_type wanted) force) (AreRemovable pieces schema.sets (by_filter record_type other) force) _
+      (removable_alike record_type wanted other alike pieces schema.sets force);
   tool = λ wanted other. refl;
 }
 
 pub set_alike : (list : List ℕ) (action : Action) → IsSameTask (λ wanted. set wanted list action)
 set_alike list action = record {
-  step = λ pieces schema force kind wanted other alike.
+  step = λ pieces schema force record_type wanted other alike.
       Then-next (AreItemsFor action list) _ _
-      (λ items. Then-first (AreChosen pieces schema.sets (by_filter kind wanted)) (AreChosen pieces schema.sets (by_filter kind other)) _
-      (chosen_alike kind wanted other alike pieces schema.sets));
+      (λ items. Then-first (AreChosen pieces schema.sets (by_filter record_type wanted)) (AreChosen pieces schema.sets (by_filter record_type other)) _
+      (chosen_alike record_type wanted other alike pieces schema.sets));
   tool = λ wanted other. refl;
 }
 
 pub replace_alike : (fresh : NewRecord) → IsSameTask (λ wanted. replace wanted fresh)
 replace_alike fresh = record {
-  step = λ pieces schema force kind wanted other alike.
+  step = λ pieces schema force record_type wanted other alike.
       Then-next (IsNewRecord None fresh) _ _
-      (λ pairs. Then-first (AreChosen pieces schema.sets (by_filter kind wanted)) (AreChosen pieces schema.sets (by_filter kind other)) _
-      (chosen_alike kind wanted other alike pieces schema.sets));
+      (λ pairs. Then-first (AreChosen pieces schema.sets (by_filter record_type wanted)) (AreChosen pieces schema.sets (by_filter record_type other)) _
+      (chosen_alike record_type wanted other alike pieces schema.sets));
   tool = λ wanted other. refl;
 }
 
@@ -115,8 +117,8 @@ replace_alike fresh = record {
 
 -- both are done by one tool, and make the same of each text
 pub record AreDoneAlike (task other : Task) : Type 0 where
-  pub step : (pieces : List Piece) (schema : Described) (force : Bool) (r : Result Step Fault)
-      → IsStep pieces schema force task r → IsStep pieces schema force other r
+  pub step : (pieces : List Piece) (schema : Described) (force : Bool) (r : Result EditScript Fault)
+      → IsEditScript pieces schema force task r → IsEditScript pieces schema force other r
   pub tool : tool_of task ≡ tool_of other
 
 itself_alike : (task : Task) → AreDoneAlike task task
@@ -137,12 +139,12 @@ module _ (task_for : Wanted → Task) (same : IsSameTask task_for) (pick : Pick)
 
   picked_alike : AgreeLike AreDoneAlike (IsTaskBy task_for pick) (IsTaskBy task_for pick)
   picked_alike =
-      AgreeLike-Then AreAlike AreDoneAlike (IsFilter pick.by) (IsFilter pick.by) (λ filter answer. answer ≡ Ok (task_by filter)) (λ filter answer. answer ≡ Ok (task_by filter))
-      (AgreeLike-filter pick.by) (λ wanted other alike. AgreeLike-value AreDoneAlike (task_by wanted) (task_by other) (done_alike wanted other alike))
+      AgreeLike-Then AreAlike (IsFilter pick.by) (IsFilter pick.by) (λ filter answer. answer ≡ Ok (task_by filter)) (λ filter answer. answer ≡ Ok (task_by filter))
+      (AgreeLike-filter pick.by) AreDoneAlike (λ wanted other _ _ alike. AgreeLike-value AreDoneAlike (task_by wanted) (task_by other) (done_alike wanted other alike))
 
 -- the tasks of a request are alike
 pub tasks_of_one : (request : Request) → AgreeLike AreDoneAlike (IsTaskOf request) (IsTaskOf request)
-tasks_of_one (Insert kind fresh auto force) = told_alike (insert kind (fresh_by fresh) auto)
+tasks_of_one (Insert record_type fresh auto force) = told_alike (insert record_type (fresh_by fresh) auto)
 tasks_of_one (Replace pick fresh force) = picked_alike (λ wanted. replace wanted (fresh_by fresh)) (replace_alike (fresh_by fresh)) pick
 tasks_of_one (Delete pick force) = picked_alike delete delete_alike pick
 tasks_of_one (CommentOut pick force) = picked_alike comment_out comment_out_alike pick
@@ -155,9 +157,9 @@ tasks_of_all : (requests : List Request) → AgreeLike (AllZip AreDoneAlike) (Ar
 tasks_of_all [] = AgreeLike-value (AllZip AreDoneAlike) [] [] tt
 tasks_of_all (request ∷ requests) =
     let more : Task → Result (List Task) Fault → Type 0 = λ task. Then (AreTasks requests) (λ tasks answer. answer ≡ Ok (task ∷ tasks)) in
-    AgreeLike-Then AreDoneAlike (AllZip AreDoneAlike) (IsTaskOf request) (IsTaskOf request) more more (tasks_of_one request) (λ a b alike.
-    AgreeLike-Then (AllZip AreDoneAlike) (AllZip AreDoneAlike) (AreTasks requests) (AreTasks requests)
-    (λ tasks answer. answer ≡ Ok (a ∷ tasks)) (λ tasks answer. answer ≡ Ok (b ∷ tasks)) (tasks_of_all requests) (λ xs ys alike_too.
+    AgreeLike-Then AreDoneAlike (IsTaskOf request) (IsTaskOf request) more more (tasks_of_one request) (AllZip AreDoneAlike) (λ a b _ _ alike.
+    AgreeLike-Then (AllZip AreDoneAlike) (AreTasks requests) (AreTasks requests)
+    (λ tasks answer. answer ≡ Ok (a ∷ tasks)) (λ tasks answer. answer ≡ Ok (b ∷ tasks)) (tasks_of_all requests) (AllZip AreDoneAlike) (λ xs ys _ _ alike_too.
     AgreeLike-value (AllZip AreDoneAlike) (a ∷ xs) (b ∷ ys) (alike, alike_too)))
 
 -- the same records ask for both
@@ -177,14 +179,14 @@ module _ (task other : Task) (alike : AreDoneAlike task other) (force : Bool) wh
       subst (λ tool. Then (IsOutcome text.pieces text.schema force other) (λ edited answer. answer ≡ Ok (tool, by_one tool edited)) r) alike.tool
       (Then-first (IsOutcome text.pieces text.schema force task) (IsOutcome text.pieces text.schema force other)
       (λ edited answer. answer ≡ Ok (tool_of task, by_one (tool_of task) edited))
-      (Then-first (IsStep text.pieces text.schema force task) (IsStep text.pieces text.schema force other) _ (alike.step text.pieces text.schema force)) r h)
+      (Then-first (IsEditScript text.pieces text.schema force task) (IsEditScript text.pieces text.schema force other) _ (alike.step text.pieces text.schema force)) r h)
 
-  step_alike : (text : List ℕ) (r : Result Step Fault) → IsStepOn force task text r → IsStepOn force other text r
-  step_alike text = Then-next (IsDescribedText text) (λ described. IsStep described.pieces described.schema force task)
-      (λ described. IsStep described.pieces described.schema force other) (λ described. alike.step described.pieces described.schema force)
+  step_alike : (text : List ℕ) (r : Result EditScript Fault) → IsEditScriptOn force task text r → IsEditScriptOn force other text r
+  step_alike text = Then-next (IsDescribedText text) (λ described. IsEditScript described.pieces described.schema force task)
+      (λ described. IsEditScript described.pieces described.schema force other) (λ described. alike.step described.pieces described.schema force)
 
 -- what an edit by a tool and those after it make of a text
-abbrev joined_by : Tool → Step → BatchEdited → BatchEdited
+abbrev joined_by : Tool → EditScript → BatchEdited → BatchEdited
 joined_by tool step rest = record {
   steps = step_with tool (hunks_of step.script) ++ rest.steps;
   text = rest.text;
@@ -192,7 +194,7 @@ joined_by tool step rest = record {
 }
 
 -- what becomes of a step and of those after it
-abbrev Joins : Bool → Tool → List Task → Step → Result BatchEdited Fault → Type 0
+abbrev Joins : Bool → Tool → List Task → EditScript → Result BatchEdited Fault → Type 0
 Joins force tool tasks step = Then (AreSteps force tasks (edited_text step.script)) (λ rest answer. answer ≡ Ok (joined_by tool step rest))
 
 steps_alike : (force : Bool) (tasks others : List Task) → AllZip AreDoneAlike tasks others → (text : List ℕ) (r : Result BatchEdited Fault)
@@ -201,8 +203,8 @@ steps_alike force [] [] alike text r h = h
 steps_alike force [] (other ∷ others) alike text r h = absurd alike
 steps_alike force (task ∷ tasks) [] alike text r h = absurd alike
 steps_alike force (task ∷ tasks) (other ∷ others) (alike, rest) text r h =
-    Then-first (IsStepOn force task text) (IsStepOn force other text) (Joins force (tool_of other) others) (step_alike task other alike force text) r
-    (Then-next (IsStepOn force task text) (Joins force (tool_of task) tasks) (Joins force (tool_of other) others)
+    Then-first (IsEditScriptOn force task text) (IsEditScriptOn force other text) (Joins force (tool_of other) others) (step_alike task other alike force text) r
+    (Then-next (IsEditScriptOn force task text) (Joins force (tool_of task) tasks) (Joins force (tool_of other) others)
     (λ step s is. subst (λ tool. Joins force tool others step s) alike.tool
     (Then-first (AreSteps force tasks (edited_text step.script)) (AreSteps force others (edited_text step.script))
     (λ made answer. answer ≡ Ok (joined_by (tool_of task) step made)) (steps_alike force tasks others rest (edited_text step.script)) s is)) r h)
@@ -220,17 +222,17 @@ one_batch_of force tasks text = one_batch force tasks text
 -- what a task makes is the same on any two schemas that the elements have
 agree_on_task : (task : Task) (force : Bool) (pieces : List Piece) → AgreeOnSchemas pieces (λ text. Makes text (one_edit task, force))
 agree_on_task task force pieces schema same is is_too =
-    AgreeBut-before (IsOutcome pieces schema force task) (IsOutcome pieces same force task) (λ edited answer. answer ≡ Ok (tool_of task, by_one (tool_of task) edited))
+    AgreeBut-Then (IsOutcome pieces schema force task) (IsOutcome pieces same force task) (λ edited answer. answer ≡ Ok (tool_of task, by_one (tool_of task) edited)) (λ edited answer. answer ≡ Ok (tool_of task, by_one (tool_of task) edited))
     (λ one other h k built built_too. one_outcome pieces schema same force task one other is is_too h k built built_too)
-    (λ edited. HasOneBut-of (λ answer. answer ≡ Ok (tool_of task, by_one (tool_of task) edited)) (HasOne-same (Ok (tool_of task, by_one (tool_of task) edited))))
+    (λ edited _. HasOneBut-of (λ answer. answer ≡ Ok (tool_of task, by_one (tool_of task) edited)) (HasOne-same (Ok (tool_of task, by_one (tool_of task) edited))))
 
 -- what tasks make that are alike is the same, whatever the schemas
 agree_on_tasks : (force : Bool) (tasks others : List Task) → AllZip AreDoneAlike tasks others → (pieces : List Piece) (schema same : Described)
     → AgreeBut (Makes (with_schema pieces schema) (batch_of tasks, force)) (Makes (with_schema pieces same) (batch_of others, force))
 agree_on_tasks force tasks others alike pieces schema same =
-    AgreeBut-before (IsBatchOutcome force tasks (text_of pieces)) (IsBatchOutcome force others (text_of pieces)) (λ made answer. answer ≡ Ok (ByBatch, made))
+    AgreeBut-Then (IsBatchOutcome force tasks (text_of pieces)) (IsBatchOutcome force others (text_of pieces)) (λ made answer. answer ≡ Ok (ByBatch, made)) (λ made answer. answer ≡ Ok (ByBatch, made))
     (λ one other h k. one_batch_of force others (text_of pieces) one other (batch_alike force tasks others alike (text_of pieces) one h) k)
-    (λ made. HasOneBut-of (λ answer. answer ≡ Ok (ByBatch, made)) (HasOne-same (Ok (ByBatch, made))))
+    (λ made _. HasOneBut-of (λ answer. answer ≡ Ok (ByBatch, made)) (HasOne-same (Ok (ByBatch, made))))
 
 -- steps that find a value, of which edits are made
 module _ {A : Type 0} (first : Result A Fault → Type 0) (edits_for : A → Edits × Bool) (text : DescribedText) where
@@ -246,7 +248,7 @@ agree_on_one request force pieces schema same is is_too one other h k =
     let edits : Task → Edits × Bool = λ task. (one_edit task, force) in
     AgreeBut-like AreDoneAlike (IsTaskOf request) (IsTaskOf request)
     (λ task. Makes (with_schema pieces schema) (edits task)) (λ task. Makes (with_schema pieces same) (edits task)) (tasks_of_one request)
-    (λ a b alike r s m n. agree_on_task b force pieces schema same is is_too r s (one_alike a b alike force (with_schema pieces schema) r m) n) one other
+    (λ a b _ _ alike r s m n. agree_on_task b force pieces schema same is is_too r s (one_alike a b alike force (with_schema pieces schema) r m) n) one other
     (made_of_edits (IsTaskOf request) edits (with_schema pieces schema) one h) (made_of_edits (IsTaskOf request) edits (with_schema pieces same) other k)
 
 -- the edits that a text lists are asked for by the same records
@@ -272,8 +274,8 @@ agree_on_batch text force pieces schema same is is_too one other h k =
     let made : Described → List Task → Result (Tool × BatchEdited) Fault → Type 0 = λ described tasks. Makes (with_schema pieces described) (batch_of tasks, force) in
     AgreeBut-like AreAskedAlike (AreEdits text) (AreEdits text)
     (λ requests. Then (AreTasks requests) (made schema)) (λ requests. Then (AreTasks requests) (made same)) (edits_alike text)
-    (λ requests others alike. AgreeBut-like (AllZip AreDoneAlike) (AreTasks requests) (AreTasks others) (made schema) (made same) (tasks_alike requests others alike)
-    (λ tasks more alike_too. agree_on_tasks force tasks more alike_too pieces schema same)) one other
+    (λ requests others _ _ alike. AgreeBut-like (AllZip AreDoneAlike) (AreTasks requests) (AreTasks others) (made schema) (made same) (tasks_alike requests others alike)
+    (λ tasks more _ _ alike_too. agree_on_tasks force tasks more alike_too pieces schema same)) one other
     (made_of_batch text force (with_schema pieces schema) one h) (made_of_batch text force (with_schema pieces same) other k)
 
 -- ---- no refusal because a store failed
@@ -310,9 +312,9 @@ no_store_items action list =
 module _ (text : DescribedText) (wanted : Wanted) where
   no_store_chosen : AreChosen text.pieces text.schema.sets wanted (Err StoreFailed) → ⊥
   no_store_chosen =
-      no_store_then (IsSelection text.pieces text.schema.sets wanted.kind wanted.filter)
+      no_store_then (IsSelection text.pieces text.schema.sets wanted.record_type wanted.filter)
       (λ selected answer. (records : List (Range ℕ)) × AreRecords text.pieces records × (answer ≡ Ok (filter_map (slice_get records) selected)))
-      (no_store_selection text wanted.kind wanted.filter) (λ selected h. ok_is_no_err (filter_map (slice_get h.0) selected) StoreFailed ⊥ h.2)
+      (no_store_selection text wanted.record_type wanted.filter) (λ selected h. ok_is_no_err (filter_map (slice_get h.0) selected) StoreFailed ⊥ h.2)
 
   no_store_removable : (force : Bool) → AreRemovable text.pieces text.schema.sets wanted force (Err StoreFailed) → ⊥
   no_store_removable force =
@@ -321,23 +323,23 @@ module _ (text : DescribedText) (wanted : Wanted) where
       (λ _. ok_is_no_err chosen StoreFailed ⊥))
 
   -- a step that is laid of each of some ranges
-  abbrev Lays : (List (Range ℕ) → Layout) → List (Range ℕ) → Result Step Fault → Type 0
-  Lays layout chosen answer = answer ≡ Ok (step_of text.pieces chosen (layout chosen))
+  abbrev Lays : (List (Range ℕ) → Layout) → List (Range ℕ) → Result EditScript Fault → Type 0
+  Lays layout chosen answer = answer ≡ Ok (edit_script text.pieces chosen (layout chosen))
 
   no_store_lays : (layout : List (Range ℕ) → Layout) (chosen : List (Range ℕ)) → Lays layout chosen (Err StoreFailed) → ⊥
-  no_store_lays layout chosen e = ok_is_no_err (step_of text.pieces chosen (layout chosen)) StoreFailed ⊥ e
+  no_store_lays layout chosen e = ok_is_no_err (edit_script text.pieces chosen (layout chosen)) StoreFailed ⊥ e
 
 -- the step that puts a new record in
-abbrev Puts : DescribedText → Option (List ℕ) → List Pair → List Numbered → Result Step Fault → Type 0
-Puts text kind pairs automatic answer = (records : List (Range ℕ)) × AreRecords text.pieces records
-    × (answer ≡ Ok (step_of_insert text.pieces records text.schema.sets kind (numbered_fields automatic ++ fields_of pairs)))
+abbrev Puts : DescribedText → Option (List ℕ) → List Pair → List Numbered → Result EditScript Fault → Type 0
+Puts text record_type pairs automatic answer = (records : List (Range ℕ)) × AreRecords text.pieces records
+    × (answer ≡ Ok (insert_script text.pieces records text.schema.sets record_type (numbered_fields automatic ++ fields_of pairs)))
 
-no_store_step : (text : DescribedText) (force : Bool) (task : Task) → IsStep text.pieces text.schema force task (Err StoreFailed) → ⊥
-no_store_step text force (insert kind fresh auto) =
-    let numbered : List Pair → Result (List Numbered) Fault → Type 0 = λ pairs. AreAutomatic text.pieces text.schema kind auto (map (λ pair. pair.name) pairs) in
-    no_store_then (IsNewRecord kind fresh) (λ pairs. Then (numbered pairs) (Puts text kind pairs)) (no_store_new_record kind fresh) (λ pairs.
-    no_store_then (numbered pairs) (Puts text kind pairs) (no_store_automatic text.pieces text.schema (map (λ pair. pair.name) pairs) kind auto) (λ automatic h.
-    ok_is_no_err (step_of_insert text.pieces h.0 text.schema.sets kind (numbered_fields automatic ++ fields_of pairs)) StoreFailed ⊥ h.2))
+no_store_step : (text : DescribedText) (force : Bool) (task : Task) → IsEditScript text.pieces text.schema force task (Err StoreFailed) → ⊥
+no_store_step text force (insert record_type fresh auto) =
+    let numbered : List Pair → Result (List Numbered) Fault → Type 0 = λ pairs. AreAutomatic text.pieces text.schema record_type auto (map (λ pair. pair.name) pairs) in
+    no_store_then (IsNewRecord record_type fresh) (λ pairs. Then (numbered pairs) (Puts text record_type pairs)) (no_store_new_record record_type fresh) (λ pairs.
+    no_store_then (numbered pairs) (Puts text record_type pairs) (no_store_automatic text.pieces text.schema (map (λ pair. pair.name) pairs) record_type auto) (λ automatic h.
+    ok_is_no_err (insert_script text.pieces h.0 text.schema.sets record_type (numbered_fields automatic ++ fields_of pairs)) StoreFailed ⊥ h.2))
 no_store_step text force (replace wanted fresh) =
     let puts : List Pair → List (Range ℕ) → Layout = λ pairs. replacement (fields_of pairs) in
     no_store_then (IsNewRecord None fresh) (λ pairs. Then (AreChosen text.pieces text.schema.sets wanted) (Lays text wanted (puts pairs)))
@@ -357,9 +359,9 @@ no_store_step text force (set wanted list action) =
     no_store_then (AreChosen text.pieces text.schema.sets wanted) (Lays text wanted (sets_in items)) (no_store_chosen text wanted)
     (no_store_lays text wanted (sets_in items)))
 no_store_step text force auto_fill = λ h.
-    let fills : List Filled → Result Step Fault → Type 0 = λ filled answer. answer ≡ Ok (step_of text.pieces (map (λ one. one.range) filled) (filling filled)) in
+    let fills : List Filled → Result EditScript Fault → Type 0 = λ filled answer. answer ≡ Ok (edit_script text.pieces (map (λ one. one.range) filled) (filling filled)) in
     no_store_then (AreFilledSets text.pieces h.0 text.schema.sets text.schema.rules) fills (no_store_filled_sets text.pieces h.0 text.schema.sets text.schema.rules)
-    (λ filled. ok_is_no_err (step_of text.pieces (map (λ one. one.range) filled) (filling filled)) StoreFailed ⊥) h.2
+    (λ filled. ok_is_no_err (edit_script text.pieces (map (λ one. one.range) filled) (filling filled)) StoreFailed ⊥) h.2
 
 no_store_none : (found : List Violation) → Err StoreFailed ≡ none_of found → ⊥
 no_store_none [] e = cc
@@ -371,20 +373,20 @@ no_store_sound false text h = no_store_then (AreViolationsOf text) (λ found ans
 
 no_store_task : (task : Task) (force : Bool) (text : DescribedText) → IsOutcome text.pieces text.schema force task (Err StoreFailed) → ⊥
 no_store_task task force text =
-    no_store_then (IsStep text.pieces text.schema force task)
+    no_store_then (IsEditScript text.pieces text.schema force task)
     (λ step. Then (IsSoundUnlessForced force (edited_text step.script)) (λ _ answer. answer ≡ Ok (edited_by step))) (no_store_step text force task) (λ step.
     no_store_then (IsSoundUnlessForced force (edited_text step.script)) (λ _ answer. answer ≡ Ok (edited_by step)) (no_store_sound force (edited_text step.script))
     (λ _. ok_is_no_err (edited_by step) StoreFailed ⊥))
 
-no_store_step_on : (force : Bool) (task : Task) (text : List ℕ) → IsStepOn force task text (Err StoreFailed) → ⊥
+no_store_step_on : (force : Bool) (task : Task) (text : List ℕ) → IsEditScriptOn force task text (Err StoreFailed) → ⊥
 no_store_step_on force task text =
-    no_store_then (IsDescribedText text) (λ described. IsStep described.pieces described.schema force task) (no_store_text text)
+    no_store_then (IsDescribedText text) (λ described. IsEditScript described.pieces described.schema force task) (no_store_text text)
     (λ described. no_store_step described force task)
 
 no_store_steps : (force : Bool) (tasks : List Task) (text : List ℕ) → AreSteps force tasks text (Err StoreFailed) → ⊥
 no_store_steps force [] text = ok_is_no_err (record { steps = []; text = text; changed = 0 }) StoreFailed ⊥
 no_store_steps force (task ∷ tasks) text =
-    no_store_then (IsStepOn force task text) (Joins force (tool_of task) tasks) (no_store_step_on force task text) (λ step.
+    no_store_then (IsEditScriptOn force task text) (Joins force (tool_of task) tasks) (no_store_step_on force task text) (λ step.
     no_store_then (AreSteps force tasks (edited_text step.script)) (λ rest answer. answer ≡ Ok (joined_by (tool_of task) step rest))
     (no_store_steps force tasks (edited_text step.script)) (λ rest. ok_is_no_err (joined_by (tool_of task) step rest) StoreFailed ⊥))
 
@@ -411,7 +413,7 @@ no_store_picked task_for pick =
     (λ filter. ok_is_no_err (task_for (by_filter pick.kind filter)) StoreFailed ⊥)
 
 no_store_told : (request : Request) → IsTaskOf request (Err StoreFailed) → ⊥
-no_store_told (Insert kind fresh auto force) e = ok_is_no_err (insert kind (fresh_by fresh) auto) StoreFailed ⊥ e
+no_store_told (Insert record_type fresh auto force) e = ok_is_no_err (insert record_type (fresh_by fresh) auto) StoreFailed ⊥ e
 no_store_told (Replace pick fresh force) h = no_store_picked (λ wanted. replace wanted (fresh_by fresh)) pick h
 no_store_told (Delete pick force) h = no_store_picked delete pick h
 no_store_told (CommentOut pick force) h = no_store_picked comment_out pick h

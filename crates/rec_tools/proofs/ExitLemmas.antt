@@ -14,10 +14,10 @@ use Rattle.rec_tools.specs.declared.home.Which.TheVariants.{Base as TheFile, Jou
 use Rattle.rec_tools.specs.Home.{Contents, Call, got, with_content, TellAll, Went}
 use Rattle.rec_tools.specs.Printouts.{Printout, Printed, PutsPrintout, WentOut, IsSilence, IsShownText, IsHistory, printed_history}
 use Rattle.rec_tools.specs.Requests.{Asked, looking, listing, editing, moving, forgetting, reads_of, IsSilent}
-use Rattle.rec_tools.specs.Outcomes.{Write, Outcome, printing, outcome_of, IsPrinting, IsOutcome}
+use Rattle.rec_tools.specs.Outcomes.{Write, Outcome, printing, outcome_of, IsPrinting, IsRequestOutcome}
 use Rattle.rec_tools.specs.proving.Silently.{ByCalls, DoesSilently}
-use Rattle.rec_tools.specs.Attempts.{Answer, gots, puts, IsFront, StopsReading, StopsWriting, IsAnswered, Does, Attempts}
-use Rattle.rec_tools.proofs.FaultLemmas.{ok_is_no_err, same_fault, same_value}
+use Rattle.rec_tools.specs.Attempts.{Answer, gots, puts, IsPrefix, StopsReading, StopsWriting, IsAnswered, Does, Attempts}
+use Rattle.rec_text.proofs.lemmas.FaultLemmas.{ok_is_no_err, same_fault, same_value}
 use Rattle.rec_tools.proofs.CallLemmas.{one_call, went_on}
 
 -- this was done by some calls of the home, and this went out of the sink
@@ -99,9 +99,9 @@ file_got bytes c e = ap (λ b. got TheFile b ∷ []) e
 -- after calls that tell of some contents, a text was printed that is asked for on these
 module _ (asked : Asked) (calls : List Call) (Tells : Contents → Type 0) (IsText : Result Printout Fault → Type 0)
     (read : (c : Contents) → Tells c → calls ≡ gots c (reads_of asked))
-    (is : (c : Contents) → Tells c → (r : Result Outcome Fault) → IsPrinting IsText r → IsOutcome c asked r) where
-  front_of : (x : Printout) (n : ℕ) → IsText (Ok x) → (c : Contents) → Tells c → IsFront c asked (take n x.text)
-  front_of x n text c tells = (printing x.text x.reply, n, is c tells (Ok (printing x.text x.reply)) (x, text, refl), refl)
+    (is : (c : Contents) → Tells c → (r : Result Outcome Fault) → IsPrinting IsText r → IsRequestOutcome c asked r) where
+  prefix_of : (x : Printout) (n : ℕ) → IsText (Ok x) → (c : Contents) → Tells c → IsPrefix c asked (take n x.text)
+  prefix_of x n text c tells = (printing x.text x.reply, n, is c tells (Ok (printing x.text x.reply)) (x, text, refl), refl)
 
   -- what went out of a printing call, and what was done
   printed_of : (old new : Option (List ℕ)) (n m : ℕ) (answer : Answer) → PutsPrintout IsText old new answer → IsErrOf answer StoreFailed ⊎ (m ≡ n) → (IsErrOf answer StoreFailed → HasRisen n m)
@@ -112,7 +112,7 @@ module _ (asked : Asked) (calls : List Call) (Tells : Contents → Type 0) (IsTe
     λ c tells. inr (inr (inr (inr (record {
       o = printing put.0 reply;
       outcome = is c tells (Ok (printing put.0 reply)) (record { text = put.0; reply = reply }, put.1, refl);
-      behind = [];
+      following = [];
       calls_are = read c tells ∙ sym (append-nil (gots c (reads_of asked)));
       answered = inl (refl, refl);
       printed = refl;
@@ -124,19 +124,19 @@ module _ (asked : Asked) (calls : List Call) (Tells : Contents → Type 0) (IsTe
     Appends-kept old old new [] (Appends-nil old) same,
     λ c tells. inr (inl (record { read = read c tells; answered = refl; printed = inl refl; kept = no_failure says (λ e. cc) })),
   )
-  printed_of old new n m (Err OutOfMemory) (inr front) says risen = (
-    take front.2.0 front.0.text,
-    front.2.2,
+  printed_of old new n m (Err OutOfMemory) (inr prefix) says risen = (
+    take prefix.2.0 prefix.0.text,
+    prefix.2.2,
     λ c tells.
-        inr (inl (record { read = read c tells; answered = refl; printed = inr (front_of front.0 front.2.0 front.1 c tells); kept = no_failure says (λ e. cc) })),
+        inr (inl (record { read = read c tells; answered = refl; printed = inr (prefix_of prefix.0 prefix.2.0 prefix.1 c tells); kept = no_failure says (λ e. cc) })),
   )
-  printed_of old new n m (Err StoreFailed) front says risen = (
-    take front.2.0 front.0.text,
-    front.2.2,
+  printed_of old new n m (Err StoreFailed) prefix says risen = (
+    take prefix.2.0 prefix.0.text,
+    prefix.2.2,
     λ c tells. inr (inr (inr (inl (record {
       read = read c tells;
       answered = refl;
-      printed = front_of front.0 front.2.0 front.1 c tells;
+      printed = prefix_of prefix.0 prefix.2.0 prefix.1 c tells;
       risen = risen refl;
     })))),
   )
@@ -155,7 +155,7 @@ module _ (asked : Asked) (calls : List Call) (Tells : Contents → Type 0) (IsTe
 
 -- the history that is printed of a file and its journal is the outcome that is asked for
 listed-outcome : (file journal : List ℕ) (r : Result Outcome Fault) → IsPrinting (IsShownText (IsHistory file journal)) r
-    → IsOutcome (record { file = file; journal = journal }) listing r
+    → IsRequestOutcome (record { file = file; journal = journal }) listing r
 listed-outcome file journal (Ok outcome) (p, (inl (fault, refused, e), shown), is) = ok_is_no_err p.text fault _ (sym e)
 listed-outcome file journal (Ok outcome) (p, (inr (o, opens, e), shown), is) =
     inr (o, opens, ap Ok (is ∙ ap₂ printing (same_value p.text (printed_history o) e) shown))
@@ -182,19 +182,19 @@ silent-reads_both (editing IsEdit) silent = refl
 silent-reads_both (moving direction) silent = refl
 silent-reads_both (forgetting n) silent = refl
 
-does-refused : (asked : Asked) (c : Contents) (fault : Fault) (p : Printed) → ReadsBoth asked → IsMemoryOr fault (IsOutcome c asked (Err fault)) → IsSilence p
+does-refused : (asked : Asked) (c : Contents) (fault : Fault) (p : Printed) → ReadsBoth asked → IsMemoryOr fault (IsRequestOutcome c asked (Err fault)) → IsSilence p
     → Does c asked (Err fault) (got TheFile c.file ∷ got TheJournal c.journal ∷ []) p
 does-refused asked c OutOfMemory p both found silent =
     inr (inl (record { read = sym (ap (gots c) both); answered = refl; printed = inl silent.0; kept = silent.1 }))
 does-refused asked c fault p both found silent =
     inr (inr (inl (record { read = sym (ap (gots c) both); fault = fault; outcome = found; answered = refl; silent = silent })))
 
-does-carried : (asked : Asked) (c : Contents) (o : Outcome) (answer : Answer) (later : List Call) (p : Printed) → ReadsBoth asked → IsOutcome c asked (Ok o)
+does-carried : (asked : Asked) (c : Contents) (o : Outcome) (answer : Answer) (later : List Call) (p : Printed) → ReadsBoth asked → IsRequestOutcome c asked (Ok o)
     → IsAnswered o answer later → p.text ≡ o.text → p.after ≡ p.before → Does c asked answer (got TheFile c.file ∷ got TheJournal c.journal ∷ later) p
 does-carried asked c o answer later p both found answered printed kept = inr (inr (inr (inr (record {
   o = o;
   outcome = found;
-  behind = later;
+  following = later;
   calls_are = ap (λ whiches. gots c whiches ++ later) (sym both);
   answered = answered;
   printed = printed;
@@ -254,7 +254,7 @@ module _ {H S : Type 0} (goes : H → Call → H → Type 0) (told : S → Optio
       subst (λ b. PutsPrintout (IsShownText (IsHistory file b)) (told out) (told out_new) answer) h
       (subst (λ b. PutsPrintout (IsShownText (IsHistory b j)) (told out) (told out_new) answer) e written.printed) in
       let done = printed_of listing calls (λ c. both ≡ c) (IsShownText (IsHistory file journal))
-      (λ c same. ap (λ (d : Contents). gots d (reads_of listing)) same) (λ c same r is. subst (λ d. IsOutcome d listing r) same (listed-outcome file journal r is))
+      (λ c same. ap (λ (d : Contents). gots d (reads_of listing)) same) (λ c same r is. subst (λ d. IsRequestOutcome d listing r) same (listed-outcome file journal r is))
       (told out) (told out_new) (failures out) (failures out_new) answer on written.told written.store_failed in (
         calls,
         record { text = done.0; before = failures out; after = failures out_new },
@@ -272,12 +272,12 @@ module _ {H : Type 0} (goes : H → Call → H → Type 0) where
   -- a decision on the bytes that were read was refused
   pub silently-refused : (old new : H) (asked : Asked) (file journal f j : List ℕ) (fault : Fault) → ReadsBoth asked
       → ByCalls goes old new (λ calls. calls ≡ got TheFile file ∷ got TheJournal journal ∷ []) → f ≡ file → j ≡ journal
-      → IsMemoryOr fault (IsOutcome (record { file = f; journal = j }) asked (Err fault))
+      → IsMemoryOr fault (IsRequestOutcome (record { file = f; journal = j }) asked (Err fault))
       → DoesSilently goes old new asked (Err fault)
   silently-refused old new asked file journal f j fault both read e h found =
-      let on : IsMemoryOr fault (IsOutcome (record { file = file; journal = journal }) asked (Err fault)) =
-      subst (λ b. IsMemoryOr fault (IsOutcome (record { file = file; journal = b }) asked (Err fault))) h
-      (subst (λ b. IsMemoryOr fault (IsOutcome (record { file = b; journal = j }) asked (Err fault))) e found) in (
+      let on : IsMemoryOr fault (IsRequestOutcome (record { file = file; journal = journal }) asked (Err fault)) =
+      subst (λ b. IsMemoryOr fault (IsRequestOutcome (record { file = file; journal = b }) asked (Err fault))) h
+      (subst (λ b. IsMemoryOr fault (IsRequestOutcome (record { file = b; journal = j }) asked (Err fault))) e found) in (
         got TheFile file ∷ got TheJournal journal ∷ [],
         λ p silent. (
           subst (λ calls. Went goes old calls new) read.2 read.1,
@@ -289,14 +289,14 @@ module _ {H : Type 0} (goes : H → Call → H → Type 0) where
   -- a decision on the bytes that were read was carried out
   pub silently-carried : (old mid new : H) (asked : Asked) (file journal f j : List ℕ) (decision : Decision) (answer : Answer) → ReadsBoth asked
       → ByCalls goes old mid (λ calls. calls ≡ got TheFile file ∷ got TheJournal journal ∷ []) → f ≡ file → j ≡ journal
-      → IsOutcome (record { file = f; journal = j }) asked (Ok (outcome_of decision))
+      → IsRequestOutcome (record { file = f; journal = j }) asked (Ok (outcome_of decision))
       → ByCalls goes mid new (IsAnswered (outcome_of decision) answer)
       → DoesSilently goes old new asked answer
   silently-carried old mid new asked file journal f j decision answer both read e h found carried =
       let o = outcome_of decision in
-      let on : IsOutcome (record { file = file; journal = journal }) asked (Ok o) =
-      subst (λ b. IsOutcome (record { file = file; journal = b }) asked (Ok o)) h
-      (subst (λ b. IsOutcome (record { file = b; journal = j }) asked (Ok o)) e found) in
+      let on : IsRequestOutcome (record { file = file; journal = journal }) asked (Ok o) =
+      subst (λ b. IsRequestOutcome (record { file = file; journal = b }) asked (Ok o)) h
+      (subst (λ b. IsRequestOutcome (record { file = b; journal = j }) asked (Ok o)) e found) in
       let went : Went goes old (got TheFile file ∷ got TheJournal journal ∷ []) mid = subst (λ calls. Went goes old calls mid) read.2 read.1 in (
         got TheFile file ∷ got TheJournal journal ∷ carried.0,
         λ p silent. (

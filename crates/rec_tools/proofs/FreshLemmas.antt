@@ -20,7 +20,7 @@ use Rattle.rec_edit.specs.Insertions.{Numbered, Filled}
 use Rattle.rec_edit.specs.Wording.{written, ArePairs, IsNewRecord}
 use Rattle.rec_edit.specs.Automatic.{lacking, AreNumbered, AreAutomatic, numbers_in, AreFilled, AreFilledSets}
 use Rattle.rec_tools.specs.Steps.{Then}
-use Rattle.rec_tools.proofs.FaultLemmas.{ok_is_no_err}
+use Rattle.rec_text.proofs.lemmas.FaultLemmas.{ok_is_no_err}
 use Rattle.rec_tools.proofs.PutsLemmas.{no_store_then}
 
 -- ---- names and values
@@ -39,12 +39,12 @@ no_store_pairs (of_pairs []) e = cc
 no_store_pairs (of_pairs (pair ∷ pairs)) e = cc
 no_store_pairs (of_text bytes) h = h
 
-pub no_store_new_record : (kind : Option (List ℕ)) (fresh : NewRecord) → IsNewRecord kind fresh (Err StoreFailed) → ⊥
-no_store_new_record kind fresh =
+pub no_store_new_record : (record_type : Option (List ℕ)) (fresh : NewRecord) → IsNewRecord record_type fresh (Err StoreFailed) → ⊥
+no_store_new_record record_type fresh =
     no_store_then (ArePairs fresh)
-    (λ pairs answer. answer ≡ written (option_to_list kind ++ map (λ (pair : Pair). pair.name) pairs) (map (λ (pair : Pair). pair.value) pairs) pairs)
+    (λ pairs answer. answer ≡ written (option_to_list record_type ++ map (λ (pair : Pair). pair.name) pairs) (map (λ (pair : Pair). pair.value) pairs) pairs)
     (no_store_pairs fresh)
-    (λ pairs. no_store_written (option_to_list kind ++ map (λ (pair : Pair). pair.name) pairs) (map (λ (pair : Pair). pair.value) pairs) pairs)
+    (λ pairs. no_store_written (option_to_list record_type ++ map (λ (pair : Pair). pair.name) pairs) (map (λ (pair : Pair). pair.value) pairs) pairs)
 
 -- ---- automatic fields
 
@@ -70,24 +70,24 @@ module _ (pieces : List Piece) (schema : Described) (names : List (List ℕ)) wh
   no_store_of_set (Some place) h =
       no_store_numbered (IsAutomatic pieces schema place) (λ name is. is.next) (lacking (automatic_of schema place) names) h
 
-  pub no_store_automatic : (kind : Option (List ℕ)) (auto : Bool) → AreAutomatic pieces schema kind auto names (Err StoreFailed) → ⊥
+  pub no_store_automatic : (record_type : Option (List ℕ)) (auto : Bool) → AreAutomatic pieces schema record_type auto names (Err StoreFailed) → ⊥
   no_store_automatic None auto e = cc
-  no_store_automatic (Some kind) false e = cc
-  no_store_automatic (Some kind) true h = no_store_of_set (position (is_of_type kind) schema.sets) h
+  no_store_automatic (Some record_type) false e = cc
+  no_store_automatic (Some record_type) true h = no_store_of_set (position (is_of_type record_type) schema.sets) h
 
 -- ---- the automatic fields of all records
 
 module _ (pieces : List Piece) where
   no_store_filled : (rules : Rules) (numbers : List ℕ → List ℤ) (records : List (Range ℕ)) → AreFilled pieces rules numbers records (Err StoreFailed) → ⊥
   no_store_filled rules numbers [] e = cc
-  no_store_filled rules numbers (record_ ∷ records) h =
+  no_store_filled rules numbers (own_range ∷ records) h =
       let next : List ℕ → Result ℤ Fault → Type 0 = λ name. IsNext rules name (numbers name) in
-      let names = lacking (automatic_names rules) (names_of (elements_in pieces record_)) in
+      let names = lacking (automatic_names rules) (names_of (elements_in pieces own_range)) in
       let later : List Numbered → Result (List Filled) Fault → Type 0 = λ given. AreFilled pieces rules (λ name. numbers_in given name ++ numbers name) records in
-      let more : List Numbered → List Filled → Result (List Filled) Fault → Type 0 = λ given filled answer. answer ≡ Ok (record { range = record_; given = given } ∷ filled) in
+      let more : List Numbered → List Filled → Result (List Filled) Fault → Type 0 = λ given filled answer. answer ≡ Ok (record { range = own_range; given = given } ∷ filled) in
       no_store_then (AreNumbered next names) (λ given. Then (later given) (more given)) (no_store_numbered next (λ name never. never) names) (λ given.
       no_store_then (later given) (more given) (no_store_filled rules (λ name. numbers_in given name ++ numbers name) records)
-      (λ filled. ok_is_no_err (record { range = record_; given = given } ∷ filled) StoreFailed ⊥)) h
+      (λ filled. ok_is_no_err (record { range = own_range; given = given } ∷ filled) StoreFailed ⊥)) h
 
   pub no_store_filled_sets : (records : List (Range ℕ)) (sets : List Set_) (rules : List Rules) → AreFilledSets pieces records sets rules (Err StoreFailed) → ⊥
   no_store_filled_sets records [] [] e = cc

@@ -6,11 +6,11 @@ use Rattle.rec_tools.specs.declared.request.Request.{Request}
 use Rattle.rec_tools.specs.Home.{Contents, Call, left_by_all, TellAll, HasFailed}
 use Rattle.rec_tools.specs.Printouts.{Printed}
 use Rattle.rec_tools.specs.Requests.{Asked, asked_of, reads_of}
-use Rattle.rec_tools.specs.Outcomes.{Outcome, IsOutcome}
-use Rattle.rec_tools.specs.Attempts.{Answer, gots, puts, StopsWriting, IsAnswered, IsFront, IsUnread, RanShort, IsRefused, StopsPrinting, IsCarriedOut, Does, AttemptsAll}
-use Rattle.rec_tools.specs.Machine.{State, IsStep, IsMachineFront, IsOldOrNext, IsAnswer, Stands}
+use Rattle.rec_tools.specs.Outcomes.{Outcome, IsRequestOutcome}
+use Rattle.rec_tools.specs.Attempts.{Answer, gots, puts, StopsWriting, IsAnswered, IsPrefix, IsUnread, RanShort, IsRefused, StopsPrinting, IsCarriedOut, Does, AttemptsAll}
+use Rattle.rec_tools.specs.Machine.{State, IsMachineStep, IsMachinePrefix, IsOldOrNext, IsAnswer, Stands}
 use Rattle.rec_tools.specs.Guarantee.{RunsAsMachine, StepsAsMachine}
-use Rattle.rec_tools.proofs.CallLemmas.{HasFailed-front, HasFailed-rest, TellAll-front, TellAll-rest, left_by_all-append}
+use Rattle.rec_tools.proofs.CallLemmas.{HasFailed-prefix, HasFailed-rest, TellAll-prefix, TellAll-rest, left_by_all-append}
 use Rattle.rec_tools.proofs.RunLemmas.{left-gots, stopped-failed, left-stopped, cut-failed, left-carried}
 use Rattle.rec_tools.proofs.StepLemmas.{outcomes_are_steps}
 use Rattle.rec_tools.proofs.StopLemmas.{cut_stands, does-regular}
@@ -20,7 +20,7 @@ use Rattle.rec_tools.proofs.StopLemmas.{cut_stands, does-regular}
 -- Where a write of these calls fails, the contents stand for the state as it was or for the machine's next. Nothing is asked
 -- where no call failed; elsewhere a regular journal gives it.
 abbrev pub Stops : Contents → State → Asked → List Call → Type 0
-Stops c s asked calls = (o : Outcome) (cut : List Call) → IsOutcome c asked (Ok o) → calls ≡ gots c (reads_of asked) ++ cut → StopsWriting o.writes cut
+Stops c s asked calls = (o : Outcome) (cut : List Call) → IsRequestOutcome c asked (Ok o) → calls ≡ gots c (reads_of asked) ++ cut → StopsWriting o.writes cut
     → (t : State) × IsOldOrNext s asked t × Stands (left_by_all c cut) t
 
 pub no_stops : (c : Contents) (s : State) (asked : Asked) (calls : List Call) → (HasFailed calls → ⊥) → Stops c s asked calls
@@ -35,11 +35,11 @@ abbrev pub Steps : Contents → State → Asked → Answer → List Call → Pri
 Steps c s asked answer calls p = (t : State) × IsAnswer s asked answer calls p t × Stands (left_by_all c calls) t
 
 module _ (c : Contents) (s : State) (asked : Asked) (stands : Stands c s) where
-  -- a front of what the outcome prints is one of what the machine prints
-  front-machine : (printed : List ℕ) → IsFront c asked printed → IsMachineFront s asked printed
-  front-machine printed front =
-      let step : StepsAsMachine c s asked (Ok front.0) = outcomes_are_steps c s asked (Ok front.0) stands front.2 in
-      inr (front.0.reply, front.0.text, step.0, front.1, step.1, front.3)
+  -- a prefix of what the outcome prints is one of what the machine prints
+  prefix-machine : (printed : List ℕ) → IsPrefix c asked printed → IsMachinePrefix s asked printed
+  prefix-machine printed prefix =
+      let step : StepsAsMachine c s asked (Ok prefix.0) = outcomes_are_steps c s asked (Ok prefix.0) stands prefix.2 in
+      inr (prefix.0.reply, prefix.0.text, step.0, prefix.1, step.1, prefix.3)
 
   stands-same : (calls : List Call) → left_by_all c calls ≡ c → Stands (left_by_all c calls) s
   stands-same calls same = subst (λ d. Stands d s) (sym same) stands
@@ -57,40 +57,40 @@ module _ (c : Contents) (s : State) (asked : Asked) (stands : Stands c s) where
 
   short-steps : (answer : Answer) (calls : List Call) (p : Printed) → RanShort c asked answer calls p → Steps c s asked answer calls p
   short-steps answer calls p done =
-      let front : IsMachineFront s asked p.text = elim done.printed [ inl none ↦ inl none | inr some ↦ front-machine p.text some ] in
-      (s, inr (inl (inl (done.answered, refl), front)), stands-same calls (read-same calls done.read))
+      let prefix : IsMachinePrefix s asked p.text = elim done.printed [ inl none ↦ inl none | inr some ↦ prefix-machine p.text some ] in
+      (s, inr (inl (inl (done.answered, refl), prefix)), stands-same calls (read-same calls done.read))
 
   refused-steps : (answer : Answer) (calls : List Call) (p : Printed) → IsRefused c asked answer calls p → Steps c s asked answer calls p
   refused-steps answer calls p done =
       let step : StepsAsMachine c s asked (Err done.fault) = outcomes_are_steps c s asked (Err done.fault) stands done.outcome in
       let same = stands-same calls (read-same calls done.read) in
       elim step [
-        | inl is ↦ (s, inl (subst (λ a. IsStep s asked a p.text s) (sym done.answered) (subst (λ text. IsStep s asked (Err done.fault) text s) (sym done.silent.0) is)), same)
+        | inl is ↦ (s, inl (subst (λ a. IsMachineStep s asked a p.text s) (sym done.answered) (subst (λ text. IsMachineStep s asked (Err done.fault) text s) (sym done.silent.0) is)), same)
         | inr clash ↦ (s, inr (inr (done.answered ∙ ap Err clash.0, refl, done.silent.0, clash.1)), same)
       ]
 
   stopped-steps : (answer : Answer) (calls : List Call) (p : Printed) → StopsPrinting c asked answer calls p → Steps c s asked answer calls p
   stopped-steps answer calls p done =
-      (s, inr (inl (inr (inl (done.answered, done.risen, refl)), front-machine p.text done.printed)), stands-same calls (read-same calls done.read))
+      (s, inr (inl (inr (inl (done.answered, done.risen, refl)), prefix-machine p.text done.printed)), stands-same calls (read-same calls done.read))
 
   carried-steps : (answer : Answer) (calls : List Call) (p : Printed) → Stops c s asked calls → (done : IsCarriedOut c asked answer calls p)
-      → IsAnswered done.o answer done.behind → Steps c s asked answer calls p
+      → IsAnswered done.o answer done.following → Steps c s asked answer calls p
   carried-steps answer calls p stops done (inl put) =
       let step : StepsAsMachine c s asked (Ok done.o) = outcomes_are_steps c s asked (Ok done.o) stands done.outcome in
-      let left : left_by_all c calls ≡ left_by_all c (puts done.o.writes) = left-carried c asked calls p done.behind done.calls_are ∙ ap (left_by_all c) put.1 in (
+      let left : left_by_all c calls ≡ left_by_all c (puts done.o.writes) = left-carried c asked calls p done.following done.calls_are ∙ ap (left_by_all c) put.1 in (
         step.0,
-        inl (subst (λ a. IsStep s asked a p.text step.0) (sym put.0) (subst (λ text. IsStep s asked (Ok done.o.reply) text step.0) (sym done.printed) step.1)),
+        inl (subst (λ a. IsMachineStep s asked a p.text step.0) (sym put.0) (subst (λ text. IsMachineStep s asked (Ok done.o.reply) text step.0) (sym done.printed) step.1)),
         subst (λ d. Stands d step.0) (sym left) step.2,
       )
   carried-steps answer calls p stops done (inr stopped) =
       let step : StepsAsMachine c s asked (Ok done.o) = outcomes_are_steps c s asked (Ok done.o) stands done.outcome in
-      let next = stops done.o done.behind done.outcome done.calls_are stopped.1 in
+      let next = stops done.o done.following done.outcome done.calls_are stopped.1 in
       let failed : HasFailed calls =
-      subst HasFailed (sym done.calls_are) (HasFailed-rest (gots c (reads_of asked)) done.behind (cut-failed done.o.writes done.behind stopped.1)) in
+      subst HasFailed (sym done.calls_are) (HasFailed-rest (gots c (reads_of asked)) done.following (cut-failed done.o.writes done.following stopped.1)) in
       let whole : p.text ≡ take (length done.o.text) done.o.text = done.printed ∙ sym (take_all (length done.o.text) done.o.text (omega arith)) in (
         next.0,
         inr (inl (inr (inr (stopped.0, failed, next.1)), inr (done.o.reply, done.o.text, step.0, length done.o.text, step.1, whole))),
-        subst (λ d. Stands d next.0) (sym (left-carried c asked calls p done.behind done.calls_are)) next.2,
+        subst (λ d. Stands d next.0) (sym (left-carried c asked calls p done.following done.calls_are)) next.2,
       )
 
   pub does-steps : (answer : Answer) (calls : List Call) (p : Printed) → Stops c s asked calls → Does c asked answer calls p → Steps c s asked answer calls p
@@ -108,10 +108,10 @@ attempts_all-runs goes old new c s [] [] calls p stands held tells done = (s, (d
 attempts_all-runs goes old new c s [] (answer ∷ answers) calls p stands held tells done = absurd done
 attempts_all-runs goes old new c s (request ∷ requests) [] calls p stands held tells done = absurd done
 attempts_all-runs goes old new c s (request ∷ requests) (answer ∷ answers) calls p stands held tells (mid, now, later, first, rest, are, both, tried, tried_later) =
-    let held_now : HasFailed now → ⊥ = λ failed. held (subst HasFailed (sym are) (HasFailed-front now later failed)) in
+    let held_now : HasFailed now → ⊥ = λ failed. held (subst HasFailed (sym are) (HasFailed-prefix now later failed)) in
     let held_later : HasFailed later → ⊥ = λ failed. held (subst HasFailed (sym are) (HasFailed-rest now later failed)) in
     let told : TellAll c (now ++ later) = subst (TellAll c) are tells in
-    let step = does-steps c s (asked_of request) stands answer now first (no_stops c s (asked_of request) now held_now) (tried.2 c (TellAll-front c now later told)) in
+    let step = does-steps c s (asked_of request) stands answer now first (no_stops c s (asked_of request) now held_now) (tried.2 c (TellAll-prefix c now later told)) in
     let steps = attempts_all-runs goes mid new (left_by_all c now) step.0 requests answers later rest step.2 held_later (TellAll-rest c now later told) tried_later in
     (steps.0, (now, later, first, rest, step.0, are, both, step.1, step.2, steps.1))
 
@@ -125,7 +125,7 @@ attempts_all-fails goes old new c s [] (answer ∷ answers) calls p stands regul
 attempts_all-fails goes old new c s (request ∷ requests) [] calls p stands regular tells done = absurd done
 attempts_all-fails goes old new c s (request ∷ requests) (answer ∷ answers) calls p stands regular tells (mid, now, later, first, rest, are, both, tried, tried_later) =
     let told : TellAll c (now ++ later) = subst (TellAll c) are tells in
-    let does = tried.2 c (TellAll-front c now later told) in
+    let does = tried.2 c (TellAll-prefix c now later told) in
     let step = does-steps c s (asked_of request) stands answer now first (all_stops c s (asked_of request) now stands regular) does in
     let stays : IsRegular (left_by_all c now).journal = does-regular c (asked_of request) regular answer now first does in
     let steps = attempts_all-fails goes mid new (left_by_all c now) step.0 requests answers later rest step.2 stays (TellAll-rest c now later told) tried_later in

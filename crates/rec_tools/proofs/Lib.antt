@@ -2,7 +2,6 @@ pub mod CallLemmas
 pub mod AttemptLemmas
 pub mod ExitLemmas
 pub mod MemoryLemmas
-pub mod FaultLemmas
 pub mod OpeningLemmas
 pub mod PutsLemmas
 pub mod ShowLemmas

@@ -18,7 +18,7 @@ use Rattle.rec_journal.specs.Listing.{step_of, steps_of}
 use Rattle.rec_tools.specs.declared.request.Reply.TheVariants.{Shown}
 use Rattle.rec_tools.specs.proving.Listed.{line_of}
 use Rattle.rec_tools.specs.Printouts.{step_line, history_text, printed_history, IsHistory, IsShownText, PutsPrintout}
-use Rattle.rec_tools.proofs.FaultLemmas.{memory_or_weaker, ok_is_no_err}
+use Rattle.rec_text.proofs.lemmas.FaultLemmas.{memory_or_weaker, ok_is_no_err}
 use Rattle.rec_tools.proofs.PutsLemmas.{PutsPrintout-err_shown, refused_before, refused_within, no_store_then}
 
 -- ---- the text

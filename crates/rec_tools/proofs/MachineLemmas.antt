@@ -9,9 +9,11 @@ use Rattle.rec_tools.specs.Printouts.{Printout, IsShown}
 use Rattle.rec_tools.specs.Requests.{Asked, looking, listing, editing, moving, forgetting, asked_of}
 use Rattle.rec_tools.specs.Outcomes.{IsMade}
 use Rattle.rec_tools.specs.Attempts.{Answer}
-use Rattle.rec_tools.specs.Machine.{Entry, State, IsStep, IsEditStep, IsMoveStep, IsForgettingStep, entries_on}
+use Rattle.rec_tools.specs.Machine.{Entry, State, IsMachineStep, IsEditStep, IsMoveStep, IsForgettingStep, entries_on}
 use Rattle.rec_tools.specs.Laws.{OneStep}
-use Rattle.rec_tools.proofs.AnswerLemmas.{no_both, refused_too, HasOneBut-text}
+use Rattle.rec_text.proofs.lemmas.FaultLemmas.{no_both}
+use Rattle.rec_text.proofs.lemmas.StepLemmas.{refused_too}
+use Rattle.rec_tools.proofs.AnswerLemmas.{HasOneBut-text}
 use Rattle.rec_tools.proofs.OutcomeLemmas.{MeansOne, one_meaning}
 
 -- ---- a text is shown in one way
@@ -62,7 +64,7 @@ one_forgetting_step n s one other t u (inr is) (inr is_too) = (is.1 ∙ sym is_t
 
 module _ (s : State) (one other : Answer) (text printed : List ℕ) (t u : State) (built : one ≢ Err BadPattern) (built_too : other ≢ Err BadPattern) where
   -- what is asked for has one step
-  one_step_of : (asked : Asked) → MeansOne asked → IsStep s asked one text t → IsStep s asked other printed u
+  one_step_of : (asked : Asked) → MeansOne asked → IsMachineStep s asked one text t → IsMachineStep s asked other printed u
       → (one ≡ other) × (text ≡ printed) × (t ≡ u)
   one_step_of (looking IsText) means (outcome, is, shown, e) (also, is_too, shown_too, k) =
       let same = means s.present outcome also is is_too

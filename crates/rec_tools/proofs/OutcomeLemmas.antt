@@ -40,11 +40,13 @@ use Rattle.rec_tools.specs.Steps.{Then}
 use Rattle.rec_tools.specs.Asking.{IsFilter, IsListed, IsShape}
 use Rattle.rec_tools.specs.Printouts.{Printout, printed_history, IsShow, IsInfoOf, IsShownText, IsReportText, verdict}
 use Rattle.rec_tools.specs.Requests.{Edits, Asked, looking, listing, editing, moving, forgetting, asked_of}
-use Rattle.rec_tools.specs.Outcomes.{Outcome, IsOutcome, IsPrinting, IsMade, IsEditOutcome, IsMove, IsForgetting, OneOutcome, printing, putting, reply_of}
-use Rattle.rec_tools.proofs.FaultLemmas.{same_fault, same_value}
+use Rattle.rec_tools.specs.Outcomes.{Outcome, IsRequestOutcome, IsPrinting, IsMade, IsEditOutcome, IsMove, IsForgetting, OneOutcome, printing, putting, reply_of}
+use Rattle.rec_text.proofs.lemmas.FaultLemmas.{same_fault, same_value}
 use Rattle.rec_tools.proofs.OpeningLemmas.{no_clash, same_plan_of}
 use Rattle.rec_tools.proofs.EditLemmas.{agree_on_one, agree_on_batch}
-use Rattle.rec_tools.proofs.AnswerLemmas.{no_both, HasOne, HasOneBut, HasOneBut-of, one_value, no_value, one_fault, HasOne-Then, AgreeBut-after, AgreeBut-before, Then-first, Then-next, HasOneBut-filter, AgreeOnSchemas, with_schema, HasOneBut-text, agree_by_sets, same_selection}
+use Rattle.rec_text.proofs.lemmas.FaultLemmas.{no_both}
+use Rattle.rec_text.proofs.lemmas.StepLemmas.{HasOne, HasOneBut, HasOneBut-of, one_value, no_value, one_fault, HasOne-Then, AgreeBut-Then, Then-first, Then-next}
+use Rattle.rec_tools.proofs.AnswerLemmas.{HasOneBut-filter, AgreeOnSchemas, with_schema, HasOneBut-text, agree_by_sets, same_selection}
 
 -- ---- printed texts
 
@@ -87,18 +89,18 @@ HasOneBut-show file pick form collapse =
     HasOneBut-text file (λ text. IsShowIn pick form collapse text.pieces text.schema.sets)
     (agree_by_sets (IsShowIn pick form collapse) (HasOneBut-show_in pick form collapse))
 
-HasOne-info : (kind : Option (List ℕ)) (form : InfoForm) (pieces : List Piece) (sets : List Set_) → HasOne (IsInfo pieces sets kind form)
-HasOne-info kind form pieces sets (Ok one) (Ok other) (kept, records, are, is, e) (others, more, are_too, is_too, k) =
+HasOne-info : (record_type : Option (List ℕ)) (form : InfoForm) (pieces : List Piece) (sets : List Set_) → HasOne (IsInfo pieces sets record_type form)
+HasOne-info record_type form pieces sets (Ok one) (Ok other) (kept, records, are, is, e) (others, more, are_too, is_too, k) =
     ap Ok (e ∙ ap (λ ss. info form pieces records ss) (same_value kept others (sym is ∙ is_too))
     ∙ ap (λ rs. info form pieces rs others) (OneListOfRecords-holds.records pieces records more are are_too) ∙ sym k)
-HasOne-info kind form pieces sets (Ok one) (Err fault) (kept, records, are, is, e) is_too = absurd (no_both kept fault (sym is ∙ is_too))
-HasOne-info kind form pieces sets (Err fault) (Ok other) is (others, more, are_too, is_too, k) = absurd (no_both others fault (sym is_too ∙ is))
-HasOne-info kind form pieces sets (Err fault) (Err other) is is_too = ap Err (same_fault fault other (sym is ∙ is_too))
+HasOne-info record_type form pieces sets (Ok one) (Err fault) (kept, records, are, is, e) is_too = absurd (no_both kept fault (sym is ∙ is_too))
+HasOne-info record_type form pieces sets (Err fault) (Ok other) is (others, more, are_too, is_too, k) = absurd (no_both others fault (sym is_too ∙ is))
+HasOne-info record_type form pieces sets (Err fault) (Err other) is is_too = ap Err (same_fault fault other (sym is ∙ is_too))
 
-HasOneBut-info_of : (file : List ℕ) (kind : Option (List ℕ)) (form : InfoForm) → HasOneBut (IsInfoOf file kind form)
-HasOneBut-info_of file kind form =
-    HasOneBut-text file (λ text. IsInfo text.pieces text.schema.sets kind form)
-    (agree_by_sets (λ pieces sets. IsInfo pieces sets kind form) (λ pieces sets. HasOneBut-of _ (HasOne-info kind form pieces sets)))
+HasOneBut-info_of : (file : List ℕ) (record_type : Option (List ℕ)) (form : InfoForm) → HasOneBut (IsInfoOf file record_type form)
+HasOneBut-info_of file record_type form =
+    HasOneBut-text file (λ text. IsInfo text.pieces text.schema.sets record_type form)
+    (agree_by_sets (λ pieces sets. IsInfo pieces sets record_type form) (λ pieces sets. HasOneBut-of _ (HasOne-info record_type form pieces sets)))
 
 HasOneBut-check : (file : List ℕ) → HasOneBut (AreViolationsOf file)
 HasOneBut-check file = one_check file
@@ -144,9 +146,9 @@ MeansOne (forgetting n) = Unit {0}
 
 pub one_meaning : (request : Request) → MeansOne (asked_of request)
 one_meaning (Show pick form collapse) = λ file. HasOneBut-shown _ (HasOneBut-show file pick form collapse)
-one_meaning (Info kind form) = λ file. HasOneBut-shown _ (HasOneBut-info_of file kind form)
+one_meaning (Info record_type form) = λ file. HasOneBut-shown _ (HasOneBut-info_of file record_type form)
 one_meaning Check = λ file. HasOneBut-reported _ (HasOneBut-check file)
-one_meaning (Insert kind fresh auto force) = agree_on_one (Insert kind fresh auto force) force
+one_meaning (Insert record_type fresh auto force) = agree_on_one (Insert record_type fresh auto force) force
 one_meaning (Replace pick fresh force) = agree_on_one (Replace pick fresh force) force
 one_meaning (Delete pick force) = agree_on_one (Delete pick force) force
 one_meaning (CommentOut pick force) = agree_on_one (CommentOut pick force) force
@@ -215,17 +217,18 @@ module _ (n : ℕ) (o : Opened) (c : Contents) where
 
 module _ (c : Contents) where
   HasOneBut-edit : (IsEdit : Result (Edits × Bool) Fault → Type 0) → ((pieces : List Piece) → AgreeOnSchemas pieces (IsMade IsEdit))
-      → HasOneBut (IsOutcome c (editing IsEdit))
+      → HasOneBut (IsRequestOutcome c (editing IsEdit))
   HasOneBut-edit IsEdit agree =
       let last : Opened → Tool × BatchEdited → Result Outcome Fault → Type 0 = λ o told. IsEditOutcome o c told.0 told.1 in
       let next : DescribedText → Opened → Result Outcome Fault → Type 0 = λ text o. Then (IsMade IsEdit text) (last o) in
       HasOneBut-text c.file (λ text. Then (IsOpening c.file c.journal) (next text)) (λ pieces schema same is is_too.
-      AgreeBut-after (IsOpening c.file c.journal) (next (with_schema pieces schema)) (next (with_schema pieces same)) (one_opening c.file c.journal) (λ o opens.
-      AgreeBut-before (IsMade IsEdit (with_schema pieces schema)) (IsMade IsEdit (with_schema pieces same)) (last o) (agree pieces schema same is is_too)
-      (λ made. HasOneBut-of (last o made) (HasOne-edit_outcome o c opens made.0 made.1))))
+      AgreeBut-Then (IsOpening c.file c.journal) (IsOpening c.file c.journal) (next (with_schema pieces schema)) (next (with_schema pieces same))
+      (HasOneBut-of (IsOpening c.file c.journal) (one_opening c.file c.journal)) (λ o opens.
+      AgreeBut-Then (IsMade IsEdit (with_schema pieces schema)) (IsMade IsEdit (with_schema pieces same)) (last o) (last o) (agree pieces schema same is is_too)
+      (λ made _. HasOneBut-of (last o made) (HasOne-edit_outcome o c opens made.0 made.1))))
 
   -- what is asked for comes to one outcome
-  pub one_outcome_of : (asked : Asked) → MeansOne asked → HasOneBut (IsOutcome c asked)
+  pub one_outcome_of : (asked : Asked) → MeansOne asked → HasOneBut (IsRequestOutcome c asked)
   one_outcome_of (looking IsText) means one other is is_too built built_too =
       HasOneBut-printing (IsText c.file) (means c.file) one other is is_too built built_too
   one_outcome_of listing means one other is is_too built built_too =

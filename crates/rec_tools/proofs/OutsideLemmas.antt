@@ -19,11 +19,11 @@ use Rattle.rec_tools.specs.declared.request.Reply.TheVariants.{Shown}
 use Rattle.rec_tools.specs.Home.{Contents}
 use Rattle.rec_tools.specs.Printouts.{history_text}
 use Rattle.rec_tools.specs.Requests.{Asked, looking, listing, editing, moving, forgetting, asked_of}
-use Rattle.rec_tools.specs.Outcomes.{Outcome, IsOutcome, IsPlanned, printing, writes_of}
+use Rattle.rec_tools.specs.Outcomes.{Outcome, IsRequestOutcome, IsPlanned, printing, writes_of}
 use Rattle.rec_tools.specs.Attempts.{written}
 use Rattle.rec_tools.specs.Machine.{AreEntries, Stands}
 use Rattle.rec_tools.specs.Laws.{outside_state, OutsideIsNoticed}
-use Rattle.rec_tools.proofs.FaultLemmas.{ok_is_no_err, same_value}
+use Rattle.rec_text.proofs.lemmas.FaultLemmas.{ok_is_no_err, same_value}
 use Rattle.rec_tools.proofs.OpeningLemmas.{edit_leads_back}
 use Rattle.rec_tools.proofs.RunLemmas.{writes_nothing}
 
@@ -37,18 +37,18 @@ module _ (c : Contents) (o : Opened) (opens : Opens c.file c.journal o) (drifted
   not_settled : (p : Opened) → Opens c.file c.journal p → p.drifted ≡ false → ⊥
   not_settled p opened settled = false≢true (sym settled ∙ ap (λ (x : Opened). x.drifted) (same_opening p opened) ∙ drifted)
 
-  no_move : (direction : Direction) (r : Result Outcome Fault) → IsOutcome c (moving direction) r → r ≡ Err Drifted
+  no_move : (direction : Direction) (r : Result Outcome Fault) → IsRequestOutcome c (moving direction) r → r ≡ Err Drifted
   no_move direction r (inl (fault, refused, e)) = absurd (no_refusal fault refused)
   no_move direction (Ok outcome) (inr (p, opened, (settled, m))) = absurd (not_settled p opened settled)
   no_move direction (Err fault) (inr (p, opened, inl (is, why))) = ap Err is
   no_move direction (Err fault) (inr (p, opened, inr (is, settled, none))) = absurd (not_settled p opened settled)
 
-  nothing_forgotten : (n : ℕ) (r : Result Outcome Fault) → IsOutcome c (forgetting n) r → r ≡ Err Drifted
+  nothing_forgotten : (n : ℕ) (r : Result Outcome Fault) → IsRequestOutcome c (forgetting n) r → r ≡ Err Drifted
   nothing_forgotten n r (inl (fault, refused, e)) = absurd (no_refusal fault refused)
   nothing_forgotten n (Ok outcome) (inr (p, opened, (settled, forgets))) = absurd (not_settled p opened settled)
   nothing_forgotten n (Err fault) (inr (p, opened, (is, why))) = ap Err is
 
-  told_drifted : (r : Result Outcome Fault) → IsOutcome c listing r → r ≡ Ok (printing (codes "drifted\n") Shown)
+  told_drifted : (r : Result Outcome Fault) → IsRequestOutcome c listing r → r ≡ Ok (printing (codes "drifted\n") Shown)
   told_drifted r (inl (fault, refused, e)) = absurd (no_refusal fault refused)
   told_drifted r (inr (p, opened, e)) =
       let is : p.drifted ≡ true = ap (λ (x : Opened). x.drifted) (same_opening p opened) ∙ drifted in
@@ -73,7 +73,7 @@ module _ (c : Contents) (o : Opened) (opens : Opens c.file c.journal o) (drifted
         next = refl;
       }
 
-  begins_anew : (asked : Asked) (outcome : Outcome) → IsOutcome c asked (Ok outcome)
+  begins_anew : (asked : Asked) (outcome : Outcome) → IsRequestOutcome c asked (Ok outcome)
       → (outcome.writes ≡ []) ⊎ ((tool : Tool) × Stands (written c outcome.writes) (outside_state c o tool (written c outcome.writes).file))
   begins_anew (looking IsText) outcome is = inl (writes_nothing c (looking IsText) outcome tt is)
   begins_anew listing outcome is = inl (writes_nothing c listing outcome tt is)

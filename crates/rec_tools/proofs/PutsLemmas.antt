@@ -14,26 +14,26 @@ use Rattle.rec_tools.specs.declared.request.Reply.TheVariants.{Shown}
 use Rattle.rec_check.specs.DescribedTexts.{DescribedText, AreDescribed, IsDescribedText}
 use Rattle.rec_tools.specs.Printouts.{Printout, PutsPrintout, IsShownText}
 use Rattle.rec_tools.specs.Steps.{Then}
-use Rattle.rec_tools.proofs.FaultLemmas.{ok_is_no_err, same_fault}
+use Rattle.rec_text.proofs.lemmas.FaultLemmas.{ok_is_no_err, same_fault}
 
 -- ---- what went out
 
 abbrev pub IsText : Type 1
 IsText = Result (List ℕ) Fault → Type 0
 
-abbrev pub IsOutcome : Type 1
-IsOutcome = Result Printout Fault → Type 0
+abbrev pub IsPrintout : Type 1
+IsPrintout = Result Printout Fault → Type 0
 
 keeps_all : (old : Option (List ℕ)) → Keeps old old
 keeps_all None = tt
 keeps_all (Some xs) = refl
 
 -- each text that may be put is one of these, with a reply
-abbrev pub HaveReplies : IsText → IsOutcome → Type 0
+abbrev pub HaveReplies : IsText → IsPrintout → Type 0
 HaveReplies P Q = (text : List ℕ) → P (Ok text) → (reply : Reply) × Q (Ok (record { text = text; reply = reply }))
 
 -- a text that was cut short, or refused, is so with the reply that it would have had
-pub PutsPrintout-err : (X : Type 0) (P : IsText) (Q : IsOutcome) (old new : Option (List ℕ)) (fault : Fault) → HaveReplies P Q → ((f : Fault) → P (Err f) → Q (Err f))
+pub PutsPrintout-err : (X : Type 0) (P : IsText) (Q : IsPrintout) (old new : Option (List ℕ)) (fault : Fault) → HaveReplies P Q → ((f : Fault) → P (Err f) → Q (Err f))
     → Puts {X = X} P old new (Err fault) → PutsPrintout Q old new (Err fault)
 PutsPrintout-err X P Q old new OutOfMemory replies f (inl kept) = inl kept
 PutsPrintout-err X P Q old new OutOfMemory replies f (inr h) = let reply = replies h.0 h.1 in inr (record { text = h.0; reply = reply.0 }, reply.1, h.2)
@@ -46,7 +46,7 @@ PutsPrintout-err_shown X P Q old new fault f put =
     PutsPrintout-err X P (IsShownText Q) old new fault (λ text is. (Shown, (f (Ok text) is, refl))) (λ g. f (Err g)) put
 
 -- what puts a text with its reply, or refuses it, does so also where more is known of it
-pub PutsPrintout-weaker : (P Q : IsOutcome) (old new : Option (List ℕ)) (result : Result Reply Fault) → ((r : Result Printout Fault) → P r → Q r)
+pub PutsPrintout-weaker : (P Q : IsPrintout) (old new : Option (List ℕ)) (result : Result Reply Fault) → ((r : Result Printout Fault) → P r → Q r)
     → PutsPrintout P old new result → PutsPrintout Q old new result
 PutsPrintout-weaker P Q old new (Ok reply) f h = (h.0, f _ h.1, h.2)
 PutsPrintout-weaker P Q old new (Err OutOfMemory) f (inl kept) = inl kept
@@ -66,7 +66,7 @@ WentOutOf X = Option (List ℕ) → Option (List ℕ) → Result X Fault → Typ
 
 module _ {S : Type 0} {contents : S → Option (List ℕ)} {failures : S → ℕ} where
   -- a refusal before anything was put
-  pub refused_before : (Q : IsOutcome) (out : S) (fault : Fault) → (Q (Err StoreFailed) → ⊥)
+  pub refused_before : (Q : IsPrintout) (out : S) (fault : Fault) → (Q (Err StoreFailed) → ⊥)
       → IsMemoryOr fault (Q (Err fault)) → PrintsAndCounts contents failures out out (PutsPrintout Q) (Err fault)
   refused_before Q out OutOfMemory never h =
       record { printed = inl (keeps_all (contents out)); counted = omega arith; told = inr refl; store_failed = λ failed. cc }

@@ -9,11 +9,11 @@ use Rattle.rec_tools.specs.declared.request.Request.{Request}
 use Rattle.rec_tools.specs.Home.{Contents, Call, got, lacked, was_put, left_by, left_by_all, Tells, TellAll, HasFailed, Counts}
 use Rattle.rec_tools.specs.Printouts.{Printed}
 use Rattle.rec_tools.specs.Requests.{Asked, looking, listing, editing, moving, forgetting, asked_of, reads_of, WritesNothing}
-use Rattle.rec_tools.specs.Outcomes.{Write, Outcome, IsOutcome}
+use Rattle.rec_tools.specs.Outcomes.{Write, Outcome, IsRequestOutcome}
 use Rattle.rec_tools.specs.Attempts.{Answer, gots, puts, written, StopsReading, StopsWriting, IsAnswered, IsCutShort, IsUnread, IsCarriedOut, Does}
 use Rattle.rec_tools.proofs.CallLemmas.{Follows, HasFailed-rest, HasFailed-parts, left_by_all-append, failures_stay, failures_rise, contents_follow}
 use Rattle.rec_tools.proofs.ExitLemmas.{Attempted}
-use Rattle.rec_tools.proofs.FaultLemmas.{same_fault, same_value}
+use Rattle.rec_text.proofs.lemmas.FaultLemmas.{same_fault, same_value}
 use Rattle.rec_tools.proofs.StoreLemmas.{never_store}
 
 -- ---- reads and writes
@@ -96,7 +96,7 @@ no_cut [] stops = stops
 no_cut (call ∷ calls) stops = stops
 
 -- what writes nothing has no writes
-pub writes_nothing : (c : Contents) (asked : Asked) (o : Outcome) → WritesNothing asked → IsOutcome c asked (Ok o) → o.writes ≡ []
+pub writes_nothing : (c : Contents) (asked : Asked) (o : Outcome) → WritesNothing asked → IsRequestOutcome c asked (Ok o) → o.writes ≡ []
 writes_nothing c (looking IsText) o nothing is = ap (λ (x : Outcome). x.writes) is.2
 writes_nothing c listing o nothing (inl refused) = let e = refused.2 in cc
 writes_nothing c listing o nothing (inr listed) = ap (λ (x : Outcome). x.writes) (same_value o _ listed.2)
@@ -125,10 +125,10 @@ module _ (c : Contents) (asked : Asked) (calls : List Call) (p : Printed) where
         | inr held ↦ inr (held, done.silent.1)
       ]
 
-  carried-kept : (answer : Answer) → (done : IsCarriedOut c asked answer calls p) → IsAnswered done.o answer done.behind → Kept answer
+  carried-kept : (answer : Answer) → (done : IsCarriedOut c asked answer calls p) → IsAnswered done.o answer done.following → Kept answer
   carried-kept answer done (inl put) = inr (
     λ failed.
-        elim (HasFailed-parts (gots c (reads_of asked)) done.behind (subst HasFailed done.calls_are failed)) [
+        elim (HasFailed-parts (gots c (reads_of asked)) done.following (subst HasFailed done.calls_are failed)) [
           | inl first ↦ no_failure-gots c (reads_of asked) first
           | inr rest ↦ no_failure-puts done.o.writes (subst HasFailed put.1 rest)
         ],
@@ -149,18 +149,18 @@ module _ (c : Contents) (asked : Asked) (calls : List Call) (p : Printed) where
 
   carried-failed : (fault : Fault) → IsCarriedOut c asked (Err fault) calls p → (fault ≡ StoreFailed) × HasFailed calls
   carried-failed fault done =
-      let failed = failed-answered done.o fault done.behind done.answered in
-      (failed.0, subst HasFailed (sym done.calls_are) (HasFailed-rest (gots c (reads_of asked)) done.behind failed.1))
+      let failed = failed-answered done.o fault done.following done.answered in
+      (failed.0, subst HasFailed (sym done.calls_are) (HasFailed-rest (gots c (reads_of asked)) done.following failed.1))
 
   unread-failed : IsUnread c asked (Err StoreFailed) calls p → HasFailed calls
   unread-failed done =
       elim (stopped-failed (reads_of asked) calls done.fault done.stops) [ inl short ↦ (let e = done.answered in cc) | inr failed ↦ failed.1 ]
 
   -- a store failed in a call, or the sink did
-  pub does-store_failed : (IsOutcome c asked (Err StoreFailed) → ⊥) → Does c asked (Err StoreFailed) calls p → HasFailed calls ⊎ HasRisen p.before p.after
+  pub does-store_failed : (IsRequestOutcome c asked (Err StoreFailed) → ⊥) → Does c asked (Err StoreFailed) calls p → HasFailed calls ⊎ HasRisen p.before p.after
   does-store_failed never (inl done) = inl (unread-failed done)
   does-store_failed never (inr (inl done)) = let e = done.answered in cc
-  does-store_failed never (inr (inr (inl done))) = absurd (never (subst (λ f. IsOutcome c asked (Err f)) (sym (same_fault _ _ done.answered)) done.outcome))
+  does-store_failed never (inr (inr (inl done))) = absurd (never (subst (λ f. IsRequestOutcome c asked (Err f)) (sym (same_fault _ _ done.answered)) done.outcome))
   does-store_failed never (inr (inr (inr (inl done)))) = inr done.risen
   does-store_failed never (inr (inr (inr (inr done)))) = inl (carried-failed StoreFailed done).1
 
@@ -190,8 +190,8 @@ module _ (c : Contents) (asked : Asked) (calls : List Call) (p : Printed) where
       elim done.answered [
         | inl put ↦ (let e = put.0 in cc)
         | inr stopped ↦
-            let cut = cut_left c done.o.writes done.behind stopped.1 in
-            inr (done.o, cut.0, done.outcome, ap Some (left-carried done.behind done.calls_are ∙ cut.1))
+            let cut = cut_left c done.o.writes done.following stopped.1 in
+            inr (done.o, cut.0, done.outcome, ap Some (left-carried done.following done.calls_are ∙ cut.1))
       ]
 
   -- so they are after what writes nothing
@@ -201,8 +201,8 @@ module _ (c : Contents) (asked : Asked) (calls : List Call) (p : Printed) where
   does-looks answer nothing (inr (inr (inl done))) = gots-left done.read
   does-looks answer nothing (inr (inr (inr (inl done)))) = gots-left done.read
   does-looks answer nothing (inr (inr (inr (inr done)))) =
-      left-carried done.behind done.calls_are
-      ∙ ap (left_by_all c) (none-written done.o answer done.behind (writes_nothing c asked done.o nothing done.outcome) done.answered)
+      left-carried done.following done.calls_are
+      ∙ ap (left_by_all c) (none-written done.o answer done.following (writes_nothing c asked done.o nothing done.outcome) done.answered)
 
 -- ---- on contents that may be told
 

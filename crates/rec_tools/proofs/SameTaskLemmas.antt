@@ -22,16 +22,11 @@ use Rattle.rec_tools.specs.declared.request.Request.{Request}
 use Rattle.rec_tools.specs.declared.request.Request.TheVariants.{Insert, Replace, Delete, CommentOut, Set, AutoFill}
 use Rattle.rec_tools.specs.Batches.{AsksFor, AsksTool, selection_for, action_for, IsSelectionOf, IsPickOf, IsActionOf, IsFreshOf, word_if, AreEdits}
 use Rattle.rec_tools.specs.Requests.{IsTaskBy, IsTaskOf, AreTasks}
-use Rattle.rec_tools.proofs.AnswerLemmas.{Then-first, Then-next}
+use Rattle.rec_text.proofs.lemmas.FaultLemmas.{no_both, same_value}
+use Rattle.rec_text.proofs.lemmas.StepLemmas.{Then-first, Then-next}
 use Rattle.rec_tools.proofs.BatchLemmas.{one_option, one_tool}
 
 -- ---- equal parts
-
-edits_or_fault : (requests : List Request) (fault : Fault) → ◌≡◌ {A = Result (List Request) Fault} (Ok requests) (Err fault) → ⊥
-edits_or_fault requests fault same = absurd (cc)
-
-one_requests : (requests others : List Request) → ◌≡◌ {A = Result (List Request) Fault} (Ok requests) (Ok others) → requests ≡ others
-one_requests requests others same = cc
 
 some_item : {X : Type 0} (a b : X) → Some a ≡ Some b → a ≡ b
 some_item a b same = cc
@@ -56,14 +51,14 @@ same_six : {T U V W X Y : Type 0} (a b : T) (c d : U) (e f : V) (g h : W) (i j :
 same_six a b c d e f g h i j k l p q r s t u = rw (p, q, r, s, t, u) refl
 
 same_pick : (a b : Pick) → a.kind ≡ b.kind → a.by ≡ b.by → a ≡ b
-same_pick a b kind by = ap₂ (λ kind by. record { kind = kind; by = by }) kind by
+same_pick a b record_type by = ap₂ (λ record_type by. record { kind = record_type; by = by }) record_type by
 
 same_pair : (a b : Pair) → a.name ≡ b.name → a.value ≡ b.value → a ≡ b
 same_pair a b name value = ap₂ (λ name value. record { name = name; value = value }) name value
 
-insert_too : (answer : Result Task Fault) (kind other : Option (List ℕ)) (a b : FreshRecord) (auto automatic : Bool) → kind ≡ other
-    → a ≡ b → auto ≡ automatic → answer ≡ Ok (insert other b automatic) → answer ≡ Ok (insert kind a auto)
-insert_too answer kind other a b auto automatic k f o told = rw (k, f, o) told
+insert_too : (answer : Result Task Fault) (record_type other : Option (List ℕ)) (a b : FreshRecord) (auto automatic : Bool) → record_type ≡ other
+    → a ≡ b → auto ≡ automatic → answer ≡ Ok (insert other b automatic) → answer ≡ Ok (insert record_type a auto)
+insert_too answer record_type other a b auto automatic k f o told = rw (k, f, o) told
 
 picked_too : (answer : Result Task Fault) (task_for : Wanted → Task) (a b : Pick) → a ≡ b → IsTaskBy task_for b answer → IsTaskBy task_for a answer
 picked_too answer task_for a b same told = subst (λ pick. IsTaskBy task_for pick answer) (sym same) told
@@ -81,11 +76,11 @@ set_too answer a b list items action done p l d told = rw (p, l, d) told
 -- the edits of a text are those of its records
 pub edits_of_records : (text : List ℕ) (requests : List Request) → AreEdits text (Ok requests)
     → (records : List (List Piece)) × AllZip AsksFor records requests
-edits_of_records text requests (inl unread) = absurd (edits_or_fault requests (BadBatch unread.0) unread.2)
+edits_of_records text requests (inl unread) = absurd (no_both requests (BadBatch unread.0) unread.2)
 edits_of_records text requests (inr (pieces, records, elements, are, inl (others, asked, same))) =
-    (map (elements_in pieces) records, subst (AllZip AsksFor (map (elements_in pieces) records)) (sym (one_requests requests others same)) asked)
+    (map (elements_in pieces) records, subst (AllZip AsksFor (map (elements_in pieces) records)) (sym (same_value requests others same)) asked)
 edits_of_records text requests (inr (pieces, records, elements, are, inr (line, none, same))) =
-    absurd (edits_or_fault requests (BadBatch line) same)
+    absurd (no_both requests (BadBatch line) same)
 
 -- ---- requests of one record are one task
 
@@ -167,13 +162,13 @@ one_fresh own (TextOfIt a) (TextOfIt b) is_a is_b = ap of_text (some_item a b (o
 
 same_asked : (tool : Tool) (own : List Piece) (a b : Request) → AsksTool tool own a → AsksTool tool own b
     → (answer : Result Task Fault) → IsTaskOf b answer → IsTaskOf a answer
-same_asked RecIns own (Insert kind fresh auto force) (Insert other new automatic forced) is_a is_b answer told =
-    insert_too answer kind other (fresh_by fresh) (fresh_by new) auto automatic (ap (λ (pick : Pick). pick.kind)
-    (one_pick own (record { kind = kind; by = All }) (record { kind = other; by = All }) is_a.0 is_b.0))
+same_asked RecIns own (Insert record_type fresh auto force) (Insert other new automatic forced) is_a is_b answer told =
+    insert_too answer record_type other (fresh_by fresh) (fresh_by new) auto automatic (ap (λ (pick : Pick). pick.kind)
+    (one_pick own (record { kind = record_type; by = All }) (record { kind = other; by = All }) is_a.0 is_b.0))
     (one_fresh own fresh new is_a.1 is_b.1) (same_not auto automatic (one_word (codes "no") (not auto) (not automatic) (is_a.2 ∙ sym is_b.2))) told
-same_asked RecIns own (Insert kind fresh auto force) (Replace pick new forced) is_a is_b answer told =
+same_asked RecIns own (Insert record_type fresh auto force) (Replace pick new forced) is_a is_b answer told =
     absurd (is_b.0 (one_selection own pick.by All is_b.1.1 is_a.0.1))
-same_asked RecIns own (Replace pick new forced) (Insert kind fresh auto force) is_a is_b answer told =
+same_asked RecIns own (Replace pick new forced) (Insert record_type fresh auto force) is_a is_b answer told =
     absurd (is_a.0 (one_selection own pick.by All is_a.1.1 is_b.0.1))
 same_asked RecIns own (Replace pick fresh force) (Replace other new forced) is_a is_b answer told =
     replace_too answer pick other (fresh_by fresh) (fresh_by new) (one_pick own pick other is_a.1 is_b.1) (one_fresh own fresh new is_a.2 is_b.2) told
@@ -189,7 +184,7 @@ same_asked RecSet own (Set pick list action force) (Set other items done forced)
     set_too answer pick other list items action done (one_pick own pick other is_a.0 is_b.0)
     (some_item list items (one_option (Some list) (Some items) (is_a.1 ∙ sym is_b.1))) (one_action own action done is_a.2 is_b.2) told
 same_asked RecFix own (AutoFill force) (AutoFill forced) is_a is_b answer told = told
-same_asked RecIns own (Insert kind fresh auto force) _ is_a is_b answer told = absurd is_b
+same_asked RecIns own (Insert record_type fresh auto force) _ is_a is_b answer told = absurd is_b
 same_asked RecIns own (Replace pick fresh force) _ is_a is_b answer told = absurd is_b
 same_asked RecDel own (Delete pick force) _ is_a is_b answer told = absurd is_b
 same_asked RecDel own (CommentOut pick force) _ is_a is_b answer told = absurd is_b

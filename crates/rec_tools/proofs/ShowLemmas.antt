@@ -19,7 +19,7 @@ use Rattle.rec_tools.specs.declared.request.Pick.{Pick}
 use Rattle.rec_tools.specs.Asking.{IsFilter, IsShape}
 use Rattle.rec_tools.specs.Printouts.{IsShowOf, IsShow, IsShownText, PutsPrintout}
 use Rattle.rec_tools.specs.Steps.{Then}
-use Rattle.rec_tools.proofs.FaultLemmas.{memory_or_weaker, same_fault}
+use Rattle.rec_text.proofs.lemmas.FaultLemmas.{memory_or_weaker, same_fault}
 use Rattle.rec_tools.proofs.PutsLemmas.{refused_before, no_store_then, no_store_text, no_store_type}
 
 -- ---- what is asked for
@@ -52,31 +52,31 @@ no_store_untyped : (taken : Bool) (untyped : Set_) (typed : List Set_) → (if t
 no_store_untyped true untyped typed e = cc
 no_store_untyped false untyped typed e = no_store_only untyped typed e
 
-no_store_set : (kind : Option (List ℕ)) (sets : List Set_) → set_for kind sets ≡ Err StoreFailed → ⊥
+no_store_set : (record_type : Option (List ℕ)) (sets : List Set_) → set_for record_type sets ≡ Err StoreFailed → ⊥
 no_store_set None [] e = cc
 no_store_set None (untyped ∷ typed) e = no_store_untyped (has_members untyped) untyped typed e
-no_store_set (Some kind) sets e = no_store_type (find (is_of_type kind) sets) e
+no_store_set (Some record_type) sets e = no_store_type (find (is_of_type record_type) sets) e
 
 -- ---- records
 
-pub no_store_selection : (text : DescribedText) (kind : Option (List ℕ)) (wanted : Filter) → IsSelection text.pieces text.schema.sets kind wanted (Err StoreFailed) → ⊥
-no_store_selection text kind wanted e = no_store_set kind text.schema.sets e
+pub no_store_selection : (text : DescribedText) (record_type : Option (List ℕ)) (wanted : Filter) → IsSelection text.pieces text.schema.sets record_type wanted (Err StoreFailed) → ⊥
+no_store_selection text record_type wanted e = no_store_set record_type text.schema.sets e
 
 -- the records of a text that are wanted, in a shape
-module _ (text : DescribedText) (kind : Option (List ℕ)) (wanted : Filter) (shape : Shape) (collapse : Bool) where
-  no_store_show_of : IsShowOf text kind wanted shape collapse (Err StoreFailed) → ⊥
+module _ (text : DescribedText) (record_type : Option (List ℕ)) (wanted : Filter) (shape : Shape) (collapse : Bool) where
+  no_store_show_of : IsShowOf text record_type wanted shape collapse (Err StoreFailed) → ⊥
   no_store_show_of =
-      no_store_then (IsSelection text.pieces text.schema.sets kind wanted) (λ selected. IsPrinted text.pieces selected shape collapse)
-      (no_store_selection text kind wanted) (λ selected h. h)
+      no_store_then (IsSelection text.pieces text.schema.sets record_type wanted) (λ selected. IsPrinted text.pieces selected shape collapse)
+      (no_store_selection text record_type wanted) (λ selected h. h)
 
-  pub show_of-refused : {S : Type 0} {contents : S → Option (List ℕ)} {failures : S → ℕ} (out : S) (fault : Fault) → IsMemoryOr fault (IsSelection text.pieces text.schema.sets kind wanted (Err fault))
-      → PrintsAndCounts contents failures out out (PutsPrintout (IsShownText (IsShowOf text kind wanted shape collapse))) (Err fault)
+  pub show_of-refused : {S : Type 0} {contents : S → Option (List ℕ)} {failures : S → ℕ} (out : S) (fault : Fault) → IsMemoryOr fault (IsSelection text.pieces text.schema.sets record_type wanted (Err fault))
+      → PrintsAndCounts contents failures out out (PutsPrintout (IsShownText (IsShowOf text record_type wanted shape collapse))) (Err fault)
   show_of-refused out fault h =
-      refused_before (IsShownText (IsShowOf text kind wanted shape collapse)) out fault no_store_show_of
+      refused_before (IsShownText (IsShowOf text record_type wanted shape collapse)) out fault no_store_show_of
       (memory_or_weaker fault _ _ (λ none. inl (fault, none, refl)) h)
 
-  pub show_of-printed : (selected slice : List ℕ) → slice ≡ selected → IsSelection text.pieces text.schema.sets kind wanted (Ok selected)
-      → (r : Result (List ℕ) Fault) → IsPrinted text.pieces slice shape collapse r → IsShowOf text kind wanted shape collapse r
+  pub show_of-printed : (selected slice : List ℕ) → slice ≡ selected → IsSelection text.pieces text.schema.sets record_type wanted (Ok selected)
+      → (r : Result (List ℕ) Fault) → IsPrinted text.pieces slice shape collapse r → IsShowOf text record_type wanted shape collapse r
   show_of-printed selected slice e found r printed =
       inr (selected, found, subst (λ s. IsPrinted text.pieces s shape collapse r) e printed)
 
@@ -101,7 +101,7 @@ module _ (file : List ℕ) (pick : Pick) (form : Form) (collapse : Bool) where
         → PrintsAndCounts contents failures out out (PutsPrintout (IsShownText (IsShow file pick form collapse))) (Err fault)
     show-not_asked out fault h = refused_before (IsShownText (IsShow file pick form collapse)) out fault no_store_show (memory_or_weaker fault _ _ (asked fault) h)
 
-    pub show-printed : (kind : Option (List ℕ)) (wanted : Filter) (shape : Shape) → kind ≡ pick.kind → IsFilter pick.by (Ok wanted) → IsShape form (Ok shape)
-        → (r : Result (List ℕ) Fault) → IsShowOf text kind wanted shape collapse r → IsShow file pick form collapse r
-    show-printed kind wanted shape e found shaped r printed =
+    pub show-printed : (record_type : Option (List ℕ)) (wanted : Filter) (shape : Shape) → record_type ≡ pick.kind → IsFilter pick.by (Ok wanted) → IsShape form (Ok shape)
+        → (r : Result (List ℕ) Fault) → IsShowOf text record_type wanted shape collapse r → IsShow file pick form collapse r
+    show-printed record_type wanted shape e found shaped r printed =
         inr (text, is, inr (wanted, found, inr (shape, shaped, subst (λ k. IsShowOf text k wanted shape collapse r) e printed)))

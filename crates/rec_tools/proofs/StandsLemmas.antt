@@ -1,6 +1,6 @@
 -- Contents stand for one state at most, and a file and an empty journal stand for the first.
 use Rattle.std.proofs.Common.{arith, ◌≡◌, ◌≢◌, inr, ℕ, false, List, [], ◌∷◌, ◌++◌, length, length-append, Result, Ok, sym, ap, ap₂, subst, refl, ◌∙◌}
-use Rattle.rec_text.specs.declared.fault.Fault.{Fault}
+use Rattle.rec_text.proofs.lemmas.FaultLemmas.{same_value}
 use Rattle.rec_journal.specs.declared.event.Revision.{Revision}
 use Rattle.rec_journal.specs.declared.patch.Direction.{Direction}
 use Rattle.rec_journal.specs.declared.patch.Direction.TheVariants.{Forward, Backward}
@@ -23,13 +23,10 @@ pub record StandsBy (o : Opened) (c : Contents) (s : State) : Type 0 where
   pub future : AreEntries Forward o.future s.future c.file
   pub next : s.next ≡ o.next
 
-same_opened : (one other : Opened) → ◌≡◌ {A = Result Opened Fault} (Ok one) (Ok other) → one ≡ other
-same_opened one other e = cc
-
 -- contents open in one way, so they stand by the history that they open with
 pub stands_by : (c : Contents) (s : State) (o : Opened) → Stands c s → Opens c.file c.journal o → StandsBy o c s
 stands_by c s o stands opens =
-    let same = same_opened stands.opened o (one_opening c.file c.journal (Ok stands.opened) (Ok o) stands.opens opens) in
+    let same = same_value stands.opened o (one_opening c.file c.journal (Ok stands.opened) (Ok o) stands.opens opens) in
     subst (λ x. StandsBy x c s) same (record {
       settled = stands.settled;
       present = stands.present;
@@ -54,9 +51,9 @@ one_list_of_entries direction (e ∷ es) [] other here are are_too = absurd are
 one_list_of_entries direction (e ∷ es) (x ∷ xs) [] here are are_too = absurd are_too
 one_list_of_entries direction (e ∷ es) (x ∷ xs) (y ∷ ys) here are are_too =
     let text = edits_lead_to_one_text direction e here x.text y.text are.2 are_too.2 in
-    let behind = subst (λ t. AreEntries direction es ys t) (sym text) are_too.3 in
+    let following = subst (λ t. AreEntries direction es ys t) (sym text) are_too.3 in
     ap₂ (λ z zs. z ∷ zs) (same_entry x y (sym are.0 ∙ are_too.0) (sym are.1 ∙ are_too.1) text)
-    (one_list_of_entries direction es xs ys x.text are.3 behind)
+    (one_list_of_entries direction es xs ys x.text are.3 following)
 
 same_state : (one other : State) → one.past ≡ other.past → one.present ≡ other.present → one.future ≡ other.future → one.next ≡ other.next
     → one ≡ other
@@ -84,7 +81,7 @@ header_is_some e = cc
 pub first_stands : FirstStands
 first_stands file = record {
   opened = open_at _ start 0;
-  opens = inr (record { header = newest_header; is_header = (0, omega arith, refl); rest = newest_header; more = header_is_some; front = refl; is = refl });
+  opens = inr (record { header = newest_header; is_header = (0, omega arith, refl); rest = newest_header; more = header_is_some; prefix = refl; is = refl });
   settled = refl;
   present = refl;
   past = tt;

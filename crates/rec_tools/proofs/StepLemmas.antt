@@ -20,11 +20,11 @@ use Rattle.rec_tools.specs.Home.{Contents}
 use Rattle.rec_tools.specs.Steps.{Then}
 use Rattle.rec_tools.specs.Printouts.{Printout, history_text, printed_history}
 use Rattle.rec_tools.specs.Requests.{Edits, Asked, looking, listing, editing, moving, forgetting, asked_of}
-use Rattle.rec_tools.specs.Outcomes.{Outcome, IsOutcome, IsPrinting, IsMade, IsEditOutcome, IsPlanned, IsMove, Moves, IsForgetting, Forgets, printing, writes_of, reply_of}
+use Rattle.rec_tools.specs.Outcomes.{Outcome, IsRequestOutcome, IsPrinting, IsMade, IsEditOutcome, IsPlanned, IsMove, IsMoveOutcome, IsForgetting, Forgets, printing, writes_of, reply_of}
 use Rattle.rec_tools.specs.Attempts.{written}
-use Rattle.rec_tools.specs.Machine.{Entry, State, AreEntries, Stands, IsStep, IsMoveStep, Clashes, entries_on, listed, state_after_edit, state_after_move, state_after_forgetting}
+use Rattle.rec_tools.specs.Machine.{Entry, State, AreEntries, Stands, IsMachineStep, IsMoveStep, Clashes, entries_on, listed, state_after_edit, state_after_move, state_after_forgetting}
 use Rattle.rec_tools.specs.Guarantee.{StepsAsMachine, OutcomesAreSteps}
-use Rattle.rec_tools.proofs.FaultLemmas.{ok_is_no_err}
+use Rattle.rec_text.proofs.lemmas.FaultLemmas.{ok_is_no_err}
 use Rattle.rec_tools.proofs.StandsLemmas.{StandsBy, stands_by}
 use Rattle.rec_tools.proofs.OpeningLemmas.{edit_leads_back, leads_on, leads_back}
 use Rattle.rec_tools.proofs.ForgettingLemmas.{as_many_edits, stands_after_forgetting}
@@ -164,7 +164,7 @@ module _ (c : Contents) (s : State) (stands : Stands c s) where
         other : made.text ≢ s.present
         other same = differs (same ∙ stands.present)
 
-        step : IsStep s (editing IsEdit) (Ok (EditedReply made.changed)) [] (state_after_edit s tool made.text)
+        step : IsMachineStep s (editing IsEdit) (Ok (EditedReply made.changed)) [] (state_after_edit s tool made.text)
         step = (Ok (tool, made), on_present (Ok (tool, made)) is, inr (other, refl, refl), refl)
 
         clashes : ShareDigest c.file made.text → Clashes s (editing IsEdit)
@@ -223,7 +223,7 @@ module _ (c : Contents) (s : State) (stands : Stands c s) where
     by : StandsBy o c s
     by = by_opening o opens
 
-    moved : (outcome : Outcome) → Moves direction o c outcome → StepsAsMachine c s (moving direction) (Ok outcome)
+    moved : (outcome : Outcome) → IsMoveOutcome direction o c outcome → StepsAsMachine c s (moving direction) (Ok outcome)
     moved outcome m =
         let has = has_nearest direction o c s m.moves.nearest m.moves.others by m.moves.there in
         let t = state_after_move direction s has.entry has.entries in
@@ -288,7 +288,7 @@ module _ (c : Contents) (s : State) (stands : Stands c s) where
 
 -- whatever it comes to on contents that stand for a state, the machine steps so
 pub outcomes_are_steps : (c : Contents) (s : State) (asked : Asked) (r : Result Outcome Fault)
-    → Stands c s → IsOutcome c asked r → StepsAsMachine c s asked r
+    → Stands c s → IsRequestOutcome c asked r → StepsAsMachine c s asked r
 outcomes_are_steps c s (looking IsText) r stands is = looks_step c s stands IsText r is
 outcomes_are_steps c s listing r stands is = lists_step c s stands r is
 outcomes_are_steps c s (editing IsEdit) r stands is = edits_step c s stands IsEdit r is

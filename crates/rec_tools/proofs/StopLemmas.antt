@@ -9,7 +9,7 @@ use Rattle.rec_tools.specs.declared.home.Which.TheVariants.{Journal as TheJourna
 use Rattle.rec_tools.specs.Home.{Contents, Call, left_by_all}
 use Rattle.rec_tools.specs.Printouts.{Printed}
 use Rattle.rec_tools.specs.Requests.{Asked, looking, listing, editing, moving, forgetting, asked_of, reads_of}
-use Rattle.rec_tools.specs.Outcomes.{Write, Outcome, IsOutcome, writes_of}
+use Rattle.rec_tools.specs.Outcomes.{Write, Outcome, IsRequestOutcome, writes_of}
 use Rattle.rec_tools.specs.Attempts.{Answer, written, StopsWriting, IsAnswered, IsCarriedOut, Does}
 use Rattle.rec_tools.specs.Machine.{State, IsOldOrNext, Stands}
 use Rattle.rec_tools.specs.Guarantee.{StopsAreSteps, WritesAreRegular}
@@ -82,7 +82,7 @@ module _ (c : Contents) (regular : IsRegular c.journal) where
 
   -- ---- an outcome
 
-  leaves : (asked : Asked) (outcome : Outcome) → IsOutcome c asked (Ok outcome) → Leaves c outcome.writes
+  leaves : (asked : Asked) (outcome : Outcome) → IsRequestOutcome c asked (Ok outcome) → Leaves c outcome.writes
   leaves (looking IsText) outcome is = leaves-nothing outcome.writes (writes_nothing c (looking IsText) outcome tt is)
   leaves listing outcome is = leaves-nothing outcome.writes (writes_nothing c listing outcome tt is)
   leaves (editing IsEdit) outcome (inl refused) = let e = refused.2 in cc
@@ -102,7 +102,7 @@ module _ (c : Contents) (regular : IsRegular c.journal) where
 
 -- ---- an outcome's writes
 
-module _ (c : Contents) (asked : Asked) (outcome : Outcome) (is : IsOutcome c asked (Ok outcome)) (regular : IsRegular c.journal) where
+module _ (c : Contents) (asked : Asked) (outcome : Outcome) (is : IsRequestOutcome c asked (Ok outcome)) (regular : IsRegular c.journal) where
   pub written_regular : IsRegular (written c outcome.writes).journal
   written_regular = (leaves c regular asked outcome is).regular
 
@@ -142,12 +142,12 @@ module _ (c : Contents) (asked : Asked) (regular : IsRegular c.journal) (answer 
   as_before : left_by_all c calls ≡ c → IsRegular (left_by_all c calls).journal
   as_before same = subst (λ (d : Contents). IsRegular d.journal) (sym same) regular
 
-  carried_regular : (done : IsCarriedOut c asked answer calls p) → IsAnswered done.o answer done.behind → IsRegular (left_by_all c calls).journal
+  carried_regular : (done : IsCarriedOut c asked answer calls p) → IsAnswered done.o answer done.following → IsRegular (left_by_all c calls).journal
   carried_regular done answered =
-      let left : left_by_all c calls ≡ left_by_all c done.behind = left-carried c asked calls p done.behind done.calls_are in
+      let left : left_by_all c calls ≡ left_by_all c done.following = left-carried c asked calls p done.following done.calls_are in
       elim answered [
         | inl put ↦ subst (λ (d : Contents). IsRegular d.journal) (sym (left ∙ ap (left_by_all c) put.1)) (written_regular c asked done.o done.outcome regular)
-        | inr stopped ↦ subst (λ (d : Contents). IsRegular d.journal) (sym left) (cut_regular c asked done.o done.outcome regular done.behind stopped.1)
+        | inr stopped ↦ subst (λ (d : Contents). IsRegular d.journal) (sym left) (cut_regular c asked done.o done.outcome regular done.following stopped.1)
       ]
 
   pub does-regular : Does c asked answer calls p → IsRegular (left_by_all c calls).journal

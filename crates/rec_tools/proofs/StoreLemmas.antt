@@ -17,8 +17,8 @@ use Rattle.rec_check.specs.DescribedTexts.{DescribedText, IsDescribedText}
 use Rattle.rec_tools.specs.Printouts.{printed_history}
 use Rattle.rec_select.specs.Info.{IsInfo}
 use Rattle.rec_tools.specs.Requests.{Edits, IsOneEdit, IsBatch, editing, moving, forgetting, asked_of}
-use Rattle.rec_tools.specs.Outcomes.{Outcome, IsMade, IsEditOutcome, IsMove, IsForgetting, IsOutcome, printing}
-use Rattle.rec_tools.proofs.FaultLemmas.{ok_is_no_err}
+use Rattle.rec_tools.specs.Outcomes.{Outcome, IsMade, IsEditOutcome, IsMove, IsForgetting, IsRequestOutcome, printing}
+use Rattle.rec_text.proofs.lemmas.FaultLemmas.{ok_is_no_err}
 use Rattle.rec_tools.proofs.PutsLemmas.{no_store_then, no_store_text}
 use Rattle.rec_tools.proofs.ShowLemmas.{no_store_show}
 use Rattle.rec_tools.proofs.InformLemmas.{no_store_info}
@@ -30,7 +30,7 @@ use Rattle.rec_tools.proofs.EditLemmas.{no_store_made, no_store_one, no_store_li
 no_store_edit : (o : Opened) (c : Contents) (tool : Tool) (made : BatchEdited) → IsEditOutcome o c tool made (Err StoreFailed) → ⊥
 no_store_edit o c tool made h = let e = h.1 in cc
 
-never_edits : (c : Contents) (IsEdit : Result (Edits × Bool) Fault → Type 0) → (IsEdit (Err StoreFailed) → ⊥) → IsOutcome c (editing IsEdit) (Err StoreFailed) → ⊥
+never_edits : (c : Contents) (IsEdit : Result (Edits × Bool) Fault → Type 0) → (IsEdit (Err StoreFailed) → ⊥) → IsRequestOutcome c (editing IsEdit) (Err StoreFailed) → ⊥
 never_edits c IsEdit never =
     let last : Opened → Tool × BatchEdited → Result Outcome Fault → Type 0 = λ o told. IsEditOutcome o c told.0 told.1 in
     let next : DescribedText → Opened → Result Outcome Fault → Type 0 = λ text o. Then (IsMade IsEdit text) (last o) in
@@ -48,7 +48,7 @@ no_store_move : (direction : Direction) (o : Opened) (c : Contents) → IsMove d
 no_store_move direction o c (inl drifted) = let e = drifted.0 in cc
 no_store_move direction o c (inr none) = no_store_there direction none.0
 
-never_moves : (direction : Direction) (c : Contents) → IsOutcome c (moving direction) (Err StoreFailed) → ⊥
+never_moves : (direction : Direction) (c : Contents) → IsRequestOutcome c (moving direction) (Err StoreFailed) → ⊥
 never_moves direction c = no_store_then (IsOpening c.file c.journal) (λ o. IsMove direction o c) (λ h. h) (λ o. no_store_move direction o c)
 
 -- ---- forgetting
@@ -56,17 +56,17 @@ never_moves direction c = no_store_then (IsOpening c.file c.journal) (λ o. IsMo
 no_store_forgetting : (n : ℕ) (o : Opened) (c : Contents) → IsForgetting n o c (Err StoreFailed) → ⊥
 no_store_forgetting n o c h = let e = h.0 in cc
 
-never_forgets : (n : ℕ) (c : Contents) → IsOutcome c (forgetting n) (Err StoreFailed) → ⊥
+never_forgets : (n : ℕ) (c : Contents) → IsRequestOutcome c (forgetting n) (Err StoreFailed) → ⊥
 never_forgets n c = no_store_then (IsOpening c.file c.journal) (λ o. IsForgetting n o c) (λ h. h) (λ o. no_store_forgetting n o c)
 
 -- ---- requests
 
-pub never_store : (request : Request) (c : Contents) → IsOutcome c (asked_of request) (Err StoreFailed) → ⊥
+pub never_store : (request : Request) (c : Contents) → IsRequestOutcome c (asked_of request) (Err StoreFailed) → ⊥
 never_store (Show pick form collapse) c is = no_store_show c.file pick form collapse is
-never_store (Info kind form) c is =
-    no_store_then (IsDescribedText c.file) (λ text. IsInfo text.pieces text.schema.sets kind form) (no_store_text c.file) (λ text. no_store_info text kind form) is
+never_store (Info record_type form) c is =
+    no_store_then (IsDescribedText c.file) (λ text. IsInfo text.pieces text.schema.sets record_type form) (no_store_text c.file) (λ text. no_store_info text record_type form) is
 never_store Check c is = no_store_report c.file is
-never_store (Insert kind fresh auto force) c is = never_edits c (IsOneEdit (Insert kind fresh auto force) force) (no_store_one (Insert kind fresh auto force) force) is
+never_store (Insert record_type fresh auto force) c is = never_edits c (IsOneEdit (Insert record_type fresh auto force) force) (no_store_one (Insert record_type fresh auto force) force) is
 never_store (Replace pick fresh force) c is = never_edits c (IsOneEdit (Replace pick fresh force) force) (no_store_one (Replace pick fresh force) force) is
 never_store (Delete pick force) c is = never_edits c (IsOneEdit (Delete pick force) force) (no_store_one (Delete pick force) force) is
 never_store (CommentOut pick force) c is = never_edits c (IsOneEdit (CommentOut pick force) force) (no_store_one (CommentOut pick force) force) is

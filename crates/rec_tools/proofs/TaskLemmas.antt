@@ -17,13 +17,13 @@ use Rattle.rec_tools.specs.Batches.{AsksFor, AsksTool, AreEdits}
 use Rattle.rec_tools.proofs.SameTaskLemmas.{edits_of_records}
 use Rattle.rec_tools.specs.Requests.{IsTaskOf, AreTasks}
 use Rattle.rec_tools.specs.proving.Editing.{IsOne}
-use Rattle.rec_tools.proofs.FaultLemmas.{same_value, memory_or_weaker}
-use Rattle.rec_tools.proofs.AnswerLemmas.{no_both}
+use Rattle.rec_text.proofs.lemmas.FaultLemmas.{same_value, memory_or_weaker}
+use Rattle.rec_text.proofs.lemmas.FaultLemmas.{no_both}
 
 -- ---- each is one edit
 
 asked_one : (tool : Tool) (own : List Piece) (request : Request) → AsksTool tool own request → IsOne request
-asked_one RecIns own (Insert kind fresh auto force) asks = tt
+asked_one RecIns own (Insert record_type fresh auto force) asks = tt
 asked_one RecIns own (Replace pick fresh force) asks = tt
 asked_one RecDel own (Delete pick force) asks = tt
 asked_one RecDel own (CommentOut pick force) asks = tt

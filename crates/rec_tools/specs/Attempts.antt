@@ -10,7 +10,7 @@ use Rattle.rec_tools.specs.declared.request.Reply.{Reply}
 use Rattle.rec_tools.specs.Home.{Contents, content_of, Call, got, lacked, unread, was_put, left_old, left_new, left_by_all, TellAll, Went}
 use Rattle.rec_tools.specs.Printouts.{Printed, IsBoth, IsSilence}
 use Rattle.rec_tools.specs.Requests.{Asked, asked_of, reads_of}
-use Rattle.rec_tools.specs.Outcomes.{Write, Outcome, IsOutcome}
+use Rattle.rec_tools.specs.Outcomes.{Write, Outcome, IsRequestOutcome}
 
 abbrev pub Answer : Type 0
 Answer = Result Reply Fault
@@ -65,9 +65,9 @@ IsAnswered o answer calls =
 
 -- ---- one request
 
--- a front of the text that is printed
-abbrev pub IsFront : Contents → Asked → List ℕ → Type 0
-IsFront c asked printed = (o : Outcome) × (n : ℕ) × IsOutcome c asked (Ok o) × (printed ≡ take n o.text)
+-- a prefix of the text that is printed
+abbrev pub IsPrefix : Contents → Asked → List ℕ → Type 0
+IsPrefix c asked printed = (o : Outcome) × (n : ℕ) × IsRequestOutcome c asked (Ok o) × (printed ≡ take n o.text)
 
 -- What was asked for on the contents is answered so, by these calls, and this went out.
 module _ (c : Contents) (asked : Asked) (answer : Answer) (calls : List Call) (p : Printed) where
@@ -82,14 +82,14 @@ module _ (c : Contents) (asked : Asked) (answer : Answer) (calls : List Call) (p
   pub record RanShort : Type 0 where
     pub read : calls ≡ gots c (reads_of asked)
     pub answered : answer ≡ Err OutOfMemory
-    pub printed : (p.text ≡ []) ⊎ IsFront c asked p.text
+    pub printed : (p.text ≡ []) ⊎ IsPrefix c asked p.text
     pub kept : p.after ≡ p.before
 
   -- it was refused
   pub record IsRefused : Type 0 where
     pub read : calls ≡ gots c (reads_of asked)
     pub fault : Fault
-    pub outcome : IsOutcome c asked (Err fault)
+    pub outcome : IsRequestOutcome c asked (Err fault)
     pub answered : answer ≡ Err fault
     pub silent : IsSilence p
 
@@ -97,16 +97,16 @@ module _ (c : Contents) (asked : Asked) (answer : Answer) (calls : List Call) (p
   pub record StopsPrinting : Type 0 where
     pub read : calls ≡ gots c (reads_of asked)
     pub answered : answer ≡ Err StoreFailed
-    pub printed : IsFront c asked p.text
+    pub printed : IsPrefix c asked p.text
     pub risen : HasRisen p.before p.after
 
   -- it was done, or a write failed; the sink didn't fail
   pub record IsCarriedOut : Type 0 where
     pub o : Outcome
-    pub outcome : IsOutcome c asked (Ok o)
-    pub behind : List Call
-    pub calls_are : calls ≡ gots c (reads_of asked) ++ behind
-    pub answered : IsAnswered o answer behind
+    pub outcome : IsRequestOutcome c asked (Ok o)
+    pub following : List Call
+    pub calls_are : calls ≡ gots c (reads_of asked) ++ following
+    pub answered : IsAnswered o answer following
     pub printed : p.text ≡ o.text
     pub kept : p.after ≡ p.before
 
@@ -117,7 +117,7 @@ module _ (c : Contents) (asked : Asked) (answer : Answer) (calls : List Call) (p
 
 -- of the outcome's writes the first k are there, and the others are not
 abbrev pub IsCutShort : Contents → Asked → Option Contents → Type 0
-IsCutShort c asked new = (o : Outcome) × (k : ℕ) × IsOutcome c asked (Ok o) × (new ≡ Some (written c (take k o.writes)))
+IsCutShort c asked new = (o : Outcome) × (k : ℕ) × IsRequestOutcome c asked (Ok o) × (new ≡ Some (written c (take k o.writes)))
 
 -- ---- on a home
 

@@ -111,8 +111,8 @@ IsAutoOf own auto = HasWord (codes "Auto") (codes "no") own (not auto)
 
 -- what a record of these elements asks a tool for
 abbrev pub AsksTool : Tool → List Piece → Request → Type 0
-AsksTool RecIns own (Insert kind fresh auto force) =
-    IsPickOf own (record { kind = kind; by = All }) × IsFreshOf own fresh × IsAutoOf own auto × (force ≡ false)
+AsksTool RecIns own (Insert record_type fresh auto force) =
+    IsPickOf own (record { kind = record_type; by = All }) × IsFreshOf own fresh × IsAutoOf own auto × (force ≡ false)
 AsksTool RecIns own (Replace pick fresh force) = (pick.by ≢ All) × IsPickOf own pick × IsFreshOf own fresh
     × ((auto : Bool) × IsAutoOf own auto) × (force ≡ false)
 AsksTool RecDel own (Delete pick force) =

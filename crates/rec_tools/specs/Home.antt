@@ -31,7 +31,7 @@ pub data Call : Type 0 where
   lacked : Which → Call
   -- a read failed
   unread : Which → Call
-  -- these bytes were put in the place of a content
+  -- these bytes were put instead of a content
   was_put : Which → List ℕ → Call
   -- a replace by these bytes failed, and left the content old
   left_old : Which → List ℕ → Call

@@ -9,15 +9,15 @@ use Rattle.rec_tools.specs.declared.request.Request.{Request}
 use Rattle.rec_tools.specs.declared.request.Request.TheVariants.{Undo, Redo, Forget, History}
 use Rattle.rec_tools.specs.Home.{Contents}
 use Rattle.rec_tools.specs.Requests.{asked_of}
-use Rattle.rec_tools.specs.Outcomes.{Outcome, IsOutcome, printing}
+use Rattle.rec_tools.specs.Outcomes.{Outcome, IsRequestOutcome, printing}
 use Rattle.rec_tools.specs.Attempts.{Answer, written}
-use Rattle.rec_tools.specs.Machine.{State, IsStep, Stands, first_state}
+use Rattle.rec_tools.specs.Machine.{State, IsMachineStep, Stands, first_state}
 
 -- The machine's step is a function of the state and the request; only where `regex` may refuse a pattern, that refusal may
 -- stand instead of the other answer.
 abbrev pub OneStep : Type 0
 OneStep = (s : State) (request : Request) (one other : Answer) (text printed : List ℕ) (t u : State)
-    → IsStep s (asked_of request) one text t → IsStep s (asked_of request) other printed u
+    → IsMachineStep s (asked_of request) one text t → IsMachineStep s (asked_of request) other printed u
     → (one ≢ Err BadPattern) → (other ≢ Err BadPattern)
     → (one ≡ other) × (text ≡ printed) × (t ≡ u)
 
@@ -38,11 +38,11 @@ outside_state c o tool text =
 
 -- nothing is taken back, made again or forgotten, and the history says so; an edit that changes the text begins it anew
 pub record IsNoticed (c : Contents) (o : Opened) : Type 0 where
-  pub undo : (r : Result Outcome Fault) → IsOutcome c (asked_of Undo) r → r ≡ Err Drifted
-  pub redo : (r : Result Outcome Fault) → IsOutcome c (asked_of Redo) r → r ≡ Err Drifted
-  pub forgetting : (n : ℕ) (r : Result Outcome Fault) → IsOutcome c (asked_of (Forget n)) r → r ≡ Err Drifted
-  pub history : (r : Result Outcome Fault) → IsOutcome c (asked_of History) r → r ≡ Ok (printing (codes "drifted\n") Shown)
-  pub edits : (request : Request) (outcome : Outcome) → IsOutcome c (asked_of request) (Ok outcome)
+  pub undo : (r : Result Outcome Fault) → IsRequestOutcome c (asked_of Undo) r → r ≡ Err Drifted
+  pub redo : (r : Result Outcome Fault) → IsRequestOutcome c (asked_of Redo) r → r ≡ Err Drifted
+  pub forgetting : (n : ℕ) (r : Result Outcome Fault) → IsRequestOutcome c (asked_of (Forget n)) r → r ≡ Err Drifted
+  pub history : (r : Result Outcome Fault) → IsRequestOutcome c (asked_of History) r → r ≡ Ok (printing (codes "drifted\n") Shown)
+  pub edits : (request : Request) (outcome : Outcome) → IsRequestOutcome c (asked_of request) (Ok outcome)
       → (outcome.writes ≡ [])
       ⊎ ((tool : Tool) × Stands (written c outcome.writes) (outside_state c o tool (written c outcome.writes).file))
 

@@ -17,7 +17,7 @@ use Rattle.rec_tools.specs.declared.decision.Decision.TheVariants.{Stay, Put, Re
 use Rattle.rec_edit.specs.declared.batches.BatchEdited.{BatchEdited}
 use Rattle.rec_edit.specs.declared.outcome.Edited.{Edited}
 use Rattle.rec_edit.specs.Task.{tool_of}
-use Rattle.rec_edit.specs.Outcome.{IsOutcome as IsOutcomeOf}
+use Rattle.rec_edit.specs.Outcome.{IsOutcome}
 use Rattle.rec_edit.specs.Batch.{IsBatchOutcome}
 use Rattle.rec_text.specs.Elements.{text_of}
 use Rattle.rec_check.specs.DescribedTexts.{DescribedText, IsDescribedText}
@@ -33,7 +33,7 @@ use Rattle.rec_tools.specs.Requests.{Edits, one_edit, batch_of, Asked, looking, 
 
 -- ---- outcomes
 
--- bytes that are to be put in the place of a content
+-- bytes that are to be put instead of a content
 pub record Write : Type 0 where
   pub which : Which
   pub bytes : List ℕ
@@ -79,7 +79,7 @@ by_one tool edited = record { steps = single_step tool edited.patch; text = edit
 -- what edits, with force or without, make of a text, and the tool that does them; or the first refusal
 abbrev pub Makes : DescribedText → Edits × Bool → Result (Tool × BatchEdited) Fault → Type 0
 Makes text (one_edit task, force) =
-    Then (IsOutcomeOf text.pieces text.schema force task) (λ edited answer.
+    Then (IsOutcome text.pieces text.schema force task) (λ edited answer.
     answer ≡ Ok (tool_of task, by_one (tool_of task) edited))
 Makes text (batch_of tasks, force) =
     Then (IsBatchOutcome force tasks (text_of text.pieces)) (λ made answer.
@@ -112,7 +112,7 @@ reply_of Backward number = Undone number
 reply_of Forward number = Redone number
 
 -- the plan of a move by the nearest edit that way is put in place, and a stop leaves the history before or the one with the move
-pub record Moves (direction : Direction) (o : Opened) (c : Contents) (outcome : Outcome) : Type 0 where
+pub record IsMoveOutcome (direction : Direction) (o : Opened) (c : Contents) (outcome : Outcome) : Type 0 where
   pub plan : Plan
   pub moves : MovesByNearest direction o c.file c.journal plan
   pub safe : IsSafe c.file c.journal o (after_move direction o c.journal moves.nearest moves.others) plan
@@ -120,7 +120,7 @@ pub record Moves (direction : Direction) (o : Opened) (c : Contents) (outcome : 
 
 -- refused as its plan is: where the file has drifted, else where there is no edit that way, else where the nearest leads nowhere
 abbrev pub IsMove : Direction → Opened → Contents → Result Outcome Fault → Type 0
-IsMove direction o c (Ok outcome) = (o.drifted ≡ false) × Moves direction o c outcome
+IsMove direction o c (Ok outcome) = (o.drifted ≡ false) × IsMoveOutcome direction o c outcome
 IsMove direction o c (Err fault) = IsMovePlan direction o c.file c.journal (Err fault)
 
 -- ---- forgetting
@@ -145,26 +145,26 @@ IsPrinting IsText (Ok outcome) = (p : Printout) × IsText (Ok p) × (outcome ≡
 IsPrinting IsText (Err fault) = IsText (Err fault)
 
 -- what is asked for comes to this on the contents
-abbrev pub IsOutcome : Contents → Asked → Result Outcome Fault → Type 0
-IsOutcome c (looking IsText) answer = IsPrinting (IsText c.file) answer
-IsOutcome c listing answer =
+abbrev pub IsRequestOutcome : Contents → Asked → Result Outcome Fault → Type 0
+IsRequestOutcome c (looking IsText) answer = IsPrinting (IsText c.file) answer
+IsRequestOutcome c listing answer =
     Then (IsOpening c.file c.journal) (λ o given. given ≡ Ok (printing (printed_history o) Shown)) answer
-IsOutcome c (editing IsEdit) answer =
+IsRequestOutcome c (editing IsEdit) answer =
     Then (IsDescribedText c.file) (λ text.
     Then (IsOpening c.file c.journal) (λ o.
     Then (IsMade IsEdit text) (λ (tool, made).
     IsEditOutcome o c tool made))) answer
-IsOutcome c (moving direction) answer = Then (IsOpening c.file c.journal) (λ o. IsMove direction o c) answer
-IsOutcome c (forgetting n) answer = Then (IsOpening c.file c.journal) (λ o. IsForgetting n o c) answer
+IsRequestOutcome c (moving direction) answer = Then (IsOpening c.file c.journal) (λ o. IsMove direction o c) answer
+IsRequestOutcome c (forgetting n) answer = Then (IsOpening c.file c.journal) (λ o. IsForgetting n o c) answer
 
 -- a decision is what is asked for on a file and a journal, or it is refused so
 abbrev pub Decides : List ℕ → List ℕ → Asked → Result Decision Fault → Type 0
-Decides file journal asked (Ok decision) = IsOutcome (record { file = file; journal = journal }) asked (Ok (outcome_of decision))
-Decides file journal asked (Err fault) = IsOutcome (record { file = file; journal = journal }) asked (Err fault)
+Decides file journal asked (Ok decision) = IsRequestOutcome (record { file = file; journal = journal }) asked (Ok (outcome_of decision))
+Decides file journal asked (Err fault) = IsRequestOutcome (record { file = file; journal = journal }) asked (Err fault)
 
 -- A request comes to one outcome on two contents at most; only where `regex` may refuse a pattern of its expression or of
 -- a descriptor, that refusal may stand instead of the other answer.
 abbrev pub OneOutcome : Type 0
 OneOutcome = (c : Contents) (request : Request) (one other : Result Outcome Fault)
-    → IsOutcome c (asked_of request) one → IsOutcome c (asked_of request) other
+    → IsRequestOutcome c (asked_of request) one → IsRequestOutcome c (asked_of request) other
     → (one ≢ Err BadPattern) → (other ≢ Err BadPattern) → one ≡ other

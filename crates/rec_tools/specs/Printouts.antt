@@ -5,7 +5,7 @@ use Rattle.std.specs.Io.KnownBytes.{Appends, Keeps}
 use Rattle.rec_text.specs.declared.fault.Fault.{Fault}
 use Rattle.rec_text.specs.declared.fault.Fault.TheVariants.{OutOfMemory, StoreFailed}
 use Rattle.rec_text.specs.declared.violations.Violation.{Violation}
-use Rattle.rec_text.specs.Sink.{AppendsFront}
+use Rattle.rec_text.specs.Sink.{AppendsPrefix}
 use Rattle.rec_journal.specs.declared.event.Tool.{Tool}
 use Rattle.rec_journal.specs.Event.{tool_name}
 use Rattle.rec_journal.specs.History.{Opened, IsOpening}
@@ -27,8 +27,8 @@ use Rattle.rec_tools.specs.Asking.{IsFilter, IsShape}
 
 -- the selected records of a text, in a shape
 abbrev pub IsShowOf : DescribedText → Option (List ℕ) → Filter → Shape → Bool → Result (List ℕ) Fault → Type 0
-IsShowOf text kind wanted shape collapse =
-    Then (IsSelection text.pieces text.schema.sets kind wanted) (λ selected. IsPrinted text.pieces selected shape collapse)
+IsShowOf text record_type wanted shape collapse =
+    Then (IsSelection text.pieces text.schema.sets record_type wanted) (λ selected. IsPrinted text.pieces selected shape collapse)
 
 -- the records that a pick selects, in a form
 abbrev pub IsShow : List ℕ → Pick → Form → Bool → Result (List ℕ) Fault → Type 0
@@ -40,7 +40,7 @@ IsShow file pick form collapse =
 
 -- the record sets, or that of a type, in a form
 abbrev pub IsInfoOf : List ℕ → Option (List ℕ) → InfoForm → Result (List ℕ) Fault → Type 0
-IsInfoOf file kind form = Then (IsDescribedText file) (λ text. IsInfo text.pieces text.schema.sets kind form)
+IsInfoOf file record_type form = Then (IsDescribedText file) (λ text. IsInfo text.pieces text.schema.sets record_type form)
 
 -- ---- the texts with their replies
 
@@ -94,10 +94,10 @@ IsHistory file journal = Then (IsOpening file journal) (λ o answer. answer ≡ 
 -- What went out of a call that prints or refuses: at success the whole text, with the reply that belongs to it; where memory
 -- ran out or the sink failed, a prefix of the text; at another refusal nothing.
 abbrev pub PutsPrintout : (Result Printout Fault → Type 0) → Option (List ℕ) → Option (List ℕ) → Result Reply Fault → Type 0
-PutsPrintout IsOutcome old new (Ok reply) = (text : List ℕ) × IsOutcome (Ok (record { text = text; reply = reply })) × Appends old new text
-PutsPrintout IsOutcome old new (Err OutOfMemory) = Keeps old new ⊎ ((p : Printout) × IsOutcome (Ok p) × AppendsFront old new p.text)
-PutsPrintout IsOutcome old new (Err StoreFailed) = (p : Printout) × IsOutcome (Ok p) × AppendsFront old new p.text
-PutsPrintout IsOutcome old new (Err fault) = IsOutcome (Err fault) × Keeps old new
+PutsPrintout IsPrintout old new (Ok reply) = (text : List ℕ) × IsPrintout (Ok (record { text = text; reply = reply })) × Appends old new text
+PutsPrintout IsPrintout old new (Err OutOfMemory) = Keeps old new ⊎ ((p : Printout) × IsPrintout (Ok p) × AppendsPrefix old new p.text)
+PutsPrintout IsPrintout old new (Err StoreFailed) = (p : Printout) × IsPrintout (Ok p) × AppendsPrefix old new p.text
+PutsPrintout IsPrintout old new (Err fault) = IsPrintout (Err fault) × Keeps old new
 
 -- what a sink took, and how often it had failed before and after
 pub record Printed : Type 0 where

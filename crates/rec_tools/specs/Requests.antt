@@ -1,5 +1,5 @@
 -- What each request asks for: a look at the file or at its history, an edit, a move through the history, or that old edits are
--- forgotten. Each kind has one case in what follows, and each request one row here.
+-- forgotten. Each record_type has one case in what follows, and each request one row here.
 use Rattle.std.specs.Prelude.{◌≡◌, ℕ, Bool, List, [], ◌∷◌, Result, Ok}
 use Rattle.rec_text.specs.declared.fault.Fault.{Fault}
 use Rattle.rec_journal.specs.declared.patch.Direction.{Direction}
@@ -39,11 +39,11 @@ pub data Asked : Type 1 where
 -- the task of the records that a pick selects
 abbrev pub IsTaskBy : (Wanted → Task) → Pick → Result Task Fault → Type 0
 IsTaskBy task_for pick =
-    Then (IsFilter pick.by) (λ filter answer. answer ≡ Ok (task_for (record { kind = pick.kind; filter = filter })))
+    Then (IsFilter pick.by) (λ filter answer. answer ≡ Ok (task_for (record { record_type = pick.kind; filter = filter })))
 
 -- the task of a request that is one edit
 abbrev pub IsTaskOf : Request → Result Task Fault → Type 0
-IsTaskOf (Insert kind fresh auto force) answer = answer ≡ Ok (insert kind (fresh_by fresh) auto)
+IsTaskOf (Insert record_type fresh auto force) answer = answer ≡ Ok (insert record_type (fresh_by fresh) auto)
 IsTaskOf (Replace pick fresh force) answer = IsTaskBy (λ wanted. replace wanted (fresh_by fresh)) pick answer
 IsTaskOf (Delete pick force) answer = IsTaskBy delete pick answer
 IsTaskOf (CommentOut pick force) answer = IsTaskBy comment_out pick answer
@@ -75,9 +75,9 @@ IsBatch text force =
 -- the requests
 abbrev pub asked_of : Request → Asked
 asked_of (Show pick form collapse) = looking (λ file. IsShownText (IsShow file pick form collapse))
-asked_of (Info kind form) = looking (λ file. IsShownText (IsInfoOf file kind form))
+asked_of (Info record_type form) = looking (λ file. IsShownText (IsInfoOf file record_type form))
 asked_of Check = looking (λ file. IsReportText (AreViolationsOf file))
-asked_of (Insert kind fresh auto force) = editing (IsOneEdit (Insert kind fresh auto force) force)
+asked_of (Insert record_type fresh auto force) = editing (IsOneEdit (Insert record_type fresh auto force) force)
 asked_of (Replace pick fresh force) = editing (IsOneEdit (Replace pick fresh force) force)
 asked_of (Delete pick force) = editing (IsOneEdit (Delete pick force) force)
 asked_of (CommentOut pick force) = editing (IsOneEdit (CommentOut pick force) force)

@@ -28,8 +28,8 @@ pub enum Decision {
     Rewrite(Bytes, Reply),
 }
 
-/// The history of a file, and what a request makes of the file. The elements of the file are let go here, before a plan is
-/// made, which needs memory too.
+/// The history of a file, and what a request makes of the file. The elements of the file are let go here, before the edited
+/// text is checked and a plan is made, which need memory too.
 fn change_by(
     alloc: Global,
     file: &Hashed<'_>,
@@ -44,7 +44,7 @@ fn change_by(
 {
     let read = read_file(alloc, file.text())?;
     let history = History::load(alloc, file, journal)?;
-    let made = made_by(alloc, &read, request)?;
+    let made = made_by(alloc, read, request)?;
     Ok((history, made))
 }
 

@@ -31,7 +31,7 @@ pub trait Home {
         ensures call { goes self.old (read_call which result) self.new }
         ensures refusals { IsOkUnlessEither result Fault.OutOfMemory Fault.StoreFailed };
 
-    /// Puts these bytes in the place of a content. A failure leaves that content old or new, and the other as it was.
+    /// Puts these bytes instead of a content. A failure leaves that content old or new, and the other as it was.
     fn replace(&mut self, which: Which, bytes: &[u8]) -> Result<(), Fault>
         ensures call { (call : Call) × IsReplaceCall which bytes.now result call × goes self.old call self.new }
         ensures refusals { IsOkUnless result Fault.StoreFailed };

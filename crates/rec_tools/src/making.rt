@@ -11,7 +11,7 @@ use crate::batches::batch_requests;
 use crate::editing::{edit_of, edits_of, is_forced};
 use crate::rec_file::ReadFile;
 use crate::request::Request;
-use rec_edit::{BatchEdited, Edited, batch, edit};
+use rec_edit::{BatchEdited, Edited, batch_owned, edit_owned};
 use rec_journal::Tool;
 use rec_text::Fault;
 use std::alloc::Global;
@@ -34,39 +34,41 @@ pub fn text_made(made: &Made) -> &[u8]
 }
 
 /// What one edit makes of a file.
-fn made_by_one(alloc: Global, file: &ReadFile, request: &Request) -> Result<Made, Fault>
+fn made_by_one(alloc: Global, file: ReadFile, request: &Request) -> Result<Made, Fault>
     requires one { IsOne request.now }
-    requires together { BelongTogether file.now }
-    ensures found { UnlessMemory result (IsMadeBy (asked_of request.now) (described_file file.now)) }
+    requires together { BelongTogether file }
+    ensures found { UnlessMemory result (IsMadeBy (asked_of request.now) (described_file file.entry)) }
     ensures refusals { IfErr result IsRefusal }
-    ensures tells { IfOk result (TellsChanges (text_of file.now.database)) }
+    ensures tells { IfOk result (TellsChanges (text_of file.entry.database)) }
 {
     let asked = edit_of(alloc, request)?;
     let force = is_forced(request);
-    let edited = edit(alloc, &file.database, &file.schema, &asked, force)?;
+    let ReadFile { database, schema } = file;
+    let edited = edit_owned(alloc, database, schema, &asked, force)?;
     Ok(Made::One(asked.tool(), edited))
 }
 
 /// What the edits that a text lists make of a file.
-fn made_by_batch(alloc: Global, file: &ReadFile, text: &[u8], force: bool) -> Result<Made, Fault>
-    requires together { BelongTogether file.now }
-    ensures found { UnlessMemory result (IsMadeBy (editing (IsBatch text.now force)) (described_file file.now)) }
+fn made_by_batch(alloc: Global, file: ReadFile, text: &[u8], force: bool) -> Result<Made, Fault>
+    requires together { BelongTogether file }
+    ensures found { UnlessMemory result (IsMadeBy (editing (IsBatch text.now force)) (described_file file.entry)) }
     ensures refusals { IfErr result IsRefusal }
-    ensures tells { IfOk result (TellsChanges (text_of file.now.database)) }
+    ensures tells { IfOk result (TellsChanges (text_of file.entry.database)) }
 {
     let requests = batch_requests(alloc, text)?;
     let edits = edits_of(alloc, &requests)?;
-    let edited = batch(alloc, &file.database, &file.schema, &edits, force)?;
+    let ReadFile { database, schema } = file;
+    let edited = batch_owned(alloc, database, schema, &edits, force)?;
     Ok(Made::Several(edited))
 }
 
-/// What a request makes of a file.
-pub fn made_by(alloc: Global, file: &ReadFile, request: &Request) -> Result<Made, Fault>
+/// What a request makes of a file, whose elements are let go as soon as they are no longer needed.
+pub fn made_by(alloc: Global, file: ReadFile, request: &Request) -> Result<Made, Fault>
     requires edits { IsEditing (asked_of request.now) }
-    requires together { BelongTogether file.now }
-    ensures found { UnlessMemory result (IsMadeBy (asked_of request.now) (described_file file.now)) }
+    requires together { BelongTogether file }
+    ensures found { UnlessMemory result (IsMadeBy (asked_of request.now) (described_file file.entry)) }
     ensures refusals { IfErr result IsRefusal }
-    ensures tells { IfOk result (TellsChanges (text_of file.now.database)) }
+    ensures tells { IfOk result (TellsChanges (text_of file.entry.database)) }
 {
     match request {
         Request::Batch { text, force } => made_by_batch(alloc, file, text.as_slice(), *force),

@@ -118,7 +118,7 @@ impl MemoryHome {
         fault
     }
 
-    /// Puts a copy of these bytes in place of a content. Where memory is refused, the old content stays.
+    /// Puts a copy of these bytes instead of a content. Where memory is refused, the old content stays.
     fn put(&mut self, which: Which, bytes: &[u8]) -> Result<(), AllocError>
         ensures put { OnOk result (held self.new ≡ with_content (held self.old) which bytes.now) }
         ensures old { OnErr result (held self.new ≡ held self.old) }

@@ -53,12 +53,12 @@ pub fn show<S: Sink>(
 }
 
 /// The bytes of a type, where one is given.
-fn slice_of(kind: &Option<Bytes>) -> Option<&[u8]>
-    ensures { option_map (λ kind. kind.now) result ≡ kind.now }
+fn slice_of(record_type: &Option<Bytes>) -> Option<&[u8]>
+    ensures { option_map (λ bytes. bytes.now) result ≡ record_type.now }
 {
-    match kind {
+    match record_type {
         None => None,
-        Some(kind) => Some(kind.as_slice()),
+        Some(record_type) => Some(record_type.as_slice()),
     }
 }
 
@@ -66,16 +66,22 @@ fn slice_of(kind: &Option<Bytes>) -> Option<&[u8]>
 pub fn inform<S: Sink>(
     alloc: Global,
     file: &[u8],
-    kind: &Option<Bytes>,
+    record_type: &Option<Bytes>,
     form: InfoForm,
     out: &mut S,
 ) -> Result<Reply, Fault>
     ensures written { PrintsAndCounts S.contents S.failure_count out.old out.new
-        (PutsPrintout (IsShownText (IsInfoOf file.now kind.now form))) result }
+        (PutsPrintout (IsShownText (IsInfoOf file.now record_type.now form))) result }
     ensures refusals { IfErr result IsRefusal }
 {
     let read = read_file(alloc, file)?;
-    write_info(&read.database, &read.schema, slice_of(kind), form, out)?;
+    write_info(
+        &read.database,
+        &read.schema,
+        slice_of(record_type),
+        form,
+        out,
+    )?;
     Ok(Reply::Shown)
 }
 

@@ -64,7 +64,7 @@ pub enum Request {
         auto: bool,
         force: bool,
     },
-    /// Puts a new record in the place of each that is picked, with `force` as for an insertion.
+    /// Puts a new record instead of each that is picked, with `force` as for an insertion.
     Replace {
         pick: Pick,
         fresh: NewRecord,
@@ -115,9 +115,9 @@ pub enum Request {
 pub enum Reply {
     /// What was asked for was printed.
     Shown,
-    /// So many violations were reported.
+    /// The number of violations that were reported.
     Violated(usize),
-    /// So many records were changed.
+    /// The number of records that were changed.
     Edited(usize),
     /// The text stays as it is; no event is made.
     Unchanged,

@@ -25,23 +25,23 @@ fn by_of(alloc: Global, ask: &Ask) -> Result<By, Fault>
 }
 
 /// A copy of a type, where one is given.
-fn copy_of_kind(alloc: Global, kind: &Option<Bytes>) -> Result<Option<Bytes>, AllocError>
-    ensures { IfOk result (λ copy. copy ≡ kind.now) }
+fn copy_of_type(alloc: Global, record_type: &Option<Bytes>) -> Result<Option<Bytes>, AllocError>
+    ensures { IfOk result (λ copy. copy ≡ record_type.now) }
 {
-    match kind {
+    match record_type {
         None => Ok(None),
-        Some(kind) => Ok(Some(Bytes::copy_of(alloc, kind.as_slice())?)),
+        Some(record_type) => Ok(Some(Bytes::copy_of(alloc, record_type.as_slice())?)),
     }
 }
 
 /// The selection that a pick asks for.
 pub fn selection_of(alloc: Global, pick: &Pick) -> Result<Selection, Fault>
     ensures found { IfOk result (λ selection. IsFilter pick.now.by (Ok (filter_of selection.by))) }
-    ensures kind { IfOk result (λ selection. selection.kind ≡ pick.now.kind) }
+    ensures record_type { IfOk result (λ selection. selection.kind ≡ pick.now.kind) }
     ensures refused { IfErr result (λ fault. IsMemoryOr fault (IsFilter pick.now.by (Err fault))) }
 {
     let by = by_of(alloc, &pick.by)?;
-    let kind = copy_of_kind(alloc, &pick.kind)?;
+    let kind = copy_of_type(alloc, &pick.kind)?;
     Ok(Selection { kind, by })
 }
 
@@ -70,7 +70,7 @@ pub struct Wanted {
 pub fn wanted_of(alloc: Global, pick: &Pick, form: &Form) -> Result<Wanted, Fault>
     ensures found { IfOk result (λ wanted.
         IsFilter pick.now.by (Ok (filter_of wanted.selection.by)) × IsShape form.now (Ok wanted.shape)) }
-    ensures kind { IfOk result (λ wanted. wanted.selection.kind ≡ pick.now.kind) }
+    ensures record_type { IfOk result (λ wanted. wanted.selection.kind ≡ pick.now.kind) }
     ensures refused { IfErr result (λ fault.
         IsMemoryOr fault (Then (IsFilter pick.now.by) (λ _. IsShape form.now) (Err fault))) }
 {

@@ -33,7 +33,7 @@ IsEditOf (forgetting n) answer = ⊥
 
 -- a request that is one edit
 abbrev pub IsOne : Request → Type 0
-IsOne (Insert kind fresh auto force) = Unit {0}
+IsOne (Insert record_type fresh auto force) = Unit {0}
 IsOne (Replace pick fresh force) = Unit {0}
 IsOne (Delete pick force) = Unit {0}
 IsOne (CommentOut pick force) = Unit {0}
@@ -43,7 +43,7 @@ IsOne _ = ⊥
 
 -- whether it is forced
 abbrev pub force_of : Request → Bool
-force_of (Insert kind fresh auto force) = force
+force_of (Insert record_type fresh auto force) = force
 force_of (Replace pick fresh force) = force
 force_of (Delete pick force) = force
 force_of (CommentOut pick force) = force

@@ -2,7 +2,7 @@ use Rattle.std.specs.Prelude.{Ok, Err}
 use Rattle.rec_text.specs.Faults.{IsMemoryOr}
 use Rattle.rec_tools.specs.Batches.{AreEdits}
 use Rattle.rec_tools.specs.proving.Finding.{AreEditsIn}
-use Rattle.rec_tools.proofs.FaultLemmas.{memory_or_weaker}
+use Rattle.rec_text.proofs.lemmas.FaultLemmas.{memory_or_weaker}
 use Rattle.rec_tools.proofs.BatchLemmas.{one_answer, read_edits, IfOk-weaker, IfErr-weaker}
 use Rattle.rec_tools.proofs.batches.batch_requests.Goals as goal
 

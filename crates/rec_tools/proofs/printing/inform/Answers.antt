@@ -7,18 +7,18 @@ use Rattle.rec_tools.proofs.printing.inform.Goals as goal
 pub returns-in_err-read-clause-written : goal.returns-in_err-read-clause-written
 returns-in_err-read-clause-written g c =
     let p = err_from_is_err_and c.from_residual.result c.from_residual.ensures.1 in
-    rw (p.1, p.2) (info-no_text c.args.file.now c.args.kind.now c.args.form _ _ c.in_err-read.ensures.refused)
+    rw (p.1, p.2) (info-no_text c.args.file.now c.args.record_type.now c.args.form _ _ c.in_err-read.ensures.refused)
 
 pub returns-in_err-write_info-clause-written : goal.returns-in_err-write_info-clause-written
 returns-in_err-write_info-clause-written g c =
     let p = err_from_is_err_and c.from_residual-in_err-write_info.result c.from_residual-in_err-write_info.ensures.1 in
     rw (p.1, p.2) (refused_within c.in_err-write_info.ensures.written (PutsPrintout-err_shown (Unit {0}) _ _ _ _ _
-    (info-printed c.args.file.now c.args.kind.now c.args.form _ c.in_ok-read.ensures.found _ c.slice_of.ensures)))
+    (info-printed c.args.file.now c.args.record_type.now c.args.form _ c.in_ok-read.ensures.found _ c.slice_of.ensures)))
 
 pub returns-clause-written : goal.returns-clause-written
 returns-clause-written g c =
     printed_all c.in_ok-write_info.ensures.written (λ printed. (
       printed.0,
-      (info-printed c.args.file.now c.args.kind.now c.args.form _ c.in_ok-read.ensures.found _ c.slice_of.ensures _ printed.1, refl),
+      (info-printed c.args.file.now c.args.record_type.now c.args.form _ c.in_ok-read.ensures.found _ c.slice_of.ensures _ printed.1, refl),
       printed.2,
     ))

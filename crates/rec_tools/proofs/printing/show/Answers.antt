@@ -18,4 +18,4 @@ returns-clause-written g c =
     let found = c.in_ok-wanted.ensures.found in
     printed_weaker c.print_wanted.ensures.written
     (PutsPrintout-weaker _ _ _ _ c.print_wanted.result
-    (IsShownText-weaker _ _ (show-printed c.args.file.now c.args.pick.now c.args.form.now c.args.collapse _ c.in_ok-read.ensures.found _ _ _ c.in_ok-wanted.ensures.kind found.0 found.1)))
+    (IsShownText-weaker _ _ (show-printed c.args.file.now c.args.pick.now c.args.form.now c.args.collapse _ c.in_ok-read.ensures.found _ _ _ c.in_ok-wanted.ensures.record_type found.0 found.1)))

@@ -2,8 +2,8 @@
 ghost use Rattle.std.specs.Prelude.{◌≤◌, length, IfOk};
 ghost use Rattle.rec_text.specs.Faults.{IsOkUnlessEither};
 
-use crate::files::is_want_of_memory;
-use crate::held::Held;
+use crate::files::is_out_of_memory;
+use crate::open_file::OpenFile;
 use crate::reading::LIMIT;
 use rec_tools::{Bytes, Fault, Which};
 use std::alloc::Global;
@@ -21,7 +21,7 @@ pub fn batch_text<R: Files<File = File> + Eprint + AllocGlobal>(
 {
     match read_at(rt, rt.alloc(), path) {
         Ok(bytes) => Ok(Bytes::from_vec(bytes)),
-        Err(error) if is_want_of_memory(&error) => Err(Fault::OutOfMemory),
+        Err(error) if is_out_of_memory(&error) => Err(Fault::OutOfMemory),
         Err(error) => {
             let _ = eprintln!(rt; "{path}: {error}");
             Err(Fault::StoreFailed)
@@ -34,5 +34,5 @@ fn read_at<R: Files<File = File>>(rt: &R, alloc: Global, path: &str) -> io::Resu
     ensures { IfOk result (λ bytes. length bytes.items ≤ LIMIT) }
 {
     // Too long, it is told to be so as the file itself is.
-    Held::new(File::open(rt, path)?)?.read(alloc, Which::Base)
+    OpenFile::new(File::open(rt, path)?)?.read(alloc, Which::Base)
 }

@@ -1,5 +1,5 @@
-//! The home of real files. A request that only looks reads them as they stand; one that may write holds them locked.
-//! What opens files stands in `spot`, `held`, `claim`, `rights` and `links`; standard input is read here alone.
+//! The home of real files. A request that only looks reads them as they stand; one that may write locks them.
+//! What opens files stands in `target`, `open_file`, `working_file`, `rights` and `links`; standard input is read here alone.
 ghost use Rattle.std.specs.Prelude.{◌≡◌, ◌≤◌, ◌↔◌, [], length, IsTrue, IsNone, None, Some, Ok, OnOk, option_map, string_bytes, unwrap_or};
 ghost use Rattle.std.specs.IoError.{error_kind, raw_os_error};
 ghost use Rattle.rec_text.specs.Sink.{one_more};
@@ -7,11 +7,11 @@ ghost use Rattle.rec_tools.specs.Home.{Counts};
 ghost use Rattle.rec_files.specs.proving.Files.{path_of};
 
 use crate::access::Access;
-use crate::causes::{Cause, Failure, not_regular, one_file};
-use crate::held::are_one;
-use crate::pair::Pair;
+use crate::both::Both;
+use crate::failure::{Cause, Failure, not_regular, one_file};
+use crate::open_file::are_one;
 use crate::reading::{LIMIT, read_rest, read_whole};
-use crate::spot::may_be_missing;
+use crate::target::may_be_missing;
 use rec_tools::{Bytes, Fault, Home, Which};
 use std::alloc::Global;
 use std::fs::File;
@@ -26,11 +26,11 @@ use std::{fs, io};
 pub struct FileHome<'r, R> {
     rt: &'r R,
     /// Standard input, where it is missing.
-    base: Option<String>,
+    file: Option<String>,
     journal: String,
     access: Access,
-    /// What is held, where the request may write.
-    pair: Pair,
+    /// What is locked, where the request may write.
+    both: Both,
     failed: u64,
     failure: Option<Failure>,
 }
@@ -44,17 +44,17 @@ impl<'r, R: Files<File = File> + Input + AllocGlobal> FileHome<'r, R> {
         journal: Option<String>,
         access: Access,
     ) -> FileHome<'r, R>
-        ensures file { result.base ≡ file }
+        ensures file { result.file ≡ file }
         ensures journal { string_bytes result.journal ≡ unwrap_or (option_map string_bytes journal) [] }
         ensures access { result.access ≡ access }
         ensures sound { result.failed ≡ 0 }
     {
         FileHome {
             rt,
-            base: file,
+            file,
             journal: journal.unwrap_or(String::new(rt.alloc())),
             access,
-            pair: Pair::new(),
+            both: Both::new(),
             failed: 0,
             failure: None,
         }
@@ -68,10 +68,10 @@ impl<'r, R: Files<File = File> + Input + AllocGlobal> FileHome<'r, R> {
             return Ok(());
         };
         let name = match failure.which {
-            Which::Base if self.base.is_none() => "standard input",
+            Which::Base if self.file.is_none() => "standard input",
             which => self.path(which),
         };
-        let working = self.pair.working(failure.which).unwrap_or(name);
+        let working = self.both.working(failure.which).unwrap_or(name);
         match failure.cause {
             Cause::Itself(error) => eprintln!(err; "{name}: {error}"),
             Cause::Working(error) => eprintln!(err; "{working}: {error}"),
@@ -86,18 +86,34 @@ impl<'r, R: Files<File = File> + Input + AllocGlobal> FileHome<'r, R> {
         }
     }
 
+    /// Closes both files. Where standard error was closed, one of them may have got its number, so nothing is said before.
+    pub fn close(&mut self) {
+        self.both.close();
+    }
+
     /// Removes what was made to be put in place and was not.
     pub fn let_go(&mut self)
         ensures kept { self.new.failed ≡ self.old.failed }
         ensures noted { self.new.failure ≡ self.old.failure }
     {
-        self.pair.let_go(self.rt);
+        self.both.let_go(self.rt);
     }
 
-    fn path(&self, which: Which) -> &str
-        ensures { result.now ≡ path_of (option_map string_bytes self.now.base) (string_bytes self.now.journal) which }
+    /// The bytes of the file as they are now, read without a lock to explain a refusal. What is no regular file, as
+    /// standard input, can't be read again.
+    pub fn text_again(&self, alloc: Global) -> Option<Vec<u8>> {
+        let path = self.file.as_ref()?.as_str();
+        if !fs::metadata(self.rt, path).ok()?.is_file() {
+            return None;
+        }
+        self.look_at(alloc, Which::Base).ok()
+    }
+
+    /// The path of the file or of its journal; standard input has none.
+    pub fn path(&self, which: Which) -> &str
+        ensures path { result.now ≡ path_of (option_map string_bytes self.now.file) (string_bytes self.now.journal) which }
     {
-        path_in(&self.base, &self.journal, which)
+        path_in(&self.file, &self.journal, which)
     }
 
     fn fail(&mut self, failure: Failure) -> Fault
@@ -114,7 +130,7 @@ impl<'r, R: Files<File = File> + Input + AllocGlobal> FileHome<'r, R> {
     fn bytes_of(&mut self, alloc: Global, which: Which) -> io::Result<Vec<u8>>
         ensures { self.new.failed ≡ self.old.failed }
     {
-        if which == Which::Base && self.base.is_none() {
+        if which == Which::Base && self.file.is_none() {
             return read_rest(which, Vec::new(alloc), self.rt.reader());
         }
         match self.access {
@@ -127,15 +143,15 @@ impl<'r, R: Files<File = File> + Input + AllocGlobal> FileHome<'r, R> {
     fn take(&mut self, alloc: Global, which: Which) -> io::Result<Vec<u8>>
         ensures { self.new.failed ≡ self.old.failed }
     {
-        let path = path_in(&self.base, &self.journal, which);
-        self.pair.read(self.rt, alloc, which, path)
+        let path = path_in(&self.file, &self.journal, which);
+        self.both.read(self.rt, alloc, which, path)
     }
 
     /// Reads without a lock.
     fn look_at(&self, alloc: Global, which: Which) -> io::Result<Vec<u8>> {
         let path = self.path(which);
         match open(self.rt, which, path) {
-            Ok(file) if self.is_base(which, &file)? => Err(one_file()),
+            Ok(file) if self.is_the_file(which, &file)? => Err(one_file()),
             Ok(file) => read_whole(alloc, which, &file),
             Err(error) if which == Which::Journal && may_be_missing(path, &error) => {
                 Ok(Vec::new(alloc))
@@ -145,8 +161,8 @@ impl<'r, R: Files<File = File> + Input + AllocGlobal> FileHome<'r, R> {
     }
 
     /// Whether the journal is the file itself, under another path.
-    fn is_base(&self, which: Which, file: &File) -> io::Result<bool> {
-        match (which, &self.base) {
+    fn is_the_file(&self, which: Which, file: &File) -> io::Result<bool> {
+        match (which, &self.file) {
             (Which::Journal, Some(path)) => Ok(are_one(
                 &fs::metadata(self.rt, path.as_str())?,
                 &file.metadata()?,
@@ -170,7 +186,7 @@ impl<'r, R: Files<File = File> + Input + AllocGlobal> Home for FileHome<'r, R> {
     fn read(&mut self, alloc: Global, which: Which) -> Result<Bytes, Fault> {
         match self.bytes_of(alloc, which) {
             Ok(bytes) => Ok(Bytes::from_vec(bytes)),
-            Err(error) if is_want_of_memory(&error) => Err(Fault::OutOfMemory),
+            Err(error) if is_out_of_memory(&error) => Err(Fault::OutOfMemory),
             Err(error) => Err(self.fail(Failure {
                 which,
                 cause: Cause::Itself(error),
@@ -179,7 +195,7 @@ impl<'r, R: Files<File = File> + Input + AllocGlobal> Home for FileHome<'r, R> {
     }
 
     fn replace(&mut self, which: Which, bytes: &[u8]) -> Result<(), Fault> {
-        match self.pair.replace(self.rt, self.access, which, bytes) {
+        match self.both.replace(self.rt, self.access, which, bytes) {
             Ok(()) => Ok(()),
             Err(failure) => {
                 self.let_go();
@@ -205,7 +221,7 @@ fn path_in<'p>(file: &'p Option<String>, journal: &'p String, which: Which) -> &
 }
 
 /// Memory was refused here, and not in the system.
-pub fn is_want_of_memory(error: &Error) -> bool
+pub fn is_out_of_memory(error: &Error) -> bool
     ensures { IsTrue result ↔ ((error_kind error.now ≡ ErrorKind.OutOfMemory) × IsNone (raw_os_error error.now)) }
 {
     error.kind() == ErrorKind::OutOfMemory && error.raw_os_error().is_none()

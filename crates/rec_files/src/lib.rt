@@ -4,17 +4,17 @@
 
 mod access;
 mod batch;
-mod causes;
-mod claim;
+mod both;
+mod failure;
 mod files;
-mod held;
 mod leftover;
 mod links;
-mod pair;
+mod open_file;
 mod paths;
 mod reading;
 mod rights;
-mod spot;
+mod target;
+mod working_file;
 
 pub use access::{Access, access_of};
 pub use batch::batch_text;

@@ -3,7 +3,7 @@ ghost use Rattle.std.specs.Prelude.{◌≡◌, IfOk, string_bytes};
 ghost use Rattle.std.specs.Path.{path_parent, path_with_file_name};
 ghost use Rattle.rec_files.specs.proving.Files.{folder_in};
 
-use crate::causes::{of_link, too_many_links};
+use crate::failure::{of_link, too_many_links};
 use std::alloc::{AllocError, Global};
 use std::fs::File;
 use std::io::ErrorKind;
@@ -14,8 +14,8 @@ use std::{fs, io};
 /// How many links in a row are followed.
 const LINKS: u32 = 40;
 
-/// The path behind the symbolic links at the end of this one. Links in the folders on the way stay as they are.
-pub fn behind_links<R: Files + AllocGlobal>(rt: &R, path: &str) -> io::Result<String> {
+/// The path after the symbolic links at the end of this one. Links in the folders on the way stay as they are.
+pub fn after_links<R: Files + AllocGlobal>(rt: &R, path: &str) -> io::Result<String> {
     let mut path = String::from_str(rt.alloc(), path)?;
     for _ in 0..LINKS {
         match next_path(rt, path.as_str())? {

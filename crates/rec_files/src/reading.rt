@@ -1,7 +1,7 @@
 //! Files and other readers are read to their end, within a limit.
 ghost use Rattle.std.specs.Prelude.{◌≡◌, ◌≤◌, ◌++◌, length, IfOk, IfSome};
 
-use crate::causes::too_long;
+use crate::failure::too_long;
 use rec_tools::Which;
 use std::alloc::Global;
 use std::fs::File;

@@ -2,7 +2,7 @@
 ghost use Rattle.std.specs.Prelude.{◌≡◌, ◌<◌, bit_and};
 ghost use Rattle.rec_files.specs.Rights.{owner_of, group_of, others_of, special_of, most, special_left};
 
-use crate::causes::{mount_point, not_permitted};
+use crate::failure::{mount_point, not_permitted};
 use crate::links::folder_of;
 use std::fs::{File, Metadata, Permissions};
 use std::io::Read;

@@ -2,7 +2,7 @@
 ghost use Rattle.std.specs.Prelude.{◌≡◌, ◌≤◌, length, IsTrue, IfOk};
 ghost use Rattle.std.specs.Fs.{metadata_len};
 
-use crate::causes::{changed, locked, one_file};
+use crate::failure::{changed, locked, one_file};
 use crate::reading::{LIMIT, read_whole};
 use rec_tools::Which;
 use std::alloc::Global;
@@ -17,15 +17,15 @@ const TRIES: u32 = 16;
 
 /// An open file, and what the system said of it before it was read.
 #[derive(Drop)]
-pub struct Held {
+pub struct OpenFile {
     pub file: File,
     pub seen: Metadata,
 }
 
-impl Held {
-    pub fn new(file: File) -> io::Result<Held> {
+impl OpenFile {
+    pub fn new(file: File) -> io::Result<OpenFile> {
         let seen = file.metadata()?;
-        Ok(Held { file, seen })
+        Ok(OpenFile { file, seen })
     }
 
     /// Its bytes, where nobody writes it meanwhile.
@@ -53,25 +53,25 @@ impl Held {
 }
 
 /// Opens and locks the file at a path, which is no link, unless it is the other file of the two.
-pub fn hold<R: Files<File = File>>(
+pub fn lock<R: Files<File = File>>(
     rt: &R,
     path: &str,
     other: Option<&Metadata>,
-) -> io::Result<Held> {
+) -> io::Result<OpenFile> {
     for _ in 0..TRIES {
-        if let Some(held) = try_to_hold(rt, path, other)? {
-            return Ok(held);
+        if let Some(file) = try_to_lock(rt, path, other)? {
+            return Ok(file);
         }
     }
     Err(changed())
 }
 
 /// One try, or nothing where the path no longer leads to what was opened.
-fn try_to_hold<R: Files<File = File>>(
+fn try_to_lock<R: Files<File = File>>(
     rt: &R,
     path: &str,
     other: Option<&Metadata>,
-) -> io::Result<Option<Held>> {
+) -> io::Result<Option<OpenFile>> {
     let file = open_to_lock(rt, path)?;
     if is_that(&file, other)? {
         return Err(one_file());
@@ -82,7 +82,7 @@ fn try_to_hold<R: Files<File = File>>(
         Err(TryLockError::Error(error)) => return Err(error),
     }
     if leads_to(rt, path, &file)? {
-        Ok(Some(Held::new(file)?))
+        Ok(Some(OpenFile::new(file)?))
     } else {
         Ok(None)
     }

@@ -1,8 +1,8 @@
-//! Files under the working names: made, and held by a lock.
+//! Files under the working names: made and locked.
 ghost use Rattle.std.specs.Prelude.{◌≡◌};
 
-use crate::causes::{Cause, in_use};
-use crate::held::leads_to;
+use crate::failure::{Cause, in_use};
+use crate::open_file::leads_to;
 use std::fs::{File, OpenOptions, TryLockError};
 use std::io;
 use std::io::{Error, ErrorKind};
@@ -28,8 +28,8 @@ fn of_making(error: Error) -> Cause {
     }
 }
 
-/// Locks a file, and says whether that was possible and the name leads to it. Who holds such a file is its writer.
-pub fn hold_own(rt: &impl Files, name: &str, file: &File) -> io::Result<bool> {
+/// Locks a file, and says whether that was possible and the name leads to it. Who has such a file locked is its writer.
+pub fn lock_own(rt: &impl Files, name: &str, file: &File) -> io::Result<bool> {
     match file.try_lock() {
         Ok(()) => leads_to(rt, name, file),
         Err(TryLockError::WouldBlock) => Ok(false),

@@ -26,7 +26,7 @@ pub enum Cause {
 
 impl From<Error> for Cause {
     ghost use Rattle.std.specs.Prelude.{◌≡◌};
-    ghost use Rattle.rec_files.specs.declared.causes.Cause.TheVariants.{Itself};
+    ghost use Rattle.rec_files.specs.declared.failure.Cause.TheVariants.{Itself};
 
     ghost from_gives = { λ error cause. cause ≡ Itself error };
 
@@ -92,7 +92,7 @@ pub fn too_many_links() -> Error {
     Error::from_raw_os_error(40)
 }
 
-/// Its working name is held by another program.
+/// Another program has what stands under its working name locked.
 pub fn in_use() -> Error {
     Error::other("in use: another program is writing it")
 }

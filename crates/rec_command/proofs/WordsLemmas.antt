@@ -1,4 +1,4 @@
--- What the getters of the matches read: flags, and paths in the place of equal ones.
+-- What the getters of the matches read: flags, and paths instead of equal ones.
 use Rattle.std.proofs.Common.{◌≡◌, Bool, true, false, List, [], map, refl, ap, subst, codes, Bor, Option, Some, None, option_map}
 use Rattle.std.specs.Option.{option_map_or, unwrap_or}
 use Rattle.std.specs.Str.{bytes_eq}

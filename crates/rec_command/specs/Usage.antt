@@ -93,31 +93,28 @@ recfix_usage = tool_with (codes "recfix") (
     ∷ file_word
     ∷ [])
 
+-- a tool that edits the records that are meant, with these options of its own
+abbrev pub editing_usage : Text → List Rule → App
+editing_usage name options = tool_with name (selecting ++ options ++ journal_option ∷ needed_file ∷ [])
+
 abbrev pub recins_usage : App
-recins_usage = tool_with (codes "recins") (
-    selecting
-    ++ repeated (codes "f") (codes "field")
+recins_usage = editing_usage (codes "recins") (
+    repeated (codes "f") (codes "field")
     ∷ repeated (codes "v") (codes "value")
     ∷ valued (codes "r") (codes "record")
     ∷ flag [] (codes "no-auto")
     ∷ flag [] (codes "force")
-    ∷ journal_option
-    ∷ needed_file
     ∷ [])
 
 abbrev pub recdel_usage : App
-recdel_usage = tool_with (codes "recdel") (
-    selecting
-    ++ flag (codes "c") (codes "comment")
+recdel_usage = editing_usage (codes "recdel") (
+    flag (codes "c") (codes "comment")
     ∷ flag [] (codes "force")
-    ∷ journal_option
-    ∷ needed_file
     ∷ [])
 
 abbrev pub recset_usage : App
-recset_usage = tool_with (codes "recset") (
-    selecting
-    ++ valued (codes "f") (codes "fields")
+recset_usage = editing_usage (codes "recset") (
+    valued (codes "f") (codes "fields")
     ∷ valued (codes "s") (codes "set")
     ∷ valued (codes "a") (codes "add")
     ∷ valued (codes "S") (codes "set-add")
@@ -125,8 +122,6 @@ recset_usage = tool_with (codes "recset") (
     ∷ flag (codes "d") (codes "delete")
     ∷ flag (codes "c") (codes "comment")
     ∷ flag [] (codes "force")
-    ∷ journal_option
-    ∷ needed_file
     ∷ [])
 
 abbrev pub batch_usage : App
@@ -144,7 +139,7 @@ paths_usage name = tool_with name (journal_option ∷ needed_file ∷ [])
 abbrev pub forget_usage : App
 forget_usage = tool_with (codes "forget") (journal_option ∷ needed_number ∷ needed_file ∷ [])
 
--- the words are those behind the program's name, and the first of them is a tool
+-- the words are those after the program's name, and the first of them is a tool
 abbrev pub plain_usage : App
 plain_usage = record {
   top = record (new_app (codes "recu")).top {
@@ -152,6 +147,7 @@ plain_usage = record {
     propagate_version = true;
     has_version = true;
     subcommand_required = true;
+    arg_required_else_help = true;
   };
   subs = (new_app (codes "recu")).subs;
 }

@@ -115,11 +115,11 @@ abbrev pub Asks : Text → List Row → Request → Type 0
 Asks tool options (Show pick form collapse) =
     (tool ≡ codes "recsel") × IsPick options pick × (form_for form ≡ form_given options)
     × (collapse ≡ has_flag (codes "collapse") options)
-Asks tool options (Info kind form) =
-    (tool ≡ codes "recinf") × (kind ≡ first_of (codes "type") options) × (info_form_for form ≡ info_form_given options)
+Asks tool options (Info record_type form) =
+    (tool ≡ codes "recinf") × (record_type ≡ first_of (codes "type") options) × (info_form_for form ≡ info_form_given options)
 Asks tool options Check = (tool ≡ codes "recfix") × (has_flag (codes "auto") options ≡ false)
-Asks tool options (Insert kind fresh auto force) =
-    (tool ≡ codes "recins") × (selection_given options ≡ selection_for All) × (kind ≡ first_of (codes "type") options)
+Asks tool options (Insert record_type fresh auto force) =
+    (tool ≡ codes "recins") × (selection_given options ≡ selection_for All) × (record_type ≡ first_of (codes "type") options)
     × IsFresh options fresh × (auto ≡ not (has_flag (codes "no-auto") options))
     × (force ≡ has_flag (codes "force") options)
 Asks tool options (Replace pick fresh force) =
@@ -169,7 +169,7 @@ HasNoJournal _ _ journal = journal ≡ None
 -- the journal of a request, by the two paths that are given
 abbrev pub IsJournal : Request → Option (List ℕ) → Option (List ℕ) → Option (List ℕ) → Type 0
 IsJournal (Show pick form collapse) file given journal = HasNoJournal file given journal
-IsJournal (Info kind form) file given journal = HasNoJournal file given journal
+IsJournal (Info record_type form) file given journal = HasNoJournal file given journal
 IsJournal Check file given journal = HasNoJournal file given journal
 IsJournal _ file given journal = IsEditJournal file given journal
 

@@ -14,7 +14,7 @@ fn tables_of(tool: &str) -> [&'static [ToolOption]; 2] {
     }
 }
 
-/// Whether a word gives an option by its name, or by its letter behind those of flags.
+/// Whether a word gives an option by its name, or by its letter after those of flags.
 fn gives(word: &str, option: &ToolOption) -> bool {
     if let Some(name) = word.strip_prefix("--") {
         return name == option.name;
@@ -52,7 +52,7 @@ fn is_hyphenated(word: &str) -> bool {
     }
 }
 
-/// The first value with a hyphen in front that stands in a word of its own, with the name of its option.
+/// The first value that begins with a hyphen that stands in a word of its own, with the name of its option.
 pub fn hint_for<S: AsStr>(words: &[S]) -> Option<(&'static str, &str)> {
     let tool = words.first()?.as_str();
     for pair in words.windows(2) {

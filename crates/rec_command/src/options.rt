@@ -18,33 +18,46 @@ pub struct ToolOption {
     pub help: &'static str,
 }
 
+const TYPE: ToolOption = ToolOption {
+    letter: Some('t'),
+    name: "type",
+    takes: Takes::Value("TYPE"),
+    help: "The records of this type [default: those of no type, or else of the only type]",
+};
+
+const NEW_TYPE: ToolOption = ToolOption {
+    letter: Some('t'),
+    name: "type",
+    takes: Takes::Value("TYPE"),
+    help: "The type of the new record, or of those that are selected [default: for a new record no type, even where there is only one]",
+};
+
+const EXPRESSION: ToolOption = ToolOption {
+    letter: Some('e'),
+    name: "expression",
+    takes: Takes::Value("EXPR"),
+    help: "The records for which EXPR is true, such as 'Age > 17 && #Email'",
+};
+
+const NUMBER: ToolOption = ToolOption {
+    letter: Some('n'),
+    name: "number",
+    takes: Takes::Value("LIST"),
+    help: "The records at these places among those of the type, from 0, such as 0,4-7",
+};
+
+const QUICK: ToolOption = ToolOption {
+    letter: Some('q'),
+    name: "quick",
+    takes: Takes::Value("TEXT"),
+    help: "The records with a value that contains TEXT",
+};
+
 /// Which records are meant.
-pub static SELECTION: [ToolOption; 4] = [
-    ToolOption {
-        letter: Some('t'),
-        name: "type",
-        takes: Takes::Value("TYPE"),
-        help: "The records of this type [default: those of no type, or else of the only type]",
-    },
-    ToolOption {
-        letter: Some('e'),
-        name: "expression",
-        takes: Takes::Value("EXPR"),
-        help: "The records for which EXPR is true, such as 'Age > 17 && #Email'",
-    },
-    ToolOption {
-        letter: Some('n'),
-        name: "number",
-        takes: Takes::Value("LIST"),
-        help: "The records at these places among those of the type, from 0, such as 0,4-7",
-    },
-    ToolOption {
-        letter: Some('q'),
-        name: "quick",
-        takes: Takes::Value("TEXT"),
-        help: "The records with a value that contains TEXT",
-    },
-];
+pub static SELECTION: [ToolOption; 4] = [TYPE, EXPRESSION, NUMBER, QUICK];
+
+/// Of which type a new record is, or which ones it is put instead of.
+pub static REPLACEMENT: [ToolOption; 4] = [NEW_TYPE, EXPRESSION, NUMBER, QUICK];
 
 /// What is printed of records.
 pub static PRINTING: [ToolOption; 5] = [
@@ -187,7 +200,7 @@ pub static RECSET: [ToolOption; 8] = [
         letter: Some('a'),
         name: "add",
         takes: Takes::Value("VALUE"),
-        help: "Add a field with VALUE for each of FIELDS, behind the last field",
+        help: "Add a field with VALUE for each of FIELDS, after the last field",
     },
     ToolOption {
         letter: Some('S'),

@@ -1,6 +1,7 @@
 //! The program. It runs the request of the command line on a file and its journal, and says what was refused.
 #![tactic(auto)]
 
+mod explanation;
 mod output;
 mod status;
 
@@ -67,7 +68,11 @@ fn run(rt: &HostRuntime, asked: Asked) -> Result<Reply, Fault> {
         Err(fault) => Err(fault),
     };
     home.let_go();
+    home.close();
     let _ = home.explain(rt);
     let _ = out.explain(rt);
+    if let Err(fault) = &answer {
+        let _ = explanation::explain(rt, &home, &request, fault);
+    }
     answer
 }

@@ -10,7 +10,8 @@ use std::fmt;
 use std::fmt::Write;
 
 /// Prints `recu: `, the text of a fault and a newline, cut where the sink fails; where an edit was refused for
-/// violations, their report stands before that. The result is the exit status; help, which is no reply, ends well.
+/// violations, their report stands before that, and what forces it. The result is the exit status; help, which is no reply,
+/// ends well.
 pub fn finish<W: Sink>(answer: &Result<Option<Reply>, Fault>, err: &mut W) -> u8
     ensures status { result ≡ status_of answer.now }
     ensures silent { OnOk answer.now (err.new ≡ err.old) }
@@ -21,6 +22,9 @@ pub fn finish<W: Sink>(answer: &Result<Option<Reply>, Fault>, err: &mut W) -> u8
         Err(fault) => {
             let _ = write_report(violations_of(fault), err);
             let mut text = Text { sink: err };
+            if let Fault::Integrity(_) = fault {
+                let _ = writeln!(text, "--force makes the edit all the same");
+            }
             let _ = writeln!(text, "recu: {fault}");
             1
         }

@@ -19,8 +19,11 @@ pub const RECFIX_ABOUT: &str =
 pub const RECFIX_HELP: &str =
     "Each violation is a line, LINE: RULE NAME. Where there is one, the exit status is 1.\n\nExamples:\n  recu recfix library.rec\n  recu recfix --auto library.rec";
 
+pub const RECINS_USAGE: &str =
+    "recu recins [OPTIONS] -f NAME -v VALUE.. FILE\n       recu recins [OPTIONS] -r TEXT FILE";
+
 pub const RECINS_ABOUT: &str =
-    "Puts a record in, behind the last one of its type. With one of -e, -n and -q it puts it in the place of\neach record that these select. Its fields are those of -f and -v, place by place, or the text of -r.";
+    "Puts a record in, after the last one of its type. With one of -e, -n and -q it puts it instead of\neach record that these select. Its fields are those of -f and -v, place by place, or the text of -r.";
 
 pub const RECINS_HELP: &str =
     "Examples:\n  recu recins -f Name -v 'Alan Turing' -f Phone -v '555 0123' contacts.rec\n  recu recins -t Book -r 'Title: Emma' library.rec\n  recu recins -n 0 -f Name -v 'Ada King' contacts.rec";
@@ -31,11 +34,15 @@ pub const RECDEL_ABOUT: &str =
 pub const RECDEL_HELP: &str =
     "Examples:\n  recu recdel -n 1 contacts.rec\n  recu recdel -c -e \"Name ~ 'Hopper'\" contacts.rec";
 
+pub const RECSET_USAGE: &str = "recu recset [OPTIONS] -f FIELDS <ACTION> FILE";
+
 pub const RECSET_ABOUT: &str =
-    "Edits fields of records. FIELDS and exactly one of -s, -a, -S, -r, -d and -c are needed. Only one\nof -e, -n and -q can be given; without one all records are edited.";
+    "Edits fields of records. FIELDS and exactly one ACTION of -s, -a, -S, -r, -d and -c are needed. Only one\nof -e, -n and -q can be given; without one all records are edited.";
 
 pub const RECSET_HELP: &str =
     "Examples:\n  recu recset -n 0 -f Email -s ada@example.net contacts.rec\n  recu recset -e '!#Phone' -f Phone -a unknown contacts.rec\n  recu recset -n 2 -f Note --set=-5 contacts.rec";
+
+pub const BATCH_USAGE: &str = "recu batch [OPTIONS] -b PATH FILE";
 
 pub const BATCH_ABOUT: &str =
     "Makes the edits of PATH one after another, as one edit: where one of them is refused none is made,\nand one undo takes them all back. -b is needed.";
@@ -50,7 +57,7 @@ pub const REDO_HELP: &str =
     "Examples:\n  recu redo contacts.rec\n  recu redo --journal edits.rec contacts.rec";
 
 pub const HISTORY_HELP: &str =
-    "Each edit that can be undone is a line, done NUMBER TOOL, the oldest first; behind them each that can\nbe redone is one, undone NUMBER TOOL, the nearest first. For a file that was changed outside it is the\nline drifted.\n\nExamples:\n  recu history contacts.rec\n  recu history --journal edits.rec contacts.rec";
+    "Each edit that can be undone is a line, done NUMBER TOOL, the oldest first; after them each that can\nbe redone is one, undone NUMBER TOOL, the nearest first. For a file that was changed outside it is the\nline drifted.\n\nExamples:\n  recu history contacts.rec\n  recu history --journal edits.rec contacts.rec";
 
 pub const FORGET_ABOUT: &str =
     "Forgets all but the newest N of the edits that can be undone, which makes the journal shorter. FILE\nstays as it is. What is forgotten can't be undone any more, and nothing brings it back.";

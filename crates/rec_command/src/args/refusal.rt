@@ -32,7 +32,11 @@ impl Refusal {
 
     /// Says on standard error what is wrong with the words. Where they ask for help, it prints that on standard output
     /// instead and answers true. An error is the output's, or says that memory ran out.
-    pub fn explain<R: Print + Eprint, S: AsStr>(&self, rt: &R, words: &[S]) -> io::Result<bool> {
+    pub fn explain<R: Print + Eprint + AllocGlobal, S: AsStr>(
+        &self,
+        rt: &R,
+        words: &[S],
+    ) -> io::Result<bool> {
         match self {
             Refusal::OutOfMemory => Err(io::Error::from(io::ErrorKind::OutOfMemory)),
             Refusal::Usage(help) if !help.use_stderr() => {
@@ -40,7 +44,7 @@ impl Refusal {
                 Ok(true)
             }
             Refusal::Usage(error) => {
-                let _ = error.print(rt);
+                let _ = print_usage(rt, error, words);
                 explain_hyphen(rt, words);
                 Ok(false)
             }
@@ -51,6 +55,28 @@ impl Refusal {
             }
         }
     }
+}
+
+/// Prints what clap says of the words. Its tip for a value that begins with a hyphen is left out, since it doesn't lead to
+/// one: `explain_hyphen` does.
+fn print_usage<R: Print + Eprint + AllocGlobal, S: AsStr>(
+    rt: &R,
+    error: &clap::Error,
+    words: &[S],
+) -> io::Result<()> {
+    if hint_for(words).is_none() {
+        return error.print(rt);
+    }
+    let mut is_after_blank = false;
+    let text = format!(in rt.alloc(); "{error}")?;
+    for line in text.lines() {
+        let is_blank = line.is_empty();
+        if !line.starts_with("  tip: to pass '") && !(is_blank && is_after_blank) {
+            eprintln!(rt; "{line}")?;
+            is_after_blank = is_blank;
+        }
+    }
+    Ok(())
 }
 
 /// Says how a value is given that begins with a hyphen, where the words have one.

@@ -3,15 +3,17 @@ ghost use Rattle.std.specs.Prelude.{◌≡◌, false, fold, IfOk};
 ghost use Rattle.clap.specs.Words.{app_of, rule_of, with_rule};
 ghost use Rattle.clap.specs.declared.builder.command.Command.TheViews.{out-Command as fields_of};
 ghost use Rattle.rec_command.specs.proving.Options.{rule_of_option, with_option};
-ghost use Rattle.rec_command.specs.Usage.{batch_option, journal_option, file_word, needed_file, needed_number, recsel_usage, recinf_usage, recfix_usage, recins_usage, recdel_usage, recset_usage, batch_usage, forget_usage, paths_usage, plain_usage, selecting, usage};
+ghost use Rattle.rec_command.specs.Usage.{batch_option, journal_option, file_word, needed_file, needed_number, recsel_usage, recinf_usage, recfix_usage, recins_usage, recdel_usage, recset_usage, batch_usage, forget_usage, paths_usage, plain_usage, usage};
 
 use super::help::{
-    ABOUT, BATCH_ABOUT, BATCH_HELP, FORGET_ABOUT, FORGET_HELP, HISTORY_HELP, RECDEL_ABOUT,
-    RECDEL_HELP, RECFIX_ABOUT, RECFIX_HELP, RECINF_HELP, RECINS_ABOUT, RECINS_HELP, RECSEL_HELP,
-    RECSET_ABOUT, RECSET_HELP, REDO_HELP, UNDO_HELP, VERSION, WORKING_NAMES,
+    ABOUT, BATCH_ABOUT, BATCH_HELP, BATCH_USAGE, FORGET_ABOUT, FORGET_HELP, HISTORY_HELP,
+    RECDEL_ABOUT, RECDEL_HELP, RECFIX_ABOUT, RECFIX_HELP, RECINF_HELP, RECINS_ABOUT, RECINS_HELP,
+    RECINS_USAGE, RECSEL_HELP, RECSET_ABOUT, RECSET_HELP, RECSET_USAGE, REDO_HELP, UNDO_HELP,
+    VERSION, WORKING_NAMES,
 };
 use crate::options::{
-    BATCH, PRINTING, RECDEL, RECFIX, RECINF, RECINS, RECSET, SELECTION, Takes, ToolOption,
+    BATCH, PRINTING, RECDEL, RECFIX, RECINF, RECINS, RECSET, REPLACEMENT, SELECTION, Takes,
+    ToolOption,
 };
 use clap::{Arg, ArgAction, Command};
 use std::alloc::{AllocError, Global};
@@ -76,6 +78,7 @@ fn program<'a>(alloc: Global) -> Result<Command<'a>, AllocError>
             .propagate_version(true)
             .about(ABOUT)
             .after_help(WORKING_NAMES)
+            .arg_required_else_help(true)
             .subcommand_required(true),
     )
 }
@@ -119,10 +122,11 @@ fn recins<'a>(alloc: Global) -> Result<Command<'a>, AllocError>
     ensures alone { IfOk result (λ command. (fields_of command).has_globals ≡ false) }
 {
     let tool = Command::new(alloc, "recins")
-        .about("Puts a record in, or in the place of others")
+        .about("Puts a record in, or instead of others")
+        .override_usage(RECINS_USAGE)
         .long_about(RECINS_ABOUT)
         .after_help(RECINS_HELP);
-    with_edit_options(alloc, tool, RECINS.as_slice())
+    with_edit_options(alloc, tool, REPLACEMENT.as_slice(), RECINS.as_slice())
 }
 
 fn recdel<'a>(alloc: Global) -> Result<Command<'a>, AllocError>
@@ -133,7 +137,7 @@ fn recdel<'a>(alloc: Global) -> Result<Command<'a>, AllocError>
         .about("Deletes records, or makes comments of them")
         .long_about(RECDEL_ABOUT)
         .after_help(RECDEL_HELP);
-    with_edit_options(alloc, tool, RECDEL.as_slice())
+    with_edit_options(alloc, tool, SELECTION.as_slice(), RECDEL.as_slice())
 }
 
 fn recset<'a>(alloc: Global) -> Result<Command<'a>, AllocError>
@@ -142,9 +146,10 @@ fn recset<'a>(alloc: Global) -> Result<Command<'a>, AllocError>
 {
     let tool = Command::new(alloc, "recset")
         .about("Edits fields of records")
+        .override_usage(RECSET_USAGE)
         .long_about(RECSET_ABOUT)
         .after_help(RECSET_HELP);
-    with_edit_options(alloc, tool, RECSET.as_slice())
+    with_edit_options(alloc, tool, SELECTION.as_slice(), RECSET.as_slice())
 }
 
 fn batch<'a>(alloc: Global) -> Result<Command<'a>, AllocError>
@@ -153,12 +158,11 @@ fn batch<'a>(alloc: Global) -> Result<Command<'a>, AllocError>
 {
     let tool = Command::new(alloc, "batch")
         .about("Makes several edits as one")
+        .override_usage(BATCH_USAGE)
         .long_about(BATCH_ABOUT)
         .after_help(BATCH_HELP);
     let tool = with_batch_path(alloc, tool)?;
-    with_options(alloc, tool, BATCH.as_slice())?
-        .arg(journal_arg(alloc))?
-        .arg(file_arg(alloc))
+    with_edit_options(alloc, tool, &[], BATCH.as_slice())
 }
 
 /// A tool with the path of a batch after what it has.
@@ -169,17 +173,18 @@ fn with_batch_path<'a>(alloc: Global, tool: Command<'a>) -> Result<Command<'a>, 
     tool.arg(batch_arg(alloc))
 }
 
-/// A tool that edits the records of a selection, with these options of its own.
+/// A tool that edits records, with the options that select them, where there are any, and these of its own.
 fn with_edit_options<'a>(
     alloc: Global,
     tool: Command<'a>,
+    selection: &[ToolOption],
     options: &[ToolOption],
 ) -> Result<Command<'a>, AllocError>
     ensures usage { IfOk result (λ command. app_of command ≡ with_rule (with_rule
-        (fold with_option (fold with_rule (app_of tool.entry) selecting) options.now) journal_option) needed_file) }
+        (fold with_option (fold with_option (app_of tool.entry) selection.now) options.now) journal_option) needed_file) }
     ensures alone { IfOk result (λ command. (fields_of command).has_globals ≡ (fields_of tool.entry).has_globals) }
 {
-    let tool = with_options(alloc, tool, SELECTION.as_slice())?;
+    let tool = with_options(alloc, tool, selection)?;
     with_options(alloc, tool, options)?
         .arg(journal_arg(alloc))?
         .arg(file_arg(alloc))

@@ -8,7 +8,9 @@ pub mod forgetting;
 pub mod hashes;
 pub mod histories;
 pub mod patches;
+pub mod spelling;
 
+use crate::journals::patches::patch_at;
 use crate::log::Log;
 use rec_journal::{
     Direction, Hashed, History, Hunk, Patch, Plan, Tool, plan_edit, plan_move, plan_redo, plan_undo,
@@ -79,15 +81,6 @@ fn deleted(alloc: Global, at: usize, old: &[u8]) -> Result<Hunk, AllocError> {
     })
 }
 
-/// The deletion of the second record.
-fn b_deleted(alloc: Global) -> Result<Vec<Hunk>, AllocError>
-    ensures { IfOk result (λ hunks. hunks.items ≢ []) }
-{
-    let mut hunks = Vec::new(alloc);
-    hunks.push(deleted(alloc, 6, b"B: 2\n\n")?)?;
-    Ok(hunks)
-}
-
 /// The deletion of the first record and of the last one.
 fn a_and_c_deleted(alloc: Global) -> Result<Vec<Hunk>, AllocError> {
     let mut hunks = Vec::new(alloc);
@@ -97,7 +90,7 @@ fn a_and_c_deleted(alloc: Global) -> Result<Vec<Hunk>, AllocError> {
 }
 
 /// A plan appends this to a journal, and leads to a file.
-fn check_plan(log: &mut Log, plan: &Plan, journal: &[u8], appended: &[u8], file: &[u8]) {
+pub fn check_plan(log: &mut Log, plan: &Plan, journal: &[u8], appended: &[u8], file: &[u8]) {
     match plan.journal.as_slice().strip_prefix(journal) {
         Some(rest) => log.same("what is appended", rest, appended),
         None => log.holds("the journal is kept", false),
@@ -141,7 +134,7 @@ fn undone(alloc: Global) -> Result<Vec<u8>, AllocError> {
 }
 
 /// The history of a file, which is hashed first.
-fn loaded(alloc: Global, file: &[u8], journal: &[u8]) -> Result<History, Fault>
+pub fn loaded(alloc: Global, file: &[u8], journal: &[u8]) -> Result<History, Fault>
     ensures { IfOk result (λ history. IsOpening file.now journal.now (Ok history)) }
 {
     History::load(alloc, &Hashed::of(alloc, file)?, journal)
@@ -177,16 +170,6 @@ fn growth_of_load(alloc: Global, log: &mut Log) -> Result<(), Fault> {
     match undone(alloc) {
         Ok(journal) => check_undone(alloc, log, &journal),
         Err(_) => Ok(()),
-    }
-}
-
-/// The patch that deletes the second record.
-fn b_patch(alloc: Global) -> Result<Patch, Fault>
-    ensures { IfOk result (λ patch. patch ≢ []) }
-{
-    match Patch::new(b_deleted(alloc)?) {
-        Some(patch) => Ok(patch),
-        None => Err(Fault::BadUsage),
     }
 }
 
@@ -238,7 +221,7 @@ fn growth_of_plan_edit(alloc: Global, log: &mut Log) -> Result<(), Fault> {
     let Ok(history) = History::load(alloc, &file, b"") else {
         return Ok(());
     };
-    match b_patch(alloc) {
+    match patch_at(alloc, 6, b"B: 2\n\n", b"") {
         Ok(patch) => check_plan_edit(alloc, log, &history, &file, &patch),
         Err(_) => Ok(()),
     }

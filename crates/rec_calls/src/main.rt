@@ -19,7 +19,6 @@ mod expressions;
 mod journals;
 mod log;
 mod requests;
-mod rows;
 mod selections;
 mod texts;
 

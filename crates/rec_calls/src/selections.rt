@@ -56,63 +56,36 @@ fn choose_again(
     }
 }
 
-/// The records that are taken are these.
+/// The records that are taken are these, unless memory ran out for what is asked.
 fn check_choice(
     alloc: Global,
     log: &mut Log,
     database: &Database,
     schema: &Schema,
-    by: By,
+    by: Result<By, Fault>,
     wanted: &[usize],
 ) -> Result<(), Fault>
     requires { IsSchema database.now (Ok (described schema.now)) }
 {
+    let Ok(by) = by else {
+        return Ok(());
+    };
     let selection = Selection { kind: None, by };
     let taken = choose_again(alloc, database, schema, &selection)?;
     log.holds("the records", taken.as_slice() == wanted);
     Ok(())
 }
 
-fn check_expression(
-    alloc: Global,
-    log: &mut Log,
-    database: &Database,
-    schema: &Schema,
-) -> Result<(), Fault>
-    requires { IsSchema database.now (Ok (described schema.now)) }
-{
-    match Expr::parse(alloc, b"M ~ '^x' && N != 'b'") {
-        Ok(expr) => check_choice(alloc, log, database, schema, By::Expr(expr), &[1, 3]),
-        Err(_) => Ok(()),
-    }
+fn by_expression(alloc: Global) -> Result<By, Fault> {
+    Ok(By::Expr(Expr::parse(alloc, b"M ~ '^x' && N != 'b'")?))
 }
 
-fn check_places(
-    alloc: Global,
-    log: &mut Log,
-    database: &Database,
-    schema: &Schema,
-) -> Result<(), Fault>
-    requires { IsSchema database.now (Ok (described schema.now)) }
-{
-    match IndexList::parse(alloc, b"2,0") {
-        Ok(list) => check_choice(alloc, log, database, schema, By::Index(list), &[1, 3]),
-        Err(_) => Ok(()),
-    }
+fn by_places(alloc: Global) -> Result<By, Fault> {
+    Ok(By::Index(IndexList::parse(alloc, b"2,0")?))
 }
 
-fn check_text(
-    alloc: Global,
-    log: &mut Log,
-    database: &Database,
-    schema: &Schema,
-) -> Result<(), Fault>
-    requires { IsSchema database.now (Ok (described schema.now)) }
-{
-    match Bytes::copy_of(alloc, b"xy") {
-        Ok(text) => check_choice(alloc, log, database, schema, By::Quick(text), &[1, 3]),
-        Err(_) => Ok(()),
-    }
+fn by_text(alloc: Global) -> Result<By, Fault> {
+    Ok(By::Quick(Bytes::copy_of(alloc, b"xy")?))
 }
 
 fn check_choices(
@@ -123,10 +96,10 @@ fn check_choices(
 ) -> Result<(), Fault>
     requires { IsSchema database.now (Ok (described schema.now)) }
 {
-    check_choice(alloc, log, database, schema, By::All, &[1, 2, 3])?;
-    check_expression(alloc, log, database, schema)?;
-    check_places(alloc, log, database, schema)?;
-    check_text(alloc, log, database, schema)
+    check_choice(alloc, log, database, schema, Ok(By::All), &[1, 2, 3])?;
+    check_choice(alloc, log, database, schema, by_expression(alloc), &[1, 3])?;
+    check_choice(alloc, log, database, schema, by_places(alloc), &[1, 3])?;
+    check_choice(alloc, log, database, schema, by_text(alloc), &[1, 3])
 }
 
 fn growth_of_choose(alloc: Global, log: &mut Log) -> Result<(), Fault> {
@@ -156,57 +129,43 @@ fn check_refusal(log: &mut Log, fault: Fault, out: &Printed, text: &[u8]) {
     log.holds("a prefix went out", text.starts_with(out.writer.as_slice()));
 }
 
+/// This is printed of records, unless memory ran out for what is asked.
 fn check_records(
     alloc: Global,
     log: &mut Log,
     database: &Database,
     selected: &[usize],
-    shape: &Shape,
+    shape: Result<Shape, Fault>,
     text: &[u8],
 ) -> Result<(), Fault>
     requires { AreIndexes database.now selected.now }
 {
+    let Ok(shape) = shape else {
+        return Ok(());
+    };
     let mut out = no_output(alloc);
-    if let Err(fault) = write_records(alloc, database, selected, shape, false, &mut out) {
+    if let Err(fault) = write_records(alloc, database, selected, &shape, false, &mut out) {
         check_refusal(log, fault, &out, text);
         out = no_output(alloc);
-        write_records(alloc, database, selected, shape, false, &mut out)?;
+        write_records(alloc, database, selected, &shape, false, &mut out)?;
     }
     log.same("what is printed", out.writer.as_slice(), text);
     Ok(())
 }
 
-/// What is printed of the fields that a list picks.
-#[derive(Clone, Copy)]
-enum Form {
-    Print,
-    Values,
-    Row,
+fn fields_of(alloc: Global, list: &[u8]) -> Result<Shape, Fault> {
+    Ok(Shape::Print(FieldList::parse(alloc, list)?))
 }
 
-fn check_fields(
-    alloc: Global,
-    log: &mut Log,
-    database: &Database,
-    selected: &[usize],
-    form: Form,
-    list: &[u8],
-    text: &[u8],
-) -> Result<(), Fault>
-    requires { AreIndexes database.now selected.now }
-{
-    let Ok(list) = FieldList::parse(alloc, list) else {
-        return Ok(());
-    };
-    let shape = match form {
-        Form::Print => Shape::Print(list),
-        Form::Values => Shape::Values(list),
-        Form::Row => Shape::Row(list),
-    };
-    check_records(alloc, log, database, selected, &shape, text)
+fn values_of(alloc: Global, list: &[u8]) -> Result<Shape, Fault> {
+    Ok(Shape::Values(FieldList::parse(alloc, list)?))
 }
 
-fn check_forms(
+fn rows_of(alloc: Global, list: &[u8]) -> Result<Shape, Fault> {
+    Ok(Shape::Row(FieldList::parse(alloc, list)?))
+}
+
+fn check_shapes(
     alloc: Global,
     log: &mut Log,
     database: &Database,
@@ -215,22 +174,28 @@ fn check_forms(
     requires { AreIndexes database.now selected.now }
 {
     let blocks = b"N: a\nM: x\\\ny\nM: 2\n\nN: b\nM: 3\n\nN: c\nM: xyz\n";
-    check_records(alloc, log, database, selected, &Shape::Blocks, blocks)?;
-    check_records(alloc, log, database, selected, &Shape::Count, b"3\n")?;
+    check_records(alloc, log, database, selected, Ok(Shape::Blocks), blocks)?;
+    check_records(alloc, log, database, selected, Ok(Shape::Count), b"3\n")?;
     let fields = b"M: 2\nN: a\n\nN: b\n\nN: c\n";
-    check_fields(
+    check_records(
         alloc,
         log,
         database,
         selected,
-        Form::Print,
-        b"M[1],N",
+        fields_of(alloc, b"M[1],N"),
         fields,
     )?;
     let values = b"xy\n2\n\n3\n\nxyz\n";
-    check_fields(alloc, log, database, selected, Form::Values, b"M", values)?;
+    check_records(
+        alloc,
+        log,
+        database,
+        selected,
+        values_of(alloc, b"M"),
+        values,
+    )?;
     let rows = b"a xy 2\n\nb 3\n\nc xyz\n";
-    check_fields(alloc, log, database, selected, Form::Row, b"N,M", rows)
+    check_records(alloc, log, database, selected, rows_of(alloc, b"N,M"), rows)
 }
 
 /// The indexes of all records.
@@ -254,7 +219,7 @@ fn check_printed(
     requires { IsSchema database.now (Ok (described schema.now)) }
 {
     match all_of(alloc, database, schema) {
-        Ok(selected) => check_forms(alloc, log, database, &selected),
+        Ok(selected) => check_shapes(alloc, log, database, &selected),
         Err(_) => Ok(()),
     }
 }

@@ -34,7 +34,14 @@ fn set_force(edit: &mut Request, forced: bool) {
         Request::CommentOut { force, .. } => *force = forced,
         Request::Set { force, .. } => *force = forced,
         Request::AutoFill { force } => *force = forced,
-        _ => {}
+        Request::Batch { force, .. } => *force = forced,
+        Request::Show { .. }
+        | Request::Info { .. }
+        | Request::Check
+        | Request::Undo
+        | Request::Redo
+        | Request::Forget(_)
+        | Request::History => {}
     }
 }
 

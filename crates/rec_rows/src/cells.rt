@@ -9,7 +9,7 @@ fn digit(byte: u8) -> Option<u8> {
     }
 }
 
-/// The byte of two hexadecimal digits at the front, and what follows them.
+/// The byte of two hexadecimal digits at the start, and what follows them.
 fn byte_of(text: &[u8]) -> Option<(u8, &[u8])> {
     let [first, second, rest @ ..] = text else {
         return None;

@@ -6,7 +6,7 @@ use crate::tester::{Tester, Wanted};
 use rec_tools::{Bytes, Fault, Request};
 use std::alloc::{AllocError, Global};
 
-/// The next number, and the one that is drawn of so many.
+/// The next number, and the one that is drawn of n.
 fn draw(seed: u64, len: usize) -> (u64, usize) {
     let seed = seed
         .wrapping_mul(6364136223846793005)
@@ -15,31 +15,39 @@ fn draw(seed: u64, len: usize) -> (u64, usize) {
     (seed, drawn.checked_rem(len).unwrap_or(0))
 }
 
-/// The list of a number: so many lines of the pool.
-fn drawn(
-    alloc: Global,
-    pool: &[String],
-    number: usize,
-    len: usize,
-) -> Result<Vec<&str>, AllocError> {
-    let mut lines = Vec::new(alloc);
+/// The requests of a list, by its number: n lines of the pool.
+fn drawn(alloc: Global, pool: &[String], number: usize, len: usize) -> Result<Vec<Request>, Fault> {
+    let mut requests = Vec::new(alloc);
     let mut seed = number as u64;
     for _ in 0..len {
         let (next, place) = draw(seed, pool.len());
         seed = next;
         if let Some(line) = pool.get(place) {
-            lines.push(line.as_str())?;
+            requests.push(request_of(alloc, line.as_str(), &[])?)?;
         }
     }
-    Ok(lines)
+    Ok(requests)
 }
 
-fn requests_of(alloc: Global, lines: &[&str]) -> Result<Vec<Request>, Fault> {
-    let mut requests = Vec::new(alloc);
-    for line in lines {
-        requests.push(request_of(alloc, line, &[])?)?;
+/// A move in the history.
+#[derive(Clone, Copy)]
+enum Move {
+    Undo,
+    Redo,
+}
+
+impl Move {
+    /// This move n times, and once more.
+    fn repeated(self, alloc: Global, n: usize) -> Result<Vec<Request>, AllocError> {
+        let mut requests = Vec::new(alloc);
+        for _ in 0..=n {
+            requests.push(match self {
+                Move::Undo => Request::Undo,
+                Move::Redo => Request::Redo,
+            })?;
+        }
+        Ok(requests)
     }
-    Ok(requests)
 }
 
 /// What the plain machine has answered and printed, and its text.
@@ -79,47 +87,37 @@ impl Course {
         })
     }
 
-    /// Runs lines by one call, and by the plain machine.
-    fn run(&mut self, lines: &[&str], log: &mut Log) -> Result<(), Fault> {
+    /// Runs requests by one call, and by the plain machine.
+    fn run(&mut self, requests: &[Request], log: &mut Log) -> Result<(), Fault> {
         self.plain.clear_answers();
-        for line in lines {
-            self.plain.take(line, log)?;
+        for request in requests {
+            self.plain.take(request, log)?;
         }
         let wanted = wanted_of(self.alloc, &self.plain)?;
-        let requests = requests_of(self.alloc, lines)?;
-        self.tester.run_all(requests.as_slice(), &wanted, log)
-    }
-
-    /// Runs the same line again and again, once more than so often.
-    fn repeat(&mut self, line: &str, count: usize, log: &mut Log) -> Result<(), Fault> {
-        let mut lines = Vec::new(self.alloc);
-        for _ in 0..=count {
-            lines.push(line)?;
-        }
-        self.run(lines.as_slice(), log)
+        self.tester.run_all(requests, &wanted, log)
     }
 
     /// Undoes all that is done, and then makes all of it again.
     fn walk(&mut self, log: &mut Log) -> Result<(), Fault> {
-        let undos = self.plain.undos();
-        self.repeat("undo", undos, log)?;
-        let redos = self.plain.redos();
-        self.repeat("redo", redos, log)
+        let undos = Move::Undo.repeated(self.alloc, self.plain.undos())?;
+        self.run(undos.as_slice(), log)?;
+        let redos = Move::Redo.repeated(self.alloc, self.plain.redos())?;
+        self.run(redos.as_slice(), log)
     }
 
-    /// Keeps the newest n edits that can be undone, and goes on with lines.
-    fn forget(&mut self, n: usize, lines: &[&str], log: &mut Log) -> Result<(), Fault> {
-        let line = format!(in self.alloc; "forget {n}")?;
-        self.run(&[line.as_str(), "history"], log)?;
-        self.run(lines, log)?;
-        self.run(&["history"], log)?;
+    /// Keeps the newest n edits that can be undone, and goes on with requests.
+    fn forget(&mut self, n: u32, requests: &[Request], log: &mut Log) -> Result<(), Fault> {
+        self.run(&[Request::Forget(n), Request::History], log)?;
+        self.run(requests, log)?;
+        self.run(&[Request::History], log)?;
         self.walk(log)
     }
 
     /// The same for each n up to one more than can be undone, each from what stands here.
-    fn forget_each(&self, lines: &[&str], log: &mut Log) -> Result<(), Fault> {
-        for n in 0..=self.plain.undos().saturating_add(1) {
-            self.copy()?.forget(n, lines, log)?;
+    fn forget_each(&self, requests: &[Request], log: &mut Log) -> Result<(), Fault> {
+        let undos = u32::try_from(self.plain.undos()).unwrap_or(u32::MAX);
+        for n in 0..=undos.saturating_add(1) {
+            self.copy()?.forget(n, requests, log)?;
         }
         Ok(())
     }
@@ -138,11 +136,11 @@ pub struct Lists {
 fn run_list(
     alloc: Global,
     file: &[u8],
-    lines: &[&str],
+    requests: &[Request],
     len: usize,
     log: &mut Log,
 ) -> Result<(), Fault> {
-    let (list, after) = lines.split_at_checked(len).unwrap_or((lines, &[]));
+    let (list, after) = requests.split_at_checked(len).unwrap_or((requests, &[]));
     let mut course = Course::new(alloc, file)?;
     course.run(list, log)?;
     if after.is_empty() {
@@ -162,8 +160,8 @@ pub fn run_lists(
     let len = lists.len.saturating_add(lists.after);
     for number in 0..lists.lists {
         log.row = format!(in alloc; "list {number}")?;
-        let lines = drawn(alloc, pool, number, len)?;
-        run_list(alloc, file, lines.as_slice(), lists.len, log)?;
+        let requests = drawn(alloc, pool, number, len)?;
+        run_list(alloc, file, requests.as_slice(), lists.len, log)?;
     }
     Ok(())
 }

@@ -1,8 +1,8 @@
-//! A writer that may take a front alone.
+//! A writer that may take a prefix alone.
 use std::io;
 use std::io::Write;
 
-/// Takes so many bytes, three at most in a call, and then none.
+/// Takes n bytes, three at most in a call, and then none.
 #[derive(Drop)]
 pub struct Narrow {
     pub taken: Vec<u8>,

@@ -1,6 +1,5 @@
 //! A plain machine: it keeps the whole texts of a file, and journals none of its edits.
 use crate::batches::Batch;
-use crate::command::request_of;
 use crate::log::Log;
 use crate::tester::Tester;
 use rec_tools::{Bytes, Fault, Request};
@@ -11,8 +10,26 @@ use std::mem;
 #[derive(Drop)]
 struct Step {
     number: usize,
-    tool: String,
+    tool: &'static str,
     text: Bytes,
+}
+
+/// The tool of an edit, as the history names it.
+fn tool_of(request: &Request) -> &'static str {
+    match request {
+        Request::Insert { .. } | Request::Replace { .. } => "recins",
+        Request::Delete { .. } | Request::CommentOut { .. } => "recdel",
+        Request::Set { .. } => "recset",
+        Request::AutoFill { .. } => "recfix",
+        Request::Batch { .. } => "batch",
+        Request::Show { .. }
+        | Request::Info { .. }
+        | Request::Check
+        | Request::Undo
+        | Request::Redo
+        | Request::Forget(_)
+        | Request::History => "",
+    }
 }
 
 /// A file, with its edits that are done and those that are undone, the nearest last.
@@ -45,7 +62,7 @@ fn copies(alloc: Global, steps: &[Step]) -> Result<Vec<Step>, AllocError> {
     for step in steps {
         copies.push(Step {
             number: step.number,
-            tool: String::from_str(alloc, step.tool.as_str())?,
+            tool: step.tool,
             text: Bytes::copy_of(alloc, step.text.as_slice())?,
         })?;
     }
@@ -162,12 +179,11 @@ impl Plain {
     }
 
     /// An edit led from the present text to another.
-    fn keep(&mut self, line: &str, after: &[u8]) -> Result<(), AllocError> {
+    fn keep(&mut self, tool: &'static str, after: &[u8]) -> Result<(), AllocError> {
         self.events = self.events.saturating_add(1);
-        let (tool, _) = line.split_once(' ').unwrap_or((line, ""));
         let step = Step {
             number: self.events,
-            tool: String::from_str(self.alloc, tool)?,
+            tool,
             text: Bytes::copy_of(self.alloc, self.text.as_slice())?,
         };
         self.text = Bytes::copy_of(self.alloc, after)?;
@@ -182,12 +198,17 @@ impl Plain {
     }
 
     /// Takes what a request answered and printed there, and the text that an edit led to.
-    fn follow(&mut self, tester: &Tester, line: &str, answer: &str) -> Result<(), AllocError> {
+    fn follow(
+        &mut self,
+        tester: &Tester,
+        request: &Request,
+        answer: &str,
+    ) -> Result<(), AllocError> {
         self.answers.push_str(answer)?;
         self.answers.push('\n')?;
         self.prints.extend_from_slice(tester.printed())?;
         if answer.starts_with("edited ") {
-            self.keep(line, tester.home.file())?;
+            self.keep(tool_of(request), tester.home.file())?;
         }
         Ok(())
     }
@@ -214,49 +235,41 @@ impl Plain {
         Ok(log.expect("the edits of the batch, one by one", is)?)
     }
 
-    /// Runs any other request by itself.
-    fn run(&mut self, line: &str, log: &mut Log) -> Result<(), Fault> {
-        let request = request_of(self.alloc, line, &[])?;
-        self.run_alone(&request, line, log)
-    }
-
-    /// Runs a request on the present text alone.
-    fn run_alone(&mut self, request: &Request, line: &str, log: &mut Log) -> Result<(), Fault> {
+    /// Runs any other request on the present text alone.
+    fn run(&mut self, request: &Request, log: &mut Log) -> Result<(), Fault> {
         let mut tester = self.fresh()?;
-        self.run_on(&mut tester, request, line, log)
+        self.run_on(&mut tester, request, log)
     }
 
     fn run_on(
         &mut self,
         tester: &mut Tester,
         request: &Request,
-        line: &str,
         log: &mut Log,
     ) -> Result<(), Fault> {
         let answer = tester.answer(request, usize::MAX)?;
         self.compare(request, tester, answer.as_str(), log)?;
-        Ok(self.follow(tester, line, answer.as_str())?)
+        Ok(self.follow(tester, request, answer.as_str())?)
     }
 
-    /// Forgets as a line asks for.
-    fn forget_by(&mut self, n: &str) -> Result<(), Fault> {
-        match n.parse::<usize>() {
-            Ok(n) => Ok(self.forget(n)?),
-            Err(_) => Err(Fault::BadUsage),
-        }
-    }
-
-    /// Runs the request of a line.
-    pub fn take(&mut self, line: &str, log: &mut Log) -> Result<(), Fault> {
+    /// Runs a request.
+    pub fn take(&mut self, request: &Request, log: &mut Log) -> Result<(), Fault> {
         log.count();
-        if let Some(n) = line.strip_prefix("forget ") {
-            return self.forget_by(n);
-        }
-        match line {
-            "undo" => Ok(self.undo()?),
-            "redo" => Ok(self.redo()?),
-            "history" => Ok(self.print_history()?),
-            _ => self.run(line, log),
+        match request {
+            Request::Undo => Ok(self.undo()?),
+            Request::Redo => Ok(self.redo()?),
+            Request::History => Ok(self.print_history()?),
+            Request::Forget(n) => Ok(self.forget(*n as usize)?),
+            Request::Show { .. }
+            | Request::Info { .. }
+            | Request::Check
+            | Request::Insert { .. }
+            | Request::Replace { .. }
+            | Request::Delete { .. }
+            | Request::CommentOut { .. }
+            | Request::Set { .. }
+            | Request::AutoFill { .. }
+            | Request::Batch { .. } => self.run(request, log),
         }
     }
 }

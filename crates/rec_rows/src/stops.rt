@@ -12,7 +12,6 @@ use std::alloc::{AllocError, Global};
 struct Case<'c> {
     alloc: Global,
     file: &'c [u8],
-    lines: &'c [String],
     requests: &'c [Request],
 }
 
@@ -96,9 +95,9 @@ impl Run {
 
     /// Runs a request, some of whose calls may fail. It goes as the plain machine says, or answers that a file could not
     /// be read or written, and leaves the state before or the one after.
-    fn step(&mut self, request: &Request, line: &str, log: &mut Log) -> Result<(), Fault> {
+    fn step(&mut self, request: &Request, log: &mut Log) -> Result<(), Fault> {
         let mut next = self.plain.copy()?;
-        next.take(line, log)?;
+        next.take(request, log)?;
         let before = self.tester.copy_of_home()?;
         let failures = self.tester.home.failures();
         let answer = self.tester.answer(request, usize::MAX)?;
@@ -147,7 +146,7 @@ impl Run {
         let mut home = self.tester.copy_of_home()?;
         for _ in 0..=self.plain.undos() {
             self.plain.answers.clear();
-            self.plain.take("undo", log)?;
+            self.plain.take(&Request::Undo, log)?;
             let answer = home.answer(&Request::Undo, usize::MAX)?;
             compare_answer(self.alloc, &answer, &self.plain, log)?;
         }
@@ -177,8 +176,8 @@ impl<'c> Case<'c> {
             write!(log.row, " {} {}", failing.call, failing.word())?;
         }
         let mut run = self.begin(fails)?;
-        for (request, line) in self.requests.iter().zip(self.lines) {
-            run.step(request, line.as_str(), log)?;
+        for request in self.requests {
+            run.step(request, log)?;
         }
         run.is_as_told("the history at the end", log)?;
         self.run_together(fails, &run, log)?;
@@ -214,10 +213,10 @@ impl<'c> Case<'c> {
     /// Every prefix of the journal that each request writes, beside the old file, and the whole beside the new one.
     fn run_cut(&self, log: &mut Log) -> Result<(), Fault> {
         let mut run = self.begin(&[])?;
-        for (request, line) in self.requests.iter().zip(self.lines) {
-            log.row = String::from_str(self.alloc, line.as_str())?;
+        for (place, request) in self.requests.iter().enumerate() {
+            log.row = format!(in self.alloc; "its request {place}")?;
             let before = run.copy()?;
-            run.step(request, line.as_str(), log)?;
+            run.step(request, log)?;
             self.cut_each(&before, &run, request, log)?;
             run.is_as_told("the history after", log)?;
             run.copy()?.undo_all(log)?;
@@ -236,8 +235,8 @@ impl<'c> Case<'c> {
         let journal = after.tester.home.journal();
         for cut in before.tester.home.journal().len()..=journal.len() {
             log.cut = cut;
-            let front = journal.get(..cut).unwrap_or(journal);
-            let home = Tester::with(self.alloc, before.tester.home.file(), front)?;
+            let prefix = journal.get(..cut).unwrap_or(journal);
+            let home = Tester::with(self.alloc, before.tester.home.file(), prefix)?;
             let stopped = Run::new(self.alloc, home, before.plain.copy()?);
             self.go_on(stopped, after, request, log)?;
         }
@@ -272,7 +271,7 @@ fn requests_of(alloc: Global, lines: &[String]) -> Result<Vec<Request>, Fault> {
     Ok(requests)
 }
 
-/// Runs requests with every list of one or two failing calls among so many, and on every prefix of each journal.
+/// Runs requests with every list of one or two failing calls among the first ones, and on every prefix of each journal.
 pub fn run_stops(
     alloc: Global,
     file: &[u8],
@@ -284,7 +283,6 @@ pub fn run_stops(
     let case = Case {
         alloc,
         file,
-        lines,
         requests: requests.as_slice(),
     };
     case.run_failing(calls, log)?;

@@ -177,7 +177,7 @@ impl Tester {
             log.expect("one failure in little room", self.out.failures() == 1)?;
             let taken = self.out.writer.taken.as_slice();
             log.expect(
-                "the front of what is printed",
+                "the prefix of what is printed",
                 taken.len() == room && print.starts_with(taken),
             )?;
         }

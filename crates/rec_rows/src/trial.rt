@@ -50,13 +50,13 @@ fn nothing(alloc: Global) -> Bytes {
     Bytes::from_vec(Vec::new(alloc))
 }
 
-/// The first bytes, as many as there may be.
-fn front(bytes: &[u8], len: usize) -> &[u8] {
+/// The first bytes, at most n.
+fn prefix(bytes: &[u8], len: usize) -> &[u8] {
     &bytes[..bytes.len().min(len)]
 }
 
 fn is_change(answer: &str) -> bool {
-    ["edited ", "undone ", "redone ", "forgotten "].iter().any(|front| answer.starts_with(front)
+    ["edited ", "undone ", "redone ", "forgotten "].iter().any(|prefix| answer.starts_with(prefix)
         && answer != "forgotten 0")
 }
 
@@ -126,7 +126,7 @@ impl Trial {
 
     fn put_journal(&mut self, cell: &str) -> Result<(), AllocError> {
         let whole = bytes_in(self.alloc, cell)?;
-        let journal = front(whole.as_slice(), self.cut);
+        let journal = prefix(whole.as_slice(), self.cut);
         self.wanted.journal = Some(Bytes::copy_of(self.alloc, journal)?);
         self.tester.home.journal = Bytes::copy_of(self.alloc, journal)?;
         Ok(())
@@ -235,24 +235,24 @@ impl Trial {
     /// Takes the newest edit back.
     fn take_back(&mut self, log: &mut Log) -> Result<(), Fault> {
         let undone = format!(in self.alloc; "undone {}", self.number())?;
-        self.ask("undo", undone.as_str(), log)?;
+        self.tester.ask(&Request::Undo, undone.as_str(), log)?;
         self.is_as_before(true, log)
     }
 
     /// Makes the newest edit again, whose text is this one.
     fn make_again(&mut self, after: &[u8], log: &mut Log) -> Result<(), Fault> {
         let redone = format!(in self.alloc; "redone {}", self.number())?;
-        self.ask("redo", redone.as_str(), log)?;
+        self.tester.ask(&Request::Redo, redone.as_str(), log)?;
         Ok(log.compare("made again", self.tester.home.file(), after)?)
     }
 
-    /// Each of so many records is deleted in turn and brought back, and there is no further one.
+    /// Each of n records is deleted in turn and brought back, and there is no further one.
     fn delete_each(&mut self, records: u64, log: &mut Log) -> Result<(), Fault> {
         for index in 0..records {
             self.delete_one(index, log)?;
         }
-        let behind = format!(in self.alloc; "recdel -n {records}")?;
-        self.ask(behind.as_str(), "unchanged", log)?;
+        let following = format!(in self.alloc; "recdel -n {records}")?;
+        self.ask(following.as_str(), "unchanged", log)?;
         self.is_as_before(true, log)
     }
 
@@ -262,7 +262,7 @@ impl Trial {
         self.is_as_before(false, log)?;
         let number = index.saturating_mul(2).saturating_add(1);
         let undone = format!(in self.alloc; "undone {number}")?;
-        self.ask("undo", undone.as_str(), log)?;
+        self.tester.ask(&Request::Undo, undone.as_str(), log)?;
         self.is_as_before(true, log)
     }
 

@@ -4,7 +4,6 @@ ghost use Rattle.rec_check.specs.Schemas.{IsSchema};
 ghost use Rattle.rec_check.specs.Stored.{described};
 
 use crate::log::Log;
-use crate::rows::{cells, split_cell, text_in};
 use rec_check::{Counter, Schema};
 use rec_text::{Database, Fault, read};
 use std::alloc::Global;
@@ -18,17 +17,39 @@ pub fn run(alloc: Global, log: &mut Log) {
         growth_of_counters);
 }
 
-/// A text, in which `|` stands for a newline, the name of a field in its last set, and the next value.
-const COUNTERS: &str = "%rec: P|%auto: Id|%type: Id int||Id: 9223372036854775807| ; Id ; none
-%rec: P|%auto: Id|%type: Id int||Id: 4| ; Id ; 5
-%rec: P|%auto: Id|%type: Id int| ; Id ; 0
-%rec: P|%auto: Id|%type: Id int||Id: -5| ; Id ; -4
-// The greatest counts, wherever it stands in the set; what reads as no integer doesn't.
-N: 9||%rec: P||N: 1|N: 0x7|M: 8||N: x|N: 3| ; N ; 8
-// Of two types the later holds.
-%rec: P|%type: N line|%type: N range 9| ; N ; 0
-%rec: P|%type: N int|%type: N line||N: 3| ; N ; none
-%rec: P||%x: 3| ; %x ; none";
+/// A text, the name of a field in its last set, and the next value, if there is one.
+const COUNTERS: [(&[u8], &[u8], Option<i64>); 8] = [
+    (
+        b"%rec: P\n%auto: Id\n%type: Id int\n\nId: 9223372036854775807\n",
+        b"Id",
+        None,
+    ),
+    (
+        b"%rec: P\n%auto: Id\n%type: Id int\n\nId: 4\n",
+        b"Id",
+        Some(5),
+    ),
+    (b"%rec: P\n%auto: Id\n%type: Id int\n", b"Id", Some(0)),
+    (
+        b"%rec: P\n%auto: Id\n%type: Id int\n\nId: -5\n",
+        b"Id",
+        Some(-4),
+    ),
+    // The greatest counts, wherever it stands in the set; what reads as no integer doesn't.
+    (
+        b"N: 9\n\n%rec: P\n\nN: 1\nN: 0x7\nM: 8\n\nN: x\nN: 3\n",
+        b"N",
+        Some(8),
+    ),
+    // Of two types the later holds.
+    (b"%rec: P\n%type: N line\n%type: N range 9\n", b"N", Some(0)),
+    (
+        b"%rec: P\n%type: N int\n%type: N line\n\nN: 3\n",
+        b"N",
+        None,
+    ),
+    (b"%rec: P\n\n%x: 3\n", b"%x", None),
+];
 
 /// The next value of a field in the last set.
 fn next_in(alloc: Global, database: &Database, schema: &Schema, name: &[u8]) -> Result<i64, Fault>
@@ -46,22 +67,20 @@ fn next(alloc: Global, text: &[u8], name: &[u8]) -> Result<i64, Fault> {
     next_in(alloc, &database, &schema, name)
 }
 
-/// Whether a counter goes on with a value; where that is `none`, with none.
-fn is_next(alloc: Global, text: &str, name: &str, wanted: &str) -> Result<bool, Fault> {
-    let text = text_in(alloc, text)?;
-    match next(alloc, &text, name.as_bytes()) {
-        Ok(next) => Ok(wanted.parse::<i64>().ok() == Some(next)),
-        Err(fault) => Ok(fault.number() == 17 && wanted == "none"),
+/// The next value, if there is one.
+fn next_if_any(alloc: Global, text: &[u8], name: &[u8]) -> Result<Option<i64>, Fault> {
+    match next(alloc, text, name) {
+        Ok(next) => Ok(Some(next)),
+        Err(Fault::AutoImpossible) => Ok(None),
+        Err(fault) => Err(fault),
     }
 }
 
 fn counters_go_on(alloc: Global, log: &mut Log) -> Result<(), Fault> {
-    for row in COUNTERS.lines() {
-        if let Some((text, rest)) = cells(row) {
-            let (name, wanted) = split_cell(rest);
-            log.at(row);
-            log.holds("the next value", is_next(alloc, text, name, wanted)?);
-        }
+    for (text, name, wanted) in &COUNTERS {
+        let found = next_if_any(alloc, text, name)?;
+        log.at_bytes(text);
+        log.holds("the next value", found == *wanted);
     }
     Ok(())
 }

@@ -110,8 +110,8 @@ fn is_taken(alloc: Global, records: &[Record], name: &[u8], key: &[u8]) -> Resul
 }
 
 /// Whether a `%type` field gives the fields of a name a type.
-fn is_for(type_: &[u8], name: &[u8]) -> bool {
-    let text = str::from_utf8(type_).unwrap_or("");
+fn is_for(value_type: &[u8], name: &[u8]) -> bool {
+    let text = str::from_utf8(value_type).unwrap_or("");
     let (names, _) = text.split_once(' ').unwrap_or((text, ""));
     for one in names.split(',') {
         if one.as_bytes() == name {
@@ -122,7 +122,7 @@ fn is_for(type_: &[u8], name: &[u8]) -> bool {
 }
 
 /// Adds a field with a value, whose lines are plus lines from the second on.
-fn add_field(text: &mut Vec<u8>, name: &[u8], value: &[u8]) -> Result<(), AllocError> {
+pub fn add_field(text: &mut Vec<u8>, name: &[u8], value: &[u8]) -> Result<(), AllocError> {
     text.extend_from_slice(name)?;
     text.extend_from_slice(b": ")?;
     for byte in value {
@@ -136,9 +136,9 @@ fn add_field(text: &mut Vec<u8>, name: &[u8], value: &[u8]) -> Result<(), AllocE
 }
 
 /// Whether a schema finds a violation in a text of one field under one type.
-fn breaks(alloc: Global, type_: &[u8], name: &[u8], value: &[u8]) -> Result<bool, Fault> {
+fn breaks(alloc: Global, value_type: &[u8], name: &[u8], value: &[u8]) -> Result<bool, Fault> {
     let mut text = Vec::from_slice(alloc, b"%rec: P\n")?;
-    add_field(&mut text, b"%type", type_)?;
+    add_field(&mut text, b"%type", value_type)?;
     text.push(b'\n')?;
     add_field(&mut text, name, value)?;
     let database = read(alloc, &text)?;
@@ -150,9 +150,9 @@ fn breaks(alloc: Global, type_: &[u8], name: &[u8], value: &[u8]) -> Result<bool
 /// are tried on a value alone, and told by hand elsewhere.
 fn is_misfit(alloc: Global, head: &[Element], name: &[u8], value: &[u8]) -> Result<bool, Fault> {
     let mut misfit = false;
-    for type_ in &values(alloc, head, b"%type")? {
-        if is_for(type_.as_slice(), name) {
-            misfit = breaks(alloc, type_.as_slice(), name, value)?;
+    for value_type in &values(alloc, head, b"%type")? {
+        if is_for(value_type.as_slice(), name) {
+            misfit = breaks(alloc, value_type.as_slice(), name, value)?;
         }
     }
     Ok(misfit)

@@ -2,7 +2,6 @@
 //! `crates/rec_rows` has more reports that are told by hand.
 use crate::checks::plain::plain_report;
 use crate::log::Log;
-use crate::rows::text_in;
 use rec_check::Schema;
 use rec_text::{Fault, Rule, Violation, read};
 use std::alloc::{AllocError, Global};
@@ -14,13 +13,29 @@ pub fn run(alloc: Global, log: &mut Log) {
         both_find_the_same_by_all_rules);
 }
 
-/// A row has a text, `->`, and its report; `|` stands for a newline.
-const TOGETHER: &str = "\
-%rec: Book|%key: Id|%type: Year range 1900 2100|%mandatory: Title||Id: 1|Title: A|Year: 1899||Id: 1|-> 8: type Year|10: key Id|10: mandatory Title|
-%constraint: A = 1|%type: A int|%allowed: A|%unique: A|%prohibit: X|%mandatory: M|%key: K|%size: 3|%rec: P||A: x|X: 1|A: y||A: 1|M: 1|K: 1|-> 1: size P|11: key K|11: mandatory M|11: prohibit X|11: unique A|11: allowed X|11: type A|13: type A|11: constraint 1|
-%rec: P|%mandatory: M|%type: A int||A: x||A: y|-> 5: mandatory M|5: type A|7: mandatory M|7: type A|
-# -*- mode: rec -*-||%rec: Book|%mandatory: Title|%type: Location enum loaned home unknown|%sort: Title|%doc:|+ My books.||Title: GNU Emacs Manual|Author: Richard M. Stallman|Location: home|->
-# -*- mode: rec -*-||%rec: Book|%mandatory: Title|%type: Location enum loaned home unknown|%sort: Title|%doc:|+ My books.||Author: Richard M. Stallman|Location: Home|-> 10: mandatory Title|11: type Location|";
+/// A text, and its report.
+const TOGETHER: [(&[u8], &[u8]); 5] = [
+    (
+        b"%rec: Book\n%key: Id\n%type: Year range 1900 2100\n%mandatory: Title\n\nId: 1\nTitle: A\nYear: 1899\n\nId: 1\n",
+        b"8: type Year\n10: key Id\n10: mandatory Title\n",
+    ),
+    (
+        b"%constraint: A = 1\n%type: A int\n%allowed: A\n%unique: A\n%prohibit: X\n%mandatory: M\n%key: K\n%size: 3\n%rec: P\n\nA: x\nX: 1\nA: y\n\nA: 1\nM: 1\nK: 1\n",
+        b"1: size P\n11: key K\n11: mandatory M\n11: prohibit X\n11: unique A\n11: allowed X\n11: type A\n13: type A\n11: constraint 1\n",
+    ),
+    (
+        b"%rec: P\n%mandatory: M\n%type: A int\n\nA: x\n\nA: y\n",
+        b"5: mandatory M\n5: type A\n7: mandatory M\n7: type A\n",
+    ),
+    (
+        b"# -*- mode: rec -*-\n\n%rec: Book\n%mandatory: Title\n%type: Location enum loaned home unknown\n%sort: Title\n%doc:\n+ My books.\n\nTitle: GNU Emacs Manual\nAuthor: Richard M. Stallman\nLocation: home\n",
+        b"",
+    ),
+    (
+        b"# -*- mode: rec -*-\n\n%rec: Book\n%mandatory: Title\n%type: Location enum loaned home unknown\n%sort: Title\n%doc:\n+ My books.\n\nAuthor: Richard M. Stallman\nLocation: Home\n",
+        b"10: mandatory Title\n11: type Location\n",
+    ),
+];
 
 /// What a made descriptor may ask.
 const ASKED: [&str; 12] = [
@@ -111,13 +126,13 @@ fn made(alloc: Global, first: Asked, second: Asked) -> Result<String, AllocError
     Ok(text)
 }
 
-/// The lines of a report, as a row has them.
+/// The lines of a report.
 fn printed(alloc: Global, found: &[Violation]) -> Result<String, Fault> {
     let mut report = String::new(alloc);
     for violation in found {
         let rule = violation.rule.word();
         let name = std::str::from_utf8(violation.name.as_slice()).unwrap_or("?");
-        write!(report, "{}: {rule} {name}|", violation.line)?;
+        write!(report, "{}: {rule} {name}\n", violation.line)?;
     }
     Ok(report)
 }
@@ -138,11 +153,9 @@ fn try_both(alloc: Global, log: &mut Log, text: &[u8]) -> Result<String, Fault> 
 }
 
 fn both_find_what_is_told(alloc: Global, log: &mut Log) -> Result<(), Fault> {
-    for row in TOGETHER.lines() {
-        let (text, wanted) = row.split_once("->").unwrap_or((row, "?"));
-        let report = try_both(alloc, log, &text_in(alloc, text)?)?;
-        let wanted = wanted.trim_start().as_bytes();
-        log.same("the report", report.as_str().as_bytes(), wanted);
+    for (text, wanted) in &TOGETHER {
+        let report = try_both(alloc, log, text)?;
+        log.same("the report", report.as_bytes(), wanted);
     }
     Ok(())
 }
@@ -158,7 +171,7 @@ fn both_find_the_same_by_each_rule(alloc: Global, log: &mut Log) -> Result<(), F
 
 /// Whether a line of a report names a rule.
 fn names_rule(report: &str, rule: &str) -> bool {
-    for line in report.split('|') {
+    for line in report.lines() {
         if line.split(' ').nth(1) == Some(rule) {
             return true;
         }

@@ -8,6 +8,7 @@ ghost use Rattle.rec_journal.specs.Revisions.{LeadsBy, AreDone};
 
 use crate::edits::plain_edit::{Change, Item, Run, plain_parts, plain_runs, plain_text};
 use crate::edits::{are_runs, made, selection};
+use crate::journals::{check_plan, loaded};
 use crate::log::Log;
 use rec_check::Schema;
 use rec_edit::{Action, BatchEdited, Edit, batch};
@@ -169,13 +170,6 @@ fn is_batch(step: Option<Step>, done: bool) -> bool {
     }
 }
 
-/// The history of a file, which is hashed first.
-fn loaded(alloc: Global, file: &[u8], journal: &[u8]) -> Result<History, Fault>
-    ensures { IfOk result (λ history. IsOpening file.now journal.now (Ok history)) }
-{
-    History::load(alloc, &Hashed::of(alloc, file)?, journal)
-}
-
 fn a_batch_is_one_step_of_a_history(alloc: Global, log: &mut Log) -> Result<(), Fault> {
     let history = loaded(alloc, ONE, JOURNAL)?;
     let mut steps = history.steps();
@@ -184,15 +178,6 @@ fn a_batch_is_one_step_of_a_history(alloc: Global, log: &mut Log) -> Result<(), 
     log.equal("what counts", history.keep(), JOURNAL.len());
     log.same("the tool's name", Tool::Batch.name(), b"batch");
     Ok(())
-}
-
-/// A plan appends this to a journal, and leads to a file.
-fn check_plan(log: &mut Log, plan: &Plan, journal: &[u8], appended: &[u8], file: &[u8]) {
-    match plan.journal.as_slice().strip_prefix(journal) {
-        Some(rest) => log.same("what is appended", rest, appended),
-        None => log.holds("the journal is kept", false),
-    }
-    log.same("the file", plan.file.as_slice(), file);
 }
 
 fn a_batch_is_taken_back_as_one(alloc: Global, log: &mut Log) -> Result<(), Fault> {

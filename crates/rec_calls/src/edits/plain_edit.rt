@@ -1,5 +1,5 @@
-//! A plain, slow program beside `edit`: it lists what each element of a text gives way to. Both are tried on the same files.
-use crate::checks::plain::count;
+//! A plain, slow program beside `edit`: it lists what each element of a text is replaced by. Both are tried on the same files.
+use crate::checks::plain::{add_field, count};
 use rec_edit::Action;
 use rec_text::{Database, Element, Fault};
 use std::alloc::{AllocError, Global};
@@ -45,18 +45,6 @@ fn is_picked(items: &[Item], record: &[Element], place: usize, name: &[u8]) -> b
     false
 }
 
-fn add_field(out: &mut Vec<u8>, name: &[u8], value: &[u8]) -> Result<(), AllocError> {
-    out.extend_from_slice(name)?;
-    out.extend_from_slice(b": ")?;
-    for byte in value {
-        out.push(*byte)?;
-        if *byte == b'\n' {
-            out.extend_from_slice(b"+ ")?;
-        }
-    }
-    out.extend_from_slice(b"\n")
-}
-
 fn add_comment(out: &mut Vec<u8>, lines: &[u8]) -> Result<(), AllocError> {
     let mut begins = true;
     for byte in lines {
@@ -69,7 +57,7 @@ fn add_comment(out: &mut Vec<u8>, lines: &[u8]) -> Result<(), AllocError> {
     Ok(())
 }
 
-/// Adds what a picked field gives way to.
+/// Adds what a picked field is replaced by.
 fn add_edited(
     out: &mut Vec<u8>,
     action: &Action,
@@ -88,7 +76,7 @@ fn add_edited(
     }
 }
 
-/// Adds what an element of a chosen record gives way to.
+/// Adds what an element of a chosen record is replaced by.
 fn add_own(
     out: &mut Vec<u8>,
     change: &Change,
@@ -143,7 +131,7 @@ fn is_blank_after(elements: &[Element], end: usize, index: usize) -> bool {
     !after.is_empty()
 }
 
-/// What the element of an index gives way to, with a newline at its end.
+/// What the element of an index is replaced by, with a newline at its end.
 fn new_text(
     alloc: Global,
     database: &Database,

@@ -1,59 +1,80 @@
 //! What lists of fields pick of elements. `crates/rec_rows` has what they pick of records, and the places of their faults.
 use crate::log::Log;
-use crate::rows::{cells, split_cell};
 use rec_sex::FieldList;
-use rec_text::{Element, Fault, Kind};
+use rec_text::{Fault, read};
 use std::alloc::Global;
 
 pub fn run(alloc: Global, log: &mut Log) {
     cases!(alloc, log: lists_pick_their_occurrences, lists_tell_their_items);
 }
 
-/// A list, the elements of a record, and the places of those that the list picks.
-const PICKS: &str = "Name,Email[1] ; Name: x, Email: a, Email: b ; [0, 2]
-A[4294967295] ; A: 1 ; []
-A[1] ; # A: 0, A: 1, # A: 2, A: 3 ; [3]
-%rec ; %rec: Book, rec: Book ; [0]
-A ;  ; []
-// each value is the element's place; the second list has more items than are few
-A[1],B,A[2-9],D[1-2],C[1],K,E,F,G,H,I,J,A[3],D[0],B[1-1],A,A[4] ; A: 0, B: 1, # A: 2, A: 3, C: 4, A: 5, B: 6, D: 7, D: 8, D: 9, D: 10, E: 11, F: 12, G: 13, H: 14, I: 15, J: 16, A: 17 ; [3, 1, 6, 5, 17, 8, 9, 11, 12, 13, 14, 15, 16, 17, 7, 6, 0, 3, 5, 17]
-A[1],B,A[2-9],D[1-2],C[1],K,E,F,G,H,I,J,A[3],D[0],B[1-1],P,Q,R,S,T,U,V,W,X,Y,Z,P[1],Q[2],A[9],D[4-7],B[2],C[3],A,A[4] ; A: 0, B: 1, # A: 2, A: 3, C: 4, A: 5, B: 6, D: 7, D: 8, D: 9, D: 10, E: 11, F: 12, G: 13, H: 14, I: 15, J: 16, A: 17 ; [3, 1, 6, 5, 17, 8, 9, 11, 12, 13, 14, 15, 16, 17, 7, 6, 0, 3, 5, 17]";
+/// A list, the text of a record, and the places of the elements that the list picks.
+const PICKS: [(&[u8], &[u8], &[usize]); 7] = [
+    (b"Name,Email[1]", b"Name: x\nEmail: a\nEmail: b\n", &[0, 2]),
+    (b"A[4294967295]", b"A: 1\n", &[]),
+    (b"A[1]", b"# A: 0\nA: 1\n# A: 2\nA: 3\n", &[3]),
+    (b"%rec", b"%rec: Book\nrec: Book\n", &[0]),
+    (b"A", b"", &[]),
+    // Each value is its place. The second list has more items than are few.
+    (
+        b"A[1],B,A[2-9],D[1-2],C[1],K,E,F,G,H,I,J,A[3],D[0],B[1-1],A,A[4]",
+        MANY,
+        &[
+            3, 1, 6, 5, 17, 8, 9, 11, 12, 13, 14, 15, 16, 17, 7, 6, 0, 3, 5, 17,
+        ],
+    ),
+    (
+        b"A[1],B,A[2-9],D[1-2],C[1],K,E,F,G,H,I,J,A[3],D[0],B[1-1],P,Q,R,S,T,U,V,W,X,Y,Z,P[1],Q[2],A[9],D[4-7],B[2],C[3],A,A[4]",
+        MANY,
+        &[
+            3, 1, 6, 5, 17, 8, 9, 11, 12, 13, 14, 15, 16, 17, 7, 6, 0, 3, 5, 17,
+        ],
+    ),
+];
 
-/// The element of a line of a record.
-fn element(line: &str) -> Element {
-    let raw = line.as_bytes();
-    let kind = match raw.first() {
-        Some(b'#') => Kind::Comment,
-        _ => Kind::Field,
-    };
-    Element { kind, at: 0, raw }
+/// A record of many fields.
+const MANY: &[u8] = b"A: 0
+B: 1
+# A: 2
+A: 3
+C: 4
+A: 5
+B: 6
+D: 7
+D: 8
+D: 9
+D: 10
+E: 11
+F: 12
+G: 13
+H: 14
+I: 15
+J: 16
+A: 17
+";
+
+/// The places of the elements that a list picks.
+fn picked(alloc: Global, list: &[u8], text: &[u8]) -> Result<Vec<usize>, Fault> {
+    let database = read(alloc, text)?;
+    FieldList::parse(alloc, list)?.picks(alloc, database.elements())
 }
 
-/// The elements of a cell; none where it is empty.
-fn elements(alloc: Global, record: &str) -> Result<Vec<Element<'_>>, Fault> {
-    let mut elements = Vec::new(alloc);
-    for line in record.split_terminator(", ") {
-        elements.push(element(line))?;
-    }
-    Ok(elements)
-}
-
-/// Whether a list picks elements at these places.
-fn picks(alloc: Global, list: &str, record: &str, wanted: &str) -> Result<bool, Fault> {
-    let fields = elements(alloc, record)?;
-    let list = FieldList::parse(alloc, list.as_bytes())?;
-    let places = list.picks(alloc, &fields)?;
-    let shown = format!(in alloc; "{places:?}")?;
-    Ok(shown.as_str() == wanted)
+fn check_picks(
+    alloc: Global,
+    log: &mut Log,
+    list: &[u8],
+    text: &[u8],
+    wanted: &[usize],
+) -> Result<(), Fault> {
+    let places = picked(alloc, list, text)?;
+    log.at_bytes(list);
+    log.holds("the places", places.as_slice() == wanted);
+    Ok(())
 }
 
 fn lists_pick_their_occurrences(alloc: Global, log: &mut Log) -> Result<(), Fault> {
-    for row in PICKS.lines() {
-        if let Some((list, rest)) = cells(row) {
-            let (record, wanted) = split_cell(rest);
-            log.at(row);
-            log.holds("the places", picks(alloc, list, record, wanted)?);
-        }
+    for (list, text, places) in &PICKS {
+        check_picks(alloc, log, list, text, places)?;
     }
     Ok(())
 }

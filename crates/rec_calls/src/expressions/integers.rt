@@ -1,6 +1,5 @@
 //! Readings of texts, with expected integers written by hand.
 use crate::log::Log;
-use crate::rows::split_cell;
 use rec_sex::{int_of, trimmed};
 use rec_text::Fault;
 use std::alloc::Global;
@@ -12,44 +11,44 @@ pub fn run(alloc: Global, log: &mut Log) {
         a_newline_is_no_blank);
 }
 
-/// A text, and its integer, or that it has none.
-const INTEGERS: &str = "0 ; 0
--0 ; 0
-7 ; 7
--12 ; -12
-017 ; 15
--017 ; -15
-00 ; 0
-0x1F ; 31
-0Xff ; 255
- -0x10  ; -16
-\t 5\t ; 5
-0x7fffffffffffffff ; 9223372036854775807
-9223372036854775807 ; 9223372036854775807
--9223372036854775808 ; -9223372036854775808
--0x8000000000000000 ; -9223372036854775808
- ; none
-  ; none
-- ; none
---1 ; none
-- 1 ; none
-+1 ; none
-1 2 ; none
-08 ; none
-0x ; none
-0xg ; none
-1_0 ; none
-1a ; none
-9223372036854775808 ; none
--9223372036854775809 ; none
-99999999999999999999999 ; none";
+/// A text, and its integer, if it has one.
+const INTEGERS: [(&[u8], Option<i64>); 30] = [
+    (b"0", Some(0)),
+    (b"-0", Some(0)),
+    (b"7", Some(7)),
+    (b"-12", Some(-12)),
+    (b"017", Some(15)),
+    (b"-017", Some(-15)),
+    (b"00", Some(0)),
+    (b"0x1F", Some(31)),
+    (b"0Xff", Some(255)),
+    (b" -0x10 ", Some(-16)),
+    (b"\t 5\t", Some(5)),
+    (b"0x7fffffffffffffff", Some(i64::MAX)),
+    (b"9223372036854775807", Some(i64::MAX)),
+    (b"-9223372036854775808", Some(i64::MIN)),
+    (b"-0x8000000000000000", Some(i64::MIN)),
+    (b"", None),
+    (b" ", None),
+    (b"-", None),
+    (b"--1", None),
+    (b"- 1", None),
+    (b"+1", None),
+    (b"1 2", None),
+    (b"08", None),
+    (b"0x", None),
+    (b"0xg", None),
+    (b"1_0", None),
+    (b"1a", None),
+    (b"9223372036854775808", None),
+    (b"-9223372036854775809", None),
+    (b"99999999999999999999999", None),
+];
 
 fn texts_read_as_integers_of_64_bits(_: Global, log: &mut Log) -> Result<(), Fault> {
-    for row in INTEGERS.lines() {
-        log.at(row);
-        let (text, integer) = split_cell(row);
-        let wanted = integer.parse::<i64>().ok();
-        log.holds("the integer", int_of(text.as_bytes()) == wanted);
+    for (text, wanted) in &INTEGERS {
+        log.at_bytes(text);
+        log.holds("the integer", int_of(text) == *wanted);
     }
     Ok(())
 }

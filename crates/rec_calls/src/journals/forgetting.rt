@@ -1,270 +1,40 @@
-//! Journals in which fewer edits are left, written by hand. The digests are those that `sha256sum` prints.
-ghost use Rattle.std.specs.Prelude.{◌<◌, Ok, IfOk, length};
+//! Journals in which fewer edits are left. What is left is written by hand, event by event.
+ghost use Rattle.std.specs.Prelude.{◌<◌, Ok, length};
 ghost use Rattle.rec_journal.specs.History.{IsOpening};
 
+use crate::journals::histories::JOURNAL;
+use crate::journals::loaded;
+use crate::journals::spelling::Event::{Batch, Edit, Undo};
+use crate::journals::spelling::{Event, spelled};
 use crate::log::Log;
-use rec_journal::{Hashed, History, plan_forget};
+use rec_journal::{History, plan_forget};
 use rec_text::{Bytes, Fault};
 use std::alloc::Global;
 
 pub fn run(alloc: Global, log: &mut Log) {
     cases!(alloc, log:
+        events_are_spelled_as_by_hand,
         forgetting_leaves_the_newest_edits,
         forgetting_leaves_batches_whole,
         growth_of_plan_forget);
 }
 
-/// The file `A: 1` becomes `A: 2`, `A: 3` and `A: 4`, and the last two edits are undone. The events end at 259, 461,
-/// 663, 836 and 1009, and the header is that of format 1.
-const JOURNAL: &[u8] = b"%rec: RecEdit
-%doc: recu journal, format 1
-%key: Number
+/// The events of the journal that `histories` has.
+const HISTORY: [Event; 5] = [
+    Edit("recset", 1, 2),
+    Edit("recset", 2, 3),
+    Undo(2, 3, 2),
+    Undo(1, 2, 1),
+    Edit("recset", 1, 4),
+];
 
-Number: 1
-Kind: edit
-Tool: recset
-Before: 5acda61f5715d902137ff5c2345eca1bb251832e12f11a66a0e87ef80ce41d1f
-After: 2d7190d2283e424a4c4d9cde82d7447df275dc40a782e916de7f27ee5e336eff
-At: 3
-Old: 1$
-New: 2$
-
-Number: 2
-Kind: edit
-Tool: recset
-Before: 2d7190d2283e424a4c4d9cde82d7447df275dc40a782e916de7f27ee5e336eff
-After: bc53908119c7aaf7761c42d9626c561d560240ceb8f06efddb2c0eedb9b1c09c
-At: 3
-Old: 2$
-New: 3$
-
-Number: 3
-Kind: edit
-Tool: recset
-Before: bc53908119c7aaf7761c42d9626c561d560240ceb8f06efddb2c0eedb9b1c09c
-After: 669e7fba82ffbc373d3a8b9f69ca1d244f3be4d60aa0d0f13b3a6d8785b7eaa2
-At: 3
-Old: 3$
-New: 4$
-
-Number: 4
-Kind: undo
-Of: 3
-Before: 669e7fba82ffbc373d3a8b9f69ca1d244f3be4d60aa0d0f13b3a6d8785b7eaa2
-After: bc53908119c7aaf7761c42d9626c561d560240ceb8f06efddb2c0eedb9b1c09c
-
-Number: 5
-Kind: undo
-Of: 2
-Before: bc53908119c7aaf7761c42d9626c561d560240ceb8f06efddb2c0eedb9b1c09c
-After: 2d7190d2283e424a4c4d9cde82d7447df275dc40a782e916de7f27ee5e336eff
-
-";
-
-/// The newest edit of the first three, with no undo.
-const NEWEST: &[u8] = b"%rec: RecEdit
-%doc: recu journal, format 2
-%key: Number
-
-Number: 1
-Kind: edit
-Tool: recset
-Before: bc53908119c7aaf7761c42d9626c561d560240ceb8f06efddb2c0eedb9b1c09c
-After: 669e7fba82ffbc373d3a8b9f69ca1d244f3be4d60aa0d0f13b3a6d8785b7eaa2
-At: 3
-Old: 3$
-New: 4$
-
-";
-
-/// The header alone.
-const HEADER: &[u8] = b"%rec: RecEdit
-%doc: recu journal, format 2
-%key: Number
-
-";
-
-/// One edit that can be undone is left, and the one that can be made again.
-const ONE_LEFT: &[u8] = b"%rec: RecEdit
-%doc: recu journal, format 2
-%key: Number
-
-Number: 1
-Kind: edit
-Tool: recset
-Before: 2d7190d2283e424a4c4d9cde82d7447df275dc40a782e916de7f27ee5e336eff
-After: bc53908119c7aaf7761c42d9626c561d560240ceb8f06efddb2c0eedb9b1c09c
-At: 3
-Old: 2$
-New: 3$
-
-Number: 2
-Kind: edit
-Tool: recset
-Before: bc53908119c7aaf7761c42d9626c561d560240ceb8f06efddb2c0eedb9b1c09c
-After: 669e7fba82ffbc373d3a8b9f69ca1d244f3be4d60aa0d0f13b3a6d8785b7eaa2
-At: 3
-Old: 3$
-New: 4$
-
-Number: 3
-Kind: undo
-Of: 2
-Before: 669e7fba82ffbc373d3a8b9f69ca1d244f3be4d60aa0d0f13b3a6d8785b7eaa2
-After: bc53908119c7aaf7761c42d9626c561d560240ceb8f06efddb2c0eedb9b1c09c
-
-";
-
-/// None is left that can be undone.
-const NONE_LEFT: &[u8] = b"%rec: RecEdit
-%doc: recu journal, format 2
-%key: Number
-
-Number: 1
-Kind: edit
-Tool: recset
-Before: bc53908119c7aaf7761c42d9626c561d560240ceb8f06efddb2c0eedb9b1c09c
-After: 669e7fba82ffbc373d3a8b9f69ca1d244f3be4d60aa0d0f13b3a6d8785b7eaa2
-At: 3
-Old: 3$
-New: 4$
-
-Number: 2
-Kind: undo
-Of: 1
-Before: 669e7fba82ffbc373d3a8b9f69ca1d244f3be4d60aa0d0f13b3a6d8785b7eaa2
-After: bc53908119c7aaf7761c42d9626c561d560240ceb8f06efddb2c0eedb9b1c09c
-
-";
-
-/// Nor is one here, where two can be made again.
-const BOTH_UNDONE: &[u8] = b"%rec: RecEdit
-%doc: recu journal, format 2
-%key: Number
-
-Number: 1
-Kind: edit
-Tool: recset
-Before: 2d7190d2283e424a4c4d9cde82d7447df275dc40a782e916de7f27ee5e336eff
-After: bc53908119c7aaf7761c42d9626c561d560240ceb8f06efddb2c0eedb9b1c09c
-At: 3
-Old: 2$
-New: 3$
-
-Number: 2
-Kind: edit
-Tool: recset
-Before: bc53908119c7aaf7761c42d9626c561d560240ceb8f06efddb2c0eedb9b1c09c
-After: 669e7fba82ffbc373d3a8b9f69ca1d244f3be4d60aa0d0f13b3a6d8785b7eaa2
-At: 3
-Old: 3$
-New: 4$
-
-Number: 3
-Kind: undo
-Of: 2
-Before: 669e7fba82ffbc373d3a8b9f69ca1d244f3be4d60aa0d0f13b3a6d8785b7eaa2
-After: bc53908119c7aaf7761c42d9626c561d560240ceb8f06efddb2c0eedb9b1c09c
-
-Number: 4
-Kind: undo
-Of: 1
-Before: bc53908119c7aaf7761c42d9626c561d560240ceb8f06efddb2c0eedb9b1c09c
-After: 2d7190d2283e424a4c4d9cde82d7447df275dc40a782e916de7f27ee5e336eff
-
-";
-
-/// A batch, an edit, and a batch that is undone.
-const BATCHES: &[u8] = b"%rec: RecEdit
-%doc: recu journal, format 2
-%key: Number
-
-Number: 1
-Kind: batch
-Before: 5acda61f5715d902137ff5c2345eca1bb251832e12f11a66a0e87ef80ce41d1f
-After: bc53908119c7aaf7761c42d9626c561d560240ceb8f06efddb2c0eedb9b1c09c
-Step: recset
-At: 3
-Old: 1$
-New: 2$
-Step: recfix
-At: 3
-Old: 2$
-New: 3$
-
-Number: 2
-Kind: edit
-Tool: recdel
-Before: bc53908119c7aaf7761c42d9626c561d560240ceb8f06efddb2c0eedb9b1c09c
-After: 669e7fba82ffbc373d3a8b9f69ca1d244f3be4d60aa0d0f13b3a6d8785b7eaa2
-At: 3
-Old: 3$
-New: 4$
-
-Number: 3
-Kind: batch
-Before: 669e7fba82ffbc373d3a8b9f69ca1d244f3be4d60aa0d0f13b3a6d8785b7eaa2
-After: 031ebea8a6f956586c0c2765bf895e90ce316c4efeb40ae22819292dd36f754f
-Step: recset
-At: 3
-Old: 4$
-New: 5$
-Step: recins
-At: 3
-Old: 5$
-New: 6$
-
-Number: 4
-Kind: undo
-Of: 3
-Before: 031ebea8a6f956586c0c2765bf895e90ce316c4efeb40ae22819292dd36f754f
-After: 669e7fba82ffbc373d3a8b9f69ca1d244f3be4d60aa0d0f13b3a6d8785b7eaa2
-
-";
-
-/// The first batch is forgotten.
-const BATCH_LEFT: &[u8] = b"%rec: RecEdit
-%doc: recu journal, format 2
-%key: Number
-
-Number: 1
-Kind: edit
-Tool: recdel
-Before: bc53908119c7aaf7761c42d9626c561d560240ceb8f06efddb2c0eedb9b1c09c
-After: 669e7fba82ffbc373d3a8b9f69ca1d244f3be4d60aa0d0f13b3a6d8785b7eaa2
-At: 3
-Old: 3$
-New: 4$
-
-Number: 2
-Kind: batch
-Before: 669e7fba82ffbc373d3a8b9f69ca1d244f3be4d60aa0d0f13b3a6d8785b7eaa2
-After: 031ebea8a6f956586c0c2765bf895e90ce316c4efeb40ae22819292dd36f754f
-Step: recset
-At: 3
-Old: 4$
-New: 5$
-Step: recins
-At: 3
-Old: 5$
-New: 6$
-
-Number: 3
-Kind: undo
-Of: 2
-Before: 031ebea8a6f956586c0c2765bf895e90ce316c4efeb40ae22819292dd36f754f
-After: 669e7fba82ffbc373d3a8b9f69ca1d244f3be4d60aa0d0f13b3a6d8785b7eaa2
-
-";
-
-/// The history of a file, which is hashed first.
-fn loaded(alloc: Global, file: &[u8], journal: &[u8]) -> Result<History, Fault>
-    ensures { IfOk result (λ history. IsOpening file.now journal.now (Ok history)) }
-{
-    History::load(alloc, &Hashed::of(alloc, file)?, journal)
+fn events_are_spelled_as_by_hand(alloc: Global, log: &mut Log) -> Result<(), Fault> {
+    let journal = spelled(alloc, 2, &HISTORY)?;
+    log.same("the journal", journal.as_bytes(), JOURNAL);
+    Ok(())
 }
 
-/// The journal in which n edits that can be undone are left, of a file and journal with more of them.
+/// The journal that is left, where n edits that can be undone are left of more.
 fn left(alloc: Global, file: &[u8], journal: &[u8], n: usize) -> Result<Bytes, Fault> {
     let history = loaded(alloc, file, journal)?;
     if history.undos() <= n {
@@ -273,30 +43,83 @@ fn left(alloc: Global, file: &[u8], journal: &[u8], n: usize) -> Result<Bytes, F
     plan_forget(alloc, &history, file, journal, n)
 }
 
-/// The first bytes of the journal.
-fn front(len: usize) -> &'static [u8] {
-    JOURNAL.get(..len).unwrap_or(b"")
+/// These events are left of a journal.
+fn check_left(
+    alloc: Global,
+    log: &mut Log,
+    file: &[u8],
+    journal: &[u8],
+    n: usize,
+    events: &[Event],
+) -> Result<(), Fault> {
+    let wanted = spelled(alloc, 2, events)?;
+    let found = left(alloc, file, journal, n)?;
+    log.same("the journal", found.as_slice(), wanted.as_bytes());
+    Ok(())
 }
 
+/// Three edits, of which the last two are undone.
+const EDITS: [Event; 5] = [
+    Edit("recset", 1, 2),
+    Edit("recset", 2, 3),
+    Edit("recset", 3, 4),
+    Undo(3, 4, 3),
+    Undo(2, 3, 2),
+];
+
+/// How many of the edits' events there are, the file after them, how many edits that can be undone are left, and the events that
+/// are left.
+const LEFT: [(usize, &[u8], usize, &[Event]); 5] = [
+    (3, b"A: 4\n", 1, &[Edit("recset", 3, 4)]),
+    (
+        4,
+        b"A: 3\n",
+        1,
+        &[Edit("recset", 2, 3), Edit("recset", 3, 4), Undo(2, 4, 3)],
+    ),
+    (4, b"A: 3\n", 0, &[Edit("recset", 3, 4), Undo(1, 4, 3)]),
+    (
+        5,
+        b"A: 2\n",
+        0,
+        &[
+            Edit("recset", 2, 3),
+            Edit("recset", 3, 4),
+            Undo(2, 4, 3),
+            Undo(1, 3, 2),
+        ],
+    ),
+    (1, b"A: 2\n", 0, &[]),
+];
+
+/// The journal of the first edits is one of format 1, and what is left is one of format 2.
 fn forgetting_leaves_the_newest_edits(alloc: Global, log: &mut Log) -> Result<(), Fault> {
-    for (file, len, n, wanted) in [
-        (b"A: 4\n", 663, 1, NEWEST),
-        (b"A: 3\n", 836, 1, ONE_LEFT),
-        (b"A: 3\n", 836, 0, NONE_LEFT),
-        (b"A: 2\n", 1009, 0, BOTH_UNDONE),
-        (b"A: 2\n", 259, 0, HEADER),
-    ] {
-        let journal = left(alloc, file, front(len), n)?;
-        log.at_number(len);
-        log.same("the journal", journal.as_slice(), wanted);
+    for (len, file, n, events) in &LEFT {
+        let journal = spelled(alloc, 1, EDITS.get(..*len).unwrap_or(&[]))?;
+        log.at_number(*len);
+        check_left(alloc, log, file, journal.as_bytes(), *n, events)?;
     }
     Ok(())
 }
 
+/// A batch, an edit, and a batch that is undone.
+const BATCHES: [Event; 4] = [
+    Batch("recset", "recfix", 1),
+    Edit("recdel", 3, 4),
+    Batch("recset", "recins", 4),
+    Undo(3, 6, 4),
+];
+
+/// The first batch is forgotten.
+const BATCH_LEFT: [Event; 3] = [
+    Edit("recdel", 3, 4),
+    Batch("recset", "recins", 4),
+    Undo(2, 6, 4),
+];
+
 fn forgetting_leaves_batches_whole(alloc: Global, log: &mut Log) -> Result<(), Fault> {
-    let journal = left(alloc, b"A: 4\n", BATCHES, 1)?;
-    log.same("the journal", journal.as_slice(), BATCH_LEFT);
-    Ok(())
+    let journal = spelled(alloc, 2, &BATCHES)?;
+    check_left(alloc, log, b"A: 4\n", journal.as_bytes(), 1, &BATCH_LEFT)
 }
 
 fn forget_again(
@@ -315,14 +138,24 @@ fn forget_again(
     }
 }
 
-fn growth_of_plan_forget(alloc: Global, log: &mut Log) -> Result<(), Fault> {
-    let Ok(history) = loaded(alloc, b"A: 4\n", BATCHES) else {
+fn check_forget(alloc: Global, log: &mut Log, journal: &[u8], wanted: &[u8]) -> Result<(), Fault> {
+    let Ok(history) = loaded(alloc, b"A: 4\n", journal) else {
         return Ok(());
     };
     if history.undos() <= 1 {
         return Ok(log.holds("two edits to undo", false));
     }
-    let journal = forget_again(alloc, &history, b"A: 4\n", BATCHES, 1)?;
-    log.same("the journal", journal.as_slice(), BATCH_LEFT);
+    let found = forget_again(alloc, &history, b"A: 4\n", journal, 1)?;
+    log.same("the journal", found.as_slice(), wanted);
     Ok(())
+}
+
+fn growth_of_plan_forget(alloc: Global, log: &mut Log) -> Result<(), Fault> {
+    let Ok(journal) = spelled(alloc, 2, &BATCHES) else {
+        return Ok(());
+    };
+    match spelled(alloc, 2, &BATCH_LEFT) {
+        Ok(wanted) => check_forget(alloc, log, journal.as_bytes(), wanted.as_bytes()),
+        Err(_) => Ok(()),
+    }
 }

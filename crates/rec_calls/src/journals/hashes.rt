@@ -1,9 +1,10 @@
 //! Edits of a text that is long enough for marks, which lie 65,536 bytes apart in it. The digests are those that
 //! `sha256sum` prints.
-ghost use Rattle.std.specs.Prelude.{◌≢◌, [], IfOk};
+ghost use Rattle.std.specs.Prelude.{◌≢◌, []};
 
+use crate::journals::patches::patch_at;
 use crate::log::Log;
-use rec_journal::{Hashed, History, Hunk, Patch, Tool, plan_edit};
+use rec_journal::{Hashed, History, Patch, Tool, plan_edit};
 use rec_text::{Bytes, Fault};
 use std::alloc::{AllocError, Global};
 
@@ -20,22 +21,6 @@ fn long_text(alloc: Global) -> Result<Vec<u8>, AllocError> {
         text.extend_from_slice(b"A: 1\n")?;
     }
     Ok(text)
-}
-
-/// The patch that replaces an old text by a new one.
-fn patch_at(alloc: Global, at: usize, old: &[u8], new: &[u8]) -> Result<Patch, Fault>
-    ensures { IfOk result (λ patch. patch ≢ []) }
-{
-    let mut hunks = Vec::new(alloc);
-    hunks.push(Hunk {
-        at,
-        old: Bytes::copy_of(alloc, old)?,
-        new: Bytes::copy_of(alloc, new)?,
-    })?;
-    match Patch::new(hunks) {
-        Some(patch) => Ok(patch),
-        None => Err(Fault::BadUsage),
-    }
 }
 
 /// The journal of an edit by a patch.

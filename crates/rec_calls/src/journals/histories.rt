@@ -1,14 +1,13 @@
 //! Histories and plans of a journal that was written by hand. `crates/rec_rows/data/journals.rec` has what an undo answers
 //! of other journals.
-ghost use Rattle.std.specs.Prelude.{◌≡◌, ◌≢◌, [], Ok, IfOk, false};
-ghost use Rattle.rec_journal.specs.History.{IsOpening};
+ghost use Rattle.std.specs.Prelude.{◌≡◌, false};
 ghost use Rattle.rec_journal.specs.Revisions.{is_batch};
 
+use crate::journals::loaded;
+use crate::journals::patches::patch_at;
 use crate::log::Log;
-use rec_journal::{
-    Direction, Hashed, History, Hunk, Patch, Plan, Step, Tool, plan_edit, plan_redo, plan_undo,
-};
-use rec_text::{Bytes, Fault};
+use rec_journal::{Direction, Hashed, History, Plan, Step, Tool, plan_edit, plan_redo, plan_undo};
+use rec_text::Fault;
 use std::alloc::Global;
 
 pub fn run(alloc: Global, log: &mut Log) {
@@ -25,7 +24,7 @@ pub fn run(alloc: Global, log: &mut Log) {
 
 /// The file `A: 1` becomes `A: 2` and `A: 3`, both edits are undone, and then it becomes `A: 4`. The header has 57 bytes,
 /// and the events end at 259, 461, 634, 807 and 1009. The digests are those that `sha256sum` prints.
-const JOURNAL: &[u8] = b"%rec: RecEdit
+pub const JOURNAL: &[u8] = b"%rec: RecEdit
 %doc: recu journal, format 2
 %key: Number
 
@@ -71,19 +70,12 @@ New: 4$
 ";
 
 /// The first bytes of the journal.
-fn front(len: usize) -> &'static [u8] {
+fn prefix(len: usize) -> &'static [u8] {
     JOURNAL.get(..len).unwrap_or(b"")
 }
 
 fn file_of(digit: u8) -> [u8; 5] {
     [b'A', b':', b' ', digit, b'\n']
-}
-
-/// The history of a file, which is hashed first.
-fn loaded(alloc: Global, file: &[u8], journal: &[u8]) -> Result<History, Fault>
-    ensures { IfOk result (λ history. IsOpening file.now journal.now (Ok history)) }
-{
-    History::load(alloc, &Hashed::of(alloc, file)?, journal)
 }
 
 /// The edits to undo, those to redo, how much of the journal counts, and whether the file was changed outside.
@@ -126,7 +118,7 @@ fn check_told(
     len: usize,
     wanted: &str,
 ) -> Result<(), Fault> {
-    let told = told(alloc, &file_of(digit), front(len))?;
+    let told = told(alloc, &file_of(digit), prefix(len))?;
     log.at_number(len);
     log.same("the history", told.as_str().as_bytes(), wanted.as_bytes());
     Ok(())
@@ -166,7 +158,7 @@ fn edits_are_next_to_the_text(alloc: Global, log: &mut Log) -> Result<(), Fault>
         (b'1', 807, None, Some(1)),
         (b'4', 1009, Some(5), None),
     ] {
-        let history = loaded(alloc, &file_of(digit), front(len))?;
+        let history = loaded(alloc, &file_of(digit), prefix(len))?;
         let before = history.nearest_number(Direction::Backward);
         let after = history.nearest_number(Direction::Forward);
         log.at_number(len);
@@ -176,23 +168,7 @@ fn edits_are_next_to_the_text(alloc: Global, log: &mut Log) -> Result<(), Fault>
     Ok(())
 }
 
-/// Replaces the fourth byte.
-fn patch_to(alloc: Global, old: u8, new: u8) -> Result<Patch, Fault>
-    ensures { IfOk result (λ patch. patch ≢ []) }
-{
-    let mut hunks = Vec::new(alloc);
-    hunks.push(Hunk {
-        at: 3,
-        old: Bytes::copy_of(alloc, &[old])?,
-        new: Bytes::copy_of(alloc, &[new])?,
-    })?;
-    match Patch::new(hunks) {
-        Some(patch) => Ok(patch),
-        None => Err(Fault::BadUsage),
-    }
-}
-
-/// The plan of the edit that replaces one byte by another.
+/// The plan of the edit that replaces the fourth byte by another.
 fn planned(
     alloc: Global,
     file: &[u8],
@@ -205,7 +181,7 @@ fn planned(
 {
     let hashed = Hashed::of(alloc, file)?;
     let history = History::load(alloc, &hashed, journal)?;
-    let patch = patch_to(alloc, old, new)?;
+    let patch = patch_at(alloc, 3, &[old], &[new])?;
     let text = patch.apply(alloc, file)?;
     plan_edit(alloc, &history, &hashed, journal, tool, &patch, text)
 }
@@ -214,7 +190,7 @@ fn planned(
 fn check_plan(log: &mut Log, plan: &Plan, digit: u8, len: usize) {
     log.at_number(len);
     log.same("the file", plan.file.as_slice(), &file_of(digit));
-    log.same("the journal", plan.journal.as_slice(), front(len));
+    log.same("the journal", plan.journal.as_slice(), prefix(len));
 }
 
 fn edits_are_planned(alloc: Global, log: &mut Log) -> Result<(), Fault> {
@@ -223,33 +199,32 @@ fn edits_are_planned(alloc: Global, log: &mut Log) -> Result<(), Fault> {
         (b'2', 259, b'3', 461),
         (b'1', 807, b'4', 1009),
     ] {
-        let plan = planned(alloc, &file_of(old), front(len), Tool::RecSet, old, new)?;
+        let plan = planned(alloc, &file_of(old), prefix(len), Tool::RecSet, old, new)?;
         check_plan(log, &plan, new, end);
     }
     Ok(())
 }
 
-fn undone(alloc: Global, file: &[u8], journal: &[u8]) -> Result<Plan, Fault> {
+/// The plan of an undo or a redo.
+fn moved(alloc: Global, way: Direction, file: &[u8], journal: &[u8]) -> Result<Plan, Fault> {
     let history = loaded(alloc, file, journal)?;
-    plan_undo(alloc, &history, file, journal)
+    match way {
+        Direction::Backward => plan_undo(alloc, &history, file, journal),
+        Direction::Forward => plan_redo(alloc, &history, file, journal),
+    }
 }
 
 fn undo_brings_back_the_old_text(alloc: Global, log: &mut Log) -> Result<(), Fault> {
     for (digit, len, old, end) in [(b'3', 461, b'2', 634), (b'2', 634, b'1', 807)] {
-        let plan = undone(alloc, &file_of(digit), front(len))?;
+        let plan = moved(alloc, Direction::Backward, &file_of(digit), prefix(len))?;
         check_plan(log, &plan, old, end);
     }
     Ok(())
 }
 
-fn redone(alloc: Global, file: &[u8], journal: &[u8]) -> Result<Plan, Fault> {
-    let history = loaded(alloc, file, journal)?;
-    plan_redo(alloc, &history, file, journal)
-}
-
 fn redo_brings_back_the_nearest(alloc: Global, log: &mut Log) -> Result<(), Fault> {
     for (digit, len, new) in [(b'2', 634, b'3'), (b'1', 807, b'2')] {
-        let plan = redone(alloc, &file_of(digit), front(len))?;
+        let plan = moved(alloc, Direction::Forward, &file_of(digit), prefix(len))?;
         log.at_number(len);
         log.same("the file", plan.file.as_slice(), &file_of(new));
     }
@@ -270,7 +245,7 @@ fn steps_go_from_the_oldest_to_the_farthest(alloc: Global, log: &mut Log) -> Res
         (b'2', 634, true, false),
         (b'1', 807, false, false),
     ] {
-        let history = loaded(alloc, &file_of(digit), front(len))?;
+        let history = loaded(alloc, &file_of(digit), prefix(len))?;
         let mut steps = history.steps();
         log.at_number(len);
         log.holds("the first step", is_step(steps.next(), 1, first));
@@ -282,7 +257,7 @@ fn steps_go_from_the_oldest_to_the_farthest(alloc: Global, log: &mut Log) -> Res
 
 /// Whether a journal is that of the first edit, by another tool.
 fn is_edit_by(journal: &[u8], tool: &str) -> bool {
-    match journal.strip_prefix(front(84)) {
+    match journal.strip_prefix(prefix(84)) {
         Some(rest) => rest.strip_prefix(tool.as_bytes()) == JOURNAL.get(90..259),
         None => false,
     }

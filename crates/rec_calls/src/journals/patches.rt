@@ -1,64 +1,62 @@
-//! Patches on small texts, with expected texts written by hand. In a table a newline is written `|`.
+//! Patches on small texts, with expected texts written by hand.
+ghost use Rattle.std.specs.Prelude.{◌≢◌, [], IfOk};
+
 use crate::log::Log;
-use crate::rows::{cells, split_cell, text_in};
-use rec_journal::{Hunk, Patch};
+use rec_journal::{Direction, Hunk, Patch};
 use rec_text::{Bytes, Fault};
 use std::alloc::{AllocError, Global};
 
 pub fn run(alloc: Global, log: &mut Log) {
     cases!(alloc, log:
         hunks_of_a_patch_are_apart_and_change_something,
-        patches_lead_to_texts_and_back);
+        patches_lead_to_texts_and_back,
+        patches_that_do_not_fit_lead_nowhere);
 }
 
-/// Hunks, each its place, its old text, `>` and its new text; and how many the patch has, if they are those of one.
-const PATCHES: &str = "// Apart, touching, out of order, and one that changes nothing.
-0 ab>, 3 c> ; 2
-0 ab>, 2 c> ; none
-3 ab>, 0 c> ; none
-0 ab>ab ; none
-// No hunks.
- ; 0";
+/// The place of a hunk, its old text and its new one.
+type Row = (usize, &'static [u8], &'static [u8]);
 
-/// A way, hunks, the text on which they are tried, and the text to which they lead.
-const STEPS: &str = "// Two deletions are taken back.
-apply ; 0 A: 1||>, 12 C: 3|> ; A: 1||B: 2||C: 3| ; B: 2||
-unapply ; 0 A: 1||>, 12 C: 3|> ; B: 2|| ; A: 1||B: 2||C: 3|
-apply ; 0 A: 1||>, 12 C: 3|> ; B: 2|| ; drifted
-// An insertion shifts the hunk after it.
-apply ; 1 >xyz, 3 d>D ; abcde ; axyzbcDe
-unapply ; 1 >xyz, 3 d>D ; axyzbcDe ; abcde
-unapply ; 1 >xyz, 3 d>D ; axyzbcde ; drifted
-// A place past every text.
-apply ; 18446744073709551615 ab>c ;  ; drifted
-apply ; 18446744073709551615 ab>c ; ab ; drifted
-unapply ; 18446744073709551615 ab>c ; c ; drifted
-apply ; 0 a>, 18446744073709551615 >c ; a ; drifted";
-
-fn bytes_in(alloc: Global, text: &str) -> Result<Bytes, AllocError> {
-    Ok(Bytes::from_vec(text_in(alloc, text)?))
-}
-
-fn hunk_in(alloc: Global, cell: &str) -> Result<Hunk, AllocError> {
-    let (at, change) = cell.split_once(' ').unwrap_or((cell, ""));
-    let (old, new) = change.split_once('>').unwrap_or((change, ""));
-    let old = bytes_in(alloc, old)?;
-    let new = bytes_in(alloc, new)?;
-    let at = at.parse::<usize>().unwrap_or(0);
+fn hunk(alloc: Global, at: usize, old: &[u8], new: &[u8]) -> Result<Hunk, AllocError> {
+    let old = Bytes::copy_of(alloc, old)?;
+    let new = Bytes::copy_of(alloc, new)?;
     Ok(Hunk { at, old, new })
 }
 
-fn hunks_in(alloc: Global, cell: &str) -> Result<Vec<Hunk>, AllocError> {
+/// The patch that replaces an old text by a new one.
+pub fn patch_at(alloc: Global, at: usize, old: &[u8], new: &[u8]) -> Result<Patch, Fault>
+    ensures { IfOk result (λ patch. patch ≢ []) }
+{
     let mut hunks = Vec::new(alloc);
-    for part in cell.split_terminator(", ") {
-        hunks.push(hunk_in(alloc, part)?)?;
+    hunks.push(hunk(alloc, at, old, new)?)?;
+    match Patch::new(hunks) {
+        Some(patch) => Ok(patch),
+        None => Err(Fault::BadUsage),
     }
-    Ok(hunks)
 }
 
+/// The patch of these hunks, if they are those of one.
+fn patch_of(alloc: Global, rows: &[Row]) -> Result<Option<Patch>, AllocError> {
+    let mut hunks = Vec::new(alloc);
+    for (at, old, new) in rows {
+        hunks.push(hunk(alloc, *at, old, new)?)?;
+    }
+    Ok(Patch::new(hunks))
+}
+
+/// Hunks, and how many the patch has, if they are those of one.
+const PATCHES: [(&[Row], Option<usize>); 5] = [
+    // Apart, touching, out of order, and one that changes nothing.
+    (&[(0, b"ab", b""), (3, b"c", b"")], Some(2)),
+    (&[(0, b"ab", b""), (2, b"c", b"")], None),
+    (&[(3, b"ab", b""), (0, b"c", b"")], None),
+    (&[(0, b"ab", b"ab")], None),
+    // No hunks.
+    (&[], Some(0)),
+];
+
 /// The number of a patch's hunks.
-fn count(alloc: Global, cell: &str) -> Result<Option<usize>, AllocError> {
-    match Patch::new(hunks_in(alloc, cell)?) {
+fn count(alloc: Global, rows: &[Row]) -> Result<Option<usize>, AllocError> {
+    match patch_of(alloc, rows)? {
         Some(patch) => Ok(Some(patch.hunks().len())),
         None => Ok(None),
     }
@@ -68,44 +66,92 @@ fn hunks_of_a_patch_are_apart_and_change_something(
     alloc: Global,
     log: &mut Log,
 ) -> Result<(), Fault> {
-    for row in PATCHES.lines() {
-        if let Some((hunks, wanted)) = cells(row) {
-            let found = count(alloc, hunks)?;
-            log.at(row);
-            log.holds("the number of hunks", found == wanted.parse::<usize>().ok());
-        }
+    for (place, (rows, wanted)) in PATCHES.iter().enumerate() {
+        let found = count(alloc, rows)?;
+        log.at_number(place);
+        log.holds("the number of hunks", found == *wanted);
     }
     Ok(())
 }
 
-/// The text to which a patch leads that way.
-fn led(alloc: Global, way: &str, patch: &Patch, text: &str) -> Result<Bytes, Fault> {
-    let text = text_in(alloc, text)?;
-    match way {
-        "apply" => patch.apply(alloc, &text),
-        _ => patch.unapply(alloc, &text),
-    }
-}
+/// Two deletions.
+const DELETIONS: &[Row] = &[(0, b"A: 1\n\n", b""), (12, b"C: 3\n", b"")];
 
-/// Whether hunks lead so from a text; where that is `drifted`, to none.
-fn is_led(alloc: Global, way: &str, hunks: &str, text: &str, wanted: &str) -> Result<bool, Fault> {
-    let Some(patch) = Patch::new(hunks_in(alloc, hunks)?) else {
-        return Ok(false);
+/// An insertion, which shifts the hunk after it.
+const INSERTION: &[Row] = &[(1, b"", b"xyz"), (3, b"d", b"D")];
+
+/// A hunk past every text.
+const PAST: &[Row] = &[(usize::MAX, b"ab", b"c")];
+
+/// Hunks, the text before them, and the text after them.
+const LEADS: [(&[Row], &[u8], &[u8]); 2] = [
+    (DELETIONS, b"A: 1\n\nB: 2\n\nC: 3\n", b"B: 2\n\n"),
+    (INSERTION, b"abcde", b"axyzbcDe"),
+];
+
+/// A patch leads from the one text to the other, and back.
+fn check_leads(
+    alloc: Global,
+    log: &mut Log,
+    rows: &[Row],
+    before: &[u8],
+    after: &[u8],
+) -> Result<(), Fault> {
+    let Some(patch) = patch_of(alloc, rows)? else {
+        return Ok(log.holds("it is a patch", false));
     };
-    match led(alloc, way, &patch, text) {
-        Ok(found) => Ok(found.as_slice() == text_in(alloc, wanted)?.as_slice()),
-        Err(fault) => Ok(fault.number() == 22 && wanted == "drifted"),
-    }
+    let applied = patch.apply(alloc, before)?;
+    log.same("the text after", applied.as_slice(), after);
+    let unapplied = patch.unapply(alloc, after)?;
+    log.same("the text before", unapplied.as_slice(), before);
+    Ok(())
 }
 
 fn patches_lead_to_texts_and_back(alloc: Global, log: &mut Log) -> Result<(), Fault> {
-    for row in STEPS.lines() {
-        if let Some((way, rest)) = cells(row) {
-            let (hunks, rest) = split_cell(rest);
-            let (text, wanted) = split_cell(rest);
-            log.at(row);
-            log.holds("the text", is_led(alloc, way, hunks, text, wanted)?);
-        }
+    for (rows, before, after) in &LEADS {
+        log.at_bytes(before);
+        check_leads(alloc, log, rows, before, after)?;
+    }
+    Ok(())
+}
+
+/// Hunks, and a text to which the patch doesn't fit as the one before it.
+const UNFIT_BEFORE: [(&[Row], &[u8]); 4] = [
+    (DELETIONS, b"B: 2\n\n"),
+    (PAST, b""),
+    (PAST, b"ab"),
+    (&[(0, b"a", b""), (usize::MAX, b"", b"c")], b"a"),
+];
+
+/// Hunks, and a text to which the patch doesn't fit as the one after it.
+const UNFIT_AFTER: [(&[Row], &[u8]); 2] = [(INSERTION, b"axyzbcde"), (PAST, b"c")];
+
+/// Whether a patch fits no text so, applied or taken back.
+fn is_unfit(alloc: Global, rows: &[Row], text: &[u8], way: Direction) -> Result<bool, AllocError> {
+    let Some(patch) = patch_of(alloc, rows)? else {
+        return Ok(false);
+    };
+    let answer = match way {
+        Direction::Forward => patch.apply(alloc, text),
+        Direction::Backward => patch.unapply(alloc, text),
+    };
+    Ok(matches!(answer, Err(Fault::Drifted)))
+}
+
+fn patches_that_do_not_fit_lead_nowhere(alloc: Global, log: &mut Log) -> Result<(), Fault> {
+    for (rows, text) in &UNFIT_BEFORE {
+        log.at_bytes(text);
+        log.holds(
+            "it drifted",
+            is_unfit(alloc, rows, text, Direction::Forward)?,
+        );
+    }
+    for (rows, text) in &UNFIT_AFTER {
+        log.at_bytes(text);
+        log.holds(
+            "it drifted",
+            is_unfit(alloc, rows, text, Direction::Backward)?,
+        );
     }
     Ok(())
 }

@@ -1,11 +1,19 @@
 //! Parts of texts: lines, bytes between words, elements of a range and where they stand.
 use crate::log::Log;
 use rec_text::Space::{Blank, BlankOrNewline};
-use rec_text::{Database, Fault, count_of, elements_in, read, split_line};
+use rec_text::{
+    Database, Fault, begins_name, count_of, elements_in, ends_newline, line_after, read, split_line,
+};
 use std::alloc::Global;
 
 pub fn run(alloc: Global, log: &mut Log) {
-    cases!(alloc, log: bytes_between_words, the_first_line, elements_of_a_range);
+    cases!(alloc, log:
+        bytes_between_words,
+        the_first_line,
+        the_last_byte,
+        numbers_of_lines,
+        first_bytes_of_names,
+        elements_of_a_range);
 }
 
 fn bytes_between_words(_: Global, log: &mut Log) -> Result<(), Fault> {
@@ -33,6 +41,28 @@ fn the_first_line(_: Global, log: &mut Log) -> Result<(), Fault> {
         None => log.holds("there is a line", false),
     }
     log.holds("there is no line", split_line(b"a").is_none());
+    Ok(())
+}
+
+fn the_last_byte(_: Global, log: &mut Log) -> Result<(), Fault> {
+    log.holds("a newline comes last", ends_newline(b"a\n"));
+    log.holds("another byte comes last", !ends_newline(b"a\nb"));
+    log.holds("no byte comes last", !ends_newline(b""));
+    Ok(())
+}
+
+fn numbers_of_lines(_: Global, log: &mut Log) -> Result<(), Fault> {
+    log.equal("the first line", line_after(b""), 1);
+    log.equal("a line that goes on", line_after(b"a\nb"), 2);
+    log.equal("the line after two", line_after(b"a\n\n"), 3);
+    Ok(())
+}
+
+fn first_bytes_of_names(_: Global, log: &mut Log) -> Result<(), Fault> {
+    log.holds("a letter", begins_name(b'a') && begins_name(b'Z'));
+    log.holds("a percent sign", begins_name(b'%'));
+    log.holds("a digit", !begins_name(b'0'));
+    log.holds("an underscore", !begins_name(b'_'));
     Ok(())
 }
 

@@ -31,7 +31,7 @@ proofs() {
     if [ "$(awk '/^MemAvailable/ { print int($2 / 5000000) }' /proc/meminfo)" -ge "$(nproc)" ]; then
         export RT_JOBS="${RT_JOBS:-$(nproc)}"
     fi
-    bodies
+    looks
     rt ci | tee "$folder/log"
     status=${PIPESTATUS[0]}
     if [[ $(tail -n 1 "$folder/log") =~ ^([0-9]+)\ passed,\ ([0-9]+)\ failed$ ]]; then
@@ -44,11 +44,13 @@ proofs() {
 }
 
 # Says, in seconds, which wrong body doesn't apply any more, which public function has none, whether docs/calls.md lists the
-# public functions, and which of those that need memory has no test in which it is refused.
-bodies() {
+# public functions, and which of those that need memory has no test in which it is refused; and in which places words stand
+# that are to be avoided.
+looks() {
     local look
-    for look in applied covered listed grown; do
-        if python3 tests/wrong-bodies.py "$look"; then passed=$((passed + 1)); else failed=$((failed + 1)); fi
+    for look in 'wrong-bodies.py applied' 'wrong-bodies.py covered' 'wrong-bodies.py listed' 'wrong-bodies.py grown' words.py; do
+        # (a script, and for most of them a word)
+        if python3 tests/$look; then passed=$((passed + 1)); else failed=$((failed + 1)); fi
     done
 }
 
@@ -136,7 +138,7 @@ quick() {
     local crate
     echo 'test.sh: the quick part takes some 6 minutes on 2 processors'
     if layout; then passed=$((passed + 1)); else failed=$((failed + 1)); fi
-    bodies
+    looks
     # (two at a time: one takes some 2.5 GB of memory)
     unproved rec_rows &
     unproved rec_calls &
@@ -148,7 +150,7 @@ quick() {
 }
 
 program() {
-    cases "${1-}" tests/{edits,batches,forgetting,usage,files,rivals,stops,rights,streams,selecting,rules,sessions}.bats
+    cases "${1-}" tests/{edits,batches,forgetting,usage,explanations,files,rivals,stops,rights,streams,selecting,rules,sessions,manual,completions,installing}.bats
 }
 
 memory() {

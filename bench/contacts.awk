@@ -1,4 +1,4 @@
-# A rec file of so many megabytes: 7,000 contacts in each, of nine fields; some have a comment, a joined line and a plus line.
+# A rec file of n megabytes: 7,000 contacts in each, of nine fields; some have a comment, a joined line and a plus line.
 #     awk -f contacts.awk -v megabytes=10
 BEGIN {
     for (i = 0; i < 7000 * megabytes; i++) {

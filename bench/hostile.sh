@@ -8,7 +8,7 @@ set -u
 . "$(dirname "$0")/measure.sh"
 [ $# -gt 0 ] || sizes=(2500)
 
-# a list of so many items, each of a name of its own, on a record of five times as many fields
+# a list of n items, each of a name of its own, on a record of five times as many fields
 items_on_fields() {
     local factor items
     printf '%s items and more, on a record of five times as many fields\n' "$1"
@@ -20,7 +20,7 @@ items_on_fields() {
     done
 }
 
-# a list of so many items of this form, of which 40,000 records of two fields have none or one
+# a list of n items of this form, of which 40,000 records of two fields have none or one
 items_on_records() {
     local factor items
     printf '%s items %s and more, on 40,000 records of two fields\n' "$1" "$2"
@@ -33,7 +33,7 @@ items_on_records() {
     done
 }
 
-# so many names, each twice in a record and once in an expression that no record fits, with this operator between them
+# n names, each twice in a record and once in an expression that no record fits, with this operator between them
 names_in_places() {
     local operator=$1 names factor
     printf '62 names and more, each twice in a record, with %s between them\n' "$operator"
@@ -45,7 +45,7 @@ names_in_places() {
     done
 }
 
-# so many fields of one name, none of which has the value that is sought
+# n fields of one name, none of which has the value that is sought
 fields_of_one_name() {
     local factor fields
     printf '%s fields of one name and more\n' "$1"
@@ -57,7 +57,7 @@ fields_of_one_name() {
     done
 }
 
-# so many fields of each of two names, none of which is like one of the other: the choices are as many as the square
+# n fields of each of two names, none of which is like one of the other: the choices are the square
 fields_of_two_names() {
     local factor fields
     printf '%s fields of each of two names and more\n' "$1"
@@ -69,7 +69,7 @@ fields_of_two_names() {
     done
 }
 
-# so many names in a field of the descriptor, over 40,000 records that have 4 of them
+# n names in a field of the descriptor, over 40,000 records that have 4 of them
 names_of_a_rule() {
     local rule=$1 factor names
     printf '1,000 names in %s and more, 40,000 records\n' "$rule"
@@ -86,7 +86,7 @@ names_of_a_rule() {
     done
 }
 
-# so many words of an enum, of which each of 40,000 records has the last
+# n words of an enum, of which each of 40,000 records has the last
 words_of_an_enum() {
     local factor words
     printf '1,000 words of an enum and more, 40,000 records\n'
@@ -103,7 +103,7 @@ words_of_an_enum() {
     done
 }
 
-# so many types of one field; the memory is to be seen
+# n types of one field; the memory is to be seen
 types_of_a_field() {
     local type=$1 value=$2 factor types
     printf '30,000 fields "%%type: F %s" and more\n' "$type"
@@ -115,7 +115,7 @@ types_of_a_field() {
     done
 }
 
-# a chain of so many definitions
+# a chain of n definitions
 chain_of_definitions() {
     local factor links
     printf '25,000 definitions in a chain and more\n'
@@ -127,7 +127,7 @@ chain_of_definitions() {
     done
 }
 
-# so many texts joined by &, each of 1,000 bytes
+# n texts joined by &, each of 1,000 bytes
 joined_texts() {
     local factor texts
     printf '100 texts of 1,000 bytes joined by & and more, 100 records\n'

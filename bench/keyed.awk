@@ -1,4 +1,4 @@
-# A rec file of so many contacts with a key, a counter, types, mandatory and unique fields, all of them kept; some 150 bytes each.
+# A rec file of n contacts with a key, a counter, types, mandatory and unique fields, all of them kept; some 150 bytes each.
 #     awk -f keyed.awk -v records=10000
 BEGIN {
     print "%rec: Contact\n%key: Id\n%auto: Id\n%type: Id range 0 MAX\n%type: Name line\n%type: Age range 0 150"

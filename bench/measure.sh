@@ -31,7 +31,7 @@ PYTHON
     fi
 }
 
-# measure RUNS STATE NAME WORD..: one line of the table; the `least` of so many times, each from the state that STATE makes
+# measure RUNS STATE NAME WORD..: one line of the table; the `least` of n times, each from the state that STATE makes
 measure() {
     local runs=$1 state=$2 name=$3 took run
     least=

@@ -1,4 +1,4 @@
-# A rec file of so many megabytes: 12,000 records of four short fields in each.
+# A rec file of n megabytes: 12,000 records of four short fields in each.
 #     awk -f records.awk -v megabytes=10
 BEGIN {
     for (i = 0; i < 12000 * megabytes; i++)

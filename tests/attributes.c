@@ -2,7 +2,7 @@
 //     attributes FILE              prints the name of each extended attribute of the file, a line each
 //     attributes FILE NAME TEXT    gives the file an attribute
 //     attributes FILE shield       gives the file an access control list: its owner and user 12345 may read and write it,
-//                                  its group may not; the list's mask is what the mode shows in the place of the group
+//                                  its group may not; the list's mask is what the mode shows instead of the group
 // Ends with 1 and the reason on standard error where the file system has no such thing.
 #include <stdint.h>
 #include <stdio.h>

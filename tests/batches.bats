@@ -73,8 +73,8 @@ batched() {
     put changes "$2"
     case $3 in
         'recu: '*)
-            recu 1 batch -b changes db.rec
-            prints '' "$3"
+            local refusal=${3#recu: }
+            refuses "${refusal%¶}" batch -b changes db.rec
             has db.rec "$1"
             only changes db.rec
             ;;
@@ -92,7 +92,7 @@ batched() {
 }
 
 @test "what batches do, and which are refused" {
-    each batched batches.rows
+    each batched batch_files.rows
 }
 
 @test "the rules count at the end of a batch" {
@@ -100,7 +100,7 @@ batched() {
     put db.rec "$rules"
     put changes "$delete"
     recu 1 batch -b changes db.rec
-    prints '' '1: size P¶recu: violations: 1¶'
+    prints '' '1: size P¶--force makes the edit all the same¶recu: violations: 1¶'
     has db.rec "$rules"
     only changes db.rec
     put changes "$delete¶Tool: recins¶Type: P¶Field: N¶Value: 3¶"
@@ -166,7 +166,7 @@ batched() {
     put broken.rec '%rec: P¶%size: 1¶'
     put changes ''
     recu 1 batch -b changes broken.rec
-    prints '' '1: size P¶recu: violations: 1¶'
+    prints '' '1: size P¶--force makes the edit all the same¶recu: violations: 1¶'
     does batch --force -b changes broken.rec
     has broken.rec '%rec: P¶%size: 1¶'
     only broken.rec changes db.rec

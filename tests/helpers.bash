@@ -4,6 +4,7 @@
 bats_require_minimum_version 1.5.0
 top=$(realpath "$BATS_TEST_DIRNAME/..")
 program=$(realpath -m "${RECU:-$top/crates/recu/out/recu}")
+version=$(sed -n 's/^pub const VERSION: &str = "\(.*\)";$/\1/p' "$top/crates/rec_command/src/args/help.rt")
 
 input=/dev/null
 as_user=()
@@ -84,10 +85,23 @@ does() {
     prints '' ''
 }
 
+# is_refused REFUSAL: the last run printed nothing but why it was refused: what it is about, and then the line of the refusal
+is_refused() {
+    has "$BATS_TEST_TMPDIR/out" ''
+    [ "$(tail -n 1 "$BATS_TEST_TMPDIR/err")" = "recu: $1" ] || fail "it is not refused by $1, but:" "$(cat "$BATS_TEST_TMPDIR/err")"
+    [ "$(grep -c '^recu: ' "$BATS_TEST_TMPDIR/err")" = 1 ] || fail 'more than one refusal:' "$(cat "$BATS_TEST_TMPDIR/err")"
+}
+
 # refuses REFUSAL WORD..: recu refuses it so
 refuses() {
     recu 1 "${@:2}"
-    prints '' "recu: $1¶"
+    is_refused "$1"
+}
+
+# explains EXPLANATION REFUSAL WORD..: recu refuses it so, and this stands before that
+explains() {
+    refuses "${@:2}"
+    prints '' "$1¶recu: $2¶"
 }
 
 # fails_to_store WHY WORD..: recu can't read or write a file, and says why
@@ -126,34 +140,38 @@ each() {
     [ "$wrong" = 0 ] || fail "$wrong of $rows rows of tests/data/$2 differ"
 }
 
-# gives STATUS OUT ERR WORD..: with the file db.rec, and with the same on standard input, recu ends and prints so, and
-# leaves the file
+# gives STATUS OUT WORD..: with the file db.rec, and with the same on standard input, recu ends so, prints this and nothing
+# on standard error, and leaves the file
 gives() {
     cp db.rec "$BATS_TEST_TMPDIR/given"
-    recu "$1" "${@:4}" db.rec
-    prints "$2" "$3"
-    input=db.rec recu "$1" "${@:4}"
-    prints "$2" "$3"
+    recu "$1" "${@:3}" db.rec
+    prints "$2" ''
+    input=db.rec recu "$1" "${@:3}"
+    prints "$2" ''
     has db.rec < "$BATS_TEST_TMPDIR/given"
     only db.rec
 }
 
 # shows OUT WORD..: of db.rec the words print that
 shows() {
-    gives 0 "$1" '' "${@:2}"
+    gives 0 "$1" "${@:2}"
 }
 
-# rejects REFUSAL WORD..: with db.rec the words are refused so
+# rejects REFUSAL WORD..: with the file db.rec, and with the same on standard input, the words are refused so, and the file stays
 rejects() {
-    gives 1 '' "recu: $1¶" "${@:2}"
+    cp db.rec "$BATS_TEST_TMPDIR/given"
+    refuses "$@" db.rec
+    input=db.rec refuses "$@"
+    has db.rec < "$BATS_TEST_TMPDIR/given"
+    only db.rec
 }
 
 # reports REPORT: recfix reports this of db.rec, which is a failure where it is not empty
 reports() {
     local status=1
     case $1 in '' | "''") status=0 ;; esac
-    gives "$status" "$1" '' recfix
-    gives "$status" "$1" '' recfix --check
+    gives "$status" "$1" recfix
+    gives "$status" "$1" recfix --check
 }
 
 # Root may write everything, so these runs are another user's, who gets a copy of the program and may enter the folders

@@ -1,6 +1,6 @@
 # Each allocation of the built program fails in turn, in a run of each command.
 # Such a run says that memory ran out, or that a file could not be written, or does what was asked. After `out of memory`
-# both files are as before, and what was printed is a front of the text; the same command again does what was asked.
+# both files are as before, and what was printed is a prefix of the text; the same command again does what was asked.
 
 load helpers
 load allocator
@@ -210,7 +210,7 @@ is_forgotten() {
 is_printed() {
     case "$status/$(tail -n 1 err)" in
         0/*) [ "$wanted" = 0 ] && cmp -s out printed || wrong 'another text' ;;
-        '1/recu: out of memory' | 1/) head -c "$(stat -c %s out)" printed | cmp -s - out || wrong 'no front of the text' ;;
+        '1/recu: out of memory' | 1/) head -c "$(stat -c %s out)" printed | cmp -s - out || wrong 'no prefix of the text' ;;
         *) wrong 'no such end' ;;
     esac
     cmp -s db.rec start/db.rec || wrong 'the file was changed'
@@ -223,7 +223,7 @@ is_printed() {
     fi
 }
 
-# prints_people PRINTED WORD..: with each failing allocation the words print this of a file of people, or a front of it
+# prints_people PRINTED WORD..: with each failing allocation the words print this of a file of people, or a prefix of it
 prints_people() {
     local wanted=0
     mkdir start
@@ -361,6 +361,10 @@ tells() {
     put db.rec "$three"
     put changes 'Tool: recdel¶Number: 0¶¶Tool: recset¶Fields: A¶'
     tells 1 batch -b changes db.rec
+}
+
+@test "memory for a refusal" {
+    tells 1 recdel db.rec
 }
 
 @test "each command has a case here" {

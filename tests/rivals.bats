@@ -38,7 +38,7 @@ met() {
 }
 
 no_leftovers() {
-    [ -z "$(find . -name '*.new')" ] || fail "call $number ($call): left behind:" *.new
+    [ -z "$(find . -name '*.new')" ] || fail "call $number ($call): left over:" *.new
 }
 
 wrong() {

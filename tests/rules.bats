@@ -17,7 +17,7 @@ descriptor() {
 }
 
 @test "fields of descriptors" {
-    each descriptor descriptors.rows
+    each descriptor descriptor_fields.rows
 }
 
 # values_of WORDS fits|unfits VALUE..: each value stands in two fields of the type and in one of none
@@ -37,7 +37,7 @@ values_of() {
 }
 
 @test "which values fit a type" {
-    each values_of types.rows
+    each values_of fitting_values.rows
 }
 
 # rules TEXT REPORT

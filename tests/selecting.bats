@@ -9,7 +9,7 @@ printing() {
 }
 
 @test "what is printed" {
-    each printing printing.rows
+    each printing printed_texts.rows
 }
 
 # refusal WORDS TEXT REFUSAL
@@ -19,7 +19,7 @@ refusal() {
 }
 
 @test "what is refused" {
-    each refusal refusals.rows
+    each refusal refused_commands.rows
 }
 
 # selects EXPRESSION TEXT ANSWER: the number of records that it selects, or the refusal
@@ -34,7 +34,7 @@ selects() {
 }
 
 @test "what an expression selects" {
-    each selects expressions.rows
+    each selects selected_records.rows
 }
 
 @test "patterns of thousands of bytes, and patterns that are nested deeply" {

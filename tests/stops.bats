@@ -135,7 +135,7 @@ judge() {
     [ "$status" != 0 ] || [ "$stands" = after ] || wrong 'what was done is lost'
     case $1/$call in
         end/* | half/* | */unlink) ;;
-        *) cleared 'left behind' ;;
+        *) cleared 'left over' ;;
     esac
     if [ "$stands" = before ]; then
         "$program" "${words[@]}" db.rec > out 2> err || wrong 'the same again is refused'
@@ -157,12 +157,12 @@ cleared() {
 # undone: each edit that is done is undone, and that gives the first text
 undone() {
     while "$program" undo db.rec > out 2> err; do :; done
-    [ "$(< err)" = 'recu: nothing to undo' ] || wrong 'an edit could not be undone'
+    [ "$(tail -n 1 err)" = 'recu: nothing to undo' ] || wrong 'an edit could not be undone'
     cmp -s db.rec first.rec || wrong 'not the first text'
     cleared 'left by an undo'
 }
 
-# each_call COMMAND WHAT [LEAST]: this becomes of each call of the command in turn, and there are at least so many
+# each_call COMMAND WHAT [LEAST]: this becomes of each call of the command in turn, and there are at least LEAST
 each_call() {
     prepare "$1"
     for ((number = 1; number <= 1000; number++)); do

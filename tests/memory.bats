@@ -341,6 +341,7 @@ tells() {
     local wanted=$1
     mkdir start
     put start/db.rec "$three"
+    cp start/db.rec .
     "$program" "${@:2}" > printed 2> said || [ $? = "$wanted" ] || fail "another status: $*"
     fast each_allocation is_told "${@:2}"
 }

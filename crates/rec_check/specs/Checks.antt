@@ -13,9 +13,6 @@ use Rattle.rec_check.specs.declared.set.Set_.{Set_}
 use Rattle.rec_check.specs.Rules.{Rules}
 use Rattle.rec_check.specs.Violations.{AreOfRecord, AreOfRecords, AreOfSet, AreUnselected, occurrences, violations_of}
 
-abbrev pub texts : List (Bor (List ℕ)) → List (List ℕ)
-texts names = map (λ one. one.now) names
-
 -- ---- how often a name occurs
 
 abbrev pub rule_of : OccurrenceRule → Rule

@@ -16,7 +16,7 @@ use Rattle.rec_check.specs.Rules.{Rules}
 use Rattle.rec_check.specs.Schemas.{Described}
 use Rattle.rec_check.specs.Types.{FieldType}
 use Rattle.rec_check.specs.Violations.{members}
-use Rattle.rec_check.specs.Words.{is_among}
+use Rattle.rec_text.specs.Bytes.{is_among}
 
 -- ---- the greatest number of each name
 

@@ -14,7 +14,8 @@ use Rattle.rec_check.specs.declared.descriptors.special.Bound.{Bound}
 use Rattle.rec_check.specs.declared.descriptors.special.Comparison.{Comparison}
 use Rattle.rec_check.specs.declared.descriptors.special.Comparison.TheVariants.{Exactly, Less, AtMost, Greater, AtLeast}
 use Rattle.rec_check.specs.Types.{definition_of, natural_of, typing_of}
-use Rattle.rec_check.specs.Words.{words, is_among}
+use Rattle.rec_check.specs.Words.{words}
+use Rattle.rec_text.specs.Bytes.{is_among}
 
 -- ---- descriptors
 

@@ -10,7 +10,8 @@ use Rattle.rec_check.specs.declared.descriptors.special.Bound.{Bound}
 use Rattle.rec_check.specs.Descriptors.{bound_in}
 use Rattle.rec_check.specs.proving.Meanings.{meaning_in}
 use Rattle.rec_check.specs.Types.{FieldType, matching, unchecked, Definition, Typing, IsDefinition, IsTyping}
-use Rattle.rec_check.specs.Words.{words, is_among, last_that}
+use Rattle.rec_check.specs.Words.{words, last_that}
+use Rattle.rec_text.specs.Bytes.{is_among}
 
 -- The key; the names of fields that each record has, has none of, has at most one of, and has with values that no other
 -- record has; where they are limited, the names that are allowed beside the key and what each record has; the names of

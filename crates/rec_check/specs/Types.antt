@@ -4,7 +4,7 @@ use Rattle.std.specs.List.{list_all, list_any, slice_split}
 use Rattle.std.specs.Option.{option_map_or}
 use Rattle.std.specs.Str.{bytes_eq, is_utf8}
 use Rattle.regex.specs.Patterns.{Re}
-use Rattle.rec_text.specs.Bytes.{is_letter}
+use Rattle.rec_text.specs.Bytes.{is_letter, is_among}
 use Rattle.rec_text.specs.Canonical.{is_field_name, is_plain_name}
 use Rattle.rec_sex.specs.Grammar.{IsPatternOf}
 use Rattle.rec_sex.specs.Integers.{int_of, trimmed}
@@ -12,7 +12,7 @@ use Rattle.rec_sex.specs.Meaning.{is_found}
 use Rattle.rec_sex.specs.Patterns.{PatternMayBeRefused}
 use Rattle.rec_check.specs.declared.field_types.known_kind.KnownKind.{KnownKind}
 use Rattle.rec_check.specs.declared.field_types.known_kind.KnownKind.TheVariants.{Integer, Range, Line, Size, Truth, Enum, Regexp, Unchecked}
-use Rattle.rec_check.specs.Words.{words, stripped, after_first_word, is_among}
+use Rattle.rec_check.specs.Words.{words, stripped, after_first_word}
 
 -- ---- types
 

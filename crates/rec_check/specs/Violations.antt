@@ -23,7 +23,8 @@ use Rattle.rec_check.specs.proving.Meanings.{meaning_in}
 use Rattle.rec_check.specs.Rules.{Rules, field_type}
 use Rattle.rec_check.specs.Schemas.{Described, IsSchema}
 use Rattle.rec_check.specs.Types.{FieldType, Definition, fits, unchecked}
-use Rattle.rec_check.specs.Words.{is_among, distinct, words}
+use Rattle.rec_check.specs.Words.{distinct, words}
+use Rattle.rec_text.specs.Bytes.{is_among}
 
 -- the line at which the element of an index begins
 abbrev pub line_at : List Piece → ℕ → ℕ

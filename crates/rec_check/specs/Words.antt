@@ -1,6 +1,6 @@
 -- Words of a value, and lists of names.
 use Rattle.std.specs.Prelude.{ℕ, Bool, not, List, [], ◌∷◌, filter, Option, Some, None, if◌then◌else◌}
-use Rattle.std.specs.List.{list_any, slice_split}
+use Rattle.std.specs.List.{slice_split}
 use Rattle.std.specs.Str.{bytes_eq}
 use Rattle.rec_text.specs.Bytes.{is_space, is_nil}
 use Rattle.rec_text.specs.Spaces.{without_prefix, without_ends}
@@ -30,9 +30,6 @@ last_that test (x ∷ xs) = elim (last_that test xs) [
   | Some later ↦ Some later
   | None ↦ if test x then Some x else None
 ]
-
-abbrev pub is_among : List (List ℕ) → List ℕ → Bool
-is_among names name = list_any (bytes_eq name) names
 
 -- each once, where it stands first
 abbrev pub distinct : List (List ℕ) → List (List ℕ)

@@ -4,7 +4,7 @@ ghost use Rattle.rec_text.specs.Places.{piece_of};
 ghost use Rattle.rec_text.specs.Values.{value_of};
 ghost use Rattle.rec_sex.specs.Integers.{int_of};
 ghost use Rattle.rec_check.specs.Automatic.{automatic_names, may_count, begins_special, is_counter as may_be_counted};
-ghost use Rattle.rec_check.specs.Checks.{texts};
+ghost use Rattle.rec_text.specs.Bytes.{texts};
 ghost use Rattle.rec_check.specs.Counting.{greater, IsNextNumber};
 ghost use Rattle.rec_check.specs.Stored.{rules_stored};
 ghost use Rattle.rec_check.specs.proving.Tests.{type_in};

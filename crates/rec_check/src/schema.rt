@@ -26,7 +26,7 @@ impl Schema {
     ghost use Rattle.std.specs.Prelude.{◌≡◌, ◌<◌, length, position, Ok, IfOk, Err, IfErr, IsOkUnless};
     ghost use Rattle.rec_text.specs.Faults.{IsMemoryOr, UnlessMemory};
     ghost use Rattle.rec_check.specs.Automatic.{IsAutomatic, automatic_of};
-    ghost use Rattle.rec_check.specs.Checks.{texts};
+    ghost use Rattle.rec_text.specs.Bytes.{texts};
     ghost use Rattle.rec_check.specs.Counters.{AreMembersAt, AreCountersAt};
     ghost use Rattle.rec_check.specs.Schemas.{IsSchema};
     ghost use Rattle.rec_check.specs.Sets.{is_of_type};

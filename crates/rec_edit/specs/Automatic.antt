@@ -12,7 +12,7 @@ use Rattle.rec_check.specs.Rules.{Rules}
 use Rattle.rec_check.specs.Schemas.{Described}
 use Rattle.rec_check.specs.Sets.{is_of_type}
 use Rattle.rec_check.specs.Violations.{members, names_of}
-use Rattle.rec_check.specs.Words.{is_among}
+use Rattle.rec_text.specs.Bytes.{is_among}
 use Rattle.rec_edit.specs.Insertions.{Numbered, Filled}
 
 -- those of the automatic names that aren't among the names of a record's fields

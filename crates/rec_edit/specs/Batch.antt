@@ -9,16 +9,14 @@ use Rattle.rec_journal.specs.declared.event.EditStep.{EditStep}
 use Rattle.rec_journal.specs.declared.event.Tool.{Tool}
 use Rattle.rec_journal.specs.Revisions.{single_step}
 use Rattle.rec_edit.specs.declared.batches.BatchEdited.{BatchEdited}
+use Rattle.rec_edit.specs.declared.outcome.Edited.{Edited}
 use Rattle.rec_edit.specs.Task.{Task, tool_of}
-use Rattle.rec_edit.specs.Script.{edited_text}
-use Rattle.rec_edit.specs.proving.Changes.{hunks_of}
-use Rattle.rec_edit.specs.Outcome.{EditScript, IsEditScript, IsSoundUnlessForced}
+use Rattle.rec_edit.specs.Outcome.{IsEditOf, IsSoundUnlessForced}
 use Rattle.rec_edit.specs.Effect.{HasEffect}
 
 -- what an edit makes of a text, violations aside
-abbrev pub IsEditScriptOn : Bool → Task → List ℕ → Result EditScript Fault → Type 0
-IsEditScriptOn force task text =
-    Then (IsDescribedText text) (λ described. IsEditScript described.pieces described.schema force task)
+abbrev pub IsEditOn : Bool → Task → List ℕ → Result Edited Fault → Type 0
+IsEditOn force task text = Then (IsDescribedText text) (λ described. IsEditOf described.pieces described.schema force task)
 
 -- an edit as a step of a batch; one that changes nothing is none
 abbrev pub step_with : Tool → List Hunk → List EditStep
@@ -30,20 +28,20 @@ abbrev pub at_most_greatest : ℕ → ℕ
 at_most_greatest n = min n 18446744073709551615
 
 -- what an edit and those after it make of a text
-abbrev pub joined : Task → EditScript → BatchEdited → BatchEdited
-joined task edit rest = record {
-  steps = step_with (tool_of task) (hunks_of edit.script) ++ rest.steps;
+abbrev pub joined : Task → Edited → BatchEdited → BatchEdited
+joined task edited rest = record {
+  steps = step_with (tool_of task) edited.patch ++ rest.steps;
   text = rest.text;
-  changed = at_most_greatest (edit.changed + rest.changed);
+  changed = at_most_greatest (edited.changed + rest.changed);
 }
 
 -- what edits make of a text in turn, violations aside; or the first refusal
 abbrev pub AreSteps : Bool → List Task → List ℕ → Result BatchEdited Fault → Type 0
 AreSteps force [] text answer = answer ≡ Ok (record { steps = []; text = text; changed = 0 })
 AreSteps force (task ∷ tasks) text answer =
-    Then (IsEditScriptOn force task text) (λ edit.
-    Then (AreSteps force tasks (edited_text edit.script)) (λ rest answer.
-    answer ≡ Ok (joined task edit rest))) answer
+    Then (IsEditOn force task text) (λ edited.
+    Then (AreSteps force tasks edited.text) (λ rest answer.
+    answer ≡ Ok (joined task edited rest))) answer
 
 -- the one answer to a batch, memory aside: the last text alone must keep its rules
 abbrev pub IsBatchOutcome : Bool → List Task → List ℕ → Result BatchEdited Fault → Type 0

@@ -101,20 +101,20 @@ pub record IsFilledUp (automatic : List (List ℕ)) (typed filled : TypedRecord)
 abbrev pub AreIndexesOf : List Piece → Described → Wanted → List ℕ → Type 0
 AreIndexesOf pieces schema wanted selected = IsSelection pieces schema.sets wanted.record_type wanted.filter (Ok selected)
 
--- the records before an edit that isn't refused, and those after it
-abbrev pub Leads : List Piece → Described → Task → List TypedRecord → List TypedRecord → Type 0
-Leads pieces schema (insert record_type fresh auto) before after = (pairs : List Pair) × (automatic : List Numbered) × IsNewRecord record_type fresh (Ok pairs)
+-- the records before an edit that isn't refused, and then those after it
+abbrev pub AreRecordsAfter : List Piece → Described → Task → List TypedRecord → List TypedRecord → Type 0
+AreRecordsAfter pieces schema (insert record_type fresh auto) before after = (pairs : List Pair) × (automatic : List Numbered) × IsNewRecord record_type fresh (Ok pairs)
     × AreAutomatic pieces schema record_type auto (map (λ pair. pair.name) pairs) (Ok automatic)
     × (after ≡ with_new schema.sets record_type (numbered_fields automatic ++ fields_of pairs) before)
-Leads pieces schema (replace wanted fresh) before after = (selected : List ℕ) × (pairs : List Pair) × AreIndexesOf pieces schema wanted selected
+AreRecordsAfter pieces schema (replace wanted fresh) before after = (selected : List ℕ) × (pairs : List Pair) × AreIndexesOf pieces schema wanted selected
     × IsNewRecord None fresh (Ok pairs) × (after ≡ remade selected (λ own. fields_of pairs) before)
-Leads pieces schema (delete wanted) before after = (selected : List ℕ) × AreIndexesOf pieces schema wanted selected
+AreRecordsAfter pieces schema (delete wanted) before after = (selected : List ℕ) × AreIndexesOf pieces schema wanted selected
     × (after ≡ remade selected (λ own. []) before)
-Leads pieces schema (comment_out wanted) before after = (selected : List ℕ) × AreIndexesOf pieces schema wanted selected
+AreRecordsAfter pieces schema (comment_out wanted) before after = (selected : List ℕ) × AreIndexesOf pieces schema wanted selected
     × (after ≡ remade selected (λ own. []) before)
-Leads pieces schema (set wanted list action) before after = (selected : List ℕ) × (items : List Item) × AreIndexesOf pieces schema wanted selected
+AreRecordsAfter pieces schema (set wanted list action) before after = (selected : List ℕ) × (items : List Item) × AreIndexesOf pieces schema wanted selected
     × AreItemsFor action list (Ok items) × (after ≡ remade selected (with_fields action items) before)
-Leads pieces schema auto_fill before after =
+AreRecordsAfter pieces schema auto_fill before after =
     AllZip (λ (i, typed) filled. IsFilledUp (automatic_at schema i) typed filled) (enumerate_from 0 before) after
 
 -- the records of the two texts
@@ -125,4 +125,4 @@ pub record HasEffect (pieces : List Piece) (schema : Described) (task : Task) (t
   pub are_edited : AreElementsOf edited text
   pub after : List TypedRecord
   pub are_after : AreTypedRecords edited after
-  pub leads : Leads pieces schema task before after
+  pub leads : AreRecordsAfter pieces schema task before after

@@ -6,7 +6,7 @@ use Rattle.rec_text.specs.declared.fault.Fault.{Fault}
 use Rattle.rec_text.specs.declared.fault.Fault.TheVariants.{OutOfMemory, BadPattern, BadFieldList, NoSelection, TypeNeeded, NoSuchType, BadName, BadValue, BadRecord, Integrity, AutoImpossible}
 use Rattle.rec_text.specs.declared.violations.Violation.{Violation}
 use Rattle.rec_text.specs.Elements.{Piece, AreElementsOf, text_of}
-use Rattle.rec_text.specs.Records.{AreRecords, elements_in}
+use Rattle.rec_text.specs.Records.{AreRecords}
 use Rattle.rec_text.specs.Steps.{Then}
 use Rattle.rec_check.specs.declared.set.Set_.{Set_}
 use Rattle.rec_check.specs.Schemas.{Described, IsSchema}
@@ -20,10 +20,9 @@ use Rattle.rec_journal.specs.Revisions.{all_hunks, is_batch}
 use Rattle.rec_select.specs.Selection.{Filter, all, by_expression, at_places, with_text, IsSelection}
 use Rattle.rec_edit.specs.declared.outcome.Edited.{Edited}
 use Rattle.rec_edit.specs.Task.{Wanted, Task, insert, replace, delete, comment_out, set, auto_fill}
-use Rattle.rec_edit.specs.Script.{Part, Layout, closed, script_of, old_pieces, new_pieces, edited_text, parts_in, AreChangesOf}
-use Rattle.rec_edit.specs.proving.Changes.{hunks_of}
+use Rattle.rec_edit.specs.Script.{Part, Layout, closed, IsScriptOf, old_pieces, new_pieces, edited_text, parts_in, AreChangesOf}
 use Rattle.rec_edit.specs.Rules.{fields_of, deletion, commenting, replacement, setting}
-use Rattle.rec_edit.specs.Insertions.{Filled, inserting, insertion_for, numbered_fields, filling}
+use Rattle.rec_edit.specs.Insertions.{inserting, insertion_for, numbered_fields, filling}
 use Rattle.rec_edit.specs.Wording.{AreItemsFor, IsNewRecord}
 use Rattle.rec_edit.specs.Automatic.{AreAutomatic, AreFilledOf}
 
@@ -62,37 +61,40 @@ is_changed_by script own_range = not (bytes_eq
     (text_of (map closed (old_pieces (parts_in own_range 0 script)))))
 
 -- the script of a layout; of these records those count of which it makes something else
-abbrev pub edit_script : List Piece → List (Range ℕ) → Layout → EditScript
-edit_script pieces chosen layout = record { script = script_of layout pieces; changed = count_by (is_changed_by (script_of layout pieces)) chosen }
+abbrev pub IsLaidOut : List Piece → List (Range ℕ) → Layout → Result EditScript Fault → Type 0
+IsLaidOut pieces chosen layout answer = (script : List Part) × IsScriptOf layout pieces script
+    × (answer ≡ Ok (record { script = script; changed = count_by (is_changed_by script) chosen }))
 
 -- a new record is put in
-abbrev pub insert_script : List Piece → List (Range ℕ) → List Set_ → Option (List ℕ) → List Piece → EditScript
-insert_script pieces records sets record_type fields = record { script = script_of (inserting (insertion_for pieces records sets record_type fields)) pieces; changed = 1 }
+abbrev pub IsPutIn : List Piece → List (Range ℕ) → List Set_ → Option (List ℕ) → List Piece → Result EditScript Fault → Type 0
+IsPutIn pieces records sets record_type fields answer =
+    (script : List Part) × IsScriptOf (inserting (insertion_for pieces records sets record_type fields)) pieces script
+    × (answer ≡ Ok (record { script = script; changed = 1 }))
 
--- what one edit makes of the text of these elements, violations aside
+-- the script of an edit of the text of these elements
 abbrev pub IsEditScript : List Piece → Described → Bool → Task → Result EditScript Fault → Type 0
 IsEditScript pieces schema force (insert record_type fresh auto) answer =
     Then (IsNewRecord record_type fresh) (λ pairs.
     Then (AreAutomatic pieces schema record_type auto (map (λ pair. pair.name) pairs)) (λ automatic answer.
     (records : List (Range ℕ)) × AreRecords pieces records
-    × (answer ≡ Ok (insert_script pieces records schema.sets record_type (numbered_fields automatic ++ fields_of pairs))))) answer
+    × IsPutIn pieces records schema.sets record_type (numbered_fields automatic ++ fields_of pairs) answer)) answer
 IsEditScript pieces schema force (replace wanted fresh) answer =
     Then (IsNewRecord None fresh) (λ pairs.
-    Then (AreChosen pieces schema.sets wanted) (λ chosen answer.
-    answer ≡ Ok (edit_script pieces chosen (replacement (fields_of pairs) chosen)))) answer
+    Then (AreChosen pieces schema.sets wanted) (λ chosen.
+    IsLaidOut pieces chosen (replacement (fields_of pairs) chosen))) answer
 IsEditScript pieces schema force (delete wanted) answer =
-    Then (AreRemovable pieces schema.sets wanted force) (λ chosen answer.
-    answer ≡ Ok (edit_script pieces chosen (deletion pieces chosen))) answer
+    Then (AreRemovable pieces schema.sets wanted force) (λ chosen.
+    IsLaidOut pieces chosen (deletion pieces chosen)) answer
 IsEditScript pieces schema force (comment_out wanted) answer =
-    Then (AreRemovable pieces schema.sets wanted force) (λ chosen answer.
-    answer ≡ Ok (edit_script pieces chosen (commenting chosen))) answer
+    Then (AreRemovable pieces schema.sets wanted force) (λ chosen.
+    IsLaidOut pieces chosen (commenting chosen)) answer
 IsEditScript pieces schema force (set wanted list action) answer =
     Then (AreItemsFor action list) (λ items.
-    Then (AreChosen pieces schema.sets wanted) (λ chosen answer.
-    answer ≡ Ok (edit_script pieces chosen (setting action items pieces chosen)))) answer
+    Then (AreChosen pieces schema.sets wanted) (λ chosen.
+    IsLaidOut pieces chosen (setting action items pieces chosen))) answer
 IsEditScript pieces schema force auto_fill answer = (records : List (Range ℕ)) × AreRecords pieces records
-    × Then (AreFilledOf pieces records schema) (λ filled answer.
-    answer ≡ Ok (edit_script pieces (map (λ one. one.range) filled) (filling filled))) answer
+    × Then (AreFilledOf pieces records schema) (λ filled.
+    IsLaidOut pieces (map (λ one. one.range) filled) (filling filled)) answer
 
 -- ---- the violations of the edited text
 
@@ -110,17 +112,24 @@ IsSoundUnlessForced false text answer = IsSound text answer
 
 -- ---- the outcome
 
--- what an edit comes to: the changes of its script (`HunksAreChanges` says which they are), the edited text, and the number of
--- changed records
-abbrev pub edited_by : EditScript → Edited
-edited_by edit = record { patch = hunks_of edit.script; text = edited_text edit.script; changed = edit.changed }
+-- what an edit comes to: the changes of its script, the edited text, and the number of changed records
+pub record IsEditedBy (edit : EditScript) (edited : Edited) : Type 0 where
+  pub patch : AreChangesOf edit.script edited.patch
+  pub text : edited.text ≡ edited_text edit.script
+  pub changed : edited.changed ≡ edit.changed
+
+-- what an edit makes of the text of these elements, violations aside
+abbrev pub IsEditOf : List Piece → Described → Bool → Task → Result Edited Fault → Type 0
+IsEditOf pieces schema force task =
+    Then (IsEditScript pieces schema force task) (λ edit answer.
+    (edited : Edited) × IsEditedBy edit edited × (answer ≡ Ok edited))
 
 -- the one answer to an edit, memory aside
 abbrev pub IsOutcome : List Piece → Described → Bool → Task → Result Edited Fault → Type 0
 IsOutcome pieces schema force task =
-    Then (IsEditScript pieces schema force task) (λ edit.
-    Then (IsSoundUnlessForced force (edited_text edit.script)) (λ _ answer.
-    answer ≡ Ok (edited_by edit)))
+    Then (IsEditOf pieces schema force task) (λ edited.
+    Then (IsSoundUnlessForced force edited.text) (λ _ answer.
+    answer ≡ Ok edited))
 
 -- the refusals that an edit has at all
 abbrev pub IsEditRefusal : Fault → Type 0
@@ -154,16 +163,16 @@ abbrev pub UnruledEditsAreSound : Type 0
 UnruledEditsAreSound = (pieces : List Piece) (schema : Described) (force : Bool) (task : Task) (edit : EditScript) → AreElementsOf pieces (text_of pieces) → PutsNoDescriptorIn task
     → IsSchema pieces (Ok schema) → length schema.sets ≡ 1 → IsEditScript pieces schema force task (Ok edit) → IsSound (edited_text edit.script) (Ok tt)
 
--- The script has the elements of the text and those of the edited one, and the hunks are its changes, which are one list;
--- an event of an edit by one tool with these hunks has at most 512 bytes, 64 for each hunk, and 4 for each byte that they take
--- out or put in.
+-- The script has the elements of the text and those of the edited one, and its changes are one list of hunks; an event of an
+-- edit by one tool with these hunks has at most 512 bytes, 64 for each hunk, and 4 for each byte that they take out or put in.
 pub record IsToldByHunks (pieces : List Piece) (script : List Part) : Type 0 where
   pub old : old_pieces script ≡ pieces
   pub new : AreElementsOf (new_pieces script) (edited_text script)
-  pub changes : AreChangesOf script (hunks_of script)
-  pub only : (hunks : List Hunk) → AreChangesOf script hunks → hunks ≡ hunks_of script
-  pub bounded : (event : Revision) → IsEditInRange event → is_batch event.tool ≡ false → all_hunks event.steps ≡ hunks_of script
-      → length (spelling (Revised event)) ≤ most_bytes (hunks_of script)
+  pub hunks : List Hunk
+  pub changes : AreChangesOf script hunks
+  pub only : (others : List Hunk) → AreChangesOf script others → others ≡ hunks
+  pub bounded : (event : Revision) → IsEditInRange event → is_batch event.tool ≡ false → all_hunks event.steps ≡ hunks
+      → length (spelling (Revised event)) ≤ most_bytes hunks
 
 -- the script of each edit is told so
 abbrev pub HunksAreChanges : Type 0

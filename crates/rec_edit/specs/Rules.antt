@@ -3,8 +3,8 @@
 use Rattle.std.specs.Prelude.{ℕ, ◌+◌, ◌==◌, Bool, true, false, ◌&&◌, List, [], ◌∷◌, ◌++◌, length, map, filter, drop, flat_map, if◌then◌else◌}
 use Rattle.std.specs.List.{list_any, prefix_len}
 use Rattle.std.specs.declared.ops.Range.{Range}
-use Rattle.rec_text.specs.declared.element.Kind.TheVariants.{Blank, Comment, Field}
-use Rattle.rec_text.specs.Canonical.{field_of}
+use Rattle.rec_text.specs.declared.element.Kind.TheVariants.{Blank, Comment}
+pub use Rattle.rec_text.specs.Canonical.{canonical}
 use Rattle.rec_text.specs.Elements.{Piece, name_of}
 use Rattle.rec_text.specs.Records.{elements_in, is_blank_piece}
 use Rattle.rec_text.specs.Values.{on_first}
@@ -17,10 +17,6 @@ use Rattle.rec_edit.specs.Task.{Pair}
 use Rattle.rec_edit.specs.Script.{Layout, untouched}
 
 -- ---- elements that recu writes
-
--- the canonical field
-abbrev pub canonical : List ℕ → List ℕ → Piece
-canonical name value = record { kind = Field; bytes = field_of name value }
 
 -- the canonical fields of a new record
 abbrev pub fields_of : List Pair → List Piece

@@ -1,10 +1,10 @@
 -- The script of an edit: parts in order, in each of which some elements are replaced by others. Joined, the old ones are the
 -- elements of the text, and the new ones those of the edited text.
-use Rattle.std.specs.Prelude.{◌≡◌, ◌≢◌, ℕ, ◌+◌, ◌==◌, Bool, false, leb, ◌&&◌, not, List, [], ◌∷◌, ◌++◌, length, map, flat_map, if◌then◌else◌}
-use Rattle.std.specs.List.{AllByRecursion}
+use Rattle.std.specs.Prelude.{◌≡◌, ◌≢◌, ℕ, ◌+◌, ◌==◌, ◌⊎◌, Bool, true, false, leb, ◌&&◌, not, List, [], ◌∷◌, ◌++◌, length, map, flat_map, if◌then◌else◌}
+use Rattle.std.specs.List.{AllByRecursion, enumerate_from}
 use Rattle.std.specs.Str.{bytes_eq}
 use Rattle.std.specs.declared.ops.Range.{Range}
-use Rattle.rec_text.specs.Bytes.{is_nil, ends_newline}
+use Rattle.rec_text.specs.Bytes.{is_nil, ends_newline, closed_text}
 use Rattle.rec_text.specs.Elements.{Piece, text_of}
 use Rattle.rec_journal.specs.declared.patch.Hunk.{Hunk}
 
@@ -34,7 +34,7 @@ untouched = record {
 
 -- with a newline at its end
 abbrev pub closed : Piece → Piece
-closed piece = if ends_newline piece.bytes then piece else record { kind = piece.kind; bytes = piece.bytes ++ 10 ∷ [] }
+closed piece = record piece { bytes = closed_text piece.bytes }
 
 -- without the newline at its end
 abbrev pub without_newline : List ℕ → List ℕ
@@ -42,11 +42,15 @@ without_newline [] = []
 without_newline (b ∷ []) = if b == 10 then [] else b ∷ []
 without_newline (b ∷ c ∷ bs) = b ∷ without_newline (c ∷ bs)
 
+-- the last one is made another, and those before it stay
+abbrev pub on_last : {X : Type 0} → (X → X) → List X → List X
+on_last made [] = []
+on_last made (x ∷ []) = made x ∷ []
+on_last made (x ∷ y ∷ xs) = x ∷ on_last made (y ∷ xs)
+
 -- the last one without its newline
 abbrev pub opened : List Piece → List Piece
-opened [] = []
-opened (piece ∷ []) = (record { kind = piece.kind; bytes = without_newline piece.bytes }) ∷ []
-opened (piece ∷ next ∷ pieces) = piece ∷ opened (next ∷ pieces)
+opened pieces = on_last (λ piece. record piece { bytes = without_newline piece.bytes }) pieces
 
 -- the last byte is there and is no newline
 abbrev pub lacks_newline : List ℕ → Bool
@@ -55,33 +59,7 @@ lacks_newline text = not (is_nil text) && not (ends_newline text)
 -- A layout works on elements with newlines. What stands instead of the last element lacks the newline that it lacked,
 -- unless something is put after it.
 abbrev pub settled : List Part → List Part
-settled [] = []
-settled (part ∷ []) = (if lacks_newline (text_of part.old) then record { old = part.old; new = opened part.new } else part) ∷ []
-settled (part ∷ next ∷ parts) = part ∷ settled (next ∷ parts)
-
--- ---- the parts
-
--- before these parts, elements are put in, if any
-abbrev pub putting : List Piece → List Part → List Part
-putting [] parts = parts
-putting (piece ∷ pieces) parts = (record { old = []; new = piece ∷ pieces }) ∷ parts
-
--- before these parts, an element with what it becomes: a part of its own, or where it is tied one with the next part
-abbrev pub changing : Bool → Piece → List Piece → List Part → List Part
-changing tied piece new [] = (record { old = piece ∷ []; new = new }) ∷ []
-changing tied piece new (next ∷ parts) =
-    if tied
-    then (record { old = piece ∷ next.old; new = new ++ next.new }) ∷ parts
-    else (record { old = piece ∷ []; new = new }) ∷ next ∷ parts
-
--- the parts of elements, the first of which has this index
-abbrev pub parts_from : ℕ → Layout → List Piece → List Part
-parts_from i layout [] = putting (layout.put i) []
-parts_from i layout (piece ∷ pieces) =
-    putting (layout.put i) (changing (layout.tied i) piece (layout.becomes i (closed piece)) (parts_from (i + 1) layout pieces))
-
-abbrev pub script_of : Layout → List Piece → List Part
-script_of layout pieces = settled (parts_from 0 layout pieces)
+settled parts = on_last (λ part. if lacks_newline (text_of part.old) then record part { new = opened part.new } else part) parts
 
 -- ---- the two texts
 
@@ -94,6 +72,51 @@ new_pieces script = flat_map (λ part. part.new) script
 
 abbrev pub edited_text : List Part → List ℕ
 edited_text script = text_of (new_pieces script)
+
+-- ---- the script of a layout
+
+-- some parts as one
+abbrev pub as_one : List Part → Part
+as_one run = record { old = old_pieces run; new = new_pieces run }
+
+-- the part of one element, or of what is put before one; and whether it is changed as one with the next
+pub record Single : Type 0 where
+  pub part : Part
+  pub tied : Bool
+
+-- what is put, if anything is
+abbrev pub put_alone : List Piece → List Single
+put_alone [] = []
+put_alone (piece ∷ pieces) = record { part = record { old = []; new = piece ∷ pieces }; tied = false } ∷ []
+
+-- an element, with what stands instead of it
+abbrev pub changed_alone : Layout → ℕ → Piece → Single
+changed_alone layout i piece = record { part = record { old = piece ∷ []; new = layout.becomes i (closed piece) }; tied = layout.tied i }
+
+-- each element after what is put before it, and at the end what is put after them all
+abbrev pub singles_of : Layout → List Piece → List Single
+singles_of layout pieces =
+    flat_map (λ (i, piece). put_alone (layout.put i) ++ changed_alone layout i piece ∷ []) (enumerate_from 0 pieces)
+    ++ put_alone (layout.put (length pieces))
+
+-- in each run all but the last are tied to the next, and the last isn't, unless nothing comes after it
+abbrev pub AreTiedRuns : List (List Single) → Type 0
+AreTiedRuns [] = Unit {0}
+AreTiedRuns (run ∷ runs) = (tied : List Single) × (last : Single) × (run ≡ tied ++ last ∷ [])
+    × AllByRecursion (λ single. single.tied ≡ true) tied × ((last.tied ≡ false) ⊎ (runs ≡ []))
+    × AreTiedRuns runs
+
+-- the single parts are cut into such runs, and a part of the script stands for each run
+pub record IsScriptOf (layout : Layout) (pieces : List Piece) (script : List Part) : Type 0 where
+  pub runs : List (List Single)
+  pub joined : flat_map (λ run. run) runs ≡ singles_of layout pieces
+  pub tied : AreTiedRuns runs
+  pub parts : script ≡ settled (map (λ run. as_one (map (λ single. single.part) run)) runs)
+
+-- a layout has exactly one script
+abbrev pub OneScript : Type 0
+OneScript = (layout : Layout) (pieces : List Piece) → (script : List Part) × IsScriptOf layout pieces script
+    × ((other : List Part) → IsScriptOf layout pieces other → other ≡ script)
 
 -- ---- the patch
 
@@ -108,10 +131,6 @@ changes_from at (part ∷ parts) =
     if is_kept part
     then changes_from (at + length (text_of part.old)) parts
     else record { at = at; old = text_of part.old; new = text_of part.new } ∷ changes_from (at + length (text_of part.old)) parts
-
--- some parts as one
-abbrev pub as_one : List Part → Part
-as_one run = record { old = old_pieces run; new = new_pieces run }
 
 -- the parts whose old elements lie in a range of indexes, the first part beginning at this index
 abbrev pub parts_in : Range ℕ → ℕ → List Part → List Part

@@ -1,4 +1,5 @@
 -- What serves proofs.
+pub mod Parts
 pub mod Changes
 pub mod Drafts
 pub mod Edits

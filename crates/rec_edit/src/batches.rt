@@ -10,8 +10,8 @@ ghost use Rattle.rec_journal.specs.Revisions.{LeadsBy, AreDone};
 ghost use Rattle.rec_edit.specs.declared.batches.BatchEdited.{BatchEdited as MadeByBatch};
 ghost use Rattle.rec_edit.specs.Task.{task_of};
 ghost use Rattle.rec_edit.specs.Outcome.{IsEditRefusal};
-ghost use Rattle.rec_edit.specs.Batch.{AreSteps, IsBatchOutcome, HaveEffects};
-ghost use Rattle.rec_edit.specs.proving.Batches.{IsEditOn, IsUnderWay};
+ghost use Rattle.rec_edit.specs.Batch.{IsEditOn, AreSteps, IsBatchOutcome, HaveEffects};
+ghost use Rattle.rec_edit.specs.proving.Batches.{IsUnderWay};
 ghost use Rattle.rec_edit.specs.Task.{Task};
 
 mod progress;

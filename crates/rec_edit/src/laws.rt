@@ -1,6 +1,12 @@
 //! Laws of the definitions, which no function computes.
 ghost use Rattle.rec_edit.specs.Outcome.{HunksAreChanges, OneOutcome, UnruledEditsAreSound};
 ghost use Rattle.rec_edit.specs.Batch.{OneBatch};
+ghost use Rattle.rec_edit.specs.Script.{OneScript};
+
+/// A layout has exactly one script of a text.
+pub fn one_script()
+    ensures { OneScript }
+{}
 
 /// An edit has one outcome, whichever way the patterns of its text were built.
 pub fn one_outcome()

@@ -15,7 +15,7 @@ mod sound;
 mod wording;
 
 pub use batches::{BatchEdited, batch, batch_owned};
-pub use laws::{hunks_are_changes, one_batch, one_outcome, unruled_edits_are_sound};
+pub use laws::{hunks_are_changes, one_batch, one_outcome, one_script, unruled_edits_are_sound};
 pub use outcome::{Edited, edit, edit_owned};
 pub use rec_check::Schema;
 pub use rec_journal::{Patch, Tool};

@@ -10,13 +10,13 @@ ghost use Rattle.rec_check.specs.Stored.{described};
 ghost use Rattle.rec_journal.specs.Patch.{Splices};
 ghost use Rattle.rec_edit.specs.declared.outcome.Edited.{Edited as EditedOf};
 ghost use Rattle.rec_edit.specs.proving.Drafts.{AreRanges};
-ghost use Rattle.rec_edit.specs.proving.Edits.{IsChecked, laid_script};
-ghost use Rattle.rec_edit.specs.proving.Files.{IsEditIn, IsOutcomeIn};
+ghost use Rattle.rec_edit.specs.proving.Edits.{IsChecked, laid_script, edited_by};
+ghost use Rattle.rec_edit.specs.proving.Files.{IsCarriedOutIn, IsEditIn, IsOutcomeIn};
 ghost use Rattle.rec_edit.specs.proving.Filling.{filled_of, ranges_of};
 ghost use Rattle.rec_edit.specs.Insertions.{filling};
 ghost use Rattle.rec_edit.specs.Task.{task_of, wanted_by, fresh_by, insert as inserting_one, replace as replacing, delete as deleting, comment_out as commenting_out, set as setting_fields, auto_fill as filling_all};
 ghost use Rattle.rec_edit.specs.Script.{TakesWhole};
-ghost use Rattle.rec_edit.specs.Outcome.{IsSoundUnlessForced, IsOutcome, IsEditRefusal, PutsNoDescriptorIn, edited_by};
+ghost use Rattle.rec_edit.specs.Outcome.{IsSoundUnlessForced, IsOutcome, IsEditRefusal, PutsNoDescriptorIn};
 ghost use Rattle.rec_edit.specs.Effect.{HasEffect};
 
 use crate::automatic::automatic_fields;
@@ -55,7 +55,7 @@ fn insert(
     auto: bool,
 ) -> Result<Edited, Fault>
     ensures { (force : Bool)
-        → UnlessMemory result (IsEditIn file.now force (inserting_one record_type.now (fresh_by fresh.now) auto)) }
+        → UnlessMemory result (IsCarriedOutIn file.now force (inserting_one record_type.now (fresh_by fresh.now) auto)) }
 {
     let pairs = new_record(alloc, record_type, fresh)?;
     let automatic = automatic_fields(alloc, file, record_type, auto, &pairs)?;
@@ -71,7 +71,7 @@ fn replace(
     fresh: &NewRecord,
 ) -> Result<Edited, Fault>
     ensures { (force : Bool)
-        → UnlessMemory result (IsEditIn file.now force (replacing (wanted_by selection.now) (fresh_by fresh.now))) }
+        → UnlessMemory result (IsCarriedOutIn file.now force (replacing (wanted_by selection.now) (fresh_by fresh.now))) }
 {
     // These are the elements of a text.
     let _text = file.database().text();
@@ -94,7 +94,7 @@ fn filled_up(alloc: Global, file: &RecFile, filled: &[FilledRecord]) -> Result<E
 
 /// All records of typed sets get the automatic fields that they lack.
 fn auto_fill(alloc: Global, file: &RecFile) -> Result<Edited, Fault>
-    ensures { (force : Bool) → UnlessMemory result (IsEditIn file.now force filling_all) }
+    ensures { (force : Bool) → UnlessMemory result (IsCarriedOutIn file.now force filling_all) }
 {
     // These are the elements of a text.
     let _text = file.database().text();
@@ -109,7 +109,7 @@ fn delete(
     selection: &Selection,
     force: bool,
 ) -> Result<Edited, Fault>
-    ensures { UnlessMemory result (IsEditIn file.now force (deleting (wanted_by selection.now))) }
+    ensures { UnlessMemory result (IsCarriedOutIn file.now force (deleting (wanted_by selection.now))) }
 {
     let chosen = removable_records(alloc, file, selection, force)?;
     let layout = Removal::deletion(alloc, file, &chosen)?;
@@ -123,7 +123,7 @@ fn comment_out(
     selection: &Selection,
     force: bool,
 ) -> Result<Edited, Fault>
-    ensures { UnlessMemory result (IsEditIn file.now force (commenting_out (wanted_by selection.now))) }
+    ensures { UnlessMemory result (IsCarriedOutIn file.now force (commenting_out (wanted_by selection.now))) }
 {
     let chosen = removable_records(alloc, file, selection, force)?;
     let layout = Removal::commenting(alloc, &chosen)?;
@@ -139,7 +139,7 @@ fn set(
     action: &Action,
 ) -> Result<Edited, Fault>
     ensures { (force : Bool)
-        → UnlessMemory result (IsEditIn file.now force (setting_fields (wanted_by selection.now) list.now action.now)) }
+        → UnlessMemory result (IsCarriedOutIn file.now force (setting_fields (wanted_by selection.now) list.now action.now)) }
 {
     let items = items_for(alloc, action, list)?;
     let chosen = chosen_records(alloc, file, selection)?;
@@ -151,6 +151,8 @@ fn set(
 pub(crate) fn made(alloc: Global, file: &RecFile, edit: &Edit, force: bool) -> Result<Edited, Fault>
     ensures { UnlessMemory result (IsEditIn file.now force (task_of edit.now)) }
 {
+    // These are the elements of a text.
+    let _text = file.database().text();
     match edit {
         Edit::Insert { kind, fresh, auto } => insert(alloc, file, kind, fresh, *auto),
         Edit::Replace { selection, fresh } => replace(alloc, file, selection, fresh),

@@ -1,13 +1,13 @@
 //! Carries an edit out, element by element.
 ghost use Rattle.std.specs.Prelude.{◌≡◌, ◌++◌, ◌+◌, ◌^◌, ◌<◌, ◌≤◌, [], List, count_by, length, OnOk, IfOk};
 ghost use Rattle.std.specs.Str.{bytes_eq};
-ghost use Rattle.rec_text.specs.Bytes.{ends_newline as newline_is_last};
+ghost use Rattle.rec_text.specs.Bytes.{ends_newline as newline_is_last, closed_text};
 ghost use Rattle.rec_text.specs.Elements.{text_of};
 ghost use Rattle.rec_text.specs.Places.{piece_of, pieces_of};
-ghost use Rattle.rec_edit.specs.Script.{Part, closed, putting, script_of};
-ghost use Rattle.rec_edit.specs.Outcome.{edited_by};
-ghost use Rattle.rec_edit.specs.proving.Drafts.{AreRanges, LaysLines, IsTie, IsDraft, IsLaid, is_changed, laying, laying_last, laying_tie, closed_text};
-ghost use Rattle.rec_edit.specs.proving.Edits.{laid_script};
+ghost use Rattle.rec_edit.specs.Script.{Part, closed};
+ghost use Rattle.rec_edit.specs.proving.Parts.{putting, script_of};
+ghost use Rattle.rec_edit.specs.proving.Drafts.{AreRanges, LaysLines, IsTie, IsDraft, IsLaid, is_changed, laying, laying_last, laying_tie};
+ghost use Rattle.rec_edit.specs.proving.Edits.{laid_script, edited_by};
 
 mod draft;
 pub mod layout;

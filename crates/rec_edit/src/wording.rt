@@ -1,10 +1,10 @@
 //! What the list of an edit of fields means, and its names and values.
-ghost use Rattle.std.specs.Prelude.{◌≡◌, List, Ok, Err, map, MatchResult};
+ghost use Rattle.std.specs.Prelude.{◌≡◌, ℕ, List, Ok, Err, map, MatchResult};
 ghost use Rattle.std.specs.List.{list_all};
 ghost use Rattle.rec_text.specs.Canonical.{is_plain_name as may_be_written, is_foldable as can_be_folded};
 ghost use Rattle.rec_text.specs.Faults.{UnlessMemory};
 ghost use Rattle.rec_sex.specs.declared.lists.field_list.Item.{Item as ItemOf};
-ghost use Rattle.rec_edit.specs.Wording.{written_items, unnumbered, names_of_action, values_of_action, AreItemsFor};
+ghost use Rattle.rec_edit.specs.Wording.{written, unnumbered, names_of_action, values_of_action, AreItemsFor};
 
 use crate::request::Action;
 use rec_sex::{FieldList, Item};
@@ -26,7 +26,7 @@ fn require_unnumbered(action: &Action, list: &[u8]) -> Result<(), Fault>
     }
 }
 
-fn have_plain_names(items: &[Item]) -> bool
+fn items_have_plain_names(items: &[Item]) -> bool
     ensures { result ≡ list_all may_be_written (map (λ item. item.name) items.now) }
 {
     items.iter().all(|item| is_plain_name(item.name.as_slice()))
@@ -55,16 +55,15 @@ fn gives_foldable_value(action: &Action) -> bool
     }
 }
 
-/// Refuses a name that recu doesn't write, and then a value.
-fn require_written(action: &Action, items: &[Item]) -> Result<(), Fault>
-    ensures { MatchResult result
-        (λ _. written_items action.now items.now ≡ Ok items.now)
-        (λ fault. written_items action.now items.now ≡ Err fault) }
+/// Refuses names of which recu doesn't write one, and then values.
+pub(crate) fn require_written(names_are_plain: bool, values_are_foldable: bool) -> Result<(), Fault>
+    ensures { (names values : List (List ℕ)) → names_are_plain ≡ list_all may_be_written names
+        → values_are_foldable ≡ list_all (can_be_folded 32) values → result ≡ written names values tt }
 {
-    if !have_plain_names(items) || !gives_plain_name(action) {
+    if !names_are_plain {
         return Err(Fault::BadName);
     }
-    if !gives_foldable_value(action) {
+    if !values_are_foldable {
         return Err(Fault::BadValue);
     }
     Ok(())
@@ -76,6 +75,7 @@ pub(crate) fn items_for(alloc: Global, action: &Action, list: &[u8]) -> Result<F
 {
     let items = FieldList::parse(alloc, list)?;
     require_unnumbered(action, list)?;
-    require_written(action, items.items())?;
+    let names_are_plain = items_have_plain_names(items.items()) && gives_plain_name(action);
+    require_written(names_are_plain, gives_foldable_value(action))?;
     Ok(items)
 }

@@ -10,7 +10,7 @@ use Rattle.std.proofs.lemmas.List.Elements.{filter_map-append}
 use Rattle.std.proofs.lemmas.List.Folds.{flat_map-map, list_any-append}
 use Rattle.std.proofs.lemmas.Option.{slice_get-map, slice_get-get_or, slice_get_past}
 use Rattle.std.proofs.lemmas.Grind.{flat_map-append}
-use Rattle.rec_text.specs.Bytes.{ends_newline, is_nil}
+use Rattle.rec_text.specs.Bytes.{ends_newline, is_nil, closed_text}
 use Rattle.rec_text.specs.declared.element.Element.{Element}
 use Rattle.rec_text.specs.declared.element.Kind.TheVariants.{Field}
 use Rattle.rec_text.specs.Elements.{Piece}
@@ -20,8 +20,8 @@ use Rattle.rec_text.specs.Values.{value_of}
 use Rattle.std.proofs.Math.Bool.{or-true}
 use Rattle.rec_text.proofs.lemmas.elements.ElementLemmas.{no_field_test}
 use Rattle.rec_text.proofs.lemmas.ListLemmas.{is_nil-push, join_with_byte-cons}
-use Rattle.rec_select.specs.proving.Blocks.{closed_text, spaced_value}
-use Rattle.rec_select.specs.Printing.{closed, row_of, value_line}
+use Rattle.rec_select.specs.proving.Blocks.{spaced_value}
+use Rattle.rec_select.specs.Printing.{printed_element, row_of, value_line}
 
 -- ---- the last byte
 
@@ -93,7 +93,7 @@ is_nil-ended true [] e = e
 is_nil-ended true (b ∷ bs) e = refl
 is_nil-ended false bytes e = is_nil-push bytes 10
 
-pub is_nil-closed : (piece : Piece) → is_nil (closed piece) ≡ false
+pub is_nil-closed : (piece : Piece) → is_nil (printed_element piece) ≡ false
 is_nil-closed piece = is_nil-ended (ends_newline piece.bytes) piece.bytes refl
 
 pub is_nil-value_line : (piece : Piece) → is_nil (value_line piece) ≡ false
@@ -105,12 +105,12 @@ is_nil-flat_map part some [] = refl
 is_nil-flat_map part some (element ∷ elements) =
     ne_eqb (length (element ∷ elements)) 0 (λ e. omega arith) ∙ sym (is_nil-append (part (piece_of element)) (flat_map part (pieces_of elements)) (some (piece_of element)))
 
-is_nil-fields_cons : (is_field : Bool) (piece : Piece) (pieces : List Piece) → not (list_any is_field_piece pieces) ≡ is_nil (flat_map closed (filter is_field_piece pieces))
-    → not (is_field || list_any is_field_piece pieces) ≡ is_nil (flat_map closed (if is_field then piece ∷ filter is_field_piece pieces else filter is_field_piece pieces))
-is_nil-fields_cons true piece pieces rest = sym (is_nil-append (closed piece) (flat_map closed (filter is_field_piece pieces)) (is_nil-closed piece))
+is_nil-fields_cons : (is_field : Bool) (piece : Piece) (pieces : List Piece) → not (list_any is_field_piece pieces) ≡ is_nil (flat_map printed_element (filter is_field_piece pieces))
+    → not (is_field || list_any is_field_piece pieces) ≡ is_nil (flat_map printed_element (if is_field then piece ∷ filter is_field_piece pieces else filter is_field_piece pieces))
+is_nil-fields_cons true piece pieces rest = sym (is_nil-append (printed_element piece) (flat_map printed_element (filter is_field_piece pieces)) (is_nil-closed piece))
 is_nil-fields_cons false piece pieces rest = rest
 
-pub is_nil-fields : (pieces : List Piece) → not (list_any is_field_piece pieces) ≡ is_nil (flat_map closed (filter is_field_piece pieces))
+pub is_nil-fields : (pieces : List Piece) → not (list_any is_field_piece pieces) ≡ is_nil (flat_map printed_element (filter is_field_piece pieces))
 is_nil-fields [] = refl
 is_nil-fields (piece ∷ pieces) = is_nil-fields_cons (is_field_piece piece) piece pieces (is_nil-fields pieces)
 

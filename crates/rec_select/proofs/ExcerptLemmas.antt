@@ -7,7 +7,7 @@ use Rattle.std.proofs.lemmas.Option.{slice_get-get_or}
 use Rattle.std.proofs.lemmas.List.{take_at, drop_at, drop_all, take_all, take_more, take-append-drop, drop-append-le, length-take, length-take-le, length-map, get_or-map, map-append}
 use Rattle.std.proofs.lemmas.List.Elements.{filter-append}
 use Rattle.std.proofs.lemmas.Grind.{flat_map-append}
-use Rattle.rec_text.specs.Bytes.{ends_newline, is_nil}
+use Rattle.rec_text.specs.Bytes.{ends_newline, is_nil, closed_text}
 use Rattle.rec_text.specs.declared.element.Element.{Element}
 use Rattle.rec_text.specs.declared.element.Kind.{Kind}
 use Rattle.rec_text.specs.declared.element.Kind.TheVariants.{Blank, Comment, Field}
@@ -16,9 +16,8 @@ use Rattle.rec_text.specs.Places.{piece_of, pieces_of, AreFrom}
 use Rattle.rec_text.specs.Records.{is_field_piece}
 use Rattle.rec_text.proofs.lemmas.elements.ElementLemmas.{text_of-append}
 use Rattle.rec_text.proofs.lemmas.ListLemmas.{AllByRecursion-following, AllByRecursion-prefix, is_nil-length}
-use Rattle.rec_select.specs.proving.Blocks.{closed_text}
 use Rattle.rec_select.specs.proving.Excerpts.{IsExcerpt}
-use Rattle.rec_select.specs.Printing.{closed}
+use Rattle.rec_select.specs.Printing.{printed_element}
 use Rattle.rec_select.proofs.BlockLemmas.{is_nil-append}
 
 -- ---- lists of elements, one after another
@@ -171,22 +170,22 @@ has_bytes kind (b ∷ bs) is = refl
 has_text : (piece : Piece) (pieces : List Piece) → IsElement piece → is_nil (text_of (piece ∷ pieces)) ≡ false
 has_text piece pieces is = is_nil-append piece.bytes (text_of pieces) (has_bytes piece.kind piece.bytes is)
 
-pub closed_none : (pieces : List Piece) (text : List ℕ) → text ≡ text_of pieces → AreElementsOf pieces (text_of pieces) → true ≡ (length text == 0) → [] ≡ flat_map closed pieces
+pub closed_none : (pieces : List Piece) (text : List ℕ) → text ≡ text_of pieces → AreElementsOf pieces (text_of pieces) → true ≡ (length text == 0) → [] ≡ flat_map printed_element pieces
 closed_none [] text is are empty = refl
 closed_none (piece ∷ pieces) text is are empty =
     absurd (false≢true (sym (has_text piece pieces are.well_formed.0) ∙ ap is_nil (sym is) ∙ is_nil-length text ∙ sym empty))
 
-closed-ended : (piece : Piece) → ends_newline piece.bytes ≡ true → piece.bytes ≡ closed piece
+closed-ended : (piece : Piece) → ends_newline piece.bytes ≡ true → piece.bytes ≡ printed_element piece
 closed-ended piece ends = rw ends refl
 
-closed_each : (piece : Piece) (pieces : List Piece) → AllByRecursion IsElement (piece ∷ pieces) → EndInNewlines (piece ∷ pieces) → closed_text (text_of (piece ∷ pieces)) ≡ flat_map closed (piece ∷ pieces)
-closed_each piece [] formed ends = rw (append-nil piece.bytes, append-nil (closed piece)) refl
+closed_each : (piece : Piece) (pieces : List Piece) → AllByRecursion IsElement (piece ∷ pieces) → EndInNewlines (piece ∷ pieces) → closed_text (text_of (piece ∷ pieces)) ≡ flat_map printed_element (piece ∷ pieces)
+closed_each piece [] formed ends = rw (append-nil piece.bytes, append-nil (printed_element piece)) refl
 closed_each piece (next ∷ pieces) formed ends =
     let rest = closed_each next pieces formed.1 ends.1 in
     closed_after piece.bytes (text_of (next ∷ pieces)) (ends_newline (text_of (next ∷ pieces))) refl (has_text next pieces formed.1.0)
-    ∙ ap (λ t. piece.bytes ++ t) rest ∙ ap (λ t. t ++ flat_map closed (next ∷ pieces)) (closed-ended piece ends.0)
+    ∙ ap (λ t. piece.bytes ++ t) rest ∙ ap (λ t. t ++ flat_map printed_element (next ∷ pieces)) (closed-ended piece ends.0)
 
-pub closed_some : (pieces : List Piece) (text : List ℕ) → text ≡ text_of pieces → AreElementsOf pieces (text_of pieces) → false ≡ (length text == 0) → closed_text text ≡ flat_map closed pieces
+pub closed_some : (pieces : List Piece) (text : List ℕ) → text ≡ text_of pieces → AreElementsOf pieces (text_of pieces) → false ≡ (length text == 0) → closed_text text ≡ flat_map printed_element pieces
 closed_some [] text is are some = absurd (false≢true (some ∙ sym (is_nil-length text) ∙ ap is_nil is))
 closed_some (piece ∷ pieces) text is are some = ap closed_text is ∙ closed_each piece pieces are.well_formed are.lines_end
 
@@ -194,13 +193,13 @@ closed_some (piece ∷ pieces) text is are some = ap closed_text is ∙ closed_e
 
 -- what is printed of the fields
 abbrev pub fields_text : List Piece → List ℕ
-fields_text pieces = flat_map closed (filter is_field_piece pieces)
+fields_text pieces = flat_map printed_element (filter is_field_piece pieces)
 
 fields_text-append : (xs ys : List Piece) → fields_text (xs ++ ys) ≡ fields_text xs ++ fields_text ys
-fields_text-append xs ys = ap (flat_map closed) (filter-append is_field_piece xs ys) ∙ flat_map-append closed (filter is_field_piece xs) (filter is_field_piece ys)
+fields_text-append xs ys = ap (flat_map printed_element) (filter-append is_field_piece xs ys) ∙ flat_map-append printed_element (filter is_field_piece xs) (filter is_field_piece ys)
 
-fields_text-one : (piece : Piece) → true ≡ is_field_piece piece → fields_text (piece ∷ []) ≡ closed piece
-fields_text-one piece is = rw (← is) (append-nil (closed piece))
+fields_text-one : (piece : Piece) → true ≡ is_field_piece piece → fields_text (piece ∷ []) ≡ printed_element piece
+fields_text-one piece is = rw (← is) (append-nil (printed_element piece))
 
 fields_text-other : (piece : Piece) → false ≡ is_field_piece piece → fields_text (piece ∷ []) ≡ []
 fields_text-other piece is = rw (← is) refl
@@ -213,22 +212,22 @@ module _ (pieces : List Piece) where
   -- from one index up to another fields alone stand
   pub record IsFieldRun (start at : ℕ) : Type 0 where
     pub ordered : start ≤ at
-    pub text : fields_text (take at pieces) ≡ fields_text (take start pieces) ++ flat_map closed (run pieces start at)
+    pub text : fields_text (take at pieces) ≡ fields_text (take start pieces) ++ flat_map printed_element (run pieces start at)
 
   pub no_run : (at : ℕ) → IsFieldRun at at
   no_run at =
       let none : run pieces at at ≡ [] = drop_all at (take at pieces) (omega (arith, length-take at pieces)) in
-      record { ordered = omega arith; text = sym (ap (λ ps. fields_text (take at pieces) ++ flat_map closed ps) none ∙ append-nil (fields_text (take at pieces))) }
+      record { ordered = omega arith; text = sym (ap (λ ps. fields_text (take at pieces) ++ flat_map printed_element ps) none ∙ append-nil (fields_text (take at pieces))) }
 
   module _ (start at : ℕ) (so_far : IsFieldRun start at) where
-    text_to : (part : List Piece) → part ≡ run pieces start at → fields_text (take at pieces) ≡ fields_text (take start pieces) ++ flat_map closed part
-    text_to part is = so_far.text ∙ ap (λ ps. fields_text (take start pieces) ++ flat_map closed ps) (sym is)
+    text_to : (part : List Piece) → part ≡ run pieces start at → fields_text (take at pieces) ≡ fields_text (take start pieces) ++ flat_map printed_element part
+    text_to part is = so_far.text ∙ ap (λ ps. fields_text (take start pieces) ++ flat_map printed_element ps) (sym is)
 
-    pub run_whole : (part : List Piece) → part ≡ run pieces start at → fields_text pieces ≡ (fields_text (take start pieces) ++ flat_map closed part) ++ fields_text (drop at pieces)
+    pub run_whole : (part : List Piece) → part ≡ run pieces start at → fields_text pieces ≡ (fields_text (take start pieces) ++ flat_map printed_element part) ++ fields_text (drop at pieces)
     run_whole part is = ap fields_text (sym (take-append-drop at pieces)) ∙ fields_text-append (take at pieces) (drop at pieces) ∙ ap (λ t. t ++ fields_text (drop at pieces)) (text_to part is)
 
     pub last_run : (part : List Piece) (size : ℕ) → part ≡ run pieces start size → length pieces ≤ size → length pieces ≤ at
-        → fields_text (take start pieces) ++ flat_map closed part ≡ fields_text pieces
+        → fields_text (take start pieces) ++ flat_map printed_element part ≡ fields_text pieces
     last_run part size is whole past =
         let same : take size pieces ≡ take at pieces = take_all size pieces whole ∙ sym (take_all at pieces past) in
         sym (text_to part (is ∙ ap (drop start) same)) ∙ ap fields_text (take_all at pieces past)
@@ -256,12 +255,12 @@ module _ (pieces : List Piece) where
       longer_run field = record {
         ordered = omega (arith, so_far.ordered);
         text =
-            text_more ∙ ap (λ t. fields_text (take at pieces) ++ t) (fields_text-one piece field) ∙ ap (λ t. t ++ closed piece) so_far.text
-            ∙ append_assoc (fields_text (take start pieces)) (flat_map closed (run pieces start at)) (closed piece)
+            text_more ∙ ap (λ t. fields_text (take at pieces) ++ t) (fields_text-one piece field) ∙ ap (λ t. t ++ printed_element piece) so_far.text
+            ∙ append_assoc (fields_text (take start pieces)) (flat_map printed_element (run pieces start at)) (printed_element piece)
             ∙ ap (λ t. fields_text (take start pieces) ++ t)
-            (sym (ap (flat_map closed) run_more ∙ flat_map-append closed (run pieces start at) (piece ∷ []) ∙ ap (λ t. flat_map closed (run pieces start at) ++ t) (append-nil (closed piece))));
+            (sym (ap (flat_map printed_element) run_more ∙ flat_map-append printed_element (run pieces start at) (piece ∷ []) ∙ ap (λ t. flat_map printed_element (run pieces start at) ++ t) (append-nil (printed_element piece))));
       }
 
-      pub whole_run : false ≡ is_field_piece piece → (part : List Piece) → part ≡ run pieces start at → fields_text (take start pieces) ++ flat_map closed part ≡ fields_text (take (at + 1) pieces)
+      pub whole_run : false ≡ is_field_piece piece → (part : List Piece) → part ≡ run pieces start at → fields_text (take start pieces) ++ flat_map printed_element part ≡ fields_text (take (at + 1) pieces)
       whole_run other part part_is =
           sym (text_more ∙ ap (λ t. fields_text (take at pieces) ++ t) (fields_text-other piece other) ∙ append-nil (fields_text (take at pieces)) ∙ text_to part part_is)

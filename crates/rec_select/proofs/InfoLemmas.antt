@@ -22,7 +22,7 @@ use Rattle.rec_check.specs.Schemas.{Described, IsDescribed}
 use Rattle.rec_check.specs.Sets.{AreFrom, BeginsAt, is_of_type, named_in}
 use Rattle.rec_text.proofs.lemmas.ListLemmas.{AllByRecursion-slice_get, slice_get-drop, slice_get-take}
 use Rattle.rec_select.specs.declared.records.Shape.TheVariants.{Blocks}
-use Rattle.rec_select.specs.Printing.{block_of, closed, joined_blocks}
+use Rattle.rec_select.specs.Printing.{block_of, printed_element, joined_blocks}
 use Rattle.rec_select.specs.proving.Blocks.{gap}
 use Rattle.rec_select.specs.proving.Heads.{AreHeads, HeadsFrom}
 use Rattle.rec_select.specs.Selection.{record_at}
@@ -153,7 +153,7 @@ opened : (bytes more : List ℕ) → is_nil ((bytes ++ 10 ∷ []) ++ more) ≡ f
 opened [] more = refl
 opened (b ∷ bs) more = refl
 
-closed-full : (piece : Piece) (more : List ℕ) → is_nil (closed piece ++ more) ≡ false
+closed-full : (piece : Piece) (more : List ℕ) → is_nil (printed_element piece ++ more) ≡ false
 closed-full piece more = elim (cases_Bool (ends_newline piece.bytes)) [
   | inl ends ↦ rw ends (ended piece.bytes more ends)
   | inr none ↦ rw none (opened piece.bytes more)

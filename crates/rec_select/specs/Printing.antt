@@ -3,7 +3,7 @@ use Rattle.std.specs.Prelude.{◌≡◌, ℕ, ◌<◌, Bool, not, List, [], ◌�
 use Rattle.std.specs.List.{concat, join_with_byte, AllByRecursion}
 use Rattle.std.specs.declared.ops.Range.{Range}
 use Rattle.rec_text.specs.declared.fault.Fault.{Fault}
-use Rattle.rec_text.specs.Bytes.{is_nil, ends_newline}
+use Rattle.rec_text.specs.Bytes.{is_nil, closed_text}
 use Rattle.rec_text.specs.Elements.{Piece}
 use Rattle.rec_text.specs.Records.{AreRecords, is_field_piece}
 use Rattle.rec_text.specs.Values.{value_of}
@@ -16,8 +16,8 @@ use Rattle.rec_select.specs.Selection.{record_at}
 -- ---- one record
 
 -- an element's bytes, with a newline at their end
-abbrev pub closed : Piece → List ℕ
-closed piece = if ends_newline piece.bytes then piece.bytes else piece.bytes ++ 10 ∷ []
+abbrev pub printed_element : Piece → List ℕ
+printed_element piece = closed_text piece.bytes
 
 -- a value, and a newline
 abbrev pub value_line : Piece → List ℕ
@@ -34,8 +34,8 @@ picked items pieces = filter_map (λ place. slice_get pieces place) (picks items
 
 -- what is printed of a record with these elements
 abbrev pub block_of : Shape → List Piece → List ℕ
-block_of Blocks pieces = flat_map closed (filter is_field_piece pieces)
-block_of (Print items) pieces = flat_map closed (picked items pieces)
+block_of Blocks pieces = flat_map printed_element (filter is_field_piece pieces)
+block_of (Print items) pieces = flat_map printed_element (picked items pieces)
 block_of (Values items) pieces = flat_map value_line (picked items pieces)
 block_of (Row items) pieces = row_of (map value_of (picked items pieces))
 block_of Count pieces = []

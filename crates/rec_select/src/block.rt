@@ -1,11 +1,11 @@
 //! What is printed of one record.
 ghost use Rattle.std.specs.Prelude.{◌≡◌, flat_map, map, IfOk, IsOkUnless};
 ghost use Rattle.std.specs.List.{list_any};
-ghost use Rattle.rec_text.specs.Bytes.{ends_newline as newline_is_last};
+ghost use Rattle.rec_text.specs.Bytes.{ends_newline as newline_is_last, closed_text};
 ghost use Rattle.rec_text.specs.Places.{piece_of, pieces_of};
 ghost use Rattle.rec_text.specs.Records.{is_field_piece};
 ghost use Rattle.rec_text.specs.Values.{value_of};
-ghost use Rattle.rec_select.specs.proving.Blocks.{closed_text, spaced_value, in_form};
+ghost use Rattle.rec_select.specs.proving.Blocks.{spaced_value, in_form};
 ghost use Rattle.rec_select.specs.Printing.{picked as picked_of, row_of, value_line};
 ghost use Rattle.rec_select.specs.Taken.{Prints};
 
@@ -160,7 +160,7 @@ impl<'f, 't> Block<'f, 't> {
     ghost use Rattle.std.specs.Prelude.{◌≡◌, IfOk, IsOkUnless};
     ghost use Rattle.rec_text.specs.Bytes.{is_nil};
     ghost use Rattle.rec_text.specs.Places.{pieces_of};
-    ghost use Rattle.rec_select.specs.proving.Blocks.{text_of};
+    ghost use Rattle.rec_select.specs.proving.Blocks.{block_text};
     ghost use Rattle.rec_select.specs.Printing.{block_of};
     ghost use Rattle.rec_select.specs.Taken.{Prints};
 
@@ -170,7 +170,7 @@ impl<'f, 't> Block<'f, 't> {
         fields: Excerpt<'f, 't>,
         shape: &Shape,
     ) -> Result<Block<'f, 't>, Fault>
-        ensures text { IfOk result (λ block. text_of block ≡ block_of shape.now fields.entry) }
+        ensures text { IfOk result (λ block. block_text block ≡ block_of shape.now fields.entry) }
         ensures refusals { IsOkUnless result Fault.OutOfMemory }
     {
         match shape {
@@ -184,7 +184,7 @@ impl<'f, 't> Block<'f, 't> {
 
     /// Whether nothing is printed.
     pub(crate) fn is_empty(&self) -> bool
-        ensures { result ≡ is_nil (text_of self.now) }
+        ensures { result ≡ is_nil (block_text self.now) }
     {
         match self {
             Block::Fields(fields) => !has_field(fields.elements()),
@@ -195,7 +195,7 @@ impl<'f, 't> Block<'f, 't> {
     }
 
     pub(crate) fn write<S: Sink>(&self, alloc: Global, out: &mut S) -> Result<(), Fault>
-        ensures { Prints S.contents S.failure_count out.old out.new (text_of self.now) result }
+        ensures { Prints S.contents S.failure_count out.old out.new (block_text self.now) result }
     {
         match self {
             Block::Fields(fields) => fields.write_fields(out),

@@ -32,7 +32,7 @@ impl<'d, 't> Excerpt<'d, 't> {
     ghost use Rattle.rec_text.specs.Places.{pieces_of};
     ghost use Rattle.rec_text.specs.Records.{elements_in};
     ghost use Rattle.rec_select.specs.declared.records.Shape.TheVariants.{Blocks};
-    ghost use Rattle.rec_select.specs.Printing.{block_of, closed};
+    ghost use Rattle.rec_select.specs.Printing.{block_of, printed_element};
     ghost use Rattle.rec_select.specs.Taken.{Prints};
 
     /// All elements of a text.
@@ -77,7 +77,7 @@ impl<'d, 't> Excerpt<'d, 't> {
 
     /// Prints the elements, each with a newline at its end.
     fn write<S: Sink>(&self, out: &mut S) -> Result<(), Fault>
-        ensures printed { Prints S.contents S.failure_count out.old out.new (flat_map closed self.now) result }
+        ensures printed { Prints S.contents S.failure_count out.old out.new (flat_map printed_element self.now) result }
         ensures refusals { IsOkUnless result Fault.StoreFailed }
     {
         let raw = self.raw();

@@ -8,12 +8,12 @@ use Rattle.rec_text.specs.declared.fault.Fault.{Fault}
 use Rattle.rec_text.specs.declared.fault.Fault.TheVariants.{BadExpression}
 use Rattle.rec_sex.specs.declared.syntax.token.Token.{Token}
 use Rattle.rec_sex.specs.declared.syntax.token.Token.TheVariants.{Literal, Found}
-use Rattle.rec_sex.specs.declared.syntax.tree.Tree.{Tree, Integer, Literal as LiteralTree, Name, Occurrence, Count, Not', Negate', Binary', Found', Choice'}
+use Rattle.rec_sex.specs.declared.syntax.tree.Tree.{Tree, Integer, Literal as LiteralTree, Name, Occurrence, Count, Not', Negate', Binary', Found', Conditional'}
 use Rattle.rec_sex.specs.declared.expr.Expr.{Expr}
 use Rattle.rec_sex.specs.Tokens.{lexemes}
 use Rattle.rec_sex.specs.Patterns.{PatternMayBeRefused}
 use Rattle.rec_sex.specs.Meaning.{Selects}
-use Rattle.rec_sex.specs.Grammar.{Term, Derives, AreTokens, fault_of, number, literal, field, occurrence, count, inverse, negated, binary, found, choice}
+use Rattle.rec_sex.specs.Grammar.{Term, Derives, AreTokens, fault_of, number, literal, field, occurrence, count, inverse, negated, binary, found, conditional}
 
 -- the pattern of this index; the empty one where there is none
 abbrev pub pattern_at : List Re → ℕ → Re
@@ -30,7 +30,7 @@ term_under patterns (Not' p a) = inverse (term_under patterns a)
 term_under patterns (Negate' p a) = negated (term_under patterns a)
 term_under patterns (Binary' op p a q b) = binary op (term_under patterns a) (term_under patterns b)
 term_under patterns (Found' p a i) = found (term_under patterns a) (pattern_at patterns i)
-term_under patterns (Choice' p c q a r b) = choice (term_under patterns c) (term_under patterns a) (term_under patterns b)
+term_under patterns (Conditional' p c q a r b) = conditional (term_under patterns c) (term_under patterns a) (term_under patterns b)
 
 -- the same, with the patterns as they stand in memory
 abbrev pub term_with : List Regex → Tree → Term
@@ -52,7 +52,7 @@ AreSame (inverse a) (inverse b) = AreSame a b
 AreSame (negated a) (negated b) = AreSame a b
 AreSame (binary op a b) (binary other c d) = (op ≡ other) × AreSame a c × AreSame b d
 AreSame (found a pattern) (found b other) = AreSame a b × SameCaptures pattern other
-AreSame (choice c a b) (choice d e f) = AreSame c d × AreSame a e × AreSame b f
+AreSame (conditional c a b) (conditional d e f) = AreSame c d × AreSame a e × AreSame b f
 AreSame a b = a ≡ b
 
 -- Two expressions of one text are the same and select the same records; and a text that is an expression has no fault.

@@ -30,7 +30,7 @@ pub data Term : Type 0 where
   negated : Term → Term
   binary : Operator → Term → Term → Term
   found : Term → Re → Term
-  choice : Term → Term → Term → Term
+  conditional : Term → Term → Term → Term
 
 -- how strongly an operator binds: an implication the least, a product the most
 abbrev pub level_of : Operator → ℕ
@@ -54,11 +54,11 @@ level_of Remainder = 7
 abbrev pub IsPatternOf : List ℕ → Re → Type 0
 IsPatternOf text pattern = (r : Regex) × (regex_source r ≡ text) × (regex_config r ≡ default_config) × IsReadFromSource r × (regex_pattern r ≡ pattern)
 
--- These tokens are an expression of this level: 0 with a choice, 1 to 7 by the operators, 8 with a sign, 9 an operand.
+-- These tokens are an expression of this level: 0 with a conditional, 1 to 7 by the operators, 8 with a sign, 9 an operand.
 pub data Derives : ℕ → List Token → Term → Type 0 where
   -- expr = imp [ "?" expr ":" expr ]
-  by_choice : (tokens condition yes_part no_part : List Token) (c a b : Term) → tokens ≡ condition ++ Then ∷ (yes_part ++ Else ∷ no_part)
-      → Derives 1 condition c → Derives 0 yes_part a → Derives 0 no_part b → Derives 0 tokens (choice c a b)
+  by_conditional : (tokens condition yes_part no_part : List Token) (c a b : Term) → tokens ≡ condition ++ Then ∷ (yes_part ++ Else ∷ no_part)
+      → Derives 1 condition c → Derives 0 yes_part a → Derives 0 no_part b → Derives 0 tokens (conditional c a b)
   -- imp = or [ "=>" imp ]
   by_implication : (tokens left right : List Token) (a b : Term) → tokens ≡ left ++ Binary Implies ∷ right
       → Derives 2 left a → Derives 1 right b → Derives 1 tokens (binary Implies a b)

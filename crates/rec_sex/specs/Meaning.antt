@@ -9,7 +9,7 @@ use Rattle.rec_text.specs.Elements.{Piece, name_of}
 use Rattle.rec_text.specs.Values.{value_of}
 use Rattle.rec_sex.specs.declared.syntax.token.Operator.{Operator}
 use Rattle.rec_sex.specs.declared.syntax.token.Operator.TheVariants.{Equal, NotEqual, Less, Greater, LessOrEqual, GreaterOrEqual, Join, Add, Subtract, Multiply, Divide, Remainder, And, Or, Implies}
-use Rattle.rec_sex.specs.Grammar.{Term, number, literal, field, occurrence, count, inverse, negated, binary, found, choice}
+use Rattle.rec_sex.specs.Grammar.{Term, number, literal, field, occurrence, count, inverse, negated, binary, found, conditional}
 use Rattle.rec_sex.specs.Integers.{int_of}
 
 -- ---- fields of a record
@@ -120,7 +120,7 @@ sem (inverse a) pieces c = inverted (sem a pieces c)
 sem (negated a) pieces c = negation_of (sem a pieces c)
 sem (binary op a b) pieces c = applied op (sem a pieces c) (sem b pieces c)
 sem (found a pattern) pieces c = option_map (λ x. truth (is_found pattern (as_text x))) (sem a pieces c)
-sem (choice condition a b) pieces c = option_and_then (λ x. option_and_then (λ z. if is_zero z then sem b pieces c else sem a pieces c) (reading_of x)) (sem condition pieces c)
+sem (conditional condition a b) pieces c = option_and_then (λ x. option_and_then (λ z. if is_zero z then sem b pieces c else sem a pieces c) (reading_of x)) (sem condition pieces c)
 
 -- the occurrence chosen for each name is one that the record has
 abbrev pub IsChoice : List Piece → Assignment → Type 0

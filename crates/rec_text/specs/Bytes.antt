@@ -1,5 +1,8 @@
 -- Classes of bytes, and tests on the ends of a text. 9 is a tab, 10 a newline, 32 a space, 35 `#`, 37 `%`, 43 `+`, 58 `:`, 92 a backslash.
-use Rattle.std.specs.Prelude.{ℕ, Bool, true, false, List, [], ◌∷◌, ◌++◌, ◌==◌, ◌||◌, ◌&&◌, if◌then◌else◌, nat_le}
+use Rattle.std.specs.Prelude.{ℕ, Bool, true, false, List, [], ◌∷◌, ◌++◌, ◌==◌, ◌||◌, ◌&&◌, if◌then◌else◌, map, nat_le}
+use Rattle.std.specs.Borrow.{Bor}
+use Rattle.std.specs.List.{list_any}
+use Rattle.std.specs.Str.{bytes_eq}
 
 -- a space or a tab
 abbrev pub is_blank : ℕ → Bool
@@ -44,3 +47,11 @@ ends_newline (b ∷ c ∷ cs) = ends_newline (c ∷ cs)
 -- the text, with a newline added where it doesn't end in one
 abbrev pub closed_text : List ℕ → List ℕ
 closed_text text = if ends_newline text then text else text ++ 10 ∷ []
+
+-- the text is one of these
+abbrev pub is_among : List (List ℕ) → List ℕ → Bool
+is_among texts text = list_any (bytes_eq text) texts
+
+-- the bytes of each text that is referred to
+abbrev pub texts : List (Bor (List ℕ)) → List (List ℕ)
+texts references = map (λ one. one.now) references

@@ -1,10 +1,11 @@
 -- Lemmas on the text of a batch.
 use Rattle.std.proofs.Common.{◌≡◌, ◌≢◌, ℕ, Bool, true, false, List, [], ◌∷◌, ◌++◌, Option, Some, None, map, take, codes, length, drop, get_or, zero, suc, ◌+◌, ◌<◌, inl, inr, arith, add-one, ◌==◌, if◌then◌else◌, ◌∙◌, refl, sym, ap, subst}
 use Rattle.std.specs.Prelude.{Result, Ok, Err, IfOk, IfErr, option_to_list}
-use Rattle.std.specs.List.{AllByRecursion, AllZip, list_any}
+use Rattle.std.specs.List.{AllByRecursion, AllZip}
 use Rattle.std.specs.declared.ops.Range.{Range}
 use Rattle.rec_text.specs.declared.fault.Fault.{Fault}
 use Rattle.rec_text.specs.declared.fault.Fault.TheVariants.{BadLine, OpenLine, BadBatch}
+use Rattle.rec_text.specs.Bytes.{is_among}
 use Rattle.rec_text.specs.Elements.{Piece, AreElementsOf, name_of, text_of}
 use Rattle.rec_text.specs.Reading.{IsReading, line_after}
 use Rattle.rec_text.proofs.lemmas.ListLemmas.{AllByRecursion-following}
@@ -12,7 +13,6 @@ use Rattle.rec_text.proofs.lemmas.elements.ElementLemmas.{text_of-take}
 use Rattle.rec_text.proofs.lemmas.reading.ReadingLemmas.{one_reading}
 use Rattle.rec_text.proofs.lemmas.records.RecordLemmas.{OneListOfRecords-holds}
 use Rattle.std.proofs.lemmas.List.{map-append}
-use Rattle.std.specs.Str.{bytes_eq}
 use Rattle.std.proofs.lemmas.Slice.Zip.{all_zipped_more}
 use Rattle.rec_text.specs.Records.{AreRecords, elements_in, is_field_piece}
 use Rattle.rec_journal.specs.declared.event.Tool.{Tool}
@@ -239,10 +239,10 @@ one_answer text one other (inr a) (inr b) =
 -- ---- names that are known
 
 pub is_known-field : (names : List (List ℕ)) (piece : Piece) (name : List ℕ) (known : Bool) → is_field_piece piece ≡ true
-    → name ≡ name_of piece → known ≡ list_any (bytes_eq name) names → known ≡ is_known names piece
+    → name ≡ name_of piece → known ≡ is_among names name → known ≡ is_known names piece
 is_known-field names piece name known field named told =
-    told ∙ (ap (λ name. list_any (bytes_eq name) names) named
-    ∙ ap (λ field. if field then list_any (bytes_eq (name_of piece)) names else true) (sym field))
+    told ∙ (ap (is_among names) named
+    ∙ ap (λ field. if field then is_among names (name_of piece) else true) (sym field))
 
 -- ---- the answer for a text
 

@@ -22,15 +22,15 @@ use Rattle.rec_edit.specs.declared.request.Pair.{Pair}
 use Rattle.rec_edit.specs.declared.request.Action.{Action}
 use Rattle.rec_edit.specs.declared.request.Action.TheVariants.{Set, Add, SetAdd, Rename, Delete, Comment as CommentFields}
 use Rattle.rec_edit.specs.declared.batches.BatchEdited.{BatchEdited}
-use Rattle.rec_edit.specs.Batch.{IsEditScriptOn, step_with, at_most_greatest, AreSteps, IsBatchOutcome}
+use Rattle.rec_edit.specs.declared.outcome.Edited.{Edited}
+use Rattle.rec_edit.specs.Batch.{IsEditOn, step_with, at_most_greatest, AreSteps, IsBatchOutcome}
 use Rattle.rec_edit.specs.Task.{NewRecord, Wanted, Task, insert, replace, delete, comment_out, set, auto_fill, fresh_by, tool_of}
 use Rattle.rec_edit.specs.Insertions.{Numbered, Filled, numbered_fields, filling}
 use Rattle.rec_edit.specs.Automatic.{AreAutomatic, AreFilledSets}
-use Rattle.rec_edit.specs.Script.{Layout, edited_text}
-use Rattle.rec_edit.specs.proving.Changes.{hunks_of}
+use Rattle.rec_edit.specs.Script.{Layout}
 use Rattle.rec_edit.specs.Rules.{fields_of, deletion, commenting, replacement, setting}
 use Rattle.rec_edit.specs.Wording.{unnumbered, names_of_action, values_of_action, written, AreItemsFor, IsNewRecord}
-use Rattle.rec_edit.specs.Outcome.{AreChosen, AreRemovable, allowed, EditScript, edit_script, insert_script, IsEditScript, none_of, IsSoundUnlessForced, edited_by, IsOutcome}
+use Rattle.rec_edit.specs.Outcome.{AreChosen, AreRemovable, allowed, EditScript, IsLaidOut, IsPutIn, IsEditScript, none_of, IsSoundUnlessForced, IsEditedBy, IsEditOf, IsOutcome}
 use Rattle.rec_edit.proofs.lemmas.outcomes.OneBatchLemmas.{one_batch}
 use Rattle.rec_edit.proofs.lemmas.outcomes.OutcomeLemmas.{one_outcome}
 use Rattle.rec_tools.specs.declared.request.Pick.{Pick}
@@ -174,28 +174,31 @@ tasks_alike requests others alike one other is is_too =
 
 -- tasks that are alike make the same
 module _ (task other : Task) (alike : AreDoneAlike task other) (force : Bool) where
+  edit_alike : (pieces : List Piece) (schema : Described) (r : Result Edited Fault) → IsEditOf pieces schema force task r → IsEditOf pieces schema force other r
+  edit_alike pieces schema = Then-first (IsEditScript pieces schema force task) (IsEditScript pieces schema force other) _ (alike.step pieces schema force)
+
   one_alike : (text : DescribedText) (r : Result (Tool × BatchEdited) Fault) → Makes text (one_edit task, force) r → Makes text (one_edit other, force) r
   one_alike text r h =
       subst (λ tool. Then (IsOutcome text.pieces text.schema force other) (λ edited answer. answer ≡ Ok (tool, by_one tool edited)) r) alike.tool
       (Then-first (IsOutcome text.pieces text.schema force task) (IsOutcome text.pieces text.schema force other)
       (λ edited answer. answer ≡ Ok (tool_of task, by_one (tool_of task) edited))
-      (Then-first (IsEditScript text.pieces text.schema force task) (IsEditScript text.pieces text.schema force other) _ (alike.step text.pieces text.schema force)) r h)
+      (Then-first (IsEditOf text.pieces text.schema force task) (IsEditOf text.pieces text.schema force other) _ (edit_alike text.pieces text.schema)) r h)
 
-  step_alike : (text : List ℕ) (r : Result EditScript Fault) → IsEditScriptOn force task text r → IsEditScriptOn force other text r
-  step_alike text = Then-next (IsDescribedText text) (λ described. IsEditScript described.pieces described.schema force task)
-      (λ described. IsEditScript described.pieces described.schema force other) (λ described. alike.step described.pieces described.schema force)
+  step_alike : (text : List ℕ) (r : Result Edited Fault) → IsEditOn force task text r → IsEditOn force other text r
+  step_alike text = Then-next (IsDescribedText text) (λ described. IsEditOf described.pieces described.schema force task)
+      (λ described. IsEditOf described.pieces described.schema force other) (λ described. edit_alike described.pieces described.schema)
 
 -- what an edit by a tool and those after it make of a text
-abbrev joined_by : Tool → EditScript → BatchEdited → BatchEdited
+abbrev joined_by : Tool → Edited → BatchEdited → BatchEdited
 joined_by tool step rest = record {
-  steps = step_with tool (hunks_of step.script) ++ rest.steps;
+  steps = step_with tool step.patch ++ rest.steps;
   text = rest.text;
   changed = at_most_greatest (step.changed + rest.changed);
 }
 
 -- what becomes of a step and of those after it
-abbrev Joins : Bool → Tool → List Task → EditScript → Result BatchEdited Fault → Type 0
-Joins force tool tasks step = Then (AreSteps force tasks (edited_text step.script)) (λ rest answer. answer ≡ Ok (joined_by tool step rest))
+abbrev Joins : Bool → Tool → List Task → Edited → Result BatchEdited Fault → Type 0
+Joins force tool tasks step = Then (AreSteps force tasks step.text) (λ rest answer. answer ≡ Ok (joined_by tool step rest))
 
 steps_alike : (force : Bool) (tasks others : List Task) → AllZip AreDoneAlike tasks others → (text : List ℕ) (r : Result BatchEdited Fault)
     → AreSteps force tasks text r → AreSteps force others text r
@@ -203,11 +206,11 @@ steps_alike force [] [] alike text r h = h
 steps_alike force [] (other ∷ others) alike text r h = absurd alike
 steps_alike force (task ∷ tasks) [] alike text r h = absurd alike
 steps_alike force (task ∷ tasks) (other ∷ others) (alike, rest) text r h =
-    Then-first (IsEditScriptOn force task text) (IsEditScriptOn force other text) (Joins force (tool_of other) others) (step_alike task other alike force text) r
-    (Then-next (IsEditScriptOn force task text) (Joins force (tool_of task) tasks) (Joins force (tool_of other) others)
+    Then-first (IsEditOn force task text) (IsEditOn force other text) (Joins force (tool_of other) others) (step_alike task other alike force text) r
+    (Then-next (IsEditOn force task text) (Joins force (tool_of task) tasks) (Joins force (tool_of other) others)
     (λ step s is. subst (λ tool. Joins force tool others step s) alike.tool
-    (Then-first (AreSteps force tasks (edited_text step.script)) (AreSteps force others (edited_text step.script))
-    (λ made answer. answer ≡ Ok (joined_by (tool_of task) step made)) (steps_alike force tasks others rest (edited_text step.script)) s is)) r h)
+    (Then-first (AreSteps force tasks step.text) (AreSteps force others step.text)
+    (λ made answer. answer ≡ Ok (joined_by (tool_of task) step made)) (steps_alike force tasks others rest step.text) s is)) r h)
 
 batch_alike : (force : Bool) (tasks others : List Task) → AllZip AreDoneAlike tasks others → (text : List ℕ) (r : Result BatchEdited Fault)
     → IsBatchOutcome force tasks text r → IsBatchOutcome force others text r
@@ -322,46 +325,49 @@ module _ (text : DescribedText) (wanted : Wanted) where
       no_store_then (λ answer. answer ≡ allowed wanted.filter force) (λ _ answer. answer ≡ Ok chosen) (no_store_allowed wanted.filter force)
       (λ _. ok_is_no_err chosen StoreFailed ⊥))
 
-  -- a step that is laid of each of some ranges
-  abbrev Lays : (List (Range ℕ) → Layout) → List (Range ℕ) → Result EditScript Fault → Type 0
-  Lays layout chosen answer = answer ≡ Ok (edit_script text.pieces chosen (layout chosen))
+  no_store_lays : (layout : List (Range ℕ) → Layout) (chosen : List (Range ℕ)) → IsLaidOut text.pieces chosen (layout chosen) (Err StoreFailed) → ⊥
+  no_store_lays layout chosen (script, is, e) = cc
 
-  no_store_lays : (layout : List (Range ℕ) → Layout) (chosen : List (Range ℕ)) → Lays layout chosen (Err StoreFailed) → ⊥
-  no_store_lays layout chosen e = ok_is_no_err (edit_script text.pieces chosen (layout chosen)) StoreFailed ⊥ e
+-- the step that is laid out of each of some ranges
+abbrev Lays : DescribedText → (List (Range ℕ) → Layout) → List (Range ℕ) → Result EditScript Fault → Type 0
+Lays text layout chosen = IsLaidOut text.pieces chosen (layout chosen)
 
 -- the step that puts a new record in
 abbrev Puts : DescribedText → Option (List ℕ) → List Pair → List Numbered → Result EditScript Fault → Type 0
 Puts text record_type pairs automatic answer = (records : List (Range ℕ)) × AreRecords text.pieces records
-    × (answer ≡ Ok (insert_script text.pieces records text.schema.sets record_type (numbered_fields automatic ++ fields_of pairs)))
+    × IsPutIn text.pieces records text.schema.sets record_type (numbered_fields automatic ++ fields_of pairs) answer
+
+no_store_puts : (text : DescribedText) (record_type : Option (List ℕ)) (pairs : List Pair) (automatic : List Numbered) → Puts text record_type pairs automatic (Err StoreFailed) → ⊥
+no_store_puts text record_type pairs automatic (records, are, (script, is, e)) = cc
 
 no_store_step : (text : DescribedText) (force : Bool) (task : Task) → IsEditScript text.pieces text.schema force task (Err StoreFailed) → ⊥
 no_store_step text force (insert record_type fresh auto) =
     let numbered : List Pair → Result (List Numbered) Fault → Type 0 = λ pairs. AreAutomatic text.pieces text.schema record_type auto (map (λ pair. pair.name) pairs) in
     no_store_then (IsNewRecord record_type fresh) (λ pairs. Then (numbered pairs) (Puts text record_type pairs)) (no_store_new_record record_type fresh) (λ pairs.
-    no_store_then (numbered pairs) (Puts text record_type pairs) (no_store_automatic text.pieces text.schema (map (λ pair. pair.name) pairs) record_type auto) (λ automatic h.
-    ok_is_no_err (insert_script text.pieces h.0 text.schema.sets record_type (numbered_fields automatic ++ fields_of pairs)) StoreFailed ⊥ h.2))
+    no_store_then (numbered pairs) (Puts text record_type pairs) (no_store_automatic text.pieces text.schema (map (λ pair. pair.name) pairs) record_type auto)
+    (no_store_puts text record_type pairs))
 no_store_step text force (replace wanted fresh) =
     let puts : List Pair → List (Range ℕ) → Layout = λ pairs. replacement (fields_of pairs) in
-    no_store_then (IsNewRecord None fresh) (λ pairs. Then (AreChosen text.pieces text.schema.sets wanted) (Lays text wanted (puts pairs)))
+    no_store_then (IsNewRecord None fresh) (λ pairs. Then (AreChosen text.pieces text.schema.sets wanted) (Lays text (puts pairs)))
     (no_store_new_record None fresh) (λ pairs.
-    no_store_then (AreChosen text.pieces text.schema.sets wanted) (Lays text wanted (puts pairs)) (no_store_chosen text wanted)
+    no_store_then (AreChosen text.pieces text.schema.sets wanted) (Lays text (puts pairs)) (no_store_chosen text wanted)
     (no_store_lays text wanted (puts pairs)))
 no_store_step text force (delete wanted) =
-    no_store_then (AreRemovable text.pieces text.schema.sets wanted force) (Lays text wanted (deletion text.pieces)) (no_store_removable text wanted force)
+    no_store_then (AreRemovable text.pieces text.schema.sets wanted force) (Lays text (deletion text.pieces)) (no_store_removable text wanted force)
     (no_store_lays text wanted (deletion text.pieces))
 no_store_step text force (comment_out wanted) =
-    no_store_then (AreRemovable text.pieces text.schema.sets wanted force) (Lays text wanted commenting) (no_store_removable text wanted force)
+    no_store_then (AreRemovable text.pieces text.schema.sets wanted force) (Lays text commenting) (no_store_removable text wanted force)
     (no_store_lays text wanted commenting)
 no_store_step text force (set wanted list action) =
     let sets_in : List Item → List (Range ℕ) → Layout = λ items. setting action items text.pieces in
-    no_store_then (AreItemsFor action list) (λ items. Then (AreChosen text.pieces text.schema.sets wanted) (Lays text wanted (sets_in items)))
+    no_store_then (AreItemsFor action list) (λ items. Then (AreChosen text.pieces text.schema.sets wanted) (Lays text (sets_in items)))
     (no_store_items action list) (λ items.
-    no_store_then (AreChosen text.pieces text.schema.sets wanted) (Lays text wanted (sets_in items)) (no_store_chosen text wanted)
+    no_store_then (AreChosen text.pieces text.schema.sets wanted) (Lays text (sets_in items)) (no_store_chosen text wanted)
     (no_store_lays text wanted (sets_in items)))
 no_store_step text force auto_fill = λ h.
-    let fills : List Filled → Result EditScript Fault → Type 0 = λ filled answer. answer ≡ Ok (edit_script text.pieces (map (λ one. one.range) filled) (filling filled)) in
+    let fills : List Filled → Result EditScript Fault → Type 0 = λ filled. IsLaidOut text.pieces (map (λ one. one.range) filled) (filling filled) in
     no_store_then (AreFilledSets text.pieces h.0 text.schema.sets text.schema.rules) fills (no_store_filled_sets text.pieces h.0 text.schema.sets text.schema.rules)
-    (λ filled. ok_is_no_err (edit_script text.pieces (map (λ one. one.range) filled) (filling filled)) StoreFailed ⊥) h.2
+    (λ filled (script, is, e). cc) h.2
 
 no_store_none : (found : List Violation) → Err StoreFailed ≡ none_of found → ⊥
 no_store_none [] e = cc
@@ -371,24 +377,27 @@ no_store_sound : (force : Bool) (text : List ℕ) → IsSoundUnlessForced force 
 no_store_sound true text e = cc
 no_store_sound false text h = no_store_then (AreViolationsOf text) (λ found answer. answer ≡ none_of found) (no_store_report text) no_store_none h
 
+no_store_edit : (text : DescribedText) (force : Bool) (task : Task) → IsEditOf text.pieces text.schema force task (Err StoreFailed) → ⊥
+no_store_edit text force task =
+    no_store_then (IsEditScript text.pieces text.schema force task) (λ edit answer. (edited : Edited) × IsEditedBy edit edited × (answer ≡ Ok edited)) (no_store_step text force task)
+    (λ edit (edited, by, e). cc)
+
 no_store_task : (task : Task) (force : Bool) (text : DescribedText) → IsOutcome text.pieces text.schema force task (Err StoreFailed) → ⊥
 no_store_task task force text =
-    no_store_then (IsEditScript text.pieces text.schema force task)
-    (λ step. Then (IsSoundUnlessForced force (edited_text step.script)) (λ _ answer. answer ≡ Ok (edited_by step))) (no_store_step text force task) (λ step.
-    no_store_then (IsSoundUnlessForced force (edited_text step.script)) (λ _ answer. answer ≡ Ok (edited_by step)) (no_store_sound force (edited_text step.script))
-    (λ _. ok_is_no_err (edited_by step) StoreFailed ⊥))
+    no_store_then (IsEditOf text.pieces text.schema force task) (λ edited. Then (IsSoundUnlessForced force edited.text) (λ _ answer. answer ≡ Ok edited)) (no_store_edit text force task) (λ edited.
+    no_store_then (IsSoundUnlessForced force edited.text) (λ _ answer. answer ≡ Ok edited) (no_store_sound force edited.text) (λ _. ok_is_no_err edited StoreFailed ⊥))
 
-no_store_step_on : (force : Bool) (task : Task) (text : List ℕ) → IsEditScriptOn force task text (Err StoreFailed) → ⊥
-no_store_step_on force task text =
-    no_store_then (IsDescribedText text) (λ described. IsEditScript described.pieces described.schema force task) (no_store_text text)
-    (λ described. no_store_step described force task)
+no_store_edit_on : (force : Bool) (task : Task) (text : List ℕ) → IsEditOn force task text (Err StoreFailed) → ⊥
+no_store_edit_on force task text =
+    no_store_then (IsDescribedText text) (λ described. IsEditOf described.pieces described.schema force task) (no_store_text text)
+    (λ described. no_store_edit described force task)
 
 no_store_steps : (force : Bool) (tasks : List Task) (text : List ℕ) → AreSteps force tasks text (Err StoreFailed) → ⊥
 no_store_steps force [] text = ok_is_no_err (record { steps = []; text = text; changed = 0 }) StoreFailed ⊥
 no_store_steps force (task ∷ tasks) text =
-    no_store_then (IsEditScriptOn force task text) (Joins force (tool_of task) tasks) (no_store_step_on force task text) (λ step.
-    no_store_then (AreSteps force tasks (edited_text step.script)) (λ rest answer. answer ≡ Ok (joined_by (tool_of task) step rest))
-    (no_store_steps force tasks (edited_text step.script)) (λ rest. ok_is_no_err (joined_by (tool_of task) step rest) StoreFailed ⊥))
+    no_store_then (IsEditOn force task text) (Joins force (tool_of task) tasks) (no_store_edit_on force task text) (λ step.
+    no_store_then (AreSteps force tasks step.text) (λ rest answer. answer ≡ Ok (joined_by (tool_of task) step rest))
+    (no_store_steps force tasks step.text) (λ rest. ok_is_no_err (joined_by (tool_of task) step rest) StoreFailed ⊥))
 
 no_store_batch : (force : Bool) (tasks : List Task) (text : List ℕ) → IsBatchOutcome force tasks text (Err StoreFailed) → ⊥
 no_store_batch force tasks text =

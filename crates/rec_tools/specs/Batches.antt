@@ -1,10 +1,10 @@
 -- The text of a batch: a rec text, each record of which asks for an edit. The fields of the record are the options of a tool.
 use Rattle.std.specs.Prelude.{◌≡◌, ◌≢◌, ◌⊎◌, ℕ, Bool, true, false, not, if◌then◌else◌, List, [], ◌∷◌, ◌++◌, map, take, codes, Option, Some, None, option_to_list, Result, Ok, Err}
-use Rattle.std.specs.List.{AllByRecursion, AllZip, list_all, list_any}
-use Rattle.std.specs.Str.{bytes_eq}
+use Rattle.std.specs.List.{AllByRecursion, AllZip, list_all}
 use Rattle.std.specs.declared.ops.Range.{Range}
 use Rattle.rec_text.specs.declared.fault.Fault.{Fault}
 use Rattle.rec_text.specs.declared.fault.Fault.TheVariants.{BadBatch}
+use Rattle.rec_text.specs.Bytes.{is_among}
 use Rattle.rec_text.specs.Elements.{Piece, AreElementsOf, name_of, text_of}
 use Rattle.rec_text.specs.Reading.{HasBadLine, HasOpenLine, line_after}
 use Rattle.rec_text.specs.Records.{AreRecords, elements_in, is_field_piece}
@@ -39,7 +39,7 @@ names_for Batch = []
 
 -- the element has one of these names, if it is a field
 abbrev pub is_known : List (List ℕ) → Piece → Bool
-is_known names piece = if is_field_piece piece then list_any (bytes_eq (name_of piece)) names else true
+is_known names piece = if is_field_piece piece then is_among names (name_of piece) else true
 
 -- the record names this tool, and has no fields but those of the tool
 pub record IsBy (tool : Tool) (own : List Piece) : Type 0 where

@@ -1,7 +1,6 @@
 //! The edits that a rec text lists, each in a record.
 ghost use Rattle.std.specs.Prelude.{◌≡◌, ◌≢◌, ◌≤◌, ℕ, List, [], true, map, length, codes, Result, Ok, Err, option_to_list, IfOk, IfErr, MatchOption};
-ghost use Rattle.std.specs.List.{AllZip, list_any, list_all};
-ghost use Rattle.std.specs.Str.{bytes_eq};
+ghost use Rattle.std.specs.List.{AllZip, list_all};
 ghost use Rattle.rec_text.specs.declared.fault.Fault.{Fault};
 ghost use Rattle.rec_text.specs.Faults.{IsMemoryOr};
 ghost use Rattle.rec_text.specs.Places.{piece_of, pieces_of};
@@ -327,24 +326,12 @@ fn names_for(tool: Tool) -> &'static [&'static [u8]]
     }
 }
 
-/// Whether a name is one of these.
-fn is_among(names: &[&[u8]], name: &[u8]) -> bool
-    ensures { result ≡ list_any (bytes_eq name.now) (map (λ one. one.now) names.now) }
-{
-    for one in names {
-        if name == *one {
-            return true;
-        }
-    }
-    false
-}
-
 /// Whether an element has one of these names, if it is a field.
 fn is_known(element: &Element<'_>, names: &[&[u8]]) -> bool
     ensures { result ≡ is_known_by (map (λ name. name.now) names.now) (piece_of element.now) }
 {
     if element.is_field() {
-        is_among(names, element.name())
+        names.contains(&element.name())
     } else {
         true
     }

@@ -1,12 +1,12 @@
 -- The types of sets, and what is found among them.
 use Rattle.std.proofs.Common.{◌≡◌, ◌∙◌, ℕ, ◌+◌, Bool, true, false, not, cond, ◌||◌, List, [], ◌∷◌, ◌++◌, length, map, position, Option, Some, None, ltb, refl, ap, ap₂, sym, inl, inr, suc, arith}
-use Rattle.std.proofs.lemmas.Bool.{cases_Bool, cases_lt, false≢true, lt-ltb, le-ltb}
+use Rattle.std.proofs.lemmas.Bool.{cases_Bool, cases_lt, lt-ltb, le-ltb}
 use Rattle.std.proofs.lemmas.List.{length-map, map-append}
 use Rattle.std.proofs.lemmas.Option.{none-some}
-use Rattle.std.proofs.lemmas.Slice.Eq.{bytes_eq-Decides}
 use Rattle.std.specs.List.{list_any, prefix_len, position_or_len, filter_map, cons_option}
 use Rattle.std.specs.Option.{option_map, option_map_or}
 use Rattle.std.specs.Str.{bytes_eq}
+use Rattle.rec_text.proofs.lemmas.ListLemmas.{bytes_eq-sym}
 use Rattle.rec_check.specs.declared.set.Set_.{Set_}
 use Rattle.rec_check.specs.Sets.{is_of_type}
 use Rattle.rec_check.specs.proving.Steps.{record_types, with_member, with_record, HaveTypes}
@@ -22,17 +22,6 @@ module _ {X Y : Type 0} (test : Y → Bool) (f : X → Y) where
 
   pub position-map : (xs : List X) → position test (map f xs) ≡ position (λ x. test (f x)) xs
   position-map xs = ap₂ (λ n size. cond (ltb n size) (Some n) None) (position_or_len-map xs) (length-map xs f)
-
--- ---- the types of sets
-
-pub bytes_eq-sym : (some other : List ℕ) → bytes_eq some other ≡ bytes_eq other some
-bytes_eq-sym some other = elim (cases_Bool (bytes_eq some other)) [
-  | inl same ↦ let e : some ≡ other = (bytes_eq-Decides some other).0 same in ap (λ x. bytes_eq x other) e ∙ ap (bytes_eq other) (sym e)
-  | inr apart ↦ elim (cases_Bool (bytes_eq other some)) [
-    | inl same ↦ absurd (false≢true (sym apart ∙ (bytes_eq-Decides some other).1 (sym ((bytes_eq-Decides other some).0 same))))
-    | inr both ↦ apart ∙ sym both
-  ]
-]
 
 -- ---- the types of the sets after the untyped one
 

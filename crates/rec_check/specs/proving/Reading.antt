@@ -25,7 +25,8 @@ use Rattle.rec_check.specs.proving.Flaws.{FieldIsRead, field_flaw}
 use Rattle.rec_check.specs.proving.Steps.{with_record}
 use Rattle.rec_check.specs.Stored.{definition_stored, rules_stored, typing_stored}
 use Rattle.rec_check.specs.Types.{Definition, Typing, IsDefinition, IsTyping, DefinitionMayBeRefused, TypeMayBeRefused}
-use Rattle.rec_check.specs.Words.{words, is_among}
+use Rattle.rec_check.specs.Words.{words}
+use Rattle.rec_text.specs.Bytes.{is_among}
 
 -- ---- one field
 

@@ -8,7 +8,8 @@ use Rattle.rec_text.specs.Elements.{Piece, name_of}
 use Rattle.rec_text.specs.Values.{value_of}
 use Rattle.rec_check.specs.declared.checks.singular.Singular.{Singular}
 use Rattle.rec_check.specs.Violations.{stands_in}
-use Rattle.rec_check.specs.Words.{distinct, is_among}
+use Rattle.rec_check.specs.Words.{distinct}
+use Rattle.rec_text.specs.Bytes.{is_among}
 
 -- a field of the name at this place had this value
 abbrev pub has_seen_at : Singular → List ℕ → ℕ → Bool

@@ -4,7 +4,7 @@ ghost use Rattle.std.specs.List.{AllByRecursion};
 ghost use Rattle.rec_text.specs.Faults.{UnlessMemory};
 ghost use Rattle.rec_text.specs.Places.{piece_of, pieces_of};
 ghost use Rattle.rec_check.specs.Automatic.{IsNext, readings};
-ghost use Rattle.rec_check.specs.Checks.{texts};
+ghost use Rattle.rec_text.specs.Bytes.{texts};
 ghost use Rattle.rec_check.specs.Counters.{greatest_at, Counts, CountsFrom, HoldsGreatest, counter_names, IsKept, AreCounters};
 ghost use Rattle.rec_check.specs.Counting.{readings_in};
 ghost use Rattle.rec_check.specs.Stored.{rules_stored};

@@ -1,6 +1,6 @@
 //! Adds to the violations that are found.
 ghost use Rattle.std.specs.Prelude.{◌≡◌, ◌++◌, ◌∷◌, [], OnOk, IsOkUnless};
-ghost use Rattle.rec_check.specs.Checks.{texts};
+ghost use Rattle.rec_text.specs.Bytes.{texts};
 ghost use Rattle.rec_check.specs.Violations.{violation, violations_of};
 
 use rec_text::{Bytes, Fault, Rule, Violation};

@@ -1,7 +1,7 @@
 //! Lists of names.
 ghost use Rattle.std.specs.Prelude.{◌≡◌, ◌||◌, ℕ, List, OnOk, IsOkUnless};
 ghost use Rattle.rec_check.specs.proving.Names.{has_name};
-ghost use Rattle.rec_check.specs.Words.{is_among as among};
+ghost use Rattle.rec_text.specs.Bytes.{is_among as among};
 
 use indexmap::IndexSet;
 use rec_text::{Bytes, Fault};
@@ -35,7 +35,7 @@ pub(crate) struct Names<'n> {
 
 impl<'n> Model for Names<'n> {
     ghost use Rattle.std.specs.Prelude.{◌≡◌, ℕ, List};
-    ghost use Rattle.rec_check.specs.Checks.{texts};
+    ghost use Rattle.rec_text.specs.Bytes.{texts};
     ghost use Rattle.rec_check.specs.Words.{distinct};
 
     ghost Value = { List (List ℕ) };
@@ -47,11 +47,11 @@ impl<'n> Model for Names<'n> {
 
 impl<'n> Names<'n> {
     ghost use Rattle.std.specs.Prelude.{◌≡◌, ◌++◌, ◌∷◌, [], filter_map, if◌then◌else◌, length, position, slice_get, None, Some, IfOk, OnOk, IsOkUnless};
+    ghost use Rattle.rec_text.specs.Bytes.{texts};
     ghost use Rattle.std.specs.BTreeSet.{contains};
     ghost use Rattle.std.specs.List.{enumerate_from};
     ghost use Rattle.std.specs.Ordering.{nat_cmp};
     ghost use Rattle.std.specs.Str.{bytes_eq};
-    ghost use Rattle.rec_check.specs.Checks.{texts};
     ghost use Rattle.rec_check.specs.Words.{distinct};
 
     pub(crate) fn new(alloc: Global) -> Names<'n>

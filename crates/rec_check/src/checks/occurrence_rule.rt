@@ -61,7 +61,8 @@ pub(crate) struct OccurrenceCheck<'r> {
 impl<'r> OccurrenceCheck<'r> {
     ghost use Rattle.std.specs.Prelude.{◌≡◌, ◌++◌, IfOk, OnOk, IsOkUnless};
     ghost use Rattle.rec_text.specs.Places.{pieces_of};
-    ghost use Rattle.rec_check.specs.Checks.{breaking, occurrence_violations, texts};
+    ghost use Rattle.rec_check.specs.Checks.{breaking, occurrence_violations};
+    ghost use Rattle.rec_text.specs.Bytes.{texts};
     ghost use Rattle.rec_check.specs.Words.{distinct};
 
     pub(crate) fn of(

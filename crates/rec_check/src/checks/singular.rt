@@ -28,7 +28,8 @@ impl<'r, 't> Singular<'r, 't> {
     ghost use Rattle.rec_check.specs.proving.NamesSeen.{places_of};
     ghost use Rattle.rec_check.specs.proving.Singulars.{IsSingularAfter, has_seen, is_repeat};
     ghost use Rattle.rec_check.specs.Violations.{breaks_singular, violations_of};
-    ghost use Rattle.rec_check.specs.Words.{distinct, is_among};
+    ghost use Rattle.rec_check.specs.Words.{distinct};
+    ghost use Rattle.rec_text.specs.Bytes.{is_among};
 
     pub(crate) fn of(alloc: Global, names: &'r [Bytes]) -> Result<Singular<'r, 't>, Fault>
         ensures after { IfOk result (λ singular. IsSingularAfter names.now [] singular) }

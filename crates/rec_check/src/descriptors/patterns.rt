@@ -42,7 +42,7 @@ fn built(alloc: Global, text: &str) -> Result<Regex, Refusal>
 impl Patterns {
     ghost use Rattle.std.specs.Prelude.{◌≡◌, [], true, OnOk};
     ghost use Rattle.rec_check.specs.proving.Kinds.{IsSharedPatternFor};
-    ghost use Rattle.rec_check.specs.Words.{is_among};
+    ghost use Rattle.rec_text.specs.Bytes.{is_among};
 
     pub(crate) fn new(alloc: Global) -> Patterns
         ensures { result ≡ [] }

@@ -20,7 +20,7 @@ impl Model for TypeNames {
 impl TypeNames {
     ghost use Rattle.std.specs.Prelude.{◌≡◌, ◌++◌, ◌∷◌, [], false, position, OnOk};
     ghost use Rattle.std.specs.Str.{bytes_eq};
-    ghost use Rattle.rec_check.specs.Words.{is_among};
+    ghost use Rattle.rec_text.specs.Bytes.{is_among};
 
     pub(crate) fn new(alloc: Global) -> TypeNames
         ensures { result ≡ [] }

@@ -4,7 +4,7 @@ ghost use Rattle.rec_check.specs.proving.Names.{has_name};
 ghost use Rattle.rec_check.specs.Stored.{type_stored};
 ghost use Rattle.rec_check.specs.proving.Testing.{is_plain};
 ghost use Rattle.rec_check.specs.Types.{fits, is_continuation as goes_on, characters, lies_between, truths};
-ghost use Rattle.rec_check.specs.Words.{is_among as among};
+ghost use Rattle.rec_text.specs.Bytes.{is_among as among};
 
 use crate::checks::names::{add_names, is_among};
 use crate::field_types::field_type::FieldType;

@@ -2,7 +2,7 @@
 ghost use Rattle.std.specs.Prelude.{◌≡◌, ℕ, List, Some, if◌then◌else◌, map, slice_get, IfOk, OnOk, IsOkUnless};
 ghost use Rattle.rec_check.specs.proving.Fitting.{place_of, type_tested};
 ghost use Rattle.rec_check.specs.Violations.{fails};
-ghost use Rattle.rec_check.specs.Words.{is_among as among};
+ghost use Rattle.rec_text.specs.Bytes.{is_among as among};
 
 use crate::checks::found::add_violation;
 use crate::checks::lines::Lines;

@@ -1,3 +1,4 @@
+mod ScriptExamples
 mod EditExamples
 mod InsertExamples
 pub mod WordingExamples

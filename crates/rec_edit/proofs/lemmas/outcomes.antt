@@ -4,5 +4,6 @@ pub mod CountedLemmas
 pub mod UnruledLemmas
 pub mod EditLemmas
 pub mod AnswerLemmas
+pub mod WrittenLemmas
 pub mod BatchLemmas
 pub mod OneBatchLemmas

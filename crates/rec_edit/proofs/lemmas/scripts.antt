@@ -1,6 +1,7 @@
 pub mod WellFormedLemmas
 pub mod ScriptLemmas
 pub mod RunLemmas
+pub mod TiedLemmas
 pub mod LaidLemmas
 pub mod EqualLemmas
 pub mod OwnPartLemmas

@@ -1,17 +1,11 @@
 -- How a batch is carried out, edit by edit: what is done of it and what is left.
-use Rattle.std.specs.Prelude.{◌≡◌, ℕ, ◌+◌, ◌≤◌, Bool, List, [], ◌++◌, Result, Ok, Err}
+use Rattle.std.specs.Prelude.{ℕ, ◌+◌, ◌≤◌, Bool, List, [], ◌++◌, Ok, Err}
 use Rattle.rec_text.specs.declared.fault.Fault.{Fault}
-use Rattle.rec_text.specs.Steps.{Then}
 use Rattle.rec_journal.specs.declared.event.Tool.{Tool}
 use Rattle.rec_edit.specs.declared.batches.BatchEdited.{BatchEdited}
 use Rattle.rec_edit.specs.declared.outcome.Edited.{Edited}
 use Rattle.rec_edit.specs.Task.{Task}
-use Rattle.rec_edit.specs.Outcome.{edited_by}
-use Rattle.rec_edit.specs.Batch.{IsEditScriptOn, step_with, at_most_greatest, AreSteps}
-
--- what one edit makes of a text, violations aside
-abbrev pub IsEditOn : Bool → Task → List ℕ → Result Edited Fault → Type 0
-IsEditOn force task text = Then (IsEditScriptOn force task text) (λ edit answer. answer ≡ Ok (edited_by edit))
+use Rattle.rec_edit.specs.Batch.{step_with, at_most_greatest, AreSteps}
 
 -- no edit is made, of this text
 abbrev pub untouched : List ℕ → BatchEdited

@@ -7,10 +7,10 @@ use Rattle.rec_text.specs.Bytes.{ends_newline}
 use Rattle.rec_text.specs.Elements.{Piece, text_of}
 use Rattle.rec_text.specs.Records.{AreAscending, elements_in}
 use Rattle.rec_journal.specs.declared.patch.Hunk.{Hunk}
-pub use Rattle.rec_select.specs.proving.Blocks.{closed_text}
 use Rattle.rec_edit.specs.declared.script.draft.Draft.{Draft}
 use Rattle.rec_edit.specs.declared.script.draft.Run.{Run}
-use Rattle.rec_edit.specs.Script.{Part, Layout, closed, opened, settled, parts_from, script_of, old_pieces, edited_text, changes_from}
+use Rattle.rec_edit.specs.Script.{Part, Layout, closed, opened, settled, old_pieces, edited_text, changes_from}
+use Rattle.rec_edit.specs.proving.Parts.{parts_from, script_of}
 use Rattle.rec_edit.specs.proving.Changes.{joining, joined, real_changes, hunks_of}
 
 -- ranges of indexes below the size, in order and none of them empty

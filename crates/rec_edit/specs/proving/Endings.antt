@@ -1,12 +1,8 @@
 -- What an edit of fields works on, and which record ends at an index.
-use Rattle.std.specs.Prelude.{◌≡◌, ℕ, ◌+◌, ◌==◌, ◌&&◌, ◌<◌, Bool, List, [], length, map, filter, flat_map, slice_index_or, if◌then◌else◌}
-use Rattle.std.specs.List.{list_any}
+use Rattle.std.specs.Prelude.{◌≡◌, ℕ, ◌==◌, ◌<◌, List, [], length, map, filter, flat_map, slice_index_or, if◌then◌else◌}
 use Rattle.std.specs.declared.ops.Range.{Range}
 use Rattle.rec_text.specs.Elements.{Piece}
-use Rattle.rec_text.specs.Records.{elements_in}
 use Rattle.rec_sex.specs.declared.lists.field_list.Item.{Item}
-use Rattle.rec_sex.specs.Lists.{picks}
-use Rattle.rec_check.specs.Descriptors.{holds_index}
 use Rattle.rec_edit.specs.declared.request.Action.{Action}
 use Rattle.rec_edit.specs.Rules.{canonical, picks_none}
 

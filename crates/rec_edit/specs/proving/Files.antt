@@ -10,11 +10,11 @@ use Rattle.rec_check.specs.Stored.{described}
 use Rattle.rec_select.specs.declared.selection.Selection.{Selection}
 use Rattle.rec_edit.specs.declared.outcome.Edited.{Edited}
 use Rattle.rec_edit.specs.Automatic.{AreAutomatic, AreFilledMembers}
-use Rattle.rec_edit.specs.proving.Edits.{IsEditOf}
+use Rattle.rec_edit.specs.proving.Edits.{IsCarriedOut}
 use Rattle.rec_edit.specs.proving.Filling.{AreAllFilled, AreLacking}
 use Rattle.rec_edit.specs.proving.Given.{IsAutomaticText}
 use Rattle.rec_edit.specs.Insertions.{Numbered, Filled}
-use Rattle.rec_edit.specs.Outcome.{AreChosen, AreRemovable, IsOutcome}
+use Rattle.rec_edit.specs.Outcome.{AreChosen, AreRemovable, IsEditOf, IsOutcome}
 use Rattle.rec_edit.specs.proving.Sites.{IsRecordPut}
 use Rattle.rec_edit.specs.Task.{Pair, Task, wanted_by}
 use Rattle.rec_edit.specs.Wording.{names_in}
@@ -58,6 +58,9 @@ abbrev pub AreFilledIn : ReadText → Result (List Filled) Fault → Type 0
 AreFilledIn file = AreAllFilled file.pieces (described file.schema)
 
 -- ---- the edit
+
+abbrev pub IsCarriedOutIn : ReadText → Bool → Task → Result Edited Fault → Type 0
+IsCarriedOutIn file = IsCarriedOut file.pieces (described file.schema)
 
 abbrev pub IsEditIn : ReadText → Bool → Task → Result Edited Fault → Type 0
 IsEditIn file = IsEditOf file.pieces (described file.schema)

@@ -13,7 +13,7 @@ use Rattle.rec_check.specs.Counters.{AreCounters}
 use Rattle.rec_check.specs.proving.Names.{has_name}
 use Rattle.rec_check.specs.Rules.{Rules}
 use Rattle.rec_check.specs.Schemas.{Described}
-use Rattle.rec_check.specs.Words.{is_among}
+use Rattle.rec_text.specs.Bytes.{is_among}
 use Rattle.rec_edit.specs.declared.automatic.filled.FilledRecord.{FilledRecord}
 use Rattle.rec_edit.specs.declared.automatic.numbered.NumberedField.{NumberedField}
 use Rattle.rec_edit.specs.Automatic.{lacking, numbers_in, AreNumbered, AreAutomatic, AreFilledOf}

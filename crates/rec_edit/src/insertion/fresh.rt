@@ -1,5 +1,5 @@
 //! New records.
-ghost use Rattle.std.specs.Prelude.{◌≡◌, ◌≢◌, ◌∷◌, [], length, option_to_list, map, Err, Ok, IfOk, IfErr, IsOkUnless, MatchOption, MatchResult};
+ghost use Rattle.std.specs.Prelude.{◌≡◌, ◌≢◌, ◌∷◌, [], length, option_to_list, map, Err, Ok, IfOk, IfErr, IsOkUnless, MatchOption};
 ghost use Rattle.std.specs.List.{list_all};
 ghost use Rattle.rec_text.specs.Canonical.{is_plain_name as may_be_written, is_foldable as can_be_folded};
 ghost use Rattle.rec_text.specs.Elements.{AreElementsOf};
@@ -7,9 +7,10 @@ ghost use Rattle.rec_text.specs.Faults.{IsMemoryOr};
 ghost use Rattle.rec_text.specs.Places.{piece_of, pieces_of};
 ghost use Rattle.rec_edit.specs.proving.Causes.{cause_of as reason_of};
 ghost use Rattle.rec_edit.specs.Task.{fresh_by};
-ghost use Rattle.rec_edit.specs.Wording.{pair_of as pair_in, pairs_of, names_in, written_pairs, IsRecordText, ArePairs, IsNewRecord};
+ghost use Rattle.rec_edit.specs.Wording.{pair_of as pair_in, pairs_of, names_in, IsRecordText, ArePairs, IsNewRecord};
 
 use crate::request::{NewRecord, Pair};
+use crate::wording::require_written;
 use rec_text::{Bytes, Database, Element, Fault, elements_in, is_foldable, is_plain_name, read};
 use std::alloc::{AllocError, Global};
 use std::ops::Range;
@@ -108,7 +109,7 @@ fn given_pairs(alloc: Global, fresh: &NewRecord) -> Result<Vec<Pair>, Fault>
     }
 }
 
-fn have_plain_names(pairs: &[Pair]) -> bool
+fn pairs_have_plain_names(pairs: &[Pair]) -> bool
     ensures { result ≡ list_all may_be_written (names_in pairs.now) }
 {
     pairs.iter().all(|pair| is_plain_name(pair.name.as_slice()))
@@ -130,21 +131,6 @@ fn is_plain_type(record_type: &Option<Bytes>) -> bool
     }
 }
 
-/// Refuses a name that recu doesn't write, and then a value.
-fn require_written(record_type: &Option<Bytes>, pairs: &[Pair]) -> Result<(), Fault>
-    ensures { MatchResult result
-        (λ _. written_pairs record_type.now pairs.now ≡ Ok pairs.now)
-        (λ fault. written_pairs record_type.now pairs.now ≡ Err fault) }
-{
-    if !is_plain_type(record_type) || !have_plain_names(pairs) {
-        return Err(Fault::BadName);
-    }
-    if !have_foldable_values(pairs) {
-        return Err(Fault::BadValue);
-    }
-    Ok(())
-}
-
 /// The fields of a new record, of this type where one is given.
 pub(crate) fn new_record(
     alloc: Global,
@@ -155,6 +141,7 @@ pub(crate) fn new_record(
     ensures refused { IfErr result (λ fault. IsMemoryOr fault (IsNewRecord record_type.now (fresh_by fresh.now) (Err fault))) }
 {
     let pairs = given_pairs(alloc, fresh)?;
-    require_written(record_type, &pairs)?;
+    let names_are_plain = is_plain_type(record_type) && pairs_have_plain_names(&pairs);
+    require_written(names_are_plain, have_foldable_values(&pairs))?;
     Ok(pairs)
 }

@@ -1,7 +1,7 @@
 -- The text of one record's block, and of blocks one after another.
 use Rattle.std.specs.Prelude.{ℕ, Bool, not, List, [], ◌∷◌, ◌++◌, map, filter, flat_map, if◌then◌else◌}
 use Rattle.std.specs.declared.ops.Range.{Range}
-use Rattle.rec_text.specs.Bytes.{ends_newline, is_nil}
+use Rattle.rec_text.specs.Bytes.{is_nil}
 use Rattle.rec_text.specs.Elements.{Piece}
 use Rattle.rec_text.specs.Places.{pieces_of}
 use Rattle.rec_text.specs.Records.{record_at}
@@ -12,11 +12,7 @@ use Rattle.rec_select.specs.declared.block.ElementForm.{ElementForm}
 use Rattle.rec_select.specs.declared.block.ElementForm.TheVariants.{Closed, ValueLine, SpacedValue}
 use Rattle.rec_select.specs.declared.records.Shape.{Shape}
 use Rattle.rec_select.specs.declared.records.Shape.TheVariants.{Blocks}
-use Rattle.rec_select.specs.Printing.{block_of, closed, row_of, value_line}
-
--- a text, with a newline at its end
-abbrev pub closed_text : List ℕ → List ℕ
-closed_text text = if ends_newline text then text else text ++ 10 ∷ []
+use Rattle.rec_select.specs.Printing.{block_of, printed_element, row_of, value_line}
 
 -- a space, and a value
 abbrev pub spaced_value : Piece → List ℕ
@@ -24,16 +20,16 @@ spaced_value piece = 32 ∷ value_of piece
 
 -- what is printed of an element
 abbrev pub in_form : ElementForm → Piece → List ℕ
-in_form Closed = closed
+in_form Closed = printed_element
 in_form ValueLine = value_line
 in_form SpacedValue = spaced_value
 
 -- what a block prints
-abbrev pub text_of : Block → List ℕ
-text_of (Fields fields) = block_of Blocks fields
-text_of (Elements elements) = flat_map closed (pieces_of elements.items)
-text_of (Values elements) = flat_map value_line (pieces_of elements.items)
-text_of (Row elements) = row_of (map value_of (pieces_of elements.items))
+abbrev pub block_text : Block → List ℕ
+block_text (Fields fields) = block_of Blocks fields
+block_text (Elements elements) = flat_map printed_element (pieces_of elements.items)
+block_text (Values elements) = flat_map value_line (pieces_of elements.items)
+block_text (Row elements) = row_of (map value_of (pieces_of elements.items))
 
 -- a text and a block; nothing where the block holds nothing
 abbrev pub led_by : List ℕ → List ℕ → List ℕ

@@ -6,8 +6,9 @@ use Rattle.std.specs.Str.{bytes_eq}
 use Rattle.regex.specs.Patterns.{Re}
 use Rattle.regex.specs.Strings.{matcher_pattern}
 use Rattle.regex.specs.declared.string.matcher.Matcher.{Matcher}
+use Rattle.rec_text.specs.Bytes.{is_among}
 use Rattle.rec_text.specs.Elements.{Piece}
-use Rattle.rec_sex.specs.declared.syntax.tree.Tree.{Tree, Integer, Literal, Name, Occurrence, Count, Not', Negate', Binary', Found', Choice'}
+use Rattle.rec_sex.specs.declared.syntax.tree.Tree.{Tree, Integer, Literal, Name, Occurrence, Count, Not', Negate', Binary', Found', Conditional'}
 use Rattle.rec_sex.specs.declared.meaning.occurrences.Chosen.{Chosen}
 use Rattle.rec_sex.specs.declared.meaning.sharing.Times.{Times}
 use Rattle.rec_sex.specs.declared.meaning.sharing.Times.TheVariants.{Never, Once, Often}
@@ -30,12 +31,12 @@ entries_of chosen = map entry_of chosen
 -- the occurrence that is chosen for a name; the first one where none is
 abbrev pub chosen_in : List NameChoice → Assignment
 chosen_in [] name = 0
-chosen_in (entry ∷ entries) name = if bytes_eq entry.0 name then entry.1 else chosen_in entries name
+chosen_in (entry ∷ entries) name = if bytes_eq name entry.0 then entry.1 else chosen_in entries name
 
 -- an occurrence is chosen for the name
 abbrev pub is_chosen : List NameChoice → List ℕ → Bool
 is_chosen [] name = false
-is_chosen (entry ∷ entries) name = bytes_eq entry.0 name || is_chosen entries name
+is_chosen (entry ∷ entries) name = bytes_eq name entry.0 || is_chosen entries name
 
 -- the pattern of each matcher
 abbrev pub patterns_of : List Matcher → List Re
@@ -43,19 +44,10 @@ patterns_of matchers = map matcher_pattern matchers
 
 -- ---- the walk over choices
 
--- the bytes of each name
-abbrev pub texts : List (Bor (List ℕ)) → List (List ℕ)
-texts names = map (λ name. name.now) names
-
--- the name is among these
-abbrev pub is_among : List ℕ → List (List ℕ) → Bool
-is_among name [] = false
-is_among name (one ∷ more) = bytes_eq one name || is_among name more
-
 -- a name that occurs more than once and has no chosen occurrence comes after the others, unless it is among them
 abbrev pub with_repeated : List Piece → List NameChoice → List (List ℕ) → List ℕ → List (List ℕ)
 with_repeated pieces entries names name =
-    if (nat_lt 1 (length (values_of name pieces)) && not (is_chosen entries name)) && not (is_among name names) then names ++ name ∷ [] else names
+    if (nat_lt 1 (length (values_of name pieces)) && not (is_chosen entries name)) && not (is_among names name) then names ++ name ∷ [] else names
 
 -- the names for which an expression still has to choose among several occurrences, after these
 abbrev pub repeated_names : List Piece → List NameChoice → List (List ℕ) → Tree → List (List ℕ)
@@ -68,7 +60,7 @@ repeated_names pieces entries names (Not' p a) = repeated_names pieces entries n
 repeated_names pieces entries names (Negate' p a) = repeated_names pieces entries names a
 repeated_names pieces entries names (Binary' op p a q b) = repeated_names pieces entries (repeated_names pieces entries names a) b
 repeated_names pieces entries names (Found' p a i) = repeated_names pieces entries names a
-repeated_names pieces entries names (Choice' p c q a r b) =
+repeated_names pieces entries names (Conditional' p c q a r b) =
     repeated_names pieces entries (repeated_names pieces entries (repeated_names pieces entries names c) a) b
 
 -- a name that occurs more than once stands in an expression without a subscript
@@ -82,20 +74,20 @@ has_repeated pieces (Not' p a) = has_repeated pieces a
 has_repeated pieces (Negate' p a) = has_repeated pieces a
 has_repeated pieces (Binary' op p a q b) = has_repeated pieces a || has_repeated pieces b
 has_repeated pieces (Found' p a i) = has_repeated pieces a
-has_repeated pieces (Choice' p c q a r b) = (has_repeated pieces c || has_repeated pieces a) || has_repeated pieces b
+has_repeated pieces (Conditional' p c q a r b) = (has_repeated pieces c || has_repeated pieces a) || has_repeated pieces b
 
 -- how often a name stands in an expression without a subscript
 abbrev pub places_of : List ℕ → Tree → ℕ
 places_of name (Integer n) = 0
 places_of name (Literal text) = 0
-places_of name (Name one) = if bytes_eq one name then 1 else 0
+places_of name (Name one) = if bytes_eq name one then 1 else 0
 places_of name (Occurrence one i) = 0
 places_of name (Count one) = 0
 places_of name (Not' p a) = places_of name a
 places_of name (Negate' p a) = places_of name a
 places_of name (Binary' op p a q b) = places_of name a + places_of name b
 places_of name (Found' p a i) = places_of name a
-places_of name (Choice' p c q a r b) = (places_of name c + places_of name a) + places_of name b
+places_of name (Conditional' p c q a r b) = (places_of name c + places_of name a) + places_of name b
 
 -- those of the names that stand in an expression more than once
 abbrev pub shared_names : Tree → List (List ℕ) → List (List ℕ)

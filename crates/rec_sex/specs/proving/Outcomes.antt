@@ -8,7 +8,7 @@ use Rattle.rec_sex.specs.declared.syntax.token.Operator.TheVariants.{And, Or, Im
 use Rattle.rec_sex.specs.declared.meaning.outcomes.Outcome.{Outcome}
 use Rattle.rec_sex.specs.declared.meaning.outcomes.Outcome.TheVariants.{Undefined, Fails, Holds}
 use Rattle.rec_sex.specs.declared.meaning.outcomes.Outcomes.{Outcomes}
-use Rattle.rec_sex.specs.declared.syntax.tree.Tree.{Tree, Not', Binary', Choice'}
+use Rattle.rec_sex.specs.declared.syntax.tree.Tree.{Tree, Not', Binary', Conditional'}
 use Rattle.rec_sex.specs.Grammar.{Term}
 use Rattle.rec_sex.specs.Meaning.{Meaning, Assignment, IsChoice, values_of, sem, is_zero, reading_of}
 use Rattle.rec_sex.specs.proving.Choices.{NameChoice, chosen_in, is_chosen, repeated_names}
@@ -65,7 +65,7 @@ is_connective _ = false
 abbrev pub has_parts : Tree → Bool
 has_parts (Not' p a) = true
 has_parts (Binary' op p a q b) = is_connective op
-has_parts (Choice' p c q a r b) = true
+has_parts (Conditional' p c q a r b) = true
 has_parts tree = false
 
 -- a connective of two conditions that share no choice
@@ -105,7 +105,7 @@ outcomes_in patterns pieces entries (Not' p a) = inverse_of (outcomes_in pattern
 outcomes_in patterns pieces entries (Binary' op p a q b) =
     if is_connective op then joined_by op (outcomes_in patterns pieces entries a) (outcomes_in patterns pieces entries b)
     else outcomes_of_part patterns pieces entries (Binary' op p a q b)
-outcomes_in patterns pieces entries (Choice' p c q a r b) =
+outcomes_in patterns pieces entries (Conditional' p c q a r b) =
     branch_of (outcomes_in patterns pieces entries c) (outcomes_in patterns pieces entries a) (outcomes_in patterns pieces entries b)
 outcomes_in patterns pieces entries tree = outcomes_of_part patterns pieces entries tree
 

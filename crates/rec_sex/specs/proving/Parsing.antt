@@ -44,11 +44,11 @@ left_level level = if level == 1 then 2 else level
 abbrev pub right_level : ℕ → ℕ
 right_level level = if level == 1 then 1 else level + 1
 
--- a choice begins here
-abbrev pub begins_choice : List Token → Bool
-begins_choice [] = false
-begins_choice (Then ∷ rest) = true
-begins_choice (_ ∷ rest) = false
+-- a conditional begins here
+abbrev pub begins_conditional : List Token → Bool
+begins_conditional [] = false
+begins_conditional (Then ∷ rest) = true
+begins_conditional (_ ∷ rest) = false
 
 -- ---- trees
 

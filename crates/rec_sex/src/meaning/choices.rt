@@ -1,9 +1,10 @@
 //! The choices of occurrences that an expression has for a record, and whether it holds under one.
 ghost use Rattle.std.specs.Prelude.{◌≡◌, ◌↔◌, length, nat_lt, IsTrue, IfOk, IsOkUnless, OnOk};
+ghost use Rattle.rec_text.specs.Bytes.{is_among as among, texts};
 ghost use Rattle.rec_text.specs.Places.{pieces_of};
 ghost use Rattle.rec_sex.specs.Meaning.{values_of, Selects};
 ghost use Rattle.rec_sex.specs.Expressions.{term_under};
-ghost use Rattle.rec_sex.specs.proving.Choices.{is_among, is_chosen, with_repeated, has_repeated, repeated_names, any_choice, holds_for_some, entries_of, patterns_of, texts};
+ghost use Rattle.rec_sex.specs.proving.Choices.{is_chosen, with_repeated, has_repeated, repeated_names, any_choice, holds_for_some, entries_of, patterns_of};
 ghost use Rattle.rec_sex.specs.proving.Outcomes.{can_hold};
 
 use crate::meaning::conditions::outcomes_of;
@@ -18,15 +19,11 @@ use rec_text::{Element, Fault};
 use regex::Matcher;
 use std::alloc::Global;
 
-fn is_among(name: &[u8], names: &[&[u8]]) -> bool
-    ensures { result ≡ is_among name.now (texts names.now) }
+/// Whether a name is one of these.
+fn is_among(names: &[&[u8]], name: &[u8]) -> bool
+    ensures { result ≡ among (texts names.now) name.now }
 {
-    for one in names {
-        if *one == name {
-            return true;
-        }
-    }
-    false
+    names.contains(&name)
 }
 
 /// Whether a name occurs more than once.
@@ -41,7 +38,7 @@ fn is_chosen(chosen: &[Chosen<'_>], name: &[u8]) -> bool
     ensures { result ≡ is_chosen (entries_of chosen.now) name.now }
 {
     for entry in chosen {
-        if entry.name == name {
+        if name == entry.name {
             return true;
         }
     }
@@ -49,6 +46,7 @@ fn is_chosen(chosen: &[Chosen<'_>], name: &[u8]) -> bool
 }
 
 /// A name that occurs more than once and has no chosen occurrence comes after the others, unless it is among them.
+
 fn add_repeated<'e>(
     fields: &Fields<'_, '_>,
     chosen: &[Chosen<'_>],
@@ -59,7 +57,7 @@ fn add_repeated<'e>(
         with_repeated fields.now (entries_of chosen.now) (texts names.old.items) name.now) }
     ensures refusals { IsOkUnless result Fault.OutOfMemory }
 {
-    if is_repeated(fields, name) && !is_chosen(chosen, name) && !is_among(name, names) {
+    if is_repeated(fields, name) && !is_chosen(chosen, name) && !is_among(names, name) {
         names.push(name)?;
     }
     Ok(())
@@ -76,7 +74,7 @@ fn has_repeated(fields: &Fields<'_, '_>, tree: &Tree) -> bool
             has_repeated(fields, operand)
         }
         Tree::Binary(_, left, right) => has_repeated(fields, left) || has_repeated(fields, right),
-        Tree::Choice(condition, yes, no) => {
+        Tree::Conditional(condition, yes, no) => {
             has_repeated(fields, condition) || has_repeated(fields, yes) || has_repeated(fields, no)
         }
     }
@@ -103,7 +101,7 @@ pub(crate) fn add_repeated_names<'e>(
             add_repeated_names(fields, chosen, names, left)?;
             add_repeated_names(fields, chosen, names, right)
         }
-        Tree::Choice(condition, yes, no) => {
+        Tree::Conditional(condition, yes, no) => {
             add_repeated_names(fields, chosen, names, condition)?;
             add_repeated_names(fields, chosen, names, yes)?;
             add_repeated_names(fields, chosen, names, no)

@@ -24,7 +24,7 @@ fn occurrence_of(chosen: &[Chosen<'_>], name: &[u8]) -> usize
     ensures { result ≡ chosen_in (entries_of chosen.now) name.now }
 {
     for entry in chosen {
-        if entry.name == name {
+        if name == entry.name {
             return entry.occurrence;
         }
     }
@@ -108,7 +108,7 @@ fn evaluate<'v>(
             let operand = evaluate(alloc, operand, fields, chosen, matchers)?;
             Ok(found(matchers, *pattern, operand))
         }
-        Tree::Choice(condition, yes, no) => {
+        Tree::Conditional(condition, yes, no) => {
             let condition = evaluate(alloc, condition, fields, chosen, matchers)?;
             match reading(condition) {
                 Some(0) => evaluate(alloc, no, fields, chosen, matchers),

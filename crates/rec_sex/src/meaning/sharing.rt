@@ -1,6 +1,7 @@
 //! The names that stand more than once in an expression.
 ghost use Rattle.std.specs.Prelude.{◌≡◌, nat_lt, IfOk, IsOkUnless};
-ghost use Rattle.rec_sex.specs.proving.Choices.{places_of, shared_names, times_of, times_in_both, texts};
+ghost use Rattle.rec_sex.specs.proving.Choices.{places_of, shared_names, times_of, times_in_both};
+ghost use Rattle.rec_text.specs.Bytes.{texts};
 
 use crate::syntax::tree::Tree;
 use rec_text::Fault;
@@ -34,7 +35,7 @@ fn how_often(tree: &Tree, name: &[u8]) -> Times
     match tree {
         Tree::Integer(_) | Tree::Literal(_) | Tree::Occurrence(..) | Tree::Count(_) => Times::Never,
         Tree::Name(one) => {
-            if one.as_slice() == name {
+            if name == one.as_slice() {
                 Times::Once
             } else {
                 Times::Never
@@ -44,7 +45,7 @@ fn how_often(tree: &Tree, name: &[u8]) -> Times
             how_often(operand, name)
         }
         Tree::Binary(_, left, right) => how_often(left, name).in_both(how_often(right, name)),
-        Tree::Choice(condition, yes, no) => how_often(condition, name)
+        Tree::Conditional(condition, yes, no) => how_often(condition, name)
             .in_both(how_often(yes, name))
             .in_both(how_often(no, name)),
     }

@@ -1,12 +1,13 @@
 -- What several crates need of lists.
-use Rattle.std.proofs.Common.{◌≡◌, ◌∙◌, ◌⊎◌, inl, inr, ℕ, suc, zero, ◌+◌, ◌<◌, true, false, List, [], ◌∷◌, ◌++◌, ◌==◌, Result, Ok, Err, OnOk, Some, length, take, drop, get_or, refl, ap, sym, subst, append-nil, arith}
+use Rattle.std.proofs.Common.{◌≡◌, ◌∙◌, ◌⊎◌, inl, inr, ℕ, Bool, ◌||◌, ap₂, suc, zero, ◌+◌, ◌<◌, true, false, List, [], ◌∷◌, ◌++◌, ◌==◌, Result, Ok, Err, OnOk, Some, length, take, drop, get_or, refl, ap, sym, subst, append-nil, arith}
+use Rattle.std.specs.Borrow.{Bor}
 use Rattle.std.specs.Prelude.{if◌then◌else◌, flat_map}
-use Rattle.std.specs.List.{AllByRecursion, Contains, join_with_byte, slice_get}
+use Rattle.std.specs.List.{AllByRecursion, Contains, join_with_byte, list_any, slice_get}
 use Rattle.std.specs.Result.{is_ok}
 use Rattle.std.specs.Str.{bytes_eq}
-use Rattle.std.proofs.lemmas.Bool.{ne_eqb}
+use Rattle.std.proofs.lemmas.Bool.{false≢true, cases_Bool, ne_eqb}
 use Rattle.std.proofs.lemmas.Slice.Eq.{bytes_eq-Decides}
-use Rattle.rec_text.specs.Bytes.{is_nil}
+use Rattle.rec_text.specs.Bytes.{is_nil, is_among, texts}
 
 -- ---- what holds of each element
 
@@ -91,6 +92,19 @@ bytes_eq-self a = (bytes_eq-Decides a a).1 refl
 
 pub same_bytes : (a b : List ℕ) → bytes_eq a b ≡ true → a ≡ b
 same_bytes a b e = (bytes_eq-Decides a b).0 e
+
+pub bytes_eq-sym : (some other : List ℕ) → bytes_eq some other ≡ bytes_eq other some
+bytes_eq-sym some other = elim (cases_Bool (bytes_eq some other)) [
+  | inl same ↦ let e : some ≡ other = (bytes_eq-Decides some other).0 same in ap (λ x. bytes_eq x other) e ∙ ap (bytes_eq other) (sym e)
+  | inr apart ↦ elim (cases_Bool (bytes_eq other some)) [
+    | inl same ↦ absurd (false≢true (sym apart ∙ (bytes_eq-Decides some other).1 (sym ((bytes_eq-Decides other some).0 same))))
+    | inr both ↦ apart ∙ sym both
+  ]
+]
+
+pub contained_is_among : (names : List (Bor (List ℕ))) (name : List ℕ) → list_any (λ one. bytes_eq one.now name) names ≡ is_among (texts names) name
+contained_is_among [] name = refl
+contained_is_among (one ∷ names) name = ap₂ (λ here later. here || later) (bytes_eq-sym one.now name) (contained_is_among names name)
 
 -- texts joined by a byte: the first, and each other one after the byte
 pub join_with_byte-cons : (c : ℕ) (x : List ℕ) (xs : List (List ℕ)) → join_with_byte c (x ∷ xs) ≡ x ++ flat_map (λ y. c ∷ y) xs

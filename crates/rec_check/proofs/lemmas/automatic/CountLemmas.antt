@@ -29,7 +29,7 @@ use Rattle.rec_check.specs.Rules.{Rules, field_type}
 use Rattle.rec_check.specs.Schemas.{Described}
 use Rattle.rec_check.specs.Types.{FieldType}
 use Rattle.rec_check.specs.Violations.{members}
-use Rattle.rec_check.specs.Words.{is_among}
+use Rattle.rec_text.specs.Bytes.{is_among}
 use Rattle.rec_check.proofs.lemmas.automatic.CounterLemmas.{greatest_is, none_is, greatest_from-append, greatest_from-option, readings_in-named, readings_in-other}
 
 -- ---- the greatest number of each name

@@ -7,7 +7,7 @@ use Rattle.std.proofs.lemmas.List.Sorted.{list_any-IsPermutation}
 use Rattle.std.specs.HashSet.{HashSet, PutsKey}
 use Rattle.std.specs.List.{list_any}
 use Rattle.std.specs.Str.{bytes_eq}
-use Rattle.rec_check.specs.Words.{is_among}
+use Rattle.rec_text.specs.Bytes.{is_among}
 use Rattle.rec_text.proofs.lemmas.ListLemmas.{same_bytes}
 
 pub or_comm : (a b : Bool) → (a || b) ≡ (b || a)

@@ -12,11 +12,11 @@ use Rattle.rec_text.specs.declared.element.Kind.TheVariants.{Blank, Comment, Fie
 use Rattle.rec_text.specs.Elements.{Piece, name_of}
 use Rattle.rec_text.specs.Places.{piece_of, pieces_of}
 use Rattle.rec_text.specs.Records.{is_field_piece}
-use Rattle.rec_text.proofs.lemmas.ListLemmas.{same_bytes}
-use Rattle.rec_check.specs.Checks.{texts}
+use Rattle.rec_text.proofs.lemmas.ListLemmas.{same_bytes, bytes_eq-sym}
+use Rattle.rec_text.specs.Bytes.{texts, is_among}
 use Rattle.rec_check.specs.Violations.{names_of}
-use Rattle.rec_check.specs.Words.{distinct, is_among}
-use Rattle.rec_check.proofs.lemmas.TypeLemmas.{bytes_eq-sym, list_any-map}
+use Rattle.rec_check.specs.Words.{distinct}
+use Rattle.rec_check.proofs.lemmas.TypeLemmas.{list_any-map}
 
 -- ---- each once
 

@@ -17,9 +17,9 @@ use Rattle.std.specs.Ordering.{nat_cmp}
 use Rattle.std.specs.Str.{bytes_eq}
 use Rattle.std.specs.declared.cmp.Ordering.TheVariants.{Less, Equal, Greater}
 use Rattle.rec_text.proofs.lemmas.ListLemmas.{same_bytes, bytes_eq-self}
-use Rattle.rec_check.specs.Checks.{texts}
+use Rattle.rec_text.specs.Bytes.{texts, is_among}
 use Rattle.rec_check.specs.proving.NamesSeen.{places_from, places_of}
-use Rattle.rec_check.specs.Words.{distinct, is_among}
+use Rattle.rec_check.specs.Words.{distinct}
 use Rattle.rec_check.proofs.lemmas.field_types.FittingLemmas.{enumerate_from-append}
 use Rattle.rec_check.proofs.lemmas.checks.NameLemmas.{filter-distinct, distinct-distinct}
 use Rattle.rec_check.proofs.lemmas.TypeLemmas.{list_any-position}

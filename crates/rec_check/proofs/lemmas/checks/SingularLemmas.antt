@@ -17,15 +17,16 @@ use Rattle.rec_text.specs.declared.element.Element.{Element}
 use Rattle.rec_text.specs.Elements.{Piece, name_of}
 use Rattle.rec_text.specs.Places.{piece_of, pieces_of}
 use Rattle.rec_text.specs.Values.{value_of}
-use Rattle.rec_text.proofs.lemmas.ListLemmas.{same_bytes, bytes_eq-self}
+use Rattle.rec_text.proofs.lemmas.ListLemmas.{same_bytes, bytes_eq-self, bytes_eq-sym}
 use Rattle.rec_sex.specs.Meaning.{values_of}
 use Rattle.rec_check.specs.proving.NamesSeen.{places_of}
 use Rattle.rec_check.specs.Violations.{breaks_singular, stands_in}
-use Rattle.rec_check.specs.Words.{distinct, is_among}
+use Rattle.rec_check.specs.Words.{distinct}
+use Rattle.rec_text.specs.Bytes.{is_among}
 use Rattle.rec_check.proofs.lemmas.descriptors.DescriptorLemmas.{values_of-append}
 use Rattle.rec_check.proofs.lemmas.checks.KeyLemmas.{or_comm}
 use Rattle.rec_check.proofs.lemmas.checks.NamePlaceLemmas.{apart, names_at, places_agree, places_kept, places_next}
-use Rattle.rec_check.proofs.lemmas.TypeLemmas.{bytes_eq-sym, list_any-position}
+use Rattle.rec_check.proofs.lemmas.TypeLemmas.{list_any-position}
 
 -- ---- the place of a name
 

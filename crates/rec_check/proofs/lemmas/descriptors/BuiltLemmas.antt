@@ -13,7 +13,7 @@ use Rattle.regex.specs.declared.string.regex.Regex.{Regex}
 use Rattle.rec_text.proofs.lemmas.ListLemmas.{same_bytes, bytes_eq-self}
 use Rattle.rec_sex.specs.Patterns.{IsBuiltFrom}
 use Rattle.rec_check.specs.proving.Patterns.{ArePatterns, texts_of}
-use Rattle.rec_check.specs.Words.{is_among}
+use Rattle.rec_text.specs.Bytes.{is_among}
 
 -- a text that finds a value is among the texts
 found_among : {X Y : Type 0} (text : List ℕ) (value : X) (entries : List (String Y × X)) → lookup (λ key. bytes_eq text (string_bytes key)) entries ≡ Some value → is_among (map string_bytes (keys_of entries)) text ≡ true

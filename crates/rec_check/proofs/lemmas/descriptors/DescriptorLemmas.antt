@@ -31,7 +31,8 @@ use Rattle.rec_check.specs.Schemas.{FieldIsBuilt}
 use Rattle.rec_check.specs.proving.Flaws.{FieldIsRead, element_flaw, field_flaw}
 use Rattle.rec_check.specs.Stored.{fault_of}
 use Rattle.rec_check.specs.Types.{IsDefinition, IsTyping}
-use Rattle.rec_check.specs.Words.{words, is_among}
+use Rattle.rec_check.specs.Words.{words}
+use Rattle.rec_text.specs.Bytes.{is_among}
 
 -- ---- the names of special fields
 

@@ -22,10 +22,10 @@ use Rattle.rec_check.specs.Rules.{type_by, typing_for}
 use Rattle.rec_check.specs.proving.Fitting.{FindLast}
 use Rattle.rec_check.specs.Types.{FieldType, Typing, fits, unchecked}
 use Rattle.rec_check.specs.Violations.{fails, misfits, type_violations, line_at, violation}
-use Rattle.rec_check.specs.Words.{is_among}
+use Rattle.rec_text.specs.Bytes.{is_among}
+use Rattle.rec_text.proofs.lemmas.ListLemmas.{bytes_eq-sym}
 use Rattle.rec_check.proofs.lemmas.field_types.LastLemmas.{FindLast-nil, FindLast-more}
 use Rattle.rec_text.proofs.lemmas.elements.ElementLemmas.{field_test, no_field_test}
-use Rattle.rec_check.proofs.lemmas.TypeLemmas.{bytes_eq-sym}
 
 -- ---- one value
 

@@ -25,7 +25,8 @@ use Rattle.rec_check.specs.Rules.{Rules, AreSameRules, AreSameTypes, field_type}
 use Rattle.rec_check.specs.Schemas.{Described}
 use Rattle.rec_check.specs.Types.{FieldType, matching, fits}
 use Rattle.rec_check.specs.Violations.{line_at, violation, violations_of, occurrences, breaks_key, breaks_singular, names_of, key_violations, mandatory_violations, prohibit_violations, unique_violations, singular_violations, allowed_violations, type_violations, misfits, size_violations, head_line, members, resolves, unresolved_violations, typedef_violations, head_violations, AreUnselected, AreOfRecord, AreOfRecords, AreOfSet, AreOfSets, OneReport}
-use Rattle.rec_check.specs.Words.{is_among, distinct}
+use Rattle.rec_check.specs.Words.{distinct}
+use Rattle.rec_text.specs.Bytes.{is_among}
 use Rattle.rec_check.proofs.lemmas.laws.SameLemmas.{one_schema}
 use Rattle.rec_check.proofs.lemmas.laws.SameTypeLemmas.{AreSameIfAny, same_field_type, same_resolves}
 

@@ -18,7 +18,7 @@ use Rattle.rec_check.specs.Sets.{named_in, AreFrom, AreSets, BeginsAt}
 use Rattle.rec_check.specs.Soundness.{says, SameDescriptors, NewDescriptor}
 use Rattle.rec_check.specs.proving.Steps.{record_types, with_member, with_record, HaveTypes}
 use Rattle.rec_check.specs.proving.Reading.{untyped}
-use Rattle.rec_check.specs.Words.{is_among}
+use Rattle.rec_text.specs.Bytes.{is_among}
 use Rattle.rec_check.proofs.lemmas.descriptors.DescriptorLemmas.{AllZip-push, each_built}
 use Rattle.rec_check.proofs.lemmas.descriptors.FlawLemmas.{field_flaw-here, own_flaw, stands-field}
 use Rattle.rec_check.proofs.lemmas.descriptors.SchemaLemmas.{IsSchemaUpTo, IsRuled-longer, grown, here, none_there, record_at-following, rules_grow, schema_all, schema_none}

@@ -11,7 +11,7 @@ use Rattle.rec_check.specs.Resolving.{is_known_kind, last_definition}
 use Rattle.rec_check.specs.Rules.{Rules, AreSameDefinitions, AreSameRules, AreSameTypes, AreSameTypings, field_type, type_by, typing_for}
 use Rattle.rec_check.specs.Types.{Definition, FieldType, Typing, unchecked}
 use Rattle.rec_check.specs.Violations.{resolves}
-use Rattle.rec_check.specs.Words.{is_among}
+use Rattle.rec_text.specs.Bytes.{is_among}
 use Rattle.rec_check.proofs.lemmas.field_types.LastLemmas.{IfBoth, IfBoth-if, IfBoth-last, IfBoth-map}
 
 abbrev SomeType : Type 0

@@ -9,7 +9,7 @@ use Rattle.std.specs.Prelude.{codes, filter}
 use Rattle.std.specs.List.{AllZip, cons_option, filter_map, flat_map, list_all, list_any, onto_first, slice_get, slice_split}
 use Rattle.std.specs.Option.{is_some, option_map, option_and_then}
 use Rattle.std.specs.Str.{bytes_eq}
-use Rattle.rec_text.specs.Bytes.{continues_name, is_letter, is_nil, is_space}
+use Rattle.rec_text.specs.Bytes.{continues_name, is_letter, is_nil, is_space, is_among}
 use Rattle.rec_text.specs.Canonical.{is_plain_name}
 use Rattle.rec_text.specs.Elements.{Piece, name_of, has_name}
 use Rattle.rec_text.specs.Values.{value_of}
@@ -20,7 +20,7 @@ use Rattle.rec_check.specs.Descriptors.{Flaw, bad, bound_in, first_word, rec_fla
 use Rattle.rec_check.specs.Rules.{Rules, no_rules, AreRules}
 use Rattle.rec_check.specs.Soundness.{says}
 use Rattle.rec_check.specs.Types.{IsDefinition, IsTyping}
-use Rattle.rec_check.specs.Words.{words, is_among}
+use Rattle.rec_check.specs.Words.{words}
 use Rattle.rec_check.proofs.lemmas.descriptors.DescriptorLemmas.{is_met, list_any-values_of, type_in, type_in-values_of}
 use Rattle.rec_check.proofs.lemmas.descriptors.FlawLemmas.{own_flaw}
 use Rattle.rec_check.proofs.lemmas.TypeLemmas.{list_any-map}

@@ -1,8 +1,7 @@
-use Rattle.std.proofs.Common.{[], ◌≡◌, Ok, Err, map, drop, ap, sym, subst}
+use Rattle.std.proofs.Common.{Ok, Err, sym, subst}
 use Rattle.std.proofs.lemmas.Result.{err_from_is_err_and}
 use Rattle.rec_text.specs.Faults.{IsMemoryOr}
 use Rattle.rec_edit.specs.Outcome.{IsSound}
-use Rattle.rec_edit.specs.Task.{task_of}
 use Rattle.rec_edit.specs.proving.Batches.{IsUnderWay}
 use Rattle.rec_edit.proofs.lemmas.outcomes.BatchLemmas.{all_edits, forced_batch, sound_batch, unsound_batch, refused_batch}
 use Rattle.rec_edit.proofs.batches.others_made.Goals as goal

@@ -14,17 +14,19 @@ use Rattle.rec_check.specs.Descriptors.{type_of}
 use Rattle.rec_check.specs.Violations.{names_of}
 use Rattle.rec_edit.specs.Automatic.{lacking, AreFilledSets}
 use Rattle.rec_edit.specs.Effect.{TypedRecord, IsFilledUp, typed_records, type_after, HasEffect, automatic_at}
-use Rattle.rec_edit.specs.Script.{closed, new_pieces, parts_from, script_of, edited_text}
+use Rattle.rec_edit.specs.Script.{closed, new_pieces, edited_text}
+use Rattle.rec_edit.specs.proving.Parts.{parts_from, script_of}
 use Rattle.rec_edit.specs.proving.Changes.{hunks_of}
 use Rattle.rec_edit.specs.Insertions.{Filled, Numbered, filling, numbered_fields}
 use Rattle.rec_check.specs.Schemas.{Described, IsSchema}
 use Rattle.rec_check.specs.Soundness.{descriptors, says}
 use Rattle.rec_edit.specs.Task.{auto_fill}
-use Rattle.rec_edit.specs.Outcome.{EditScript, IsEditScript, edit_script}
+use Rattle.rec_edit.specs.Outcome.{EditScript, IsEditScript}
+use Rattle.rec_edit.proofs.lemmas.scripts.TiedLemmas.{script_is}
 use Rattle.rec_edit.specs.Rules.{canonical}
 use Rattle.rec_text.proofs.lemmas.ListLemmas.{AllByRecursion-weaker, AllByRecursion-slice_get, AllByRecursion-append}
 use Rattle.rec_edit.proofs.lemmas.records.ClosedLemmas.{name_of-closed}
-use Rattle.rec_edit.proofs.lemmas.outcomes.EffectLemmas.{closed_owns, elements_part, type_of-closed, map-map, said, said-records, script_is}
+use Rattle.rec_edit.proofs.lemmas.outcomes.EffectLemmas.{closed_owns, elements_part, type_of-closed, map-map, said, said-records}
 use Rattle.rec_edit.proofs.lemmas.layouts.FieldsLaidLemmas.{IsOther}
 use Rattle.rec_edit.proofs.lemmas.automatic.FilledLemmas.{IsPut, LaysNeatly-filling, all_put, filled_are_put, filling_is_read, filling_unchanged, put_is_field, IsFilled, all_from, auto_fill_fills, given_at, names-given}
 use Rattle.rec_edit.proofs.lemmas.records.FitLemmas.{closed-own, list_any-closed, BeginsFrom, all_begin, Cut, Cut-AreRecords, IsOwn, between_fields-own, drop-part, length-part, with_own-some, own_of-records, records_there}
@@ -384,7 +386,7 @@ pub faithful_auto_fill : (pieces : List Piece) (schema : Described) (force : Boo
 faithful_auto_fill pieces schema force edit elements is (records, are, inl (fault, refused, e)) = absurd (cc)
 faithful_auto_fill pieces schema force edit elements is (records, are, inr (filled, found, same)) =
     let fills = auto_fill_fills pieces schema records filled is are found in
-    let layout_is : edit.script ≡ script_of (filling filled) pieces = script_is edit (edit_script pieces (map (λ one. one.range) filled) (filling filled)) same in
+    let layout_is : edit.script ≡ script_of (filling filled) pieces = script_is pieces (map (λ one. one.range) filled) (filling filled) edit same in
     record {
       layout = filling filled;
       is = layout_is;

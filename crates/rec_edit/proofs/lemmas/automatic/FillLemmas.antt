@@ -28,9 +28,9 @@ use Rattle.rec_text.specs.Faults.{IsMemoryOr}
 use Rattle.rec_check.specs.Descriptors.{type_of}
 use Rattle.rec_check.specs.Schemas.{Described, IsDescribed, IsSchema}
 use Rattle.rec_edit.specs.declared.outcome.Edited.{Edited}
-use Rattle.rec_edit.specs.proving.Edits.{IsEditOf, laid_script}
+use Rattle.rec_edit.specs.proving.Edits.{IsCarriedOut, laid_script, edit_script, edited_by}
+use Rattle.rec_edit.proofs.lemmas.scripts.TiedLemmas.{laid_out}
 use Rattle.rec_edit.proofs.lemmas.outcomes.CountedLemmas.{filling_counted}
-use Rattle.rec_edit.specs.Outcome.{edit_script, edited_by}
 use Rattle.rec_edit.specs.Task.{auto_fill}
 use Rattle.rec_text.specs.Bytes.{ends_newline}
 use Rattle.rec_edit.specs.declared.automatic.filled.FilledRecord.{FilledRecord}
@@ -197,17 +197,17 @@ module _ (pieces : List Piece) (schema : Described) where
       (AreRanges-members size is.records within schema.sets is.sets.places (sets_within 0 schema.sets (length is.records) is.sets.places total) is.are.ascending)
 
   module _ (force : Bool) where
-    pub auto_fill-refused : (fault : Fault) → IsMemoryOr fault (AreAllFilled pieces schema (Err fault)) → IsMemoryOr fault (IsEditOf pieces schema force auto_fill (Err fault))
+    pub auto_fill-refused : (fault : Fault) → IsMemoryOr fault (AreAllFilled pieces schema (Err fault)) → IsMemoryOr fault (IsCarriedOut pieces schema force auto_fill (Err fault))
     auto_fill-refused fault is =
-        memory_or_weaker fault (AreAllFilled pieces schema (Err fault)) (IsEditOf pieces schema force auto_fill (Err fault))
+        memory_or_weaker fault (AreAllFilled pieces schema (Err fault)) (IsCarriedOut pieces schema force auto_fill (Err fault))
         (λ refused. inl (fault, (refused.0, refused.1, inl (fault, refused.2, refl)), refl)) is
 
     pub auto_fill-made : (filled taken : List Filled) (given : List (Range ℕ)) (edited : Edited) → IsSchema pieces (Ok schema) → AreAllFilled pieces schema (Ok filled) → taken ≡ filled
-        → given ≡ ranges_of filled → edited ≡ edited_by (laid_script pieces given (filling taken)) → IsEditOf pieces schema force auto_fill (Ok edited)
+        → given ≡ ranges_of filled → edited ≡ edited_by (laid_script pieces given (filling taken)) → IsCarriedOut pieces schema force auto_fill (Ok edited)
     auto_fill-made filled taken given edited is_schema are_filled planned same is =
         inr (
           edit_script pieces (ranges_of filled) (filling filled),
-          (are_filled.0, are_filled.1, inr (filled, are_filled.2, refl)),
+          (are_filled.0, are_filled.1, inr (filled, are_filled.2, laid_out pieces (ranges_of filled) (filling filled))),
           ap Ok (is ∙ ap (λ ranges. edited_by (laid_script pieces ranges (filling taken))) same ∙ ap (λ f. edited_by (laid_script pieces (ranges_of filled) (filling f))) planned
               ∙ ap edited_by (filling_counted pieces schema are_filled.0 filled is_schema are_filled.1 are_filled.2)),
         )

@@ -20,12 +20,13 @@ use Rattle.rec_check.specs.Rules.{Rules}
 use Rattle.rec_check.specs.Schemas.{Described, IsRuled, IsSchema}
 use Rattle.rec_check.specs.Sets.{AreFrom, BeginsAt}
 use Rattle.rec_check.specs.Violations.{members, names_of}
-use Rattle.rec_check.specs.Words.{is_among}
+use Rattle.rec_text.specs.Bytes.{is_among}
 use Rattle.rec_text.proofs.lemmas.FaultLemmas.{same_value}
 use Rattle.rec_edit.specs.Insertions.{Numbered, Filled, filling, numbered_fields}
 use Rattle.rec_edit.specs.Automatic.{AreFilled, AreFilledSets, AreNumbered, lacking, numbers_in}
 use Rattle.rec_edit.specs.Effect.{automatic_at}
-use Rattle.rec_edit.specs.Script.{script_of, new_pieces, edited_text}
+use Rattle.rec_edit.specs.Script.{new_pieces, edited_text}
+use Rattle.rec_edit.specs.proving.Parts.{script_of}
 use Rattle.rec_edit.specs.proving.Changes.{hunks_of}
 use Rattle.rec_edit.specs.Rules.{canonical}
 use Rattle.rec_text.proofs.lemmas.ListLemmas.{AllByRecursion-weaker, slice_get-drop, slice_get-take, AllByRecursion-slice_get, AllByRecursion-append}

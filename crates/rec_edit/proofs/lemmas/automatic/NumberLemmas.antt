@@ -15,7 +15,6 @@ use Rattle.std.specs.Prelude.{IfOk, IfErr, Vec}
 use Rattle.std.specs.declared.ops.Range.{Range}
 use Rattle.rec_text.specs.declared.element.Element.{Element}
 use Rattle.rec_text.specs.declared.fault.Fault.{Fault}
-use Rattle.rec_text.specs.declared.fault.Fault.TheVariants.{OutOfMemory}
 use Rattle.rec_text.specs.Elements.{name_of, Piece}
 use Rattle.rec_text.specs.Faults.{IsMemoryOr}
 use Rattle.rec_text.specs.Places.{piece_of, pieces_of}
@@ -26,7 +25,8 @@ use Rattle.rec_check.specs.declared.automatic.counter.Counter.{Counter}
 use Rattle.rec_check.specs.Automatic.{automatic_names, IsNext, IsAutomatic, readings}
 use Rattle.rec_check.specs.Counters.{counter_names, IsCounterOf}
 use Rattle.rec_check.specs.Rules.{Rules}
-use Rattle.rec_check.specs.Words.{distinct, is_among}
+use Rattle.rec_check.specs.Words.{distinct}
+use Rattle.rec_text.specs.Bytes.{is_among}
 use Rattle.rec_edit.specs.Automatic.{lacking, numbers_in, AreNumbered}
 use Rattle.rec_edit.specs.proving.Filling.{before, with_given, IsGiven, numbered, AreLacking, IsRefused}
 use Rattle.rec_edit.specs.Insertions.{Numbered}
@@ -35,8 +35,7 @@ use Rattle.rec_check.specs.Schemas.{Described, IsDescribed, IsRuled}
 use Rattle.rec_edit.specs.declared.automatic.numbered.NumberedField.{NumberedField}
 use Rattle.rec_sex.proofs.lemmas.meaning.PatternLemmas.{map-set_same}
 use Rattle.rec_check.proofs.lemmas.checks.NameLemmas.{names_of-push}
-use Rattle.rec_text.proofs.lemmas.ListLemmas.{same_bytes, bytes_eq-self, AllByRecursion-push}
-use Rattle.rec_check.proofs.lemmas.TypeLemmas.{bytes_eq-sym}
+use Rattle.rec_text.proofs.lemmas.ListLemmas.{same_bytes, bytes_eq-self, AllByRecursion-push, bytes_eq-sym}
 use Rattle.rec_text.proofs.lemmas.FaultLemmas.{memory_or_weaker}
 
 -- ---- counters that give their next numbers one after another

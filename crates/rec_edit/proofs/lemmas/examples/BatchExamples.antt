@@ -5,7 +5,7 @@ use Rattle.rec_journal.specs.declared.event.Tool.TheVariants.{RecSet}
 use Rattle.rec_journal.specs.declared.patch.Hunk.{Hunk}
 use Rattle.rec_journal.specs.Revisions.{single_step}
 use Rattle.rec_edit.specs.Outcome.{IsSound}
-use Rattle.rec_edit.specs.Batch.{step_with, at_most_greatest, AreSteps, IsBatchOutcome}
+use Rattle.rec_edit.specs.Batch.{step_with, at_most_greatest, IsBatchOutcome}
 use Rattle.rec_edit.specs.proving.Batches.{untouched}
 
 -- no edit leaves the text as it is, in no step

@@ -17,7 +17,8 @@ use Rattle.rec_edit.specs.proving.Changes.{hunks_of}
 use Rattle.rec_edit.specs.Rules.{fields_of}
 use Rattle.rec_edit.specs.Insertions.{Numbered, Filled, numbered_fields, filling}
 use Rattle.rec_edit.specs.Automatic.{AreAutomatic, AreFilled, AreFilledSets, lacking}
-use Rattle.rec_edit.specs.Outcome.{EditScript, edit_script, insert_script}
+use Rattle.rec_edit.specs.Outcome.{EditScript}
+use Rattle.rec_edit.specs.proving.Edits.{edit_script, insert_script}
 use Rattle.rec_edit.proofs.lemmas.examples.WordingExamples.{elements, records_of, AreRecords-records_of, sets_of, shown, expected, hunk, pair}
 
 -- ---- the place of a new record

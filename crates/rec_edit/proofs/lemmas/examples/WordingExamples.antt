@@ -18,7 +18,8 @@ use Rattle.rec_journal.specs.declared.patch.Hunk.{Hunk}
 use Rattle.rec_sex.specs.declared.lists.field_list.Item.{Item}
 use Rattle.rec_edit.specs.Task.{Pair, of_pairs, of_text}
 use Rattle.rec_edit.specs.Script.{Layout, old_pieces, new_pieces, edited_text, closed}
-use Rattle.rec_edit.specs.Outcome.{EditScript, edit_script, allowed, insert_script}
+use Rattle.rec_edit.specs.Outcome.{EditScript, allowed}
+use Rattle.rec_edit.specs.proving.Edits.{edit_script, insert_script}
 use Rattle.rec_text.specs.declared.fault.Fault.TheVariants.{BadFieldList, NoSelection, BadName, BadValue, BadRecord}
 use Rattle.rec_sex.specs.Lists.{AreItems}
 use Rattle.rec_select.specs.Selection.{all, at_places, with_text}

@@ -9,7 +9,8 @@ use Rattle.std.proofs.lemmas.List.Folds.{find_at}
 use Rattle.std.proofs.lemmas.Option.{slice_get_cases}
 use Rattle.rec_text.specs.Elements.{Piece, IsElement, AreElementsOf, text_of}
 use Rattle.rec_text.proofs.lemmas.FaultLemmas.{same_value}
-use Rattle.rec_edit.specs.Script.{closed, parts_from, script_of, new_pieces, edited_text}
+use Rattle.rec_edit.specs.Script.{closed, new_pieces, edited_text}
+use Rattle.rec_edit.specs.proving.Parts.{parts_from, script_of}
 use Rattle.rec_edit.specs.proving.Changes.{hunks_of}
 use Rattle.rec_edit.specs.Insertions.{Insertion, inserting, Numbered, insertion_for, numbered_fields}
 use Rattle.rec_text.specs.Canonical.{is_plain_name}
@@ -23,8 +24,10 @@ use Rattle.rec_edit.specs.Task.{Pair, NewRecord, insert}
 use Rattle.rec_edit.specs.Rules.{fields_of}
 use Rattle.rec_edit.specs.Wording.{IsNewRecord}
 use Rattle.rec_edit.specs.Automatic.{AreAutomatic}
-use Rattle.rec_edit.specs.Outcome.{IsEditScript, EditScript, insert_script}
+use Rattle.rec_edit.specs.Outcome.{IsEditScript, EditScript}
+use Rattle.rec_edit.specs.proving.Edits.{insert_script}
 use Rattle.rec_text.proofs.lemmas.ListLemmas.{AllByRecursion-weaker}
+use Rattle.rec_edit.proofs.lemmas.scripts.TiedLemmas.{put_in-is}
 use Rattle.rec_edit.proofs.lemmas.scripts.EqualLemmas.{PutsSome, unchanged_by_some}
 use Rattle.rec_edit.proofs.lemmas.records.FitLemmas.{laid_from-kept, own_of-records, records_there}
 use Rattle.rec_edit.proofs.lemmas.scripts.LaidLemmas.{Ends, Ends-closed, LaysNeatly, closed-ends, closed-settled, laid_from, new_pieces-parts_from, parts_reopen, closed-blank, closed-field, map-closed}
@@ -366,5 +369,6 @@ pub faithful_insert : (pieces : List Piece) (schema : Described) (force : Bool) 
 faithful_insert pieces schema force record_type fresh auto edit elements is (inl (fault, refused, e)) = absurd (cc)
 faithful_insert pieces schema force record_type fresh auto edit elements is (inr (pairs, new, inl (fault, refused, e))) = absurd (cc)
 faithful_insert pieces schema force record_type fresh auto edit elements is (inr (pairs, new, inr (automatic, numbered, (records, are, same)))) =
-    subst (IsFaithful pieces schema (insert record_type fresh auto)) (sym (same_value edit (insert_script pieces records schema.sets record_type (numbered_fields automatic ++ fields_of pairs)) same))
+    subst (IsFaithful pieces schema (insert record_type fresh auto)) (sym (same_value edit (insert_script pieces records schema.sets record_type (numbered_fields automatic ++ fields_of pairs))
+    (put_in-is pieces records schema.sets record_type (numbered_fields automatic ++ fields_of pairs) (Ok edit) same)))
     (insert_is_faithful pieces schema elements is records are record_type fresh auto pairs automatic new numbered)

@@ -10,7 +10,7 @@ use Rattle.std.proofs.lemmas.Bool.{cases_Bool, cond_both, false≢true, and_part
 use Rattle.std.specs.declared.ops.Range.{Range}
 use Rattle.std.proofs.lemmas.List.{length-append, length-map}
 use Rattle.rec_text.specs.declared.fault.Fault.{Fault}
-use Rattle.rec_text.specs.Bytes.{begins_name, continues_name, is_letter}
+use Rattle.rec_text.specs.Bytes.{begins_name, continues_name, is_letter, is_among}
 use Rattle.rec_text.specs.Canonical.{is_plain_name, is_field_name, is_foldable}
 use Rattle.rec_text.specs.Elements.{Piece, name_of, has_name}
 use Rattle.rec_text.specs.Records.{elements_in, is_blank_piece, is_field_piece}
@@ -21,7 +21,7 @@ use Rattle.rec_check.specs.Descriptors.{bad_unless, type_of, rec_name}
 use Rattle.rec_check.specs.Rules.{Rules, AreRules, field_type}
 use Rattle.rec_check.specs.Schemas.{Described, IsSchema}
 use Rattle.rec_check.specs.Sets.{is_of_type}
-use Rattle.rec_check.specs.Words.{words, distinct, is_among}
+use Rattle.rec_check.specs.Words.{words, distinct}
 use Rattle.rec_text.proofs.lemmas.FaultLemmas.{same_value}
 use Rattle.rec_text.proofs.lemmas.StepLemmas.{Then-ok}
 use Rattle.rec_edit.specs.Rules.{canonical, fields_of}

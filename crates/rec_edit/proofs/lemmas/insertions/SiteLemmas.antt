@@ -28,9 +28,9 @@ use Rattle.rec_edit.specs.proving.Sites.{empty_line_before, empty_line_after, ar
 use Rattle.rec_text.specs.Bytes.{ends_newline}
 use Rattle.rec_journal.specs.declared.patch.Hunk.{Hunk}
 use Rattle.rec_edit.specs.declared.outcome.Edited.{Edited}
-use Rattle.rec_edit.specs.Script.{Part, Layout, closed, opened, lacks_newline, putting, settled, parts_from, script_of, new_pieces, changes_from, edited_text}
+use Rattle.rec_edit.specs.Script.{Part, Layout, closed, opened, lacks_newline, settled, new_pieces, changes_from, edited_text}
+use Rattle.rec_edit.specs.proving.Parts.{putting, parts_from, script_of}
 use Rattle.rec_edit.specs.proving.Changes.{joined, real_changes, hunks_of}
-use Rattle.rec_edit.specs.Outcome.{edited_by, insert_script}
 use Rattle.rec_edit.specs.proving.Drafts.{LaysLines}
 use Rattle.rec_text.specs.declared.fault.Fault.{Fault}
 use Rattle.rec_text.specs.Faults.{IsMemoryOr}
@@ -39,9 +39,10 @@ use Rattle.rec_check.specs.Schemas.{Described}
 use Rattle.rec_edit.specs.Wording.{IsNewRecord}
 use Rattle.rec_edit.specs.Automatic.{AreAutomatic}
 use Rattle.rec_edit.specs.proving.Given.{IsAutomaticText}
-use Rattle.rec_edit.specs.proving.Edits.{IsEditOf}
+use Rattle.rec_edit.specs.proving.Edits.{IsCarriedOut, edited_by, insert_script}
 use Rattle.rec_text.proofs.lemmas.elements.ElementLemmas.{text_of-append}
 use Rattle.rec_text.proofs.lemmas.elements.FieldLemmas.{ends_newline-append}
+use Rattle.rec_edit.proofs.lemmas.scripts.TiedLemmas.{put_in}
 use Rattle.rec_edit.proofs.lemmas.scripts.LaidLemmas.{AreEnded, AreEnded-append, canonical-ends}
 use Rattle.rec_edit.proofs.lemmas.scripts.WellFormedLemmas.{parts_from-cons}
 use Rattle.rec_text.proofs.lemmas.FaultLemmas.{memory_or_weaker}
@@ -360,9 +361,9 @@ module _ (pieces : List Piece) (records : List (Range ℕ)) (sets : List Set_) w
 -- ---- the edit
 
 module _ (pieces : List Piece) (schema : Described) (record_type : Option (List ℕ)) (fresh : NewRecord) (auto : Bool) where
-  pub insert-no_record : (force : Bool) (fault : Fault) → IsMemoryOr fault (IsNewRecord record_type fresh (Err fault)) → IsMemoryOr fault (IsEditOf pieces schema force (insert record_type fresh auto) (Err fault))
+  pub insert-no_record : (force : Bool) (fault : Fault) → IsMemoryOr fault (IsNewRecord record_type fresh (Err fault)) → IsMemoryOr fault (IsCarriedOut pieces schema force (insert record_type fresh auto) (Err fault))
   insert-no_record force fault is =
-      memory_or_weaker fault (IsNewRecord record_type fresh (Err fault)) (IsEditOf pieces schema force (insert record_type fresh auto) (Err fault))
+      memory_or_weaker fault (IsNewRecord record_type fresh (Err fault)) (IsCarriedOut pieces schema force (insert record_type fresh auto) (Err fault))
       (λ refused. inl (fault, inl (fault, refused, refl), refl)) is
 
   module _ (pairs : List Pair) (is_new : IsNewRecord record_type fresh (Ok pairs)) where
@@ -370,9 +371,9 @@ module _ (pieces : List Piece) (schema : Described) (record_type : Option (List 
     names = map (λ pair. pair.name) pairs
 
     pub insert-no_number : (force : Bool) (fault : Fault) → IsMemoryOr fault (AreAutomatic pieces schema record_type auto names (Err fault))
-        → IsMemoryOr fault (IsEditOf pieces schema force (insert record_type fresh auto) (Err fault))
+        → IsMemoryOr fault (IsCarriedOut pieces schema force (insert record_type fresh auto) (Err fault))
     insert-no_number force fault is =
-        memory_or_weaker fault (AreAutomatic pieces schema record_type auto names (Err fault)) (IsEditOf pieces schema force (insert record_type fresh auto) (Err fault))
+        memory_or_weaker fault (AreAutomatic pieces schema record_type auto names (Err fault)) (IsCarriedOut pieces schema force (insert record_type fresh auto) (Err fault))
         (λ refused. inl (fault, inr (pairs, is_new, inl (fault, refused, refl)), refl)) is
 
     module _ (automatic : List ℕ) (place : ℕ) (text : List ℕ) (given : IsAutomaticText pieces schema record_type auto names automatic) (put : IsRecordPut pieces schema.sets record_type automatic pairs place text) where
@@ -389,10 +390,10 @@ module _ (pieces : List Piece) (schema : Described) (record_type : Option (List 
       LaysLines-insert = LaysLines-in_one place text (insertion_for pieces put.records schema.sets record_type fields).new ended is_put.same_text
 
       pub insert-made : (force : Bool) (edited : Edited) → edited ≡ edited_by (record { script = script_of (inserting (in_one place text)) pieces; changed = 1 })
-          → IsEditOf pieces schema force (insert record_type fresh auto) (Ok edited)
+          → IsCarriedOut pieces schema force (insert record_type fresh auto) (Ok edited)
       insert-made force edited is =
           inr (
             insert_script pieces put.records schema.sets record_type fields,
-            inr (pairs, is_new, inr (given.0, given.1, (put.records, put.are, refl))),
+            inr (pairs, is_new, inr (given.0, given.1, (put.records, put.are, put_in pieces put.records schema.sets record_type fields))),
             ap Ok (is ∙ put_in_one pieces place text (insertion_for pieces put.records schema.sets record_type fields) 1 ended is_put),
           )

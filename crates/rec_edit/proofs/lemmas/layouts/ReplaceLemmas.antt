@@ -11,17 +11,19 @@ use Rattle.rec_edit.specs.Rules.{is_own, fields_of, replacement}
 use Rattle.rec_text.specs.Canonical.{is_plain_name, is_foldable}
 use Rattle.rec_check.specs.Schemas.{Described, IsDescribed, IsSchema}
 use Rattle.rec_edit.specs.Task.{Pair, NewRecord, Wanted, replace}
-use Rattle.rec_edit.specs.Script.{Layout, script_of, new_pieces, edited_text}
+use Rattle.rec_edit.specs.Script.{Layout, new_pieces, edited_text}
+use Rattle.rec_edit.specs.proving.Parts.{script_of}
 use Rattle.rec_edit.specs.proving.Changes.{hunks_of}
 use Rattle.rec_edit.specs.Wording.{IsNewRecord}
-use Rattle.rec_edit.specs.Outcome.{EditScript, IsEditScript, edit_script}
+use Rattle.rec_edit.specs.Outcome.{EditScript, IsEditScript}
+use Rattle.rec_edit.proofs.lemmas.scripts.TiedLemmas.{script_is}
 use Rattle.rec_text.proofs.lemmas.ListLemmas.{AllByRecursion-weaker, AllByRecursion-both, AllByRecursion-slice_get}
 use Rattle.rec_edit.proofs.lemmas.records.MemberLemmas.{holds_index-in, selected_plain}
 use Rattle.rec_edit.proofs.lemmas.layouts.NeatLemmas.{found}
 use Rattle.rec_edit.proofs.lemmas.records.FitLemmas.{blank_or_full, full_no_blank, Cut-AreRecords, Fits-inner}
 use Rattle.rec_edit.proofs.lemmas.layouts.ReplacementLemmas.{begins_at, CanBeWritten, IsInner-replacement, fields_full, pairs_can_be_written, replacement_lays_neatly, replacement_lays_well, HasBlank, ReplacesOwn, are_spaced, script_is_apart}
 use Rattle.rec_edit.proofs.lemmas.outcomes.OutcomeLemmas.{one_list_of_elements, written_by}
-use Rattle.rec_edit.proofs.lemmas.outcomes.EffectLemmas.{AreMeant, IsDone, chosen_meant, done_keeps_sets, effect_of_done, laid_gives_way, script_is}
+use Rattle.rec_edit.proofs.lemmas.outcomes.EffectLemmas.{AreMeant, IsDone, chosen_meant, done_keeps_sets, effect_of_done, laid_gives_way}
 use Rattle.rec_edit.proofs.lemmas.outcomes.AnswerLemmas.{IsFaithful}
 use Rattle.rec_edit.proofs.lemmas.scripts.EqualLemmas.{closed-tied, old_pieces-tied, tied_pieces_are_read, ChangeApart, hunks_of-apart}
 
@@ -151,7 +153,7 @@ step_replaces pieces schema force wanted fresh edit (inr (pairs, pairs_are, inr 
   written = new_record_can_be_written fresh pairs pairs_are;
   chosen = chosen;
   meant = chosen_meant pieces schema.sets wanted chosen are;
-  is = script_is edit (edit_script pieces chosen (replacement (fields_of pairs) chosen)) same;
+  is = script_is pieces chosen (replacement (fields_of pairs) chosen) edit same;
 }
 
 -- ---- the text stays where its elements do

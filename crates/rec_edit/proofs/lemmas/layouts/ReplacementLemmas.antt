@@ -9,7 +9,8 @@ use Rattle.std.specs.declared.ops.Range.{Range}
 use Rattle.rec_text.specs.Bytes.{ends_newline}
 use Rattle.rec_text.specs.Elements.{Piece, IsElement, EndInNewlines, text_of, has_name}
 use Rattle.rec_text.specs.Records.{is_blank_at, is_blank_piece, elements_in}
-use Rattle.rec_edit.specs.Script.{Part, Layout, closed, opened, lacks_newline, settled, changing, parts_from, script_of}
+use Rattle.rec_edit.specs.Script.{Part, Layout, closed, opened, lacks_newline, settled}
+use Rattle.rec_edit.specs.proving.Parts.{changing, parts_from, script_of}
 use Rattle.rec_text.specs.Canonical.{is_plain_name, is_foldable}
 use Rattle.rec_check.specs.Descriptors.{rec_name}
 use Rattle.rec_edit.specs.Task.{Pair}

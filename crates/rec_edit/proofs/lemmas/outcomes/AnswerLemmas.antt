@@ -1,5 +1,5 @@
 -- What holds of each step of an edit, and the refusals that an edit has at all.
-use Rattle.std.proofs.Common.{◌≡◌, ◌∙◌, inl, inr, Result, Ok, Err, sym, ap, subst, ◌≢◌, List, [], ◌==◌, ℕ, position, Option, Some, None, ◌∷◌, length, ℤ, Bool, true, false, cond, ◌++◌, map, filter_map, slice_get, find, option_to_list}
+use Rattle.std.proofs.Common.{◌≡◌, inl, inr, Result, Ok, Err, sym, ap, subst, ◌≢◌, List, [], ◌==◌, ℕ, position, Option, Some, None, ◌∷◌, length, ℤ, Bool, true, false, cond, ◌++◌, map, filter_map, slice_get, find, option_to_list}
 use Rattle.std.specs.Option.{option_map_or}
 use Rattle.std.specs.declared.ops.Range.{Range}
 use Rattle.std.proofs.lemmas.Bool.{cond_both}
@@ -11,9 +11,10 @@ use Rattle.rec_text.specs.Steps.{Then}
 use Rattle.rec_text.specs.Elements.{Piece, AreElementsOf, text_of}
 use Rattle.rec_check.specs.Schemas.{Described, IsSchema}
 use Rattle.rec_edit.specs.Task.{Task, Pair, Wanted, NewRecord, of_pairs, of_text, insert, replace, delete, comment_out, set, auto_fill}
-use Rattle.rec_edit.specs.Script.{Layout, script_of, new_pieces, edited_text}
+use Rattle.rec_edit.specs.Script.{Layout, new_pieces, edited_text}
+use Rattle.rec_edit.specs.proving.Parts.{script_of}
 use Rattle.rec_edit.specs.proving.Changes.{hunks_of}
-use Rattle.rec_edit.specs.Outcome.{EditScript, allowed, AreChosen, AreRemovable, IsEditScript, none_of, IsSoundUnlessForced, edited_by, IsOutcome, IsEditRefusal}
+use Rattle.rec_edit.specs.Outcome.{allowed, AreChosen, AreRemovable, IsLaidOut, IsPutIn, EditScript, IsEditScript, none_of, IsSoundUnlessForced, IsEditOf, IsOutcome, IsEditRefusal}
 use Rattle.rec_edit.specs.Effect.{HasEffect}
 use Rattle.rec_sex.specs.declared.lists.field_list.Item.{Item}
 use Rattle.rec_edit.specs.declared.request.Action.TheVariants.{Add}
@@ -32,7 +33,8 @@ use Rattle.rec_check.specs.Violations.{AreViolationsOf, members, names_of}
 use Rattle.rec_select.specs.Selection.{Filter, all, by_expression, at_places, with_text, has_members, only_set, set_for, IsSelection}
 use Rattle.rec_edit.specs.declared.request.Action.{Action}
 use Rattle.rec_edit.specs.declared.outcome.Edited.{Edited}
-use Rattle.rec_edit.specs.Insertions.{Numbered}
+use Rattle.rec_edit.specs.Insertions.{Numbered, numbered_fields, filling}
+use Rattle.rec_edit.specs.Rules.{fields_of, deletion, commenting, replacement, setting}
 use Rattle.rec_edit.specs.Automatic.{lacking, AreNumbered, AreAutomatic, numbers_in, AreFilled, AreFilledSets}
 use Rattle.rec_text.proofs.lemmas.records.RecordLemmas.{OneListOfRecords-holds}
 use Rattle.rec_text.proofs.lemmas.reading.ReadingLemmas.{one_reading}
@@ -238,23 +240,30 @@ module _ (pieces : List Piece) where
 
 -- ---- one edit
 
-pub RefusesSo-step : (pieces : List Piece) (schema : Described) (force : Bool) (task : Task) → RefusesSo (IsEditScript pieces schema force task)
+RefusesSo-laid : (pieces : List Piece) (chosen : List (Range ℕ)) (layout : Layout) → RefusesSo (IsLaidOut pieces chosen layout)
+RefusesSo-laid pieces chosen layout answer (script, is, e) = subst MayBe (sym e) tt
+
+RefusesSo-put : (pieces : List Piece) (sets : List Set_) (record_type : Option (List ℕ)) (fields : List Piece)
+    → RefusesSo (λ answer. (records : List (Range ℕ)) × AreRecords pieces records × IsPutIn pieces records sets record_type fields answer)
+RefusesSo-put pieces sets record_type fields answer (records, are, (script, is, e)) = subst MayBe (sym e) tt
+
+RefusesSo-step : (pieces : List Piece) (schema : Described) (force : Bool) (task : Task) → RefusesSo (IsEditScript pieces schema force task)
 RefusesSo-step pieces schema force (insert record_type fresh auto) =
     RefusesSo-Then (IsNewRecord record_type fresh) _ (RefusesSo-new record_type fresh) (λ pairs.
     RefusesSo-Then (AreAutomatic pieces schema record_type auto (map (λ pair. pair.name) pairs)) _ (RefusesSo-automatic pieces schema record_type auto (map (λ pair. pair.name) pairs)) (λ automatic.
-    RefusesSo-of_records pieces _))
+    RefusesSo-put pieces schema.sets record_type (numbered_fields automatic ++ fields_of pairs)))
 RefusesSo-step pieces schema force (replace wanted fresh) =
     RefusesSo-Then (IsNewRecord None fresh) _ (RefusesSo-new None fresh) (λ pairs.
-    RefusesSo-Then (AreChosen pieces schema.sets wanted) _ (RefusesSo-chosen pieces schema.sets wanted) (λ _. RefusesSo-same _ tt))
+    RefusesSo-Then (AreChosen pieces schema.sets wanted) _ (RefusesSo-chosen pieces schema.sets wanted) (λ chosen. RefusesSo-laid pieces chosen (replacement (fields_of pairs) chosen)))
 RefusesSo-step pieces schema force (delete wanted) =
-    RefusesSo-Then (AreRemovable pieces schema.sets wanted force) _ (RefusesSo-removable pieces schema.sets wanted force) (λ _. RefusesSo-same _ tt)
+    RefusesSo-Then (AreRemovable pieces schema.sets wanted force) _ (RefusesSo-removable pieces schema.sets wanted force) (λ chosen. RefusesSo-laid pieces chosen (deletion pieces chosen))
 RefusesSo-step pieces schema force (comment_out wanted) =
-    RefusesSo-Then (AreRemovable pieces schema.sets wanted force) _ (RefusesSo-removable pieces schema.sets wanted force) (λ _. RefusesSo-same _ tt)
+    RefusesSo-Then (AreRemovable pieces schema.sets wanted force) _ (RefusesSo-removable pieces schema.sets wanted force) (λ chosen. RefusesSo-laid pieces chosen (commenting chosen))
 RefusesSo-step pieces schema force (set wanted list action) =
     RefusesSo-Then (AreItemsFor action list) _ (RefusesSo-items action list) (λ items.
-    RefusesSo-Then (AreChosen pieces schema.sets wanted) _ (RefusesSo-chosen pieces schema.sets wanted) (λ _. RefusesSo-same _ tt))
+    RefusesSo-Then (AreChosen pieces schema.sets wanted) _ (RefusesSo-chosen pieces schema.sets wanted) (λ chosen. RefusesSo-laid pieces chosen (setting action items pieces chosen)))
 RefusesSo-step pieces schema force auto_fill = λ answer (records, are, is).
-    RefusesSo-Then (AreFilledSets pieces records schema.sets schema.rules) _ (RefusesSo-filled_sets pieces records schema.sets schema.rules) (λ _. RefusesSo-same _ tt) answer is
+    RefusesSo-Then (AreFilledSets pieces records schema.sets schema.rules) _ (RefusesSo-filled_sets pieces records schema.sets schema.rules) (λ filled. RefusesSo-laid pieces (map (λ one. one.range) filled) (filling filled)) answer is
 
 -- ---- the edited text
 
@@ -280,11 +289,15 @@ module _ (text : List ℕ) (new : List Piece) (same : Described) (read : AreElem
   RefusesSo-sound true = RefusesSo-same (Ok tt) tt
   RefusesSo-sound false = RefusesSo-Then (AreViolationsOf text) _ RefusesSo-violations (λ found. RefusesSo-same _ (MayBe-none_of found))
 
+-- ---- the outcome
+
+pub RefusesSo-edit : (pieces : List Piece) (schema : Described) (force : Bool) (task : Task) → RefusesSo (IsEditOf pieces schema force task)
+RefusesSo-edit pieces schema force task =
+    RefusesSo-Then (IsEditScript pieces schema force task) _ (RefusesSo-step pieces schema force task) (λ edit answer (edited, by, e). subst MayBe (sym e) tt)
+
 pub RefusesSo-outcome : (pieces : List Piece) (schema : Described) (force : Bool) (task : Task)
-    → ((edit : EditScript) → IsEditScript pieces schema force task (Ok edit) → IsFaithful pieces schema task edit) → RefusesSo (IsOutcome pieces schema force task)
-RefusesSo-outcome pieces schema force task faithful answer (inl (fault, is, e)) =
-    subst (λ (r : Result Edited Fault). MayBe r) (sym e) (RefusesSo-step pieces schema force task (Err fault) is)
-RefusesSo-outcome pieces schema force task faithful answer (inr (edit, is, rest)) =
-    let of_step = faithful edit is in
-    RefusesSo-Then (IsSoundUnlessForced force (edited_text edit.script)) (λ _ answer. answer ≡ Ok (edited_by edit))
-    (RefusesSo-sound (edited_text edit.script) (new_pieces edit.script) of_step.sound.0 of_step.read of_step.sound.1 force) (λ _. RefusesSo-same (Ok (edited_by edit)) tt) answer rest
+    → ((edited : Edited) → IsEditOf pieces schema force task (Ok edited) → RefusesSo (IsSoundUnlessForced force edited.text)) → RefusesSo (IsOutcome pieces schema force task)
+RefusesSo-outcome pieces schema force task sound_so answer (inl (fault, is, e)) =
+    subst (λ (r : Result Edited Fault). MayBe r) (sym e) (RefusesSo-edit pieces schema force task (Err fault) is)
+RefusesSo-outcome pieces schema force task sound_so answer (inr (edited, is, rest)) =
+    RefusesSo-Then (IsSoundUnlessForced force edited.text) (λ _ answer. answer ≡ Ok edited) (sound_so edited is) (λ _. RefusesSo-same (Ok edited) tt) answer rest

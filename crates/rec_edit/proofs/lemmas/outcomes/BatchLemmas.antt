@@ -1,6 +1,6 @@
 -- Edits one after another: each text between is read, the steps lead from the first text to the last, and what is done and
 -- what is left are the whole.
-use Rattle.std.proofs.Common.{◌≡◌, ◌≢◌, ◌∙◌, ℕ, ◌+◌, ◌-◌, ◌<◌, ◌≤◌, length, map, take, drop, get_or, Bool, true, false, List, [], ◌∷◌, ◌++◌, refl, ap, ap₂, sym, subst, inl, inr, arith, append_assoc, append-nil, Result, Ok, Err}
+use Rattle.std.proofs.Common.{◌≡◌, ◌∙◌, ℕ, ◌+◌, ◌-◌, ◌<◌, ◌≤◌, length, map, take, drop, get_or, Bool, true, false, List, [], ◌∷◌, ◌++◌, refl, ap, ap₂, sym, subst, inl, inr, arith, append_assoc, append-nil, Result, Ok, Err}
 use Rattle.std.specs.Prelude.{IfOk, IfErr, min}
 use Rattle.std.proofs.lemmas.Int.{clamps}
 use Rattle.std.proofs.lemmas.List.{at_drop_more, drop_all, take_rest}
@@ -20,20 +20,20 @@ use Rattle.rec_edit.specs.declared.batches.BatchEdited.{BatchEdited}
 use Rattle.rec_edit.specs.declared.outcome.Edited.{Edited}
 use Rattle.rec_edit.specs.declared.request.Edit.{Edit}
 use Rattle.rec_edit.specs.Task.{Task, task_of, tool_of, insert, replace, delete, comment_out, set, auto_fill}
-use Rattle.rec_edit.specs.Script.{edited_text, old_pieces, new_pieces}
+use Rattle.rec_edit.specs.Script.{edited_text, new_pieces, old_pieces}
 use Rattle.rec_edit.specs.proving.Changes.{hunks_of}
-use Rattle.rec_edit.specs.Outcome.{EditScript, IsEditScript, IsSound, IsSoundUnlessForced, IsEditRefusal, edited_by}
-use Rattle.rec_edit.specs.Batch.{IsEditScriptOn, step_with, at_most_greatest, joined, AreSteps, IsBatchOutcome, HaveEffects}
+use Rattle.rec_edit.specs.Outcome.{IsEditOf, IsSound, IsSoundUnlessForced, IsEditRefusal}
+use Rattle.rec_edit.specs.Batch.{IsEditOn, step_with, at_most_greatest, joined, AreSteps, IsBatchOutcome, HaveEffects}
 use Rattle.rec_edit.specs.Effect.{HasEffect}
-use Rattle.rec_edit.specs.proving.Batches.{IsEditOn, untouched, after_edit, followed, IsUnderWay}
-use Rattle.rec_edit.specs.proving.Edits.{IsEditOf}
+use Rattle.rec_edit.specs.proving.Batches.{untouched, after_edit, followed, IsUnderWay}
+use Rattle.rec_edit.specs.proving.Edits.{edited_by}
 use Rattle.rec_text.proofs.lemmas.reading.ReadingLemmas.{one_reading}
 use Rattle.rec_text.proofs.lemmas.FaultLemmas.{no_both, same_value, memory_or_weaker}
 use Rattle.rec_text.proofs.lemmas.StepLemmas.{Then-ok}
-use Rattle.rec_edit.proofs.lemmas.outcomes.AnswerLemmas.{IsFaithful, MayBe, RefusesSo, RefusesSo-same, RefusesSo-step, RefusesSo-sound, schema_refusal}
-use Rattle.rec_edit.proofs.lemmas.outcomes.EditLemmas.{fault_is}
+use Rattle.rec_edit.proofs.lemmas.outcomes.AnswerLemmas.{RefusesSo-edit, RefusesSo-sound, schema_refusal, unless_memory-weaker}
+use Rattle.rec_edit.proofs.lemmas.outcomes.EditLemmas.{fault_is, is_edited_by, old_pieces-edit, script_of_edit}
 use Rattle.rec_edit.proofs.lemmas.outcomes.UnruledLemmas.{faithful}
-use Rattle.rec_edit.proofs.lemmas.scripts.ScriptLemmas.{old_pieces-script_of, Splices-hunks_of, same_where_no_hunk}
+use Rattle.rec_edit.proofs.lemmas.scripts.ScriptLemmas.{Splices-hunks_of, same_where_no_hunk}
 
 -- an edit is done by a tool of its own
 pub is_batch-tool_of : (task : Task) → is_batch (tool_of task) ≡ false
@@ -64,16 +64,16 @@ as_it_is a small = omega (arith, clamps, small)
 
 module _ (force : Bool) where
   -- the first edit is made
-  pub first_edit : (task : Task) (left : List Task) (text empty : List ℕ) (edit : EditScript) → IsEditScriptOn force task text (Ok edit)
-      → IsUnderWay force (task ∷ left) text (after_edit (untouched empty) (tool_of task) (edited_by edit)) left
-  first_edit task left text empty edit is = record {
+  first_edit : (task : Task) (left : List Task) (text empty : List ℕ) (edited : Edited) → IsEditOn force task text (Ok edited)
+      → IsUnderWay force (task ∷ left) text (after_edit (untouched empty) (tool_of task) edited) left
+  first_edit task left text empty edited is = record {
     goes_on = λ rest are. inr (
-      edit,
+      edited,
       is,
-      inr (rest, are, ap Ok (same_made _ _ rest.text _ _ refl (sum_of_two edit.changed rest.changed))),
+      inr (rest, are, ap Ok (same_made _ _ rest.text _ _ refl (sum_of_two edited.changed rest.changed))),
     );
-    fits = at_most (0 + edit.changed);
-    stops = λ fault refused. inr (edit, is, inl (fault, refused, refl));
+    fits = at_most (0 + edited.changed);
+    stops = λ fault refused. inr (edited, is, inl (fault, refused, refl));
   }
 
   -- there is no edit
@@ -92,19 +92,19 @@ module _ (force : Bool) where
 
   module _ (tasks : List Task) (text : List ℕ) (done : BatchEdited) where
     -- one edit more
-    pub next_edit : (task : Task) (left : List Task) (edit : EditScript) → IsUnderWay force tasks text done (task ∷ left) → IsEditScriptOn force task done.text (Ok edit)
-        → IsUnderWay force tasks text (after_edit done (tool_of task) (edited_by edit)) left
-    next_edit task left edit under_way is = record {
+    next_edit : (task : Task) (left : List Task) (edited : Edited) → IsUnderWay force tasks text done (task ∷ left) → IsEditOn force task done.text (Ok edited)
+        → IsUnderWay force tasks text (after_edit done (tool_of task) edited) left
+    next_edit task left edited under_way is = record {
       goes_on = λ rest are.
-          let same : followed done (joined task edit rest) ≡ followed (after_edit done (tool_of task) (edited_by edit)) rest =
-          same_made _ _ rest.text _ _ (sym (append_assoc done.steps (step_with (tool_of task) (hunks_of edit.script)) rest.steps)) (sum_of_three done.changed edit.changed rest.changed) in
-          subst (λ r. AreSteps force tasks text (Ok r)) same (under_way.goes_on (joined task edit rest) (inr (edit, is, inr (rest, are, refl))));
-      fits = at_most (done.changed + edit.changed);
-      stops = λ fault refused. under_way.stops fault (inr (edit, is, inl (fault, refused, refl)));
+          let same : followed done (joined task edited rest) ≡ followed (after_edit done (tool_of task) edited) rest =
+          same_made _ _ rest.text _ _ (sym (append_assoc done.steps (step_with (tool_of task) edited.patch) rest.steps)) (sum_of_three done.changed edited.changed rest.changed) in
+          subst (λ r. AreSteps force tasks text (Ok r)) same (under_way.goes_on (joined task edited rest) (inr (edited, is, inr (rest, are, refl))));
+      fits = at_most (done.changed + edited.changed);
+      stops = λ fault refused. under_way.stops fault (inr (edited, is, inl (fault, refused, refl)));
     }
 
     -- the next edit is refused
-    pub next_refused : (task : Task) (left : List Task) (fault : Fault) → IsUnderWay force tasks text done (task ∷ left) → IsEditScriptOn force task done.text (Err fault)
+    next_refused : (task : Task) (left : List Task) (fault : Fault) → IsUnderWay force tasks text done (task ∷ left) → IsEditOn force task done.text (Err fault)
         → AreSteps force tasks text (Err fault)
     next_refused task left fault under_way refused = under_way.stops fault (inl (fault, refused, refl))
 
@@ -114,18 +114,6 @@ module _ (force : Bool) where
         let same : followed done (untouched done.text) ≡ done =
         same_made _ _ done.text _ _ (append-nil done.steps) (as_it_is done.changed under_way.fits) in
         subst (λ r. AreSteps force tasks text (Ok r)) same (under_way.goes_on (untouched done.text) refl)
-
--- the step that an edit of a text is
-pub step_on : (force : Bool) (task : Task) (text : List ℕ) (edited : Edited) → IsEditOn force task text (Ok edited)
-    → (edit : EditScript) × IsEditScriptOn force task text (Ok edit) × (edited ≡ edited_by edit)
-step_on force task text edited is =
-    let parts = Then-ok (IsEditScriptOn force task text) (λ edit answer. answer ≡ Ok (edited_by edit)) edited is in
-    (parts.0, parts.1, same_value edited (edited_by parts.0) parts.2)
-
--- an edit that is refused
-pub refused_on : (force : Bool) (task : Task) (text : List ℕ) (fault : Fault) → IsEditOn force task text (Err fault) → IsEditScriptOn force task text (Err fault)
-refused_on force task text fault (inl (other, is, e)) = subst (λ (r : Result EditScript Fault). IsEditScriptOn force task text r) (let same : fault ≡ other = cc in ap Err (sym same)) is
-refused_on force task text fault (inr (edit, is, e)) = absurd (no_both (edited_by edit) fault (sym e))
 
 -- ---- one edit of a text that is read
 
@@ -147,46 +135,42 @@ described_parts text described is =
 pub read_is_described : (text : List ℕ) (pieces : List Piece) (schema : Described) → IsRead text pieces schema → IsDescribedText text (Ok (record { pieces = pieces; schema = schema }))
 read_is_described text pieces schema there = inr (pieces, there.read, inr (schema, there.is, refl))
 
--- an edit of the elements of a text is one of the text
-pub edit_on : (force : Bool) (task : Task) (text : List ℕ) (pieces : List Piece) (schema : Described) (answer : Result EditScript Fault) → IsRead text pieces schema
-    → IsEditScript pieces schema force task answer → IsEditScriptOn force task text answer
-edit_on force task text pieces schema answer there is = inr (record { pieces = pieces; schema = schema }, read_is_described text pieces schema there, is)
-
 -- what holds of an edit of a text
-pub record IsFaithfulOn (task : Task) (text : List ℕ) (edit : EditScript) : Type 0 where
-  pub leads : Splices (hunks_of edit.script) text (edited_text edit.script)
-  pub unchanged : hunks_of edit.script ≡ [] → text ≡ edited_text edit.script
+pub record IsFaithfulOn (task : Task) (text : List ℕ) (edited : Edited) : Type 0 where
+  pub leads : Splices edited.patch text edited.text
+  pub unchanged : edited.patch ≡ [] → text ≡ edited.text
   pub pieces : List Piece
   pub schema : Described
-  pub read : IsRead (edited_text edit.script) pieces schema
-  pub effect : (described : DescribedText) × IsDescribedText text (Ok described) × HasEffect described.pieces described.schema task (edited_text edit.script)
+  pub read : IsRead edited.text pieces schema
+  pub effect : (described : DescribedText) × IsDescribedText text (Ok described) × HasEffect described.pieces described.schema task edited.text
 
-pub faithful_on : (force : Bool) (task : Task) (text : List ℕ) (edit : EditScript) → IsEditScriptOn force task text (Ok edit) → IsFaithfulOn task text edit
-faithful_on force task text edit is =
-    let parts = Then-ok (IsDescribedText text) (λ described. IsEditScript described.pieces described.schema force task) edit is in
-    let described = parts.0 in
-    let there = described_parts text described parts.1 in
+pub faithful_on : (force : Bool) (task : Task) (text : List ℕ) (edited : Edited) → IsEditOn force task text (Ok edited) → IsFaithfulOn task text edited
+faithful_on force task text edited is =
+    let (described, is_described, is_edit) = Then-ok (IsDescribedText text) (λ described. IsEditOf described.pieces described.schema force task) edited is in
+    let there = described_parts text described is_described in
     let whole : AreElementsOf described.pieces (text_of described.pieces) = subst (AreElementsOf described.pieces) (sym there.read.joined) there.read in
-    let of_step = faithful described.pieces described.schema force task whole there.is edit parts.2 in
+    let (edit, is_script, by) = script_of_edit described.pieces described.schema task force edited is_edit in
+    let of_script = faithful described.pieces described.schema force task whole there.is edit is_script in
     let old : text_of (old_pieces edit.script) ≡ text =
-    ap text_of (ap old_pieces of_step.is ∙ old_pieces-script_of of_step.layout described.pieces) ∙ there.read.joined in
-    record {
+    ap text_of (old_pieces-edit described.pieces described.schema force task whole there.is edit is_script) ∙ there.read.joined in
+    let holds : IsFaithfulOn task text (edited_by edit) = record {
       leads = subst (λ before. Splices (hunks_of edit.script) before (edited_text edit.script)) old (Splices-hunks_of edit.script);
       unchanged = λ none. sym (same_where_no_hunk edit.script none ∙ old);
       pieces = new_pieces edit.script;
-      schema = of_step.sound.0;
-      read = record { read = of_step.read; is = of_step.sound.1 };
-      effect = (described, parts.1, of_step.effect);
-    }
+      schema = of_script.sound.0;
+      read = record { read = of_script.read; is = of_script.sound.1 };
+      effect = (described, is_described, of_script.effect);
+    } in
+    subst (IsFaithfulOn task text) (sym (is_edited_by described.pieces described.schema force task whole there.is edit edited is_script by)) holds
 
 -- a text that is read has only the refusals of an edit
-step_refusal : (force : Bool) (task : Task) (text : List ℕ) (pieces : List Piece) (schema : Described) (fault : Fault) → IsRead text pieces schema
-    → IsEditScriptOn force task text (Err fault) → IsEditRefusal fault
-step_refusal force task text pieces schema fault there (inr (described, is, refused)) = RefusesSo-step described.pieces described.schema force task (Err fault) refused
-step_refusal force task text pieces schema fault there (inl (other, inl (unread, is, k), e)) =
+edit_refusal : (force : Bool) (task : Task) (text : List ℕ) (pieces : List Piece) (schema : Described) (fault : Fault) → IsRead text pieces schema
+    → IsEditOn force task text (Err fault) → IsEditRefusal fault
+edit_refusal force task text pieces schema fault there (inr (described, is, refused)) = RefusesSo-edit described.pieces described.schema force task (Err fault) refused
+edit_refusal force task text pieces schema fault there (inl (other, inl (unread, is, k), e)) =
     absurd (no_both pieces unread (one_reading text (Ok pieces) (Err unread) there.read is))
-step_refusal force task text pieces schema fault there (inl (other, inr (more, is, inr (sets, are, k)), e)) = absurd (no_both _ other (sym k))
-step_refusal force task text pieces schema fault there (inl (other, inr (more, is, inl (bad, are, k)), e)) =
+edit_refusal force task text pieces schema fault there (inl (other, inr (more, is, inr (sets, are, k)), e)) = absurd (no_both _ other (sym k))
+edit_refusal force task text pieces schema fault there (inl (other, inr (more, is, inl (bad, are, k)), e)) =
     let same : more ≡ pieces = same_value more pieces (one_reading text (Ok more) (Ok pieces) is there.read) in
     let refused : IsEditRefusal bad = schema_refusal pieces schema there.is bad (subst (λ ps. IsSchema ps (Err bad)) same are) in
     let one : bad ≡ fault = cc in
@@ -196,17 +180,17 @@ step_refusal force task text pieces schema fault there (inl (other, inr (more, i
 
 -- the parts of what a first edit and those after it make
 record AreParts (force : Bool) (task : Task) (tasks : List Task) (text : List ℕ) (made : BatchEdited) : Type 0 where
-  edit : EditScript
-  is : IsEditScriptOn force task text (Ok edit)
+  edited : Edited
+  is : IsEditOn force task text (Ok edited)
   rest : BatchEdited
-  are : AreSteps force tasks (edited_text edit.script) (Ok rest)
-  joins : made ≡ joined task edit rest
+  are : AreSteps force tasks edited.text (Ok rest)
+  joins : made ≡ joined task edited rest
 
 parts_of : (force : Bool) (task : Task) (tasks : List Task) (text : List ℕ) (made : BatchEdited) → AreSteps force (task ∷ tasks) text (Ok made) → AreParts force task tasks text made
 parts_of force task tasks text made steps =
-    let first = Then-ok (IsEditScriptOn force task text) (λ edit. Then (AreSteps force tasks (edited_text edit.script)) (λ rest answer. answer ≡ Ok (joined task edit rest))) made steps in
-    let others = Then-ok (AreSteps force tasks (edited_text first.0.script)) (λ rest answer. answer ≡ Ok (joined task first.0 rest)) made first.2 in
-    record { edit = first.0; is = first.1; rest = others.0; are = others.1; joins = same_value made (joined task first.0 others.0) others.2 }
+    let first = Then-ok (IsEditOn force task text) (λ edited. Then (AreSteps force tasks edited.text) (λ rest answer. answer ≡ Ok (joined task edited rest))) made steps in
+    let others = Then-ok (AreSteps force tasks first.0.text) (λ rest answer. answer ≡ Ok (joined task first.0 rest)) made first.2 in
+    record { edited = first.0; is = first.1; rest = others.0; are = others.1; joins = same_value made (joined task first.0 others.0) others.2 }
 
 leads-step_with : (tool : Tool) (hunks : List Hunk) (steps : List EditStep) (before between after : List ℕ) → Splices hunks before between → (hunks ≡ [] → before ≡ between)
     → LeadsBy steps between after → LeadsBy (step_with tool hunks ++ steps) before after
@@ -222,25 +206,25 @@ module _ (force : Bool) where
   steps_lead [] text made is = subst (λ (m : BatchEdited). LeadsBy m.steps text m.text) (sym (same_value made (untouched text) is)) refl
   steps_lead (task ∷ tasks) text made is =
       let parts = parts_of force task tasks text made is in
-      let holds = faithful_on force task text parts.edit parts.is in
+      let holds = faithful_on force task text parts.edited parts.is in
       subst (λ (m : BatchEdited). LeadsBy m.steps text m.text) (sym parts.joins)
-      (leads-step_with (tool_of task) (hunks_of parts.edit.script) parts.rest.steps text (edited_text parts.edit.script) parts.rest.text holds.leads holds.unchanged
-      (steps_lead tasks (edited_text parts.edit.script) parts.rest parts.are))
+      (leads-step_with (tool_of task) parts.edited.patch parts.rest.steps text parts.edited.text parts.rest.text holds.leads holds.unchanged
+      (steps_lead tasks parts.edited.text parts.rest parts.are))
 
   steps_are_done : (tasks : List Task) (text : List ℕ) (made : BatchEdited) → AreSteps force tasks text (Ok made) → AreDone made.steps
   steps_are_done [] text made is = subst (λ (m : BatchEdited). AreDone m.steps) (sym (same_value made (untouched text) is)) tt
   steps_are_done (task ∷ tasks) text made is =
       let parts = parts_of force task tasks text made is in
       subst (λ (m : BatchEdited). AreDone m.steps) (sym parts.joins)
-      (done-step_with (tool_of task) (hunks_of parts.edit.script) parts.rest.steps (is_batch-tool_of task) (steps_are_done tasks (edited_text parts.edit.script) parts.rest parts.are))
+      (done-step_with (tool_of task) parts.edited.patch parts.rest.steps (is_batch-tool_of task) (steps_are_done tasks parts.edited.text parts.rest parts.are))
 
   steps_have_effects : (tasks : List Task) (text : List ℕ) (made : BatchEdited) → AreSteps force tasks text (Ok made) → HaveEffects tasks text made.text
   steps_have_effects [] text made is = ap (λ (m : BatchEdited). m.text) (sym (same_value made (untouched text) is))
   steps_have_effects (task ∷ tasks) text made is =
       let parts = parts_of force task tasks text made is in
-      let effect = (faithful_on force task text parts.edit parts.is).effect in
+      let effect = (faithful_on force task text parts.edited parts.is).effect in
       subst (λ (m : BatchEdited). HaveEffects (task ∷ tasks) text m.text) (sym parts.joins)
-      (effect.0, edited_text parts.edit.script, effect.1, effect.2, steps_have_effects tasks (edited_text parts.edit.script) parts.rest parts.are)
+      (effect.0, parts.edited.text, effect.1, effect.2, steps_have_effects tasks parts.edited.text parts.rest parts.are)
 
   -- the last text is read
   last_is_read : (tasks : List Task) (text : List ℕ) (pieces : List Piece) (schema : Described) (made : BatchEdited) → IsRead text pieces schema
@@ -249,8 +233,8 @@ module _ (force : Bool) where
       (pieces, schema, subst (λ (m : BatchEdited). IsRead m.text pieces schema) (sym (same_value made (untouched text) is)) there)
   last_is_read (task ∷ tasks) text pieces schema made there is =
       let parts = parts_of force task tasks text made is in
-      let next = faithful_on force task text parts.edit parts.is in
-      let last = last_is_read tasks (edited_text parts.edit.script) next.pieces next.schema parts.rest next.read parts.are in
+      let next = faithful_on force task text parts.edited parts.is in
+      let last = last_is_read tasks parts.edited.text next.pieces next.schema parts.rest next.read parts.are in
       (last.0, last.1, subst (λ (m : BatchEdited). IsRead m.text last.0 last.1) (sym parts.joins) last.2)
 
   steps_refusal : (tasks : List Task) (text : List ℕ) (pieces : List Piece) (schema : Described) (fault : Fault) → IsRead text pieces schema
@@ -258,12 +242,12 @@ module _ (force : Bool) where
   steps_refusal [] text pieces schema fault there is = absurd (no_both (untouched text) fault (sym is))
   steps_refusal (task ∷ tasks) text pieces schema fault there (inl (other, is, e)) =
       let one : other ≡ fault = cc in
-      subst IsEditRefusal one (step_refusal force task text pieces schema other there is)
-  steps_refusal (task ∷ tasks) text pieces schema fault there (inr (edit, is, inl (other, are, e))) =
-      let next = faithful_on force task text edit is in
+      subst IsEditRefusal one (edit_refusal force task text pieces schema other there is)
+  steps_refusal (task ∷ tasks) text pieces schema fault there (inr (edited, is, inl (other, are, e))) =
+      let next = faithful_on force task text edited is in
       let one : other ≡ fault = cc in
-      subst IsEditRefusal one (steps_refusal tasks (edited_text edit.script) next.pieces next.schema other next.read are)
-  steps_refusal (task ∷ tasks) text pieces schema fault there (inr (edit, is, inr (rest, are, e))) = absurd (no_both (joined task edit rest) fault (sym e))
+      subst IsEditRefusal one (steps_refusal tasks edited.text next.pieces next.schema other next.read are)
+  steps_refusal (task ∷ tasks) text pieces schema fault there (inr (edited, is, inr (rest, are, e))) = absurd (no_both (joined task edited rest) fault (sym e))
 
   -- ---- the outcome of a batch
 
@@ -308,52 +292,45 @@ module _ (force : Bool) (task : Task) (text : List ℕ) where
   pub unread_edit : (fault : Fault) → IsMemoryOr fault (IsReading text (Err fault)) → IsMemoryOr fault (IsEditOn force task text (Err fault))
   unread_edit fault is =
       memory_or_weaker fault (IsReading text (Err fault)) (IsEditOn force task text (Err fault))
-      (λ unread. inl (fault, inl (fault, inl (fault, unread, refl), refl), refl)) is
+      (λ unread. inl (fault, inl (fault, unread, refl), refl)) is
 
   -- a descriptor is refused
   pub undescribed_edit : (pieces : List Piece) (fault : Fault) → AreElementsOf pieces text → IsMemoryOr fault (IsSchema pieces (Err fault))
       → IsMemoryOr fault (IsEditOn force task text (Err fault))
   undescribed_edit pieces fault read is =
       memory_or_weaker fault (IsSchema pieces (Err fault)) (IsEditOn force task text (Err fault))
-      (λ bad. inl (fault, inl (fault, inr (pieces, read, inl (fault, bad, refl)), refl), refl)) is
+      (λ bad. inl (fault, inr (pieces, read, inl (fault, bad, refl)), refl)) is
 
   edit_of : (pieces : List Piece) (schema : Described) (answer : Result Edited Fault) → IsRead text pieces schema → IsEditOf pieces schema force task answer → IsEditOn force task text answer
-  edit_of pieces schema answer there (inl (fault, is, e)) = inl (fault, edit_on force task text pieces schema (Err fault) there is, e)
-  edit_of pieces schema answer there (inr (edit, is, e)) = inr (edit, edit_on force task text pieces schema (Ok edit) there is, e)
+  edit_of pieces schema answer there is = inr (record { pieces = pieces; schema = schema }, read_is_described text pieces schema there, is)
 
   pub edit_of_read : (pieces : List Piece) (schema : Described) (result : Result Edited Fault) → IsRead text pieces schema → UnlessMemory result (IsEditOf pieces schema force task)
       → UnlessMemory result (IsEditOn force task text)
-  edit_of_read pieces schema (Ok edited) there is = edit_of pieces schema (Ok edited) there is
-  edit_of_read pieces schema (Err fault) there is =
-      memory_or_weaker fault (IsEditOf pieces schema force task (Err fault)) (IsEditOn force task text (Err fault)) (edit_of pieces schema (Err fault) there) is
+  edit_of_read pieces schema result there is = unless_memory-weaker result (IsEditOf pieces schema force task) (IsEditOn force task text) (λ answer. edit_of pieces schema answer there) is
 
 module _ (force : Bool) (tasks : List Task) (text : List ℕ) (done : BatchEdited) (task : Task) (left : List Task) (under_way : IsUnderWay force tasks text done (task ∷ left)) where
   pub taken_step : (new : BatchEdited) (tool : Tool) (edited : Edited) (here : List ℕ) → here ≡ done.text → tool ≡ tool_of task → new ≡ after_edit done tool edited
       → IsEditOn force task here (Ok edited) → IsUnderWay force tasks text new left
   taken_step new tool edited here same by is made =
-      let one = step_on force task done.text edited (subst (λ t. IsEditOn force task t (Ok edited)) same made) in
-      let after : after_edit done (tool_of task) (edited_by one.0) ≡ new =
-      sym (is ∙ ap (λ t. after_edit done t edited) by ∙ ap (after_edit done (tool_of task)) one.2) in
-      subst (λ d. IsUnderWay force tasks text d left) after (next_edit force tasks text done task left one.0 under_way one.1)
+      subst (λ d. IsUnderWay force tasks text d left) (sym (is ∙ ap (λ t. after_edit done t edited) by))
+      (next_edit force tasks text done task left edited under_way (subst (λ t. IsEditOn force task t (Ok edited)) same made))
 
   pub refused_step : (here : List ℕ) (fault : Fault) → here ≡ done.text → IsMemoryOr fault (IsEditOn force task here (Err fault)) → IsMemoryOr fault (AreSteps force tasks text (Err fault))
   refused_step here fault same is =
       memory_or_weaker fault (IsEditOn force task here (Err fault)) (AreSteps force tasks text (Err fault))
-      (λ refused. next_refused force tasks text done task left fault under_way (refused_on force task done.text fault (subst (λ t. IsEditOn force task t (Err fault)) same refused))) is
+      (λ refused. next_refused force tasks text done task left fault under_way (subst (λ t. IsEditOn force task t (Err fault)) same refused)) is
 
 module _ (force : Bool) (task : Task) (left : List Task) (text : List ℕ) (pieces : List Piece) (schema : Described) (there : IsRead text pieces schema) where
   pub taken_first : (new : BatchEdited) (tool : Tool) (edited : Edited) (empty : List ℕ) → tool ≡ tool_of task → new ≡ after_edit (untouched empty) tool edited
       → IsEditOf pieces schema force task (Ok edited) → IsUnderWay force (task ∷ left) text new left
   taken_first new tool edited empty by is made =
-      let one = step_on force task text edited (edit_of force task text pieces schema (Ok edited) there made) in
-      let after : after_edit (untouched empty) (tool_of task) (edited_by one.0) ≡ new =
-      sym (is ∙ ap (λ t. after_edit (untouched empty) t edited) by ∙ ap (after_edit (untouched empty) (tool_of task)) one.2) in
-      subst (λ d. IsUnderWay force (task ∷ left) text d left) after (first_edit force task left text empty one.0 one.1)
+      subst (λ d. IsUnderWay force (task ∷ left) text d left) (sym (is ∙ ap (λ t. after_edit (untouched empty) t edited) by))
+      (first_edit force task left text empty edited (edit_of force task text pieces schema (Ok edited) there made))
 
   pub refused_first : (fault : Fault) → IsMemoryOr fault (IsEditOf pieces schema force task (Err fault)) → IsMemoryOr fault (AreSteps force (task ∷ left) text (Err fault))
   refused_first fault is =
       memory_or_weaker fault (IsEditOf pieces schema force task (Err fault)) (AreSteps force (task ∷ left) text (Err fault))
-      (λ refused. inl (fault, refused_on force task text fault (edit_of force task text pieces schema (Err fault) there refused), refl)) is
+      (λ refused. inl (fault, edit_of force task text pieces schema (Err fault) there refused, refl)) is
 
 -- ---- what the code answers
 

@@ -1,10 +1,9 @@
 -- The records that a layout changes are those of which its script makes something else.
-use Rattle.std.proofs.Common.{◌≡◌, ◌∙◌, ◌⊎◌, ℕ, zero, suc, ◌+◌, ◌<◌, ◌≤◌, Bool, true, false, cond, ◌==◌, List, [], ◌∷◌, ◌++◌, length, map, Some, None, Result, Ok, refl, ap, ap₂, sym, subst, inl, inr, arith}
+use Rattle.std.proofs.Common.{◌≡◌, ◌∙◌, ◌⊎◌, ℕ, zero, suc, ◌+◌, ◌<◌, ◌≤◌, Bool, true, false, cond, ◌==◌, List, [], ◌∷◌, ◌++◌, length, map, Some, None, Ok, refl, ap, ap₂, sym, subst, inl, inr, arith}
 use Rattle.std.specs.Prelude.{count_by, filter_map, flat_map, slice_get, if◌then◌else◌}
 use Rattle.std.specs.List.{AllByRecursion, fold}
 use Rattle.std.specs.declared.ops.Range.{Range}
 use Rattle.std.proofs.lemmas.Bool.{cases_lt, false≢true, and_left, and_right, ne_eqb, or_from}
-use Rattle.rec_text.specs.declared.fault.Fault.{Fault}
 use Rattle.rec_text.specs.Elements.{Piece, IsElement, AreElementsOf, text_of}
 use Rattle.rec_text.specs.Records.{AreAscending, AreRecords, IsRecord, elements_in, is_field_at, is_full_at}
 use Rattle.rec_text.proofs.lemmas.ListLemmas.{AllByRecursion-slice_get, AllByRecursion-weaker, AllByRecursion-append}
@@ -16,14 +15,15 @@ use Rattle.rec_sex.specs.declared.lists.field_list.Item.{Item}
 use Rattle.rec_text.proofs.lemmas.FaultLemmas.{same_value}
 use Rattle.rec_edit.specs.declared.request.Action.{Action}
 use Rattle.rec_edit.specs.Task.{Pair, Wanted, NewRecord}
-use Rattle.rec_edit.specs.Script.{Layout, parts_from, script_of, new_pieces}
+use Rattle.rec_edit.specs.Script.{Layout, new_pieces}
+use Rattle.rec_edit.specs.proving.Parts.{parts_from, script_of}
 use Rattle.rec_edit.specs.Rules.{added, commenting, deletion, fields_of, is_own, replacement, setting}
 use Rattle.rec_edit.specs.Insertions.{Filled, filling, numbered_fields}
 use Rattle.rec_edit.specs.Wording.{AreItemsFor, IsNewRecord}
 use Rattle.rec_edit.specs.Automatic.{AreFilledOf}
-use Rattle.rec_edit.specs.Outcome.{AreChosen, AreRemovable, is_changed_by, edit_script}
+use Rattle.rec_edit.specs.Outcome.{AreChosen, AreRemovable, is_changed_by}
 use Rattle.rec_edit.specs.proving.Drafts.{is_changed}
-use Rattle.rec_edit.specs.proving.Edits.{laid_script}
+use Rattle.rec_edit.specs.proving.Edits.{laid_script, edit_script}
 use Rattle.rec_edit.proofs.lemmas.records.MemberLemmas.{holds_index-before, holds_index-following}
 use Rattle.rec_edit.proofs.lemmas.outcomes.EffectLemmas.{AreMeant, chosen_meant, items_plain}
 use Rattle.rec_edit.proofs.lemmas.automatic.FilledLemmas.{IsFilled, all_from, auto_fill_fills, LaysNeatly-filling}

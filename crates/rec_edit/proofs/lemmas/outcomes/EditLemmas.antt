@@ -12,8 +12,9 @@ use Rattle.rec_journal.specs.declared.patch.Hunk.{Hunk}
 use Rattle.rec_journal.specs.Bound.{most_bytes, most_of_batch}
 use Rattle.rec_journal.specs.Revisions.{all_hunks}
 use Rattle.rec_journal.specs.Event.{spelling}
-use Rattle.rec_edit.specs.Outcome.{HunksAreChanges, AreChosen, AreRemovable, EditScript, edit_script, IsEditScript, IsSound, IsSoundUnlessForced, edited_by, IsOutcome, IsEditRefusal, PutsNoDescriptorIn}
-use Rattle.rec_edit.specs.Script.{Part, Layout, closed, putting, changing, parts_from, script_of, is_kept, old_pieces, new_pieces, edited_text, changes_from, as_one, AreInTurn, AreChangesOf, TakesWhole}
+use Rattle.rec_edit.specs.Outcome.{HunksAreChanges, AreChosen, AreRemovable, EditScript, IsEditScript, IsSound, IsSoundUnlessForced, IsEditedBy, IsEditOf, IsOutcome, IsEditRefusal, PutsNoDescriptorIn}
+use Rattle.rec_edit.specs.Script.{Part, Layout, closed, is_kept, old_pieces, new_pieces, edited_text, changes_from, as_one, AreInTurn, AreChangesOf, TakesWhole}
+use Rattle.rec_edit.specs.proving.Parts.{putting, changing, parts_from, script_of}
 use Rattle.rec_edit.specs.proving.Changes.{joining, joined, real_changes, hunks_of}
 use Rattle.rec_text.specs.declared.fault.Fault.{Fault}
 use Rattle.rec_text.specs.declared.fault.Fault.TheVariants.{OutOfMemory, BadPattern}
@@ -27,7 +28,7 @@ use Rattle.rec_edit.specs.declared.outcome.Edited.{Edited}
 use Rattle.rec_edit.specs.Task.{Wanted, Task, delete, comment_out, set, Pair, NewRecord, replace}
 use Rattle.rec_edit.specs.Rules.{with_blanks, removing, deletion, commenting, setting, fields_of, is_own, replacement}
 use Rattle.rec_edit.specs.Wording.{AreItemsFor, IsNewRecord}
-use Rattle.rec_edit.specs.proving.Edits.{IsEditOf, IsChecked, laid_script}
+use Rattle.rec_edit.specs.proving.Edits.{edit_script, laid_script, edited_by, IsCarriedOut, IsChecked}
 use Rattle.rec_edit.specs.Effect.{HasEffect}
 use Rattle.rec_edit.specs.proving.Endings.{FieldEdit}
 use Rattle.rec_text.specs.Bytes.{ends_newline}
@@ -36,6 +37,7 @@ use Rattle.rec_edit.specs.proving.Drafts.{LaysLines}
 use Rattle.rec_text.proofs.lemmas.elements.ElementLemmas.{text_of-append}
 use Rattle.rec_text.proofs.lemmas.ListLemmas.{AllByRecursion-following, AllByRecursion-prefix, bytes_eq-self, same_bytes}
 use Rattle.rec_journal.proofs.lemmas.events.BoundLemmas.{events_are_bounded}
+use Rattle.rec_edit.proofs.lemmas.scripts.TiedLemmas.{laid_out}
 use Rattle.rec_edit.proofs.lemmas.scripts.PassLemmas.{some_text}
 use Rattle.rec_edit.proofs.lemmas.scripts.EqualLemmas.{length-opened, settled-all}
 use Rattle.rec_edit.proofs.lemmas.outcomes.UnruledLemmas.{faithful, unruled_edit_is_sound}
@@ -43,9 +45,9 @@ use Rattle.rec_edit.proofs.lemmas.scripts.RunLemmas.{one_list_of_changes}
 use Rattle.rec_edit.proofs.lemmas.scripts.ScriptLemmas.{old_pieces-script_of, Splices-hunks_of, TakesWhole-hunks_of, same_where_no_hunk}
 use Rattle.rec_text.proofs.lemmas.FaultLemmas.{no_both, same_value, memory_or_weaker}
 use Rattle.rec_text.proofs.lemmas.StepLemmas.{Then-ok}
-use Rattle.rec_edit.proofs.lemmas.outcomes.AnswerLemmas.{IsFaithful, RefusesSo-outcome}
+use Rattle.rec_edit.proofs.lemmas.outcomes.AnswerLemmas.{IsFaithful, RefusesSo, RefusesSo-sound, RefusesSo-outcome, unless_memory-weaker}
 use Rattle.rec_edit.proofs.lemmas.outcomes.CountedLemmas.{deletion_counted, commenting_counted, replacement_counted, setting_counted}
-use Rattle.rec_edit.proofs.lemmas.outcomes.OutcomeLemmas.{one_outcome}
+use Rattle.rec_edit.proofs.lemmas.outcomes.OutcomeLemmas.{one_outcome, same_edited}
 use Rattle.rec_edit.proofs.lemmas.scripts.LaidLemmas.{canonical-ends}
 
 -- ---- the hunks of a script are its changes: the script is cut into runs of kept parts and of changed ones
@@ -263,17 +265,41 @@ full_parts (part ∷ parts) old_all new_all some = (
   full_parts parts (AllByRecursion-following IsElement part.old (old_pieces parts) old_all) (AllByRecursion-following IsElement part.new (new_pieces parts) new_all) some.1,
 )
 
+module _ (pieces : List Piece) (schema : Described) (force : Bool) (task : Task) (elements : AreElementsOf pieces (text_of pieces)) (is_schema : IsSchema pieces (Ok schema)) where
+  pub old_pieces-edit : (edit : EditScript) → IsEditScript pieces schema force task (Ok edit) → old_pieces edit.script ≡ pieces
+  old_pieces-edit edit is =
+      let told = faithful pieces schema force task elements is_schema edit is in
+      ap old_pieces told.is ∙ old_pieces-script_of told.layout pieces
+
+  changes_of_edit : (edit : EditScript) → IsEditScript pieces schema force task (Ok edit) → AreChangesOf edit.script (hunks_of edit.script)
+  changes_of_edit edit is =
+      let told = faithful pieces schema force task elements is_schema edit is in
+      let some : AllByRecursion IsSome edit.script = subst (AllByRecursion IsSome) (sym told.is) (some-script_of told.layout pieces) in
+      changes_of_script edit.script (full_parts edit.script (subst (AllByRecursion IsElement) (sym (old_pieces-edit edit is)) elements.well_formed) told.read.well_formed some)
+
+  -- an edit comes to what the code makes of its script
+  IsEditedBy-edited_by : (edit : EditScript) → IsEditScript pieces schema force task (Ok edit) → IsEditedBy edit (edited_by edit)
+  IsEditedBy-edited_by edit is = record { patch = changes_of_edit edit is; text = refl; changed = refl }
+
+  pub is_edited_by : (edit : EditScript) (edited : Edited) → IsEditScript pieces schema force task (Ok edit) → IsEditedBy edit edited → edited ≡ edited_by edit
+  is_edited_by edit edited is by = same_edited edit edited (edited_by edit) by (IsEditedBy-edited_by edit is)
+
+  is_carried_out : (answer : Result Edited Fault) → IsCarriedOut pieces schema force task answer → IsEditOf pieces schema force task answer
+  is_carried_out answer (inl refused) = inl refused
+  is_carried_out answer (inr (edit, is, e)) = inr (edit, is, (edited_by edit, IsEditedBy-edited_by edit is, e))
+
+  pub carried_out : (result : Result Edited Fault) → UnlessMemory result (IsCarriedOut pieces schema force task) → UnlessMemory result (IsEditOf pieces schema force task)
+  carried_out result is = unless_memory-weaker result (IsCarriedOut pieces schema force task) (IsEditOf pieces schema force task) is_carried_out is
+
 pub hunks_are_changes : HunksAreChanges
 hunks_are_changes pieces schema force task edit elements is_schema is =
-    let told = faithful pieces schema force task elements is_schema edit is in
-    let old : old_pieces edit.script ≡ pieces = ap old_pieces told.is ∙ old_pieces-script_of told.layout pieces in
-    let some : AllByRecursion IsSome edit.script = subst (AllByRecursion IsSome) (sym told.is) (some-script_of told.layout pieces) in
-    let changes = changes_of_script edit.script (full_parts edit.script (subst (AllByRecursion IsElement) (sym old) elements.well_formed) told.read.well_formed some) in
+    let changes = changes_of_edit pieces schema force task elements is_schema edit is in
     record {
-      old = old;
-      new = told.read;
+      old = old_pieces-edit pieces schema force task elements is_schema edit is;
+      new = (faithful pieces schema force task elements is_schema edit is).read;
+      hunks = hunks_of edit.script;
       changes = changes;
-      only = λ hunks are. one_list_of_changes edit.script hunks (hunks_of edit.script) are changes;
+      only = λ others are. one_list_of_changes edit.script others (hunks_of edit.script) are changes;
       bounded = λ event fits one same. subst (λ hunks. length (spelling (Revised event)) ≤ most_bytes hunks) same
           (subst (λ batch. length (spelling (Revised event)) ≤ (if batch then most_of_batch event.steps else most_bytes (all_hunks event.steps))) one (events_are_bounded (Revised event) fits));
     }
@@ -290,59 +316,59 @@ same_script pieces given chosen done layout edited is same alike counted =
     ap Ok (is ∙ ap (λ ranges. edited_by (laid_script pieces ranges done)) same ∙ ap (λ l. edited_by (laid_script pieces chosen l)) alike ∙ ap edited_by counted)
 
 module _ (pieces : List Piece) (schema : Described) (force : Bool) (wanted : Wanted) where
-  pub delete-refused : (fault : Fault) → IsMemoryOr fault (AreRemovable pieces schema.sets wanted force (Err fault)) → IsMemoryOr fault (IsEditOf pieces schema force (delete wanted) (Err fault))
+  pub delete-refused : (fault : Fault) → IsMemoryOr fault (AreRemovable pieces schema.sets wanted force (Err fault)) → IsMemoryOr fault (IsCarriedOut pieces schema force (delete wanted) (Err fault))
   delete-refused fault is =
-      memory_or_weaker fault (AreRemovable pieces schema.sets wanted force (Err fault)) (IsEditOf pieces schema force (delete wanted) (Err fault))
+      memory_or_weaker fault (AreRemovable pieces schema.sets wanted force (Err fault)) (IsCarriedOut pieces schema force (delete wanted) (Err fault))
       (λ refused. inl (fault, inl (fault, refused, refl), refl)) is
 
   pub delete-made : (chosen given covered gone : List (Range ℕ)) (as_comments : Bool) (edited : Edited) → AreRemovable pieces schema.sets wanted force (Ok chosen)
       → covered ≡ chosen → gone ≡ map (with_blanks pieces) covered → as_comments ≡ false → given ≡ chosen → edited ≡ edited_by (laid_script pieces given (removing as_comments gone))
-      → IsEditOf pieces schema force (delete wanted) (Ok edited)
+      → IsCarriedOut pieces schema force (delete wanted) (Ok edited)
   delete-made chosen given covered gone as_comments edited are all goes none same is =
       inr (
         edit_script pieces chosen (deletion pieces chosen),
-        inr (chosen, are, refl),
+        inr (chosen, are, laid_out pieces chosen (deletion pieces chosen)),
         same_script pieces given chosen (removing as_comments gone) (deletion pieces chosen) edited is same (ap₂ removing none (goes ∙ ap (map (with_blanks pieces)) all))
             (deletion_counted pieces schema wanted force chosen are),
       )
 
   pub comment_out-refused : (fault : Fault) → IsMemoryOr fault (AreRemovable pieces schema.sets wanted force (Err fault))
-      → IsMemoryOr fault (IsEditOf pieces schema force (comment_out wanted) (Err fault))
+      → IsMemoryOr fault (IsCarriedOut pieces schema force (comment_out wanted) (Err fault))
   comment_out-refused fault is =
-      memory_or_weaker fault (AreRemovable pieces schema.sets wanted force (Err fault)) (IsEditOf pieces schema force (comment_out wanted) (Err fault))
+      memory_or_weaker fault (AreRemovable pieces schema.sets wanted force (Err fault)) (IsCarriedOut pieces schema force (comment_out wanted) (Err fault))
       (λ refused. inl (fault, inl (fault, refused, refl), refl)) is
 
   pub comment_out-made : (chosen given covered own : List (Range ℕ)) (as_comments : Bool) (edited : Edited) → AreRemovable pieces schema.sets wanted force (Ok chosen)
       → covered ≡ chosen → own ≡ covered → as_comments ≡ true → given ≡ chosen → edited ≡ edited_by (laid_script pieces given (removing as_comments own))
-      → IsEditOf pieces schema force (comment_out wanted) (Ok edited)
+      → IsCarriedOut pieces schema force (comment_out wanted) (Ok edited)
   comment_out-made chosen given covered own as_comments edited are all goes all_comments same is =
       inr (
         edit_script pieces chosen (commenting chosen),
-        inr (chosen, are, refl),
+        inr (chosen, are, laid_out pieces chosen (commenting chosen)),
         same_script pieces given chosen (removing as_comments own) (commenting chosen) edited is same (ap₂ removing all_comments (goes ∙ all))
             (commenting_counted pieces schema wanted force chosen are),
       )
 
   module _ (list : List ℕ) (action : Action) where
-    pub set-no_items : (fault : Fault) → IsMemoryOr fault (AreItemsFor action list (Err fault)) → IsMemoryOr fault (IsEditOf pieces schema force (set wanted list action) (Err fault))
+    pub set-no_items : (fault : Fault) → IsMemoryOr fault (AreItemsFor action list (Err fault)) → IsMemoryOr fault (IsCarriedOut pieces schema force (set wanted list action) (Err fault))
     set-no_items fault is =
-        memory_or_weaker fault (AreItemsFor action list (Err fault)) (IsEditOf pieces schema force (set wanted list action) (Err fault))
+        memory_or_weaker fault (AreItemsFor action list (Err fault)) (IsCarriedOut pieces schema force (set wanted list action) (Err fault))
         (λ refused. inl (fault, inl (fault, refused, refl), refl)) is
 
     pub set-none_chosen : (items : List Item) (fault : Fault) → AreItemsFor action list (Ok items) → IsMemoryOr fault (AreChosen pieces schema.sets wanted (Err fault))
-        → IsMemoryOr fault (IsEditOf pieces schema force (set wanted list action) (Err fault))
+        → IsMemoryOr fault (IsCarriedOut pieces schema force (set wanted list action) (Err fault))
     set-none_chosen items fault are is =
-        memory_or_weaker fault (AreChosen pieces schema.sets wanted (Err fault)) (IsEditOf pieces schema force (set wanted list action) (Err fault))
+        memory_or_weaker fault (AreChosen pieces schema.sets wanted (Err fault)) (IsCarriedOut pieces schema force (set wanted list action) (Err fault))
         (λ refused. inl (fault, inr (items, are, inl (fault, refused, refl)), refl)) is
 
     -- the same edit as its layout keeps it
     pub set-made : (items : List Item) (chosen given covered : List (Range ℕ)) (edit : FieldEdit) (edited : Edited) → AreItemsFor action list (Ok items)
         → AreChosen pieces schema.sets wanted (Ok chosen) → edit ≡ record { action = action; items = items; pieces = pieces; chosen = covered } → covered ≡ chosen → given ≡ chosen
-        → edited ≡ edited_by (laid_script pieces given (setting edit.action edit.items edit.pieces edit.chosen)) → IsEditOf pieces schema force (set wanted list action) (Ok edited)
+        → edited ≡ edited_by (laid_script pieces given (setting edit.action edit.items edit.pieces edit.chosen)) → IsCarriedOut pieces schema force (set wanted list action) (Ok edited)
     set-made items chosen given covered edit edited are are_chosen planned all same is =
         inr (
           edit_script pieces chosen (setting action items pieces chosen),
-          inr (items, are, inr (chosen, are_chosen, refl)),
+          inr (items, are, inr (chosen, are_chosen, laid_out pieces chosen (setting action items pieces chosen))),
           same_script pieces given chosen (setting edit.action edit.items edit.pieces edit.chosen) (setting action items pieces chosen) edited is same
               (ap (λ (p : FieldEdit). setting p.action p.items p.pieces p.chosen) planned ∙ ap (setting action items pieces) all)
               (setting_counted pieces schema wanted list action items chosen are are_chosen),
@@ -351,43 +377,31 @@ module _ (pieces : List Piece) (schema : Described) (force : Bool) (wanted : Wan
 -- ---- the outcome
 
 module _ (pieces : List Piece) (schema : Described) (task : Task) where
-  -- the step that an edit is
-  edit_script_of : (force : Bool) (edited : Edited) → IsEditOf pieces schema force task (Ok edited) → (edit : EditScript) × IsEditScript pieces schema force task (Ok edit) × (edited ≡ edited_by edit)
-  edit_script_of force edited is =
-      let parts = Then-ok (IsEditScript pieces schema force task) (λ edit answer. answer ≡ Ok (edited_by edit)) edited is in
-      (parts.0, parts.1, same_value edited (edited_by parts.0) parts.2)
-
-  refused_outcome : (force : Bool) (fault : Fault) → IsEditOf pieces schema force task (Err fault) → IsOutcome pieces schema force task (Err fault)
-  refused_outcome force fault (inl (other, refused, e)) = inl (other, refused, e)
-  refused_outcome force fault (inr (edit, is, e)) = absurd (no_both (edited_by edit) fault (sym e))
+  -- the script of an edit
+  pub script_of_edit : (force : Bool) (edited : Edited) → IsEditOf pieces schema force task (Ok edited) → (edit : EditScript) × IsEditScript pieces schema force task (Ok edit) × IsEditedBy edit edited
+  script_of_edit force edited is =
+      let (edit, is_script, (made, by, e)) = Then-ok (IsEditScript pieces schema force task) (λ edit answer. (edited : Edited) × IsEditedBy edit edited × (answer ≡ Ok edited)) edited is in
+      (edit, is_script, subst (IsEditedBy edit) (sym (same_value edited made e)) by)
 
   pub outcome-unruled : (edited : Edited) → IsEditOf pieces schema false task (Ok edited) → PutsNoDescriptorIn task → AreElementsOf pieces (text_of pieces) → IsSchema pieces (Ok schema)
       → length schema.sets ≡ 1 → IsSound edited.text (Ok tt)
   outcome-unruled edited is puts elements has one =
-      let edit = edit_script_of false edited is in
-      subst (λ t. IsSound t (Ok tt)) (sym (ap (λ e. e.text) edit.2)) (unruled_edit_is_sound pieces schema false task edit.0 elements puts has one edit.1)
+      let (edit, is_script, by) = script_of_edit false edited is in
+      subst (λ t. IsSound t (Ok tt)) (sym by.text) (unruled_edit_is_sound pieces schema false task edit elements puts has one is_script)
 
   -- what an edit comes to that was made
   pub outcome-checked : (force keeps_rules : Bool) (edited : Edited) → IsEditOf pieces schema force task (Ok edited)
       → (IsTrue keeps_rules → IsSoundUnlessForced force edited.text (Ok tt)) → (keeps_rules ≡ false → force ≡ false)
       → (answer : Result Edited Fault) → IsChecked edited keeps_rules answer → IsOutcome pieces schema force task answer
   outcome-checked force true edited is kept unforced answer (inl (fault, refused, e)) = absurd (no_both tt fault (sym refused))
-  outcome-checked force true edited is kept unforced answer (inr (_, sound, e)) =
-      let edit = edit_script_of force edited is in
-      inr (edit.0, edit.1, inr (tt, subst (λ made. IsSoundUnlessForced force made.text (Ok tt)) edit.2 (kept refl), e ∙ ap Ok edit.2))
+  outcome-checked force true edited is kept unforced answer (inr (_, sound, e)) = inr (edited, is, inr (tt, kept refl, e))
   outcome-checked force false edited is kept unforced answer checks =
-      let edit = edit_script_of force edited is in
-      inr (
-        edit.0,
-        edit.1,
-        subst (λ made. Then (IsSoundUnlessForced force made.text) (λ _ answer. answer ≡ Ok made) answer) edit.2
-            (subst (λ f. Then (IsSoundUnlessForced f edited.text) (λ _ answer. answer ≡ Ok edited) answer) (sym (unforced refl)) checks),
-      )
+      inr (edited, is, subst (λ f. Then (IsSoundUnlessForced f edited.text) (λ _ answer. answer ≡ Ok edited) answer) (sym (unforced refl)) checks)
 
   -- an edit that is refused comes to that
   pub outcome-refused : (force : Bool) (fault : Fault) → IsMemoryOr fault (IsEditOf pieces schema force task (Err fault)) → IsMemoryOr fault (IsOutcome pieces schema force task (Err fault))
   outcome-refused force fault is =
-      memory_or_weaker fault (IsEditOf pieces schema force task (Err fault)) (IsOutcome pieces schema force task (Err fault)) (refused_outcome force fault) is
+      memory_or_weaker fault (IsEditOf pieces schema force task (Err fault)) (IsOutcome pieces schema force task (Err fault)) (λ refused. inl (fault, refused, refl)) is
 
 -- ---- the check of what an edit made
 
@@ -420,53 +434,60 @@ module _ (pieces : List Piece) (schema : Described) (force : Bool) (task : Task)
       memory_or_weaker fault (IsOutcome pieces schema force task (Err fault)) ((Err fault ≢ Err BadPattern) → Err fault ≡ other)
       (λ there built_too. one_outcome pieces schema schema force task (Err fault) other is_schema is_schema there is built_too built) found
 
-  -- the step of an outcome
-  outcome_step : (edited : Edited) → IsOutcome pieces schema force task (Ok edited) → (edit : EditScript) × IsEditScript pieces schema force task (Ok edit) × (edited ≡ edited_by edit)
-  outcome_step edited is =
-      let parts = Then-ok (IsEditScript pieces schema force task) (λ edit. Then (IsSoundUnlessForced force (edited_text edit.script)) (λ _ answer. answer ≡ Ok (edited_by edit))) edited is in
-      let rest = Then-ok (IsSoundUnlessForced force (edited_text parts.0.script)) (λ _ answer. answer ≡ Ok (edited_by parts.0)) edited parts.2 in
-      (parts.0, parts.1, same_value edited (edited_by parts.0) rest.2)
+  module _ (elements : AreElementsOf pieces (text_of pieces)) (is_schema : IsSchema pieces (Ok schema)) where
+    -- the script of an outcome
+    script_of_outcome : (edited : Edited) → IsOutcome pieces schema force task (Ok edited) → (edit : EditScript) × IsEditScript pieces schema force task (Ok edit) × (edited ≡ edited_by edit)
+    script_of_outcome edited is =
+        let (made, is_edit, rest) = Then-ok (IsEditOf pieces schema force task) (λ made. Then (IsSoundUnlessForced force made.text) (λ _ answer. answer ≡ Ok made)) edited is in
+        let last = Then-ok (IsSoundUnlessForced force made.text) (λ _ answer. answer ≡ Ok made) edited rest in
+        let (edit, is_script, by) = script_of_edit pieces schema task force made is_edit in
+        (edit, is_script, same_value edited made last.2 ∙ is_edited_by pieces schema force task elements is_schema edit made is_script by)
 
-  module _ (faithful : (edit : EditScript) → IsEditScript pieces schema force task (Ok edit) → IsFaithful pieces schema task edit) where
-    -- the old elements of the step are those of the text
-    old_pieces-step : (edit : EditScript) → IsEditScript pieces schema force task (Ok edit) → old_pieces edit.script ≡ pieces
-    old_pieces-step edit is =
-        let of_step = faithful edit is in
-        ap old_pieces of_step.is ∙ old_pieces-script_of of_step.layout pieces
+    faithful_script : (edit : EditScript) → IsEditScript pieces schema force task (Ok edit) → IsFaithful pieces schema task edit
+    faithful_script = faithful pieces schema force task elements is_schema
+
+    old_pieces-script : (edit : EditScript) → IsEditScript pieces schema force task (Ok edit) → old_pieces edit.script ≡ pieces
+    old_pieces-script = old_pieces-edit pieces schema force task elements is_schema
 
     pub outcome-leads : (result : Result Edited Fault) → UnlessMemory result (IsOutcome pieces schema force task)
         → IfOk result (λ edited. Splices edited.patch (text_of pieces) edited.text)
     outcome-leads (Ok edited) found =
-        let (edit, is, made) = outcome_step edited found in
+        let (edit, is, made) = script_of_outcome edited found in
         subst (λ e. Splices e.patch (text_of pieces) e.text) (sym made)
-        (subst (λ old. Splices (hunks_of edit.script) (text_of old) (edited_text edit.script)) (old_pieces-step edit is) (Splices-hunks_of edit.script))
+        (subst (λ old. Splices (hunks_of edit.script) (text_of old) (edited_text edit.script)) (old_pieces-script edit is) (Splices-hunks_of edit.script))
     outcome-leads (Err fault) found = tt
 
     pub outcome-unchanged : (result : Result Edited Fault) → UnlessMemory result (IsOutcome pieces schema force task)
         → IfOk result (λ edited. (edited.patch ≡ []) ↔ (edited.text ≡ text_of pieces))
     outcome-unchanged (Ok edited) found =
-        let (edit, is, made) = outcome_step edited found in
-        let same = λ (no_hunk : hunks_of edit.script ≡ []). same_where_no_hunk edit.script no_hunk ∙ ap text_of (old_pieces-step edit is) in
-        subst (λ e. (e.patch ≡ []) ↔ (e.text ≡ text_of pieces)) (sym made) (same, (faithful edit is).unchanged)
+        let (edit, is, made) = script_of_outcome edited found in
+        let same = λ (no_hunk : hunks_of edit.script ≡ []). same_where_no_hunk edit.script no_hunk ∙ ap text_of (old_pieces-script edit is) in
+        subst (λ e. (e.patch ≡ []) ↔ (e.text ≡ text_of pieces)) (sym made) (same, (faithful_script edit is).unchanged)
     outcome-unchanged (Err fault) found = tt
 
     pub outcome-whole : (result : Result Edited Fault) → UnlessMemory result (IsOutcome pieces schema force task)
         → IfOk result (λ edited. AllByRecursion (TakesWhole pieces) edited.patch)
     outcome-whole (Ok edited) found =
-        let (edit, is, made) = outcome_step edited found in
+        let (edit, is, made) = script_of_outcome edited found in
         subst (λ e. AllByRecursion (TakesWhole pieces) e.patch) (sym made)
-        (subst (λ old. AllByRecursion (TakesWhole old) (hunks_of edit.script)) (old_pieces-step edit is) (TakesWhole-hunks_of edit.script))
+        (subst (λ old. AllByRecursion (TakesWhole old) (hunks_of edit.script)) (old_pieces-script edit is) (TakesWhole-hunks_of edit.script))
     outcome-whole (Err fault) found = tt
+
+    edited_text_is_checked : (edited : Edited) → IsEditOf pieces schema force task (Ok edited) → RefusesSo (IsSoundUnlessForced force edited.text)
+    edited_text_is_checked edited made =
+        let (edit, is, by) = script_of_edit pieces schema task force edited made in
+        let told = faithful_script edit is in
+        subst (λ text. RefusesSo (IsSoundUnlessForced force text)) (sym by.text) (RefusesSo-sound (edited_text edit.script) (new_pieces edit.script) told.sound.0 told.read told.sound.1 force)
 
     pub outcome-refusals : (result : Result Edited Fault) → UnlessMemory result (IsOutcome pieces schema force task) → IfErr result IsEditRefusal
     outcome-refusals (Ok edited) found = tt
     outcome-refusals (Err fault) found =
-        fault_is fault (memory_or_weaker fault (IsOutcome pieces schema force task (Err fault)) (IsEditRefusal fault) (RefusesSo-outcome pieces schema force task faithful (Err fault)) found)
+        fault_is fault (memory_or_weaker fault (IsOutcome pieces schema force task (Err fault)) (IsEditRefusal fault) (RefusesSo-outcome pieces schema force task edited_text_is_checked (Err fault)) found)
 
     pub outcome-effect : (result : Result Edited Fault) → UnlessMemory result (IsOutcome pieces schema force task) → IfOk result (λ edited. HasEffect pieces schema task edited.text)
     outcome-effect (Ok edited) found =
-        let (edit, is, made) = outcome_step edited found in
-        subst (λ e. HasEffect pieces schema task e.text) (sym made) (faithful edit is).effect
+        let (edit, is, made) = script_of_outcome edited found in
+        subst (λ e. HasEffect pieces schema task e.text) (sym made) (faithful_script edit is).effect
     outcome-effect (Err fault) found = tt
 
 -- ---- the layout of a replacement, and what the edit makes of a text
@@ -489,24 +510,24 @@ LaysLines-replacement pairs chosen =
 -- ---- the edit
 
 module _ (pieces : List Piece) (schema : Described) (force : Bool) (wanted : Wanted) (fresh : NewRecord) where
-  pub replace-no_record : (fault : Fault) → IsMemoryOr fault (IsNewRecord None fresh (Err fault)) → IsMemoryOr fault (IsEditOf pieces schema force (replace wanted fresh) (Err fault))
+  pub replace-no_record : (fault : Fault) → IsMemoryOr fault (IsNewRecord None fresh (Err fault)) → IsMemoryOr fault (IsCarriedOut pieces schema force (replace wanted fresh) (Err fault))
   replace-no_record fault is =
-      memory_or_weaker fault (IsNewRecord None fresh (Err fault)) (IsEditOf pieces schema force (replace wanted fresh) (Err fault))
+      memory_or_weaker fault (IsNewRecord None fresh (Err fault)) (IsCarriedOut pieces schema force (replace wanted fresh) (Err fault))
       (λ refused. inl (fault, inl (fault, refused, refl), refl)) is
 
   pub replace-none_chosen : (pairs : List Pair) (fault : Fault) → IsNewRecord None fresh (Ok pairs) → IsMemoryOr fault (AreChosen pieces schema.sets wanted (Err fault))
-      → IsMemoryOr fault (IsEditOf pieces schema force (replace wanted fresh) (Err fault))
+      → IsMemoryOr fault (IsCarriedOut pieces schema force (replace wanted fresh) (Err fault))
   replace-none_chosen pairs fault are is =
-      memory_or_weaker fault (AreChosen pieces schema.sets wanted (Err fault)) (IsEditOf pieces schema force (replace wanted fresh) (Err fault))
+      memory_or_weaker fault (AreChosen pieces schema.sets wanted (Err fault)) (IsCarriedOut pieces schema force (replace wanted fresh) (Err fault))
       (λ refused. inl (fault, inr (pairs, are, inl (fault, refused, refl)), refl)) is
 
   pub replace-made : (pairs written : List Pair) (chosen given covered own : List (Range ℕ)) (edited : Edited) → AreElementsOf pieces (text_of pieces) → IsNewRecord None fresh (Ok pairs)
       → AreChosen pieces schema.sets wanted (Ok chosen) → written ≡ pairs → own ≡ covered → covered ≡ chosen → given ≡ chosen
-      → edited ≡ edited_by (laid_script pieces given (replacement (fields_of written) own)) → IsEditOf pieces schema force (replace wanted fresh) (Ok edited)
+      → edited ≡ edited_by (laid_script pieces given (replacement (fields_of written) own)) → IsCarriedOut pieces schema force (replace wanted fresh) (Ok edited)
   replace-made pairs written chosen given covered own edited elements are are_chosen same_pairs goes all same is =
       inr (
         edit_script pieces chosen (replacement (fields_of pairs) chosen),
-        inr (pairs, are, inr (chosen, are_chosen, refl)),
+        inr (pairs, are, inr (chosen, are_chosen, laid_out pieces chosen (replacement (fields_of pairs) chosen))),
         same_script pieces given chosen (replacement (fields_of written) own) (replacement (fields_of pairs) chosen) edited is same
             (ap (λ p. replacement (fields_of p) own) same_pairs ∙ ap (replacement (fields_of pairs)) (goes ∙ all))
             (replacement_counted pieces schema wanted fresh pairs chosen elements are are_chosen),

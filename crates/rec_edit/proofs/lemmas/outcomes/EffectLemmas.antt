@@ -9,7 +9,6 @@ use Rattle.std.proofs.lemmas.List.{take-append-drop}
 use Rattle.rec_text.specs.declared.fault.Fault.{Fault}
 use Rattle.rec_text.specs.Elements.{Piece, AreElementsOf, IsElement, text_of, has_name}
 use Rattle.rec_text.specs.Records.{AreRecords, elements_in}
-use Rattle.rec_text.specs.Steps.{Then}
 use Rattle.rec_text.proofs.lemmas.ListLemmas.{AllByRecursion-prefix, AllByRecursion-following, AllByRecursion-weaker}
 use Rattle.rec_text.specs.declared.fault.Fault.TheVariants.{BadName, BadValue}
 use Rattle.rec_text.specs.Canonical.{is_plain_name, is_foldable}
@@ -23,14 +22,15 @@ use Rattle.rec_text.proofs.lemmas.FaultLemmas.{same_value}
 use Rattle.rec_edit.specs.declared.request.Action.{Action}
 use Rattle.rec_edit.specs.declared.request.Action.TheVariants.{Set, Add, SetAdd, Rename, Delete, Comment as CommentFields}
 use Rattle.rec_edit.specs.Wording.{AreItemsFor, names_of_action, values_of_action}
-use Rattle.rec_edit.specs.Effect.{with_fields, TypedRecord, HasEffect, Leads, typed_records, remade}
+use Rattle.rec_edit.specs.Effect.{with_fields, TypedRecord, HasEffect, AreRecordsAfter, typed_records, remade}
 use Rattle.rec_edit.specs.Rules.{setting, deletion, commenting}
 use Rattle.rec_check.specs.Schemas.{Described, IsDescribed, IsSchema}
 use Rattle.rec_check.specs.declared.set.Set_.{Set_}
 use Rattle.rec_select.specs.Selection.{IsSelection}
 use Rattle.rec_edit.specs.Task.{Wanted, Task, insert, replace, delete, comment_out, set, auto_fill}
-use Rattle.rec_edit.specs.Script.{Layout, Part, closed, script_of, new_pieces, edited_text}
-use Rattle.rec_edit.specs.Outcome.{AreChosen, AreRemovable, EditScript, IsEditScript, edit_script}
+use Rattle.rec_edit.specs.Script.{Layout, Part, closed, new_pieces, edited_text}
+use Rattle.rec_edit.specs.proving.Parts.{script_of}
+use Rattle.rec_edit.specs.Outcome.{AreChosen, AreRemovable, EditScript, IsEditScript}
 use Rattle.rec_edit.proofs.lemmas.records.TypedRecordLemmas.{closes, own_of, own_of-Spaced, AreTurned, described, none-type_of, own_of-map, remade-turned, same_descriptors, type_of-none}
 use Rattle.rec_edit.proofs.lemmas.records.FitLemmas.{Cut, Cut-AreRecords, own_of-records, records_there, ArePlain, AreTurned-Fits, Fits, Spaced-Fits, laid_at, Fits-inner, IsInner, BeginsFrom, all_begin}
 use Rattle.rec_edit.proofs.lemmas.scripts.LaidLemmas.{LaysNeatly, closed-blank, closed-field, closed-new_pieces, laid_from}
@@ -40,6 +40,7 @@ use Rattle.rec_edit.proofs.lemmas.layouts.NeatLemmas.{LaysNeatly-deletion, LaysN
 use Rattle.rec_edit.proofs.lemmas.layouts.FieldsLaidLemmas.{ArePlainItems, IsInner-setting, set_of, set_put_first}
 use Rattle.rec_edit.proofs.lemmas.layouts.TakingOutLemmas.{IsInner-commenting, Fits-deletion}
 use Rattle.rec_edit.proofs.lemmas.outcomes.OutcomeLemmas.{PutsNoneIn}
+use Rattle.rec_edit.proofs.lemmas.scripts.TiedLemmas.{script_is}
 
 pub map-map : {X Y Z : Type 0} (f : Y → Z) (g : X → Y) (xs : List X) → map (λ x. f (g x)) xs ≡ map f (map g xs)
 map-map f g [] = refl
@@ -173,7 +174,7 @@ pub record IsDone (pieces : List Piece) (schema : Described) (task : Task) (scri
   pub selected : List ℕ
   pub made : List Piece → List Piece
   pub gives : GivesWay pieces (new_pieces script) selected made records
-  pub leads : (before after : List TypedRecord) → after ≡ remade selected made before → Leads pieces schema task before after
+  pub leads : (before after : List TypedRecord) → after ≡ remade selected made before → AreRecordsAfter pieces schema task before after
 
 pub effect_of_done : (pieces : List Piece) (schema : Described) (task : Task) (script : List Part) → IsDone pieces schema task script → AreElementsOf (new_pieces script) (edited_text script)
     → HasEffect pieces schema task (edited_text script)
@@ -186,9 +187,6 @@ effect_of_done pieces schema task script done are = record {
   are_after = (done.gives.ranges, done.gives.are, refl);
   leads = done.leads (typed_records None (closed_owns pieces done.records)) (typed_records None (closed_owns (new_pieces script) done.gives.ranges)) done.gives.remade_are;
 }
-
-pub script_is : (edit other : EditScript) → ◌≡◌ {A = Result EditScript Fault} (Ok edit) (Ok other) → edit.script ≡ other.script
-script_is edit other e = ap (λ s. s.script) (same_value edit other e)
 
 module _ (pieces : List Piece) (schema : Described) (is : IsDescribed pieces schema) (all : AllByRecursion IsElement pieces) where
   delete_done : (wanted : Wanted) (chosen : List (Range ℕ)) → AreMeant pieces schema.sets wanted chosen → IsDone pieces schema (delete wanted) (script_of (deletion pieces chosen) pieces)
@@ -227,12 +225,12 @@ module _ (pieces : List Piece) (schema : Described) (is : IsDescribed pieces sch
   pub done_delete : (force : Bool) (wanted : Wanted) (edit : EditScript) → IsEditScript pieces schema force (delete wanted) (Ok edit) → IsDone pieces schema (delete wanted) edit.script
   done_delete force wanted edit (inl (fault, refused, e)) = absurd (cc)
   done_delete force wanted edit (inr (chosen, are, same)) =
-      subst (IsDone pieces schema (delete wanted)) (sym (script_is edit (edit_script pieces chosen (deletion pieces chosen)) same)) (delete_done wanted chosen (removable_meant pieces schema.sets wanted force chosen are))
+      subst (IsDone pieces schema (delete wanted)) (sym (script_is pieces chosen (deletion pieces chosen) edit same)) (delete_done wanted chosen (removable_meant pieces schema.sets wanted force chosen are))
 
   pub done_comment : (force : Bool) (wanted : Wanted) (edit : EditScript) → IsEditScript pieces schema force (comment_out wanted) (Ok edit) → IsDone pieces schema (comment_out wanted) edit.script
   done_comment force wanted edit (inl (fault, refused, e)) = absurd (cc)
   done_comment force wanted edit (inr (chosen, are, same)) =
-      subst (IsDone pieces schema (comment_out wanted)) (sym (script_is edit (edit_script pieces chosen (commenting chosen)) same)) (comment_done wanted chosen (removable_meant pieces schema.sets wanted force chosen are))
+      subst (IsDone pieces schema (comment_out wanted)) (sym (script_is pieces chosen (commenting chosen) edit same)) (comment_done wanted chosen (removable_meant pieces schema.sets wanted force chosen are))
 
   set_done : (wanted : Wanted) (list : List ℕ) (action : Action) (items : List Item) (chosen : List (Range ℕ)) → AreItemsFor action list (Ok items) → AreMeant pieces schema.sets wanted chosen
       → IsDone pieces schema (set wanted list action) (script_of (setting action items pieces chosen) pieces)
@@ -265,7 +263,7 @@ module _ (pieces : List Piece) (schema : Described) (is : IsDescribed pieces sch
   done_set force wanted list action edit (inl (fault, refused, e)) = absurd (cc)
   done_set force wanted list action edit (inr (items, items_are, inl (fault, refused, e))) = absurd (cc)
   done_set force wanted list action edit (inr (items, items_are, inr (chosen, are, same))) =
-      subst (IsDone pieces schema (set wanted list action)) (sym (script_is edit (edit_script pieces chosen (setting action items pieces chosen)) same))
+      subst (IsDone pieces schema (set wanted list action)) (sym (script_is pieces chosen (setting action items pieces chosen) edit same))
       (set_done wanted list action items chosen items_are (chosen_meant pieces schema.sets wanted chosen are))
 
   pub step_done : (force : Bool) (task : Task) (edit : EditScript) → PutsNoneIn task → IsEditScript pieces schema force task (Ok edit) → IsDone pieces schema task edit.script

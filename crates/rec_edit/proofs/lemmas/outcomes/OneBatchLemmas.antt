@@ -9,25 +9,24 @@ use Rattle.rec_check.specs.DescribedTexts.{IsDescribedText}
 use Rattle.rec_check.proofs.lemmas.laws.AlikeLemmas.{SameTexts, AgreeLike-described}
 use Rattle.rec_edit.specs.declared.batches.BatchEdited.{BatchEdited}
 use Rattle.rec_edit.specs.Task.{Task}
-use Rattle.rec_edit.specs.Script.{edited_text}
-use Rattle.rec_edit.specs.Outcome.{IsEditScript, IsSoundUnlessForced}
-use Rattle.rec_edit.specs.Batch.{IsEditScriptOn, AreSteps, IsBatchOutcome, OneBatch}
-use Rattle.rec_edit.proofs.lemmas.outcomes.OutcomeLemmas.{AreOne-step, HasOneBut-sound}
+use Rattle.rec_edit.specs.Outcome.{IsEditOf, IsSoundUnlessForced}
+use Rattle.rec_edit.specs.Batch.{IsEditOn, AreSteps, IsBatchOutcome, OneBatch}
+use Rattle.rec_edit.proofs.lemmas.outcomes.OutcomeLemmas.{AreOne-edit, HasOneBut-sound}
 
 -- ---- one edit of a text
 
-HasOneBut-step_on : (force : Bool) (task : Task) (text : List ℕ) → HasOneBut (IsEditScriptOn force task text)
-HasOneBut-step_on force task text =
+HasOneBut-edit_on : (force : Bool) (task : Task) (text : List ℕ) → HasOneBut (IsEditOn force task text)
+HasOneBut-edit_on force task text =
     AgreeBut-like SameTexts (IsDescribedText text) (IsDescribedText text) _ _ (AgreeLike-described text) (λ a b _ _ same one other is is_too _ _.
-    AreOne-step b.pieces a.schema b.schema force task same.1 one other (subst (λ ps. IsEditScript ps a.schema force task one) same.0 is) is_too)
+    AreOne-edit b.pieces a.schema b.schema force task same.1 one other (subst (λ ps. IsEditOf ps a.schema force task one) same.0 is) is_too)
 
 -- ---- all edits
 
 HasOneBut-steps : (force : Bool) (tasks : List Task) (text : List ℕ) → HasOneBut (AreSteps force tasks text)
 HasOneBut-steps force [] text = HasOneBut-of _ (HasOne-same _)
 HasOneBut-steps force (task ∷ tasks) text =
-    HasOneBut-Then (IsEditScriptOn force task text) _ (HasOneBut-step_on force task text) (λ edit _.
-    HasOneBut-Then (AreSteps force tasks (edited_text edit.script)) _ (HasOneBut-steps force tasks (edited_text edit.script)) (λ rest _.
+    HasOneBut-Then (IsEditOn force task text) _ (HasOneBut-edit_on force task text) (λ edited _.
+    HasOneBut-Then (AreSteps force tasks edited.text) _ (HasOneBut-steps force tasks edited.text) (λ rest _.
     HasOneBut-of _ (HasOne-same _)))
 
 HasOneBut-batch : (force : Bool) (tasks : List Task) (text : List ℕ) → HasOneBut (IsBatchOutcome force tasks text)

@@ -1,5 +1,5 @@
 -- What an edit makes of a text are the elements of the edited text; and its outcome.
-use Rattle.std.proofs.Common.{◌≡◌, ◌∙◌, ℕ, ◌+◌, ◌≤◌, Bool, true, false, cond, if◌then◌else◌, ◌==◌, List, [], ◌∷◌, ◌++◌, ◌⊎◌, inl, inr, length, map, Some, Result, Ok, Err, refl, sym, ap, subst, arith, slice_get, ℤ, filter_map, position, Option, None}
+use Rattle.std.proofs.Common.{◌≡◌, ◌∙◌, ℕ, ◌+◌, ◌≤◌, Bool, true, false, cond, if◌then◌else◌, ◌==◌, List, [], ◌∷◌, ◌++◌, ◌⊎◌, inl, inr, length, map, Some, Result, Ok, Err, refl, sym, ap, ap₂, subst, arith, slice_get, ℤ, filter_map, position, Option, None}
 use Rattle.std.specs.List.{AllByRecursion, list_all, flat_map, AllZip}
 use Rattle.std.specs.declared.ops.Range.{Range}
 use Rattle.std.proofs.lemmas.Bool.{cond_both, and_parts, ne_eqb}
@@ -15,11 +15,13 @@ use Rattle.rec_check.specs.Schemas.{Described, AreSameSchemas}
 use Rattle.rec_edit.specs.declared.request.Action.{Action}
 use Rattle.rec_edit.specs.declared.request.Action.TheVariants.{Set, Add, SetAdd, Rename, Delete, Comment as CommentFields}
 use Rattle.rec_edit.specs.Task.{Task, insert, replace, delete, comment_out, set, auto_fill, Wanted, NewRecord, of_pairs, of_text}
-use Rattle.rec_edit.specs.Script.{Part, Layout, closed, script_of, new_pieces, edited_text}
+use Rattle.rec_edit.specs.Script.{Part, Layout, closed, new_pieces, edited_text}
+use Rattle.rec_edit.specs.proving.Parts.{script_of}
 use Rattle.rec_edit.specs.proving.Changes.{hunks_of}
-use Rattle.rec_edit.specs.Rules.{comments_of, is_own, is_picked, taking_out, deletion, commenting, setting, picked_becomes, added, with_blanks, fields_of}
+use Rattle.rec_edit.specs.Rules.{comments_of, is_own, is_picked, taking_out, deletion, commenting, replacement, setting, picked_becomes, added, with_blanks, fields_of}
 use Rattle.rec_edit.specs.Wording.{written, unnumbered, names_of_action, values_of_action, AreItemsFor, pairs_of, IsRecordText, ArePairs, IsNewRecord}
-use Rattle.rec_edit.specs.Outcome.{EditScript, AreChosen, AreRemovable, edit_script, IsEditScript, insert_script, none_of, IsSoundUnlessForced, edited_by, OneOutcome}
+use Rattle.rec_edit.specs.Outcome.{EditScript, AreChosen, AreRemovable, IsLaidOut, IsPutIn, IsEditScript, none_of, IsSoundUnlessForced, IsEditedBy, IsEditOf, OneOutcome}
+use Rattle.rec_edit.specs.proving.Edits.{insert_script}
 use Rattle.rec_text.specs.declared.violations.Violation.{Violation}
 use Rattle.rec_check.specs.declared.set.Set_.{Set_}
 use Rattle.rec_check.specs.Automatic.{automatic_names, automatic_of, readings, IsNext, IsAutomatic}
@@ -32,6 +34,9 @@ use Rattle.rec_edit.specs.Insertions.{Filled, Numbered, numbered_fields, filling
 use Rattle.rec_edit.specs.Automatic.{lacking, AreNumbered, AreAutomatic, numbers_in, AreFilled, AreFilledSets}
 use Rattle.rec_text.proofs.lemmas.ListLemmas.{AllByRecursion-slice_get}
 use Rattle.rec_text.proofs.lemmas.reading.ReadingLemmas.{one_reading}
+use Rattle.rec_journal.specs.declared.patch.Hunk.{Hunk}
+use Rattle.rec_edit.proofs.lemmas.scripts.RunLemmas.{one_list_of_changes}
+use Rattle.rec_edit.proofs.lemmas.scripts.TiedLemmas.{laid_out-is, put_in-is, script_is}
 use Rattle.rec_edit.proofs.lemmas.scripts.WellFormedLemmas.{IsClosed, IsClosed-closed, length-commented, CanStandFor, LaysWell, new_pieces_are_read}
 use Rattle.rec_edit.proofs.lemmas.scripts.EqualLemmas.{PutsSome, PutsFew, unchanged_by_some, unchanged_by_few}
 use Rattle.rec_edit.proofs.lemmas.layouts.NeatLemmas.{AllByRecursion-all, HasPlainName, picked_is_plain, CanStandFor-none, CanStandFor-kept, CanStandFor-commented, picked_can_stand, added_are_closed}
@@ -171,14 +176,6 @@ AreItemsFor-written action list items are =
     let split = names_split given (names_of_action action) is.names_are in
     record { plain = subst (AllByRecursion HasPlainName) (sym is.same) split.0; names = split.1; values = is.values_are }
 
--- the answer of a step
-abbrev ok_step : EditScript → Result EditScript Fault
-ok_step edit = Ok edit
-
--- the script of a step that this layout makes
-script_is : (pieces : List Piece) (chosen : List (Range ℕ)) (layout : Layout) (edit : EditScript) → ok_step edit ≡ ok_step (edit_script pieces chosen layout) → edit.script ≡ script_of layout pieces
-script_is pieces chosen layout edit e = let same : edit ≡ edit_script pieces chosen layout = cc in ap (λ s. s.script) same
-
 -- no new record is put in, and no automatic field
 abbrev pub PutsNoneIn : Task → Type 0
 PutsNoneIn (insert record_type fresh auto) = ⊥
@@ -194,7 +191,7 @@ pub step_is_laid : (pieces : List Piece) (schema : Described) (force : Bool) (ta
 step_is_laid pieces schema force (insert record_type fresh auto) edit are none is = absurd none
 step_is_laid pieces schema force (replace wanted fresh) edit are none is = absurd none
 step_is_laid pieces schema force (delete wanted) edit are none is =
-    let by = Then-ok (AreRemovable pieces schema.sets wanted force) (λ chosen answer. answer ≡ Ok (edit_script pieces chosen (deletion pieces chosen))) edit is in
+    let by = Then-ok (AreRemovable pieces schema.sets wanted force) (λ chosen. IsLaidOut pieces chosen (deletion pieces chosen)) edit is in
     let ranges = map (with_blanks pieces) by.0 in
     record {
       layout = taking_out ranges;
@@ -203,7 +200,7 @@ step_is_laid pieces schema force (delete wanted) edit are none is =
       sizes = inr (taking_out_puts_few pieces are.well_formed ranges);
     }
 step_is_laid pieces schema force (comment_out wanted) edit are none is =
-    let by = Then-ok (AreRemovable pieces schema.sets wanted force) (λ chosen answer. answer ≡ Ok (edit_script pieces chosen (commenting chosen))) edit is in
+    let by = Then-ok (AreRemovable pieces schema.sets wanted force) (λ chosen. IsLaidOut pieces chosen (commenting chosen)) edit is in
     record {
       layout = commenting by.0;
       is = script_is pieces by.0 (commenting by.0) edit by.2;
@@ -211,9 +208,9 @@ step_is_laid pieces schema force (comment_out wanted) edit are none is =
       sizes = inl (commenting_puts_some pieces are.well_formed by.0);
     }
 step_is_laid pieces schema force (set wanted list action) edit are none is =
-    let listed = Then-ok (AreItemsFor action list) (λ items. Then (AreChosen pieces schema.sets wanted) (λ chosen answer. answer ≡ Ok (edit_script pieces chosen (setting action items pieces chosen)))) edit is in
+    let listed = Then-ok (AreItemsFor action list) (λ items. Then (AreChosen pieces schema.sets wanted) (λ chosen. IsLaidOut pieces chosen (setting action items pieces chosen))) edit is in
     let items = listed.0 in
-    let by = Then-ok (AreChosen pieces schema.sets wanted) (λ chosen answer. answer ≡ Ok (edit_script pieces chosen (setting action items pieces chosen))) edit listed.2 in
+    let by = Then-ok (AreChosen pieces schema.sets wanted) (λ chosen. IsLaidOut pieces chosen (setting action items pieces chosen)) edit listed.2 in
     let can = AreItemsFor-written action list items listed.1 in
     record {
       layout = setting action items pieces by.0;
@@ -279,6 +276,18 @@ HasOne-chosen pieces sets wanted =
 HasOne-removable : (pieces : List Piece) (sets : List Set_) (wanted : Wanted) (force : Bool) → HasOne (AreRemovable pieces sets wanted force)
 HasOne-removable pieces sets wanted force =
     HasOne-Then _ _ (HasOne-chosen pieces sets wanted) (λ chosen _. HasOne-Then _ _ (HasOne-same _) (λ _ _. HasOne-same _))
+
+-- ---- the script of a layout
+
+HasOne-laid : (pieces : List Piece) (chosen : List (Range ℕ)) (layout : Layout) → HasOne (IsLaidOut pieces chosen layout)
+HasOne-laid pieces chosen layout one other is is_too = laid_out-is pieces chosen layout one is ∙ sym (laid_out-is pieces chosen layout other is_too)
+
+HasOne-put : (pieces : List Piece) (sets : List Set_) (record_type : Option (List ℕ)) (fields : List Piece)
+    → HasOne (λ answer. (records : List (Range ℕ)) × AreRecords pieces records × IsPutIn pieces records sets record_type fields answer)
+HasOne-put pieces sets record_type fields one other (records, are, is) (others, are_too, is_too) =
+    put_in-is pieces records sets record_type fields one is
+    ∙ ap (λ rs. Ok (insert_script pieces rs sets record_type fields)) (OneListOfRecords-holds.records pieces records others are are_too)
+    ∙ sym (put_in-is pieces others sets record_type fields other is_too)
 
 -- ---- the new record
 
@@ -358,16 +367,15 @@ module _ (pieces : List Piece) where
 
   -- what is made of the automatic fields
   abbrev are_filled : List Set_ → List Rules → List (Range ℕ) → Result EditScript Fault → Type 0
-  are_filled sets rules records = Then (AreFilledSets pieces records sets rules) (λ filled answer. answer ≡ Ok (edit_script pieces (map (λ one. one.range) filled) (filling filled)))
+  are_filled sets rules records = Then (AreFilledSets pieces records sets rules) (λ filled. IsLaidOut pieces (map (λ one. one.range) filled) (filling filled))
 
   AreOne-auto_fill : (sets : List Set_) (rules others : List Rules) → AllZip AreSameRules rules others
       → AreOne (λ answer. (records : List (Range ℕ)) × AreRecords pieces records × are_filled sets rules records answer)
       (λ answer. (records : List (Range ℕ)) × AreRecords pieces records × are_filled sets others records answer)
   AreOne-auto_fill sets rules others alike one other (records, are, is) (more, are_too, is_too) =
       let same : more ≡ records = OneListOfRecords-holds.records pieces more records are_too are in
-      let script = λ (filled : List Filled). edit_script pieces (map (λ one. one.range) filled) (filling filled) in
-      AreOne-Then _ _ (λ filled answer. answer ≡ Ok (script filled)) (λ filled answer. answer ≡ Ok (script filled))
-      (AreOne-filled_sets records sets rules others alike) (λ filled _. HasOne-same (Ok (script filled)))
+      let laid : List Filled → Result EditScript Fault → Type 0 = λ filled. IsLaidOut pieces (map (λ one. one.range) filled) (filling filled) in
+      AreOne-Then _ _ laid laid (AreOne-filled_sets records sets rules others alike) (λ filled _. HasOne-laid pieces (map (λ one. one.range) filled) (filling filled))
       one other is (subst (λ rs. are_filled sets others rs other) same is_too)
 
 -- ---- one edit
@@ -381,16 +389,16 @@ AreOne-edit_script : (pieces : List Piece) (sets : List Set_) (rules others : Li
 AreOne-edit_script pieces sets rules others force (insert record_type fresh auto) alike =
     AreOne-Then _ _ _ _ (HasOne-new record_type fresh) (λ pairs _.
     AreOne-Then _ _ _ _ (AreOne-automatic pieces (ruled sets rules) (ruled sets others) (refl, alike) record_type auto (map (λ pair. pair.name) pairs)) (λ automatic _.
-    HasOne-of_records pieces (λ records. insert_script pieces records sets record_type (numbered_fields automatic ++ fields_of pairs))))
+    HasOne-put pieces sets record_type (numbered_fields automatic ++ fields_of pairs)))
 AreOne-edit_script pieces sets rules others force (replace wanted fresh) alike =
-    HasOne-Then _ _ (HasOne-new None fresh) (λ pairs _. HasOne-Then _ _ (HasOne-chosen pieces sets wanted) (λ _ _. HasOne-same _))
-AreOne-edit_script pieces sets rules others force (delete wanted) alike = HasOne-Then _ _ (HasOne-removable pieces sets wanted force) (λ _ _. HasOne-same _)
-AreOne-edit_script pieces sets rules others force (comment_out wanted) alike = HasOne-Then _ _ (HasOne-removable pieces sets wanted force) (λ _ _. HasOne-same _)
+    HasOne-Then _ _ (HasOne-new None fresh) (λ pairs _. HasOne-Then _ _ (HasOne-chosen pieces sets wanted) (λ chosen _. HasOne-laid pieces chosen (replacement (fields_of pairs) chosen)))
+AreOne-edit_script pieces sets rules others force (delete wanted) alike = HasOne-Then _ _ (HasOne-removable pieces sets wanted force) (λ chosen _. HasOne-laid pieces chosen (deletion pieces chosen))
+AreOne-edit_script pieces sets rules others force (comment_out wanted) alike = HasOne-Then _ _ (HasOne-removable pieces sets wanted force) (λ chosen _. HasOne-laid pieces chosen (commenting chosen))
 AreOne-edit_script pieces sets rules others force (set wanted list action) alike =
-    HasOne-Then _ _ (HasOne-items action list) (λ items _. HasOne-Then _ _ (HasOne-chosen pieces sets wanted) (λ _ _. HasOne-same _))
+    HasOne-Then _ _ (HasOne-items action list) (λ items _. HasOne-Then _ _ (HasOne-chosen pieces sets wanted) (λ chosen _. HasOne-laid pieces chosen (setting action items pieces chosen)))
 AreOne-edit_script pieces sets rules others force auto_fill alike = AreOne-auto_fill pieces sets rules others alike
 
-pub AreOne-step : (pieces : List Piece) (schema same : Described) (force : Bool) (task : Task) → AreSameSchemas (Ok schema) (Ok same)
+AreOne-step : (pieces : List Piece) (schema same : Described) (force : Bool) (task : Task) → AreSameSchemas (Ok schema) (Ok same)
     → AreOne (IsEditScript pieces schema force task) (IsEditScript pieces same force task)
 AreOne-step pieces schema same force task (sets, rules) =
     subst (λ ss. AreOne (IsEditScript pieces schema force task) (IsEditScript pieces (ruled ss same.rules) force task)) sets (AreOne-edit_script pieces schema.sets schema.rules same.rules force task rules)
@@ -399,12 +407,27 @@ pub HasOneBut-sound : (force : Bool) (text : List ℕ) → HasOneBut (IsSoundUnl
 HasOneBut-sound true text = HasOneBut-of _ (HasOne-same _)
 HasOneBut-sound false text = HasOneBut-Then (AreViolationsOf text) _ (one_check text) (λ found _. HasOneBut-of _ (HasOne-same _))
 
--- what follows the step
-abbrev finishing : Bool → EditScript → Result Edited Fault → Type 0
-finishing force edit = Then (IsSoundUnlessForced force (edited_text edit.script)) (λ _ answer. answer ≡ Ok (edited_by edit))
+-- ---- what an edit comes to
+
+pub same_edited : (edit : EditScript) (one other : Edited) → IsEditedBy edit one → IsEditedBy edit other → one ≡ other
+same_edited edit one other by too =
+    let made : List Hunk → List ℕ → ℕ → Edited = λ patch text changed. record { patch = patch; text = text; changed = changed } in
+    ap (λ patch. made patch one.text one.changed) (one_list_of_changes edit.script one.patch other.patch by.patch too.patch)
+    ∙ ap₂ (made other.patch) (by.text ∙ sym too.text) (by.changed ∙ sym too.changed)
+
+HasOne-edited : (edit : EditScript) → HasOne (λ answer. (edited : Edited) × IsEditedBy edit edited × (answer ≡ Ok edited))
+HasOne-edited edit one other (a, by, e) (b, by_too, k) = e ∙ ap Ok (same_edited edit a b by by_too) ∙ sym k
+
+pub AreOne-edit : (pieces : List Piece) (schema same : Described) (force : Bool) (task : Task) → AreSameSchemas (Ok schema) (Ok same)
+    → AreOne (IsEditOf pieces schema force task) (IsEditOf pieces same force task)
+AreOne-edit pieces schema same force task alike = AreOne-Then _ _ _ _ (AreOne-step pieces schema same force task alike) (λ edit _. HasOne-edited edit)
+
+-- what follows the edit
+abbrev finishing : Bool → Edited → Result Edited Fault → Type 0
+finishing force edited = Then (IsSoundUnlessForced force edited.text) (λ _ answer. answer ≡ Ok edited)
 
 pub one_outcome : OneOutcome
 one_outcome pieces schema same force task one other is is_too outcome outcome_too =
-    AgreeBut-Then (IsEditScript pieces schema force task) (IsEditScript pieces same force task) (finishing force) (finishing force)
-    (AgreeBut-of _ _ (AreOne-step pieces schema same force task (one_schema pieces (Ok schema) (Ok same) is is_too (no_both schema BadPattern) (no_both same BadPattern))))
-    (λ edit _. HasOneBut-Then _ _ (HasOneBut-sound force (edited_text edit.script)) (λ _ _. HasOneBut-of _ (HasOne-same _))) one other outcome outcome_too
+    AgreeBut-Then (IsEditOf pieces schema force task) (IsEditOf pieces same force task) (finishing force) (finishing force)
+    (AgreeBut-of _ _ (AreOne-edit pieces schema same force task (one_schema pieces (Ok schema) (Ok same) is is_too (no_both schema BadPattern) (no_both same BadPattern))))
+    (λ edited _. HasOneBut-Then _ _ (HasOneBut-sound force edited.text) (λ _ _. HasOneBut-of _ (HasOne-same _))) one other outcome outcome_too

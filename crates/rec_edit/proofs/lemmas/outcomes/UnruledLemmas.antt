@@ -14,7 +14,7 @@ use Rattle.rec_check.specs.declared.set.Set_.{Set_}
 use Rattle.rec_check.specs.Descriptors.{type_of, types_of}
 use Rattle.rec_check.specs.Sets.{AreSets, IsUntypedFirst, named_in, AreFrom}
 use Rattle.rec_edit.specs.Script.{closed, new_pieces, edited_text}
-use Rattle.rec_edit.specs.Effect.{AreTypedRecords, TypedRecord, IsFilledUp, Leads, automatic_at, between_fields, typed_records, typed_record, type_after, put_at, remade, with_fields}
+use Rattle.rec_edit.specs.Effect.{AreTypedRecords, TypedRecord, IsFilledUp, AreRecordsAfter, automatic_at, between_fields, typed_records, typed_record, type_after, put_at, remade, with_fields}
 use Rattle.rec_edit.specs.Insertions.{numbered_fields}
 use Rattle.rec_edit.specs.Rules.{fields_of}
 use Rattle.rec_text.specs.declared.violations.Rule.TheVariants.{Allowed, Fit}
@@ -187,7 +187,7 @@ filled_untyped automatic i (before ∷ befores) (after ∷ afters) filled untype
     (ap (λ (typed : TypedRecord). typed.record_type) filled.0.is ∙ untyped.0, filled_untyped automatic (i + 1) befores afters filled.1 untyped.1)
 
 -- records of no type stay such, and a new one is one of them
-pub leads_untyped : (pieces : List Piece) (schema : Described) (task : Task) (before after : List TypedRecord) → PutsNoDescriptorIn task → Leads pieces schema task before after
+pub leads_untyped : (pieces : List Piece) (schema : Described) (task : Task) (before after : List TypedRecord) → PutsNoDescriptorIn task → AreRecordsAfter pieces schema task before after
     → AreUntyped before → AreUntyped after
 leads_untyped pieces schema (insert None fresh auto) before after puts (pairs, automatic, is_new, are_automatic, same) untyped =
     subst AreUntyped (sym same) (put_in_set_untyped (slice_get schema.sets 0) (numbered_fields automatic ++ fields_of pairs) before untyped)

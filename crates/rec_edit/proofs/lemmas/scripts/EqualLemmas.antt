@@ -5,7 +5,8 @@ use Rattle.std.proofs.lemmas.Bool.{cond_both, cases_Bool, false≢true, or_parts
 use Rattle.std.proofs.lemmas.List.{length-append, take_at, append_cancel_left, append_cancel_right, append_assoc, append-nil}
 use Rattle.std.specs.Prelude.{if◌then◌else◌}
 use Rattle.rec_text.specs.Elements.{Piece, text_of, IsElement, AreElementsOf}
-use Rattle.rec_edit.specs.Script.{Part, Layout, closed, opened, lacks_newline, settled, putting, parts_from, script_of, old_pieces, new_pieces, is_kept, changes_from, changing, edited_text}
+use Rattle.rec_edit.specs.Script.{Part, Layout, closed, opened, lacks_newline, settled, old_pieces, new_pieces, is_kept, changes_from, edited_text}
+use Rattle.rec_edit.specs.proving.Parts.{putting, parts_from, script_of, changing}
 use Rattle.rec_edit.specs.proving.Changes.{hunks_of}
 use Rattle.rec_text.specs.Records.{is_blank_piece}
 use Rattle.rec_text.specs.Bytes.{ends_newline}

@@ -10,7 +10,8 @@ use Rattle.rec_text.specs.Bytes.{is_nil, ends_newline}
 use Rattle.rec_text.specs.Elements.{Piece, text_of, colon_of, name_of}
 use Rattle.rec_text.specs.Records.{is_blank_piece, is_field_piece, elements_in}
 use Rattle.rec_text.proofs.lemmas.ListLemmas.{AllByRecursion-append}
-use Rattle.rec_edit.specs.Script.{Part, Layout, closed, without_newline, opened, lacks_newline, settled, putting, changing, parts_from, script_of, new_pieces}
+use Rattle.rec_edit.specs.Script.{Part, Layout, closed, without_newline, opened, lacks_newline, settled, new_pieces}
+use Rattle.rec_edit.specs.proving.Parts.{putting, changing, parts_from, script_of}
 use Rattle.rec_text.specs.Canonical.{field_of, folded}
 use Rattle.rec_text.specs.Values.{on_first}
 use Rattle.rec_text.specs.declared.element.Kind.TheVariants.{Blank, Comment, Field}

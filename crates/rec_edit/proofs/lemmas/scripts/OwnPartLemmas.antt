@@ -10,7 +10,8 @@ use Rattle.std.proofs.lemmas.List.{length-take-le, take-append-drop}
 use Rattle.rec_text.specs.Elements.{Piece, text_of}
 use Rattle.rec_text.specs.Records.{elements_in}
 use Rattle.rec_text.proofs.lemmas.ListLemmas.{AllByRecursion-prefix, AllByRecursion-following}
-use Rattle.rec_edit.specs.Script.{Part, Layout, closed, opened, lacks_newline, settled, putting, changing, parts_from, parts_in, script_of, old_pieces, new_pieces}
+use Rattle.rec_edit.specs.Script.{Part, Layout, closed, opened, lacks_newline, settled, parts_in, old_pieces, new_pieces}
+use Rattle.rec_edit.specs.proving.Parts.{putting, changing, parts_from, script_of}
 use Rattle.rec_edit.specs.proving.Drafts.{laying, laid, is_changed}
 use Rattle.rec_edit.specs.Outcome.{is_changed_by}
 use Rattle.rec_edit.proofs.lemmas.scripts.LaidLemmas.{Ends, Reopens, closed-settled, map-closed}

@@ -5,15 +5,16 @@ use Rattle.std.proofs.lemmas.Bool.{cases_Bool, eqb-true, false≢true, false_fro
 use Rattle.std.proofs.lemmas.List.{length-append, take_at, nil_from_length, length-map, length-drop, length-take-le, drop_all, take-append-drop, drop-append-le}
 use Rattle.std.specs.Str.{bytes_eq}
 use Rattle.std.specs.declared.ops.Range.{Range}
-use Rattle.rec_text.specs.Bytes.{is_nil, ends_newline}
+use Rattle.rec_text.specs.Bytes.{is_nil, ends_newline, closed_text}
 use Rattle.rec_text.specs.declared.element.Kind.{Kind}
 use Rattle.rec_text.specs.declared.element.Kind.TheVariants.{Blank, Comment, Field}
 use Rattle.rec_text.specs.Elements.{Piece, is_element, text_of, IsElement, EndInNewlines, AreElementsOf}
 use Rattle.rec_text.specs.declared.element.Element.{Element}
 use Rattle.rec_text.specs.Places.{piece_of, pieces_of}
 use Rattle.rec_edit.specs.declared.script.draft.Draft.{Draft}
-use Rattle.rec_edit.specs.Script.{Part, closed, opened, without_newline, lacks_newline, putting, settled, Layout, changing, parts_from, script_of, old_pieces}
-use Rattle.rec_edit.specs.proving.Drafts.{IsDraft, settling, laying, closed_text, Keeps, IsTie, IsLaid, LaysLines, settled_as, laid, is_changed}
+use Rattle.rec_edit.specs.Script.{Part, closed, opened, without_newline, lacks_newline, settled, Layout, old_pieces}
+use Rattle.rec_edit.specs.proving.Parts.{putting, changing, parts_from, script_of}
+use Rattle.rec_edit.specs.proving.Drafts.{IsDraft, settling, laying, Keeps, IsTie, IsLaid, LaysLines, settled_as, laid, is_changed}
 use Rattle.rec_text.specs.Records.{elements_in}
 use Rattle.rec_text.proofs.lemmas.elements.FieldLemmas.{ends_newline-append}
 use Rattle.rec_edit.proofs.lemmas.scripts.ScriptLemmas.{draft_kept, old_pieces-script_of}

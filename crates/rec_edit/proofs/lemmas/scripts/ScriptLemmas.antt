@@ -8,7 +8,8 @@ use Rattle.std.specs.Option.{SomeIff, IsSome}
 use Rattle.rec_text.specs.Elements.{Piece, text_of}
 use Rattle.rec_journal.specs.declared.patch.Hunk.{Hunk}
 use Rattle.rec_journal.specs.Patch.{AreApartFrom, IsPatch, SplicesFrom, Splices}
-use Rattle.rec_edit.specs.Script.{Part, Layout, lacks_newline, settled, closed, putting, changing, parts_from, script_of, old_pieces, edited_text, new_pieces, is_kept, changes_from, TakesWhole}
+use Rattle.rec_edit.specs.Script.{Part, Layout, lacks_newline, settled, closed, old_pieces, edited_text, new_pieces, is_kept, changes_from, TakesWhole}
+use Rattle.rec_edit.specs.proving.Parts.{putting, changing, parts_from, script_of}
 use Rattle.rec_edit.specs.proving.Changes.{joining, joined, real_changes, hunks_of}
 use Rattle.rec_edit.specs.declared.script.draft.Draft.{Draft}
 use Rattle.rec_edit.specs.declared.script.draft.Run.{Run}

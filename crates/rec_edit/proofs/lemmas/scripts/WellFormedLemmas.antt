@@ -10,7 +10,8 @@ use Rattle.rec_text.specs.Bytes.{is_blank, is_letter, is_nil, continues_name, en
 use Rattle.rec_text.specs.Canonical.{is_plain_name, is_foldable, folded, field_of}
 use Rattle.rec_text.specs.Elements.{Piece, IsElement, is_element, is_line, is_blank_line, is_comment, is_field, is_body, is_joined, is_dangling, colon_of, name_of, EndInNewlines, AreElementsOf, text_of}
 use Rattle.rec_text.specs.Values.{on_first}
-use Rattle.rec_edit.specs.Script.{closed, without_newline, lacks_newline, Part, Layout, opened, settled, putting, changing, parts_from, script_of, new_pieces, edited_text}
+use Rattle.rec_edit.specs.Script.{closed, without_newline, lacks_newline, Part, Layout, opened, settled, new_pieces, edited_text}
+use Rattle.rec_edit.specs.proving.Parts.{putting, changing, parts_from, script_of}
 use Rattle.rec_edit.specs.Rules.{canonical, physical_lines, comments_of, renamed}
 use Rattle.rec_text.proofs.lemmas.ListLemmas.{is_nil-push}
 use Rattle.rec_text.proofs.lemmas.values.FoldLemmas.{is_foldable-same}
@@ -114,13 +115,17 @@ is_element-closed Blank bs whole lacks = is_blank_line-closed bs whole lacks
 is_element-closed Comment bs whole lacks = is_comment-closed bs whole lacks
 is_element-closed Field bs whole lacks = is_field-closed bs whole lacks
 
+-- an element with other bytes
+abbrev with_bytes : Piece → List ℕ → Piece
+with_bytes piece bytes = record { kind = piece.kind; bytes = bytes }
+
 -- with a newline at its end
 abbrev with_newline : Piece → Piece
-with_newline piece = record { kind = piece.kind; bytes = piece.bytes ++ 10 ∷ [] }
+with_newline piece = with_bytes piece (piece.bytes ++ 10 ∷ [])
 
 pub IsClosed-closed : (piece : Piece) → IsElement piece → IsClosed (closed piece)
 IsClosed-closed piece whole =
-    cond_both (ends_newline piece.bytes) piece (with_newline piece) IsClosed
+    cond_both (ends_newline piece.bytes) piece.bytes (piece.bytes ++ 10 ∷ []) (λ bytes. IsClosed (with_bytes piece bytes))
     (λ ends. record { element = whole; ends = ends })
     (λ lacks. record { element = is_element-closed piece.kind piece.bytes whole lacks; ends = ends_newline-at piece.bytes 10 [] })
 
@@ -128,12 +133,10 @@ pub lacks_newline-ends : (text : List ℕ) → lacks_newline text ≡ true → e
 lacks_newline-ends text lacks = not-true (ends_newline text) (and_parts (not (is_nil text)) (not (ends_newline text)) lacks).1
 
 pub closed-lacks : (piece : Piece) → ends_newline piece.bytes ≡ false → closed piece ≡ record { kind = piece.kind; bytes = piece.bytes ++ 10 ∷ [] }
-closed-lacks piece lacks = cond-false (ends_newline piece.bytes) piece (with_newline piece) lacks
+closed-lacks piece lacks = ap (with_bytes piece) (cond-false (ends_newline piece.bytes) piece.bytes (piece.bytes ++ 10 ∷ []) lacks)
 
 pub bare-closed : (piece : Piece) → ends_newline piece.bytes ≡ false → bare (closed piece) ≡ piece
-bare-closed piece lacks =
-    let bytes_only : List ℕ → Piece = λ bytes. record { kind = piece.kind; bytes = bytes } in
-    ap bare (closed-lacks piece lacks) ∙ ap bytes_only (without_newline-push piece.bytes)
+bare-closed piece lacks = ap bare (closed-lacks piece lacks) ∙ ap (with_bytes piece) (without_newline-push piece.bytes)
 
 -- ---- a comment for each physical line
 
@@ -294,10 +297,10 @@ name_of-push Field bytes whole =
 -- a newline at its end doesn't change the name
 pub name_of-closed : (piece : Piece) → IsElement piece → name_of (closed piece) ≡ name_of piece
 name_of-closed piece whole =
-    cond_both (ends_newline piece.bytes) piece (with_newline piece) (λ p. name_of p ≡ name_of piece) (λ _. refl) (λ _. name_of-push piece.kind piece.bytes whole)
+    cond_both (ends_newline piece.bytes) piece.bytes (piece.bytes ++ 10 ∷ []) (λ bytes. name_of (with_bytes piece bytes) ≡ name_of piece) (λ _. refl) (λ _. name_of-push piece.kind piece.bytes whole)
 
 pub kind-closed : (piece : Piece) → (closed piece).kind ≡ piece.kind
-kind-closed piece = cond_both (ends_newline piece.bytes) piece (with_newline piece) (λ p. p.kind ≡ piece.kind) (λ _. refl) (λ _. refl)
+kind-closed piece = refl
 
 module _ (fresh : List ℕ) (plain : is_plain_name fresh ≡ true) (piece : Piece) (whole : IsElement piece) (field : piece.kind ≡ Field) where
   cut : IsCutField piece

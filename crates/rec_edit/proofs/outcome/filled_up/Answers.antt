@@ -3,8 +3,7 @@ use Rattle.std.specs.Prelude.{IfOk}
 use Rattle.rec_edit.specs.proving.Drafts.{AreRanges}
 use Rattle.rec_edit.specs.proving.Filling.{filled_of, ranges_of}
 use Rattle.rec_edit.specs.Insertions.{filling}
-use Rattle.rec_edit.specs.Outcome.{edited_by}
-use Rattle.rec_edit.specs.proving.Edits.{laid_script}
+use Rattle.rec_edit.specs.proving.Edits.{laid_script, edited_by}
 use Rattle.rec_edit.proofs.lemmas.automatic.FillLemmas.{LaysLines-filling}
 use Rattle.rec_edit.proofs.outcome.filled_up.Goals as goal
 

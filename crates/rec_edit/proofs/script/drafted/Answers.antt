@@ -1,5 +1,5 @@
 use Rattle.std.proofs.Common.{[], ap, length, arith}
-use Rattle.rec_edit.specs.Script.{script_of}
+use Rattle.rec_edit.specs.proving.Parts.{script_of}
 use Rattle.rec_edit.proofs.lemmas.scripts.PassLemmas.{at_within, laid_end}
 use Rattle.rec_edit.proofs.script.drafted.Goals as goal
 

@@ -6,16 +6,17 @@ use Rattle.std.specs.Prelude.{if◌then◌else◌, nat_lt, neg_ℤ}
 use Rattle.std.proofs.lemmas.Bool.{false≢true, cases_Bool, cases_lt, lt-ltb}
 use mathlib.Core.Path.{fun_ext}
 use Rattle.regex.specs.Patterns.{Re}
+use Rattle.rec_text.specs.Bytes.{is_among}
 use Rattle.rec_text.specs.Elements.{Piece}
-use Rattle.rec_sex.specs.declared.syntax.tree.Tree.{Tree, Integer, Literal, Name, Occurrence, Count, Not', Negate', Binary', Found', Choice'}
+use Rattle.rec_sex.specs.declared.syntax.tree.Tree.{Tree, Integer, Literal, Name, Occurrence, Count, Not', Negate', Binary', Found', Conditional'}
 use Rattle.rec_sex.specs.declared.meaning.outcomes.Outcome.{Outcome}
 use Rattle.rec_sex.specs.declared.meaning.outcomes.Outcome.TheVariants.{Undefined, Fails, Holds}
 use Rattle.rec_sex.specs.declared.meaning.outcomes.Outcomes.{Outcomes}
 use Rattle.rec_sex.specs.declared.syntax.token.Operator.{Operator}
-use Rattle.rec_sex.specs.Grammar.{inverse, binary, choice}
+use Rattle.rec_sex.specs.Grammar.{inverse, binary, conditional}
 use Rattle.rec_sex.specs.Meaning.{Meaning, Assignment, values_of, value_at, text, sem, is_true, is_zero, is_found, as_text, truth, in_range, reading_of, IsChoice, Selects}
 use Rattle.rec_sex.specs.Expressions.{pattern_at, term_under}
-use Rattle.rec_sex.specs.proving.Choices.{NameChoice, chosen_in, is_chosen, is_among, repeated_names, places_of, shared_names, any_below, any_choice}
+use Rattle.rec_sex.specs.proving.Choices.{NameChoice, chosen_in, is_chosen, repeated_names, places_of, shared_names, any_below, any_choice}
 use Rattle.rec_sex.specs.proving.Outcomes.{outcome_of, can_be, only, inverse_of, is_connective, joined_by, branch_of, outcomes_over, outcomes_of_part, outcomes_in, can_hold, CanBe}
 use Rattle.rec_text.proofs.lemmas.ListLemmas.{bytes_eq-self}
 use Rattle.rec_sex.proofs.lemmas.meaning.EntryLemmas.{chosen_in-none, chosen_in-prefix, chosen_in-following, HasEntries, any_choice-entries, any_choice-chosen, entries_of, chosen_among, not_among, agrees_with_own, is_among-names, has_chosen, is_among-shared, has_chosen-shared}
@@ -68,7 +69,7 @@ module _ (pieces : List Piece) (patterns : List Re) where
         let right : under b c ≡ under b d = same_under b (λ name h. same name (omega arith)) in
         rw (left, right) refl
     same_under (Found' p a i) same = ap (λ m. option_map (λ x. truth (is_found (pattern_at patterns i) (as_text x))) m) (same_under a same)
-    same_under (Choice' p k q a r b) same =
+    same_under (Conditional' p k q a r b) same =
         let condition : under k c ≡ under k d = same_under k (λ name h. same name (omega arith)) in
         let yes_part : under a c ≡ under a d = same_under a (λ name h. same name (omega arith)) in
         let no_part : under b c ≡ under b d = same_under b (λ name h. same name (omega arith)) in
@@ -98,7 +99,7 @@ module _ (pieces : List Piece) (patterns : List Re) where
       names_of tree = repeated_names pieces entries [] tree
 
       chosen_free : (tree : Tree) (name : List ℕ) → 0 < places_of name tree → is_chosen entries name ≡ false → chosen_in (entries_of pieces c (names_of tree)) name ≡ c name
-      chosen_free tree name stands free = elim (cases_Bool (is_among name (names_of tree))) [
+      chosen_free tree name stands free = elim (cases_Bool (is_among (names_of tree) name)) [
         | inl there ↦ chosen_among pieces c (names_of tree) name there
         | inr missing ↦ elim (cases_lt 1 (length (values_of name pieces))) [
           | inl several ↦ absurd (false≢true (sym missing ∙ is_among-names pieces entries name several free tree [] stands))
@@ -134,7 +135,7 @@ module _ (pieces : List Piece) (patterns : List Re) where
             ap (λ s. can_be s (outcome_of (under (Binary' op p a q b) c))) (if_false (is_connective op) (joined_by op (outcomes a) (outcomes b)) (outcomes_of_part patterns pieces entries (Binary' op p a q b)) other)
             ∙ part_is (Binary' op p a q b)
       ]
-      expression_is (Choice' p k q a r b) =
+      expression_is (Conditional' p k q a r b) =
           ap (can_be (branch_of (outcomes k) (outcomes a) (outcomes b))) (outcome_of-branched (under a c) (under b c) (under k c))
           ∙ branch_can_be (outcomes k) (outcomes a) (outcomes b) (outcome_of (under k c)) (outcome_of (under a c)) (outcome_of (under b c)) (expression_is k) (expression_is a) (expression_is b)
       expression_is tree = part_is tree
@@ -248,10 +249,10 @@ module _ (pieces : List Piece) (patterns : List Re) where
 
     module _ (k a b : Tree) (o : Outcome) where
       abbrev CanBranch : Type 0
-      CanBranch = CanBe (choice (term_under patterns k) (term_under patterns a) (term_under patterns b)) pieces entries o
+      CanBranch = CanBe (conditional (term_under patterns k) (term_under patterns a) (term_under patterns b)) pieces entries o
 
       branched_is : (c : Assignment) (x : Outcome) → outcome_of (under k c) ≡ x → branched x (outcome_of (under a c)) (outcome_of (under b c)) ≡ o
-          → outcome_of (sem (choice (term_under patterns k) (term_under patterns a) (term_under patterns b)) pieces c) ≡ o
+          → outcome_of (sem (conditional (term_under patterns k) (term_under patterns a) (term_under patterns b)) pieces c) ≡ o
       branched_is c x condition make = outcome_of-branched (under a c) (under b c) (under k c) ∙ ap (λ z. branched z (outcome_of (under a c)) (outcome_of (under b c))) condition ∙ make
 
       undefined_can : o ≡ Undefined → Can k Undefined → CanBranch
@@ -283,7 +284,7 @@ module _ (pieces : List Piece) (patterns : List Re) where
             joined_can op a b parts.left parts.right o connective parts.make (can_be_both a b parts.left parts.right left right once))
         | inr other ↦ part_can_be own_is_choice (Binary' op p a q b) o (ap (λ s. can_be s o) (sym (if_false (is_connective op) (joined_by op (outcomes a) (outcomes b)) (outcomes_of_part patterns pieces entries (Binary' op p a q b)) other)) ∙ e)
       ]
-      expression_can_be (Choice' p k q a r b) once o e = elim (branch_part (outcomes k) (outcomes a) (outcomes b) o e) [
+      expression_can_be (Conditional' p k q a r b) once o e = elim (branch_part (outcomes k) (outcomes a) (outcomes b) o e) [
         | by_condition no_value is_undefined ↦ undefined_can k a b o is_undefined (expression_can_be k (λ name several free. omega (arith, once name several free)) Undefined no_value)
         | by_yes does_hold yes_part ↦ (
             let condition : Can k Holds = expression_can_be k (λ name several free. omega (arith, once name several free)) Holds does_hold in
@@ -319,11 +320,11 @@ module _ (pieces : List Piece) (patterns : List Re) where
     abbrev shared : List (List ℕ)
     shared = shared_names tree (repeated_names pieces [] [] tree)
 
-    shared_have : (name : List ℕ) → 1 < length (values_of name pieces) → 1 < places_of name tree → is_among name shared ≡ true
+    shared_have : (name : List ℕ) → 1 < length (values_of name pieces) → 1 < places_of name tree → is_among shared name ≡ true
     shared_have name several often =
         is_among-shared tree name often (repeated_names pieces [] [] tree) (is_among-names pieces [] name several refl tree [] (omega arith))
 
-    stands_once : (entries : List NameChoice) → ((name : List ℕ) → is_among name shared ≡ true → is_chosen entries name ≡ true) → StandsAtMostOnce entries (λ name. places_of name tree)
+    stands_once : (entries : List NameChoice) → ((name : List ℕ) → is_among shared name ≡ true → is_chosen entries name ≡ true) → StandsAtMostOnce entries (λ name. places_of name tree)
     stands_once entries have name several free = elim (cases_lt 1 (places_of name tree)) [
       | inl often ↦ absurd (false≢true (sym free ∙ have name (shared_have name several often)))
       | inr once ↦ once

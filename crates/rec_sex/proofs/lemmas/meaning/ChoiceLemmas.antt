@@ -10,7 +10,8 @@ use Rattle.rec_sex.specs.declared.meaning.occurrences.Chosen.{Chosen}
 use Rattle.rec_sex.specs.declared.meaning.outcomes.Outcomes.{Outcomes}
 use Rattle.rec_sex.specs.Meaning.{values_of}
 use Rattle.rec_sex.specs.Expressions.{term_under}
-use Rattle.rec_sex.specs.proving.Choices.{NameChoice, entry_of, texts, any_below, any_choice}
+use Rattle.rec_sex.specs.proving.Choices.{NameChoice, entry_of, any_below, any_choice}
+use Rattle.rec_text.specs.Bytes.{texts}
 use Rattle.rec_sex.specs.proving.Outcomes.{union, union_below, outcomes_over, can_hold}
 
 abbrev pub rest_of : List (Bor (List ℕ)) → List (Bor (List ℕ))

@@ -5,10 +5,11 @@ use Rattle.std.specs.Prelude.{if◌then◌else◌, nat_lt}
 use Rattle.std.specs.Str.{bytes_eq}
 use Rattle.std.proofs.lemmas.Bool.{false≢true, cases_Bool, cases_lt, ltb-true, lt-ltb, and_parts, or_cases, or_left, or_right}
 use Rattle.std.proofs.lemmas.List.{append-nil, append_assoc}
+use Rattle.rec_text.specs.Bytes.{is_among}
 use Rattle.rec_text.specs.Elements.{Piece}
-use Rattle.rec_sex.specs.declared.syntax.tree.Tree.{Tree, Integer, Literal, Name, Occurrence, Count, Not', Negate', Binary', Found', Choice'}
+use Rattle.rec_sex.specs.declared.syntax.tree.Tree.{Tree, Integer, Literal, Name, Occurrence, Count, Not', Negate', Binary', Found', Conditional'}
 use Rattle.rec_sex.specs.Meaning.{Assignment, values_of, IsChoice}
-use Rattle.rec_sex.specs.proving.Choices.{NameChoice, chosen_in, is_chosen, is_among, with_repeated, repeated_names, places_of, shared_names, any_below, any_choice}
+use Rattle.rec_sex.specs.proving.Choices.{NameChoice, chosen_in, is_chosen, with_repeated, repeated_names, places_of, shared_names, any_below, any_choice}
 use Rattle.rec_text.proofs.lemmas.ListLemmas.{AllByRecursion-push, bytes_eq-self, same_bytes}
 use Rattle.rec_sex.proofs.lemmas.meaning.ChoiceLemmas.{any_below-at, true_or}
 
@@ -16,21 +17,21 @@ use Rattle.rec_sex.proofs.lemmas.meaning.ChoiceLemmas.{any_below-at, true_or}
 
 pub is_chosen-append : (entries more : List NameChoice) (name : List ℕ) → is_chosen (entries ++ more) name ≡ (is_chosen entries name || is_chosen more name)
 is_chosen-append [] more name = refl
-is_chosen-append (entry ∷ entries) more name = elim (cases_Bool (bytes_eq entry.0 name)) [
+is_chosen-append (entry ∷ entries) more name = elim (cases_Bool (bytes_eq name entry.0)) [
   | inl same ↦ rw same refl
   | inr differs ↦ rw differs (is_chosen-append entries more name)
 ]
 
 pub chosen_in-prefix : (entries more : List NameChoice) (name : List ℕ) → is_chosen entries name ≡ true → chosen_in (entries ++ more) name ≡ chosen_in entries name
 chosen_in-prefix [] more name h = absurd (false≢true h)
-chosen_in-prefix (entry ∷ entries) more name h = elim (cases_Bool (bytes_eq entry.0 name)) [
+chosen_in-prefix (entry ∷ entries) more name h = elim (cases_Bool (bytes_eq name entry.0)) [
   | inl same ↦ rw same refl
   | inr differs ↦ rw differs (chosen_in-prefix entries more name (rw differs at h))
 ]
 
 pub chosen_in-following : (entries more : List NameChoice) (name : List ℕ) → is_chosen entries name ≡ false → chosen_in (entries ++ more) name ≡ chosen_in more name
 chosen_in-following [] more name h = refl
-chosen_in-following (entry ∷ entries) more name h = elim (cases_Bool (bytes_eq entry.0 name)) [
+chosen_in-following (entry ∷ entries) more name h = elim (cases_Bool (bytes_eq name entry.0)) [
   | inl same ↦ absurd (false≢true (sym (rw same at h)))
   | inr differs ↦ rw differs (chosen_in-following entries more name (rw differs at h))
 ]
@@ -57,11 +58,11 @@ chosen_in-none pieces name = first_is_occurrence pieces name
 
 chosen_in-more : (pieces : List Piece) (entries : List NameChoice) (name : List ℕ) (i : ℕ) → i < length (values_of name pieces)
     → (other : List ℕ) → IsOccurrence pieces other (chosen_in entries other) → IsOccurrence pieces other (chosen_in (entries ++ (name, i) ∷ []) other)
-chosen_in-more pieces [] name i below other h = elim (cases_Bool (bytes_eq name other)) [
-  | inl same ↦ rw same (inl (let P : List ℕ → Type 0 = λ n. i < length (values_of n pieces) in subst P (same_bytes name other same) below))
+chosen_in-more pieces [] name i below other h = elim (cases_Bool (bytes_eq other name)) [
+  | inl same ↦ rw same (inl (let P : List ℕ → Type 0 = λ n. i < length (values_of n pieces) in subst P (sym (same_bytes other name same)) below))
   | inr differs ↦ rw differs h
 ]
-chosen_in-more pieces (entry ∷ entries) name i below other h = elim (cases_Bool (bytes_eq entry.0 other)) [
+chosen_in-more pieces (entry ∷ entries) name i below other h = elim (cases_Bool (bytes_eq other entry.0)) [
   | inl same ↦ rw same (rw same at h)
   | inr differs ↦ rw differs (chosen_in-more pieces entries name i below other (rw differs at h))
 ]
@@ -77,7 +78,7 @@ any_below-true (suc n) test e = elim (cases_Bool (any_below n test)) [
 pub record HasEntries (test : List NameChoice → Bool) (pieces : List Piece) (names : List (List ℕ)) (entries : List NameChoice) : Type 0 where
   pub more : List NameChoice
   pub is_choice : IsChoice pieces (chosen_in (entries ++ more))
-  pub have : (name : List ℕ) → is_among name names ≡ true → is_chosen (entries ++ more) name ≡ true
+  pub have : (name : List ℕ) → is_among names name ≡ true → is_chosen (entries ++ more) name ≡ true
   pub holds : test (entries ++ more) ≡ true
 
 module _ (test : List NameChoice → Bool) (pieces : List Piece) where
@@ -87,8 +88,8 @@ module _ (test : List NameChoice → Bool) (pieces : List Piece) where
       record {
         more = (name, i) ∷ h.more;
         is_choice = subst (λ es. IsChoice pieces (chosen_in es)) all h.is_choice;
-        have = λ other among. elim (or_cases (bytes_eq name other) (is_among other names) among) [
-          | inl same ↦ is_chosen-append entries ((name, i) ∷ h.more) other ∙ or_right (is_chosen entries other) _ (or_left (bytes_eq name other) (is_chosen h.more other) same)
+        have = λ other among. elim (or_cases (bytes_eq other name) (is_among names other) among) [
+          | inl same ↦ is_chosen-append entries ((name, i) ∷ h.more) other ∙ or_right (is_chosen entries other) _ (or_left (bytes_eq other name) (is_chosen h.more other) same)
           | inr later ↦ ap (λ es. is_chosen es other) (sym all) ∙ h.have other later
         ];
         holds = ap test (sym all) ∙ h.holds;
@@ -122,21 +123,21 @@ module _ (pieces : List Piece) (c : Assignment) where
       sym (any_below-at (length (values_of name pieces)) (c name) (λ i. any_choice test pieces names (entries ++ (name, i) ∷ [])) has.0
       (sym (any_choice-chosen test names (entries ++ (name, c name) ∷ []) has.1 (ap test (append_assoc entries ((name, c name) ∷ []) (entries_of names)) ∙ e))))
 
-  chosen_in-entries : (names : List (List ℕ)) (name : List ℕ) → chosen_in (entries_of names) name ≡ (if is_among name names then c name else 0)
+  chosen_in-entries : (names : List (List ℕ)) (name : List ℕ) → chosen_in (entries_of names) name ≡ (if is_among names name then c name else 0)
   chosen_in-entries [] name = refl
-  chosen_in-entries (one ∷ names) name = elim (cases_Bool (bytes_eq one name)) [
-    | inl same ↦ rw (same, same_bytes one name same)
+  chosen_in-entries (one ∷ names) name = elim (cases_Bool (bytes_eq name one)) [
+    | inl same ↦ rw (same, sym (same_bytes name one same))
     | inr differs ↦ rw (differs, chosen_in-entries names name)
   ]
 
-  is_chosen-entries : (names : List (List ℕ)) (name : List ℕ) → is_chosen (entries_of names) name ≡ is_among name names
+  is_chosen-entries : (names : List (List ℕ)) (name : List ℕ) → is_chosen (entries_of names) name ≡ is_among names name
   is_chosen-entries [] name = refl
-  is_chosen-entries (one ∷ names) name = ap (λ b. bytes_eq one name || b) (is_chosen-entries names name)
+  is_chosen-entries (one ∷ names) name = ap (λ b. bytes_eq name one || b) (is_chosen-entries names name)
 
-  pub chosen_among : (names : List (List ℕ)) (name : List ℕ) → is_among name names ≡ true → chosen_in (entries_of names) name ≡ c name
+  pub chosen_among : (names : List (List ℕ)) (name : List ℕ) → is_among names name ≡ true → chosen_in (entries_of names) name ≡ c name
   chosen_among names name there = chosen_in-entries names name ∙ rw there
 
-  pub not_among : (names : List (List ℕ)) (name : List ℕ) → is_among name names ≡ false → chosen_in (entries_of names) name ≡ 0
+  pub not_among : (names : List (List ℕ)) (name : List ℕ) → is_among names name ≡ false → chosen_in (entries_of names) name ≡ 0
   not_among names name missing = chosen_in-entries names name ∙ rw missing
 
   pub agrees_with_own : (names : List (List ℕ)) (name : List ℕ) → is_chosen (entries_of names) name ≡ true → c name ≡ chosen_in (entries_of names) name
@@ -144,13 +145,13 @@ module _ (pieces : List Piece) (c : Assignment) where
 
 -- ---- the names for which an expression chooses
 
-is_among-push : (names : List (List ℕ)) (name : List ℕ) → is_among name (names ++ name ∷ []) ≡ true
+is_among-push : (names : List (List ℕ)) (name : List ℕ) → is_among (names ++ name ∷ []) name ≡ true
 is_among-push [] name = rw (bytes_eq-self name)
-is_among-push (one ∷ names) name = rw (is_among-push names name) (sym (true_or (bytes_eq one name)))
+is_among-push (one ∷ names) name = rw (is_among-push names name) (sym (true_or (bytes_eq name one)))
 
-is_among-append : (names : List (List ℕ)) (name other : List ℕ) → is_among name names ≡ true → is_among name (names ++ other ∷ []) ≡ true
+is_among-append : (names : List (List ℕ)) (name other : List ℕ) → is_among names name ≡ true → is_among (names ++ other ∷ []) name ≡ true
 is_among-append [] name other e = absurd (cc)
-is_among-append (one ∷ names) name other e = elim (cases_Bool (bytes_eq one name)) [
+is_among-append (one ∷ names) name other e = elim (cases_Bool (bytes_eq name one)) [
   | inl same ↦ rw same
   | inr differs ↦ rw differs (is_among-append names name other (rw differs at e))
 ]
@@ -162,9 +163,9 @@ is_open pieces entries name = nat_lt 1 (length (values_of name pieces)) && not (
 -- what holds of names and goes on to hold with one that occurs more than once holds of all of an expression
 module _ (pieces : List Piece) (entries : List NameChoice) (Q : List (List ℕ) → Type 0) (more : (names : List (List ℕ)) (name : List ℕ) → 1 < length (values_of name pieces) → Q names → Q (names ++ name ∷ [])) where
   keeps-name : (names : List (List ℕ)) (name : List ℕ) → Q names → Q (with_repeated pieces entries names name)
-  keeps-name names name h = elim (cases_Bool (is_open pieces entries name && not (is_among name names))) [
+  keeps-name names name h = elim (cases_Bool (is_open pieces entries name && not (is_among names name))) [
     | inl new ↦ (
-        let is_left_open = and_parts (is_open pieces entries name) (not (is_among name names)) new in
+        let is_left_open = and_parts (is_open pieces entries name) (not (is_among names name)) new in
         let several = and_parts (nat_lt 1 (length (values_of name pieces))) (not (is_chosen entries name)) is_left_open.0 in
         rw new (more names name (ltb-true 1 (length (values_of name pieces)) several.0) h))
     | inr old ↦ rw old h
@@ -180,27 +181,27 @@ module _ (pieces : List Piece) (entries : List NameChoice) (Q : List (List ℕ) 
   keeps (Negate' p a) names h = keeps a names h
   keeps (Binary' op p a q b) names h = keeps b _ (keeps a names h)
   keeps (Found' p a i) names h = keeps a names h
-  keeps (Choice' p k q a r b) names h = keeps b _ (keeps a _ (keeps k names h))
+  keeps (Conditional' p k q a r b) names h = keeps b _ (keeps a _ (keeps k names h))
 
 module _ (pieces : List Piece) (entries : List NameChoice) where
-  still_among : (tree : Tree) (names : List (List ℕ)) (name : List ℕ) → is_among name names ≡ true → is_among name (repeated_names pieces entries names tree) ≡ true
-  still_among tree names name e = keeps pieces entries (λ ns. is_among name ns ≡ true) (λ ns other several h. is_among-append ns name other h) tree names e
+  still_among : (tree : Tree) (names : List (List ℕ)) (name : List ℕ) → is_among names name ≡ true → is_among (repeated_names pieces entries names tree) name ≡ true
+  still_among tree names name e = keeps pieces entries (λ ns. is_among ns name ≡ true) (λ ns other several h. is_among-append ns name other h) tree names e
 
   module _ (name : List ℕ) (several : 1 < length (values_of name pieces)) (free : is_chosen entries name ≡ false) where
-    is_among-repeated : (names : List (List ℕ)) → is_among name (with_repeated pieces entries names name) ≡ true
-    is_among-repeated names = elim (cases_Bool (is_among name names)) [
+    is_among-repeated : (names : List (List ℕ)) → is_among (with_repeated pieces entries names name) name ≡ true
+    is_among-repeated names = elim (cases_Bool (is_among names name)) [
       | inl there ↦ rw (lt-ltb 1 (length (values_of name pieces)) several, free, there) there
       | inr missing ↦ rw (lt-ltb 1 (length (values_of name pieces)) several, free, missing) (is_among-push names name)
     ]
 
-    is_among-place : (one : List ℕ) (names : List (List ℕ)) → 0 < (if bytes_eq one name then 1 else 0) → is_among name (with_repeated pieces entries names one) ≡ true
-    is_among-place one names h = elim (cases_Bool (bytes_eq one name)) [
-      | inl same ↦ subst (λ n. is_among name (with_repeated pieces entries names n) ≡ true) (sym (same_bytes one name same)) (is_among-repeated names)
+    is_among-place : (one : List ℕ) (names : List (List ℕ)) → 0 < (if bytes_eq name one then 1 else 0) → is_among (with_repeated pieces entries names one) name ≡ true
+    is_among-place one names h = elim (cases_Bool (bytes_eq name one)) [
+      | inl same ↦ subst (λ n. is_among (with_repeated pieces entries names n) name ≡ true) (same_bytes name one same) (is_among-repeated names)
       | inr differs ↦ absurd (omega (arith, (rw differs at h)))
     ]
 
     -- it is among the names of each expression in which it stands
-    pub is_among-names : (tree : Tree) (names : List (List ℕ)) → 0 < places_of name tree → is_among name (repeated_names pieces entries names tree) ≡ true
+    pub is_among-names : (tree : Tree) (names : List (List ℕ)) → 0 < places_of name tree → is_among (repeated_names pieces entries names tree) name ≡ true
     is_among-names (Integer n) names h = absurd (omega (arith, h))
     is_among-names (Literal bytes) names h = absurd (omega (arith, h))
     is_among-names (Name one) names h = is_among-place one names h
@@ -213,7 +214,7 @@ module _ (pieces : List Piece) (entries : List NameChoice) where
       | inr none ↦ is_among-names b (repeated_names pieces entries names a) (omega arith)
     ]
     is_among-names (Found' p a i) names h = is_among-names a names h
-    is_among-names (Choice' p k q a r b) names h =
+    is_among-names (Conditional' p k q a r b) names h =
         let after_k = repeated_names pieces entries names k in
         let after_a = repeated_names pieces entries after_k a in
         elim (cases_lt 0 (places_of name k)) [
@@ -230,16 +231,16 @@ module _ (pieces : List Piece) (entries : List NameChoice) where
 
 -- ---- those that stand in several places
 
-pub is_among-shared : (tree : Tree) (name : List ℕ) → 1 < places_of name tree → (names : List (List ℕ)) → is_among name names ≡ true → is_among name (shared_names tree names) ≡ true
+pub is_among-shared : (tree : Tree) (name : List ℕ) → 1 < places_of name tree → (names : List (List ℕ)) → is_among names name ≡ true → is_among (shared_names tree names) name ≡ true
 is_among-shared tree name several [] h = absurd (false≢true h)
-is_among-shared tree name several (one ∷ names) h = elim (cases_Bool (bytes_eq one name)) [
+is_among-shared tree name several (one ∷ names) h = elim (cases_Bool (bytes_eq name one)) [
   | inl same ↦ (
-      let here : nat_lt 1 (places_of one tree) ≡ true = ap (λ n. nat_lt 1 (places_of n tree)) (same_bytes one name same) ∙ lt-ltb 1 (places_of name tree) several in
-      rw here (or_left (bytes_eq one name) (is_among name (shared_names tree names)) same))
+      let here : nat_lt 1 (places_of one tree) ≡ true = ap (λ n. nat_lt 1 (places_of n tree)) (sym (same_bytes name one same)) ∙ lt-ltb 1 (places_of name tree) several in
+      rw here (or_left (bytes_eq name one) (is_among (shared_names tree names) name) same))
   | inr differs ↦ (
       let later = is_among-shared tree name several names (rw differs at h) in
       elim (cases_Bool (nat_lt 1 (places_of one tree))) [
-        | inl kept ↦ rw kept (or_right (bytes_eq one name) (is_among name (shared_names tree names)) later)
+        | inl kept ↦ rw kept (or_right (bytes_eq name one) (is_among (shared_names tree names) name) later)
         | inr dropped ↦ rw dropped later
       ])
 ]

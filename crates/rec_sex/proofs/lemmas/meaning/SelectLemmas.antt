@@ -7,7 +7,7 @@ use Rattle.std.proofs.lemmas.List.{map_push, take_more}
 use Rattle.regex.specs.Patterns.{Re}
 use Rattle.rec_sex.specs.Expressions.{pattern_at, term_under}
 use Rattle.rec_text.specs.Elements.{Piece}
-use Rattle.rec_sex.specs.declared.syntax.tree.Tree.{Tree, Integer, Literal, Name, Occurrence, Count, Not', Negate', Binary', Found', Choice'}
+use Rattle.rec_sex.specs.declared.syntax.tree.Tree.{Tree, Integer, Literal, Name, Occurrence, Count, Not', Negate', Binary', Found', Conditional'}
 use Rattle.rec_sex.specs.Meaning.{Meaning, Assignment, sem, is_true, is_zero, is_found, as_text, truth, in_range, reading_of, apply_operator, Selects}
 use Rattle.rec_sex.specs.proving.Choices.{chosen_in, has_repeated, repeated_names, shared_names, any_choice, holds_for_some, FindAlike}
 use Rattle.rec_sex.specs.proving.Outcomes.{can_hold}
@@ -39,7 +39,7 @@ module _ (patterns alike : List Re) (finds : FindAlike alike patterns) (pieces :
       ap (λ m. option_and_then (λ x. option_and_then (λ y. apply_operator op x y) m) (with_alike a)) (meaning_alike b)
       ∙ ap (λ m. option_and_then (λ x. option_and_then (λ y. apply_operator op x y) (with_patterns b)) m) (meaning_alike a)
   meaning_alike (Found' p a i) = found_alike i (with_alike a) ∙ ap (λ m. option_map (λ x. truth (is_found (pattern_at patterns i) (as_text x))) m) (meaning_alike a)
-  meaning_alike (Choice' p k q a r b) =
+  meaning_alike (Conditional' p k q a r b) =
       ap (λ m. option_and_then (λ x. option_and_then (λ z. if is_zero z then m else with_alike a) (reading_of x)) (with_alike k)) (meaning_alike b)
       ∙ ap (λ m. option_and_then (λ x. option_and_then (λ z. if is_zero z then with_patterns b else m) (reading_of x)) (with_alike k)) (meaning_alike a)
       ∙ ap (λ m. option_and_then (λ x. option_and_then (λ z. if is_zero z then with_patterns b else with_patterns a) (reading_of x)) m) (meaning_alike k)
@@ -58,7 +58,7 @@ none_repeated pieces (Binary' op p a q b) names none =
     let parts = or_parts (has_repeated pieces a) (has_repeated pieces b) none in
     ap (λ ns. repeated_names pieces [] ns b) (none_repeated pieces a names parts.0) ∙ none_repeated pieces b names parts.1
 none_repeated pieces (Found' p a i) names none = none_repeated pieces a names none
-none_repeated pieces (Choice' p c q a r b) names none =
+none_repeated pieces (Conditional' p c q a r b) names none =
     let parts = or_parts (has_repeated pieces c || has_repeated pieces a) (has_repeated pieces b) none in
     let inner = or_parts (has_repeated pieces c) (has_repeated pieces a) parts.0 in
     ap (λ ns. repeated_names pieces [] (repeated_names pieces [] ns a) b) (none_repeated pieces c names inner.0)

@@ -11,13 +11,13 @@ use Rattle.regex.specs.declared.string.regex.Regex.{Regex}
 use Rattle.regex.specs.Patterns.{empty as no_pattern}
 use Rattle.regex.specs.Strings.{regex_pattern}
 use Rattle.rec_sex.specs.Patterns.{IsBuiltFrom}
-use Rattle.rec_sex.specs.proving.Parsing.{AreBuiltFrom, AreAmong, Passes, IsTree, Extends, IsBoundAbove, IsFoundTree, MayStand, AreNumbered, takes_from, level_at, left_level, right_level, begins_choice}
+use Rattle.rec_sex.specs.proving.Parsing.{AreBuiltFrom, AreAmong, Passes, IsTree, Extends, IsBoundAbove, IsFoundTree, MayStand, AreNumbered, takes_from, level_at, left_level, right_level, begins_conditional}
 use Rattle.rec_sex.specs.declared.syntax.token.Token.{Token}
 use Rattle.rec_sex.specs.declared.syntax.token.Token.TheVariants.{Integer, Literal, Name, Occurrence, Count, Not, Binary, Found, Open, Close, Then, Else}
 use Rattle.rec_sex.specs.declared.syntax.tree.Tree.{Tree, Integer as IntegerTree, Literal as LiteralTree, Name as NameTree, Occurrence as OccurrenceTree, Count as CountTree}
 use Rattle.rec_sex.specs.declared.syntax.token.Operator.{Operator}
 use Rattle.rec_sex.specs.declared.syntax.token.Operator.TheVariants.{Subtract, Implies}
-use Rattle.rec_sex.specs.Grammar.{Term, Derives, IsPatternOf, AreTaken, walk_start, by_next, by_choice, by_implication, by_operator, by_pattern, by_not, by_minus, by_integer, by_literal, by_name, by_occurrence, by_count, by_parentheses, level_of, number, literal, field, occurrence, count, inverse, negated, binary, choice, Parenthesis, Question, Operand, Infix}
+use Rattle.rec_sex.specs.Grammar.{Term, Derives, IsPatternOf, AreTaken, walk_start, by_next, by_conditional, by_implication, by_operator, by_pattern, by_not, by_minus, by_integer, by_literal, by_name, by_occurrence, by_count, by_parentheses, level_of, number, literal, field, occurrence, count, inverse, negated, binary, conditional, Parenthesis, Question, Operand, Infix}
 use Rattle.rec_sex.specs.Expressions.{pattern_at, term_with}
 use Rattle.rec_sex.proofs.lemmas.syntax.WalkLemmas.{takes_walked, levels, after_operator, after_pattern, operator_is_minus, ends_in_parenthesis, ends_in_else, ends_in_nothing}
 
@@ -199,7 +199,7 @@ module _ (tokens inner rest : List Token) (texts more : List (List ℕ)) (operan
       }
 
 -- the parenthesis that is popped after an expression closes it
-pub IsTree-parentheses : (tokens inner after_inner rest : List Token) (texts more : List (List ℕ)) (tree : Tree) → MayStand Operand tokens → tokens ≡ Open ∷ inner → IsTree 0 inner after_inner texts more tree → level_at after_inner ≡ 0 → begins_choice after_inner ≡ false → rest ≡ drop 1 after_inner → IsTree 8 tokens rest texts more tree
+pub IsTree-parentheses : (tokens inner after_inner rest : List Token) (texts more : List (List ℕ)) (tree : Tree) → MayStand Operand tokens → tokens ≡ Open ∷ inner → IsTree 0 inner after_inner texts more tree → level_at after_inner ≡ 0 → begins_conditional after_inner ≡ false → rest ≡ drop 1 after_inner → IsTree 8 tokens rest texts more tree
 IsTree-parentheses tokens inner after_inner rest texts more tree may e t level none popped =
     let close = ends_in_parenthesis may.stack after_inner (t.goes_on (Parenthesis ∷ may.stack) (rw e at may.taken)) level none in
     let f : after_inner ≡ Close ∷ rest = close.1 ∙ ap (λ x. Close ∷ x) (sym (popped ∙ ap (λ x. drop 1 x) close.1)) in
@@ -246,16 +246,16 @@ module _ (tokens middle rest : List Token) (texts more : List (List ℕ)) (left 
 
 -- ---- choices
 
-then_comes : (tokens rest : List Token) → begins_choice tokens ≡ true → rest ≡ drop 1 tokens → tokens ≡ Then ∷ rest
+then_comes : (tokens rest : List Token) → begins_conditional tokens ≡ true → rest ≡ drop 1 tokens → tokens ≡ Then ∷ rest
 then_comes [] rest b e = absurd (cc)
 then_comes (Then ∷ tokens) rest b e = ap (λ x. Then ∷ x) (sym e)
 then_comes (_ ∷ tokens) rest b e = absurd (cc)
 
 module _ (tokens after_condition yes_part after_yes no_part rest : List Token) (texts some more most : List (List ℕ)) (condition first second tree : Tree) where
-  pub IsTree-choice : MayStand Operand tokens → IsTree 1 tokens after_condition texts some condition → begins_choice after_condition ≡ true → yes_part ≡ drop 1 after_condition
-      → IsTree 0 yes_part after_yes some more first → level_at after_yes ≡ 0 → begins_choice after_yes ≡ false → no_part ≡ drop 1 after_yes → IsTree 0 no_part rest more most second
-      → ((patterns : List Regex) → term_with patterns tree ≡ choice (term_with patterns condition) (term_with patterns first) (term_with patterns second)) → IsTree 0 tokens rest texts most tree
-  IsTree-choice may t begins popped u level none popped_else v same =
+  pub IsTree-conditional : MayStand Operand tokens → IsTree 1 tokens after_condition texts some condition → begins_conditional after_condition ≡ true → yes_part ≡ drop 1 after_condition
+      → IsTree 0 yes_part after_yes some more first → level_at after_yes ≡ 0 → begins_conditional after_yes ≡ false → no_part ≡ drop 1 after_yes → IsTree 0 no_part rest more most second
+      → ((patterns : List Regex) → term_with patterns tree ≡ conditional (term_with patterns condition) (term_with patterns first) (term_with patterns second)) → IsTree 0 tokens rest texts most tree
+  IsTree-conditional may t begins popped u level none popped_else v same =
       let e : after_condition ≡ Then ∷ yes_part = then_comes after_condition yes_part begins popped in
       let else_part = ends_in_else may.stack after_yes (u.goes_on (Question ∷ may.stack) (rw e at (t.goes_on may.stack may.taken))) level none in
       let f : after_yes ≡ Else ∷ no_part = else_part.1 ∙ ap (λ x. Else ∷ x) (sym (popped_else ∙ ap (λ x. drop 1 x) else_part.1)) in
@@ -264,7 +264,7 @@ module _ (tokens after_condition yes_part after_yes no_part rest : List Token) (
             (Passes-join after_condition yes_part rest some some most (Passes-token Then after_condition yes_part some e)
             (Passes-join yes_part after_yes rest some more most u.passes
             (Passes-join after_yes no_part rest more more most (Passes-token Else after_yes no_part more f) v.passes)));
-        derived = λ patterns numbered. rw same (by_choice (t.passes.used ++ Then ∷ (u.passes.used ++ Else ∷ v.passes.used)) t.passes.used u.passes.used v.passes.used
+        derived = λ patterns numbered. rw same (by_conditional (t.passes.used ++ Then ∷ (u.passes.used ++ Else ∷ v.passes.used)) t.passes.used u.passes.used v.passes.used
             (term_with patterns condition) (term_with patterns first) (term_with patterns second) refl
             (t.derived patterns (u.passes.numbered patterns (v.passes.numbered patterns numbered)))
             (u.derived patterns (v.passes.numbered patterns numbered))
@@ -280,7 +280,7 @@ takes_all tokens taken = takes_walked walk_start taken.last tokens taken.walks t
 pub MayStand-all : (tokens all : List Token) → AreTaken tokens → all ≡ tokens → MayStand Operand all
 MayStand-all tokens all taken e = record { stack = []; taken = ap (λ x. takes_from Operand [] x) e ∙ takes_all tokens taken }
 
-module _ (tokens all rest : List Token) (texts more : List (List ℕ)) (tree : Tree) (taken : AreTaken tokens) (same : all ≡ tokens) (empty : texts ≡ []) (t : IsTree 0 all rest texts more tree) (level : level_at rest ≡ 0) (none : begins_choice rest ≡ false) where
+module _ (tokens all rest : List Token) (texts more : List (List ℕ)) (tree : Tree) (taken : AreTaken tokens) (same : all ≡ tokens) (empty : texts ≡ []) (t : IsTree 0 all rest texts more tree) (level : level_at rest ≡ 0) (none : begins_conditional rest ≡ false) where
   all_used : t.passes.used ≡ tokens
   all_used =
       let end : rest ≡ [] = ends_in_nothing rest (t.goes_on [] (ap (λ x. takes_from Operand [] x) same ∙ takes_all tokens taken)) level none in

@@ -8,7 +8,7 @@ use Rattle.rec_sex.specs.declared.syntax.token.Operator.{Operator}
 use Rattle.rec_sex.specs.declared.syntax.token.Operator.TheVariants.{Subtract, Implies}
 use Rattle.rec_sex.specs.declared.syntax.token.Token.{Token}
 use Rattle.rec_sex.specs.declared.syntax.token.Token.TheVariants.{Integer, Literal, Name, Occurrence, Count, Not, Binary, Found, Open, Close, Then, Else}
-use Rattle.rec_sex.specs.Grammar.{Term, Derives, by_choice, by_implication, by_operator, by_pattern, by_not, by_minus, by_next, by_integer, by_literal, by_name, by_occurrence, by_count, by_parentheses, Walk, Want, Opened, Parenthesis, Question, Operand, Infix, Comparison, Pattern, following, after_operand, after_found, after_operand_wanted, may_end, level_of}
+use Rattle.rec_sex.specs.Grammar.{Term, Derives, by_conditional, by_implication, by_operator, by_pattern, by_not, by_minus, by_next, by_integer, by_literal, by_name, by_occurrence, by_count, by_parentheses, Walk, Want, Opened, Parenthesis, Question, Operand, Infix, Comparison, Pattern, following, after_operand, after_found, after_operand_wanted, may_end, level_of}
 use Rattle.rec_sex.specs.proving.Parsing.{takes, takes_from, left_level, right_level}
 use Rattle.rec_sex.proofs.lemmas.syntax.WalkLemmas.{after_operator, after_pattern, operator_levels}
 use Rattle.rec_sex.proofs.lemmas.syntax.GrammarLemmas.{regroup, takes_derived, utf8_of_pattern}
@@ -110,7 +110,7 @@ took tokens these stack e h = ap (λ x. takes_from Operand stack x) (sym e) ∙ 
 
 -- the walk stands as before, and wants an operator
 pub goes_on : (level : ℕ) (tokens : List Token) (a : Term) → Derives level tokens a → (stack : List Opened) (rest : List Token) → takes_from Operand stack (tokens ++ rest) ≡ true → takes_from Infix stack rest ≡ true
-goes_on level tokens a (by_choice _ condition yes_part no_part c x y e dc dx dy) stack rest h =
+goes_on level tokens a (by_conditional _ condition yes_part no_part c x y e dc dx dy) stack rest h =
     goes_on 0 no_part y dy stack rest
     (goes_on 0 yes_part x dx (Question ∷ stack) (Else ∷ (no_part ++ rest))
     (goes_on 1 condition c dc stack (Then ∷ (yes_part ++ Else ∷ (no_part ++ rest)))
@@ -217,7 +217,7 @@ nothing_inside level inner a d = λ prefix rest token e taken. inside prefix res
     inside prefix rest token (after between e f) taken = absurd (ends prefix (token ∷ between) e taken)
 
 pub Bind-derived : (level : ℕ) (tokens : List Token) (a : Term) → Derives level tokens a → Bind level tokens
-Bind-derived level tokens a (by_choice _ condition yes_part no_part c x y e dc dx dy) = λ prefix rest token f taken. omega arith
+Bind-derived level tokens a (by_conditional _ condition yes_part no_part c x y e dc dx dy) = λ prefix rest token f taken. omega arith
 Bind-derived level tokens a (by_implication _ left right x y e dx dy) = λ prefix rest token f taken.
     Bind-divided 1 left right prefix rest (Binary Implies) token (lit≤ tt) (λ start more one g h. omega (arith, Bind-derived 2 left x dx start more one g h))
     (λ start more one g h. Bind-derived 1 right y dy start more one g (taken_after_operator 2 left start Implies x dx h))
@@ -287,8 +287,8 @@ Divides-operator op left right a b d f =
 pub Divides-pattern : (left : List Token) (a : Term) (text : List ℕ) → Derives 4 left a → Divides left (Literal text ∷ []) Found
 Divides-pattern left a text d = record { taken = Taken-derived 4 left a d; on_left = Bind-derived 4 left a d; on_right = nothing_after_pattern left a text 5 d }
 
-pub Divides-choice : (condition rest : List Token) (a : Term) → Derives 1 condition a → Divides condition rest Then
-Divides-choice condition rest a d = record { taken = Taken-derived 1 condition a d; on_left = Bind-derived 1 condition a d; on_right = λ prefix after_it token e taken. omega arith }
+pub Divides-conditional : (condition rest : List Token) (a : Term) → Derives 1 condition a → Divides condition rest Then
+Divides-conditional condition rest a d = record { taken = Taken-derived 1 condition a d; on_left = Bind-derived 1 condition a d; on_right = λ prefix after_it token e taken. omega arith }
 
 -- ---- the end of an expression inside another
 

@@ -7,8 +7,8 @@ use Rattle.rec_sex.specs.declared.syntax.token.Operator.{Operator}
 use Rattle.rec_sex.specs.declared.syntax.token.Operator.TheVariants.{Subtract}
 use Rattle.rec_sex.specs.declared.syntax.token.Token.{Token}
 use Rattle.rec_sex.specs.declared.syntax.token.Token.TheVariants.{Integer, Literal, Name, Occurrence, Count, Not, Binary, Found, Open, Close, Then, Else}
-use Rattle.rec_sex.specs.Grammar.{Term, Derives, by_choice, by_pattern, by_not, by_minus, by_next, by_integer, by_literal, by_name, by_occurrence, by_count, by_parentheses, HaveGoodPatterns, AreTaken, walk_start, level_of, number, literal, field, occurrence, count, inverse, negated, binary, found, choice, Operand, Infix, Opened, Parenthesis, Question}
-use Rattle.rec_sex.specs.proving.Parsing.{MayStand, takes_from, level_at, left_level, right_level, begins_choice}
+use Rattle.rec_sex.specs.Grammar.{Term, Derives, by_conditional, by_pattern, by_not, by_minus, by_next, by_integer, by_literal, by_name, by_occurrence, by_count, by_parentheses, HaveGoodPatterns, AreTaken, walk_start, level_of, number, literal, field, occurrence, count, inverse, negated, binary, found, conditional, Operand, Infix, Opened, Parenthesis, Question}
+use Rattle.rec_sex.specs.proving.Parsing.{MayStand, takes_from, level_at, left_level, right_level, begins_conditional}
 use Rattle.rec_sex.proofs.lemmas.syntax.WalkLemmas.{takes_walked, operator_is_minus, after_operator, after_pattern, operator_levels, levels, ends_in_parenthesis, ends_in_else, ends_in_nothing}
 use Rattle.rec_sex.proofs.lemmas.syntax.ParsingLemmas.{Derives-weaker, left_level-within, operator_derives}
 use Rattle.rec_sex.proofs.lemmas.syntax.GrammarLemmas.{utf8_of_pattern}
@@ -31,7 +31,7 @@ record HasExpression (tokens : List Token) : Type 0 where
   rest : List Token
   has : HasTerm 0 tokens rest
   stops : level_at rest ≡ 0
-  no_choice : begins_choice rest ≡ false
+  no_conditional : begins_conditional rest ≡ false
 
 -- n tokens always have an expression at their start
 record Parses (n : ℕ) : Type 0 where
@@ -101,7 +101,7 @@ operand n parses (Binary op ∷ inner) few may good =
     (a.rest, subst (λ x. HasTerm 8 (Binary x ∷ inner) a.rest) (sym minus.0) (has_minus inner a.rest a.has))
 operand n parses (Open ∷ inner) few may good =
     let a = parses.expression inner (omega arith) (record { stack = Parenthesis ∷ may.stack; taken = may.taken }) (good_after (Open ∷ inner) (Open ∷ []) inner refl good) in
-    let close = ends_in_parenthesis may.stack a.rest (a.has.goes_on (Parenthesis ∷ may.stack) may.taken) a.stops a.no_choice in
+    let close = ends_in_parenthesis may.stack a.rest (a.has.goes_on (Parenthesis ∷ may.stack) may.taken) a.stops a.no_conditional in
     (close.0, has_parentheses inner a.rest close.0 close.1 a.has)
 operand n parses (_ ∷ rest) few may good = absurd (false≢true may.taken)
 
@@ -214,23 +214,23 @@ module _ (n : ℕ) (parses : Parses n) (level : ℕ) (one : 1 ≤ level) (tokens
 length_after : (tokens : List Token) (token : Token) (rest : List Token) → tokens ≡ token ∷ rest → length tokens ≡ length rest + 1
 length_after tokens token rest e = omega (arith, ap length e)
 
-then_at : (tokens : List Token) → begins_choice tokens ≡ true → (rest : List Token) × (tokens ≡ Then ∷ rest)
+then_at : (tokens : List Token) → begins_conditional tokens ≡ true → (rest : List Token) × (tokens ≡ Then ∷ rest)
 then_at [] b = absurd (false≢true b)
 then_at (Then ∷ rest) b = (rest, refl)
 then_at (_ ∷ rest) b = absurd (false≢true b)
 
-has_choice : (tokens after_condition yes_part after_yes no_part rest : List Token) → after_condition ≡ Then ∷ yes_part → after_yes ≡ Else ∷ no_part → HasTerm 1 tokens after_condition → HasTerm 0 yes_part after_yes → HasTerm 0 no_part rest → HasTerm 0 tokens rest
-has_choice tokens after_condition yes_part after_yes no_part rest e f t u v = record {
+has_conditional : (tokens after_condition yes_part after_yes no_part rest : List Token) → after_condition ≡ Then ∷ yes_part → after_yes ≡ Else ∷ no_part → HasTerm 1 tokens after_condition → HasTerm 0 yes_part after_yes → HasTerm 0 no_part rest → HasTerm 0 tokens rest
+has_conditional tokens after_condition yes_part after_yes no_part rest e f t u v = record {
   used = t.used ++ Then ∷ (u.used ++ Else ∷ v.used);
-  term = choice t.term u.term v.term;
+  term = conditional t.term u.term v.term;
   parts = t.parts ∙ ap (λ x. t.used ++ x) (e ∙ ap (λ x. Then ∷ x) (u.parts ∙ ap (λ x. u.used ++ x) (f ∙ ap (λ x. Else ∷ x) v.parts) ∙ sym (append_assoc u.used (Else ∷ v.used) rest)))
       ∙ sym (append_assoc t.used (Then ∷ (u.used ++ Else ∷ v.used)) rest);
-  derives = by_choice (t.used ++ Then ∷ (u.used ++ Else ∷ v.used)) t.used u.used v.used t.term u.term v.term refl t.derives u.derives v.derives;
+  derives = by_conditional (t.used ++ Then ∷ (u.used ++ Else ∷ v.used)) t.used u.used v.used t.term u.term v.term refl t.derives u.derives v.derives;
   goes_on = λ stack taken. let all = u.goes_on (Question ∷ stack) (rw e at (t.goes_on stack taken)) in v.goes_on stack (rw f at all);
 }
 
 module _ (n : ℕ) (parses : Parses n) (tokens : List Token) (few : length tokens ≤ n + 1) (may : MayStand Operand tokens) (good : HaveGoodPatterns tokens) where
-  expression_on : (a : HasOperation 1 tokens) (chooses : Bool) → begins_choice a.rest ≡ chooses → HasExpression tokens
+  expression_on : (a : HasOperation 1 tokens) (chooses : Bool) → begins_conditional a.rest ≡ chooses → HasExpression tokens
   expression_on a true e =
       let question = then_at a.rest e in
       let yes_few : length a.rest ≤ length tokens = fewer_after tokens a.has.used a.rest a.has.parts in
@@ -238,15 +238,15 @@ module _ (n : ℕ) (parses : Parses n) (tokens : List Token) (few : length token
       let yes_taken : takes_from Operand (Question ∷ may.stack) question.0 ≡ true = rw question.1 at (a.has.goes_on may.stack may.taken) in
       let yes_good = good_after a.rest (Then ∷ []) question.0 question.1 (good_after tokens a.has.used a.rest a.has.parts good) in
       let b = parses.expression question.0 (omega arith) (record { stack = Question ∷ may.stack; taken = yes_taken }) yes_good in
-      let colon = ends_in_else may.stack b.rest (b.has.goes_on (Question ∷ may.stack) yes_taken) b.stops b.no_choice in
+      let colon = ends_in_else may.stack b.rest (b.has.goes_on (Question ∷ may.stack) yes_taken) b.stops b.no_conditional in
       let no_few : length b.rest ≤ length question.0 = fewer_after question.0 b.has.used b.rest b.has.parts in
       let colon_len : length b.rest ≡ length colon.0 + 1 = length_after b.rest Else colon.0 colon.1 in
       let d = parses.expression colon.0 (omega arith) (record { stack = may.stack; taken = colon.2 }) (good_after b.rest (Else ∷ []) colon.0 colon.1 (good_after question.0 b.has.used b.rest b.has.parts yes_good)) in
-      record { rest = d.rest; has = has_choice tokens a.rest question.0 b.rest colon.0 d.rest question.1 colon.1 a.has b.has d.has; stops = d.stops; no_choice = d.no_choice }
-  expression_on a false e = record { rest = a.rest; has = HasTerm-weaker 0 1 tokens a.rest (lit≤ tt) (lit≤ tt) a.has; stops = omega (arith, a.stops); no_choice = e }
+      record { rest = d.rest; has = has_conditional tokens a.rest question.0 b.rest colon.0 d.rest question.1 colon.1 a.has b.has d.has; stops = d.stops; no_conditional = d.no_conditional }
+  expression_on a false e = record { rest = a.rest; has = HasTerm-weaker 0 1 tokens a.rest (lit≤ tt) (lit≤ tt) a.has; stops = omega (arith, a.stops); no_conditional = e }
 
   expression_of : HasExpression tokens
-  expression_of = let a = operation_of n parses 1 (lit≤ tt) tokens few may good (lit≤ tt) in expression_on a (begins_choice a.rest) refl
+  expression_of = let a = operation_of n parses 1 (lit≤ tt) tokens few may good (lit≤ tt) in expression_on a (begins_conditional a.rest) refl
 
 -- ---- all tokens
 
@@ -267,7 +267,7 @@ parses (suc n) = record {
 pub derived_all : (tokens : List Token) → takes_from Operand [] tokens ≡ true → HaveGoodPatterns tokens → (term : Term) × Derives 0 tokens term
 derived_all tokens starts good =
     let a = (parses (length tokens)).expression tokens (omega arith) (record { stack = []; taken = starts }) good in
-    let end : a.rest ≡ [] = ends_in_nothing a.rest (a.has.goes_on [] starts) a.stops a.no_choice in
+    let end : a.rest ≡ [] = ends_in_nothing a.rest (a.has.goes_on [] starts) a.stops a.no_conditional in
     let all : a.has.used ≡ tokens = sym (a.has.parts ∙ ap (λ x. a.has.used ++ x) end ∙ append-nil a.has.used) in
     (a.has.term, subst (λ x. Derives 0 x a.has.term) all a.has.derives)
 

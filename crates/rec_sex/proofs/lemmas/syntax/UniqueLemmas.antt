@@ -11,7 +11,7 @@ use Rattle.regex.specs.declared.string.regex.Regex.{Regex}
 use Rattle.regex.proofs.ForCallers.{is_match_alike}
 use Rattle.rec_sex.specs.declared.syntax.token.Token.{Token}
 use Rattle.rec_sex.specs.Expressions.{IsExpression, AreSame, OneExpression}
-use Rattle.rec_sex.specs.Grammar.{Term, Walk, AreTokens, AreTaken, walk_start, walked, following, may_end, fault_from, fault_of, Derives, by_choice, by_implication, by_operator, by_pattern, by_not, by_minus, by_next, by_integer, by_literal, by_name, by_occurrence, by_count, by_parentheses, level_of, number, literal, field, occurrence, count, inverse, negated, binary, found, choice, IsPatternOf}
+use Rattle.rec_sex.specs.Grammar.{Term, Walk, AreTokens, AreTaken, walk_start, walked, following, may_end, fault_from, fault_of, Derives, by_conditional, by_implication, by_operator, by_pattern, by_not, by_minus, by_next, by_integer, by_literal, by_name, by_occurrence, by_count, by_parentheses, level_of, number, literal, field, occurrence, count, inverse, negated, binary, found, conditional, IsPatternOf}
 use Rattle.rec_sex.specs.Tokens.{Placed, lexemes, Lexeme, Whole}
 use Rattle.rec_text.specs.Elements.{Piece}
 use Rattle.rec_sex.specs.declared.syntax.token.Operator.{Operator}
@@ -20,7 +20,7 @@ use Rattle.rec_sex.specs.declared.syntax.token.Token.TheVariants.{Integer, Liter
 use Rattle.rec_sex.specs.Meaning.{Assignment, Meaning, sem, is_true, is_zero, is_found, truth, reading_of, as_text, in_range}
 use Rattle.rec_sex.specs.proving.Parsing.{left_level, right_level}
 use Rattle.rec_sex.proofs.lemmas.syntax.GrammarLemmas.{taken_derived}
-use Rattle.rec_sex.proofs.lemmas.syntax.SplitLemmas.{Bind-derived, weight-low, Divides, Divides-operator, Divides-pattern, Divides-choice, one_division, one_end, one_branch, weight}
+use Rattle.rec_sex.proofs.lemmas.syntax.SplitLemmas.{Bind-derived, weight-low, Divides, Divides-operator, Divides-pattern, Divides-conditional, one_division, one_end, one_branch, weight}
 use lib.Utf8.{encode, encodes, scalar, scalars, scalar_cases, next}
 use mathlib.Core.Path.{fun_ext}
 
@@ -100,7 +100,7 @@ same_pattern text some other p q =
 abbrev Sides : List Token → Token → List Token → Term → Type 0
 Sides left (Binary op) right a = (x y : Term) × (a ≡ binary op x y) × Derives (left_level (level_of op)) left x × Derives (right_level (level_of op)) right y
 Sides left Found right a = (x : Term) × (text : List ℕ) × (pattern : Re) × (a ≡ found x pattern) × (right ≡ Literal text ∷ []) × Derives 4 left x × IsPatternOf text pattern
-Sides left Then right a = (c x y : Term) × (yes_part no_part : List Token) × (a ≡ choice c x y) × (right ≡ yes_part ++ Else ∷ no_part) × Derives 1 left c × Derives 0 yes_part x × Derives 0 no_part y
+Sides left Then right a = (c x y : Term) × (yes_part no_part : List Token) × (a ≡ conditional c x y) × (right ≡ yes_part ++ Else ∷ no_part) × Derives 1 left c × Derives 0 yes_part x × Derives 0 no_part y
 Sides left _ right a = ⊥
 
 -- what an expression that no operator divides begins with
@@ -130,8 +130,8 @@ divided_from_left Implies tokens left right a b k e d f = absurd (omega (arith, 
 divided_from_left op tokens left right a b k e d f = divided_by op tokens left right a b e d f
 
 view : (level : ℕ) (tokens : List Token) (a : Term) → Derives level tokens a → View tokens a
-view level tokens a (by_choice _ condition yes_part no_part c x y e dc dx dy) =
-    divided condition (yes_part ++ Else ∷ no_part) Then e (Divides-choice condition (yes_part ++ Else ∷ no_part) c dc) (c, x, y, yes_part, no_part, refl, refl, dc, dx, dy)
+view level tokens a (by_conditional _ condition yes_part no_part c x y e dc dx dy) =
+    divided condition (yes_part ++ Else ∷ no_part) Then e (Divides-conditional condition (yes_part ++ Else ∷ no_part) c dc) (c, x, y, yes_part, no_part, refl, refl, dc, dx, dy)
 view level tokens a (by_implication _ left right x y e dx dy) = divided_by Implies tokens left right x y e dx dy
 view level tokens a (by_operator op _ left right x y k e dx dy) = divided_from_left op tokens left right x y k e dx dy
 view level tokens a (by_pattern _ left x text pattern e dx p) = divided left (Literal text ∷ []) Found e (Divides-pattern left x text dx) (x, text, pattern, refl, refl, dx, p)
@@ -273,7 +273,7 @@ module _ (pieces : List Piece) (c : Assignment) where
   same_sem (found a pattern) (found b other) same =
       ap (option_map (λ x. truth (is_found pattern (as_text x)))) (same_sem a b same.0)
       ∙ ap (λ (f : Meaning → Bool). option_map (λ x. truth (f x)) (sem b pieces c)) (fun_ext (λ x. same_is_found pattern other (as_text x) same.1))
-  same_sem (choice d a b) (choice e f g) same = rw (same_sem d e same.0, same_sem a f same.1, same_sem b g same.2) refl
+  same_sem (conditional d a b) (conditional e f g) same = rw (same_sem d e same.0, same_sem a f same.1, same_sem b g same.2) refl
   same_sem a b same = ap (λ x. sem x pieces c) same
 
 pub one_expression : OneExpression

@@ -7,7 +7,7 @@ use Rattle.rec_sex.specs.declared.syntax.token.Operator.TheVariants.{Join, Add, 
 use Rattle.rec_sex.specs.declared.syntax.token.Token.{Token}
 use Rattle.rec_sex.specs.declared.syntax.token.Token.TheVariants.{Literal, Binary, Found, Close, Then, Else}
 use Rattle.rec_sex.specs.Grammar.{Walk, Operand, Infix, Comparison, Pattern, Opened, Parenthesis, Question, following, walked, walk_start, AreTaken, may_end, level_of}
-use Rattle.rec_sex.specs.proving.Parsing.{takes, takes_from, level_at, begins_choice}
+use Rattle.rec_sex.specs.proving.Parsing.{takes, takes_from, level_at, begins_conditional}
 
 same_end : (walk last : Walk) → Some walk ≡ Some last → may_end last ≡ true → may_end walk ≡ true
 same_end walk last e h = let same : walk ≡ last = cc in rw same h
@@ -89,11 +89,11 @@ after_pattern stack text rest h utf8 = after_comparison stack rest (pattern_is_t
 
 -- ---- the end of an expression
 
--- no operator and no choice begins here
+-- no operator and no conditional begins here
 operator_begins : (op : Operator) → level_of op ≡ 0 → ⊥
 operator_begins op e = omega (arith, (operator_levels op).0)
 
-pub ends_in_parenthesis : (stack : List Opened) (tokens : List Token) → takes_from Infix (Parenthesis ∷ stack) tokens ≡ true → level_at tokens ≡ 0 → begins_choice tokens ≡ false → (rest : List Token) × (tokens ≡ Close ∷ rest) × (takes_from Infix stack rest ≡ true)
+pub ends_in_parenthesis : (stack : List Opened) (tokens : List Token) → takes_from Infix (Parenthesis ∷ stack) tokens ≡ true → level_at tokens ≡ 0 → begins_conditional tokens ≡ false → (rest : List Token) × (tokens ≡ Close ∷ rest) × (takes_from Infix stack rest ≡ true)
 ends_in_parenthesis stack [] h e b = absurd (false≢true h)
 ends_in_parenthesis stack (Close ∷ rest) h e b = (rest, refl, h)
 ends_in_parenthesis stack (Binary op ∷ rest) h e b = absurd (operator_begins op e)
@@ -101,7 +101,7 @@ ends_in_parenthesis stack (Found ∷ rest) h e b = absurd (omega (arith, e))
 ends_in_parenthesis stack (Then ∷ rest) h e b = absurd (cc)
 ends_in_parenthesis stack (_ ∷ rest) h e b = absurd (false≢true h)
 
-pub ends_in_else : (stack : List Opened) (tokens : List Token) → takes_from Infix (Question ∷ stack) tokens ≡ true → level_at tokens ≡ 0 → begins_choice tokens ≡ false → (rest : List Token) × (tokens ≡ Else ∷ rest) × (takes_from Operand stack rest ≡ true)
+pub ends_in_else : (stack : List Opened) (tokens : List Token) → takes_from Infix (Question ∷ stack) tokens ≡ true → level_at tokens ≡ 0 → begins_conditional tokens ≡ false → (rest : List Token) × (tokens ≡ Else ∷ rest) × (takes_from Operand stack rest ≡ true)
 ends_in_else stack [] h e b = absurd (false≢true h)
 ends_in_else stack (Else ∷ rest) h e b = (rest, refl, h)
 ends_in_else stack (Binary op ∷ rest) h e b = absurd (operator_begins op e)
@@ -109,7 +109,7 @@ ends_in_else stack (Found ∷ rest) h e b = absurd (omega (arith, e))
 ends_in_else stack (Then ∷ rest) h e b = absurd (cc)
 ends_in_else stack (_ ∷ rest) h e b = absurd (false≢true h)
 
-pub ends_in_nothing : (tokens : List Token) → takes_from Infix [] tokens ≡ true → level_at tokens ≡ 0 → begins_choice tokens ≡ false → tokens ≡ []
+pub ends_in_nothing : (tokens : List Token) → takes_from Infix [] tokens ≡ true → level_at tokens ≡ 0 → begins_conditional tokens ≡ false → tokens ≡ []
 ends_in_nothing [] h e b = refl
 ends_in_nothing (Binary op ∷ rest) h e b = absurd (operator_begins op e)
 ends_in_nothing (Found ∷ rest) h e b = absurd (omega (arith, e))

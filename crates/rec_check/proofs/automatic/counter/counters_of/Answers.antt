@@ -1,7 +1,7 @@
 use Rattle.std.proofs.Common.{◌∙◌, ap, subst}
 use Rattle.rec_text.specs.Places.{pieces_of}
 use Rattle.rec_check.specs.Automatic.{readings}
-use Rattle.rec_check.specs.Checks.{texts}
+use Rattle.rec_text.specs.Bytes.{texts}
 use Rattle.rec_check.specs.Counters.{greatest_at, HoldsGreatest}
 use Rattle.rec_check.specs.Stored.{rules_stored}
 use Rattle.rec_check.specs.proving.Tests.{type_in}

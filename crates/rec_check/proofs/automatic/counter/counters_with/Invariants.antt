@@ -1,6 +1,6 @@
 use Rattle.std.proofs.Common.{◌≡◌, take}
 use Rattle.std.specs.List.{AllByRecursion}
-use Rattle.rec_check.specs.Checks.{texts}
+use Rattle.rec_text.specs.Bytes.{texts}
 use Rattle.rec_check.specs.Counters.{greatest_at, counter_names, IsKept}
 use Rattle.rec_check.specs.proving.Tests.{type_in}
 use Rattle.rec_check.proofs.automatic.counter.counters_with.Given as goal

@@ -2,7 +2,7 @@ use Rattle.std.proofs.Common.{ℕ, List, [], get_or, sym, subst, take}
 use Rattle.std.specs.Borrow.{Bor}
 use Rattle.std.proofs.lemmas.List.{map_more}
 use Rattle.std.proofs.lemmas.Map.Text.{hash_map_updates_str}
-use Rattle.rec_check.specs.Checks.{texts}
+use Rattle.rec_text.specs.Bytes.{texts}
 use Rattle.rec_check.specs.Counters.{greatest_at, CountsFrom}
 use Rattle.rec_check.proofs.lemmas.automatic.CountLemmas.{CountsFrom-more}
 use Rattle.rec_check.proofs.automatic.counter.uncounted.Goals as goal

@@ -1,5 +1,5 @@
 use Rattle.std.proofs.Common.{take}
-use Rattle.rec_check.specs.Checks.{texts}
+use Rattle.rec_text.specs.Bytes.{texts}
 use Rattle.rec_check.specs.Counters.{greatest_at, CountsFrom}
 use Rattle.rec_check.proofs.automatic.counter.uncounted.Given as goal
 

@@ -1,5 +1,5 @@
 use Rattle.std.proofs.Common.{◌≡◌, ◌++◌, take}
-use Rattle.rec_check.specs.Checks.{texts}
+use Rattle.rec_text.specs.Bytes.{texts}
 use Rattle.rec_check.specs.Violations.{violations_of}
 use Rattle.rec_check.proofs.checks.found.add_violations.Given as goal
 

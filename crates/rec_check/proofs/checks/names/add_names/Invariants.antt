@@ -1,6 +1,6 @@
 use Rattle.std.proofs.Common.{◌≡◌, ◌||◌, ℕ, List, take}
 use Rattle.rec_check.specs.proving.Names.{has_name}
-use Rattle.rec_check.specs.Words.{is_among}
+use Rattle.rec_text.specs.Bytes.{is_among}
 use Rattle.rec_check.proofs.checks.names.add_names.Given as goal
 
 abbrev pub invariant-loop-name : goal.invariant-loop-name

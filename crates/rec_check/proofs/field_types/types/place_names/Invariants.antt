@@ -1,6 +1,6 @@
 use Rattle.std.proofs.Common.{◌≡◌, ℕ, List, Some, cond, take}
 use Rattle.rec_check.specs.proving.Fitting.{place_of}
-use Rattle.rec_check.specs.Words.{is_among}
+use Rattle.rec_text.specs.Bytes.{is_among}
 use Rattle.rec_check.proofs.field_types.types.place_names.Given as goal
 
 abbrev pub invariant-loop-name : goal.invariant-loop-name

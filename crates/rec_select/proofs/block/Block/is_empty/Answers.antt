@@ -1,7 +1,7 @@
 use Rattle.std.proofs.Common.{ap, ◌∙◌, ◌==◌, not}
 use Rattle.std.specs.List.{list_any}
 use Rattle.rec_text.specs.Records.{is_field_piece}
-use Rattle.rec_select.specs.Printing.{closed, value_line}
+use Rattle.rec_select.specs.Printing.{printed_element, value_line}
 use Rattle.rec_select.proofs.BlockLemmas.{is_nil-fields, is_nil-flat_map, is_nil-closed, is_nil-value_line}
 use Rattle.rec_select.proofs.block.Block.is_empty.Goals as goal
 
@@ -13,7 +13,7 @@ returns-in-Fields c =
 pub returns-in-Elements : goal.returns-in-Elements
 returns-in-Elements c =
     let elements = c.in-Elements.elements in
-    rw c.in-Elements.is (c.is_empty.ensures ∙ ap (λ n. n == 0) elements.ok.0 ∙ is_nil-flat_map closed is_nil-closed elements.items)
+    rw c.in-Elements.is (c.is_empty.ensures ∙ ap (λ n. n == 0) elements.ok.0 ∙ is_nil-flat_map printed_element is_nil-closed elements.items)
 
 pub returns-in-Values : goal.returns-in-Values
 returns-in-Values c =

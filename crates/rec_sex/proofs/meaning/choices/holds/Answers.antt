@@ -5,7 +5,8 @@ use Rattle.regex.specs.Strings.{matcher_pattern}
 use Rattle.rec_text.specs.Places.{pieces_of}
 use Rattle.rec_sex.specs.Expressions.{term_under}
 use Rattle.rec_sex.specs.Meaning.{reading_of, sem}
-use Rattle.rec_sex.specs.proving.Choices.{chosen_in, entry_of, has_repeated, repeated_names, shared_names, any_choice, holds_for_some, texts}
+use Rattle.rec_sex.specs.proving.Choices.{chosen_in, entry_of, has_repeated, repeated_names, shared_names, any_choice, holds_for_some}
+use Rattle.rec_text.specs.Bytes.{texts}
 use Rattle.rec_sex.specs.proving.Operands.{is_nonzero}
 use Rattle.rec_sex.specs.proving.Outcomes.{can_hold}
 use Rattle.rec_sex.proofs.lemmas.meaning.ChoiceLemmas.{first_of, texts-one}

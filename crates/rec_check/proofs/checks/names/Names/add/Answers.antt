@@ -1,5 +1,5 @@
 use Rattle.std.proofs.Common.{◌≡◌, ◌∙◌, ◌++◌, ◌∷◌, [], ap, sym}
-use Rattle.rec_check.specs.Checks.{texts}
+use Rattle.rec_text.specs.Bytes.{texts}
 use Rattle.rec_check.specs.Words.{distinct}
 use Rattle.rec_check.proofs.lemmas.checks.NameLemmas.{distinct-distinct, texts-added}
 use Rattle.rec_check.proofs.checks.names.Names.add.Goals as goal

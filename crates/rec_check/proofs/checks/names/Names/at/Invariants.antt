@@ -1,6 +1,6 @@
 use Rattle.std.proofs.Common.{◌≡◌, ◌++◌, filter_map}
 use Rattle.std.specs.List.{slice_get}
-use Rattle.rec_check.specs.Checks.{texts}
+use Rattle.rec_text.specs.Bytes.{texts}
 use Rattle.rec_check.proofs.checks.names.Names.at.Given as goal
 
 -- the names so far, and then those at the places that are left

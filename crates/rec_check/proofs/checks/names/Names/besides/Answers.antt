@@ -1,6 +1,6 @@
 use Rattle.std.proofs.Common.{◌∙◌, ℕ, List, [], ap, sym}
 use Rattle.std.specs.Borrow.{Bor}
-use Rattle.rec_check.specs.Checks.{texts}
+use Rattle.rec_text.specs.Bytes.{texts}
 use Rattle.rec_check.proofs.lemmas.checks.NamePlaceLemmas.{beside_added, beside_passed}
 use Rattle.rec_check.proofs.checks.names.Names.besides.Goals as goal
 use Rattle.rec_check.proofs.checks.names.Names.besides.Goals.{then-not-contains+in_ok-push, else-not-contains}

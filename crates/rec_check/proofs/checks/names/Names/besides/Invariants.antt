@@ -1,6 +1,6 @@
 use Rattle.std.proofs.Common.{◌≡◌, filter_map, take}
 use Rattle.std.specs.List.{enumerate_from}
-use Rattle.rec_check.specs.Checks.{texts}
+use Rattle.rec_text.specs.Bytes.{texts}
 use Rattle.rec_check.proofs.lemmas.checks.NamePlaceLemmas.{beside}
 use Rattle.rec_check.proofs.checks.names.Names.besides.Given as goal
 

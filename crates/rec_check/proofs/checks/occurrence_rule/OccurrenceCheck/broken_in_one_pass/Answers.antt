@@ -1,7 +1,8 @@
 use Rattle.std.proofs.Common.{◌≡◌, ap, subst}
 use Rattle.std.specs.Prelude.{IfOk}
 use Rattle.rec_text.specs.Places.{pieces_of}
-use Rattle.rec_check.specs.Checks.{breaks_occurrence_rule, texts}
+use Rattle.rec_check.specs.Checks.{breaks_occurrence_rule}
+use Rattle.rec_text.specs.Bytes.{texts}
 use Rattle.rec_check.proofs.lemmas.checks.SeenLemmas.{breaking_at, breaking_besides}
 use Rattle.rec_check.proofs.checks.occurrence_rule.OccurrenceCheck.broken_in_one_pass.Goals as goal
 

@@ -3,10 +3,10 @@ use Rattle.std.proofs.lemmas.Result.{on_ok_weaker}
 use Rattle.std.specs.List.{slice_get}
 use Rattle.rec_text.specs.declared.violations.Rule.TheVariants.{Singular}
 use Rattle.rec_text.specs.Places.{pieces_of}
-use Rattle.rec_check.specs.Checks.{texts}
+use Rattle.rec_text.specs.Bytes.{texts, is_among}
 use Rattle.rec_check.specs.proving.Singulars.{has_seen}
 use Rattle.rec_check.specs.Violations.{violations_of}
-use Rattle.rec_check.specs.Words.{distinct, is_among}
+use Rattle.rec_check.specs.Words.{distinct}
 use Rattle.rec_check.proofs.lemmas.checks.NameLemmas.{distinct-distinct}
 use Rattle.rec_check.proofs.lemmas.checks.SingularLemmas.{broken_names, stands_more}
 use Rattle.rec_check.proofs.checks.singular.Singular.check.Goals as goal

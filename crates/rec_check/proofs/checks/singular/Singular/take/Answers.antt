@@ -5,7 +5,7 @@ use Rattle.std.specs.Str.{bytes_eq}
 use Rattle.rec_text.specs.Places.{piece_of}
 use Rattle.rec_text.specs.Values.{value_of}
 use Rattle.rec_check.specs.proving.Singulars.{has_seen, has_seen_at}
-use Rattle.rec_check.specs.Words.{is_among}
+use Rattle.rec_text.specs.Bytes.{is_among}
 use Rattle.rec_check.proofs.lemmas.checks.NameLemmas.{no_element}
 use Rattle.rec_check.proofs.lemmas.checks.NamePlaceLemmas.{no_option}
 use Rattle.rec_check.proofs.lemmas.checks.SingularLemmas.{seen-put, seen_more, seen_other, seen_own}

@@ -2,7 +2,7 @@ use Rattle.std.proofs.Common.{◌≡◌, ◌||◌, ℕ, List, true, take}
 use Rattle.rec_text.specs.Places.{pieces_of}
 use Rattle.rec_sex.specs.Meaning.{values_of}
 use Rattle.rec_check.specs.proving.Singulars.{has_seen}
-use Rattle.rec_check.specs.Words.{is_among}
+use Rattle.rec_text.specs.Bytes.{is_among}
 use Rattle.rec_check.proofs.checks.singular.Singular.take.Given as goal
 
 abbrev pub invariant-loop-field : goal.invariant-loop-field

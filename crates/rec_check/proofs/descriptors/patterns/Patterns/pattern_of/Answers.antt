@@ -1,6 +1,6 @@
 use Rattle.std.proofs.Common.{◌∙◌, ap, sym, subst}
 use Rattle.rec_sex.specs.Patterns.{IsBuiltFrom}
-use Rattle.rec_check.specs.Words.{is_among}
+use Rattle.rec_text.specs.Bytes.{is_among}
 use Rattle.rec_check.proofs.lemmas.descriptors.BuiltLemmas.{ArePatterns-more, ArePatterns-unchanged, found_pattern, texts_of-found, texts_of-more}
 use Rattle.rec_check.proofs.descriptors.patterns.Patterns.pattern_of.Goals as goal
 

@@ -6,7 +6,7 @@ use Rattle.rec_check.specs.proving.Resolved.{meaning_by}
 use Rattle.rec_check.specs.Rules.{type_by, typing_for}
 use Rattle.rec_check.specs.Stored.{type_stored, typing_stored}
 use Rattle.rec_check.specs.Types.{unchecked}
-use Rattle.rec_check.specs.Words.{is_among}
+use Rattle.rec_text.specs.Bytes.{is_among}
 use Rattle.rec_check.proofs.lemmas.field_types.FittingLemmas.{LeadsTo-more, LeadsTo-type}
 use Rattle.rec_check.proofs.field_types.types.Types.with.Goals as goal
 

@@ -1,15 +1,15 @@
 -- Each tree is put together of the trees of its parts.
 use Rattle.std.proofs.Common.{rules, lit≤, arith}
 use Rattle.std.proofs.lemmas.Result.{IfOk-weaker}
-use Rattle.rec_sex.proofs.lemmas.syntax.ParsingLemmas.{IsTree-weaker, IsTree-choice, IsTree-integer, IsTree-literal, IsTree-name, IsTree-occurrence, IsTree-count, IsTree-not, IsTree-minus, IsTree-parentheses, IsBoundAbove-more, IsTree-bound, Extends-binary, Extends-found}
+use Rattle.rec_sex.proofs.lemmas.syntax.ParsingLemmas.{IsTree-weaker, IsTree-conditional, IsTree-integer, IsTree-literal, IsTree-name, IsTree-occurrence, IsTree-count, IsTree-not, IsTree-minus, IsTree-parentheses, IsBoundAbove-more, IsTree-bound, Extends-binary, Extends-found}
 use Rattle.rec_sex.proofs.syntax.parser.Parser.+expressions.Goals as goal
 use Rattle.std.proofs.lemmas.Int.{to_z-of_z, ints}
 
-pub expression-returns-then-not-begins_choice-clause-tree : goal.expression-returns-then-not-begins_choice-clause-tree
-expression-returns-then-not-begins_choice-clause-tree t c = IsTree-weaker 0 1 _ _ _ _ _ (lit≤ tt) (lit≤ tt) c.in_ok-condition.ensures.tree
+pub expression-returns-then-not-begins_conditional-clause-tree : goal.expression-returns-then-not-begins_conditional-clause-tree
+expression-returns-then-not-begins_conditional-clause-tree t c = IsTree-weaker 0 1 _ _ _ _ _ (lit≤ tt) (lit≤ tt) c.in_ok-condition.ensures.tree
 
 pub expression-returns-clause-tree : goal.expression-returns-clause-tree
-expression-returns-clause-tree t c = IfOk-weaker _ _ _ (λ tree same. IsTree-choice _ _ _ _ _ _ _ _ _ _ _ _ _ tree c.requires c.in_ok-condition.ensures.tree (cc) c.pop_front.ensures.rest c.in_ok-first.ensures.tree c.in_ok-first.ensures.ends.0 c.in_ok-first.ensures.ends.1 c.pop_front-2.ensures.rest c.in_ok-second.ensures.tree same) c.choice.ensures.tree
+expression-returns-clause-tree t c = IfOk-weaker _ _ _ (λ tree same. IsTree-conditional _ _ _ _ _ _ _ _ _ _ _ _ _ tree c.requires c.in_ok-condition.ensures.tree (cc) c.pop_front.ensures.rest c.in_ok-first.ensures.tree c.in_ok-first.ensures.ends.0 c.in_ok-first.ensures.ends.1 c.pop_front-2.ensures.rest c.in_ok-second.ensures.tree same) c.conditional.ensures.tree
 
 pub operation-loop-self-preserved : goal.operation-loop-self-preserved
 operation-loop-self-preserved t c = IsBoundAbove-more _ _ _ _ _ _ _ _ _ c.requires.low (omega arith) c.loop-self.invariant c.in_ok-tree-2.ensures.tree

@@ -3,7 +3,7 @@ use Rattle.std.proofs.lemmas.Iterator.{YieldsList-from_slice}
 use Rattle.std.proofs.lemmas.Iterator.Search.{all_from_yields_List}
 use Rattle.std.proofs.lemmas.List.Folds.{list_all-map}
 use Rattle.rec_text.specs.Canonical.{is_plain_name}
-use Rattle.rec_edit.proofs.insertion.fresh.have_plain_names.Goals as goal
+use Rattle.rec_edit.proofs.insertion.fresh.pairs_have_plain_names.Goals as goal
 
 pub returns : goal.returns
 returns c =

@@ -87,7 +87,10 @@ impl<'r, R: Files<File = File> + Input + AllocGlobal> FileHome<'r, R> {
     }
 
     /// Closes both files. Where standard error was closed, one of them may have got its number, so nothing is said before.
-    pub fn close(&mut self) {
+    pub fn close(&mut self)
+        ensures kept { self.new.failed ≡ self.old.failed }
+        ensures noted { self.new.failure ≡ self.old.failure }
+    {
         self.both.close();
     }
 
@@ -101,7 +104,9 @@ impl<'r, R: Files<File = File> + Input + AllocGlobal> FileHome<'r, R> {
 
     /// The bytes of the file as they are now, read without a lock to explain a refusal. What is no regular file, as
     /// standard input, can't be read again.
-    pub fn text_again(&self, alloc: Global) -> Option<Vec<u8>> {
+    pub fn text_again(&self, alloc: Global) -> Option<Vec<u8>>
+        ensures once { IsNone self.now.file → IsNone result }
+    {
         let path = self.file.as_ref()?.as_str();
         if !fs::metadata(self.rt, path).ok()?.is_file() {
             return None;

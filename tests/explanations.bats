@@ -39,10 +39,50 @@ explained() {
 @test "the report of a refused edit says what forces it" {
     put f '%rec: P¶%key: Id¶¶Id: 1¶'
     recu 1 recins -t P -f Id -v 1 f
-    prints '' '6: key Id¶--force makes the edit all the same¶recu: violations: 1¶'
+    prints '' '6: key Id¶line 6: Id: 1¶--force makes the edit all the same¶recu: violations: 1¶'
     does recins -t P -f Id -v 1 --force f
     recu 1 recfix f
     prints '6: key Id¶' ''
+}
+
+# batch_explained TEXT EXPLANATION REFUSAL
+batch_explained() {
+    put f 'A: 1¶'
+    put changes "$1"
+    explains "$2" "$3" batch -b changes f
+    has f 'A: 1¶'
+}
+
+@test "the edit of a batch that is refused" {
+    local set='Tool: recset¶Fields: A¶Set: 2¶'
+    batch_explained "$set¶Tool: recset¶Expression: A ==¶Fields: A¶Set: 3¶" 'A ==¶  ^' 'expression: error at byte 2'
+    batch_explained "$set¶Tool: recdel¶Number: 0,x¶" '0,x¶  ^¶an index list is such as 0,4-7' 'index list: error at byte 2'
+    batch_explained "$set¶Tool: recset¶Fields: A[¶Delete: yes¶" 'A[¶  ^¶a field list is such as Name,Email[0],Phone[1-2]' 'field list: error at byte 2'
+    batch_explained "$set¶Tool: recset¶Fields: A¶Rename: 1¶" '1: a name begins with a letter, and goes on with letters, digits and _' 'bad name'
+    batch_explained "$set¶# a comment¶Tool: recsel¶" 'batch:6: Tool: recsel' 'batch line 6: not an edit'
+}
+
+@test "the records of a report" {
+    local file='%rec: P¶%key: Id¶%type: N int¶%singular: M¶%constraint: N > 0¶¶N: x¶Id: 1¶M: a¶¶M: a¶Id: 2¶N: 1¶¶%rec: Q¶%type: A unknown¶%mandatory: B¶¶A: 1¶'
+    put f "$file"
+    recu 1 recset -t Q -n 0 -f A -s 2 f
+    local report='7: type N¶7: constraint 1¶11: singular M¶16: typedef unknown¶19: mandatory B¶'
+    local records='line 7: Id: 1, N: x¶line 7: Id: 1¶line 11: Id: 2, M: a¶line 16: %rec: Q, %type: A unknown¶line 19: A: 2¶'
+    prints '' "${report}${records}--force makes the edit all the same¶recu: violations: 5¶"
+    # on standard error of a terminal alone
+    TERM=dumb script -qec "'$recu' recfix f 2> said" shown > /dev/null || true
+    has said "${records/A: 2/A: 1}"
+    recu 1 recfix f
+    prints "$report" ''
+}
+
+@test "of a long report some records" {
+    { bytes '%rec: P¶%type: N int¶'; for number in {1..50}; do bytes "¶N: x$number¶"; done; } > f
+    recu 1 recset -n 0 -f N -s y f
+    [ "$(grep -c '^line ' "$BATS_TEST_TMPDIR/err")" = 20 ]
+    grep -qx 'line 4: N: y' "$BATS_TEST_TMPDIR/err"
+    grep -qx 'line 42: N: x20' "$BATS_TEST_TMPDIR/err"
+    [ "$(tail -n 1 "$BATS_TEST_TMPDIR/err")" = 'recu: violations: 50' ]
 }
 
 @test "standard input and pipes are not read again" {

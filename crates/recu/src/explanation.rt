@@ -1,8 +1,13 @@
 //! What is said of a refusal before its line: what it is about, and what can be done.
+use crate::reported::show_refused;
+use crate::request_words::{
+    expression_in, field_list_in, index_list_in, names_in, part_of, pick_in,
+};
+use crate::status::violations_of;
 use rec_files::FileHome;
-use rec_select::{Schema, Set_};
-use rec_text::{Database, read, split_line};
-use rec_tools::{Ask, Bytes, Fault, Form, NewRecord, Pick, Request, Which};
+use rec_select::{Expr, Schema, Set_, write_report};
+use rec_text::{Database, Element, is_plain_name, read, split_line};
+use rec_tools::{Bytes, Fault, NewRecord, Output, Request, Violation, Which, batch_requests};
 use std::alloc::{AllocError, Global};
 use std::{io, str};
 
@@ -13,7 +18,29 @@ const SHOWN: usize = 1000;
 pub fn explain(
     rt: &HostRuntime,
     home: &FileHome<'_, HostRuntime>,
-    request: &Request,
+    request: &mut Request,
+    fault: &Fault,
+) -> io::Result<()> {
+    match fault {
+        Fault::Integrity(_) => explain_violations(rt, home, request, violations_of(fault)),
+        Fault::BadBatch { line } => explain_batch(rt, request, *line),
+        Fault::NoSelection => explain_deletion(rt, home, request),
+        Fault::TypeNeeded | Fault::NoSuchType => explain_types(rt, home),
+        Fault::AutoImpossible => explain_counter(rt, home, request),
+        Fault::BadExpression { .. }
+        | Fault::BadPattern
+        | Fault::BadFieldList { .. }
+        | Fault::BadIndexList { .. }
+        | Fault::BadName
+        | Fault::BadRecord => explain_words(rt, home, request, fault),
+        _ => explain_contents(rt, home, fault),
+    }
+}
+
+/// Says what in the file or its journal a refusal is about.
+fn explain_contents(
+    rt: &HostRuntime,
+    home: &FileHome<'_, HostRuntime>,
     fault: &Fault,
 ) -> io::Result<()> {
     let journal = home.path(Which::Journal);
@@ -27,19 +54,6 @@ pub fn explain(
                 "encrypted fields, and descriptors that stand in other files, are not supported"
             )
         }
-        Fault::BadExpression { at } => explain_place(rt, expression_in(request), *at),
-        Fault::BadFieldList { at } => {
-            explain_place(rt, field_list_in(request), *at)?;
-            eprintln!(rt; "a field list is such as Name,Email[0],Phone[1-2]")
-        }
-        Fault::BadIndexList { at } => {
-            explain_place(rt, index_list_in(request), *at)?;
-            eprintln!(rt; "an index list is such as 0,4-7")
-        }
-        Fault::NoSelection => explain_deletion(rt, home, request),
-        Fault::TypeNeeded | Fault::NoSuchType => explain_types(rt, home),
-        Fault::BadRecord => explain_record(rt, request),
-        Fault::AutoImpossible => explain_counter(rt, home, request),
         Fault::BadJournal { .. } => {
             eprintln!(rt; "{journal}: move it away, and the next edit begins a new journal")
         }
@@ -56,6 +70,137 @@ pub fn explain(
         }
         _ => Ok(()),
     }
+}
+
+/// Says what in the words of a request a refusal is about, or in those of the edit of a batch that is refused.
+fn explain_words(
+    rt: &HostRuntime,
+    home: &FileHome<'_, HostRuntime>,
+    request: &Request,
+    fault: &Fault,
+) -> io::Result<()> {
+    let edits = match request {
+        Request::Batch { text, .. } => batch_requests(rt.alloc(), text.as_slice()),
+        _ => Ok(Vec::new(rt.alloc())),
+    };
+    let request = match &edits {
+        Ok(edits) => part_of(rt.alloc(), request, edits, fault),
+        Err(_) => request,
+    };
+    match fault {
+        Fault::BadExpression { at } => explain_place(rt, expression_in(request), *at),
+        Fault::BadPattern => explain_pattern(rt, home, expression_in(request)),
+        Fault::BadFieldList { at } => {
+            explain_place(rt, field_list_in(request), *at)?;
+            eprintln!(rt; "a field list is such as Name,Email[0],Phone[1-2]")
+        }
+        Fault::BadIndexList { at } => {
+            explain_place(rt, index_list_in(request), *at)?;
+            eprintln!(rt; "an index list is such as 0,4-7")
+        }
+        Fault::BadName => explain_name(rt, request),
+        Fault::BadRecord => explain_record(rt, request),
+        _ => Ok(()),
+    }
+}
+
+/// Prints the report of the violations for which an edit was refused, the records in which they stand, and what forces it.
+fn explain_violations(
+    rt: &HostRuntime,
+    home: &FileHome<'_, HostRuntime>,
+    request: &mut Request,
+    violations: &[Violation],
+) -> io::Result<()> {
+    let mut err = Output {
+        writer: rt.stderr(),
+        failed: 0,
+    };
+    let _ = write_report(violations, &mut err);
+    let _ = show_refused(rt, home, request, violations);
+    eprintln!(rt; "--force makes the edit all the same")
+}
+
+/// Shows the line of a batch at which it is refused.
+fn explain_batch(rt: &HostRuntime, request: &Request, line: usize) -> io::Result<()> {
+    let Request::Batch { text, .. } = request else {
+        return Ok(());
+    };
+    match plain(line_in(text.as_slice(), line).0) {
+        Some(shown) if !shown.is_empty() => eprintln!(rt; "batch:{line}: {shown}"),
+        _ => Ok(()),
+    }
+}
+
+/// Shows the expression whose pattern is refused, or else the field of a descriptor.
+fn explain_pattern(
+    rt: &HostRuntime,
+    home: &FileHome<'_, HostRuntime>,
+    expression: Option<&Bytes>,
+) -> io::Result<()> {
+    if let Some(expression) = expression
+        && let Err(Fault::BadPattern) = Expr::parse(rt.alloc(), expression.as_slice())
+    {
+        if let Some(shown) = plain(expression.as_slice()) {
+            eprintln!(rt; "{shown}")?;
+        }
+    } else if let Some(text) = home.text_again(rt.alloc())
+        && let Some(line) = line_of_pattern(rt.alloc(), &text)
+    {
+        explain_line(rt, home, line)?;
+    }
+    eprintln!(rt; "a pattern is a regular expression without back references and look-around")
+}
+
+/// The line of the first field of a descriptor whose pattern is refused.
+fn line_of_pattern(alloc: Global, text: &[u8]) -> Option<usize> {
+    let database = read(alloc, text).ok()?;
+    let mut line: usize = 1;
+    for element in database.elements() {
+        if element.raw.starts_with(b"%") && has_bad_pattern(alloc, element) {
+            return Some(line);
+        }
+        let newlines = element.raw.iter().filter(|byte| **byte == b'\n').count();
+        line = line.saturating_add(newlines);
+    }
+    None
+}
+
+/// Whether a field of a descriptor is refused for its pattern, where it stands in a descriptor of its own.
+fn has_bad_pattern(alloc: Global, field: &Element<'_>) -> bool {
+    match schema_of(alloc, field.raw) {
+        Err(Fault::BadPattern) => true,
+        _ => false,
+    }
+}
+
+fn schema_of(alloc: Global, field: &[u8]) -> Result<Schema, Fault> {
+    let mut descriptor = Vec::new(alloc);
+    descriptor.extend_from_slice(b"%rec: T\n")?;
+    descriptor.extend_from_slice(field)?;
+    let database = read(alloc, &descriptor)?;
+    Schema::read(alloc, &database)
+}
+
+/// Says which name recu doesn't write.
+fn explain_name(rt: &HostRuntime, request: &Request) -> io::Result<()> {
+    let Ok(names) = names_in(rt.alloc(), request) else {
+        return Ok(());
+    };
+    for name in &names {
+        if is_plain_name(name.as_slice()) {
+            continue;
+        }
+        return match plain(name.as_slice()) {
+            Some(name) if name.starts_with('%') => {
+                eprintln!(rt; "{name}: fields of descriptors are edited by hand")
+            }
+            Some(name) => eprintln!(rt;
+                "{name}: a name begins with a letter, and goes on with letters, digits and _"
+            ),
+            None => Ok(()),
+        };
+    }
+    Ok(())
 }
 
 /// Shows a line of the file, and says of it what is seen badly.
@@ -99,7 +244,7 @@ fn line_in(text: &[u8], line: usize) -> (&[u8], bool) {
 }
 
 /// The text of bytes that can be shown in a line.
-fn plain(bytes: &[u8]) -> Option<&str> {
+pub fn plain(bytes: &[u8]) -> Option<&str> {
     if bytes.len() > SHOWN {
         return None;
     }
@@ -133,43 +278,6 @@ fn width_before(text: &[u8], at: usize) -> usize {
         }
     }
     width
-}
-
-/// The records that a request picks.
-fn pick_in(request: &Request) -> Option<&Pick> {
-    match request {
-        Request::Show { pick, .. }
-        | Request::Replace { pick, .. }
-        | Request::Delete { pick, .. }
-        | Request::CommentOut { pick, .. }
-        | Request::Set { pick, .. } => Some(pick),
-        _ => None,
-    }
-}
-
-fn expression_in(request: &Request) -> Option<&Bytes> {
-    match &pick_in(request)?.by {
-        Ask::Expr(text) => Some(text),
-        _ => None,
-    }
-}
-
-fn index_list_in(request: &Request) -> Option<&Bytes> {
-    match &pick_in(request)?.by {
-        Ask::Index(list) => Some(list),
-        _ => None,
-    }
-}
-
-fn field_list_in(request: &Request) -> Option<&Bytes> {
-    match request {
-        Request::Show {
-            form: Form::Print(list) | Form::Values(list) | Form::Row(list),
-            ..
-        } => Some(list),
-        Request::Set { list, .. } => Some(list),
-        _ => None,
-    }
 }
 
 /// Says how many records a deletion of all would take.

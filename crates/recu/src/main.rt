@@ -3,13 +3,17 @@
 
 mod explanation;
 mod output;
+mod reported;
+mod request_words;
 mod status;
 
 use output::{StandardOutput, room_for};
 use rec_command::{Asked, Refusal, parse, with_batch, words};
 use rec_files::{FileHome, access_of, batch_text};
 use rec_tools::{Fault, Output, Reply};
+use reported::show_reported;
 use std::io;
+use std::io::IsTerminal;
 use std::process::ExitCode;
 use std::rt::Runtime;
 
@@ -54,7 +58,7 @@ fn run(rt: &HostRuntime, asked: Asked) -> Result<Reply, Fault> {
         file,
         journal,
     } = asked;
-    let request = match batch {
+    let mut request = match batch {
         Some(path) => with_batch(request, batch_text(rt, path.as_str())?),
         None => request,
     };
@@ -71,8 +75,10 @@ fn run(rt: &HostRuntime, asked: Asked) -> Result<Reply, Fault> {
     home.close();
     let _ = home.explain(rt);
     let _ = out.explain(rt);
-    if let Err(fault) = &answer {
-        let _ = explanation::explain(rt, &home, &request, fault);
-    }
+    let _ = match &answer {
+        Ok(Reply::Violated(_)) if rt.stdout().is_terminal() => show_reported(rt, &home),
+        Ok(_) => Ok(()),
+        Err(fault) => explanation::explain(rt, &home, &mut request, fault),
+    };
     answer
 }

@@ -3,15 +3,13 @@ ghost use Rattle.std.specs.Prelude.{◌≡◌, OnOk};
 ghost use Rattle.std.specs.Io.KnownBytes.{Appends};
 ghost use Rattle.recu.specs.Status.{status_of, violations_in};
 
-use rec_select::write_report;
 use rec_text::put_all;
 use rec_tools::{Fault, Reply, Sink, Violation};
 use std::fmt;
 use std::fmt::Write;
 
-/// Prints `recu: `, the text of a fault and a newline, cut where the sink fails; where an edit was refused for
-/// violations, their report stands before that, and what forces it. The result is the exit status; help, which is no reply,
-/// ends well.
+/// Prints `recu: `, the text of a fault and a newline, cut where the sink fails. The result is the exit status; help, which
+/// is no reply, ends well.
 pub fn finish<W: Sink>(answer: &Result<Option<Reply>, Fault>, err: &mut W) -> u8
     ensures status { result ≡ status_of answer.now }
     ensures silent { OnOk answer.now (err.new ≡ err.old) }
@@ -20,11 +18,7 @@ pub fn finish<W: Sink>(answer: &Result<Option<Reply>, Fault>, err: &mut W) -> u8
         Ok(Some(Reply::Violated(_))) => 1,
         Ok(_) => 0,
         Err(fault) => {
-            let _ = write_report(violations_of(fault), err);
             let mut text = Text { sink: err };
-            if let Fault::Integrity(_) = fault {
-                let _ = writeln!(text, "--force makes the edit all the same");
-            }
             let _ = writeln!(text, "recu: {fault}");
             1
         }
@@ -32,7 +26,7 @@ pub fn finish<W: Sink>(answer: &Result<Option<Reply>, Fault>, err: &mut W) -> u8
 }
 
 /// The violations for which an edit was refused; none for another fault.
-fn violations_of(fault: &Fault) -> &[Violation]
+pub fn violations_of(fault: &Fault) -> &[Violation]
     ensures { result.now ≡ violations_in fault.now }
 {
     match fault {

@@ -29,7 +29,7 @@ pub const RECINS_HELP: &str =
     "Examples:\n  recu recins -f Name -v 'Alan Turing' -f Phone -v '555 0123' contacts.rec\n  recu recins -t Book -r 'Title: Emma' library.rec\n  recu recins -n 0 -f Name -v 'Ada King' contacts.rec";
 
 pub const RECDEL_ABOUT: &str =
-    "Deletes records, or makes comments of them. Only one of -e, -n and -q can be given.";
+    "Deletes records, or comments them out. Only one of -e, -n and -q can be given.";
 
 pub const RECDEL_HELP: &str =
     "Examples:\n  recu recdel -n 1 contacts.rec\n  recu recdel -c -e \"Name ~ 'Hopper'\" contacts.rec";

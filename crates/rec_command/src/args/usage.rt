@@ -134,7 +134,7 @@ fn recdel<'a>(alloc: Global) -> Result<Command<'a>, AllocError>
     ensures alone { IfOk result (λ command. (fields_of command).has_globals ≡ false) }
 {
     let tool = Command::new(alloc, "recdel")
-        .about("Deletes records, or makes comments of them")
+        .about("Deletes records, or comments them out")
         .long_about(RECDEL_ABOUT)
         .after_help(RECDEL_HELP);
     with_edit_options(alloc, tool, SELECTION.as_slice(), RECDEL.as_slice())

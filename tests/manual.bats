@@ -42,7 +42,7 @@ refusals() {
     [ "$(wc -l < refusals)" -ge 25 ]
     sed -nE 's/^\| ([0-9]+) \| `([^`]*)` \|.*/\1 \2/p' "$top/docs/refusals.md" > listed
     diff refusals listed
-    sed -nE 's/^\.It Li recu: //p' "$top/man/recu.1" | sed 's/ Ar N/ N/; s/N :/N:/; s/\\&//g' | sort > in_manual
+    sed -nE 's/^\.It Li recu: //p' "$top/man/recu.1" | sed 's/ Ar N/ N/; s/N Ns Li :/N:/; s/\\&//g' | sort > in_manual
     sed -E 's/^[0-9]+ //' refusals | sort | diff - in_manual
 }
 

@@ -21,7 +21,7 @@ explained() {
     put f 'A: 1¶'
     does recset -f A -s 2 f
     put f 'A: 3¶'
-    local said='f.journal: recu recsel prints its edits; the next edit begins a new history'
+    local said='f: if the text of the last edit is brought back to the byte, it can be undone; the next edit begins a new history'
     explains "$said" 'the file was changed outside' undo f
     explains "$said" 'the file was changed outside' redo f
     explains "$said" 'the file was changed outside' forget 0 f
@@ -55,11 +55,16 @@ batch_explained() {
 
 @test "the edit of a batch that is refused" {
     local set='Tool: recset¶Fields: A¶Set: 2¶'
-    batch_explained "$set¶Tool: recset¶Expression: A ==¶Fields: A¶Set: 3¶" 'A ==¶  ^' 'expression: error at byte 2'
-    batch_explained "$set¶Tool: recdel¶Number: 0,x¶" '0,x¶  ^¶an index list is such as 0,4-7' 'index list: error at byte 2'
-    batch_explained "$set¶Tool: recset¶Fields: A[¶Delete: yes¶" 'A[¶  ^¶a field list is such as Name,Email[0],Phone[1-2]' 'field list: error at byte 2'
-    batch_explained "$set¶Tool: recset¶Fields: A¶Rename: 1¶" '1: a name begins with a letter, and goes on with letters, digits and _' 'bad name'
-    batch_explained "$set¶# a comment¶Tool: recsel¶" 'batch:6: Tool: recsel' 'batch line 6: not an edit'
+    batch_explained "$set¶Tool: recset¶Expression: A ==¶Fields: A¶Set: 3¶" 'changes:5: Tool: recset¶A ==¶  ^' 'expression: error at byte 2'
+    batch_explained "$set¶Tool: recdel¶Number: 0,x¶" 'changes:5: Tool: recdel¶0,x¶  ^¶an index list is such as 0,4-7' 'index list: error at byte 2'
+    batch_explained "$set¶Tool: recset¶Fields: A[¶Delete: yes¶" 'changes:5: Tool: recset¶A[¶  ^¶a field list is such as Name,Email[0],Phone[1-2]' 'field list: error at byte 2'
+    batch_explained "$set¶Tool: recset¶Fields: A¶Rename: 1¶" 'changes:5: Tool: recset¶1: a name begins with a letter, and goes on with letters, digits and _' 'bad name'
+    batch_explained "$set¶# a comment¶Tool: recsel¶" 'changes:6: Tool: recsel' 'batch line 6: not an edit'
+    batch_explained "$set¶# all¶Tool: recdel¶" 'changes:6: Tool: recdel' 'no selection given, use --force'
+    batch_explained "$set¶Tool: recset¶Fields: A[0]¶Add: 2¶" 'changes:5: Tool: recset¶A[0]¶ ^¶fields are added by their names alone, such as Name,Email' 'field list: error at byte 1'
+    batch_explained "$set¶Tool: recins¶Type: P¶Field: B¶Value: 1¶¶Tool: recset¶Type: Q¶Fields: B¶Delete: yes¶" 'changes:10: Tool: recset¶there is no record type' 'no such record type'
+    batch_explained "$set¶Tool: recins¶Record: B: 1¶+¶+ C: 1¶¶Tool: recdel¶Number: 0¶" 'changes:5: Tool: recins¶the text has to be one record, as it stands in a file' 'not exactly one record'
+    batch_explained "$set¶Tool: recset¶Fields: A¶SetAdd: 3\\\\¶¶¶Tool: recfix¶" 'changes:5: Tool: recset' 'a line of the value ends in a backslash'
 }
 
 @test "the records of a report" {

@@ -135,6 +135,12 @@ pub fn are_runs(hunks: &[Hunk], runs: &[Run]) -> bool {
     hunks.len() == runs.len()
 }
 
+/// What an edit makes of a text.
+fn edited(alloc: Global, database: &Database, request: &Edit) -> Result<Edited, Fault> {
+    let schema = Schema::read(alloc, database)?;
+    edit(alloc, database, &schema, request, false)
+}
+
 /// Both programs make the same of a text.
 fn try_both(
     alloc: Global,
@@ -144,8 +150,7 @@ fn try_both(
     chosen: &[usize],
     change: &Change,
 ) -> Result<(), Fault> {
-    let schema = Schema::read(alloc, database)?;
-    let edited = edit(alloc, database, &schema, request, false)?;
+    let edited = edited(alloc, database, request)?;
     let parts = plain_parts(alloc, database, chosen, change)?;
     let text = plain_text(alloc, &parts)?;
     log.at_bytes(database.text());
@@ -290,21 +295,21 @@ fn both_make_the_same_of_fields(alloc: Global, log: &mut Log) -> Result<(), Faul
 }
 
 fn growth_of_delete(alloc: Global, log: &mut Log) -> Result<(), Fault> {
-    if let Ok(selection) = selection(alloc, "0") {
-        let request = Edit::Delete(selection);
-        let wanted = "%rec: P\n%key: Id\n%auto: No\n\nId: 2\nNo: 4\n";
-        check_edit(alloc, log, &request, "recdel", wanted)?;
-    }
-    Ok(())
+    let Ok(selection) = selection(alloc, "0") else {
+        return Ok(());
+    };
+    let request = Edit::Delete(selection);
+    let wanted = "%rec: P\n%key: Id\n%auto: No\n\nId: 2\nNo: 4\n";
+    check_edit(alloc, log, &request, "recdel", wanted)
 }
 
 fn growth_of_comment_out(alloc: Global, log: &mut Log) -> Result<(), Fault> {
-    if let Ok(selection) = selection(alloc, "1") {
-        let request = Edit::CommentOut(selection);
-        let wanted = "%rec: P\n%key: Id\n%auto: No\n\nId: 1\n# c\nN: a\n\n#Id: 2\n#No: 4\n";
-        check_edit(alloc, log, &request, "recdel", wanted)?;
-    }
-    Ok(())
+    let Ok(selection) = selection(alloc, "1") else {
+        return Ok(());
+    };
+    let request = Edit::CommentOut(selection);
+    let wanted = "%rec: P\n%key: Id\n%auto: No\n\nId: 1\n# c\nN: a\n\n#Id: 2\n#No: 4\n";
+    check_edit(alloc, log, &request, "recdel", wanted)
 }
 
 /// The first record, and an action that sets its fields or adds them.
@@ -315,16 +320,16 @@ fn set_or_add(alloc: Global) -> Result<(Selection, Action), Fault> {
 }
 
 fn growth_of_set(alloc: Global, log: &mut Log) -> Result<(), Fault> {
-    if let Ok((selection, action)) = set_or_add(alloc) {
-        let request = Edit::Set {
-            selection,
-            list: "N,M".as_bytes(),
-            action: &action,
-        };
-        let wanted = "%rec: P\n%key: Id\n%auto: No\n\nId: 1\n# c\nN: b\nM: b\n\nId: 2\nNo: 4\n";
-        check_edit(alloc, log, &request, "recset", wanted)?;
-    }
-    Ok(())
+    let Ok((selection, action)) = set_or_add(alloc) else {
+        return Ok(());
+    };
+    let request = Edit::Set {
+        selection,
+        list: "N,M".as_bytes(),
+        action: &action,
+    };
+    let wanted = "%rec: P\n%key: Id\n%auto: No\n\nId: 1\n# c\nN: b\nM: b\n\nId: 2\nNo: 4\n";
+    check_edit(alloc, log, &request, "recset", wanted)
 }
 
 /// A new record of one field.
@@ -345,17 +350,17 @@ fn insertion(alloc: Global) -> Result<(Option<Bytes>, NewRecord), AllocError> {
 }
 
 fn growth_of_insert(alloc: Global, log: &mut Log) -> Result<(), Fault> {
-    if let Ok((kind, fresh)) = insertion(alloc) {
-        let request = Edit::Insert {
-            kind: &kind,
-            fresh: &fresh,
-            auto: true,
-        };
-        let wanted =
-            "%rec: P\n%key: Id\n%auto: No\n\nId: 1\n# c\nN: a\n\nId: 2\nNo: 4\n\nNo: 5\nId: 3\n";
-        check_edit(alloc, log, &request, "recins", wanted)?;
-    }
-    Ok(())
+    let Ok((kind, fresh)) = insertion(alloc) else {
+        return Ok(());
+    };
+    let request = Edit::Insert {
+        kind: &kind,
+        fresh: &fresh,
+        auto: true,
+    };
+    let wanted =
+        "%rec: P\n%key: Id\n%auto: No\n\nId: 1\n# c\nN: a\n\nId: 2\nNo: 4\n\nNo: 5\nId: 3\n";
+    check_edit(alloc, log, &request, "recins", wanted)
 }
 
 /// The first record, and a new one.
@@ -366,19 +371,18 @@ fn replacement(alloc: Global) -> Result<(Selection, NewRecord), Fault> {
 }
 
 fn growth_of_replace(alloc: Global, log: &mut Log) -> Result<(), Fault> {
-    if let Ok((selection, fresh)) = replacement(alloc) {
-        let request = Edit::Replace {
-            selection,
-            fresh: &fresh,
-        };
-        let wanted = "%rec: P\n%key: Id\n%auto: No\n\nId: 3\nN: x\n\nId: 2\nNo: 4\n";
-        check_edit(alloc, log, &request, "recins", wanted)?;
-    }
-    Ok(())
+    let Ok((selection, fresh)) = replacement(alloc) else {
+        return Ok(());
+    };
+    let request = Edit::Replace {
+        selection,
+        fresh: &fresh,
+    };
+    let wanted = "%rec: P\n%key: Id\n%auto: No\n\nId: 3\nN: x\n\nId: 2\nNo: 4\n";
+    check_edit(alloc, log, &request, "recins", wanted)
 }
 
 fn growth_of_auto_fill(alloc: Global, log: &mut Log) -> Result<(), Fault> {
     let wanted = "%rec: P\n%key: Id\n%auto: No\n\nNo: 5\nId: 1\n# c\nN: a\n\nId: 2\nNo: 4\n";
-    check_edit(alloc, log, &Edit::AutoFill, "recfix", wanted)?;
-    Ok(())
+    check_edit(alloc, log, &Edit::AutoFill, "recfix", wanted)
 }

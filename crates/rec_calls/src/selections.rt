@@ -109,8 +109,7 @@ fn growth_of_choose(alloc: Global, log: &mut Log) -> Result<(), Fault> {
     let Ok(schema) = Schema::read(alloc, &database) else {
         return Ok(());
     };
-    check_choices(alloc, log, &database, &schema)?;
-    Ok(())
+    check_choices(alloc, log, &database, &schema)
 }
 
 type Printed = Output<Vec<u8>>;
@@ -231,8 +230,7 @@ fn growth_of_write_records(alloc: Global, log: &mut Log) -> Result<(), Fault> {
     let Ok(schema) = Schema::read(alloc, &database) else {
         return Ok(());
     };
-    check_printed(alloc, log, &database, &schema)?;
-    Ok(())
+    check_printed(alloc, log, &database, &schema)
 }
 
 fn check_info(
@@ -276,8 +274,7 @@ fn growth_of_write_info(alloc: Global, log: &mut Log) -> Result<(), Fault> {
     let Ok(schema) = Schema::read(alloc, &database) else {
         return Ok(());
     };
-    check_infos(alloc, log, &database, &schema)?;
-    Ok(())
+    check_infos(alloc, log, &database, &schema)
 }
 
 fn violation(alloc: Global, line: usize, rule: Rule) -> Result<Violation, Fault> {

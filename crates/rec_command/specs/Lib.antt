@@ -1,5 +1,6 @@
--- what the words of a command line ask for, and what it means
+-- what the words of a command line ask for, what a command ends with, and what it means
 pub mod Usage
 pub mod Words
+pub mod Status
 -- what serves proofs
 pub mod proving

@@ -43,7 +43,7 @@ const NUMBER: ToolOption = ToolOption {
     letter: Some('n'),
     name: "number",
     takes: Takes::Value("LIST"),
-    help: "The records at these places among those of the type, from 0, such as 0,4-7",
+    help: "The records with these numbers in the set, from 0, such as 0,4-7",
 };
 
 const QUICK: ToolOption = ToolOption {
@@ -56,7 +56,7 @@ const QUICK: ToolOption = ToolOption {
 /// Which records are meant.
 pub static SELECTION: [ToolOption; 4] = [TYPE, EXPRESSION, NUMBER, QUICK];
 
-/// Of which type a new record is, or which ones it is put instead of.
+/// The type of a new record, or the records that it replaces.
 pub static REPLACEMENT: [ToolOption; 4] = [NEW_TYPE, EXPRESSION, NUMBER, QUICK];
 
 /// What is printed of records.
@@ -65,19 +65,19 @@ pub static PRINTING: [ToolOption; 5] = [
         letter: Some('p'),
         name: "print",
         takes: Takes::Value("FIELDS"),
-        help: "Print these fields alone, such as Name,Email[0-1]",
+        help: "Print only these fields, such as Name,Email[0-1]",
     },
     ToolOption {
         letter: Some('P'),
         name: "print-values",
         takes: Takes::Value("FIELDS"),
-        help: "Print the values of these fields, one in a line",
+        help: "Print the values of these fields, one per line",
     },
     ToolOption {
         letter: Some('R'),
         name: "print-row",
         takes: Takes::Value("FIELDS"),
-        help: "Print the values of these fields, those of a record in one line",
+        help: "Print the values of these fields, one line for each record",
     },
     ToolOption {
         letter: Some('c'),
@@ -98,7 +98,7 @@ pub static RECINF: [ToolOption; 3] = [
         letter: Some('t'),
         name: "type",
         takes: Takes::Value("TYPE"),
-        help: "The record set of this type alone",
+        help: "Only the record set of this type",
     },
     ToolOption {
         letter: Some('d'),
@@ -131,7 +131,7 @@ pub static RECFIX: [ToolOption; 3] = [
         letter: None,
         name: "force",
         takes: Takes::Nothing,
-        help: "Edit also where the rules of a record set are broken then",
+        help: "Make the edit even if the file breaks its rules afterwards",
     },
 ];
 
@@ -158,13 +158,13 @@ pub static RECINS: [ToolOption; 5] = [
         letter: None,
         name: "no-auto",
         takes: Takes::Nothing,
-        help: "Put in no automatic fields",
+        help: "Add no automatic fields",
     },
     ToolOption {
         letter: None,
         name: "force",
         takes: Takes::Nothing,
-        help: "Edit also where the rules of a record set are broken then",
+        help: "Make the edit even if the file breaks its rules afterwards",
     },
 ];
 
@@ -173,13 +173,13 @@ pub static RECDEL: [ToolOption; 2] = [
         letter: Some('c'),
         name: "comment",
         takes: Takes::Nothing,
-        help: "Make comments of the records, and delete none",
+        help: "Comment the records out instead of deleting them",
     },
     ToolOption {
         letter: None,
         name: "force",
         takes: Takes::Nothing,
-        help: "Delete also where no option selects records, and where the rules of a record set are broken then",
+        help: "Delete even if no option selects records, and even if the file breaks its rules afterwards",
     },
 ];
 
@@ -224,13 +224,13 @@ pub static RECSET: [ToolOption; 8] = [
         letter: Some('c'),
         name: "comment",
         takes: Takes::Nothing,
-        help: "Make comments of the fields",
+        help: "Comment the fields out",
     },
     ToolOption {
         letter: None,
         name: "force",
         takes: Takes::Nothing,
-        help: "Edit also where the rules of a record set are broken then",
+        help: "Make the edit even if the file breaks its rules afterwards",
     },
 ];
 
@@ -238,5 +238,5 @@ pub static BATCH: [ToolOption; 1] = [ToolOption {
     letter: None,
     name: "force",
     takes: Takes::Nothing,
-    help: "Edit also where a deletion has no selection, and where the rules of a record set are broken then",
+    help: "Make the edits even if a deletion selects no records, and even if the file breaks its rules afterwards",
 }];

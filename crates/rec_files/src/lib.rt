@@ -1,4 +1,5 @@
-//! The home of real files: a file and its journal on disk, with the paths under which they stand, and the text of a batch.
+//! The home of real files: a file and its journal on disk, with the paths under which they stand, and the text of a batch; and
+//! standard output.
 //! `docs/journal.md` says how they are replaced, and `specs/` defines their paths and rights.
 #![tactic(auto)]
 
@@ -10,6 +11,7 @@ mod files;
 mod leftover;
 mod links;
 mod open_file;
+mod output;
 mod paths;
 mod reading;
 mod rights;
@@ -19,4 +21,5 @@ mod working_file;
 pub use access::{Access, access_of};
 pub use batch::batch_text;
 pub use files::FileHome;
+pub use output::{StandardOutput, explain_output, room_for};
 pub use paths::{are_apart, journal_path};

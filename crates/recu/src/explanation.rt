@@ -1,9 +1,9 @@
 //! What is said of a refusal before its line: what it is about, and what can be done.
+use crate::refused_edit::refused_edit;
 use crate::reported::show_refused;
 use crate::request_words::{
-    expression_in, field_list_in, index_list_in, names_in, part_of, pick_in,
+    adds_occurrences, expression_in, field_list_in, index_list_in, names_in, pick_in,
 };
-use crate::status::violations_of;
 use rec_files::FileHome;
 use rec_select::{Expr, Schema, Set_, write_report};
 use rec_text::{Database, Element, is_plain_name, read, split_line};
@@ -14,25 +14,106 @@ use std::{io, str};
 /// How long a line may be that is shown.
 const SHOWN: usize = 1000;
 
-/// Says on standard error what a refusal is about. Where the file can't be read again, or memory runs out, it says less.
+/// Says on standard error what a refusal is about; the path is that of a batch. Where the file can't be read again, or memory
+/// runs out, it says less.
 pub fn explain(
     rt: &HostRuntime,
     home: &FileHome<'_, HostRuntime>,
     request: &mut Request,
+    path: &Option<String>,
     fault: &Fault,
 ) -> io::Result<()> {
     match fault {
-        Fault::Integrity(_) => explain_violations(rt, home, request, violations_of(fault)),
-        Fault::BadBatch { line } => explain_batch(rt, request, *line),
+        Fault::Integrity(violations) => {
+            explain_violations(rt, home, request, violations.as_slice())
+        }
+        _ => explain_refusal(rt, home, request, path, fault),
+    }
+}
+
+/// Says what a refusal is about that isn't for rules that would be broken.
+fn explain_refusal(
+    rt: &HostRuntime,
+    home: &FileHome<'_, HostRuntime>,
+    request: &Request,
+    path: &Option<String>,
+    fault: &Fault,
+) -> io::Result<()> {
+    match (request, path) {
+        (Request::Batch { text, .. }, Some(path)) => {
+            explain_batch(rt, home, path.as_str(), text.as_slice(), fault)
+        }
+        _ => explain_request(rt, home, request, fault),
+    }
+}
+
+/// Shows the line of the batch at which it is refused, or else that at which the edit begins that is refused, and says what the
+/// refusal is about.
+fn explain_batch(
+    rt: &HostRuntime,
+    home: &FileHome<'_, HostRuntime>,
+    path: &str,
+    batch: &[u8],
+    fault: &Fault,
+) -> io::Result<()> {
+    if let Fault::BadBatch { line } = fault {
+        return show_line(rt, path, *line, line_in(batch, *line).0);
+    }
+    let (Some(text), Ok(mut edits)) = (
+        home.text_again(rt.alloc()),
+        batch_requests(rt.alloc(), batch),
+    ) else {
+        return explain_contents(rt, home, fault);
+    };
+    let Some(index) = refused_edit(rt.alloc(), text, &mut edits, fault) else {
+        return explain_contents(rt, home, fault);
+    };
+    show_edit(rt, path, batch, index)?;
+    match (edits.get(index), fault) {
+        // how many records there are then isn't known
+        (None, _) | (_, Fault::NoSelection) => Ok(()),
+        (Some(edit), _) => explain_request(rt, home, edit, fault),
+    }
+}
+
+/// Shows the first line of the edit of a place in a batch.
+fn show_edit(rt: &HostRuntime, path: &str, batch: &[u8], index: usize) -> io::Result<()> {
+    let Ok(database) = read(rt.alloc(), batch) else {
+        return Ok(());
+    };
+    let (start, _) = elements_at(&database, Some(index));
+    match database.elements().get(start) {
+        Some(element) => {
+            let line = database.line_of(element.at);
+            show_line(rt, path, line, line_in(element.raw, 1).0)
+        }
+        None => Ok(()),
+    }
+}
+
+/// Says what the refusal of a request, or of an edit of a batch, is about.
+fn explain_request(
+    rt: &HostRuntime,
+    home: &FileHome<'_, HostRuntime>,
+    request: &Request,
+    fault: &Fault,
+) -> io::Result<()> {
+    match fault {
         Fault::NoSelection => explain_deletion(rt, home, request),
         Fault::TypeNeeded | Fault::NoSuchType => explain_types(rt, home),
         Fault::AutoImpossible => explain_counter(rt, home, request),
-        Fault::BadExpression { .. }
-        | Fault::BadPattern
-        | Fault::BadFieldList { .. }
-        | Fault::BadIndexList { .. }
-        | Fault::BadName
-        | Fault::BadRecord => explain_words(rt, home, request, fault),
+        Fault::BadExpression { at } => explain_place(rt, expression_in(request), *at),
+        Fault::BadPattern => explain_pattern(rt, home, expression_in(request)),
+        Fault::BadFieldList { at } => {
+            explain_place(rt, field_list_in(request), *at)?;
+            explain_fields(rt, request)
+        }
+        Fault::BadIndexList { at } => {
+            explain_place(rt, index_list_in(request), *at)?;
+            eprintln!(rt; "an index list is such as 0,4-7")
+        }
+        Fault::BadName => explain_name(rt, request),
+        Fault::BadRecord => explain_record(rt, request),
         _ => explain_contents(rt, home, fault),
     }
 }
@@ -64,43 +145,22 @@ fn explain_contents(
             )
         }
         Fault::Drifted => {
+            let path = home.path(Which::Base);
             eprintln!(rt;
-                "{journal}: recu recsel prints its edits; the next edit begins a new history"
+                "{path}: if the text of the last edit is brought back to the byte, it can be undone; the next edit begins a new history"
             )
         }
+        Fault::BadPattern => explain_pattern(rt, home, None),
         _ => Ok(()),
     }
 }
 
-/// Says what in the words of a request a refusal is about, or in those of the edit of a batch that is refused.
-fn explain_words(
-    rt: &HostRuntime,
-    home: &FileHome<'_, HostRuntime>,
-    request: &Request,
-    fault: &Fault,
-) -> io::Result<()> {
-    let edits = match request {
-        Request::Batch { text, .. } => batch_requests(rt.alloc(), text.as_slice()),
-        _ => Ok(Vec::new(rt.alloc())),
-    };
-    let request = match &edits {
-        Ok(edits) => part_of(rt.alloc(), request, edits, fault),
-        Err(_) => request,
-    };
-    match fault {
-        Fault::BadExpression { at } => explain_place(rt, expression_in(request), *at),
-        Fault::BadPattern => explain_pattern(rt, home, expression_in(request)),
-        Fault::BadFieldList { at } => {
-            explain_place(rt, field_list_in(request), *at)?;
-            eprintln!(rt; "a field list is such as Name,Email[0],Phone[1-2]")
-        }
-        Fault::BadIndexList { at } => {
-            explain_place(rt, index_list_in(request), *at)?;
-            eprintln!(rt; "an index list is such as 0,4-7")
-        }
-        Fault::BadName => explain_name(rt, request),
-        Fault::BadRecord => explain_record(rt, request),
-        _ => Ok(()),
+/// Says what a list of fields is.
+fn explain_fields(rt: &HostRuntime, request: &Request) -> io::Result<()> {
+    if adds_occurrences(request) {
+        eprintln!(rt; "fields are added by their names alone, such as Name,Email")
+    } else {
+        eprintln!(rt; "a field list is such as Name,Email[0],Phone[1-2]")
     }
 }
 
@@ -118,17 +178,6 @@ fn explain_violations(
     let _ = write_report(violations, &mut err);
     let _ = show_refused(rt, home, request, violations);
     eprintln!(rt; "--force makes the edit all the same")
-}
-
-/// Shows the line of a batch at which it is refused.
-fn explain_batch(rt: &HostRuntime, request: &Request, line: usize) -> io::Result<()> {
-    let Request::Batch { text, .. } = request else {
-        return Ok(());
-    };
-    match plain(line_in(text.as_slice(), line).0) {
-        Some(shown) if !shown.is_empty() => eprintln!(rt; "batch:{line}: {shown}"),
-        _ => Ok(()),
-    }
 }
 
 /// Shows the expression whose pattern is refused, or else the field of a descriptor.
@@ -154,13 +203,10 @@ fn explain_pattern(
 /// The line of the first field of a descriptor whose pattern is refused.
 fn line_of_pattern(alloc: Global, text: &[u8]) -> Option<usize> {
     let database = read(alloc, text).ok()?;
-    let mut line: usize = 1;
     for element in database.elements() {
         if element.raw.starts_with(b"%") && has_bad_pattern(alloc, element) {
-            return Some(line);
+            return Some(database.line_of(element.at));
         }
-        let newlines = element.raw.iter().filter(|byte| **byte == b'\n').count();
-        line = line.saturating_add(newlines);
     }
     None
 }
@@ -213,15 +259,21 @@ fn explain_line(rt: &HostRuntime, home: &FileHome<'_, HostRuntime>, line: usize)
     if shown.starts_with(b"\xEF\xBB\xBF") {
         return eprintln!(rt; "{path}:{line}: a byte order mark, which no rec file has");
     }
-    if let Some(shown) = plain(shown)
-        && !shown.is_empty()
-    {
-        eprintln!(rt; "{path}:{line}: {shown}")?;
-    }
+    show_line(rt, path, line, shown)?;
     if has_cr {
-        eprintln!(rt; "{path}:{line}: this line ends in CR LF, but one of a rec file in LF alone")?;
+        eprintln!(rt;
+            "{path}:{line}: this line ends in CR LF; those of a rec file end in LF alone"
+        )?;
     }
     Ok(())
+}
+
+/// Shows a line of a file, if it can be shown.
+fn show_line(rt: &HostRuntime, path: &str, line: usize, shown: &[u8]) -> io::Result<()> {
+    match plain(shown) {
+        Some(shown) if !shown.is_empty() => eprintln!(rt; "{path}:{line}: {shown}"),
+        _ => Ok(()),
+    }
 }
 
 /// A line of a text, counted from 1, without its end, and whether that is CR LF.
@@ -289,18 +341,15 @@ fn explain_deletion(
     let (Some(text), Some(pick)) = (home.text_again(rt.alloc()), pick_in(request)) else {
         return Ok(());
     };
-    let done = match request {
-        Request::CommentOut { .. } => "made comments",
-        _ => "deleted",
+    let does = match request {
+        Request::CommentOut { .. } => "comment out",
+        _ => "delete",
     };
     let Ok(count) = count_of_all(rt.alloc(), &text, &pick.kind) else {
         return Ok(());
     };
-    if count == 1 {
-        eprintln!(rt; "with --force 1 record is {done}")
-    } else {
-        eprintln!(rt; "with --force {count} records are {done}")
-    }
+    let records = if count == 1 { "record" } else { "records" };
+    eprintln!(rt; "--force would {does} {count} {records}")
 }
 
 /// How many records of a type a text has, or of the set that is meant where none is given.
@@ -369,25 +418,25 @@ fn explain_record(rt: &HostRuntime, request: &Request) -> io::Result<()> {
         Request::Insert { fresh, .. } | Request::Replace { fresh, .. } => match fresh {
             NewRecord::Pairs(_) => eprintln!(rt; "-f and -v, or -r, are needed"),
             NewRecord::Text(_) => eprintln!(rt;
-                "the text of -r has to be one record, as it stands in a file"
+                "the text has to be one record, as it stands in a file"
             ),
         },
         _ => Ok(()),
     }
 }
 
-/// Shows the automatic fields and the types of a new record's set.
+/// Shows the automatic fields and the types of a new record's set, or of all sets where fields are given to all records.
 fn explain_counter(
     rt: &HostRuntime,
     home: &FileHome<'_, HostRuntime>,
     request: &Request,
 ) -> io::Result<()> {
-    let Request::Insert {
-        kind: Some(kind),
-        ..
-    } = request
-    else {
-        return Ok(());
+    let kind = match request {
+        Request::Insert {
+            kind: Some(kind),
+            ..
+        } => Some(kind),
+        _ => None,
     };
     let Some(text) = home.text_again(rt.alloc()) else {
         return Ok(());
@@ -398,13 +447,17 @@ fn explain_counter(
     eprintln!(rt; "a field of %auto has no next number:{fields}")
 }
 
-/// The `%auto` and `%type` fields that the descriptor of a type has, each in a line after a newline.
-fn counters_in(alloc: Global, text: &[u8], kind: &Bytes) -> Result<String, Fault> {
+/// The `%auto` and `%type` fields that the descriptor of a type has, or that all descriptors have, each in a line after a newline.
+fn counters_in(alloc: Global, text: &[u8], kind: Option<&Bytes>) -> Result<String, Fault> {
     let database = read(alloc, text)?;
     let schema = Schema::read(alloc, &database)?;
     let mut fields = String::new(alloc);
     for set in schema.sets() {
-        if is_of_type(set, kind) {
+        let is_meant = match kind {
+            Some(kind) => is_of_type(set, kind),
+            None => true,
+        };
+        if is_meant {
             add_counters(&mut fields, &database, set.head)?;
         }
     }

@@ -2,14 +2,12 @@
 #![tactic(auto)]
 
 mod explanation;
-mod output;
+mod refused_edit;
 mod reported;
 mod request_words;
-mod status;
 
-use output::{StandardOutput, room_for};
-use rec_command::{Asked, Refusal, parse, with_batch, words};
-use rec_files::{FileHome, access_of, batch_text};
+use rec_command::{Asked, Refusal, finish, parse, with_batch, words};
+use rec_files::{FileHome, StandardOutput, access_of, batch_text, explain_output, room_for};
 use rec_tools::{Fault, Output, Reply};
 use reported::show_reported;
 use std::io;
@@ -23,7 +21,7 @@ fn main(rt: HostRuntime) -> ExitCode {
         writer: rt.stderr(),
         failed: 0,
     };
-    ExitCode::from(status::finish(&answer, &mut err))
+    ExitCode::from(finish(&answer, &mut err))
 }
 
 /// The answer to the command line; to one that asks for help there is none.
@@ -45,7 +43,7 @@ fn explain(rt: &HostRuntime, refusal: &Refusal, words: &[String]) -> Result<(), 
         Ok(false) => Err(refusal.fault()),
         Err(error) if error.kind() == io::ErrorKind::OutOfMemory => Err(Fault::OutOfMemory),
         Err(error) => {
-            let _ = output::explain(rt, error);
+            let _ = explain_output(rt, error);
             Err(Fault::StoreFailed)
         }
     }
@@ -58,7 +56,7 @@ fn run(rt: &HostRuntime, asked: Asked) -> Result<Reply, Fault> {
         file,
         journal,
     } = asked;
-    let mut request = match batch {
+    let mut request = match &batch {
         Some(path) => with_batch(request, batch_text(rt, path.as_str())?),
         None => request,
     };
@@ -78,7 +76,7 @@ fn run(rt: &HostRuntime, asked: Asked) -> Result<Reply, Fault> {
     let _ = match &answer {
         Ok(Reply::Violated(_)) if rt.stdout().is_terminal() => show_reported(rt, &home),
         Ok(_) => Ok(()),
-        Err(fault) => explanation::explain(rt, &home, &mut request, fault),
+        Err(fault) => explanation::explain(rt, &home, &mut request, &batch, fault),
     };
     answer
 }

@@ -1,9 +1,10 @@
 //! The records that a report is about.
 use crate::explanation::plain;
+use crate::refused_edit::{edited, force};
 use rec_files::FileHome;
 use rec_select::Schema;
 use rec_text::{Element, read, split_line};
-use rec_tools::{Bytes, Fault, MemoryHome, Output, Request, Rule, Violation};
+use rec_tools::{Bytes, Fault, Request, Rule, Violation};
 use std::alloc::{AllocError, Global};
 use std::io;
 
@@ -43,31 +44,6 @@ pub fn show_refused(
     }
 }
 
-/// What a request makes of a text.
-fn edited(alloc: Global, request: &Request, text: Vec<u8>) -> Result<Bytes, Fault> {
-    let journal = Bytes::from_vec(Vec::new(alloc));
-    let mut home = MemoryHome::new(alloc, Bytes::from_vec(text), journal);
-    let mut out = Output {
-        writer: Vec::new(alloc),
-        failed: 0,
-    };
-    rec_tools::run(alloc, &mut home, &mut out, request)?;
-    Ok(home.file)
-}
-
-fn force(request: &mut Request) {
-    match request {
-        Request::Insert { force, .. }
-        | Request::Replace { force, .. }
-        | Request::Delete { force, .. }
-        | Request::CommentOut { force, .. }
-        | Request::Set { force, .. }
-        | Request::AutoFill { force }
-        | Request::Batch { force, .. } => *force = true,
-        _ => {}
-    }
-}
-
 /// Shows the records of a text in which the first violations stand.
 fn show_records(rt: &HostRuntime, text: &[u8], violations: &[Violation]) -> io::Result<()> {
     let Ok(database) = read(rt.alloc(), text) else {
@@ -81,6 +57,9 @@ fn show_records(rt: &HostRuntime, text: &[u8], violations: &[Violation]) -> io::
         shown: 0,
     };
     for (index, element) in database.elements().iter().enumerate() {
+        if walk.shown >= violations.len() {
+            break;
+        }
         walk.enter(rt.alloc(), database.elements(), index, element)?;
         walk.show(rt, database.elements(), violations, element)?;
     }

@@ -1,54 +1,8 @@
 //! The words of a request that a refusal can be about.
-use rec_select::{Expr, FieldList, IndexList};
-use rec_text::{is_plain_name, read};
+use rec_select::FieldList;
+use rec_text::read;
 use rec_tools::{Action, Ask, Bytes, Fault, Form, NewRecord, Pick, Request};
 use std::alloc::Global;
-
-/// The edit of a batch whose words are refused so; where none is, or the request is no batch, the request itself.
-pub fn part_of<'r>(
-    alloc: Global,
-    request: &'r Request,
-    edits: &'r [Request],
-    fault: &Fault,
-) -> &'r Request {
-    for edit in edits {
-        if is_refused(alloc, edit, fault) {
-            return edit;
-        }
-    }
-    request
-}
-
-/// Whether the words of an edit are refused with a fault of this number.
-fn is_refused(alloc: Global, edit: &Request, fault: &Fault) -> bool {
-    let refusal = match fault {
-        Fault::BadExpression { .. } | Fault::BadPattern => match expression_in(edit) {
-            Some(text) => Expr::parse(alloc, text.as_slice()).err(),
-            None => None,
-        },
-        Fault::BadIndexList { .. } => match index_list_in(edit) {
-            Some(list) => IndexList::parse(alloc, list.as_slice()).err(),
-            None => None,
-        },
-        Fault::BadFieldList { .. } => match field_list_in(edit) {
-            Some(list) => FieldList::parse(alloc, list.as_slice()).err(),
-            None => None,
-        },
-        Fault::BadName => return has_bad_name(alloc, edit),
-        _ => None,
-    };
-    match refusal {
-        Some(refusal) => refusal.number() == fault.number(),
-        None => false,
-    }
-}
-
-fn has_bad_name(alloc: Global, edit: &Request) -> bool {
-    match names_in(alloc, edit) {
-        Ok(names) => names.iter().any(|name| !is_plain_name(name.as_slice())),
-        Err(_) => false,
-    }
-}
 
 /// The names that a request would write.
 pub fn names_in(alloc: Global, request: &Request) -> Result<Vec<Bytes>, Fault> {
@@ -127,5 +81,17 @@ pub fn field_list_in(request: &Request) -> Option<&Bytes> {
         } => Some(list),
         Request::Set { list, .. } => Some(list),
         _ => None,
+    }
+}
+
+/// Whether a request adds fields by a list that says which occurrence.
+pub fn adds_occurrences(request: &Request) -> bool {
+    match request {
+        Request::Set {
+            list,
+            action: Action::Add(_),
+            ..
+        } => list.as_slice().contains(&b'['),
+        _ => false,
     }
 }

@@ -158,6 +158,11 @@ fn is_misfit(alloc: Global, head: &[Element], name: &[u8], value: &[u8]) -> Resu
     Ok(misfit)
 }
 
+/// Whether an expression selects a record.
+fn selects(alloc: Global, expression: &[u8], record: &[Element]) -> Result<bool, Fault> {
+    Expr::parse(alloc, expression)?.selects(alloc, record)
+}
+
 /// The violations of a text, as they are found.
 #[derive(Drop)]
 struct Plain<'d, 't> {
@@ -268,7 +273,7 @@ impl<'d, 't> Plain<'d, 't> {
         at: usize,
     ) -> Result<(), Fault> {
         for (i, expression) in values(self.alloc, head, b"%constraint")?.iter().enumerate() {
-            if !Expr::parse(self.alloc, expression.as_slice())?.selects(self.alloc, record)? {
+            if !selects(self.alloc, expression.as_slice(), record)? {
                 let number = format!(in self.alloc; "{}", i + 1)?;
                 self.add(at, Rule::Constraint, number.as_bytes())?;
             }

@@ -3,7 +3,7 @@
 use crate::checks::plain::plain_report;
 use crate::log::Log;
 use rec_check::Schema;
-use rec_text::{Fault, Rule, Violation, read};
+use rec_text::{Database, Fault, Rule, Violation, read};
 use std::alloc::{AllocError, Global};
 
 pub fn run(alloc: Global, log: &mut Log) {
@@ -137,11 +137,16 @@ fn printed(alloc: Global, found: &[Violation]) -> Result<String, Fault> {
     Ok(report)
 }
 
+/// The report of a schema.
+fn report(alloc: Global, database: &Database) -> Result<String, Fault> {
+    let found = Schema::read(alloc, database)?.violations(alloc, database)?;
+    printed(alloc, &found)
+}
+
 /// The report of a schema, which the plain program gives too.
 fn try_both(alloc: Global, log: &mut Log, text: &[u8]) -> Result<String, Fault> {
     let database = read(alloc, text)?;
-    let found = Schema::read(alloc, &database)?.violations(alloc, &database)?;
-    let report = printed(alloc, &found)?;
+    let report = report(alloc, &database)?;
     let plain = printed(alloc, &plain_report(alloc, &database)?)?;
     log.at_bytes(text);
     log.same(

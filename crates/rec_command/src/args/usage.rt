@@ -50,11 +50,11 @@ pub fn command<'a>(alloc: Global) -> Result<Command<'a>, AllocError>
         .subcommand(recdel(alloc)?)?
         .subcommand(recset(alloc)?)?
         .subcommand(batch(alloc)?)?
-        .subcommand(with_paths(alloc, "undo", "Takes the newest edit back", UNDO_HELP)?)?
+        .subcommand(with_paths(alloc, "undo", "Undoes the newest edit", UNDO_HELP)?)?
         .subcommand(with_paths(
             alloc,
             "redo",
-            "Makes the edit again that was undone last",
+            "Redoes the edit that was undone last",
             REDO_HELP,
         )?)?
         .subcommand(with_paths(
@@ -122,7 +122,7 @@ fn recins<'a>(alloc: Global) -> Result<Command<'a>, AllocError>
     ensures alone { IfOk result (λ command. (fields_of command).has_globals ≡ false) }
 {
     let tool = Command::new(alloc, "recins")
-        .about("Puts a record in, or instead of others")
+        .about("Inserts a record, or replaces records with it")
         .override_usage(RECINS_USAGE)
         .long_about(RECINS_ABOUT)
         .after_help(RECINS_HELP);

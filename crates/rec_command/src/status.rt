@@ -1,10 +1,10 @@
-//! What the program says at its end: the line of a fault, and the exit status.
+//! What a command ends with: the line of a fault, and the exit status.
 ghost use Rattle.std.specs.Prelude.{◌≡◌, OnOk};
 ghost use Rattle.std.specs.Io.KnownBytes.{Appends};
-ghost use Rattle.recu.specs.Status.{status_of, violations_in};
+ghost use Rattle.rec_command.specs.Status.{status_of};
 
 use rec_text::put_all;
-use rec_tools::{Fault, Reply, Sink, Violation};
+use rec_tools::{Fault, Reply, Sink};
 use std::fmt;
 use std::fmt::Write;
 
@@ -22,16 +22,6 @@ pub fn finish<W: Sink>(answer: &Result<Option<Reply>, Fault>, err: &mut W) -> u8
             let _ = writeln!(text, "recu: {fault}");
             1
         }
-    }
-}
-
-/// The violations for which an edit was refused; none for another fault.
-pub fn violations_of(fault: &Fault) -> &[Violation]
-    ensures { result.now ≡ violations_in fault.now }
-{
-    match fault {
-        Fault::Integrity(violations) => violations.as_slice(),
-        _ => &[],
     }
 }
 

@@ -4,7 +4,7 @@ ghost use Rattle.std.specs.Io.Buffered.{writer_buffer, writer_contents, writer_i
 ghost use Rattle.std.specs.Io.KnownBytes.{Keeps};
 ghost use Rattle.rec_text.specs.Sink.{KeptAtSuccess, RisenAtStoreFailed, one_more};
 
-use rec_files::Access;
+use crate::access::Access;
 use rec_tools::{Fault, Sink};
 use std::alloc::Global;
 use std::io;
@@ -61,7 +61,7 @@ impl<W: Write + Drop> StandardOutput<W> {
     /// Says on standard error why it failed.
     pub fn explain(&self, err: &impl Eprint) -> io::Result<()> {
         match self.failure {
-            Some(error) => explain(err, error),
+            Some(error) => explain_output(err, error),
             None => Ok(()),
         }
     }
@@ -104,7 +104,7 @@ fn none_taken() -> Error {
 }
 
 /// Says on standard error why standard output failed. A reader that closed its pipe knows why.
-pub fn explain(err: &impl Eprint, error: Error) -> io::Result<()> {
+pub fn explain_output(err: &impl Eprint, error: Error) -> io::Result<()> {
     if error.kind() == ErrorKind::BrokenPipe {
         return Ok(());
     }

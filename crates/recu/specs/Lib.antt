@@ -1,2 +1,0 @@
--- what the program ends with, and what it means
-pub mod Status

@@ -89,7 +89,7 @@ meets bound n = elim bound.comparison [
 
 -- ---- what is wrong with a field of a descriptor
 
--- it means nothing; or it means something that recu doesn't support
+-- it isn't written as such a field has to be (4); or it asks for what recu doesn't support (5)
 pub data Flaw : Type 0 where
   bad : Flaw
   unsupported : Flaw

@@ -13,20 +13,28 @@ use Rattle.rec_check.specs.Types.{FieldType, matching, unchecked, Definition, Ty
 use Rattle.rec_check.specs.Words.{words, last_that}
 use Rattle.rec_text.specs.Bytes.{is_among}
 
--- The key; the names of fields that each record has, has none of, has at most one of, and has with values that no other
--- record has; where they are limited, the names that are allowed beside the key and what each record has; the names of
--- counters; the types; what kinds mean; how many records there are; and the expressions that select each record.
+-- what a descriptor asks of the records of its set
 pub record Rules : Type 0 where
+  -- each has exactly one field of this name, and no two have one value of it
   pub key : Option (List ℕ)
+  -- each has a field of each of these names
   pub mandatory : List (List ℕ)
+  -- none has one
   pub prohibited : List (List ℕ)
+  -- none has two of one name
   pub unique : List (List ℕ)
+  -- no value of one stands in two records
   pub singular : List (List ℕ)
+  -- where given, only fields of these names, of the key and of the mandatory ones
   pub allowed : Option (List (List ℕ))
+  -- the counters
   pub automatic : List (List ℕ)
   pub types : List Typing
+  -- what kinds mean
   pub definitions : List Definition
+  -- how many there are
   pub size : Option Bound
+  -- each is selected by these
   pub constraints : List Term
 
 -- nothing is asked

@@ -35,7 +35,7 @@ truths = codes "yes" ∷ codes "no" ∷ codes "0" ∷ codes "1" ∷ codes "true"
 abbrev pub is_continuation : ℕ → Bool
 is_continuation b = nat_le 128 b && nat_le b 191
 
--- n characters, where the text is UTF-8
+-- how many characters the text has, where it is UTF-8
 abbrev pub characters : List ℕ → ℕ
 characters text = count_by (λ b. not (is_continuation b)) text
 

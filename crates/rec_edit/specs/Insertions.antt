@@ -15,10 +15,10 @@ use Rattle.rec_edit.specs.Rules.{canonical, empty_line}
 
 -- ---- insert
 
--- the paragraph of an element: where it begins, and where it ends, with this element or a later one
 abbrev pub is_full : Piece → Bool
 is_full piece = not (is_blank_piece piece)
 
+-- the first index of the run of elements that aren't blank before an index, and the end of the run from the index on
 abbrev pub paragraph_start : List Piece → ℕ → ℕ
 paragraph_start pieces i = i - prefix_len is_full (reverse (take i pieces))
 
@@ -46,7 +46,7 @@ at_end pieces new = record { place = length pieces; new = if is_full_at pieces (
 abbrev pub last_of : Set_ → Option ℕ
 last_of s = if has_members s then Some (s.members.end - 1) else s.head
 
--- the ranges of the records
+-- the range of the record of an index, if there is one
 abbrev pub range_of : List (Range ℕ) → Option ℕ → Option (Range ℕ)
 range_of records i = option_and_then (slice_get records) i
 

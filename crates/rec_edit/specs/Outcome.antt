@@ -34,7 +34,7 @@ AreChosen pieces sets wanted =
     Then (IsSelection pieces sets wanted.record_type wanted.filter) (λ selected answer.
     (records : List (Range ℕ)) × AreRecords pieces records × (answer ≡ Ok (filter_map (slice_get records) selected)))
 
--- all records of a set are taken out only where that is forced
+-- records are taken out without a selection only where that is forced
 abbrev pub allowed : Filter → Bool → Result (Unit {0}) Fault
 allowed all force = if force then Ok tt else Err NoSelection
 allowed (by_expression term) force = Ok tt

@@ -79,7 +79,7 @@ commenting chosen = removing true chosen
 
 -- ---- replace
 
--- the record's first element is replaced by the new fields, the others to nothing; all are changed as one
+-- the record's first element is replaced by the new fields, the others by nothing; all are changed as one
 abbrev pub replacement : List Piece → List (Range ℕ) → Layout
 replacement fields chosen = record untouched {
   becomes = λ i piece. if list_any (λ own_range. own_range.start == i) chosen then fields else if is_own chosen i then [] else piece ∷ [];

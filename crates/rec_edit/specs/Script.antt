@@ -132,7 +132,8 @@ changes_from at (part ∷ parts) =
     then changes_from (at + length (text_of part.old)) parts
     else record { at = at; old = text_of part.old; new = text_of part.new } ∷ changes_from (at + length (text_of part.old)) parts
 
--- the parts whose old elements lie in a range of indexes, the first part beginning at this index
+-- the parts whose old elements lie in a range of indexes, those without old elements at its ends too; the first part begins at
+-- this index
 abbrev pub parts_in : Range ℕ → ℕ → List Part → List Part
 parts_in range i [] = []
 parts_in range i (part ∷ parts) =

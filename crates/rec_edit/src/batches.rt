@@ -25,8 +25,8 @@ use rec_journal::EditSteps;
 use rec_text::{Bytes, Database, Fault, read};
 use std::alloc::Global;
 
-/// What a batch makes of a text: the steps that lead to the text after it, one for each edit that changes something, and how
-/// many records they changed.
+/// What a batch makes of a text: the steps that lead to the text after it, one for each edit that changes something, and the
+/// sum of the numbers of records that the edits changed.
 #[derive(Drop)]
 pub struct BatchEdited {
     pub steps: EditSteps,
@@ -144,7 +144,7 @@ fn all_made(
 }
 
 /// What edits make of a text, each of the text that the one before gave. Without `force` the last text must keep the rules of
-/// its record sets, and no edit deletes or comments out all records of a set.
+/// its record sets, and no edit deletes or comments out records without a selection.
 pub fn batch(
     alloc: Global,
     database: &Database,
@@ -160,7 +160,7 @@ pub fn batch(
 
     ensures refusals { IfErr result IsEditRefusal }
 
-    // The steps lead from the text to the last one; each has a hunk and the tool of its edit.
+    // The steps lead from the text to the last one; each has a hunk and a tool that isn't `batch`.
     ensures leads { IfOk result (λ made. LeadsBy made.steps (text_of database.now) made.text) }
     ensures changes { IfOk result (λ made. AreDone made.steps) }
 

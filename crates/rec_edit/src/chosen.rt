@@ -45,7 +45,7 @@ pub(crate) fn chosen_records(
     Ok(ranges_at(alloc, database.records().as_slice(), &selected)?)
 }
 
-/// Refuses all records of a set, unless that is forced.
+/// Refuses to take records without a selection, unless that is forced.
 fn require_allowed(by: &By, force: bool) -> Result<(), Fault>
     ensures { MatchResult result
         (λ _. allowed (filter_of by.now) force ≡ Ok tt)

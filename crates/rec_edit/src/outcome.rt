@@ -256,8 +256,8 @@ fn outcome(alloc: Global, file: &RecFile, edit: &Edit, force: bool) -> Result<Ed
     checked(alloc, made)
 }
 
-/// What an edit makes of a text. Without `force` the edited text must keep the rules of its record sets, and all records of
-/// a set aren't deleted or commented out.
+/// What an edit makes of a text. Without `force` the edited text must keep the rules of its record sets, and records
+/// aren't deleted or commented out without a selection.
 pub fn edit(
     alloc: Global,
     database: &Database,

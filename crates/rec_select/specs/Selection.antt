@@ -22,7 +22,8 @@ use Rattle.rec_select.specs.declared.selection.Selection.{Selection}
 
 -- ---- the set
 
--- without a type: the untyped set where it has a record, or else the only typed one; there may be no typed one
+-- where the untyped set has no record: the only typed set; where there is none the untyped one, and where there are several a
+-- type is needed
 abbrev pub only_set : Set_ → List Set_ → Result Set_ Fault
 only_set untyped [] = Ok untyped
 only_set untyped (s ∷ []) = Ok s
@@ -31,6 +32,7 @@ only_set untyped (s ∷ t ∷ sets) = Err TypeNeeded
 abbrev pub has_members : Set_ → Bool
 has_members s = nat_lt s.members.start s.members.end
 
+-- without a type: the untyped set where it has a record, or else as above; the untyped set is the first
 abbrev pub set_without_type : List Set_ → Result Set_ Fault
 set_without_type [] = Err TypeNeeded
 set_without_type (untyped ∷ typed) = if has_members untyped then Ok untyped else only_set untyped typed

@@ -27,7 +27,7 @@ module _ {S : Type 0} (contents : S → Option (List ℕ)) (failures : S → ℕ
     pub cause : ((fault ≡ OutOfMemory) × (failures new ≡ failures old))
         ⊎ ((fault ≡ StoreFailed) × HasRisen (failures old) (failures new))
 
-  -- the call prints this text
+  -- the call prints this text; where it is refused, a prefix of it
   abbrev pub Prints : {X : Type 0} → List ℕ → Result X Fault → Type 0
   Prints text result = MatchResult result (λ _. HasTaken text) (HasStopped text)
 

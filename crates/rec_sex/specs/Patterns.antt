@@ -12,9 +12,9 @@ use Rattle.regex.specs.declared.error.Error.TheVariants.{Internal, OutOfMemory}
 abbrev pub IsBuiltFrom : List ℕ → Regex → Type 0
 IsBuiltFrom text pattern = (regex_source pattern ≡ text) × (regex_config pattern ≡ default_config) × IsReadFromSource pattern
 
--- As far as its contract says, `regex` may refuse the text, for another cause than memory: its grammar refuses the text,
--- or reads it. For a text that is read it may answer that the pattern is too big, and no clause says of any pattern that
--- it isn't. So this holds of good patterns too; that they are accepted is tested.
+-- As far as its contract says, `regex` may refuse the text for another cause than memory: as no pattern where its grammar
+-- refuses the text, and as too big where it reads the text, since no clause says of any pattern that it isn't too big. So
+-- this holds of good patterns too; that they are accepted is tested.
 pub record PatternMayBeRefused (text : List ℕ) : Type 0 where
   pub error : Error
   pub refused : IsRefusal default_config text error

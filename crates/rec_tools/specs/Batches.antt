@@ -160,7 +160,7 @@ AreEdits text answer = ((line : ℕ) × IsUnreadAt text line × (answer ≡ Err 
     ⊎ ((pieces : List Piece) × (records : List (Range ℕ)) × AreElementsOf pieces text × AreRecords pieces records
     × AreEditsOf pieces records answer)
 
--- two answers of a text agree: they are edits of the same records, or one fault
+-- two answers of a text agree: at each place some record asks for both edits, or they are one fault
 abbrev pub Agree : Result (List Request) Fault → Result (List Request) Fault → Type 0
 Agree (Ok requests) (Ok others) = AllZip (λ one other. (own : List Piece) × AsksFor own one × AsksFor own other) requests others
 Agree (Err fault) (Err other) = fault ≡ other

@@ -15,8 +15,8 @@ fault_of (failing ∷ faults) call = if failing.call == call then Some failing.f
 abbrev pub held : MemoryHome → Contents
 held home = record { file = home.file; journal = home.journal }
 
--- A call goes as the list says: where it gives a fault, the call fails so; where it gives none, it doesn't fail. Only a
--- replace that finds no memory for its copy fails where the list doesn't say it, and then it leaves the old content.
+-- Where the list gives a fault, the call fails, and leaves the new content only where the fault says so. Where it gives none,
+-- only a replace may fail, as it does where its copy finds no memory, and then it leaves the old content.
 abbrev pub IsScripted : Option StoreFault → Call → Type 0
 IsScripted None (got which bytes) = Unit {0}
 IsScripted None (lacked which) = Unit {0}

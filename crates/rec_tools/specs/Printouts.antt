@@ -110,7 +110,7 @@ abbrev pub WentOut : {S : Type 0} → (S → Option (List ℕ)) → (S → ℕ) 
 WentOut {S} contents failures old new p =
     Appends (contents old) (contents new) p.text × (p.before ≡ failures old) × (p.after ≡ failures new)
 
--- the one went out, and then the other
+-- the one went out, in which the count of failures didn't fall, and then the other
 abbrev pub IsBoth : Printed → Printed → Printed → Type 0
 IsBoth p first rest = (p.text ≡ first.text ++ rest.text) × (first.before ≡ p.before) × (rest.before ≡ first.after) × (rest.after ≡ p.after)
     × (first.before ≤ first.after)

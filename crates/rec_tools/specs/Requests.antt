@@ -1,5 +1,5 @@
 -- What each request asks for: a look at the file or at its history, an edit, a move through the history, or that old edits are
--- forgotten. Each record_type has one case in what follows, and each request one row here.
+-- forgotten. Each kind has one case in what follows, and each request one row here.
 use Rattle.std.specs.Prelude.{◌≡◌, ℕ, Bool, List, [], ◌∷◌, Result, Ok}
 use Rattle.rec_text.specs.declared.fault.Fault.{Fault}
 use Rattle.rec_journal.specs.declared.patch.Direction.{Direction}
@@ -72,7 +72,7 @@ IsBatch text force =
 
 -- ---- requests
 
--- the requests
+-- what a request asks for
 abbrev pub asked_of : Request → Asked
 asked_of (Show pick form collapse) = looking (λ file. IsShownText (IsShow file pick form collapse))
 asked_of (Info record_type form) = looking (λ file. IsShownText (IsInfoOf file record_type form))

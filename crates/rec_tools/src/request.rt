@@ -70,8 +70,8 @@ pub enum Request {
         fresh: NewRecord,
         force: bool,
     },
-    /// Deletes records. Only with `force` may these be all records of a set, and may the file break the rules of its
-    /// record sets afterwards.
+    /// Deletes records. Only with `force` may all be picked (`Ask::All`), and may the file break the rules of its record sets
+    /// afterwards.
     Delete {
         pick: Pick,
         force: bool,
@@ -117,7 +117,7 @@ pub enum Reply {
     Shown,
     /// The number of violations that were reported.
     Violated(usize),
-    /// The number of records that were changed.
+    /// The number of records that were changed, of a batch the sum of those of its edits.
     Edited(usize),
     /// The text stays as it is; no event is made.
     Unchanged,

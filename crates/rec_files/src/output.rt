@@ -1,5 +1,5 @@
 //! Standard output.
-ghost use Rattle.std.specs.Prelude.{◌≡◌, ◌≤◌, [], Some, IfOk, OnOk, IsOkUnless};
+ghost use Rattle.std.specs.Prelude.{◌≡◌, ◌≢◌, ◌<◌, ◌≤◌, [], Some, IfOk, OnOk, IsOkUnless};
 ghost use Rattle.std.specs.Io.Buffered.{writer_buffer, writer_contents, writer_inner};
 ghost use Rattle.std.specs.Io.KnownBytes.{Keeps};
 ghost use Rattle.rec_text.specs.Sink.{KeptAtSuccess, RisenAtStoreFailed, one_more};
@@ -14,7 +14,10 @@ use std::io::{BufWriter, Error, ErrorKind, Write};
 const PIECE: usize = 65_536;
 
 /// How many bytes of output are held for a request. One that may edit prints nothing, and needs no memory for it.
-pub fn room_for(access: Access) -> usize {
+pub fn room_for(access: Access) -> usize
+    ensures look { access ≡ Access.Look → 0 < result }
+    ensures change { access ≢ Access.Look → result ≡ 0 }
+{
     match access {
         Access::Look => PIECE,
         Access::Change | Access::Rewrite => 0,

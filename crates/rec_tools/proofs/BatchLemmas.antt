@@ -1,5 +1,5 @@
 -- Lemmas on the text of a batch.
-use Rattle.std.proofs.Common.{◌≡◌, ◌≢◌, ℕ, Bool, true, false, List, [], ◌∷◌, ◌++◌, Option, Some, None, map, take, codes, length, drop, get_or, zero, suc, ◌+◌, ◌<◌, inl, inr, arith, add-one, ◌==◌, if◌then◌else◌, ◌∙◌, refl, sym, ap, subst}
+use Rattle.std.proofs.Common.{◌≡◌, ◌≢◌, ℕ, Bool, true, false, List, [], ◌∷◌, ◌++◌, Option, Some, None, map, take, codes, length, drop, get_or, zero, suc, ◌+◌, ◌<◌, inl, inr, arith, add-one, if◌then◌else◌, ◌∙◌, refl, sym, ap, subst}
 use Rattle.std.specs.Prelude.{Result, Ok, Err, IfOk, IfErr, option_to_list}
 use Rattle.std.specs.List.{AllByRecursion, AllZip}
 use Rattle.std.specs.declared.ops.Range.{Range}
@@ -16,7 +16,7 @@ use Rattle.std.proofs.lemmas.List.{map-append}
 use Rattle.std.proofs.lemmas.Slice.Zip.{all_zipped_more}
 use Rattle.rec_text.specs.Records.{AreRecords, elements_in, is_field_piece}
 use Rattle.rec_journal.specs.declared.event.Tool.{Tool}
-use Rattle.rec_journal.specs.declared.event.Tool.TheVariants.{RecIns, RecDel, RecSet, RecFix, Batch}
+use Rattle.rec_journal.specs.declared.event.Tool.TheVariants.{RecIns, RecDel, RecSet, Batch}
 use Rattle.rec_journal.specs.Event.{tool_name}
 use Rattle.rec_edit.specs.declared.request.Action.{Action}
 use Rattle.rec_edit.specs.declared.request.NewRecord.{NewRecord}

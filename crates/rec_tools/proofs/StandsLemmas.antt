@@ -1,5 +1,5 @@
 -- Contents stand for one state at most, and a file and an empty journal stand for the first.
-use Rattle.std.proofs.Common.{arith, ◌≡◌, ◌≢◌, inr, ℕ, false, List, [], ◌∷◌, ◌++◌, length, length-append, Result, Ok, sym, ap, ap₂, subst, refl, ◌∙◌}
+use Rattle.std.proofs.Common.{arith, ◌≡◌, ◌≢◌, inr, ℕ, false, List, [], ◌∷◌, ◌++◌, length, length-append, Ok, sym, ap, ap₂, subst, refl, ◌∙◌}
 use Rattle.rec_text.proofs.lemmas.FaultLemmas.{same_value}
 use Rattle.rec_journal.specs.declared.event.Revision.{Revision}
 use Rattle.rec_journal.specs.declared.patch.Direction.{Direction}

@@ -3,7 +3,8 @@ ghost use Rattle.std.specs.Prelude.{◌≡◌, Ok, Err, IfOk, IfErr};
 ghost use Rattle.rec_text.specs.Elements.{text_of};
 ghost use Rattle.rec_text.specs.Faults.{UnlessMemory};
 ghost use Rattle.rec_tools.specs.Steps.{IsRefusal};
-ghost use Rattle.rec_tools.specs.Requests.{editing, asked_of, IsBatch};
+ghost use Rattle.rec_edit.specs.Task.{task_of};
+ghost use Rattle.rec_tools.specs.Requests.{editing, asked_of, IsBatch, IsTaskOf};
 ghost use Rattle.rec_tools.specs.proving.Editing.{IsEditing, IsOne, IsMadeBy, TellsChanges, told_by};
 ghost use Rattle.rec_tools.specs.proving.ReadFiles.{described_file, BelongTogether};
 
@@ -11,7 +12,7 @@ use crate::batches::batch_requests;
 use crate::editing::{edit_of, edits_of, is_forced};
 use crate::rec_file::ReadFile;
 use crate::request::Request;
-use rec_edit::{BatchEdited, Edited, batch_owned, edit_owned};
+use rec_edit::{BatchEdited, Edit, Edited, batch_owned, edit_owned};
 use rec_journal::Tool;
 use rec_text::Fault;
 use std::alloc::Global;
@@ -33,6 +34,21 @@ pub fn text_made(made: &Made) -> &[u8]
     }
 }
 
+/// What the edit that a request asks for makes of a file.
+fn made_of(alloc: Global, file: ReadFile, request: &Request, edit: &Edit) -> Result<Made, Fault>
+    requires one { IsOne request.now }
+    requires edit { IsTaskOf request.now (Ok (task_of edit.now)) }
+    requires together { BelongTogether file }
+    ensures found { UnlessMemory result (IsMadeBy (asked_of request.now) (described_file file.entry)) }
+    ensures refusals { IfErr result IsRefusal }
+    ensures tells { IfOk result (TellsChanges (text_of file.entry.database)) }
+{
+    let force = is_forced(request);
+    let ReadFile { database, schema } = file;
+    let edited = edit_owned(alloc, database, schema, edit, force)?;
+    Ok(Made::One(edit.tool(), edited))
+}
+
 /// What one edit makes of a file.
 fn made_by_one(alloc: Global, file: ReadFile, request: &Request) -> Result<Made, Fault>
     requires one { IsOne request.now }
@@ -41,11 +57,8 @@ fn made_by_one(alloc: Global, file: ReadFile, request: &Request) -> Result<Made,
     ensures refusals { IfErr result IsRefusal }
     ensures tells { IfOk result (TellsChanges (text_of file.entry.database)) }
 {
-    let asked = edit_of(alloc, request)?;
-    let force = is_forced(request);
-    let ReadFile { database, schema } = file;
-    let edited = edit_owned(alloc, database, schema, &asked, force)?;
-    Ok(Made::One(asked.tool(), edited))
+    let edit = edit_of(alloc, request)?;
+    made_of(alloc, file, request, &edit)
 }
 
 /// What the edits that a text lists make of a file.

@@ -1,4 +1,14 @@
 //! Tries the rules of a set on its records.
+ghost use Rattle.std.specs.Prelude.{◌≡◌, ℕ, List, [], IfOk, IsOkUnless};
+ghost use Rattle.rec_check.specs.Rules.{field_type};
+ghost use Rattle.rec_check.specs.Stored.{rules_stored};
+ghost use Rattle.rec_check.specs.declared.checks.occurrence_rule.OccurrenceRule.TheVariants.{Present, Absent, Single};
+ghost use Rattle.rec_check.specs.proving.Constraints.{terms_in};
+ghost use Rattle.rec_check.specs.proving.Names.{allows};
+ghost use Rattle.rec_check.specs.proving.Ready.{IsOccurrenceCheck};
+ghost use Rattle.rec_check.specs.proving.Singulars.{IsSingularAfter};
+ghost use Rattle.rec_check.specs.proving.Tests.{type_in};
+ghost use Rattle.rec_check.specs.Violations.{is_allowed};
 
 use crate::checks::allowed::Allowed;
 use crate::checks::constraints::Constraints;
@@ -25,6 +35,49 @@ pub(crate) struct Checker<'r, 't> {
     pub constraints: Constraints<'r>,
 }
 
+/// What the rules ask of how often names occur: at least once, never, and at most once.
+fn occurrence_checks<'r>(
+    alloc: Global,
+    rules: &'r Rules,
+) -> Result<
+    (
+        OccurrenceCheck<'r>,
+        OccurrenceCheck<'r>,
+        OccurrenceCheck<'r>,
+    ),
+    Fault,
+>
+    ensures ready { IfOk result (λ (mandatory, prohibited, unique).
+        IsOccurrenceCheck Present rules.now.mandatory.items mandatory
+        × IsOccurrenceCheck Absent rules.now.prohibited.items prohibited
+        × IsOccurrenceCheck Single rules.now.unique.items unique) }
+    ensures refusals { IsOkUnless result Fault.OutOfMemory }
+{
+    let mandatory = OccurrenceCheck::of(alloc, OccurrenceRule::Present, &rules.mandatory)?;
+    let prohibited = OccurrenceCheck::of(alloc, OccurrenceRule::Absent, &rules.prohibited)?;
+    let unique = OccurrenceCheck::of(alloc, OccurrenceRule::Single, &rules.unique)?;
+    Ok((mandatory, prohibited, unique))
+}
+
+/// What the rules ask of single fields, by their names and their values, and of whole records.
+fn field_checks<'r, 't>(
+    alloc: Global,
+    rules: &'r Rules,
+) -> Result<(Singular<'r, 't>, Allowed<'r>, Types<'r>, Constraints<'r>), Fault>
+    ensures ready { IfOk result (λ (singular, allowed, types, constraints).
+        IsSingularAfter rules.now.singular.items [] singular
+        × ((name : List ℕ) → allows allowed name ≡ is_allowed (rules_stored rules.now) name)
+        × ((name : List ℕ) → type_in types name ≡ field_type (rules_stored rules.now) name)
+        × (terms_in constraints ≡ (rules_stored rules.now).constraints)) }
+    ensures refusals { IsOkUnless result Fault.OutOfMemory }
+{
+    let singular = Singular::of(alloc, &rules.singular)?;
+    let allowed = Allowed::of(alloc, rules)?;
+    let types = Types::of(alloc, rules)?;
+    let constraints = Constraints::of(alloc, &rules.constraints)?;
+    Ok((singular, allowed, types, constraints))
+}
+
 impl<'r, 't> Checker<'r, 't> {
     ghost use Rattle.std.specs.Prelude.{◌≡◌, ◌++◌, ◌∷◌, [], ◌<◌, ◌≤◌, ℕ, List, length, IfOk, OnOk, IsOkUnless};
     ghost use Rattle.std.specs.declared.ops.Range.{Range};
@@ -41,15 +94,17 @@ impl<'r, 't> Checker<'r, 't> {
         ensures ready { IfOk result (λ checker. IsReady (rules_stored rules.now) [] checker) }
         ensures refusals { IsOkUnless result Fault.OutOfMemory }
     {
+        let (mandatory, prohibited, unique) = occurrence_checks(alloc, rules)?;
+        let (singular, allowed, types, constraints) = field_checks(alloc, rules)?;
         Ok(Checker {
             key: Key::of(alloc, &rules.key),
-            mandatory: OccurrenceCheck::of(alloc, OccurrenceRule::Present, &rules.mandatory)?,
-            prohibited: OccurrenceCheck::of(alloc, OccurrenceRule::Absent, &rules.prohibited)?,
-            unique: OccurrenceCheck::of(alloc, OccurrenceRule::Single, &rules.unique)?,
-            singular: Singular::of(alloc, &rules.singular)?,
-            allowed: Allowed::of(alloc, rules)?,
-            types: Types::of(alloc, rules)?,
-            constraints: Constraints::of(alloc, &rules.constraints)?,
+            mandatory,
+            prohibited,
+            unique,
+            singular,
+            allowed,
+            types,
+            constraints,
         })
     }
 

@@ -1,6 +1,5 @@
 -- The rules of a set, ready to be tried on one record after another.
-use Rattle.std.specs.Prelude.{◌≡◌, ℕ, ◌==◌, Bool, nat_le, List, [], ◌++◌, map, filter}
-use Rattle.std.specs.Borrow.{Bor}
+use Rattle.std.specs.Prelude.{◌≡◌, ℕ, ◌==◌, Bool, nat_le, List, [], ◌++◌, filter}
 use Rattle.std.specs.declared.ops.Range.{Range}
 use Rattle.rec_text.specs.declared.violations.Rule.{Rule}
 use Rattle.rec_text.specs.declared.violations.Rule.TheVariants.{Mandatory, Prohibit, Unique}

@@ -12,10 +12,6 @@ use Rattle.rec_check.specs.Sets.{is_of_type}
 use Rattle.rec_check.specs.proving.Steps.{record_types, with_member, with_record, HaveTypes}
 
 module _ {X Y : Type 0} (test : Y → Bool) (f : X → Y) where
-  pub list_any-map : (xs : List X) → list_any test (map f xs) ≡ list_any (λ x. test (f x)) xs
-  list_any-map [] = refl
-  list_any-map (x ∷ xs) = ap (λ b. test (f x) || b) (list_any-map xs)
-
   position_or_len-map : (xs : List X) → position_or_len test (map f xs) ≡ position_or_len (λ x. test (f x)) xs
   position_or_len-map [] = refl
   position_or_len-map (x ∷ xs) = ap (λ n. cond (not (test (f x))) (1 + n) 0) (position_or_len-map xs)

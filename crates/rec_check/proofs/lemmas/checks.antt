@@ -1,7 +1,6 @@
 pub mod LineLemmas
 pub mod NameLemmas
 pub mod NamePlaceLemmas
-pub mod KeyLemmas
 pub mod SingularLemmas
 pub mod ConstraintLemmas
 pub mod UnresolvedLemmas

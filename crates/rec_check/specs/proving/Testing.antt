@@ -7,7 +7,7 @@ use Rattle.rec_check.specs.declared.field_types.field_type.FieldType.{FieldType}
 use Rattle.rec_check.specs.declared.field_types.field_type.FieldType.TheVariants.{Matching}
 use Rattle.rec_check.specs.declared.field_types.test.Test.{Test}
 use Rattle.rec_check.specs.declared.field_types.test.Test.TheVariants.{Direct, Words, Pattern}
-use Rattle.rec_check.specs.proving.Names.{has_name}
+use Rattle.rec_sex.specs.proving.Choices.{has_name}
 use Rattle.rec_check.specs.Stored.{type_stored}
 use Rattle.rec_check.specs.Types.{fits}
 

@@ -1,6 +1,6 @@
 //! Lists of names.
 ghost use Rattle.std.specs.Prelude.{◌≡◌, ◌||◌, ℕ, List, OnOk, IsOkUnless};
-ghost use Rattle.rec_check.specs.proving.Names.{has_name};
+ghost use Rattle.rec_sex.specs.proving.Choices.{has_name};
 ghost use Rattle.rec_text.specs.Bytes.{is_among as among};
 
 use indexmap::IndexSet;

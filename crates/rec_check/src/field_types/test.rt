@@ -1,6 +1,6 @@
 //! How values are tried for a type.
 ghost use Rattle.std.specs.Prelude.{◌≡◌, true, ℕ, List, IfOk, IsOkUnless};
-ghost use Rattle.rec_check.specs.proving.Names.{has_name};
+ghost use Rattle.rec_sex.specs.proving.Choices.{has_name};
 ghost use Rattle.rec_check.specs.Stored.{type_stored};
 ghost use Rattle.rec_check.specs.proving.Testing.{is_plain};
 ghost use Rattle.rec_check.specs.Types.{fits, is_continuation as goes_on, characters, lies_between, truths};

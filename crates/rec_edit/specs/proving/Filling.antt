@@ -10,7 +10,7 @@ use Rattle.rec_text.specs.Records.{AreRecords}
 use Rattle.rec_check.specs.declared.automatic.counter.Counter.{Counter}
 use Rattle.rec_check.specs.Automatic.{automatic_names, automatic_of, IsAutomatic, IsNext}
 use Rattle.rec_check.specs.Counters.{AreCounters}
-use Rattle.rec_check.specs.proving.Names.{has_name}
+use Rattle.rec_sex.specs.proving.Choices.{has_name}
 use Rattle.rec_check.specs.Rules.{Rules}
 use Rattle.rec_check.specs.Schemas.{Described}
 use Rattle.rec_text.specs.Bytes.{is_among}

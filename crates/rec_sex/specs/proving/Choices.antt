@@ -1,6 +1,7 @@
 -- Choices of occurrences and matchers in memory, and the walk over all choices.
 use Rattle.std.specs.Prelude.{◌≡◌, ℕ, zero, suc, ◌+◌, Bool, false, ◌||◌, ◌&&◌, not, nat_lt, List, [], ◌∷◌, ◌++◌, length, map, if◌then◌else◌}
 use Rattle.std.specs.Borrow.{Bor}
+use Rattle.std.specs.HashSet.{HashSet, contains_by}
 use Rattle.std.specs.List.{filter}
 use Rattle.std.specs.Str.{bytes_eq}
 use Rattle.regex.specs.Patterns.{Re}
@@ -10,8 +11,7 @@ use Rattle.rec_text.specs.Bytes.{is_among}
 use Rattle.rec_text.specs.Elements.{Piece}
 use Rattle.rec_sex.specs.declared.syntax.tree.Tree.{Tree, Integer, Literal, Name, Occurrence, Count, Not', Negate', Binary', Found', Conditional'}
 use Rattle.rec_sex.specs.declared.meaning.occurrences.Chosen.{Chosen}
-use Rattle.rec_sex.specs.declared.meaning.sharing.Times.{Times}
-use Rattle.rec_sex.specs.declared.meaning.sharing.Times.TheVariants.{Never, Once, Often}
+use Rattle.rec_sex.specs.declared.meaning.sharing.NamesFound.{NamesFound}
 use Rattle.rec_sex.specs.Grammar.{Term}
 use Rattle.rec_sex.specs.Meaning.{Assignment, values_of, sem, is_true, is_found}
 use Rattle.rec_sex.specs.Expressions.{pattern_at}
@@ -76,11 +76,15 @@ has_repeated pieces (Binary' op p a q b) = has_repeated pieces a || has_repeated
 has_repeated pieces (Found' p a i) = has_repeated pieces a
 has_repeated pieces (Conditional' p c q a r b) = (has_repeated pieces c || has_repeated pieces a) || has_repeated pieces b
 
+-- how often a name stands at one place: once where it is the name there
+abbrev pub places_here : List ℕ → List ℕ → ℕ
+places_here name one = if bytes_eq name one then 1 else 0
+
 -- how often a name stands in an expression without a subscript
 abbrev pub places_of : List ℕ → Tree → ℕ
 places_of name (Integer n) = 0
 places_of name (Literal text) = 0
-places_of name (Name one) = if bytes_eq name one then 1 else 0
+places_of name (Name one) = places_here name one
 places_of name (Occurrence one i) = 0
 places_of name (Count one) = 0
 places_of name (Not' p a) = places_of name a
@@ -89,20 +93,21 @@ places_of name (Binary' op p a q b) = places_of name a + places_of name b
 places_of name (Found' p a i) = places_of name a
 places_of name (Conditional' p c q a r b) = (places_of name c + places_of name a) + places_of name b
 
--- those of the names that stand in an expression more than once
-abbrev pub shared_names : Tree → List (List ℕ) → List (List ℕ)
-shared_names tree names = filter (λ name. nat_lt 1 (places_of name tree)) names
+-- the name is one of a set
+abbrev pub has_name : {S : Type 0} → HashSet (Bor (List ℕ)) S → List ℕ → Bool
+has_name names name = contains_by (λ one. bytes_eq name one.now) names
 
--- never, once or more often
-abbrev pub times_of : ℕ → Times
-times_of zero = Never
-times_of (suc zero) = Once
-times_of (suc (suc n)) = Often
+-- the sets have the names that stand once or more, and those that stand twice or more, where each name stands this often
+abbrev pub StandThisOften : (List ℕ → ℕ) → NamesFound → Type 0
+StandThisOften places names = (name : List ℕ) → (has_name names.once name ≡ nat_lt 0 (places name)) × (has_name names.again name ≡ nat_lt 1 (places name))
 
-abbrev pub times_in_both : Times → Times → Times
-times_in_both Never other = other
-times_in_both Once other = elim other [ Never ↦ Once | Once ↦ Often | Often ↦ Often ]
-times_in_both Often other = Often
+-- the set has the names that stand in an expression more than once
+abbrev pub AreShared : {S : Type 0} → HashSet (Bor (List ℕ)) S → Tree → Type 0
+AreShared names tree = (name : List ℕ) → has_name names name ≡ nat_lt 1 (places_of name tree)
+
+-- those of the names that occur more than once
+abbrev pub repeated_among : List Piece → List (List ℕ) → List (List ℕ)
+repeated_among pieces names = filter (λ name. nat_lt 1 (length (values_of name pieces))) names
 
 -- the test holds for a number below n
 abbrev pub any_below : ℕ → (ℕ → Bool) → Bool

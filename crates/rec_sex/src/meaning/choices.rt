@@ -4,7 +4,7 @@ ghost use Rattle.rec_text.specs.Bytes.{is_among as among, texts};
 ghost use Rattle.rec_text.specs.Places.{pieces_of};
 ghost use Rattle.rec_sex.specs.Meaning.{values_of, Selects};
 ghost use Rattle.rec_sex.specs.Expressions.{term_under};
-ghost use Rattle.rec_sex.specs.proving.Choices.{is_chosen, with_repeated, has_repeated, repeated_names, any_choice, holds_for_some, entries_of, patterns_of};
+ghost use Rattle.rec_sex.specs.proving.Choices.{AreShared, is_chosen, with_repeated, has_repeated, repeated_names, repeated_among, any_choice, holds_for_some, entries_of, patterns_of};
 ghost use Rattle.rec_sex.specs.proving.Outcomes.{can_hold};
 
 use crate::meaning::conditions::outcomes_of;
@@ -13,11 +13,11 @@ use crate::meaning::fields::Fields;
 use crate::meaning::occurrences::Chosen;
 use crate::meaning::operand::is_true;
 use crate::meaning::outcomes::has_parts;
-use crate::meaning::sharing::shared_names;
 use crate::syntax::tree::Tree;
 use rec_text::{Element, Fault};
 use regex::Matcher;
 use std::alloc::Global;
+use std::collections::HashSet;
 
 /// Whether a name is one of these.
 fn is_among(names: &[&[u8]], name: &[u8]) -> bool
@@ -46,7 +46,6 @@ fn is_chosen(chosen: &[Chosen<'_>], name: &[u8]) -> bool
 }
 
 /// A name that occurs more than once and has no chosen occurrence comes after the others, unless it is among them.
-
 fn add_repeated<'e>(
     fields: &Fields<'_, '_>,
     chosen: &[Chosen<'_>],
@@ -109,6 +108,24 @@ pub(crate) fn add_repeated_names<'e>(
     }
 }
 
+/// Those of the names that occur more than once.
+fn repeated_among<'e>(
+    alloc: Global,
+    fields: &Fields<'_, '_>,
+    names: &HashSet<&'e [u8]>,
+) -> Result<Vec<&'e [u8]>, Fault>
+    ensures names { IfOk result (λ repeated. texts repeated.items ≡ repeated_among fields.now (texts names.now.keys)) }
+    ensures refusals { IsOkUnless result Fault.OutOfMemory }
+{
+    let mut repeated = Vec::new(alloc);
+    for name in names {
+        if is_repeated(fields, name) {
+            repeated.push(*name)?;
+        }
+    }
+    Ok(repeated)
+}
+
 /// Whether some occurrences of the names, beside those that are chosen, make the expression true.
 fn has_choice<'v>(
     alloc: Global,
@@ -163,13 +180,16 @@ fn holds_for_some<'v>(
     Ok(false)
 }
 
-/// Whether some choice of occurrences makes an expression true for a record with these elements.
+/// Whether some choice of occurrences makes an expression true for a record with these elements, where the names that stand
+/// more than once in it are given.
 pub(crate) fn holds<'v>(
     alloc: Global,
     tree: &'v Tree,
+    shared: &HashSet<&'v [u8]>,
     elements: &[Element<'v>],
     matchers: &mut [Matcher<'_>],
 ) -> Result<bool, Fault>
+    requires shared { AreShared shared.now tree.now }
     ensures answer { IfOk result (λ answer. IsTrue answer ↔
         Selects (term_under (patterns_of matchers.old) tree.now) (pieces_of elements.now)) }
     ensures same { patterns_of matchers.new ≡ patterns_of matchers.old }
@@ -181,14 +201,14 @@ pub(crate) fn holds<'v>(
         return Ok(is_true(reading));
     }
     let fields = Fields::listed(alloc, elements)?;
-    let mut names = Vec::new(alloc);
-    add_repeated_names(&fields, &[], &mut names, tree)?;
     if !has_parts(tree) {
+        let mut names = Vec::new(alloc);
+        add_repeated_names(&fields, &[], &mut names, tree)?;
         if let [name] = names.as_slice() {
             return holds_for_some(alloc, tree, &fields, name, matchers);
         }
     }
-    let shared = shared_names(alloc, tree, &names)?;
+    let repeated = repeated_among(alloc, &fields, shared)?;
     let mut chosen = Vec::new(alloc);
-    has_choice(alloc, tree, &fields, &shared, &mut chosen, matchers)
+    has_choice(alloc, tree, &fields, &repeated, &mut chosen, matchers)
 }

@@ -1,35 +1,26 @@
 -- Lists of names: what is among them, and each name once.
 use Rattle.std.proofs.Common.{◌≡◌, ◌∙◌, inl, inr, ℕ, ◌+◌, ◌<◌, Bool, true, false, ◌||◌, ◌&&◌, not, cond, List, [], ◌∷◌, ◌++◌, filter, length, map, take, get_or, refl, ap, sym}
-use Rattle.std.proofs.lemmas.Bool.{cases_Bool, false≢true}
+use Rattle.std.proofs.lemmas.Bool.{cases_Bool}
 use Rattle.std.proofs.lemmas.List.{append-nil, map-append, map_more, map_push, take_more}
 use Rattle.std.proofs.lemmas.List.Elements.{filter-append}
+use Rattle.std.proofs.lemmas.List.Folds.{list_any_more}
+use Rattle.std.proofs.Math.Bool.{or_assoc}
 use Rattle.std.specs.Borrow.{Bor}
 use Rattle.std.specs.List.{list_any}
 use Rattle.std.specs.Str.{bytes_eq}
 use Rattle.rec_text.specs.declared.element.Element.{Element}
-use Rattle.rec_text.specs.declared.element.Kind.{Kind}
-use Rattle.rec_text.specs.declared.element.Kind.TheVariants.{Blank, Comment, Field}
+use Rattle.rec_text.specs.declared.element.Kind.TheVariants.{Blank}
 use Rattle.rec_text.specs.Elements.{Piece, name_of}
 use Rattle.rec_text.specs.Places.{piece_of, pieces_of}
 use Rattle.rec_text.specs.Records.{is_field_piece}
 use Rattle.rec_text.proofs.lemmas.ListLemmas.{same_bytes, bytes_eq-sym}
 use Rattle.rec_text.specs.Bytes.{texts, is_among}
+use Rattle.rec_sex.proofs.lemmas.meaning.EntryLemmas.{is_among-filter}
 use Rattle.rec_check.specs.Violations.{names_of}
 use Rattle.rec_check.specs.Words.{distinct}
-use Rattle.rec_check.proofs.lemmas.TypeLemmas.{list_any-map}
+use Rattle.rec_sex.proofs.lemmas.meaning.PlaceLemmas.{list_any-map}
 
 -- ---- each once
-
--- a name among those that pass a test that it passes
-is_among-filter : (p : List ℕ → Bool) (names : List (List ℕ)) (name : List ℕ) → p name ≡ true → is_among (filter p names) name ≡ is_among names name
-is_among-filter p [] name passes = refl
-is_among-filter p (first ∷ names) name passes = elim (cases_Bool (p first)) [
-  | inl first_passes ↦ rw first_passes (ap (λ b. bytes_eq name first || b) (is_among-filter p names name passes))
-  | inr fails ↦ rw fails (is_among-filter p names name passes ∙ elim (cases_Bool (bytes_eq name first)) [
-    | inl same ↦ absurd (false≢true (sym fails ∙ ap p (sym (same_bytes name first same)) ∙ passes))
-    | inr other ↦ rw other refl
-  ])
-]
 
 is_among-distinct : (names : List (List ℕ)) (name : List ℕ) → is_among (distinct names) name ≡ is_among names name
 is_among-distinct [] name = refl
@@ -38,6 +29,13 @@ is_among-distinct (first ∷ names) name = elim (cases_Bool (bytes_eq name first
   | inr other ↦ rw other
       (is_among-filter (λ o. not (bytes_eq first o)) (distinct names) name (ap not (bytes_eq-sym first name ∙ other)) ∙ is_among-distinct names name)
 ]
+
+-- the names so far among some more, and the one after them
+pub has_more : (more : List (List ℕ)) (i : ℕ) (name own value : List ℕ) (old so_far new : Bool) → i < length more → own ≡ get_or more i own → name ≡ own
+    → so_far ≡ (old || is_among (take i more) value) → new ≡ (so_far || bytes_eq value name) → new ≡ (old || is_among (take (i + 1) more) value)
+has_more more i name own value old so_far new within at is reached put =
+    put ∙ ap (λ b. b || bytes_eq value name) reached ∙ or_assoc old (is_among (take i more) value) (bytes_eq value name)
+    ∙ ap (λ n. old || (is_among (take i more) value || bytes_eq value n)) (is ∙ at) ∙ ap (λ b. old || b) (sym (list_any_more (bytes_eq value) more i own within))
 
 -- one name more, which stands there already or doesn't
 abbrev with_name : Bool → List (List ℕ) → List ℕ → List (List ℕ)

@@ -24,7 +24,7 @@ use Rattle.rec_check.specs.Violations.{breaks_singular, stands_in}
 use Rattle.rec_check.specs.Words.{distinct}
 use Rattle.rec_text.specs.Bytes.{is_among}
 use Rattle.rec_check.proofs.lemmas.descriptors.DescriptorLemmas.{values_of-append}
-use Rattle.rec_check.proofs.lemmas.checks.KeyLemmas.{or_comm}
+use Rattle.rec_sex.proofs.lemmas.meaning.PlaceLemmas.{or_comm}
 use Rattle.rec_check.proofs.lemmas.checks.NamePlaceLemmas.{apart, names_at, places_agree, places_kept, places_next}
 use Rattle.rec_check.proofs.lemmas.TypeLemmas.{list_any-position}
 

@@ -23,7 +23,7 @@ use Rattle.rec_check.specs.Types.{IsDefinition, IsTyping}
 use Rattle.rec_check.specs.Words.{words}
 use Rattle.rec_check.proofs.lemmas.descriptors.DescriptorLemmas.{is_met, list_any-values_of, type_in, type_in-values_of}
 use Rattle.rec_check.proofs.lemmas.descriptors.FlawLemmas.{own_flaw}
-use Rattle.rec_check.proofs.lemmas.TypeLemmas.{list_any-map}
+use Rattle.rec_sex.proofs.lemmas.meaning.PlaceLemmas.{list_any-map}
 
 -- what an element says
 abbrev pub Saying : Type 0

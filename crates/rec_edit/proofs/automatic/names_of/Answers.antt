@@ -1,7 +1,7 @@
 use Rattle.std.proofs.Common.{◌∙◌, ap, sym}
 use Rattle.std.proofs.lemmas.Bool.{not-false}
-use Rattle.rec_check.specs.proving.Names.{has_name}
-use Rattle.rec_check.proofs.lemmas.checks.KeyLemmas.{has-put}
+use Rattle.rec_sex.specs.proving.Choices.{has_name}
+use Rattle.rec_sex.proofs.lemmas.meaning.PlaceLemmas.{has-put}
 use Rattle.rec_edit.specs.Task.{Pair}
 use Rattle.rec_edit.proofs.lemmas.automatic.NumberLemmas.{pair_named}
 use Rattle.rec_edit.proofs.automatic.names_of.Goals as goal

@@ -21,7 +21,7 @@ use Rattle.rec_edit.specs.Effect.{between_fields}
 use Rattle.rec_text.proofs.lemmas.ListLemmas.{AllByRecursion-get_or, AllByRecursion-weaker, AllByRecursion-push}
 use Rattle.rec_edit.proofs.lemmas.records.FitLemmas.{length-part, Cut, IsOwn, passes_at, passes_at-drop, passes_at-part, KeepsAt, laid_at, laid_from-kept, list_any-closed, IsLaid, Fits, laid_from-fails, between_fields-none, all_fine, EndsBy, BeginsFrom, LeavesOut, StandsBetween, IsInner, all_begin}
 use Rattle.rec_edit.proofs.lemmas.records.MemberLemmas.{any_chosen, none_chosen, holds_index-before, holds_index-following, holds_index-in}
-use Rattle.rec_check.proofs.lemmas.TypeLemmas.{list_any-map}
+use Rattle.rec_sex.proofs.lemmas.meaning.PlaceLemmas.{list_any-map}
 use Rattle.rec_edit.proofs.lemmas.scripts.LaidLemmas.{laid_from, closed-blank, closed-field}
 
 -- ---- records with the blank elements directly after them

@@ -16,10 +16,10 @@ use Rattle.rec_sex.specs.declared.syntax.token.Operator.{Operator}
 use Rattle.rec_sex.specs.Grammar.{inverse, binary, conditional}
 use Rattle.rec_sex.specs.Meaning.{Meaning, Assignment, values_of, value_at, text, sem, is_true, is_zero, is_found, as_text, truth, in_range, reading_of, IsChoice, Selects}
 use Rattle.rec_sex.specs.Expressions.{pattern_at, term_under}
-use Rattle.rec_sex.specs.proving.Choices.{NameChoice, chosen_in, is_chosen, repeated_names, places_of, shared_names, any_below, any_choice}
+use Rattle.rec_sex.specs.proving.Choices.{NameChoice, chosen_in, is_chosen, repeated_names, repeated_among, places_of, any_below, any_choice}
 use Rattle.rec_sex.specs.proving.Outcomes.{outcome_of, can_be, only, inverse_of, is_connective, joined_by, branch_of, outcomes_over, outcomes_of_part, outcomes_in, can_hold, CanBe}
 use Rattle.rec_text.proofs.lemmas.ListLemmas.{bytes_eq-self}
-use Rattle.rec_sex.proofs.lemmas.meaning.EntryLemmas.{chosen_in-none, chosen_in-prefix, chosen_in-following, HasEntries, any_choice-entries, any_choice-chosen, entries_of, chosen_among, not_among, agrees_with_own, is_among-names, has_chosen, is_among-shared, has_chosen-shared}
+use Rattle.rec_sex.proofs.lemmas.meaning.EntryLemmas.{chosen_in-none, chosen_in-prefix, chosen_in-following, HasEntries, any_choice-entries, any_choice-chosen, entries_of, chosen_among, not_among, agrees_with_own, is_among-names, has_chosen, is_among-repeated_among, has_chosen-repeated_among}
 use Rattle.rec_sex.proofs.lemmas.meaning.OutcomeLemmas.{inverted, joined, branched, outcome_of-inverse, outcome_of-joined, outcome_of-branched, true_holds, holds_true, can_be-only, only_one, can_be-union_below, inverse_can_be, inverse_part, joined_can_be, joined_parts, Parts, branch_can_be, branch_part, by_condition, by_yes, by_no}
 
 if_true : {A : Type 0} (b : Bool) (x y : A) → b ≡ true → (if b then x else y) ≡ x
@@ -314,34 +314,33 @@ module _ (pieces : List Piece) (patterns : List Re) where
         any_choice-chosen pieces c is_true_with (repeated_names pieces [] [] tree) [] (has_chosen pieces [] c (below_several pieces c selects.is_choice) tree)
         (ap is_true (under-own [] c selects.is_choice (λ name chosen. absurd (false≢true chosen)) tree) ∙ selects.holds)
 
-  -- ---- the walk over the names that stand in several places
+  -- ---- the walk over the names that occur more than once and stand in several places
 
-  module _ (tree : Tree) where
-    abbrev shared : List (List ℕ)
-    shared = shared_names tree (repeated_names pieces [] [] tree)
+  module _ (tree : Tree) (shared : List (List ℕ)) (are_shared : (name : List ℕ) → 1 < places_of name tree → is_among shared name ≡ true) where
+    abbrev pub repeated : List (List ℕ)
+    repeated = repeated_among pieces shared
 
-    shared_have : (name : List ℕ) → 1 < length (values_of name pieces) → 1 < places_of name tree → is_among shared name ≡ true
-    shared_have name several often =
-        is_among-shared tree name often (repeated_names pieces [] [] tree) (is_among-names pieces [] name several refl tree [] (omega arith))
+    repeated_have : (name : List ℕ) → 1 < length (values_of name pieces) → 1 < places_of name tree → is_among repeated name ≡ true
+    repeated_have name several often = is_among-repeated_among pieces name several shared (are_shared name often)
 
-    stands_once : (entries : List NameChoice) → ((name : List ℕ) → is_among shared name ≡ true → is_chosen entries name ≡ true) → StandsAtMostOnce entries (λ name. places_of name tree)
+    stands_once : (entries : List NameChoice) → ((name : List ℕ) → is_among repeated name ≡ true → is_chosen entries name ≡ true) → StandsAtMostOnce entries (λ name. places_of name tree)
     stands_once entries have name several free = elim (cases_lt 1 (places_of name tree)) [
-      | inl often ↦ absurd (false≢true (sym free ∙ have name (shared_have name several often)))
+      | inl often ↦ absurd (false≢true (sym free ∙ have name (repeated_have name several often)))
       | inr once ↦ once
     ]
 
-    pub walk_selects_tree : any_choice (can_hold patterns pieces tree) pieces shared [] ≡ true → Selects (term_under patterns tree) pieces
+    pub walk_selects_tree : any_choice (can_hold patterns pieces tree) pieces repeated [] ≡ true → Selects (term_under patterns tree) pieces
     walk_selects_tree e =
-        let found : HasEntries (can_hold patterns pieces tree) pieces shared [] = any_choice-entries (can_hold patterns pieces tree) pieces shared [] (chosen_in-none pieces) e in
+        let found : HasEntries (can_hold patterns pieces tree) pieces repeated [] = any_choice-entries (can_hold patterns pieces tree) pieces repeated [] (chosen_in-none pieces) e in
         let can : CanBe (term_under patterns tree) pieces found.more Holds = expression_can_be found.more found.is_choice tree (stands_once found.more found.have) Holds found.holds in
         record { chosen = can.chosen; is_choice = can.is_choice; holds = holds_true (under tree can.chosen) can.is }
 
-    pub selected_by_walk : Selects (term_under patterns tree) pieces → any_choice (can_hold patterns pieces tree) pieces shared [] ≡ true
+    pub selected_by_walk : Selects (term_under patterns tree) pieces → any_choice (can_hold patterns pieces tree) pieces repeated [] ≡ true
     selected_by_walk selects =
         let c = selects.chosen in
-        let own = entries_of pieces c shared in
+        let own = entries_of pieces c repeated in
         let does_hold : outcome_of (under tree c) ≡ Holds = true_holds (under tree c) selects.holds in
-        let can : can_be (outcomes_in patterns pieces own tree) (outcome_of (under tree c)) ≡ true = expression_is own c selects.is_choice (agrees_with_own pieces c shared) tree in
-        any_choice-chosen pieces c (can_hold patterns pieces tree) shared []
-        (has_chosen-shared pieces c tree (repeated_names pieces [] [] tree) (has_chosen pieces [] c (below_several pieces c selects.is_choice) tree))
+        let can : can_be (outcomes_in patterns pieces own tree) (outcome_of (under tree c)) ≡ true = expression_is own c selects.is_choice (agrees_with_own pieces c repeated) tree in
+        any_choice-chosen pieces c (can_hold patterns pieces tree) repeated []
+        (has_chosen-repeated_among pieces c (below_several pieces c selects.is_choice) shared)
         (sym (ap (can_be (outcomes_in patterns pieces own tree)) does_hold) ∙ can)

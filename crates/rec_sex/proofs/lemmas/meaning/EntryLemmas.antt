@@ -1,5 +1,5 @@
 -- Choices by the entries of a walk: what the walk finds, what it passes, and the names for which it chooses.
-use Rattle.std.proofs.Common.{◌≡◌, ℕ, ◌<◌, Bool, ◌⊎◌, inl, inr, true, false, ◌||◌, ◌&&◌, not, List, [], ◌∷◌, ◌++◌, length, map, zero, suc, refl, ap, subst, sym, ◌∙◌, arith}
+use Rattle.std.proofs.Common.{◌≡◌, ℕ, ◌<◌, Bool, ◌⊎◌, inl, inr, true, false, ◌||◌, ◌&&◌, not, List, [], ◌∷◌, ◌++◌, filter, length, map, zero, suc, refl, ap, subst, sym, ◌∙◌, arith}
 use Rattle.std.specs.List.{AllByRecursion}
 use Rattle.std.specs.Prelude.{if◌then◌else◌, nat_lt}
 use Rattle.std.specs.Str.{bytes_eq}
@@ -9,7 +9,7 @@ use Rattle.rec_text.specs.Bytes.{is_among}
 use Rattle.rec_text.specs.Elements.{Piece}
 use Rattle.rec_sex.specs.declared.syntax.tree.Tree.{Tree, Integer, Literal, Name, Occurrence, Count, Not', Negate', Binary', Found', Conditional'}
 use Rattle.rec_sex.specs.Meaning.{Assignment, values_of, IsChoice}
-use Rattle.rec_sex.specs.proving.Choices.{NameChoice, chosen_in, is_chosen, with_repeated, repeated_names, places_of, shared_names, any_below, any_choice}
+use Rattle.rec_sex.specs.proving.Choices.{NameChoice, chosen_in, is_chosen, with_repeated, repeated_names, repeated_among, places_of, any_below, any_choice}
 use Rattle.rec_text.proofs.lemmas.ListLemmas.{AllByRecursion-push, bytes_eq-self, same_bytes}
 use Rattle.rec_sex.proofs.lemmas.meaning.ChoiceLemmas.{any_below-at, true_or}
 
@@ -229,25 +229,27 @@ module _ (pieces : List Piece) (entries : List NameChoice) where
   has_chosen c below tree =
       keeps pieces entries (HasChosen pieces c) (λ names name several has. AllByRecursion-push (λ n. c n < length (values_of n pieces)) names name has (below name several)) tree [] tt
 
--- ---- those that stand in several places
+-- ---- names of a list that occur more than once
 
-pub is_among-shared : (tree : Tree) (name : List ℕ) → 1 < places_of name tree → (names : List (List ℕ)) → is_among names name ≡ true → is_among (shared_names tree names) name ≡ true
-is_among-shared tree name several [] h = absurd (false≢true h)
-is_among-shared tree name several (one ∷ names) h = elim (cases_Bool (bytes_eq name one)) [
-  | inl same ↦ (
-      let here : nat_lt 1 (places_of one tree) ≡ true = ap (λ n. nat_lt 1 (places_of n tree)) (sym (same_bytes name one same)) ∙ lt-ltb 1 (places_of name tree) several in
-      rw here (or_left (bytes_eq name one) (is_among (shared_names tree names) name) same))
-  | inr differs ↦ (
-      let later = is_among-shared tree name several names (rw differs at h) in
-      elim (cases_Bool (nat_lt 1 (places_of one tree))) [
-        | inl kept ↦ rw kept (or_right (bytes_eq name one) (is_among (shared_names tree names) name) later)
-        | inr dropped ↦ rw dropped later
-      ])
+-- a name among those that pass a test that it passes
+pub is_among-filter : (p : List ℕ → Bool) (names : List (List ℕ)) (name : List ℕ) → p name ≡ true → is_among (filter p names) name ≡ is_among names name
+is_among-filter p [] name passes = refl
+is_among-filter p (first ∷ names) name passes = elim (cases_Bool (p first)) [
+  | inl first_passes ↦ rw first_passes (ap (λ b. bytes_eq name first || b) (is_among-filter p names name passes))
+  | inr fails ↦ rw fails (is_among-filter p names name passes ∙ elim (cases_Bool (bytes_eq name first)) [
+    | inl same ↦ absurd (false≢true (sym fails ∙ ap p (sym (same_bytes name first same)) ∙ passes))
+    | inr other ↦ rw other refl
+  ])
 ]
 
-pub has_chosen-shared : (pieces : List Piece) (c : Assignment) (tree : Tree) (names : List (List ℕ)) → HasChosen pieces c names → HasChosen pieces c (shared_names tree names)
-has_chosen-shared pieces c tree [] has = tt
-has_chosen-shared pieces c tree (one ∷ names) has = elim (cases_Bool (nat_lt 1 (places_of one tree))) [
-  | inl kept ↦ rw kept (has.0, has_chosen-shared pieces c tree names has.1)
-  | inr dropped ↦ rw dropped (has_chosen-shared pieces c tree names has.1)
-]
+module _ (pieces : List Piece) where
+  pub is_among-repeated_among : (name : List ℕ) → 1 < length (values_of name pieces) → (names : List (List ℕ)) → is_among names name ≡ true → is_among (repeated_among pieces names) name ≡ true
+  is_among-repeated_among name several names among =
+      is_among-filter (λ one. nat_lt 1 (length (values_of one pieces))) names name (lt-ltb 1 (length (values_of name pieces)) several) ∙ among
+
+  pub has_chosen-repeated_among : (c : Assignment) → ((name : List ℕ) → 1 < length (values_of name pieces) → c name < length (values_of name pieces)) → (names : List (List ℕ)) → HasChosen pieces c (repeated_among pieces names)
+  has_chosen-repeated_among c below [] = tt
+  has_chosen-repeated_among c below (one ∷ names) = elim (cases_Bool (nat_lt 1 (length (values_of one pieces)))) [
+    | inl several ↦ rw several (below one (ltb-true 1 (length (values_of one pieces)) several), has_chosen-repeated_among c below names)
+    | inr few ↦ rw few (has_chosen-repeated_among c below names)
+  ]

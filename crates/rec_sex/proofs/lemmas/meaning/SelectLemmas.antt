@@ -1,16 +1,21 @@
 -- The walk over the choices finds one that makes the expression true exactly where there is one.
-use Rattle.std.proofs.Common.{◌≡◌, ℕ, ◌+◌, ◌<◌, Bool, List, [], ◌∷◌, ◌++◌, length, take, get_or, map, Option, Some, None, refl, ap, subst, sym, ◌∙◌}
+use Rattle.std.proofs.Common.{◌≡◌, ℕ, ◌+◌, ◌<◌, Bool, true, List, [], ◌∷◌, ◌++◌, length, take, get_or, map, Option, Some, None, refl, ap, subst, sym, ◌∙◌}
 use Rattle.std.specs.Option.{option_map, option_and_then}
 use Rattle.std.specs.Prelude.{false, ◌||◌, if◌then◌else◌, neg_ℤ, IsTrue, ◌↔◌}
-use Rattle.std.proofs.lemmas.Bool.{or_parts}
+use Rattle.std.proofs.lemmas.Bool.{or_parts, lt-ltb}
 use Rattle.std.proofs.lemmas.List.{map_push, take_more}
+use Rattle.std.specs.Borrow.{Bor}
+use Rattle.std.specs.HashSet.{HashSet}
+use Rattle.std.specs.Str.{bytes_eq}
 use Rattle.regex.specs.Patterns.{Re}
 use Rattle.rec_sex.specs.Expressions.{pattern_at, term_under}
+use Rattle.rec_text.specs.Bytes.{is_among, texts}
 use Rattle.rec_text.specs.Elements.{Piece}
 use Rattle.rec_sex.specs.declared.syntax.tree.Tree.{Tree, Integer, Literal, Name, Occurrence, Count, Not', Negate', Binary', Found', Conditional'}
 use Rattle.rec_sex.specs.Meaning.{Meaning, Assignment, sem, is_true, is_zero, is_found, as_text, truth, in_range, reading_of, apply_operator, Selects}
-use Rattle.rec_sex.specs.proving.Choices.{chosen_in, has_repeated, repeated_names, shared_names, any_choice, holds_for_some, FindAlike}
+use Rattle.rec_sex.specs.proving.Choices.{chosen_in, AreShared, has_repeated, repeated_names, repeated_among, places_of, any_choice, holds_for_some, FindAlike}
 use Rattle.rec_sex.specs.proving.Outcomes.{can_hold}
+use Rattle.rec_sex.proofs.lemmas.meaning.PlaceLemmas.{list_any-map}
 use Rattle.rec_sex.proofs.lemmas.meaning.CanBeLemmas.{is_true_with, selects_by_names, selected_by_names, walk_selects_tree, selected_by_walk}
 
 -- ---- patterns that are found alike
@@ -67,9 +72,13 @@ none_repeated pieces (Conditional' p c q a r b) names none =
 -- ---- the answer
 
 module _ (patterns : List Re) (pieces : List Piece) (tree : Tree) (answer : Bool) where
-  -- of the walk over the names that stand in several places
-  pub holds_by_walk : answer ≡ any_choice (can_hold patterns pieces tree) pieces (shared_names tree (repeated_names pieces [] [] tree)) [] → IsTrue answer ↔ Selects (term_under patterns tree) pieces
-  holds_by_walk is = (λ came_true. walk_selects_tree pieces patterns tree (sym is ∙ came_true), λ selects. is ∙ selected_by_walk pieces patterns tree selects)
+  -- of the walk over the names that occur more than once and stand in several places
+  pub holds_by_walk : {S : Type 0} (shared : HashSet (Bor (List ℕ)) S) → AreShared shared tree → answer ≡ any_choice (can_hold patterns pieces tree) pieces (repeated_among pieces (texts shared.keys)) []
+      → IsTrue answer ↔ Selects (term_under patterns tree) pieces
+  holds_by_walk shared are_shared is =
+      let among : (name : List ℕ) → 1 < places_of name tree → is_among (texts shared.keys) name ≡ true = λ name often.
+      list_any-map (bytes_eq name) (λ one. one.now) shared.keys ∙ are_shared name ∙ lt-ltb 1 (places_of name tree) often in
+      (λ came_true. walk_selects_tree pieces patterns tree (texts shared.keys) among (sym is ∙ came_true), λ selects. is ∙ selected_by_walk pieces patterns tree (texts shared.keys) among selects)
 
   -- of the walk over the names that occur more than once
   holds_by_names : (names : List (List ℕ)) → repeated_names pieces [] [] tree ≡ names → answer ≡ any_choice (is_true_with pieces patterns tree) pieces names [] → IsTrue answer ↔ Selects (term_under patterns tree) pieces

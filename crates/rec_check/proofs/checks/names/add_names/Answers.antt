@@ -1,7 +1,8 @@
 use Rattle.std.proofs.Common.{sym, ◌∙◌}
 use Rattle.std.proofs.lemmas.Bool.{not-false}
-use Rattle.rec_check.specs.proving.Names.{has_name}
-use Rattle.rec_check.proofs.lemmas.checks.KeyLemmas.{has-put, has_more}
+use Rattle.rec_sex.specs.proving.Choices.{has_name}
+use Rattle.rec_sex.proofs.lemmas.meaning.PlaceLemmas.{has-put}
+use Rattle.rec_check.proofs.lemmas.checks.NameLemmas.{has_more}
 use Rattle.rec_check.proofs.checks.names.add_names.Goals as goal
 
 pub loop-name-preserved : goal.loop-name-preserved

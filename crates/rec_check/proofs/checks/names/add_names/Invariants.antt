@@ -1,5 +1,5 @@
 use Rattle.std.proofs.Common.{◌≡◌, ◌||◌, ℕ, List, take}
-use Rattle.rec_check.specs.proving.Names.{has_name}
+use Rattle.rec_sex.specs.proving.Choices.{has_name}
 use Rattle.rec_text.specs.Bytes.{is_among}
 use Rattle.rec_check.proofs.checks.names.add_names.Given as goal
 

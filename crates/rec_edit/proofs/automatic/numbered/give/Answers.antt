@@ -4,7 +4,7 @@ use Rattle.std.proofs.lemmas.List.{get_or_default, map_push}
 use mir.Val.{SFits}
 use Rattle.std.proofs.lemmas.Result.{err_from_is_err_and}
 use Rattle.rec_check.specs.declared.automatic.counter.Counter.{Counter}
-use Rattle.rec_check.specs.proving.Names.{has_name}
+use Rattle.rec_sex.specs.proving.Choices.{has_name}
 use Rattle.rec_text.proofs.lemmas.FaultLemmas.{from_fact}
 use Rattle.rec_edit.specs.declared.automatic.numbered.NumberedField.{NumberedField}
 use Rattle.rec_edit.specs.proving.Filling.{numbered, AreNamesOf, IsRefused}

@@ -8,6 +8,7 @@ pub invariant_of-result : goal.invariant_of-result
 invariant_of-result c = record {
   alike = FindAlike-same _ _ (c.loop-pattern.invariant
       ∙ ap (map regex_pattern) (take_all c.loop-pattern.pattern-index c.deref-pattern-items.result.now c.loop-pattern-test.false ∙ c.deref-pattern-items.ensures.value));
+  shares = c.in_ok-shared.ensures.names;
 }
 
 pub loop-pattern-preserved : goal.loop-pattern-preserved

@@ -5,7 +5,7 @@ use Rattle.regex.specs.Strings.{matcher_pattern}
 use Rattle.rec_text.specs.Places.{pieces_of}
 use Rattle.rec_sex.specs.Expressions.{term_under}
 use Rattle.rec_sex.specs.Meaning.{reading_of, sem}
-use Rattle.rec_sex.specs.proving.Choices.{chosen_in, entry_of, has_repeated, repeated_names, shared_names, any_choice, holds_for_some}
+use Rattle.rec_sex.specs.proving.Choices.{chosen_in, entry_of, has_repeated, repeated_names, repeated_among, any_choice, holds_for_some}
 use Rattle.rec_text.specs.Bytes.{texts}
 use Rattle.rec_sex.specs.proving.Operands.{is_nonzero}
 use Rattle.rec_sex.specs.proving.Outcomes.{can_hold}
@@ -45,14 +45,12 @@ returns-clause-answer c =
     let patterns = map matcher_pattern c.args.matchers.now in
     let pieces = pieces_of c.args.elements.now in
     let tree = c.args.tree.now in
-    let found : texts c.add_repeated_names.new.names.items ≡ repeated_names pieces [] [] tree =
-    c.in_ok-add_repeated_names.ensures.names ∙ ap (λ ps. repeated_names ps [] (texts c.new-names.result.items) tree) c.in_ok-fields.ensures.fields
-    ∙ ap (λ ns. repeated_names pieces [] (texts ns) tree) c.new-names.ensures.items in
-    let shared : texts c.deref-2.result.now ≡ shared_names tree (repeated_names pieces [] [] tree) =
-    ap texts c.deref-2.ensures.value ∙ c.in_ok-shared.ensures.names ∙ ap (λ ns. shared_names tree (texts ns)) c.deref.ensures.value ∙ ap (shared_names tree) found in
+    let shared = c.args.shared.now in
+    let names : texts c.deref.result.now ≡ repeated_among pieces (texts shared.keys) =
+    ap texts c.deref.ensures.value ∙ c.in_ok-repeated.ensures.names ∙ ap (λ ps. repeated_among ps (texts shared.keys)) c.in_ok-fields.ensures.fields in
     IfOk-weaker _ _ _
-    (λ answer is. holds_by_walk patterns pieces tree answer
-    (is ∙ ap (λ ps. any_choice (can_hold patterns ps tree) ps (texts c.deref-2.result.now) (map entry_of c.new-chosen.result.items)) c.in_ok-fields.ensures.fields
-    ∙ ap (λ ns. any_choice (can_hold patterns pieces tree) pieces ns (map entry_of c.new-chosen.result.items)) shared
-    ∙ ap (λ es. any_choice (can_hold patterns pieces tree) pieces (shared_names tree (repeated_names pieces [] [] tree)) (map entry_of es)) c.new-chosen.ensures.items))
+    (λ answer is. holds_by_walk patterns pieces tree answer shared c.requires.shared
+    (is ∙ ap (λ ps. any_choice (can_hold patterns ps tree) ps (texts c.deref.result.now) (map entry_of c.new-chosen.result.items)) c.in_ok-fields.ensures.fields
+    ∙ ap (λ ns. any_choice (can_hold patterns pieces tree) pieces ns (map entry_of c.new-chosen.result.items)) names
+    ∙ ap (λ es. any_choice (can_hold patterns pieces tree) pieces (repeated_among pieces (texts shared.keys)) (map entry_of es)) c.new-chosen.ensures.items))
     c.has_choice.ensures.answer

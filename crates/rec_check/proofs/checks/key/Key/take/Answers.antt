@@ -3,7 +3,7 @@ use Rattle.std.proofs.lemmas.Bool.{not-false}
 use Rattle.std.specs.Cow.{cow_slice_items}
 use Rattle.std.specs.Str.{bytes_eq}
 use Rattle.rec_check.specs.proving.Keys.{has_taken}
-use Rattle.rec_check.proofs.lemmas.checks.KeyLemmas.{has-put}
+use Rattle.rec_sex.proofs.lemmas.meaning.PlaceLemmas.{has-put}
 use Rattle.rec_check.proofs.checks.key.Key.take.Goals as goal
 
 pub returns-clause-taken : goal.returns-clause-taken

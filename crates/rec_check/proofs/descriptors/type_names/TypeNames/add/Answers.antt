@@ -2,7 +2,7 @@ use Rattle.std.proofs.Common.{◌∙◌, ◌∷◌, [], ◌++◌, cond, map, ap,
 use Rattle.std.proofs.lemmas.List.{map-append}
 use Rattle.std.specs.Str.{bytes_eq}
 use Rattle.rec_text.specs.Bytes.{is_among}
-use Rattle.rec_check.proofs.lemmas.TypeLemmas.{list_any-map}
+use Rattle.rec_sex.proofs.lemmas.meaning.PlaceLemmas.{list_any-map}
 use Rattle.rec_check.proofs.descriptors.type_names.TypeNames.add.Goals as goal
 
 pub returns : goal.returns

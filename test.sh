@@ -162,7 +162,7 @@ growth() {
 }
 
 all() {
-    echo 'test.sh: all parts take some 250 processor minutes, nearly all of it for the proofs: an hour or more on 4 processors, two or more on 2'
+    echo 'test.sh: all parts take 250 to 275 processor minutes, nearly all of it for the proofs: an hour or more on 4 processors, two or more on 2'
     echo 'test.sh: the parts program, memory and growth take a minute or two each, once the proofs have built what they run'
     proofs
     program

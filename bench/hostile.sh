@@ -45,6 +45,18 @@ names_in_places() {
     done
 }
 
+# n names, each once in a record and once in an expression that no record fits
+names_on_fields() {
+    local names factor
+    printf '62 names and more, each once in a record\n'
+    unit=
+    for factor in 1 2 4; do
+        names=$((62 * factor))
+        awk -v names=$names 'BEGIN { for (r = 0; r < 100; r++) { for (i = 0; i < names; i++) printf "N%d: 0\n", i; print "" } }' >db.rec
+        measure 3 as_is "recu recsel -c, $names" "$program" recsel -c -e "$(seq -s ' || ' -f 'N%.0f = 2' 0 $((names - 1)))" db.rec
+    done
+}
+
 # n fields of one name, none of which has the value that is sought
 fields_of_one_name() {
     local factor fields
@@ -148,6 +160,7 @@ for size in "${sizes[@]}"; do
 done
 names_in_places '&&'
 names_in_places '||'
+names_on_fields
 for rule in %prohibit %unique; do
     names_of_a_rule "$rule"
 done

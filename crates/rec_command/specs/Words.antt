@@ -173,13 +173,17 @@ IsJournal (Info record_type form) file given journal = HasNoJournal file given j
 IsJournal Check file given journal = HasNoJournal file given journal
 IsJournal _ file given journal = IsEditJournal file given journal
 
--- what the words ask for: the tool that they name, and what is made of its options
-pub record IsAsked (words : List Text) (asked : Asked) : Type 0 where
-  pub tool : Text
-  pub options : List Row
-  pub named : subcommand_of usage words ≡ Some (tool, options)
+-- what a tool and its options ask for
+pub record IsAskedBy (tool : Text) (options : List Row) (asked : Asked) : Type 0 where
   pub request : Asks tool options asked.request
   pub batch : option_map string_bytes asked.batch ≡ first_of (codes "batch") options
   pub file : option_map string_bytes asked.file ≡ first_of (codes "file") options
   pub journal : IsJournal asked.request (first_of (codes "file") options) (first_of (codes "journal") options)
       (option_map string_bytes asked.journal)
+
+-- what the words ask for: what the tool that they name does, with its options
+pub record IsAsked (words : List Text) (asked : Asked) : Type 0 where
+  pub tool : Text
+  pub options : List Row
+  pub named : subcommand_of usage words ≡ Some (tool, options)
+  pub asks : IsAskedBy tool options asked

@@ -2,7 +2,7 @@
 ghost use Rattle.std.specs.Prelude.{◌≡◌, map, IfOk};
 ghost use Rattle.clap.specs.Words.{found_of, rows_of};
 ghost use Rattle.rec_text.specs.Faults.{IsOkUnlessEither};
-ghost use Rattle.rec_command.specs.Words.{Asks, IsAsked, with_text};
+ghost use Rattle.rec_command.specs.Words.{Asks, IsAsked, IsAskedBy, with_text};
 
 mod editing;
 mod forgetting;
@@ -16,8 +16,7 @@ mod usage;
 use clap::ArgMatches;
 use editing::{batch_request, recdel_request, recfix_request, recins_request, recset_request};
 use forgetting::forget_request;
-use found::given;
-use paths::{copied, journal};
+use paths::{Paths, paths_of};
 use rec_tools::{Bytes, Fault, Request};
 pub use refusal::Refusal;
 use selecting::{recinf_request, recsel_request};
@@ -57,16 +56,26 @@ pub fn parse<S: AsStr>(alloc: Global, words: &[S]) -> Result<Asked, Refusal>
     ensures asked { IfOk result (IsAsked (map S.text words.now)) }
 {
     let matches = command(alloc)?.try_get_matches_from(words)?;
-    let Some((tool, options)) = matches.subcommand() else {
-        return Err(Refusal::Rule("a tool is needed"));
-    };
+    match matches.subcommand() {
+        Some((tool, options)) => asked_by(alloc, tool, options),
+        None => Err(Refusal::Rule("a tool is needed")),
+    }
+}
+
+/// What a tool and its options ask for.
+fn asked_by(alloc: Global, tool: &str, options: &ArgMatches) -> Result<Asked, Refusal>
+    ensures { IfOk result (IsAskedBy tool.now (rows_of (found_of options.now))) }
+{
     let request = request(alloc, tool, options)?;
-    let file = given(options, "file");
-    let journal = journal(alloc, &request, file, given(options, "journal"))?;
+    let Paths {
+        batch,
+        file,
+        journal,
+    } = paths_of(alloc, &request, options)?;
     Ok(Asked {
         request,
-        batch: copied(alloc, given(options, "batch"))?,
-        file: copied(alloc, file)?,
+        batch,
+        file,
         journal,
     })
 }

@@ -1,17 +1,46 @@
 //! The paths of the file and of its journal.
-ghost use Rattle.std.specs.Prelude.{◌≡◌, IfOk, string_bytes, option_map};
+ghost use Rattle.std.specs.Prelude.{◌≡◌, IfOk, codes, string_bytes, option_map};
+ghost use Rattle.clap.specs.Words.{first_of, found_of, rows_of};
 ghost use Rattle.rec_files.specs.Paths.{AreApart};
 ghost use Rattle.rec_command.specs.Words.{IsJournal};
 
+use super::found::given;
 use super::refusal::Refusal;
+use clap::ArgMatches;
 use rec_files::{are_apart, journal_path};
 use rec_tools::Request;
 use std::alloc::{AllocError, Global};
 
 const CLASH: &str = "--journal: FILE and PATH are one path, or one is the other with .new appended";
 
+/// The paths of a request.
+#[derive(Drop)]
+pub struct Paths {
+    pub batch: Option<String>,
+    pub file: Option<String>,
+    pub journal: Option<String>,
+}
+
+/// The paths that the options give a request.
+pub fn paths_of(alloc: Global, request: &Request, options: &ArgMatches) -> Result<Paths, Refusal>
+    ensures batch { IfOk result (λ paths. option_map string_bytes paths.batch ≡ first_of (codes "batch") (rows_of (found_of options.now))) }
+    ensures file { IfOk result (λ paths. option_map string_bytes paths.file ≡ first_of (codes "file") (rows_of (found_of options.now))) }
+    ensures journal { IfOk result (λ paths. IsJournal request.now (first_of (codes "file") (rows_of (found_of options.now)))
+        (first_of (codes "journal") (rows_of (found_of options.now))) (option_map string_bytes paths.journal)) }
+{
+    let file = given(options, "file");
+    let journal = journal(alloc, request, file, given(options, "journal"))?;
+    let batch = copied(alloc, given(options, "batch"))?;
+    let file = copied(alloc, file)?;
+    Ok(Paths {
+        batch,
+        file,
+        journal,
+    })
+}
+
 /// A copy of a path.
-pub fn copied(alloc: Global, path: Option<&str>) -> Result<Option<String>, AllocError>
+fn copied(alloc: Global, path: Option<&str>) -> Result<Option<String>, AllocError>
     ensures { IfOk result (λ copy. option_map string_bytes copy ≡ option_map (λ path. path.now) path.entry) }
 {
     match path {
@@ -21,7 +50,7 @@ pub fn copied(alloc: Global, path: Option<&str>) -> Result<Option<String>, Alloc
 }
 
 /// The journal of a request. One that prints of the file alone has none; every other needs a file.
-pub fn journal(
+fn journal(
     alloc: Global,
     request: &Request,
     file: Option<&str>,

@@ -1,6 +1,6 @@
 //! What clap is told of the tools and their options.
 ghost use Rattle.std.specs.Prelude.{◌≡◌, false, fold, IfOk};
-ghost use Rattle.clap.specs.Words.{app_of, rule_of, with_rule};
+ghost use Rattle.clap.specs.Words.{App, app_of, rule_of, with_rule, with_subcommand};
 ghost use Rattle.clap.specs.declared.builder.command.Command.TheViews.{out-Command as fields_of};
 ghost use Rattle.rec_command.specs.proving.Options.{rule_of_option, with_option};
 ghost use Rattle.rec_command.specs.Usage.{batch_option, journal_option, file_word, needed_file, needed_number, recsel_usage, recinf_usage, recfix_usage, recins_usage, recdel_usage, recset_usage, batch_usage, forget_usage, paths_usage, plain_usage, usage};
@@ -42,28 +42,41 @@ pub fn command<'a>(alloc: Global) -> Result<Command<'a>, AllocError>
     ensures { IfOk result (λ command. app_of command ≡ usage) }
 {
     let program = program(alloc)?;
-    program
-        .subcommand(recsel(alloc)?)?
-        .subcommand(recinf(alloc)?)?
-        .subcommand(recfix(alloc)?)?
-        .subcommand(recins(alloc)?)?
-        .subcommand(recdel(alloc)?)?
-        .subcommand(recset(alloc)?)?
-        .subcommand(batch(alloc)?)?
-        .subcommand(with_paths(alloc, "undo", "Undoes the newest edit", UNDO_HELP)?)?
-        .subcommand(with_paths(
-            alloc,
-            "redo",
-            "Redoes the edit that was undone last",
-            REDO_HELP,
-        )?)?
-        .subcommand(with_paths(
-            alloc,
-            "history",
-            "Prints the edits that can be undone and redone",
-            HISTORY_HELP,
-        )?)?
-        .subcommand(forget(alloc)?)
+    let program = with_tool(program, recsel(alloc))?;
+    let program = with_tool(program, recinf(alloc))?;
+    let program = with_tool(program, recfix(alloc))?;
+    let program = with_tool(program, recins(alloc))?;
+    let program = with_tool(program, recdel(alloc))?;
+    let program = with_tool(program, recset(alloc))?;
+    let program = with_tool(program, batch(alloc))?;
+    let undo = with_paths(alloc, "undo", "Undoes the newest edit", UNDO_HELP);
+    let program = with_tool(program, undo)?;
+    let redo = with_paths(
+        alloc,
+        "redo",
+        "Redoes the edit that was undone last",
+        REDO_HELP,
+    );
+    let program = with_tool(program, redo)?;
+    let history = with_paths(
+        alloc,
+        "history",
+        "Prints the edits that can be undone and redone",
+        HISTORY_HELP,
+    );
+    let program = with_tool(program, history)?;
+    with_tool(program, forget(alloc))
+}
+
+/// The program with one tool more, where that could be made. (Only here the program is dropped, which keeps proofs short.)
+fn with_tool<'a>(
+    program: Command<'a>,
+    tool: Result<Command<'a>, AllocError>,
+) -> Result<Command<'a>, AllocError>
+    ensures { (usage : App) → IfOk tool.entry (λ tool. app_of tool ≡ usage) → IfOk tool.entry (λ tool. (fields_of tool).has_globals ≡ false)
+        → IfOk result (λ command. app_of command ≡ with_subcommand (app_of program.entry) usage.top) }
+{
+    program.subcommand(tool?)
 }
 
 /// The program without its tools.

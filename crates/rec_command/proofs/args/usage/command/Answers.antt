@@ -1,28 +1,27 @@
+use Rattle.std.proofs.Common.{◌≡◌, ◌∙◌, ap, codes}
 use Rattle.std.proofs.lemmas.Result.{IfOk-weaker}
-use Rattle.rec_command.proofs.UsageLemmas.{tool_added}
+use Rattle.clap.specs.Words.{App, with_subcommand}
+use Rattle.rec_command.specs.Usage.{recsel_usage, recinf_usage, recfix_usage, recins_usage, recdel_usage, recset_usage, batch_usage, forget_usage, paths_usage}
 use Rattle.rec_command.proofs.args.usage.command.Goals as goal
+
+-- a program with one tool more, by what it is without that
+after : (tool : App) {new old before : App} → old ≡ before → new ≡ with_subcommand old tool.top → new ≡ with_subcommand before tool.top
+after tool old_is new_is = new_is ∙ ap (λ app. with_subcommand app tool.top) old_is
 
 pub returns : goal.returns
 returns c =
-    let recsel = c.in_ok-recsel in
-    let recinf = c.in_ok-recinf in
-    let recfix = c.in_ok-recfix in
-    let recins = c.in_ok-recins in
-    let recdel = c.in_ok-recdel in
-    let recset = c.in_ok-recset in
-    let batch = c.in_ok-batch in
-    let undo = c.in_ok-with_paths in
-    let redo = c.in_ok-with_paths-2 in
-    let history = c.in_ok-with_paths-3 in
-    let forget = c.in_ok-forget in
-    let one = tool_added _ _ _ _ _ c.in_ok-subcommand.ensures c.in_ok-program.ensures recsel.ensures.usage recsel.ensures.alone in
-    let two = tool_added _ _ _ _ _ c.in_ok-subcommand-2.ensures one recinf.ensures.usage recinf.ensures.alone in
-    let three = tool_added _ _ _ _ _ c.in_ok-subcommand-3.ensures two recfix.ensures.usage recfix.ensures.alone in
-    let four = tool_added _ _ _ _ _ c.in_ok-subcommand-4.ensures three recins.ensures.usage recins.ensures.alone in
-    let five = tool_added _ _ _ _ _ c.in_ok-subcommand-5.ensures four recdel.ensures.usage recdel.ensures.alone in
-    let six = tool_added _ _ _ _ _ c.in_ok-subcommand-6.ensures five recset.ensures.usage recset.ensures.alone in
-    let seven = tool_added _ _ _ _ _ c.in_ok-subcommand-7.ensures six batch.ensures.usage batch.ensures.alone in
-    let eight = tool_added _ _ _ _ _ c.in_ok-subcommand-8.ensures seven undo.ensures.usage undo.ensures.alone in
-    let nine = tool_added _ _ _ _ _ c.in_ok-subcommand-9.ensures eight redo.ensures.usage redo.ensures.alone in
-    let ten = tool_added _ _ _ _ _ c.in_ok-subcommand-10.ensures nine history.ensures.usage history.ensures.alone in
-    IfOk-weaker c.subcommand-11.result _ _ (λ command adds. tool_added _ _ command _ _ adds ten forget.ensures.usage forget.ensures.alone) c.subcommand-11.ensures
+    let undo = paths_usage (codes "undo") in
+    let redo = paths_usage (codes "redo") in
+    let history = paths_usage (codes "history") in
+    let one = after recsel_usage c.in_ok-program.ensures (c.in_ok-program-2.ensures recsel_usage c.recsel.ensures.usage c.recsel.ensures.alone) in
+    let two = after recinf_usage one (c.in_ok-program-3.ensures recinf_usage c.recinf.ensures.usage c.recinf.ensures.alone) in
+    let three = after recfix_usage two (c.in_ok-program-4.ensures recfix_usage c.recfix.ensures.usage c.recfix.ensures.alone) in
+    let four = after recins_usage three (c.in_ok-program-5.ensures recins_usage c.recins.ensures.usage c.recins.ensures.alone) in
+    let five = after recdel_usage four (c.in_ok-program-6.ensures recdel_usage c.recdel.ensures.usage c.recdel.ensures.alone) in
+    let six = after recset_usage five (c.in_ok-program-7.ensures recset_usage c.recset.ensures.usage c.recset.ensures.alone) in
+    let seven = after batch_usage six (c.in_ok-program-8.ensures batch_usage c.batch.ensures.usage c.batch.ensures.alone) in
+    let eight = after undo seven (c.in_ok-program-9.ensures undo c.with_paths-undo.ensures.usage c.with_paths-undo.ensures.alone) in
+    let nine = after redo eight (c.in_ok-program-10.ensures redo c.with_paths-redo.ensures.usage c.with_paths-redo.ensures.alone) in
+    let ten = after history nine (c.in_ok-program-11.ensures history c.with_paths-history.ensures.usage c.with_paths-history.ensures.alone) in
+    IfOk-weaker c.with_tool-11.result _ _ (λ command is. after forget_usage ten is)
+    (c.with_tool-11.ensures forget_usage c.forget.ensures.usage c.forget.ensures.alone)

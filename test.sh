@@ -25,11 +25,14 @@ usage() {
 
 # Takes over the numbers of the last line of rt ci, which stands in the log.
 proofs() {
-    local status
-    # Where there are 5 GB of memory for each processor, each has a check to do; one takes 3 GB for the most part, and 6 at
-    # most. By itself rt counts on more, and leaves processors idle.
-    if [ "$(awk '/^MemAvailable/ { print int($2 / 5000000) }' /proc/meminfo)" -ge "$(nproc)" ]; then
-        export RT_JOBS="${RT_JOBS:-$(nproc)}"
+    local lanes status
+    # Three checks at a time, where there are processors and 5 GB of memory for each; one takes 3 GB for the most part, and 6
+    # at most. The crates stand one above another, so a fourth would end no sooner, and make all of them dearer. By itself
+    # rt counts on more memory, and leaves processors idle.
+    lanes=$(nproc)
+    [ "$lanes" -le 3 ] || lanes=3
+    if [ "$(awk '/^MemAvailable/ { print int($2 / 5000000) }' /proc/meminfo)" -ge "$lanes" ]; then
+        export RT_JOBS="${RT_JOBS:-$lanes}"
     fi
     looks
     rt ci | tee "$folder/log"
@@ -162,7 +165,7 @@ growth() {
 }
 
 all() {
-    echo 'test.sh: all parts take 250 to 275 processor minutes, nearly all of it for the proofs: an hour or more on 4 processors, two or more on 2'
+    echo 'test.sh: all parts take some 230 processor minutes, nearly all of it for the proofs: an hour and a half on 4 processors, two hours or more on 2'
     echo 'test.sh: the parts program, memory and growth take a minute or two each, once the proofs have built what they run'
     proofs
     program

@@ -27,7 +27,7 @@ usage() {
 proofs() {
     local lanes status
     # Three checks at a time, where there are processors and 5 GB of memory for each; one takes 3 GB for the most part, and 6
-    # at most. The crates stand one above another, so a fourth would end no sooner, and make all of them dearer. By itself
+    # at most. The crates stand one above another, so a fourth has little to gain, and makes all of them dearer. By itself
     # rt counts on more memory, and leaves processors idle.
     lanes=$(nproc)
     [ "$lanes" -le 3 ] || lanes=3

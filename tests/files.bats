@@ -135,6 +135,10 @@ have_modes() {
     has db.rec "$three"
     has db.rec.new "$header"
     only db.rec db.rec.new
+    # another name of it elsewhere changes nothing
+    ln db.rec.new other
+    fails_to_store 'db.rec: the file or its journal stands under the working name of the other' recdel -n 0 --journal ./db.rec.new db.rec
+    rm other
     put j.new "$three"
     fails_to_store './j: the file or its journal stands under the working name of the other' recdel -n 0 --journal ./j j.new
     has j.new "$three"
@@ -200,11 +204,30 @@ have_modes() {
     put db.rec.journal "$header"
     chmod 666 db.rec db.rec.journal
     chmod 555 .
-    fails_to_store 'db.rec.journal.new: Permission denied (os error 13)' recdel -n 0 db.rec
-    chmod 755 .
+    local why="the folder isn't writable, and recu writes a new file in it: Permission denied (os error 13)"
+    fails_to_store ".: $why" recdel -n 0 db.rec
+    fails_to_store "$PWD: $why" recdel -n 0 "$PWD/db.rec"
+    chmod 777 .
     has db.rec "$three"
     has db.rec.journal "$header"
     only db.rec db.rec.journal
+    # one of two folders, and one in which something was left
+    mkdir d
+    put d/db.rec "$three"
+    chmod 666 d/db.rec
+    chmod 555 d
+    fails_to_store "d: $why" recdel -n 0 --journal db.rec.journal d/db.rec
+    [ "$(ls -A . d | tr '\n' ' ')" = '.: d db.rec db.rec.journal  d: db.rec ' ] || fail "$(ls -A . d)"
+    fails_to_store "d: $why" recdel -n 0 --journal d/j db.rec
+    chmod 755 d
+    put d/db.rec.journal.new ''
+    chmod 666 d/db.rec.journal.new
+    chmod 555 d
+    fails_to_store "d: $why" recdel -n 0 d/db.rec
+    has d/db.rec "$three"
+    has d/db.rec.journal.new ''
+    has db.rec "$three"
+    has db.rec.journal "$header"
 }
 
 # What a stop leaves: the journal's new file, whole or in part, and beside it the file's; or, between the renames, the file's
@@ -228,6 +251,46 @@ have_modes() {
             only db.rec db.rec.journal
         done
     done
+}
+
+# A power cut may leave zeros where the journal's new file wasn't synced.
+@test "zeros that a power cut left are removed" {
+    local size file
+    for size in 1 56 57 58 1000 65535 65536 65537 200000; do
+        for file in none '' 'half a fi' '\x00\x00'; do
+            put db.rec "$three"
+            rm -f db.rec.journal
+            truncate -s "$size" db.rec.journal.new
+            [ "$file" = none ] || put db.rec.new "$file"
+            does recdel -n 0 db.rec
+            has db.rec 'B: 2¶¶C: 3¶'
+            truncate -s "$size" db.rec.journal.new
+            [ "$file" = none ] || put db.rec.new "$file"
+            does undo db.rec
+            has db.rec "$three"
+            only db.rec db.rec.journal
+        done
+    done
+}
+
+@test "somebody's own file that begins with zeros stays" {
+    local size
+    put db.rec "$three"
+    does recdel -n 0 db.rec
+    for size in 1 56 57 58 65535 65536 65537 131072 200000; do
+        truncate -s "$size" db.rec.journal.new
+        printf x >> db.rec.journal.new
+        stays db.rec.journal.new
+        rm db.rec.journal.new
+    done
+    put db.rec.journal.new "\\x00$header"
+    stays db.rec.journal.new
+    put db.rec.journal.new '%rec\x00\x00'
+    stays db.rec.journal.new
+    rm db.rec.journal.new
+    # the file's new name is another matter
+    put db.rec.new '\x00\x00'
+    stays db.rec.new
 }
 
 # stopped TEXT WORD..: such an edit of the text was stopped between the renames
@@ -285,9 +348,10 @@ stopped() {
     only db.rec db.rec.journal db.rec.new
 }
 
-# stays NAME: what stands under this name stays, and every command that would write is refused
+# stays NAME: what stands under this name stays, and every command that would write is refused, for this reason
+why='not left by recu'
 stays() {
-    local line="$1: not left by recu: recu writes under this name, so move it away"
+    local line="$1: $why: recu writes under this name, so move it away"
     cp -p "$1" "$BATS_TEST_TMPDIR/own"
     cp db.rec.journal "$BATS_TEST_TMPDIR/journal"
     fails_to_store "$line" recset -n 0 -f B -s 9 db.rec
@@ -342,23 +406,32 @@ stays() {
 @test "second names of the file and of its journal stay" {
     put db.rec "$three"
     does recdel -n 0 db.rec
+    why='a second name of the file'
     ln db.rec db.rec.new
     stays db.rec.new
     [ db.rec -ef db.rec.new ] || fail 'it is another file'
     mv db.rec.new db.rec.journal.new
-    fails_to_store 'db.rec.journal: the file or its journal stands under the working name of the other' undo db.rec
+    stays db.rec.journal.new
     [ db.rec -ef db.rec.journal.new ] || fail 'it is another file'
+    why='a second name of the journal'
     ln -f db.rec.journal db.rec.journal.new
     stays db.rec.journal.new
     [ db.rec.journal -ef db.rec.journal.new ] || fail 'it is another file'
-    put db.rec.new "$three"
+    mv db.rec.journal.new db.rec.new
+    stays db.rec.new
+    [ db.rec.journal -ef db.rec.new ] || fail 'it is another file'
+    fails_to_store 'db.rec.new: a second name of the journal: recu writes under this name, so move it away' forget 0 db.rec
+    ln db.rec.journal db.rec.journal.new
     ln -f db.rec db.rec.new
     put "$BATS_TEST_TMPDIR/journal" ''
     mv "$BATS_TEST_TMPDIR/journal" db.rec.journal.new
-    fails_to_store 'db.rec.new: not left by recu: recu writes under this name, so move it away' undo db.rec
+    fails_to_store 'db.rec.new: a second name of the file: recu writes under this name, so move it away' undo db.rec
     [ db.rec -ef db.rec.new ] || fail 'it is another file'
     has db.rec.journal.new ''
     only db.rec db.rec.journal db.rec.journal.new db.rec.new
+    rm db.rec.new
+    does undo db.rec
+    only db.rec db.rec.journal
 }
 
 @test "a folder, a link or a pipe is no leftover" {

@@ -359,7 +359,7 @@ with_batch() {
 # What is removed under the working names, and what stays, is as for an edit. Nothing is made under the file's.
 @test "what a stop left is removed" {
     local journal file
-    for journal in '' '%' "$header" "$old_header" "${header}Number: 1¶Kind: ed"; do
+    for journal in '' '%' "$header" "$old_header" "${header}Number: 1¶Kind: ed" '\x00\x00'; do
         for file in none '' 'half a fi'; do
             rm -f db.rec.journal
             put db.rec 'A: 1¶'

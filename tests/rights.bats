@@ -323,7 +323,7 @@ edited_twice() {
     has db.rec.journal < "$BATS_TEST_TMPDIR/journal"
     chmod 755 .
     recu 1 forget 0 db.rec
-    says 'db.rec.journal.new: Permission denied (os error 13)'
+    says ".: the folder isn't writable, and recu writes a new file in it: Permission denied (os error 13)"
     has db.rec.journal < "$BATS_TEST_TMPDIR/journal"
     only db.rec db.rec.journal
 }

@@ -274,6 +274,27 @@ journal_stands() {
     fast each_pause another_journal journal_stands
 }
 
+# Whoever puts a journal in place before recu's last look keeps it, and so does who comes after the rename.
+journal_is_kept() {
+    local history
+    [ "$call" != rename ] || return 0
+    if fast has db.rec.journal "$header" 2> /dev/null; then return 0; fi
+    # it was there before recu read it
+    history=$("$program" history db.rec)
+    [ "$status" = 0 ] && [[ $history == 'done 1 '* && $history != *$'\n'* ]] || wrong "what was put in place is lost, the history is: $history"
+    fast has db.rec "$edited" || wrong 'not the edit'
+}
+
+@test "another program puts a journal in place meanwhile" {
+    put db.rec "$three"
+    does recset -n 0 -f A -s 8 db.rec
+    mkdir start
+    cp db.rec db.rec.journal start
+    fast each_pause another_journal journal_is_kept
+    as_batch
+    fast each_pause another_journal journal_is_kept
+}
+
 # each_call WHAT: the run's calls fail so in turn, or it ends at them
 each_call() {
     for ((number = 1; number <= 1000; number++)); do
@@ -406,6 +427,26 @@ sync_fails() {
     grep -q '^db.rec: the edit is done, but its folder could not be synced, so a power cut may undo it: ' err || wrong 'it says something else'
     fast has db.rec "$edited" || wrong 'the edit is lost'
     can_be_taken_back "$three"
+    # Forgetting puts the journal in place, and syncs its folder last.
+    as_forgetting
+    cp start/* .
+    ONLY=fsync at 2 5 "${words[@]}" db.rec && status=0 || status=$?
+    [ "$status" = 1 ] || wrong 'it is no failure'
+    fast has err "db.rec.journal: the edits are forgotten, but its folder could not be synced, so a power cut may bring them back: Input/output error (os error 5)¶$store_failed" || wrong 'it says something else'
+    cmp -s db.rec.journal forgotten/db.rec.journal || wrong 'nothing was forgotten'
+    no_leftovers
+}
+
+# The third file that is opened is the journal's new one.
+@test "a file system that may only be read" {
+    put db.rec "$three"
+    status=0 number=3
+    ONLY=open at 3 30 "${words[@]}" db.rec || status=$?
+    met || fail 'no third file is opened'
+    [ "$status" = 1 ] || wrong 'it is no failure'
+    has err ".: the folder isn't writable, and recu writes a new file in it: Read-only file system (os error 30)¶$store_failed"
+    has db.rec "$three"
+    no_leftovers
 }
 
 @test "two files with one journal" {

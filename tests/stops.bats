@@ -106,10 +106,15 @@ wrong() {
     fail "call $number ($call), status $status: $*" $'\n'"$(cat err)" $'\n'"$(ls -A)" $'\n'"$(head -c 300 db.rec | cat -A)" $'\n'"$(tail -c 600 db.rec.journal | cat -A)"
 }
 
-# begin: the contents before the command
+# begin: the contents before the command. In two folders the file is a link into another one.
 begin() {
-    rm -f db.rec db.rec.journal db.rec.new db.rec.journal.new hit
+    rm -rf db.rec db.rec.journal db.rec.new db.rec.journal.new hit d
     cp "$before"/db.rec* .
+    if [ "${folders-1}" = 2 ]; then
+        mkdir d
+        mv db.rec d/db.rec
+        ln -s d/db.rec db.rec
+    fi
 }
 
 # are STATE: both contents and the history are these
@@ -151,7 +156,7 @@ judge() {
 
 # cleared WHAT: no working name is left
 cleared() {
-    [ ! -e db.rec.new ] && [ ! -e db.rec.journal.new ] || wrong "$1:" *.new
+    [ ! -e db.rec.new ] && [ ! -e db.rec.journal.new ] && [ ! -e d/db.rec.new ] || wrong "$1:" *.new d/*.new
 }
 
 # undone: each edit that is done is undone, and that gives the first text
@@ -251,6 +256,20 @@ each_call() {
 @test "the program ends at each call of forgetting" {
     fast each_call forget end
     fast each_call forget_redone end
+}
+
+@test "each call in two folders fails" {
+    local command folders=2
+    for command in first edit undo forget; do
+        fast each_call "$command" 5
+    done
+}
+
+@test "the program ends at each call in two folders" {
+    local command folders=2
+    for command in first edit undo forget; do
+        fast each_call "$command" end
+    done
 }
 
 # each_half COMMAND [WRITES]: the program ends within each of its writes, which are two

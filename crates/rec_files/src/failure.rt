@@ -18,6 +18,8 @@ pub enum Cause {
     Itself(Error),
     /// Its working name can't be made.
     Working(Error),
+    /// The folder of its working name may not be written.
+    Folder(Error),
     /// What stands under its working name is in the way, and stays.
     Foreign(Error),
     /// It was replaced, and then its folder could not be synced.
@@ -102,6 +104,14 @@ pub fn not_left() -> Error {
     Error::other("not left by recu")
 }
 
+/// One of the two has a second name, which is a working name.
+pub fn second_name(which: Which) -> Error {
+    match which {
+        Which::Base => Error::other("a second name of the file"),
+        Which::Journal => Error::other("a second name of the journal"),
+    }
+}
+
 /// Another recu edits it.
 pub fn locked() -> Error {
     Error::other("in use by another recu")
@@ -118,6 +128,20 @@ pub fn of_foreign(error: Error) -> Cause {
         ErrorKind::OutOfMemory => Cause::Itself(error),
         _ => Cause::Foreign(error),
     }
+}
+
+/// What a stop left under a working name can't be removed.
+pub fn of_removing(error: Error) -> Cause {
+    if is_of_folder(&error) {
+        Cause::Folder(error)
+    } else {
+        of_foreign(error)
+    }
+}
+
+/// The numbers of the system's errors EACCES and EROFS: in this folder no name can be made or removed.
+pub fn is_of_folder(error: &Error) -> bool {
+    matches!(error.raw_os_error(), Some(13 | 30))
 }
 
 /// The link's target is no text that can be followed.

@@ -1,6 +1,6 @@
 //! The home of real files. A request that only looks reads them as they stand; one that may write locks them.
 //! What opens files stands in `target`, `open_file`, `working_file`, `rights` and `links`; standard input is read here alone.
-ghost use Rattle.std.specs.Prelude.{◌≡◌, ◌≤◌, ◌↔◌, [], length, IsTrue, IsNone, None, Some, Ok, OnOk, option_map, string_bytes, unwrap_or};
+ghost use Rattle.std.specs.Prelude.{◌≡◌, ◌≤◌, ◌↔◌, [], length, IsTrue, IsNone, None, Some, Ok, OnOk, IsSomeAnd, option_map, string_bytes, unwrap_or};
 ghost use Rattle.std.specs.IoError.{error_kind, raw_os_error};
 ghost use Rattle.rec_text.specs.Sink.{one_more};
 ghost use Rattle.rec_tools.specs.Home.{Counts};
@@ -9,6 +9,7 @@ ghost use Rattle.rec_files.specs.proving.Files.{path_of};
 use crate::access::Access;
 use crate::both::Both;
 use crate::failure::{Cause, Failure, not_regular, one_file};
+use crate::links::folder_of;
 use crate::open_file::are_one;
 use crate::reading::{LIMIT, read_rest, read_whole};
 use crate::target::may_be_missing;
@@ -78,11 +79,29 @@ impl<'r, R: Files<File = File> + Input + AllocGlobal> FileHome<'r, R> {
             Cause::Foreign(error) => {
                 eprintln!(err; "{working}: {error}: recu writes under this name, so move it away")
             }
-            Cause::Unsynced(error) => {
-                let what =
-                    "the edit is done, but its folder could not be synced, so a power cut may undo it";
-                eprintln!(err; "{name}: {what}: {error}")
+            Cause::Folder(error) => {
+                let what = "the folder isn't writable, and recu writes a new file in it";
+                eprintln!(err; "{}: {what}: {error}", folder_of(working))
             }
+            Cause::Unsynced(error) => eprintln!(err;
+                "{name}: {}: {error}",
+                done_unsynced(failure.which)
+            ),
+        }
+    }
+
+    /// Whether the last failure was that the file itself was not found: not its journal, nor a name under which one of the
+    /// two is written.
+    pub fn is_missing(&self) -> bool
+        ensures missing { IsTrue result ↔ IsSomeAnd self.now.failure (λ failure. (failure.which ≡ Which.Base)
+            × ((error : Error) × (failure.cause ≡ Cause.Itself error) × (error_kind error ≡ ErrorKind.NotFound))) }
+    {
+        let Some(failure) = self.failure else {
+            return false;
+        };
+        match (failure.which, failure.cause) {
+            (Which::Base, Cause::Itself(error)) => error.kind() == ErrorKind::NotFound,
+            _ => false,
         }
     }
 
@@ -230,6 +249,19 @@ pub fn is_out_of_memory(error: &Error) -> bool
     ensures { IsTrue result ↔ ((error_kind error.now ≡ ErrorKind.OutOfMemory) × IsNone (raw_os_error error.now)) }
 {
     error.kind() == ErrorKind::OutOfMemory && error.raw_os_error().is_none()
+}
+
+/// What was done by putting one of the two in place last, and could not be synced: an edit by the file, and forgetting by the
+/// journal.
+fn done_unsynced(which: Which) -> &'static str {
+    match which {
+        Which::Base => {
+            "the edit is done, but its folder could not be synced, so a power cut may undo it"
+        }
+        Which::Journal => {
+            "the edits are forgotten, but its folder could not be synced, so a power cut may bring them back"
+        }
+    }
 }
 
 /// Opens a file to read it. A journal is one of recu's own files, so it is no pipe that keeps a reader waiting.

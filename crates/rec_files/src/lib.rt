@@ -17,6 +17,7 @@ mod reading;
 mod rights;
 mod target;
 mod working_file;
+mod zeros;
 
 pub use access::{Access, access_of};
 pub use batch::batch_text;

@@ -4,6 +4,7 @@ ghost use Rattle.std.specs.Path.{path_parent, path_with_file_name};
 ghost use Rattle.rec_files.specs.proving.Files.{folder_in};
 
 use crate::failure::{of_link, too_many_links};
+use crate::open_file::are_one;
 use std::alloc::{AllocError, Global};
 use std::fs::File;
 use std::io::ErrorKind;
@@ -52,8 +53,20 @@ pub fn folder_of(path: &str) -> &str
     }
 }
 
-/// Makes what was renamed in the folder of a path last. A folder that can't be read can't be synced, and neither can
-/// those of some file systems: there it is left to the system.
+/// Whether two paths stand in one folder, however it is written.
+pub fn share_folder(rt: &impl Files, first: &str, second: &str) -> io::Result<bool> {
+    let (first, second) = (folder_of(first), folder_of(second));
+    Ok(first == second || are_one(&fs::metadata(rt, first)?, &fs::metadata(rt, second)?))
+}
+
+/// Whether two paths are one name in one folder, however that is written.
+pub fn are_one_name(rt: &impl Files, first: &str, second: &str) -> io::Result<bool> {
+    let is_one_word = Path::new(first).file_name() == Path::new(second).file_name();
+    Ok(is_one_word && share_folder(rt, first, second)?)
+}
+
+/// Makes what was made, renamed or removed in the folder of a path last. A folder that can't be read can't be synced, and
+/// neither can those of some file systems: there it is left to the system.
 pub fn sync_folder<R: Files<File = File>>(rt: &R, path: &str) -> io::Result<()> {
     match File::open(rt, folder_of(path)) {
         Ok(folder) => match folder.sync_all() {

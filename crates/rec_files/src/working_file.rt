@@ -1,7 +1,7 @@
 //! Files under the working names: made and locked.
 ghost use Rattle.std.specs.Prelude.{◌≡◌};
 
-use crate::failure::{Cause, in_use};
+use crate::failure::{Cause, in_use, is_of_folder};
 use crate::open_file::leads_to;
 use std::fs::{File, OpenOptions, TryLockError};
 use std::io;
@@ -24,6 +24,7 @@ fn of_making(error: Error) -> Cause {
     match error.kind() {
         ErrorKind::AlreadyExists => Cause::Itself(in_use()),
         ErrorKind::NotFound => Cause::Itself(error),
+        _ if is_of_folder(&error) => Cause::Folder(error),
         _ => Cause::Working(error),
     }
 }

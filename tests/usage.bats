@@ -100,13 +100,29 @@ example() {
     out | tail -n 1 | grep -q '^  recu '
 }
 
+@test "help fits 80 columns" {
+    local tool words
+    for tool in '' recsel recinf recfix recins recdel recset batch undo redo history forget; do
+        for words in "$tool --help" "$tool -h" "help $tool"; do
+            recu 0 $words
+            ! out | LC_ALL=C.UTF-8 grep -E '.{81}' || fail "a line of recu $words has more than 80 characters"
+        done
+    done
+}
+
+# said_before_the_end: the line of standard error before the last one
+said_before_the_end() {
+    tail -n 2 "$BATS_TEST_TMPDIR/err" | head -n 1
+}
+
 # hints WORDS HINT: the line before the last one
 hints() {
     put f "$three"
     eval "recu 1 $1"
     is_bad_usage
-    [ "$(tail -n 2 "$BATS_TEST_TMPDIR/err" | head -n 1)" = "hint: a value that begins with a hyphen is given as $2" ] ||
-        fail 'the line before the last one is:' "$(tail -n 2 "$BATS_TEST_TMPDIR/err" | head -n 1)"
+    [ "$(said_before_the_end)" = "hint: a value that begins with a hyphen is given as $2" ] ||
+        fail 'the line before the last one is:' "$(said_before_the_end)"
+    ! grep -q "tip: to pass" "$BATS_TEST_TMPDIR/err" || fail 'clap advises another word too'
     has f "$three"
     only f
 }
@@ -114,11 +130,63 @@ hints() {
 @test "how a value is given that begins with a hyphen" {
     local words
     each hints hints.rows
-    for words in 'recset -f A -s -d f' 'recdel -n -x f' 'undo -5 f' 'forget -5 f' 'recdel --comment -5 f' 'recfix --check -5'; do
+    for words in 'recset -f A -s -d f' 'undo -5 f' 'forget -5 f' 'recdel --comment -5 f' 'recfix --check -5' \
+        'recset -n 0 -f A -s --force f' 'recset -f A -s --force=1 f' 'recset -f A -s --help f' 'recset -f A -s -h f' 'recset -f A -s -V f' \
+        'recset -f A -s --journal j f' 'recset -f A -s --journal=-j f' 'recset -f A -s -- f' 'recset -f A -s' 'recset -f A -s -n=0 f' \
+        'recset -fs -5 f' 'recset -fA -ss -5 f' 'recset -xs -5 f' 'recset -s= -5 f' 'recset -f A -d -x f' 'recset -f A -d --foo f' \
+        'recset -f A -s 1 f -5' 'recset -- -s -5' 'recsel --journal -j f' 'recsel -b -5 f' 'batch --batch -5 f' 'batch -b -b f' 'nothing -s -5 f'; do
         recu 1 $words
         is_bad_usage
         ! grep -q hint "$BATS_TEST_TMPDIR/err" || fail "recu $words has a hint"
     done
+}
+
+@test "a value that begins with a hyphen is given as the hint says" {
+    put f "$three"
+    recu 1 recset -n 0 -f A --set --foo f
+    prints '' "error: unexpected argument '--foo' found¶¶Usage: recu recset [OPTIONS] -f FIELDS <ACTION> FILE¶¶For more information, try '--help'.¶hint: a value that begins with a hyphen is given as --set=--foo¶recu: bad usage¶"
+    does recset -n 0 -f A --set=--foo f
+    has f 'A: --foo¶¶B: 2¶¶C: 3¶'
+    recu 1 batch -b -x f
+    prints '' "error: unexpected argument '-x' found¶¶Usage: recu batch [OPTIONS] -b PATH FILE¶¶For more information, try '--help'.¶hint: a value that begins with a hyphen is given as -b=-x¶recu: bad usage¶"
+    put ./-x 'Tool: recdel¶Number: 0¶'
+    does batch -b=-x f
+    has f 'B: 2¶¶C: 3¶'
+}
+
+@test "a value that is missing before an option" {
+    put f "$three"
+    recu 1 recset -n 0 -f A -s --force f
+    prints '' "error: a value is required for '--set <VALUE>' but none was supplied¶¶For more information, try '--help'.¶recu: bad usage¶"
+    recu 1 recset -n 0 -f A -s --forc f
+    prints '' "error: unexpected argument '--forc' found¶¶  tip: a similar argument exists: '--force'¶¶Usage: recu recset [OPTIONS] -f FIELDS <ACTION> FILE¶¶For more information, try '--help'.¶hint: a value that begins with a hyphen is given as --set=--forc¶recu: bad usage¶"
+    has f "$three"
+    only f
+}
+
+@test "a command takes one FILE" {
+    local words
+    put a.rec "$three"
+    put b.rec "$three"
+    recu 1 recsel a.rec b.rec
+    prints '' "error: unexpected argument 'b.rec' found¶¶Usage: recu recsel [OPTIONS] [FILE]¶¶For more information, try '--help'.¶hint: a command takes one FILE¶recu: bad usage¶"
+    for words in 'recsel -c a.rec b.rec a.rec' 'recsel -- a.rec b.rec' 'recinf a.rec b.rec' 'recfix a.rec b.rec' 'recfix --auto a.rec b.rec' \
+        'recins -f A -v 1 a.rec b.rec' 'recdel -n 0 a.rec b.rec' 'recset -f A -d a.rec b.rec' 'recset -n 0 -f A -s Ada Lovelace a.rec' \
+        'batch -b c.rec a.rec b.rec' 'undo a.rec b.rec' 'redo a.rec b.rec' 'history a.rec b.rec' 'forget 1 a.rec b.rec' 'forget 1 2 a.rec' \
+        'recset -f A a.rec b.rec -s -5'; do
+        recu 1 $words
+        is_bad_usage
+        [ "$(said_before_the_end)" = 'hint: a command takes one FILE' ] || fail "recu $words says:" "$(said_before_the_end)"
+        [ "$(grep -c '^hint: ' "$BATS_TEST_TMPDIR/err")" = 1 ] || fail "recu $words has several hints"
+    done
+    for words in 'a.rec b.rec' 'help recsel a.rec' 'recsel --nothing a.rec b.rec' 'recset -f A a.rec' 'forget 1'; do
+        recu 1 $words
+        is_bad_usage
+        ! grep -q hint "$BATS_TEST_TMPDIR/err" || fail "recu $words has a hint"
+    done
+    has a.rec "$three"
+    has b.rec "$three"
+    only a.rec b.rec
 }
 
 # is_bad_usage: the last run was refused as bad usage, and explained that

@@ -22,28 +22,28 @@ const TYPE: ToolOption = ToolOption {
     letter: Some('t'),
     name: "type",
     takes: Takes::Value("TYPE"),
-    help: "The records of this type [default: those of no type, or else of the only type]",
+    help: "The records of this type [default: see below]",
 };
 
 const NEW_TYPE: ToolOption = ToolOption {
     letter: Some('t'),
     name: "type",
     takes: Takes::Value("TYPE"),
-    help: "The type of the new record, or of those that are selected [default: for a new record no type, even where there is only one]",
+    help: "The type of the new record [default: see below]",
 };
 
 const EXPRESSION: ToolOption = ToolOption {
     letter: Some('e'),
     name: "expression",
     takes: Takes::Value("EXPR"),
-    help: "The records for which EXPR is true, such as 'Age > 17 && #Email'",
+    help: "The records for which EXPR is true, as 'Age > 17'",
 };
 
 const NUMBER: ToolOption = ToolOption {
     letter: Some('n'),
     name: "number",
     takes: Takes::Value("LIST"),
-    help: "The records with these numbers in the set, from 0, such as 0,4-7",
+    help: "The records with these numbers, from 0, as 0,4-7",
 };
 
 const QUICK: ToolOption = ToolOption {
@@ -65,19 +65,19 @@ pub static PRINTING: [ToolOption; 5] = [
         letter: Some('p'),
         name: "print",
         takes: Takes::Value("FIELDS"),
-        help: "Print only these fields, such as Name,Email[0-1]",
+        help: "Print only FIELDS, as Name,Email[0-1]",
     },
     ToolOption {
         letter: Some('P'),
         name: "print-values",
         takes: Takes::Value("FIELDS"),
-        help: "Print the values of these fields, one per line",
+        help: "Print the values of FIELDS, one per line",
     },
     ToolOption {
         letter: Some('R'),
         name: "print-row",
         takes: Takes::Value("FIELDS"),
-        help: "Print the values of these fields, one line for each record",
+        help: "Print the values of FIELDS, one record per line",
     },
     ToolOption {
         letter: Some('c'),
@@ -119,19 +119,19 @@ pub static RECFIX: [ToolOption; 3] = [
         letter: None,
         name: "check",
         takes: Takes::Nothing,
-        help: "Report what breaks the rules, and change nothing [default]",
+        help: "Report violations, and change nothing [default]",
     },
     ToolOption {
         letter: None,
         name: "auto",
         takes: Takes::Nothing,
-        help: "Give the records of all types the automatic fields that they lack",
+        help: "Give all records the automatic fields that they lack",
     },
     ToolOption {
         letter: None,
         name: "force",
         takes: Takes::Nothing,
-        help: "Make the edit even if the file breaks its rules afterwards",
+        help: "Make the edit even if the file then breaks its rules",
     },
 ];
 
@@ -140,7 +140,7 @@ pub static RECINS: [ToolOption; 5] = [
         letter: Some('f'),
         name: "field",
         takes: Takes::Values("NAME"),
-        help: "A field of the new record; its value is that of the --value at the same place",
+        help: "A field of the new record, each with its --value",
     },
     ToolOption {
         letter: Some('v'),
@@ -164,7 +164,7 @@ pub static RECINS: [ToolOption; 5] = [
         letter: None,
         name: "force",
         takes: Takes::Nothing,
-        help: "Make the edit even if the file breaks its rules afterwards",
+        help: "Make the edit even if the file then breaks its rules",
     },
 ];
 
@@ -179,7 +179,7 @@ pub static RECDEL: [ToolOption; 2] = [
         letter: None,
         name: "force",
         takes: Takes::Nothing,
-        help: "Delete even if no option selects records, and even if the file breaks its rules afterwards",
+        help: "Delete even without a selection, or if rules break",
     },
 ];
 
@@ -188,7 +188,7 @@ pub static RECSET: [ToolOption; 8] = [
         letter: Some('f'),
         name: "fields",
         takes: Takes::Value("FIELDS"),
-        help: "The fields, such as Name,Email[0-1]",
+        help: "The fields, as Name,Email[0-1]",
     },
     ToolOption {
         letter: Some('s'),
@@ -200,13 +200,13 @@ pub static RECSET: [ToolOption; 8] = [
         letter: Some('a'),
         name: "add",
         takes: Takes::Value("VALUE"),
-        help: "Add a field with VALUE for each of FIELDS, after the last field",
+        help: "Add a field with VALUE for each of FIELDS, at the end",
     },
     ToolOption {
         letter: Some('S'),
         name: "set-add",
         takes: Takes::Value("VALUE"),
-        help: "Set the fields that are there to VALUE, and add the others",
+        help: "Set the fields that are there, and add the others",
     },
     ToolOption {
         letter: Some('r'),
@@ -230,7 +230,7 @@ pub static RECSET: [ToolOption; 8] = [
         letter: None,
         name: "force",
         takes: Takes::Nothing,
-        help: "Make the edit even if the file breaks its rules afterwards",
+        help: "Make the edit even if the file then breaks its rules",
     },
 ];
 
@@ -238,5 +238,5 @@ pub static BATCH: [ToolOption; 1] = [ToolOption {
     letter: None,
     name: "force",
     takes: Takes::Nothing,
-    help: "Make the edits even if a deletion selects no records, and even if the file breaks its rules afterwards",
+    help: "Make them even without a selection, or if rules break",
 }];

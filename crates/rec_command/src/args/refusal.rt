@@ -1,7 +1,7 @@
 //! Why words give no request, and what a user is told of it.
 ghost use Rattle.std.specs.Prelude.{◌≡◌, ◌⊎◌, ◌↔◌};
 
-use crate::hints::hint_for;
+use crate::hints::hyphenated_value;
 use clap::error::ErrorKind;
 use rec_tools::Fault;
 use std::alloc::AllocError;
@@ -44,31 +44,49 @@ impl Refusal {
                 Ok(true)
             }
             Refusal::Usage(error) => {
-                let _ = print_usage(rt, error, words);
-                explain_hyphen(rt, words);
+                let _ = explain_usage(rt, error, words);
                 Ok(false)
             }
             Refusal::Rule(line) => {
                 let _ = eprintln!(rt; "{line}");
-                explain_hyphen(rt, words);
                 Ok(false)
             }
         }
     }
 }
 
-/// Prints what clap says of the words. Its tip for a value that begins with a hyphen is left out, since it doesn't lead to
-/// one: `explain_hyphen` does.
-fn print_usage<R: Print + Eprint + AllocGlobal, S: AsStr>(
+/// Prints what clap says of the words, and a hint where there is one. What clap advises for a value that begins with a hyphen
+/// is left out then, since it doesn't lead to such a value.
+fn explain_usage<R: Print + Eprint + AllocGlobal, S: AsStr>(
     rt: &R,
     error: &clap::Error,
     words: &[S],
 ) -> io::Result<()> {
-    if hint_for(words).is_none() {
+    let Ok(text) = format!(in rt.alloc(); "{error}") else {
         return error.print(rt);
+    };
+    if names_a_file(text.as_str()) {
+        error.print(rt)?;
+        return eprintln!(rt; "hint: a command takes one FILE");
     }
+    let Some(value) = hyphenated_value(words) else {
+        return error.print(rt);
+    };
+    print_without_advice(rt, text.as_str())?;
+    eprintln!(rt; "hint: a value that begins with a hyphen is given as {value}")
+}
+
+/// Whether clap's text is of a word too many that is no option: of a second file.
+fn names_a_file(text: &str) -> bool {
+    match text.strip_prefix("error: unexpected argument '") {
+        Some(word) => !word.starts_with('-'),
+        None => false,
+    }
+}
+
+/// Prints clap's text without what it advises for a value that begins with a hyphen.
+fn print_without_advice<R: Eprint>(rt: &R, text: &str) -> io::Result<()> {
     let mut is_after_blank = false;
-    let text = format!(in rt.alloc(); "{error}")?;
     for line in text.lines() {
         let is_blank = line.is_empty();
         if !line.starts_with("  tip: to pass '") && !(is_blank && is_after_blank) {
@@ -77,15 +95,6 @@ fn print_usage<R: Print + Eprint + AllocGlobal, S: AsStr>(
         }
     }
     Ok(())
-}
-
-/// Says how a value is given that begins with a hyphen, where the words have one.
-fn explain_hyphen<R: Eprint, S: AsStr>(rt: &R, words: &[S]) {
-    if let Some((name, value)) = hint_for(words) {
-        let _ = eprintln!(rt;
-            "hint: a value that begins with a hyphen is given as --{name}={value}"
-        );
-    }
 }
 
 impl From<AllocError> for Refusal {

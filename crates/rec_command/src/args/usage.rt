@@ -7,9 +7,9 @@ ghost use Rattle.rec_command.specs.Usage.{batch_option, journal_option, file_wor
 
 use super::help::{
     ABOUT, BATCH_ABOUT, BATCH_HELP, BATCH_USAGE, FORGET_ABOUT, FORGET_HELP, HISTORY_HELP,
-    RECDEL_ABOUT, RECDEL_HELP, RECFIX_ABOUT, RECFIX_HELP, RECINF_HELP, RECINS_ABOUT, RECINS_HELP,
-    RECINS_USAGE, RECSEL_HELP, RECSET_ABOUT, RECSET_HELP, RECSET_USAGE, REDO_HELP, UNDO_HELP,
-    VERSION, WORKING_NAMES,
+    PROGRAM_HELP, RECDEL_ABOUT, RECDEL_HELP, RECFIX_ABOUT, RECFIX_HELP, RECINF_HELP, RECINS_ABOUT,
+    RECINS_HELP, RECINS_USAGE, RECSEL_HELP, RECSET_ABOUT, RECSET_HELP, RECSET_USAGE, REDO_HELP,
+    UNDO_HELP, VERSION,
 };
 use crate::options::{
     BATCH, PRINTING, RECDEL, RECFIX, RECINF, RECINS, RECSET, REPLACEMENT, SELECTION, Takes,
@@ -90,7 +90,7 @@ fn program<'a>(alloc: Global) -> Result<Command<'a>, AllocError>
             .version(VERSION)
             .propagate_version(true)
             .about(ABOUT)
-            .after_help(WORKING_NAMES)
+            .after_help(PROGRAM_HELP)
             .arg_required_else_help(true)
             .subcommand_required(true),
     )
@@ -122,7 +122,7 @@ fn recfix<'a>(alloc: Global) -> Result<Command<'a>, AllocError>
     ensures alone { IfOk result (λ command. (fields_of command).has_globals ≡ false) }
 {
     let tool = Command::new(alloc, "recfix")
-        .about("Checks the rules of record sets, or gives records their automatic fields")
+        .about("Checks the rules of record sets, or gives automatic fields")
         .long_about(RECFIX_ABOUT)
         .after_help(RECFIX_HELP);
     with_options(alloc, tool, RECFIX.as_slice())?
@@ -252,9 +252,10 @@ fn batch_arg<'a>(alloc: Global) -> Arg<'a>
     ensures rule { rule_of result ≡ batch_option }
     ensures alone { result.global ≡ false }
 {
-    Arg::new(alloc, "batch").short('b').value_name("PATH").help(
-        "The edits, each a record; PATH is only read, before FILE is",
-    )
+    Arg::new(alloc, "batch")
+        .short('b')
+        .value_name("PATH")
+        .help("The edits, each a record; PATH is read before FILE is")
 }
 
 fn journal_arg<'a>(alloc: Global) -> Arg<'a>
@@ -264,7 +265,7 @@ fn journal_arg<'a>(alloc: Global) -> Arg<'a>
     Arg::new(alloc, "journal")
         .long("journal")
         .value_name("PATH")
-        .help("The journal of the file's edits [default: FILE.journal]")
+        .help("The journal of FILE's edits [default: FILE.journal]")
 }
 
 fn number_arg<'a>(alloc: Global) -> Arg<'a>

@@ -89,34 +89,45 @@ build() {
     done
 }
 
-# The journal's crate stands on rec_text alone, so it is built beside those that select, by what these leave of the
-# processors. rt lets one run at a time into a crate, rec_text among them, so this one works in a copy, and what it made
-# is brought back.
-copy_journal() {
-    mkdir "$folder/copy"
-    tar -c --exclude=out crates.txt HANDLES crates | tar -x -C "$folder/copy"
-    tar -c --exclude=incremental crates/rec_text/out | tar -x -C "$folder/copy"
+# Some crates are built beside others, by what these leave of the processors: that of the journal, which stands on rec_text
+# alone, and that of the explanations, on which the program alone stands. rt lets one run at a time into a crate and those
+# below it, so each works in a copy, and what it made is brought back.
+# beside CRATE BELOW..: begins to build a crate that stands on these
+beside() {
+    local below copy=$folder/copy_of_$1
+    mkdir "$copy"
+    tar -c --exclude=out crates.txt HANDLES crates | tar -x -C "$copy"
+    for below in "${@:2}"; do
+        tar -c --exclude=incremental "crates/$below/out" | tar -x -C "$copy"
+    done
+    start "$1" "$copy" nice rt lib --jobs 1
 }
 bring_back() {
-    if [ -d "$folder/copy/crates/rec_journal/out" ]; then
-        rm -rf crates/rec_journal/out
-        mv "$folder/copy/crates/rec_journal/out" crates/rec_journal/
-    fi
+    local copy crate
+    for copy in "$folder"/copy_of_*; do
+        crate=${copy##*/copy_of_}
+        [ -d "$copy/crates/$crate/out" ] || continue
+        rm -rf "crates/$crate/out"
+        mv "$copy/crates/$crate/out" "crates/$crate/"
+    done
 }
 
 most=$(($(nproc) > 3 ? 4 : $(nproc) > 1 ? 2 : 1))
-# A job takes 3 GB of memory at most, and the journal's crate has one of its own.
+# A job takes 3 GB of memory at most, and a crate that is built beside others has one of its own.
 fit=$(awk '/^MemAvailable/ { print int($2 / 3000000) - 1 }' /proc/meminfo)
 jobs=${JOBS:-$((fit < 1 ? 1 : fit > most ? most : fit))}
 if [ ! -x "$recu" ]; then
     echo "Building recu. From nothing, all of it proved, it takes ${minutes[most]} minutes on $most processors."
     build rec_text
-    copy_journal
-    start rec_journal "$folder/copy" nice rt lib --jobs 1
+    beside rec_journal rec_text
     build rec_sex rec_check rec_select
     finish rec_journal
     bring_back
-    build rec_edit rec_tools rec_files rec_command
+    build rec_edit rec_tools
+    beside rec_explain rec_text rec_sex rec_check rec_select rec_journal rec_edit rec_tools
+    build rec_files rec_command
+    finish rec_explain
+    bring_back
 fi
 start recu . rt run --jobs "$jobs" -- --version
 finish recu

@@ -100,7 +100,7 @@ batched() {
     put db.rec "$rules"
     put changes "$delete"
     recu 1 batch -b changes db.rec
-    prints '' '1: size P¶line 1: %rec: P¶--force makes the edit all the same¶recu: violations: 1¶'
+    prints '' '1: size P¶line 1: %rec: P (1 record, %size: >= 2)¶--force makes the edit all the same¶recu: violations: 1¶'
     has db.rec "$rules"
     only changes db.rec
     put changes "$delete¶Tool: recins¶Type: P¶Field: N¶Value: 3¶"
@@ -166,7 +166,7 @@ batched() {
     put broken.rec '%rec: P¶%size: 1¶'
     put changes ''
     recu 1 batch -b changes broken.rec
-    prints '' '1: size P¶line 1: %rec: P¶--force makes the edit all the same¶recu: violations: 1¶'
+    prints '' '1: size P¶line 1: %rec: P (0 records, %size: 1)¶all of these stood before the edit: mend them first, by a batch, by hand, or by edits with --force¶--force makes the edit all the same¶recu: violations: 1¶'
     does batch --force -b changes broken.rec
     has broken.rec '%rec: P¶%size: 1¶'
     only broken.rec changes db.rec
@@ -235,7 +235,7 @@ batched() {
     fails_to_store '-: No such file or directory (os error 2)' batch -b - db.rec
     # It is read first.
     fails_to_store 'missing: No such file or directory (os error 2)' batch -b missing nowhere
-    fails_to_store 'nowhere: No such file or directory (os error 2)' batch -b changes nowhere
+    fails_to_store 'nowhere: No such file or directory (os error 2)¶recu makes no file: touch nowhere makes an empty one' batch -b changes nowhere
     truncate -s 1073741825 big
     fails_to_store 'big: more than 1073741824 bytes' batch -b big db.rec
     has db.rec "$two"

@@ -24,22 +24,33 @@ explained() {
     local said='f: if the text of the last edit is brought back to the byte, it can be undone; the next edit begins a new history'
     explains "$said" 'the file was changed outside' undo f
     explains "$said" 'the file was changed outside' redo f
-    explains "$said" 'the file was changed outside' forget 0 f
+    explains "$said¶f.journal: deleting this file removes all texts that it holds" 'the file was changed outside' forget 0 f
+    explains "$said¶f.journal: deleting this file removes all texts that it holds" 'the file was changed outside' forget 1 f
 }
 
 @test "a journal that is none" {
     put f 'A: 1¶'
-    put j 'A: 1¶'
-    local said='j: move it away, and the next edit begins a new journal'
-    explains "$said" 'journal line 1: not a journal of recu' undo --journal j f
-    explains "$said" 'journal line 1: not a journal of recu' history --journal j f
-    explains "$said" 'journal line 1: not a journal of recu' recdel -n 0 --journal j f
+    local away='move it away, and the next edit begins a new journal'
+    put f.journal 'A: 1¶'
+    explains "f.journal: $away" 'journal line 1: not a journal of recu' undo f
+    explains "f.journal: $away" 'journal line 1: not a journal of recu' recset -f A -s 2 --journal f.journal f
+    has f.journal 'A: 1¶'
+    put g 'B: 1¶'
+    local named='g: this is no journal that recu reads: --journal is to name the journal of f, or a path where nothing stands yet'
+    explains "$named" 'journal line 1: not a journal of recu' undo --journal g f
+    explains "$named" 'journal line 1: not a journal of recu' history --journal g f
+    explains "$named" 'journal line 1: not a journal of recu' recdel -n 0 --journal g f
+    has g 'B: 1¶'
+    does recset -f A -s 2 --journal j f
+    does recset -f A -s 3 --journal j f
+    sed -i 's/^Number: 1$/Number: x/' j
+    explains "j: $away" 'journal line 5: not a journal of recu' undo --journal j f
 }
 
 @test "the report of a refused edit says what forces it" {
     put f '%rec: P¶%key: Id¶¶Id: 1¶'
     recu 1 recins -t P -f Id -v 1 f
-    prints '' '6: key Id¶line 6: Id: 1¶--force makes the edit all the same¶recu: violations: 1¶'
+    prints '' '6: key Id¶line 6: Id: 1 (also in line 4)¶--force makes the edit all the same¶recu: violations: 1¶'
     does recins -t P -f Id -v 1 --force f
     recu 1 recfix f
     prints '6: key Id¶' ''
@@ -59,7 +70,7 @@ batch_explained() {
     batch_explained "$set¶Tool: recdel¶Number: 0,x¶" 'changes:5: Tool: recdel¶0,x¶  ^¶an index list is such as 0,4-7' 'index list: error at byte 2'
     batch_explained "$set¶Tool: recset¶Fields: A[¶Delete: yes¶" 'changes:5: Tool: recset¶A[¶  ^¶a field list is such as Name,Email[0],Phone[1-2]' 'field list: error at byte 2'
     batch_explained "$set¶Tool: recset¶Fields: A¶Rename: 1¶" 'changes:5: Tool: recset¶1: a name begins with a letter, and goes on with letters, digits and _' 'bad name'
-    batch_explained "$set¶# a comment¶Tool: recsel¶" 'changes:6: Tool: recsel' 'batch line 6: not an edit'
+    batch_explained "$set¶# a comment¶Tool: recsel¶" 'changes:6: Tool: recsel¶changes:6: the value of Tool is recins, recdel, recset or recfix' 'batch line 6: not an edit'
     batch_explained "$set¶# all¶Tool: recdel¶" 'changes:6: Tool: recdel' 'no selection given, use --force'
     batch_explained "$set¶Tool: recset¶Fields: A[0]¶Add: 2¶" 'changes:5: Tool: recset¶A[0]¶ ^¶fields are added by their names alone, such as Name,Email' 'field list: error at byte 1'
     batch_explained "$set¶Tool: recins¶Type: P¶Field: B¶Value: 1¶¶Tool: recset¶Type: Q¶Fields: B¶Delete: yes¶" 'changes:10: Tool: recset¶there is no record type' 'no such record type'
@@ -67,13 +78,62 @@ batch_explained() {
     batch_explained "$set¶Tool: recset¶Fields: A¶SetAdd: 3\\\\¶¶¶Tool: recfix¶" 'changes:5: Tool: recset' 'a line of the value ends in a backslash'
 }
 
+# broken_descriptor FILE LINE EXPLANATION
+broken_descriptor() {
+    put f "$1"
+    explains "$3" "line $2: bad descriptor field" recsel f
+    has f "$1"
+    only f
+}
+
+@test "the rule that a field of a descriptor breaks" {
+    each broken_descriptor broken_descriptors.rows
+}
+
+# descriptor_told REFUSAL FIELD: more than the line of the field is said where it is refused as a bad one
+descriptor_told() {
+    case $1 in *': bad descriptor field') ;; *) return 0 ;; esac
+    put f "%doc: d¶%rec: P¶$2¶¶N: 1¶"
+    refuses "$1" recsel f
+    grep -qv '^f:[0-9]*: \|^recu: ' "$BATS_TEST_TMPDIR/err" || fail 'no rule is said'
+}
+
+@test "no field of a descriptor is refused without a rule" {
+    each descriptor_told descriptor_fields.rows
+}
+
+# broken_batch BATCH LINE EXPLANATION
+broken_batch() {
+    batch_explained "$1" "$3" "batch line $2: not an edit"
+    only changes f
+}
+
+@test "why a record of a batch is no edit" {
+    each broken_batch broken_batches.rows
+}
+
+# batch_told FILE BATCH AFTER: more than the line of the batch is said where it is refused as no edit
+batch_told() {
+    case $3 in 'recu: batch line '*) ;; *) return 0 ;; esac
+    put f "$1"
+    put changes "$2"
+    local refusal=${3#recu: }
+    refuses "${refusal%¶}" batch -b changes f
+    [ "$(wc -l < "$BATS_TEST_TMPDIR/err")" -ge 3 ] || fail 'no reason is said'
+}
+
+@test "no record of a batch is refused without a reason" {
+    each batch_told batch_files.rows
+}
+
 @test "the records of a report" {
     local file='%rec: P¶%key: Id¶%type: N int¶%singular: M¶%constraint: N > 0¶¶N: x¶Id: 1¶M: a¶¶M: a¶Id: 2¶N: 1¶¶%rec: Q¶%type: A unknown¶%mandatory: B¶¶A: 1¶'
     put f "$file"
     recu 1 recset -t Q -n 0 -f A -s 2 f
     local report='7: type N¶7: constraint 1¶11: singular M¶16: typedef unknown¶19: mandatory B¶'
-    local records='line 7: Id: 1, N: x¶line 7: Id: 1¶line 11: Id: 2, M: a¶line 16: %rec: Q, %type: A unknown¶line 19: A: 2¶'
-    prints '' "${report}${records}--force makes the edit all the same¶recu: violations: 5¶"
+    local records='line 7: Id: 1, N: x (int)¶line 7: Id: 1 (N > 0)¶line 11: Id: 2, M: a (also in line 7)¶line 16: %rec: Q, %type: A unknown (nothing defines unknown)¶line 19: A: 2 (no B)¶'
+    local stood='all of these stood before the edit: mend them first, by a batch, by hand, or by edits with --force¶'
+    prints '' "${report}${records}${stood}--force makes the edit all the same¶recu: violations: 5¶"
     # on standard error of a terminal alone
     TERM=dumb script -qec "'$recu' recfix f 2> said" shown > /dev/null || true
     has said "${records/A: 2/A: 1}"
@@ -85,9 +145,79 @@ batch_explained() {
     { bytes '%rec: P¶%type: N int¶'; for number in {1..50}; do bytes "¶N: x$number¶"; done; } > f
     recu 1 recset -n 0 -f N -s y f
     [ "$(grep -c '^line ' "$BATS_TEST_TMPDIR/err")" = 20 ]
-    grep -qx 'line 4: N: y' "$BATS_TEST_TMPDIR/err"
-    grep -qx 'line 42: N: x20' "$BATS_TEST_TMPDIR/err"
+    grep -qx 'line 4: N: y (int)' "$BATS_TEST_TMPDIR/err"
+    grep -qx 'line 42: N: x20 (int)' "$BATS_TEST_TMPDIR/err"
     [ "$(tail -n 1 "$BATS_TEST_TMPDIR/err")" = 'recu: violations: 50' ]
+    grep -q '^all of these stood before the edit' "$BATS_TEST_TMPDIR/err"
+    recu 1 recins -t P -f N -v y f
+    grep -qx 'line 42: N: x20 (int), as before the edit' "$BATS_TEST_TMPDIR/err"
+    grep -qx '50 of these stood before the edit' "$BATS_TEST_TMPDIR/err"
+    [ "$(grep -c '^line ' "$BATS_TEST_TMPDIR/err")" = 20 ]
+    [ "$(tail -n 1 "$BATS_TEST_TMPDIR/err")" = 'recu: violations: 51' ]
+}
+
+@test "which violations a batch leaves stood before it" {
+    put f '%rec: P¶%mandatory: B¶%unique: A¶¶A: 1¶¶A: 2¶B: 1¶'
+    put changes 'Tool: recset¶Number: 0¶Fields: A¶Set: 3¶¶Tool: recset¶Number: 1¶Fields: A¶Add: 4¶'
+    explains '5: mandatory B¶7: unique A¶line 5: A: 3 (no B), as before the edit¶line 7: A: 2 (more than one A)¶1 of these stood before the edit¶--force makes the edit all the same' 'violations: 2' batch -b changes f
+    put changes 'Tool: recins¶Type: P¶Field: A¶Value: 5¶¶Tool: recset¶Number: 1¶Fields: A¶Set: 4¶'
+    explains '5: mandatory B¶10: mandatory B¶line 5: A: 1 (no B), as before the edit¶line 10: A: 5 (no B)¶1 of these stood before the edit¶--force makes the edit all the same' 'violations: 2' batch -b changes f
+    put changes 'Tool: recdel¶Number: 0¶¶Tool: recset¶Number: 0¶Fields: B¶Delete: yes¶'
+    explains '5: mandatory B¶line 5: A: 2 (no B)¶--force makes the edit all the same' 'violations: 1' batch -b changes f
+}
+
+@test "an edit of a batch that lacks an automatic number" {
+    put f '%rec: P¶%auto: Added¶%type: Added date¶'
+    put changes 'Tool: recins¶Type: P¶Field: N¶Value: x¶'
+    explains 'changes:1: Tool: recins¶Added: %auto counts, so its type has to be int or range, and is date¶Field: Added and a Value give it, and Auto: no leaves it out' 'no automatic value' batch -b changes f
+    put changes 'Tool: recins¶Type: P¶Field: N¶Value: x¶Auto: no¶'
+    does batch -b changes f
+    has f '%rec: P¶%auto: Added¶%type: Added date¶¶N: x¶'
+}
+
+@test "lines that end in CR LF" {
+    local ends='this line ends in CR LF; those of a rec file end in LF alone: the CR belongs to the value, and an empty line that ends so is none¶'
+    put f '%rec: P¶%mandatory: B¶¶A: 1¶B: 1\x0D¶¶A: 2\x0D¶'
+    recu 1 recfix f
+    prints '7: mandatory B¶' "f:5: $ends"
+    input=f recu 1 recfix
+    prints '7: mandatory B¶' ''
+    put f 'A: 1¶B: 2\x0D¶'
+    does recfix f
+    TERM=dumb script -qec "'$recu' recfix f" /dev/null > seen
+    has seen "f:2: ${ends%¶}\x0D¶"
+    put f '# a\x0Db¶A: 1\x0D'
+    TERM=dumb script -qec "'$recu' recfix f" /dev/null > seen
+    has seen ''
+}
+
+@test "standard input that is a terminal" {
+    local tool
+    for tool in recsel recinf recfix; do
+        TERM=dumb timeout 20 script -qec "'$recu' $tool" /dev/null > seen < <(sleep 1; printf '\004')
+        grep -qx "$tool reads standard input: end it by Ctrl-D, or end $tool by Ctrl-C and name a FILE"$'\r' seen || fail "$tool:" "$(cat -A seen)"
+    done
+    put f 'A: 1¶'
+    TERM=dumb timeout 20 script -qec "'$recu' recsel 2> said" /dev/null > seen < <(sleep 1; printf '\004')
+    has said ''
+    TERM=dumb script -qec "'$recu' recsel < f" /dev/null > seen
+    has seen 'A: 1\x0D¶'
+    TERM=dumb script -qec "'$recu' recsel f" /dev/null > seen
+    has seen 'A: 1\x0D¶'
+}
+
+@test "a file that is missing" {
+    local system='new.rec: No such file or directory (os error 2)'
+    explains "$system¶recu makes no file: touch new.rec makes an empty one" 'a file could not be read or written' recins -f A -v 1 new.rec
+    explains "my new.rec: No such file or directory (os error 2)¶recu makes no file: touch makes an empty one" 'a file could not be read or written' recins -f A -v 1 'my new.rec'
+    put changes 'Tool: recins¶Field: A¶Value: 1¶'
+    explains "$system¶recu makes no file: touch new.rec makes an empty one" 'a file could not be read or written' batch -b changes new.rec
+    explains "$system" 'a file could not be read or written' recset -f A -s 1 new.rec
+    explains "$system" 'a file could not be read or written' recsel new.rec
+    only changes
+    touch new.rec
+    does recins -f A -v 1 new.rec
+    has new.rec 'A: 1¶'
 }
 
 @test "standard input and pipes are not read again" {

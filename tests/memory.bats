@@ -368,6 +368,52 @@ tells() {
     tells 1 recdel db.rec
 }
 
+# The file of the cases of a report: an edit of it breaks a rule.
+with_a_key='%rec: P¶%key: Id¶%type: N int¶¶Id: 1¶N: x¶¶Id: 2¶'
+
+@test "memory for a report of a refused edit" {
+    three=$with_a_key tells 1 recset -n 1 -f Id -s 1 db.rec
+}
+
+@test "memory for lines that end in CR LF" {
+    three='%rec: P¶%type: N int¶¶N: x\x0D¶' tells 1 recfix db.rec
+}
+
+# on_a_terminal NUMBER WORD..: recu with these words on a terminal, with the allocation of this number failing; what it says
+# stands in `err`
+on_a_terminal() {
+    status=0
+    FAILS=$1 TERM=dumb script -qec "LD_PRELOAD='$BATS_FILE_TMPDIR/failing.so' '$program' ${*:2}" err > /dev/null < /dev/null || status=$?
+    sed -i -e '/^Script /d' -e '/^$/d' err
+}
+
+# says_on_a_terminal STATUS WORD..: with each failing allocation it ends so, or without memory, and says the same or less of it
+says_on_a_terminal() {
+    local number status
+    on_a_terminal 0 "${@:2}"
+    cp err said
+    for ((number = 1; number <= 100000; number++)); do
+        rm -f hit
+        on_a_terminal "$number" "${@:2}"
+        if [ ! -e hit ]; then
+            [ "$number" -gt 1 ] && [ "$status" = "$1" ] && cmp -s err said || wrong 'it says something else'
+            return 0
+        fi
+        [ "$status" = "$1" ] || [[ $(tail -n 1 err) = 'recu: out of memory'* ]] || wrong 'no such end'
+        [ "$(grep -cvxFf said err)" -le 1 ] || wrong 'it says more'
+    done
+    fail 'no end'
+}
+
+@test "memory for a report on a terminal" {
+    put db.rec "$with_a_key"
+    fast says_on_a_terminal 1 recfix db.rec
+}
+
+@test "memory for standard input that is a terminal" {
+    fast says_on_a_terminal 0 recsel -c
+}
+
 @test "each command has a case here" {
     local commands command
     commands=$("$program" --help | sed -n '/^Commands:/,/^$/s/^  \([a-z]*\)  .*/\1/p')

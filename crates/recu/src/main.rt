@@ -1,17 +1,13 @@
 //! The program. It runs the request of the command line on a file and its journal, and says what was refused.
 #![tactic(auto)]
 
-mod explanation;
-mod refused_edit;
-mod reported;
-mod request_words;
-
 use rec_command::{Asked, Refusal, finish, parse, with_batch, words};
+use rec_explain::{About, explain, explain_endings, explain_report, explain_waiting};
 use rec_files::{FileHome, StandardOutput, access_of, batch_text, explain_output, room_for};
-use rec_tools::{Fault, Output, Reply};
-use reported::show_reported;
+use rec_select::write_report;
+use rec_tools::{Fault, Output, Reply, Request, Which};
 use std::io;
-use std::io::IsTerminal;
+use std::io::{IsTerminal, Write};
 use std::process::ExitCode;
 use std::rt::Runtime;
 
@@ -30,14 +26,14 @@ fn answer(rt: &HostRuntime) -> Result<Option<Reply>, Fault> {
     match parse(rt.alloc(), words.as_slice()) {
         Ok(asked) => Ok(Some(run(rt, asked)?)),
         Err(refusal) => {
-            explain(rt, &refusal, words.as_slice())?;
+            explain_words(rt, &refusal, words.as_slice())?;
             Ok(None)
         }
     }
 }
 
 /// Prints the help that the words ask for. Where they don't, it says what is wrong with them, and they are refused.
-fn explain(rt: &HostRuntime, refusal: &Refusal, words: &[String]) -> Result<(), Fault> {
+fn explain_words(rt: &HostRuntime, refusal: &Refusal, words: &[String]) -> Result<(), Fault> {
     match refusal.explain(rt, words) {
         Ok(true) => Ok(()),
         Ok(false) => Err(refusal.fault()),
@@ -61,6 +57,9 @@ fn run(rt: &HostRuntime, asked: Asked) -> Result<Reply, Fault> {
         None => request,
     };
     let access = access_of(&request);
+    if file.is_none() {
+        say_waiting(rt, &request);
+    }
     let mut home = FileHome::new(rt, file, journal, access);
     let Ok(mut out) = StandardOutput::new(rt.alloc(), room_for(access), rt.stdout()) else {
         return Err(Fault::OutOfMemory);
@@ -73,10 +72,86 @@ fn run(rt: &HostRuntime, asked: Asked) -> Result<Reply, Fault> {
     home.close();
     let _ = home.explain(rt);
     let _ = out.explain(rt);
-    let _ = match &answer {
-        Ok(Reply::Violated(_)) if rt.stdout().is_terminal() => show_reported(rt, &home),
-        Ok(_) => Ok(()),
-        Err(fault) => explanation::explain(rt, &home, &mut request, &batch, fault),
-    };
+    say_more(rt, &home, &mut request, &batch, &answer);
     answer
+}
+
+/// Says on standard error that standard input is read, where both are a terminal.
+fn say_waiting(rt: &HostRuntime, request: &Request) {
+    if rt.stdin().is_terminal() && rt.stderr().is_terminal() {
+        say(rt, &explain_waiting(rt.alloc(), request));
+    }
+}
+
+/// Says on standard error what a refusal is about, or what is said of a report.
+fn say_more(
+    rt: &HostRuntime,
+    home: &FileHome<'_, HostRuntime>,
+    request: &mut Request,
+    batch: &Option<String>,
+    answer: &Result<Reply, Fault>,
+) {
+    match answer {
+        Ok(reply) => explain_reply(rt, home, request, batch, reply),
+        Err(fault) => {
+            let text = text_for(rt, home, fault);
+            let about = about(home, batch, &text);
+            say(rt, &explain(rt.alloc(), &about, request, fault));
+        }
+    }
+}
+
+fn say(rt: &HostRuntime, lines: &[u8]) {
+    let _ = rt.stderr().write_all(lines);
+}
+
+/// Says on a terminal in which records stands what was reported, and that lines end in CR LF: where nothing was reported, on
+/// a terminal alone.
+fn explain_reply(
+    rt: &HostRuntime,
+    home: &FileHome<'_, HostRuntime>,
+    request: &Request,
+    batch: &Option<String>,
+    reply: &Reply,
+) {
+    let is_report = matches!(reply, Reply::Violated(_));
+    if !is_report && !(matches!(request, Request::Check) && rt.stderr().is_terminal()) {
+        return;
+    }
+    let text = home.text_again(rt.alloc());
+    let about = about(home, batch, &text);
+    if is_report && rt.stdout().is_terminal() {
+        say(rt, &explain_report(rt.alloc(), &about));
+    }
+    say(rt, &explain_endings(rt.alloc(), &about));
+}
+
+/// Prints the report for which an edit was refused, and gives the text of the file, where a refusal can be about it.
+fn text_for(rt: &HostRuntime, home: &FileHome<'_, HostRuntime>, fault: &Fault) -> Option<Vec<u8>> {
+    match fault {
+        Fault::OutOfMemory | Fault::StoreFailed => None,
+        Fault::Integrity(violations) => {
+            let mut err = Output {
+                writer: rt.stderr(),
+                failed: 0,
+            };
+            let _ = write_report(violations.as_slice(), &mut err);
+            home.text_again(rt.alloc())
+        }
+        _ => home.text_again(rt.alloc()),
+    }
+}
+
+fn about<'a>(
+    home: &'a FileHome<'_, HostRuntime>,
+    batch: &'a Option<String>,
+    text: &'a Option<Vec<u8>>,
+) -> About<'a> {
+    About {
+        batch: batch.as_deref(),
+        file: home.path(Which::Base),
+        journal: home.path(Which::Journal),
+        text: text.as_deref(),
+        is_missing: home.is_missing(),
+    }
 }

@@ -1,25 +1,79 @@
 //! Which edit of a batch is refused, and what a refused edit would make of the file.
+use crate::about::About;
+use crate::bad_edits::explain_bad_batch;
+use crate::counters::elements_at;
+use crate::explanation::Explanation;
+use crate::refusal::{explain_contents, explain_request};
 use crate::request_words::{
     adds_occurrences, expression_in, field_list_in, index_list_in, names_in, pick_in,
 };
+use crate::shown::{line_in, show_line};
 use rec_select::{Expr, FieldList, IndexList};
-use rec_text::is_plain_name;
-use rec_tools::{Ask, Bytes, Fault, MemoryHome, Output, Request};
-use std::alloc::Global;
+use rec_text::{is_plain_name, read};
+use rec_tools::{Ask, Bytes, Fault, MemoryHome, Output, Request, batch_requests};
+use std::alloc::{AllocError, Global};
+
+/// Shows the line of the batch at which it is refused, or else that at which the edit begins that is refused, and says what the
+/// refusal is about.
+pub fn explain_batch(
+    alloc: Global,
+    about: &About<'_>,
+    path: &str,
+    request: &Request,
+    fault: &Fault,
+    said: &mut Explanation,
+) -> Result<(), AllocError> {
+    let Request::Batch { text: batch, .. } = request else {
+        return Ok(());
+    };
+    if let Fault::BadBatch { line } = fault {
+        return explain_bad_batch(alloc, path, batch.as_slice(), *line, said);
+    }
+    let (Some(text), Ok(mut edits)) = (about.text, batch_requests(alloc, batch.as_slice())) else {
+        return explain_contents(alloc, about, fault, said);
+    };
+    let Some(index) = refused_edit(alloc, text, &mut edits, fault) else {
+        return explain_contents(alloc, about, fault, said);
+    };
+    show_edit(alloc, path, batch.as_slice(), index, said)?;
+    match (edits.get(index), fault) {
+        // how many records there are then isn't known
+        (None, _) | (_, Fault::NoSelection) => Ok(()),
+        (Some(edit), _) => explain_request(alloc, about, edit, fault, said),
+    }
+}
+
+/// Shows the first line of the edit of a place in a batch.
+fn show_edit(
+    alloc: Global,
+    path: &str,
+    batch: &[u8],
+    index: usize,
+    said: &mut Explanation,
+) -> Result<(), AllocError> {
+    let Ok(database) = read(alloc, batch) else {
+        return Ok(());
+    };
+    let (start, _) = elements_at(&database, Some(index));
+    match database.elements().get(start) {
+        Some(element) => {
+            let line = database.line_of(element.at);
+            show_line(alloc, path, line, line_in(element.raw, 1).0, said)
+        }
+        None => Ok(()),
+    }
+}
 
 /// The place of the edit of a batch that is refused so; there may be none, since a file can be refused too.
-pub fn refused_edit(
-    alloc: Global,
-    text: Vec<u8>,
-    edits: &mut [Request],
-    fault: &Fault,
-) -> Option<usize> {
+fn refused_edit(alloc: Global, text: &[u8], edits: &mut [Request], fault: &Fault) -> Option<usize> {
     match fault {
         Fault::TypeNeeded
         | Fault::NoSuchType
         | Fault::BadValue
         | Fault::BadRecord
-        | Fault::AutoImpossible => first_refused(alloc, text, edits, fault),
+        | Fault::AutoImpossible => {
+            first_refused(alloc, Vec::from_slice(alloc, text).ok()?, edits, fault)
+        }
         _ => edits
             .iter()
             .position(|edit| has_refused_words(alloc, edit, fault)),

@@ -1,0 +1,2 @@
+-- what an explanation is made of
+pub mod Lines

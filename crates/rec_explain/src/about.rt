@@ -1,0 +1,14 @@
+//! What a command was about.
+
+/// The paths that a command was given, and the text of its file.
+#[derive(Clone, Copy)]
+pub struct About<'a> {
+    /// The path of a batch.
+    pub batch: Option<&'a str>,
+    pub file: &'a str,
+    pub journal: &'a str,
+    /// The text of the file as it is now. There is none where it can't be read again, as standard input.
+    pub text: Option<&'a [u8]>,
+    /// Whether the file was not found.
+    pub is_missing: bool,
+}

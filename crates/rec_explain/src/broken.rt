@@ -1,0 +1,182 @@
+//! The rules that the fields of descriptors break, as `docs/format.md` lists them.
+use crate::kind_words::broken_by_kind;
+use crate::numbers::rule_of_number;
+use crate::record_places::split_word;
+use rec_sex::{int_of, trimmed};
+use rec_text::Space::BlankOrNewline;
+use rec_text::{Element, is_field_name, is_plain_name};
+
+/// The fields whose values list names of fields.
+const LISTS: &[&[u8]] = &[
+    b"%mandatory",
+    b"%prohibit",
+    b"%unique",
+    b"%singular",
+    b"%allowed",
+    b"%auto",
+];
+
+const TYPE_NAME: &str =
+    "the name of a type begins with a letter from a to z, small or capital, and goes on with these, digits and _";
+
+const FIELD_NAME: &str =
+    "the name of a field begins with % or a letter from a to z, small or capital, and goes on with such letters, digits and _";
+
+const SIZE: &str = "%size is a number, or one of < <= > >= and a number, such as >= 2";
+
+/// A rule, and what breaks it.
+#[derive(Clone, Copy)]
+pub(crate) enum Broken<'a> {
+    /// The field as a whole.
+    Field(&'static str),
+    /// A word of the field.
+    Word(&'a [u8], &'static str),
+    /// The field as the second one of its name in its descriptor. The first one begins at this place of the file.
+    Second(&'static str, usize),
+}
+
+/// The rule that a field of this name and value breaks, where these elements stand before it in its descriptor.
+pub(crate) fn broken_by<'a>(
+    name: &[u8],
+    before: &[Element<'_>],
+    value: &'a [u8],
+) -> Option<Broken<'a>> {
+    match name {
+        b"%key" => broken_by_key(before, value),
+        b"%type" => broken_by_type(value),
+        b"%typedef" => broken_by_typedef(value),
+        b"%size" => broken_by_size(before, value),
+        _ if LISTS.contains(&name) => broken_by_names(value),
+        _ => None,
+    }
+}
+
+/// What a field breaks that may stand once, where one of this name stands before it.
+fn second_of(name: &'static str, before: &[Element<'_>]) -> Option<Broken<'static>> {
+    let first = before
+        .iter()
+        .find(|element| element.has_name(name.as_bytes()))?;
+    Some(Broken::Second(name, first.at))
+}
+
+/// The rule that a `%rec` of this value breaks by itself, or after these elements of its descriptor.
+pub(crate) fn broken_by_rec<'a>(before: &[Element<'_>], value: &'a [u8]) -> Option<Broken<'a>> {
+    let Some((kind, _)) = split_word(value) else {
+        return Some(Broken::Field("%rec needs the name of a type"));
+    };
+    if let Some(second) = second_of("%rec", before) {
+        return Some(second);
+    }
+    if is_plain_name(kind) {
+        None
+    } else {
+        Some(Broken::Word(kind, TYPE_NAME))
+    }
+}
+
+fn broken_by_key<'a>(before: &[Element<'_>], value: &'a [u8]) -> Option<Broken<'a>> {
+    let Some((name, following)) = split_word(value) else {
+        return Some(Broken::Field("%key needs the name of a field"));
+    };
+    if let Some(second) = second_of("%key", before) {
+        return Some(second);
+    }
+    if name.contains(&b',') || (is_field_name(name) && split_word(following).is_some()) {
+        return Some(Broken::Field("%key names one field"));
+    }
+    broken_by_name(name)
+}
+
+fn broken_by_names(value: &[u8]) -> Option<Broken<'_>> {
+    for word in value.split(|byte| BlankOrNewline.has(*byte)) {
+        if !word.is_empty() && !is_field_name(word) {
+            return broken_by_name(word);
+        }
+    }
+    None
+}
+
+/// What a word breaks that is to be the name of a field.
+fn broken_by_name(word: &[u8]) -> Option<Broken<'_>> {
+    if is_field_name(word) {
+        None
+    } else if word.contains(&b',') {
+        let commas = "names stand apart by blanks, not commas";
+        Some(Broken::Word(word, commas))
+    } else {
+        Some(Broken::Word(word, FIELD_NAME))
+    }
+}
+
+fn broken_by_type(value: &[u8]) -> Option<Broken<'_>> {
+    let Some((names, following)) = split_word(value) else {
+        return Some(Broken::Field("%type needs fields and a kind, such as Age,Size int"));
+    };
+    broken_by_joined(names).or(broken_by_kind(
+        following,
+        "%type needs a kind after the fields, such as int",
+    ))
+}
+
+/// What names break that are joined by commas.
+fn broken_by_joined(names: &[u8]) -> Option<Broken<'_>> {
+    for name in names.split(|byte| *byte == b',') {
+        if name.is_empty() {
+            let empty = "a name is missing: fields are joined by commas, without blanks";
+            return Some(Broken::Word(names, empty));
+        }
+        if !is_field_name(name) {
+            return Some(Broken::Word(name, FIELD_NAME));
+        }
+    }
+    None
+}
+
+fn broken_by_typedef(value: &[u8]) -> Option<Broken<'_>> {
+    let Some((name, following)) = split_word(value) else {
+        return Some(Broken::Field("%typedef needs a name and a kind, such as Age_t range 0 120"));
+    };
+    if !is_plain_name(name) {
+        return Some(Broken::Word(name, TYPE_NAME));
+    }
+    broken_by_kind(
+        following,
+        "%typedef needs a kind after the name, such as int",
+    )
+}
+
+fn broken_by_size<'a>(before: &[Element<'_>], value: &'a [u8]) -> Option<Broken<'a>> {
+    if let Some(second) = second_of("%size", before) {
+        return Some(second);
+    }
+    let number = after_operator(value);
+    match int_of(number) {
+        Some(number) if number >= 0 => None,
+        _ => Some(broken_by_count(value, trimmed(number))),
+    }
+}
+
+/// What the value of a `%size` breaks that ends in what should be a number.
+fn broken_by_count<'a>(value: &[u8], number: &'a [u8]) -> Broken<'a> {
+    if number.contains(&b'\n') {
+        return Broken::Field("%size stands in one line");
+    }
+    if let [b'<' | b'>', ..] = number
+        && let [b' ' | b'\t', ..] = value
+    {
+        return Broken::Field("%size has one blank before its operator, or none");
+    }
+    match rule_of_number(number) {
+        Some(rule) => Broken::Word(number, rule),
+        None => Broken::Field(SIZE),
+    }
+}
+
+/// What stands after the operator of a `%size`, if it has one.
+fn after_operator(value: &[u8]) -> &[u8] {
+    match value {
+        [b'<' | b'>', b'=', following @ ..] => following,
+        [b'<' | b'>', following @ ..] => following,
+        _ => value,
+    }
+}

@@ -1,9 +1,13 @@
 #!/usr/bin/env bash
 # Builds recu, and edits copies of the files in sample/: an edit, a refused one, undo, redo, the history, and the rules.
+# RECU=PROGRAM shows the session with that program, and builds none.
 set -euo pipefail
+recu=$(realpath -m "${RECU:-$(dirname "$0")/crates/recu/out/recu}")
 cd "$(dirname "$0")"
-bash build.sh
-recu=$PWD/crates/recu/out/recu
+if [ -z "${RECU-}" ]; then
+    echo 'First recu is built, which takes long only where it was not built before. The session follows.'
+    bash build.sh
+fi
 folder=$(mktemp -d)
 trap 'rm -rf "$folder"' EXIT
 cp sample/contacts.rec sample/library.rec "$folder"

@@ -1,4 +1,4 @@
-# The sessions in the documents: fenced blocks whose first line is a command after `$ `. What is printed is what stands there.
+# The session of demo.sh, and those in the documents: fenced blocks whose first line is a command after `$ `. What is printed is what stands there.
 
 load helpers
 load sessions
@@ -32,6 +32,22 @@ load sessions
         esac
     done
     [ -z "$(ls "$BATS_TEST_TMPDIR/steps")" ] || fail 'these are not run:' "$(cat "$BATS_TEST_TMPDIR"/steps/*.command)"
+}
+
+# shown FIRST WORD..: the command shows the session of demo.sh, of which one command is refused, after these lines
+shown() {
+    ends 0 "${@:2}"
+    has "$BATS_TEST_TMPDIR/err" ''
+    [ "$(sed '/^--- contacts.rec$/,$d' "$BATS_TEST_TMPDIR/out")" = "$1" ] || fail 'the session begins so:' "$(head "$BATS_TEST_TMPDIR/out")"
+    [ "$(grep -c '^(exit status' "$BATS_TEST_TMPDIR/out")" = 1 ] || fail 'other commands are refused:' "$(cat "$BATS_TEST_TMPDIR/out")"
+}
+
+@test "demo.sh says that it builds recu, builds it, and shows its session; with RECU it builds none" {
+    mkdir demo
+    cp -r "$top/demo.sh" "$top/sample" demo
+    printf 'echo built\nmkdir -p crates/recu/out\ncp %q crates/recu/out/recu\n' "$program" > demo/build.sh
+    (unset RECU && shown 'First recu is built, which takes long only where it was not built before. The session follows.'$'\n'built bash demo/demo.sh)
+    RECU=$program shown '' bash "$top/demo.sh"
 }
 
 # The table of docs/expressions.md says of the record above it which expressions select it.

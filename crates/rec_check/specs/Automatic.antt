@@ -42,7 +42,8 @@ is_counter rules name = not (begins_special name) && may_count (field_type rules
 
 -- the integer readings of the fields of a name in some records
 abbrev pub readings : List Piece → List (Range ℕ) → List ℕ → List ℤ
-readings pieces records name = flat_map (λ own_range. filter_map int_of (values_of name (elements_in pieces own_range))) records
+readings pieces records name =
+    flat_map (λ own_range. filter_map int_of (values_of name (elements_in pieces own_range))) records
 
 pub record IsGreatest (numbers : List ℤ) (greatest : ℤ) : Type 0 where
   pub among : Contains numbers greatest
@@ -52,16 +53,18 @@ pub record IsGreatest (numbers : List ℤ) (greatest : ℤ) : Type 0 where
 abbrev pub last_integer : ℤ
 last_integer = pos (2 ^ 63 - 1)
 
--- one more than the greatest reading, 0 where there is none; there is no such value after the last integer, and none of a
--- field that isn't a counter
+-- one more than the greatest reading, 0 where there is none; there is no such value after the last integer, and none of
+-- a field that isn't a counter
 abbrev pub IsNext : Rules → List ℕ → List ℤ → Result ℤ Fault → Type 0
 IsNext rules name numbers (Ok z) = (is_counter rules name ≡ true)
-    × (((numbers ≡ []) × (z ≡ pos 0)) ⊎ ((greatest : ℤ) × IsGreatest numbers greatest × (int_lt greatest last_integer ≡ true) × (z ≡ greatest +ℤ pos 1)))
+    × (((numbers ≡ []) × (z ≡ pos 0))
+    ⊎ ((greatest : ℤ) × IsGreatest numbers greatest × (int_lt greatest last_integer ≡ true) × (z ≡ greatest +ℤ pos 1)))
 IsNext rules name numbers (Err AutoImpossible) = (is_counter rules name ≡ false) ⊎ IsGreatest numbers last_integer
 IsNext rules name numbers (Err _) = ⊥
 
 -- the one answer for a field of the set at this place, memory aside
-pub record IsAutomatic (pieces : List Piece) (schema : Described) (place : ℕ) (name : List ℕ) (answer : Result ℤ Fault) : Type 0 where
+pub record IsAutomatic (pieces : List Piece) (schema : Described) (place : ℕ) (name : List ℕ) (answer : Result ℤ Fault)
+    : Type 0 where
   pub records : List (Range ℕ)
   pub are : AreRecords pieces records
   pub s : Set_

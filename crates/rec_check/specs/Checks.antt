@@ -43,19 +43,22 @@ pub record AddsUnselected (line : ℕ) (terms : List Term) (fields : List Piece)
 -- ---- records
 
 -- the violations of a record are added to others
-pub record AddsOfRecord (pieces : List Piece) (rules : Rules) (earlier : List (List Piece)) (own_range : Range ℕ) (old new : List Violation) : Type 0 where
+pub record AddsOfRecord (pieces : List Piece) (rules : Rules) (earlier : List (List Piece)) (own_range : Range ℕ)
+    (old new : List Violation) : Type 0 where
   pub own : List Violation
   pub are : AreOfRecord pieces rules earlier own_range own
   pub joined : new ≡ old ++ own
 
 -- those of a set's records
-pub record AddsOfRecords (pieces : List Piece) (rules : Rules) (records : List (Range ℕ)) (old new : List Violation) : Type 0 where
+pub record AddsOfRecords (pieces : List Piece) (rules : Rules) (records : List (Range ℕ)) (old new : List Violation)
+    : Type 0 where
   pub own : List Violation
   pub are : AreOfRecords pieces rules [] records own
   pub joined : new ≡ old ++ own
 
 -- those of a set
-pub record AddsOfSet (pieces : List Piece) (records : List (Range ℕ)) (s : Set_) (rules : Rules) (old new : List Violation) : Type 0 where
+pub record AddsOfSet (pieces : List Piece) (records : List (Range ℕ)) (s : Set_) (rules : Rules)
+    (old new : List Violation) : Type 0 where
   pub own : List Violation
   pub are : AreOfSet pieces records s rules own
   pub joined : new ≡ old ++ own

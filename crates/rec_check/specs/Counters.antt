@@ -26,7 +26,8 @@ greatest_at greatest name = get_by (λ one. bytes_eq name one.now) greatest
 
 -- the numbers of the names that are kept have been counted
 abbrev pub Counts : (List ℕ → Option (Option ℤ)) → (List ℕ → Option (Option ℤ)) → (List ℕ → List ℤ) → Type 0
-Counts old new numbers = (name : List ℕ) → new name ≡ option_map (λ so_far. greatest_from so_far (numbers name)) (old name)
+Counts old new numbers =
+    (name : List ℕ) → new name ≡ option_map (λ so_far. greatest_from so_far (numbers name)) (old name)
 
 -- these names are kept, and have no number
 abbrev pub CountsFrom : List (List ℕ) → (List ℕ → Option (Option ℤ)) → Type 0
@@ -34,7 +35,8 @@ CountsFrom names greatest = (name : List ℕ) → is_among names name ≡ true �
 
 -- of each of these names the greatest of its numbers is kept
 abbrev pub HoldsGreatest : List (List ℕ) → (List ℕ → Option (Option ℤ)) → (List ℕ → List ℤ) → Type 0
-HoldsGreatest names greatest numbers = (name : List ℕ) → is_among names name ≡ true → greatest name ≡ Some (greatest_from None (numbers name))
+HoldsGreatest names greatest numbers =
+    (name : List ℕ) → is_among names name ≡ true → greatest name ≡ Some (greatest_from None (numbers name))
 
 -- ---- counters
 
@@ -52,7 +54,8 @@ abbrev pub counter_names : List Counter → List (List ℕ)
 counter_names counters = map (λ counter. counter.name.now) counters
 
 -- it counts as its type does, on from what is kept for its name
-pub record IsKept (types : List ℕ → Option (FieldType Re)) (greatest : List ℕ → Option (Option ℤ)) (counter : Counter) : Type 0 where
+pub record IsKept (types : List ℕ → Option (FieldType Re)) (greatest : List ℕ → Option (Option ℤ)) (counter : Counter)
+    : Type 0 where
   pub counts : counter.counts ≡ (not (begins_special counter.name.now) && may_count (types counter.name.now))
   pub greatest_is : counter.greatest ≡ unwrap_or (greatest counter.name.now) None
 
@@ -65,9 +68,13 @@ pub record AreCounters (rules : Rules) (numbers : List ℕ → List ℤ) (counte
 
 -- the records of the set at this place
 abbrev pub AreMembersAt : List Piece → Described → ℕ → List (Range ℕ) → Type 0
-AreMembersAt pieces schema place own = (records : List (Range ℕ)) (s : Set_) → AreRecords pieces records → slice_get schema.sets place ≡ Some s → own ≡ members records s
+AreMembersAt pieces schema place own =
+    (records : List (Range ℕ)) (s : Set_) → AreRecords pieces records → slice_get schema.sets place ≡ Some s
+    → own ≡ members records s
 
 -- the counters of the set at this place, for whose records no number has been given
 abbrev pub AreCountersAt : List Piece → Described → ℕ → List Counter → Type 0
-AreCountersAt pieces schema place counters = (records : List (Range ℕ)) (s : Set_) (rules : Rules) → AreRecords pieces records
-    → slice_get schema.sets place ≡ Some s → slice_get schema.rules place ≡ Some rules → AreCounters rules (readings pieces (members records s)) counters
+AreCountersAt pieces schema place counters =
+    (records : List (Range ℕ)) (s : Set_) (rules : Rules) → AreRecords pieces records
+    → slice_get schema.sets place ≡ Some s → slice_get schema.rules place ≡ Some rules
+    → AreCounters rules (readings pieces (members records s)) counters

@@ -76,7 +76,8 @@ width_of AtLeast = 2
 -- what a `%size` field says: an operator, blanks and a number that isn't negative; without operator the number is exact
 abbrev pub bound_in : List ℕ → Option Bound
 bound_in value = let comparison : Comparison = comparison_in value in
-    option_map (λ number. record { comparison = comparison; number = number }) (natural_of (drop (width_of comparison) value))
+    option_map (λ number. record { comparison = comparison; number = number })
+    (natural_of (drop (width_of comparison) value))
 
 abbrev pub meets : Bound → ℕ → Bool
 meets bound n = elim bound.comparison [
@@ -110,8 +111,8 @@ abbrev pub is_one_name : List (List ℕ) → Bool
 is_one_name (name ∷ []) = is_field_name name
 is_one_name _ = false
 
--- What is wrong with a field that says this. A field of the same name may stand before it in the record, and these types
--- are named before it.
+-- What is wrong with a field that says this. A field of the same name may stand before it in the record, and these
+-- types are named before it.
 abbrev pub special_flaw : Special → Bool → List (List ℕ) → List ℕ → Option Flaw
 special_flaw Rec repeated named value = rec_flaw repeated named (words value)
 special_flaw Key repeated named value = bad_unless (not repeated && is_one_name (words value))
@@ -133,7 +134,8 @@ holds_index i own_range = nat_le own_range.start i && nat_lt i own_range.end
 
 -- ---- the elements of descriptors
 
--- an element of a descriptor, and what stands before it: the types that are named there, and the elements of its own record
+-- an element of a descriptor, and what stands before it: the types that are named there, and the elements of its own
+-- record
 pub record DescriptorElement : Type 0 where
   pub named : List (List ℕ)
   pub before : List Piece
@@ -142,16 +144,18 @@ pub record DescriptorElement : Type 0 where
 -- what is wrong with it, if anything is
 abbrev pub flaw_of : DescriptorElement → Option Flaw
 flaw_of element = option_and_then
-    (λ special. special_flaw special (list_any (has_name (name_of element.piece)) element.before) element.named (value_of element.piece))
+    (λ special. special_flaw special (list_any (has_name (name_of element.piece)) element.before) element.named
+    (value_of element.piece))
     (special_of (name_of element.piece))
 
 -- the types that some records name
 abbrev pub types_named : List Piece → List (Range ℕ) → List (List ℕ)
 types_named pieces records = filter_map (λ own_range. type_of (elements_in pieces own_range)) records
 
--- The element of this index is this one: it stands in a descriptor, after those of its elements that are before it, and the
--- records before that descriptor name these types.
-pub record StandsAt (pieces : List Piece) (records : List (Range ℕ)) (at : ℕ) (element : DescriptorElement) : Type 0 where
+-- The element of this index is this one: it stands in a descriptor, after those of its elements that are before it, and
+-- the records before that descriptor name these types.
+pub record StandsAt (pieces : List Piece) (records : List (Range ℕ)) (at : ℕ) (element : DescriptorElement)
+    : Type 0 where
   pub earlier : List (Range ℕ)
   pub own_range : Range ℕ
   pub later : List (Range ℕ)

@@ -13,12 +13,13 @@ is_known_kind kind = is_some (known_kind kind)
 abbrev pub last_definition : List Definition → List ℕ → Option Definition
 last_definition definitions name = last_that (λ definition. bytes_eq definition.name name) definitions
 
--- A kind, with a type of its own, comes to a type by these steps: each is the definition that holds for the kind before it,
--- and the kind at the end is known. What is written after a kind that isn't known means nothing.
+-- A kind, with a type of its own, comes to a type by these steps: each is the definition that holds for the kind before
+-- it, and the kind at the end is known. What is written after a kind that isn't known means nothing.
 abbrev pub LeadsTo : List Definition → List ℕ → FieldType Re → List Definition → FieldType Re → Type 0
 LeadsTo definitions kind own [] value_type = (is_known_kind kind ≡ true) × (value_type ≡ own)
 LeadsTo definitions kind own (step ∷ steps) value_type =
-    (is_known_kind kind ≡ false) × (last_definition definitions kind ≡ Some step) × LeadsTo definitions step.kind step.value_type steps value_type
+    (is_known_kind kind ≡ false) × (last_definition definitions kind ≡ Some step)
+    × LeadsTo definitions step.kind step.value_type steps value_type
 
 -- it does so by finitely many steps
 abbrev pub Resolves : List Definition → List ℕ → FieldType Re → FieldType Re → Type 0

@@ -64,7 +64,8 @@ pub record AreRules (fields : List Piece) (rules : Rules) : Type 0 where
   pub prohibited : rules.prohibited ≡ names_in (codes "%prohibit") fields
   pub unique : rules.unique ≡ names_in (codes "%unique") fields
   pub singular : rules.singular ≡ names_in (codes "%singular") fields
-  pub allowed : rules.allowed ≡ (if list_any (has_name (codes "%allowed")) fields then Some (names_in (codes "%allowed") fields) else None)
+  pub allowed : rules.allowed
+      ≡ (if list_any (has_name (codes "%allowed")) fields then Some (names_in (codes "%allowed") fields) else None)
   pub automatic : rules.automatic ≡ names_in (codes "%auto") fields
   pub types : AllZip IsTyping (values_of (codes "%type") fields) rules.types
   pub definitions : AllZip IsDefinition (values_of (codes "%typedef") fields) rules.definitions

@@ -23,7 +23,8 @@ pub record Described : Type 0 where
 
 -- the rules of a set are those of its descriptor; the untyped set has none
 abbrev pub IsRuled : List Piece → List (Range ℕ) → Set_ → Rules → Type 0
-IsRuled pieces records s rules = elim s.head [ None ↦ rules ≡ no_rules | Some head ↦ AreRules (record_at pieces records head) rules ]
+IsRuled pieces records s rules =
+    elim s.head [ None ↦ rules ≡ no_rules | Some head ↦ AreRules (record_at pieces records head) rules ]
 
 -- no field is faulty, the records are cut into these sets, and these are the rules of the sets
 pub record IsDescribed (pieces : List Piece) (described : Described) : Type 0 where
@@ -33,7 +34,8 @@ pub record IsDescribed (pieces : List Piece) (described : Described) : Type 0 wh
   pub sets : AreSets (types_of pieces records) described.sets
   pub rules : AllZip (IsRuled pieces records) described.sets described.rules
 
--- what a field says is built: by itself it gives rules, with its type, its definition or its expression, where it has one
+-- what a field says is built: by itself it gives rules, with its type, its definition or its expression, where it has
+-- one
 abbrev pub FieldIsBuilt : Piece → Type 0
 FieldIsBuilt field = (rules : Rules) × AreRules (field ∷ []) rules
 
@@ -51,10 +53,12 @@ pub record IsReached (pieces : List Piece) (at : ℕ) (element : DescriptorEleme
 
 -- the first element with which anything is wrong; it begins at this line
 abbrev pub HasFlaw : List Piece → Flaw → ℕ → Type 0
-HasFlaw pieces flaw line = (at : ℕ) × (element : DescriptorElement) × IsReached pieces at element × (flaw_of element ≡ Some flaw)
+HasFlaw pieces flaw line =
+    (at : ℕ) × (element : DescriptorElement) × IsReached pieces at element × (flaw_of element ≡ Some flaw)
     × (line ≡ line_after (text_of (take at pieces)))
 
--- the type, the definition or the expression that a field gives has a pattern that `regex` may refuse, for another cause than memory
+-- the type, the definition or the expression that a field gives has a pattern that `regex` may refuse, for another
+-- cause than memory
 abbrev pub FieldMayBeRefused : Piece → Type 0
 FieldMayBeRefused field = elim (special_of (name_of field)) [
   | Some Typed ↦ TypeMayBeRefused (value_of field)
@@ -65,7 +69,9 @@ FieldMayBeRefused field = elim (special_of (name_of field)) [
 
 -- a field of a descriptor has such a pattern, nothing is wrong with it, and the elements before it are read
 abbrev pub SchemaMayBeRefused : List Piece → Type 0
-SchemaMayBeRefused pieces = (at : ℕ) × (element : DescriptorElement) × IsReached pieces at element × (flaw_of element ≡ None) × FieldMayBeRefused element.piece
+SchemaMayBeRefused pieces =
+    (at : ℕ) × (element : DescriptorElement) × IsReached pieces at element × (flaw_of element ≡ None)
+    × FieldMayBeRefused element.piece
 
 -- what may be answered for a text of these elements, memory aside
 abbrev pub IsSchema : List Piece → Result Described Fault → Type 0

@@ -5,9 +5,12 @@ use Rattle.std.specs.Option.{is_some, option_map_or}
 use Rattle.std.specs.Str.{bytes_eq}
 use Rattle.rec_check.specs.declared.set.Set_.{Set_}
 
--- for each record of a set in order the type that it names: the descriptor, which is first, names the set's, a member none
+-- for each record of a set in order the type that it names: the descriptor, which is first, names the set's, a member
+-- none
 abbrev pub named_in : Set_ → List (Option (List ℕ))
-named_in s = (elim s.kind [ None ↦ [] | Some record_type ↦ Some record_type ∷ [] ]) ++ replicate (s.members.end - s.members.start) None
+named_in s =
+    (elim s.kind [ None ↦ [] | Some record_type ↦ Some record_type ∷ [] ])
+    ++ replicate (s.members.end - s.members.start) None
 
 -- the set's descriptor is the record of this index, where the set is typed, and its members stand after it
 abbrev pub BeginsAt : ℕ → Set_ → Type 0
@@ -26,8 +29,8 @@ abbrev pub IsUntypedFirst : List Set_ → Type 0
 IsUntypedFirst [] = ⊥
 IsUntypedFirst (s ∷ sets) = (s.kind ≡ None) × AllByRecursion (λ typed. is_some typed.kind ≡ true) sets
 
--- The record sets, where `types` says of each record in order which type it names: joined, they are all records, and each
--- descriptor begins a set.
+-- The record sets, where `types` says of each record in order which type it names: joined, they are all records, and
+-- each descriptor begins a set.
 pub record AreSets (types : List (Option (List ℕ))) (sets : List Set_) : Type 0 where
   pub joined : flat_map named_in sets ≡ types
   pub untyped_first : IsUntypedFirst sets

@@ -5,8 +5,10 @@ use Rattle.regex.specs.Strings.{regex_pattern}
 use Rattle.rec_text.specs.declared.fault.Fault.{Fault}
 use Rattle.rec_text.specs.declared.fault.Fault.TheVariants.{OutOfMemory, BadDescriptor, Unsupported, BadPattern}
 use Rattle.rec_sex.specs.Expressions.{term_of}
-use Rattle.rec_check.specs.declared.descriptors.refusal.Refusal.{Refusal}
-use Rattle.rec_check.specs.declared.descriptors.refusal.Refusal.TheVariants.{Bad, Unsupported as NotSupported, Pattern, OutOfMemory as NoMemory}
+use Rattle.rec_text.specs.declared.or_memory.OrMemory.{OrMemory}
+use Rattle.rec_check.specs.declared.descriptors.descriptor_fault.DescriptorFault.{DescriptorFault}
+use Rattle.rec_text.specs.declared.or_memory.OrMemory.TheVariants.{Refused, OutOfMemory as NoMemory}
+use Rattle.rec_check.specs.declared.descriptors.descriptor_fault.DescriptorFault.TheVariants.{Bad, Unsupported as NotSupported, Pattern}
 use Rattle.rec_check.specs.declared.field_types.definition.Definition.{Definition as StoredDefinition}
 use Rattle.rec_check.specs.declared.field_types.field_type.FieldType.{FieldType as StoredType}
 use Rattle.rec_check.specs.declared.field_types.field_type.FieldType.TheVariants.{Integer, Range, Line, Size, Truth, OneOf, Matching, Unchecked}
@@ -28,10 +30,12 @@ type_stored (Matching pattern) = matching (regex_pattern pattern.value)
 type_stored Unchecked = unchecked
 
 abbrev pub typing_stored : StoredTyping → Typing
-typing_stored typing = record { names = typing.names.items; kind = typing.kind; value_type = type_stored typing.value_type }
+typing_stored typing =
+    record { names = typing.names.items; kind = typing.kind; value_type = type_stored typing.value_type }
 
 abbrev pub definition_stored : StoredDefinition → Definition
-definition_stored definition = record { name = definition.name; kind = definition.kind; value_type = type_stored definition.value_type }
+definition_stored definition =
+    record { name = definition.name; kind = definition.kind; value_type = type_stored definition.value_type }
 
 abbrev pub rules_stored : StoredRules → Rules
 rules_stored rules = record {
@@ -53,8 +57,8 @@ abbrev pub described : Schema → Described
 described schema = record { sets = schema.sets.items; rules = map rules_stored schema.rules.items }
 
 -- the fault of a field that begins at a line
-abbrev pub fault_of : Refusal → ℕ → Fault
-fault_of Bad at = BadDescriptor at
-fault_of NotSupported at = Unsupported at
-fault_of Pattern at = BadPattern
-fault_of NoMemory at = OutOfMemory
+abbrev pub fault_at_line : OrMemory DescriptorFault → ℕ → Fault
+fault_at_line (Refused Bad) at = BadDescriptor at
+fault_at_line (Refused NotSupported) at = Unsupported at
+fault_at_line (Refused Pattern) at = BadPattern
+fault_at_line NoMemory at = OutOfMemory

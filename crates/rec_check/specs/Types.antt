@@ -74,7 +74,8 @@ bound_of word = if bytes_eq word (codes "MIN") then Some (negsuc (2 ^ 63 - 1))
 -- MAX, or MIN MAX; with one word the least is 0
 abbrev pub range_of : List (List ℕ) → Option (FieldType (List ℕ))
 range_of (high ∷ []) = option_map (λ greatest. range (pos 0) greatest) (bound_of high)
-range_of (low ∷ high ∷ []) = option_and_then (λ least. option_map (λ greatest. range least greatest) (bound_of high)) (bound_of low)
+range_of (low ∷ high ∷ []) =
+    option_and_then (λ least. option_map (λ greatest. range least greatest) (bound_of high)) (bound_of low)
 range_of _ = None
 
 abbrev pub size_type_of : List (List ℕ) → Option (FieldType (List ℕ))
@@ -119,7 +120,8 @@ pattern_in [] = None
 pattern_in (delimiter ∷ bs) = between delimiter bs
 
 abbrev pub regexp_of : List ℕ → Option (FieldType (List ℕ))
-regexp_of text = option_and_then (λ pattern. if is_utf8 pattern then Some (matching pattern) else None) (pattern_in (stripped text))
+regexp_of text =
+    option_and_then (λ pattern. if is_utf8 pattern then Some (matching pattern) else None) (pattern_in (stripped text))
 
 -- the kinds that need no definition; values of the last ones aren't checked
 abbrev pub known_kind : List ℕ → Option KnownKind
@@ -131,7 +133,9 @@ known_kind word =
     else if bytes_eq word (codes "bool") then Some Truth
     else if bytes_eq word (codes "enum") then Some Enum
     else if bytes_eq word (codes "regexp") then Some Regexp
-    else if is_among (codes "real" ∷ codes "date" ∷ codes "email" ∷ codes "uuid" ∷ codes "field" ∷ codes "rec" ∷ []) word then Some Unchecked
+    else if is_among
+    (codes "real" ∷ codes "date" ∷ codes "email" ∷ codes "uuid" ∷ codes "field" ∷ codes "rec" ∷ []) word
+    then Some Unchecked
     else None
 
 -- the type of a known kind, with what stands after its word; nothing where that isn't right
@@ -170,8 +174,8 @@ pub record Typing : Type 0 where
   pub kind : List ℕ
   pub value_type : FieldType Re
 
--- a `%typedef` field of a descriptor: the kind that it defines, and what it says of this: the word of a kind, and the type
--- that is written, with its pattern built
+-- a `%typedef` field of a descriptor: the kind that it defines, and what it says of this: the word of a kind, and the
+-- type that is written, with its pattern built
 pub record Definition : Type 0 where
   pub name : List ℕ
   pub kind : List ℕ
@@ -179,13 +183,17 @@ pub record Definition : Type 0 where
 
 -- the names, joined by commas
 abbrev pub names_of : List ℕ → Option (List (List ℕ))
-names_of word = let names : List (List ℕ) = slice_split (λ b. b == 44) word in if list_all is_field_name names then Some names else None
+names_of word =
+    let names : List (List ℕ) = slice_split (λ b. b == 44) word in
+    if list_all is_field_name names then Some names else None
 
 -- what a `%type` field says: names, a kind, and the words of the kind; nothing where it doesn't say so
 abbrev pub typing_of : List ℕ → Option Written
 typing_of value = elim (words value) [
   | [] ↦ None
-  | names ∷ more ↦ option_and_then (λ names. option_map (λ (kind, value_type). record { names = names; kind = kind; value_type = value_type }) (kind_of (after_first_word value))) (names_of names)
+  | names ∷ more ↦ option_and_then (λ names.
+      option_map (λ (kind, value_type). record { names = names; kind = kind; value_type = value_type })
+      (kind_of (after_first_word value))) (names_of names)
 ]
 
 -- the same type, with the pattern that `regex` builds of its text
@@ -202,11 +210,16 @@ IsBuilt unchecked built = built ≡ unchecked
 
 -- what a `%type` field of this value says, with the pattern that is built of it
 abbrev pub IsTyping : List ℕ → Typing → Type 0
-IsTyping value typing = (written : FieldType (List ℕ)) × (typing_of value ≡ Some (record { names = typing.names; kind = typing.kind; value_type = written })) × IsBuilt written typing.value_type
+IsTyping value typing =
+    (written : FieldType (List ℕ))
+    × (typing_of value ≡ Some (record { names = typing.names; kind = typing.kind; value_type = written }))
+    × IsBuilt written typing.value_type
 
 -- the type that a `%type` field gives has a pattern that `regex` may refuse, for another cause than memory
 abbrev pub TypeMayBeRefused : List ℕ → Type 0
-TypeMayBeRefused value = (names : List (List ℕ)) × (kind : List ℕ) × (pattern : List ℕ) × (typing_of value ≡ Some (record { names = names; kind = kind; value_type = matching pattern }))
+TypeMayBeRefused value =
+    (names : List (List ℕ)) × (kind : List ℕ) × (pattern : List ℕ)
+    × (typing_of value ≡ Some (record { names = names; kind = kind; value_type = matching pattern }))
     × PatternMayBeRefused pattern
 
 -- ---- kinds that are defined
@@ -221,15 +234,21 @@ pub record WrittenDefinition : Type 0 where
 abbrev pub definition_of : List ℕ → Option WrittenDefinition
 definition_of value = elim (words value) [
   | [] ↦ None
-  | name ∷ more ↦ if is_plain_name name then option_map (λ (kind, value_type). record { name = name; kind = kind; value_type = value_type }) (kind_of (after_first_word value)) else None
+  | name ∷ more ↦ if is_plain_name name
+      then option_map (λ (kind, value_type). record { name = name; kind = kind; value_type = value_type })
+      (kind_of (after_first_word value))
+      else None
 ]
 
 -- what a `%typedef` field of this value says, with the pattern that is built of it
 abbrev pub IsDefinition : List ℕ → Definition → Type 0
 IsDefinition value definition = (written : FieldType (List ℕ))
-    × (definition_of value ≡ Some (record { name = definition.name; kind = definition.kind; value_type = written })) × IsBuilt written definition.value_type
+    × (definition_of value ≡ Some (record { name = definition.name; kind = definition.kind; value_type = written }))
+    × IsBuilt written definition.value_type
 
 -- the type that a `%typedef` field gives has a pattern that `regex` may refuse, for another cause than memory
 abbrev pub DefinitionMayBeRefused : List ℕ → Type 0
-DefinitionMayBeRefused value = (name : List ℕ) × (kind : List ℕ) × (pattern : List ℕ) × (definition_of value ≡ Some (record { name = name; kind = kind; value_type = matching pattern }))
+DefinitionMayBeRefused value =
+    (name : List ℕ) × (kind : List ℕ) × (pattern : List ℕ)
+    × (definition_of value ≡ Some (record { name = name; kind = kind; value_type = matching pattern }))
     × PatternMayBeRefused pattern

@@ -60,16 +60,20 @@ abbrev pub breaks_key : List (List Piece) → List Piece → List ℕ → Bool
 breaks_key earlier fields name = option_map_or (is_taken name earlier) (key_of name fields) true
 
 abbrev pub key_violations : Rules → ℕ → List (List Piece) → List Piece → List Violation
-key_violations rules line earlier fields = violations_of line Key (filter (breaks_key earlier fields) (option_to_list rules.key))
+key_violations rules line earlier fields =
+    violations_of line Key (filter (breaks_key earlier fields) (option_to_list rules.key))
 
 abbrev pub mandatory_violations : Rules → ℕ → List Piece → List Violation
-mandatory_violations rules line fields = violations_of line Mandatory (filter (λ name. occurrences fields name == 0) (distinct rules.mandatory))
+mandatory_violations rules line fields =
+    violations_of line Mandatory (filter (λ name. occurrences fields name == 0) (distinct rules.mandatory))
 
 abbrev pub prohibit_violations : Rules → ℕ → List Piece → List Violation
-prohibit_violations rules line fields = violations_of line Prohibit (filter (λ name. nat_le 1 (occurrences fields name)) (distinct rules.prohibited))
+prohibit_violations rules line fields =
+    violations_of line Prohibit (filter (λ name. nat_le 1 (occurrences fields name)) (distinct rules.prohibited))
 
 abbrev pub unique_violations : Rules → ℕ → List Piece → List Violation
-unique_violations rules line fields = violations_of line Unique (filter (λ name. nat_le 2 (occurrences fields name)) (distinct rules.unique))
+unique_violations rules line fields =
+    violations_of line Unique (filter (λ name. nat_le 2 (occurrences fields name)) (distinct rules.unique))
 
 -- one of these records has a field of this name with this value
 abbrev pub stands_in : List ℕ → List (List Piece) → List ℕ → Bool
@@ -80,7 +84,8 @@ abbrev pub breaks_singular : List (List Piece) → List Piece → List ℕ → B
 breaks_singular earlier fields name = list_any (stands_in name earlier) (values_of name fields)
 
 abbrev pub singular_violations : Rules → ℕ → List (List Piece) → List Piece → List Violation
-singular_violations rules line earlier fields = violations_of line Singular (filter (breaks_singular earlier fields) (distinct rules.singular))
+singular_violations rules line earlier fields =
+    violations_of line Singular (filter (breaks_singular earlier fields) (distinct rules.singular))
 
 -- the names of the fields
 abbrev pub names_of : List Piece → List (List ℕ)
@@ -88,10 +93,12 @@ names_of fields = map name_of (filter is_field_piece fields)
 
 -- where names are limited, the name may occur
 abbrev pub is_allowed : Rules → List ℕ → Bool
-is_allowed rules name = option_map_or (λ names. is_among (names ++ (rules.mandatory ++ option_to_list rules.key)) name) rules.allowed true
+is_allowed rules name =
+    option_map_or (λ names. is_among (names ++ (rules.mandatory ++ option_to_list rules.key)) name) rules.allowed true
 
 abbrev pub allowed_violations : Rules → ℕ → List Piece → List Violation
-allowed_violations rules line fields = violations_of line Allowed (filter (λ name. not (is_allowed rules name)) (distinct (names_of fields)))
+allowed_violations rules line fields =
+    violations_of line Allowed (filter (λ name. not (is_allowed rules name)) (distinct (names_of fields)))
 
 -- there is a type, and the value doesn't fit it
 abbrev pub fails : Option (FieldType Re) → List ℕ → Bool
@@ -104,22 +111,31 @@ misfits types piece = is_field_piece piece && fails (types (name_of piece)) (val
 -- each of the fields, which begin at an index, with such a value, at its own line
 abbrev pub type_violations : List Piece → (List ℕ → Option (FieldType Re)) → ℕ → List Piece → List Violation
 type_violations pieces types start fields =
-    filter_map (λ (i, piece). if misfits types piece then Some (violation (line_at pieces i) Fit (name_of piece)) else None) (enumerate_from start fields)
+    filter_map
+    (λ (i, piece). if misfits types piece then Some (violation (line_at pieces i) Fit (name_of piece)) else None)
+    (enumerate_from start fields)
 
 -- those of the constraints, which are counted from this number on, that don't select the record
 abbrev pub AreUnselected : ℕ → ℕ → List Term → List Piece → List Violation → Type 0
 AreUnselected line number [] fields found = found ≡ []
 AreUnselected line number (term ∷ terms) fields found =
     (Selects term fields × AreUnselected line (number + 1) terms fields found)
-    ⊎ (¬ Selects term fields × ((rest : List Violation) × (found ≡ violation line Constraint (decimal number) ∷ rest) × AreUnselected line (number + 1) terms fields rest))
+    ⊎ (¬ Selects term fields
+    × ((rest : List Violation) × (found ≡ violation line Constraint (decimal number) ∷ rest)
+    × AreUnselected line (number + 1) terms fields rest))
 
 -- all of a record, after these records of its set
-pub record AreOfRecord (pieces : List Piece) (rules : Rules) (earlier : List (List Piece)) (own_range : Range ℕ) (found : List Violation) : Type 0 where
+pub record AreOfRecord (pieces : List Piece) (rules : Rules) (earlier : List (List Piece)) (own_range : Range ℕ)
+    (found : List Violation) : Type 0 where
   pub unselected : List Violation
   pub are : AreUnselected (line_at pieces own_range.start) 1 rules.constraints (elements_in pieces own_range) unselected
-  pub joined : let fields : List Piece = elements_in pieces own_range in let line : ℕ = line_at pieces own_range.start in
-      found ≡ key_violations rules line earlier fields ++ (mandatory_violations rules line fields ++ (prohibit_violations rules line fields
-      ++ (unique_violations rules line fields ++ (singular_violations rules line earlier fields ++ (allowed_violations rules line fields
+  pub joined :
+      let fields : List Piece = elements_in pieces own_range in
+      let line : ℕ = line_at pieces own_range.start in
+      found ≡ key_violations rules line earlier fields
+      ++ (mandatory_violations rules line fields ++ (prohibit_violations rules line fields
+      ++ (unique_violations rules line fields ++ (singular_violations rules line earlier fields
+      ++ (allowed_violations rules line fields
       ++ (type_violations pieces (field_type rules) own_range.start fields ++ unselected))))))
 
 -- ---- record sets
@@ -127,7 +143,8 @@ pub record AreOfRecord (pieces : List Piece) (rules : Rules) (earlier : List (Li
 -- record by record, after these
 abbrev pub AreOfRecords : List Piece → Rules → List (List Piece) → List (Range ℕ) → List Violation → Type 0
 AreOfRecords pieces rules earlier [] found = found ≡ []
-AreOfRecords pieces rules earlier (own_range ∷ records) found = (own rest : List Violation) × AreOfRecord pieces rules earlier own_range own
+AreOfRecords pieces rules earlier (own_range ∷ records) found =
+    (own rest : List Violation) × AreOfRecord pieces rules earlier own_range own
     × AreOfRecords pieces rules (earlier ++ elements_in pieces own_range ∷ []) records rest × (found ≡ own ++ rest)
 
 -- the members of a set
@@ -136,14 +153,16 @@ members records s = take (s.members.end - s.members.start) (drop s.members.start
 
 -- the line at which the descriptor of a set begins
 abbrev pub head_line : List Piece → List (Range ℕ) → Set_ → ℕ
-head_line pieces records s = option_map_or (λ own_range. line_at pieces own_range.start) (option_and_then (slice_get records) s.head) 0
+head_line pieces records s =
+    option_map_or (λ own_range. line_at pieces own_range.start) (option_and_then (slice_get records) s.head) 0
 
 -- the number of records isn't as the descriptor asks
 abbrev pub breaks_size : Rules → Set_ → Bool
 breaks_size rules s = option_map_or (λ bound. not (meets bound (s.members.end - s.members.start))) rules.size false
 
 abbrev pub size_violations : List Piece → List (Range ℕ) → Rules → Set_ → List Violation
-size_violations pieces records rules s = if breaks_size rules s then violation (head_line pieces records s) Size (unwrap_or s.kind []) ∷ [] else []
+size_violations pieces records rules s =
+    if breaks_size rules s then violation (head_line pieces records s) Size (unwrap_or s.kind []) ∷ [] else []
 
 -- ---- kinds without a meaning
 
@@ -157,24 +176,29 @@ names_kind piece = has_name (codes "%type") piece || has_name (codes "%typedef")
 
 -- the kind that such a field names, its second word, where that means nothing
 abbrev pub unresolved_in : (List ℕ → Bool) → List ℕ → Option (List ℕ)
-unresolved_in resolves value = option_and_then (λ kind. if resolves kind then None else Some kind) (slice_get (words value) 1)
+unresolved_in resolves value =
+    option_and_then (λ kind. if resolves kind then None else Some kind) (slice_get (words value) 1)
 
 abbrev pub unresolved_of : (List ℕ → Bool) → Piece → Option (List ℕ)
 unresolved_of resolves piece = if names_kind piece then unresolved_in resolves (value_of piece) else None
 
 -- each of the fields, which begin at an index, that names such a kind, at its own line
 abbrev pub unresolved_violations : List Piece → (List ℕ → Bool) → ℕ → List Piece → List Violation
-unresolved_violations pieces resolves start fields = filter_map (λ (i, piece). option_map (violation (line_at pieces i) Typedef) (unresolved_of resolves piece)) (enumerate_from start fields)
+unresolved_violations pieces resolves start fields =
+    filter_map (λ (i, piece). option_map (violation (line_at pieces i) Typedef) (unresolved_of resolves piece))
+    (enumerate_from start fields)
 
 -- those of a set's descriptor
 abbrev pub typedef_violations : List Piece → List (Range ℕ) → Rules → Set_ → List Violation
 typedef_violations pieces records rules s = option_map_or
-    (λ own_range. unresolved_violations pieces (resolves rules.definitions) own_range.start (elements_in pieces own_range))
+    (λ own_range. unresolved_violations pieces (resolves rules.definitions) own_range.start
+    (elements_in pieces own_range))
     (option_and_then (slice_get records) s.head) []
 
 -- what is found before all records of a set
 abbrev pub head_violations : List Piece → List (Range ℕ) → Rules → Set_ → List Violation
-head_violations pieces records rules s = size_violations pieces records rules s ++ typedef_violations pieces records rules s
+head_violations pieces records rules s =
+    size_violations pieces records rules s ++ typedef_violations pieces records rules s
 
 -- all of a set: its size, the kinds of its descriptor, and then record by record
 abbrev pub AreOfSet : List Piece → List (Range ℕ) → Set_ → Rules → List Violation → Type 0
@@ -184,26 +208,34 @@ AreOfSet pieces records s rules found = (rest : List Violation) × AreOfRecords 
 -- set by set
 abbrev pub AreOfSets : List Piece → List (Range ℕ) → List Set_ → List Rules → List Violation → Type 0
 AreOfSets pieces records [] [] found = found ≡ []
-AreOfSets pieces records (s ∷ sets) (rules ∷ more) found = (own rest : List Violation) × AreOfSet pieces records s rules own
+AreOfSets pieces records (s ∷ sets) (rules ∷ more) found =
+    (own rest : List Violation) × AreOfSet pieces records s rules own
     × AreOfSets pieces records sets more rest × (found ≡ own ++ rest)
 AreOfSets pieces records _ _ found = ⊥
 
 -- the violations of these elements with this schema
 abbrev pub AreViolations : List Piece → Described → List Violation → Type 0
-AreViolations pieces schema found = (records : List (Range ℕ)) × AreRecords pieces records × AreOfSets pieces records schema.sets schema.rules found
+AreViolations pieces schema found =
+    (records : List (Range ℕ)) × AreRecords pieces records × AreOfSets pieces records schema.sets schema.rules found
 
 -- a text has one report, whichever way its patterns were built
 abbrev pub OneReport : Type 0
-OneReport = (pieces : List Piece) (schema same : Described) (one other : List Violation) → IsSchema pieces (Ok schema) → IsSchema pieces (Ok same)
+OneReport =
+    (pieces : List Piece) (schema same : Described) (one other : List Violation)
+    → IsSchema pieces (Ok schema) → IsSchema pieces (Ok same)
     → AreViolations pieces schema one → AreViolations pieces same other → one ≡ other
 
 -- the violations of a text, or why it has none to tell: it is no rec text, or its descriptors are refused
 abbrev pub AreViolationsOf : List ℕ → Result (List Violation) Fault → Type 0
-AreViolationsOf text (Ok found) = (pieces : List Piece) × (schema : Described) × IsReading text (Ok pieces) × IsSchema pieces (Ok schema) × AreViolations pieces schema found
-AreViolationsOf text (Err fault) = IsReading text (Err fault) ⊎ ((pieces : List Piece) × IsReading text (Ok pieces) × IsSchema pieces (Err fault))
+AreViolationsOf text (Ok found) =
+    (pieces : List Piece) × (schema : Described) × IsReading text (Ok pieces) × IsSchema pieces (Ok schema)
+    × AreViolations pieces schema found
+AreViolationsOf text (Err fault) =
+    IsReading text (Err fault) ⊎ ((pieces : List Piece) × IsReading text (Ok pieces) × IsSchema pieces (Err fault))
 
 -- a text has one such answer; only where `regex` may refuse a pattern of its descriptors, that refusal may stand
 -- instead of the other answer
 abbrev pub OneCheck : Type 0
-OneCheck = (text : List ℕ) (one other : Result (List Violation) Fault) → AreViolationsOf text one → AreViolationsOf text other
+OneCheck =
+    (text : List ℕ) (one other : Result (List Violation) Fault) → AreViolationsOf text one → AreViolationsOf text other
     → (one ≢ Err BadPattern) → (other ≢ Err BadPattern) → one ≡ other

@@ -8,7 +8,8 @@ use Rattle.rec_check.specs.Sets.{BeginsAt}
 
 -- each record has elements, of which there are this many
 abbrev pub AreWithin : ℕ → List (Range ℕ) → Type 0
-AreWithin size records = AllByRecursion (λ own_range. (own_range.start < own_range.end) × (own_range.end ≤ size)) records
+AreWithin size records =
+    AllByRecursion (λ own_range. (own_range.start < own_range.end) × (own_range.end ≤ size)) records
 
 -- the records of a set lie ahead of a walk that has passed this many elements, its descriptor first
 pub record IsNextSet (passed : ℕ) (records : List (Range ℕ)) (s : Set_) : Type 0 where

@@ -1,8 +1,8 @@
 //! Reads descriptors: their words, their types and their rules.
 mod descriptor;
+pub mod descriptor_fault;
 pub mod draft;
 pub mod patterns;
-pub mod refusal;
 pub mod special;
 pub mod type_names;
 mod typing;

@@ -1,16 +1,17 @@
 //! A text that was read: its elements, and its record sets with their rules.
 use crate::schema::Schema;
-use rec_text::Database;
+use rec_text::{Database, Fault, read};
+use std::alloc::Global;
 use std::marker::Model;
 
 /// The elements of a text, and its record sets with their rules, which belong together.
 #[derive(Drop)]
-pub struct RecFile<'f, 't> {
-    database: &'f Database<'t>,
-    schema: &'f Schema,
+pub struct RecFile<'t> {
+    database: Database<'t>,
+    schema: Schema,
 }
 
-impl<'f, 't> Model for RecFile<'f, 't> {
+impl<'t> Model for RecFile<'t> {
     ghost use Rattle.std.specs.Prelude.{Ok};
     ghost use Rattle.std.specs.Coded.{codes};
     ghost use Rattle.rec_check.specs.contracts.schema.Schema.{the_row};
@@ -22,38 +23,39 @@ impl<'f, 't> Model for RecFile<'f, 't> {
 
     ghost coded = { Prim.hlevel (codes, the_row.coded) };
 
-    ghost view = { λ f. record { pieces = f.database.now; schema = f.schema.now } };
+    ghost view = { λ f. record { pieces = f.database; schema = f.schema } };
 
-    ghost invariant = { λ f. IsSchema f.database.now (Ok (described f.schema.now)) };
+    ghost invariant = { λ f. IsSchema f.database (Ok (described f.schema)) };
 }
 
-impl<'f, 't> RecFile<'f, 't> {
-    ghost use Rattle.std.specs.Prelude.{◌≡◌, Ok};
-    ghost use Rattle.rec_check.specs.DescribedTexts.{BelongTogether};
-    ghost use Rattle.rec_check.specs.Schemas.{IsSchema};
-    ghost use Rattle.rec_check.specs.Stored.{described};
+impl<'t> RecFile<'t> {
+    ghost use Rattle.std.specs.Prelude.{◌≡◌, Ok, IfOk, Err, IfErr};
+    ghost use Rattle.rec_text.specs.Faults.{IsMemoryOr};
+    ghost use Rattle.rec_check.specs.DescribedTexts.{BelongTogether, IsDescribedText, described_text};
 
-    /// The two must be of the same text.
-    pub fn new(database: &'f Database<'t>, schema: &'f Schema) -> RecFile<'f, 't>
-        requires { IsSchema database.now (Ok (described schema.now)) }
-        ensures { result ≡ record { pieces = database.now; schema = schema.now } }
+    /// Reads a text: its elements, and then its descriptors. The first faulty line or field is refused.
+    pub fn read(alloc: Global, text: &'t [u8]) -> Result<RecFile<'t>, Fault>
+        ensures found { IfOk result (λ file. IsDescribedText text.now (Ok (described_text file))) }
+        ensures refused { IfErr result (λ fault. IsMemoryOr fault (IsDescribedText text.now (Err fault))) }
     {
-        RecFile { database, schema }
+        let database = read(alloc, text)?;
+        let schema = Schema::read(alloc, &database)?;
+        Ok(RecFile { database, schema })
     }
 
     /// The elements.
-    pub fn database(&self) -> &'f Database<'t>
+    pub fn database(&self) -> &Database<'t>
         ensures elements { result.now ≡ self.now.pieces }
         ensures together { BelongTogether self.now }
     {
-        self.database
+        &self.database
     }
 
     /// The record sets and their rules.
-    pub fn schema(&self) -> &'f Schema
+    pub fn schema(&self) -> &Schema
         ensures schema { result.now ≡ self.now.schema }
         ensures together { BelongTogether self.now }
     {
-        self.schema
+        &self.schema
     }
 }

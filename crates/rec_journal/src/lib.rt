@@ -20,5 +20,7 @@ pub use history::steps::{Step, Steps};
 pub use laws::{edits_lead_to_one_text, leads_to_one_text, moves_are_converse};
 pub use patch::edit_steps::EditSteps;
 pub use patch::{Direction, Hunk, Patch};
-pub use plan::{Plan, plan_batch, plan_edit, plan_move, plan_redo, plan_undo};
+pub use plan::{
+    MovePlan, Plan, plan_batch, plan_edit, plan_move, plan_redo, plan_steps, plan_undo,
+};
 pub use rec_text::{Bytes, Fault};

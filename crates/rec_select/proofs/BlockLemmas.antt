@@ -1,9 +1,7 @@
 -- What is printed of one record, element by element.
-use Rattle.std.proofs.Common.{◌≡◌, ℕ, ◌+◌, ◌-◌, ◌<◌, ◌≤◌, Bool, true, false, not, ◌==◌, ◌||◌, List, [], ◌∷◌, ◌++◌, Option, Some, None, length, get_or, take, drop, map, zero, suc, refl, sym, ap, ◌∙◌, append-nil, arith}
+use Rattle.std.proofs.Common.{◌≡◌, ℕ, ◌+◌, ◌<◌, ◌≤◌, Bool, true, false, not, ◌==◌, ◌||◌, List, [], ◌∷◌, ◌++◌, length, get_or, take, drop, map, zero, suc, refl, sym, ap, ◌∙◌, append-nil, arith}
 use Rattle.std.specs.Prelude.{filter, filter_map, flat_map, slice_get, if◌then◌else◌}
 use Rattle.std.specs.List.{list_any}
-use Rattle.std.specs.Borrow.{Bor}
-use Rattle.std.specs.Option.{option_copied, option_map_or, option_eq}
 use Rattle.std.proofs.lemmas.Bool.{ne_eqb}
 use Rattle.std.proofs.lemmas.List.{take_more, take-append-drop, map-append}
 use Rattle.std.proofs.lemmas.List.Elements.{filter_map-append}
@@ -23,20 +21,7 @@ use Rattle.rec_text.proofs.lemmas.ListLemmas.{is_nil-push, join_with_byte-cons}
 use Rattle.rec_select.specs.proving.Blocks.{spaced_value}
 use Rattle.rec_select.specs.Printing.{printed_element, row_of, value_line}
 
--- ---- the last byte
-
-pub ends_newline-last : (text : List ℕ) → ends_newline text ≡ option_map_or (λ b. b == 10) (slice_get text (length text - 1)) false
-ends_newline-last [] = refl
-ends_newline-last (b ∷ []) = refl
-ends_newline-last (b ∷ c ∷ cs) =
-    let following : length (b ∷ c ∷ cs) - 1 ≡ suc (length (c ∷ cs) - 1) = omega arith in
-    ends_newline-last (c ∷ cs) ∙ ap (λ n. option_map_or (λ b. b == 10) (slice_get (b ∷ c ∷ cs) n) false) (sym following)
-
-pub newline_last : (text : List ℕ) (last : Option (Bor ℕ)) (newline : Bor ℕ) (test : Bool) → newline.now ≡ 10 → option_copied last ≡ slice_get text (length text - 1)
-    → test ≡ option_eq (λ x y. x.now == y.now) last (Some newline) → test ≡ ends_newline text
-newline_last text None newline test is same e = e ∙ ap (λ b. option_map_or (λ b. b == 10) b false) same ∙ sym (ends_newline-last text)
-newline_last text (Some b) newline test is same e =
-    e ∙ ap (λ n. b.now == n) is ∙ ap (λ b. option_map_or (λ b. b == 10) b false) same ∙ sym (ends_newline-last text)
+-- ---- the last newline
 
 pub closed-open : (text : List ℕ) → false ≡ ends_newline text → closed_text text ≡ text ++ 10 ∷ []
 closed-open text e = rw (sym e) refl

@@ -30,7 +30,8 @@ name_line s = elim s.kind [ None ↦ [] | Some record_type ↦ record_type ++ 10
 abbrev pub info : InfoForm → List Piece → List (Range ℕ) → List Set_ → List ℕ
 info Counts pieces records sets = flat_map count_line sets
 info Names pieces records sets = flat_map name_line sets
-info Descriptors pieces records sets = joined_blocks false (map (λ i. block_of Blocks (record_at pieces records i)) (filter_map (λ s. s.head) sets))
+info Descriptors pieces records sets =
+    joined_blocks false (map (λ i. block_of Blocks (record_at pieces records i)) (filter_map (λ s. s.head) sets))
 
 -- all sets, or that of a type
 abbrev pub sets_for : Option (List ℕ) → List Set_ → Result (List Set_) Fault
@@ -39,6 +40,7 @@ sets_for (Some record_type) sets = elim (set_of_type record_type sets) [ Ok s �
 
 -- the text that is printed of the sets of a type, or of all; or that there is no such type
 abbrev pub IsInfo : List Piece → List Set_ → Option (List ℕ) → InfoForm → Result (List ℕ) Fault → Type 0
-IsInfo pieces sets record_type form (Ok text) = (kept : List Set_) × (records : List (Range ℕ)) × AreRecords pieces records
+IsInfo pieces sets record_type form (Ok text) =
+    (kept : List Set_) × (records : List (Range ℕ)) × AreRecords pieces records
     × (sets_for record_type sets ≡ Ok kept) × (text ≡ info form pieces records kept)
 IsInfo pieces sets record_type form (Err fault) = sets_for record_type sets ≡ Err fault

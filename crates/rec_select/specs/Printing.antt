@@ -55,13 +55,16 @@ number_line n = decimal n ++ 10 ∷ []
 -- what is printed of the records of these indexes
 abbrev pub printed : List Piece → List (Range ℕ) → List ℕ → Shape → Bool → List ℕ
 printed pieces records selected Count collapse = number_line (length selected)
-printed pieces records selected shape collapse = joined_blocks collapse (map (λ i. block_of shape (record_at pieces records i)) selected)
+printed pieces records selected shape collapse =
+    joined_blocks collapse (map (λ i. block_of shape (record_at pieces records i)) selected)
 
 -- each is the index of a record
 abbrev pub AreIndexes : List Piece → List ℕ → Type 0
-AreIndexes pieces selected = (records : List (Range ℕ)) × AreRecords pieces records × AllByRecursion (λ i. i < length records) selected
+AreIndexes pieces selected =
+    (records : List (Range ℕ)) × AreRecords pieces records × AllByRecursion (λ i. i < length records) selected
 
 -- the text that is printed; printing alone refuses nothing
 abbrev pub IsPrinted : List Piece → List ℕ → Shape → Bool → Result (List ℕ) Fault → Type 0
-IsPrinted pieces selected shape collapse (Ok text) = (records : List (Range ℕ)) × AreRecords pieces records × (text ≡ printed pieces records selected shape collapse)
+IsPrinted pieces selected shape collapse (Ok text) =
+    (records : List (Range ℕ)) × AreRecords pieces records × (text ≡ printed pieces records selected shape collapse)
 IsPrinted pieces selected shape collapse (Err fault) = ⊥

@@ -22,8 +22,8 @@ use Rattle.rec_select.specs.declared.selection.Selection.{Selection}
 
 -- ---- the set
 
--- where the untyped set has no record: the only typed set; where there is none the untyped one, and where there are several a
--- type is needed
+-- where the untyped set has no record: the only typed set; where there is none the untyped one, and where there are
+-- several a type is needed
 abbrev pub only_set : Set_ → List Set_ → Result Set_ Fault
 only_set untyped [] = Ok untyped
 only_set untyped (s ∷ []) = Ok s
@@ -84,11 +84,13 @@ pub record AreSelected (pieces : List Piece) (s : Set_) (wanted : Filter) (selec
   pub records : List (Range ℕ)
   pub are : AreRecords pieces records
   pub ascending : AllPairs (λ a b. a < b) selected
-  pub members : (i : ℕ) → Contains selected i ↔ ((s.members.start ≤ i) × (i < s.members.end) × Passes wanted (record_at pieces records i) (i - s.members.start))
+  pub members : (i : ℕ) → Contains selected i
+      ↔ ((s.members.start ≤ i) × (i < s.members.end) × Passes wanted (record_at pieces records i) (i - s.members.start))
 
 -- the one answer to a selection, memory aside: the records, or why there is no set to select from
 abbrev pub IsSelection : List Piece → List Set_ → Option (List ℕ) → Filter → Result (List ℕ) Fault → Type 0
-IsSelection pieces sets record_type wanted (Ok selected) = (s : Set_) × (set_for record_type sets ≡ Ok s) × AreSelected pieces s wanted selected
+IsSelection pieces sets record_type wanted (Ok selected) =
+    (s : Set_) × (set_for record_type sets ≡ Ok s) × AreSelected pieces s wanted selected
 IsSelection pieces sets record_type wanted (Err fault) = set_for record_type sets ≡ Err fault
 
 -- the same of a selection from a text with its schema
@@ -97,5 +99,7 @@ IsChoice pieces schema selection = IsSelection pieces (described schema).sets se
 
 -- a selection has one answer
 abbrev pub OneSelection : Type 0
-OneSelection = (pieces : List Piece) (sets : List Set_) (record_type : Option (List ℕ)) (wanted : Filter) (one other : Result (List ℕ) Fault)
+OneSelection =
+    (pieces : List Piece) (sets : List Set_) (record_type : Option (List ℕ)) (wanted : Filter)
+    (one other : Result (List ℕ) Fault)
     → IsSelection pieces sets record_type wanted one → IsSelection pieces sets record_type wanted other → one ≡ other

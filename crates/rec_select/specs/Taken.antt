@@ -7,9 +7,11 @@ use Rattle.rec_text.specs.Sink.{AppendsPrefix, HasRisen}
 
 -- What went out of a call that prints a text or refuses it: at success the whole text; where memory ran out or the sink
 -- failed, a prefix of it; at another refusal nothing.
-abbrev pub Puts : {X : Type 0} → (Result (List ℕ) Fault → Type 0) → Option (List ℕ) → Option (List ℕ) → Result X Fault → Type 0
+abbrev pub Puts : {X : Type 0} → (Result (List ℕ) Fault → Type 0) → Option (List ℕ) → Option (List ℕ) → Result X Fault
+    → Type 0
 Puts IsText old new (Ok done) = (text : List ℕ) × IsText (Ok text) × Appends old new text
-Puts IsText old new (Err OutOfMemory) = Keeps old new ⊎ ((text : List ℕ) × IsText (Ok text) × AppendsPrefix old new text)
+Puts IsText old new (Err OutOfMemory) =
+    Keeps old new ⊎ ((text : List ℕ) × IsText (Ok text) × AppendsPrefix old new text)
 Puts IsText old new (Err StoreFailed) = (text : List ℕ) × IsText (Ok text) × AppendsPrefix old new text
 Puts IsText old new (Err fault) = IsText (Err fault) × Keeps old new
 

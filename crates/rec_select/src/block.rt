@@ -1,7 +1,7 @@
 //! What is printed of one record.
 ghost use Rattle.std.specs.Prelude.{◌≡◌, flat_map, map, IfOk, IsOkUnless};
 ghost use Rattle.std.specs.List.{list_any};
-ghost use Rattle.rec_text.specs.Bytes.{ends_newline as newline_is_last, closed_text};
+ghost use Rattle.rec_text.specs.Bytes.{closed_text};
 ghost use Rattle.rec_text.specs.Places.{piece_of, pieces_of};
 ghost use Rattle.rec_text.specs.Records.{is_field_piece};
 ghost use Rattle.rec_text.specs.Values.{value_of};
@@ -12,15 +12,8 @@ ghost use Rattle.rec_select.specs.Taken.{Prints};
 use crate::excerpt::Excerpt;
 use crate::records::Shape;
 use rec_sex::FieldList;
-use rec_text::{Element, Fault, Kind, Sink, put_all};
+use rec_text::{Element, Fault, Kind, Sink, ends_newline, put_all};
 use std::alloc::Global;
-
-/// Whether a newline comes last.
-fn ends_newline(text: &[u8]) -> bool
-    ensures { result ≡ newline_is_last text.now }
-{
-    text.last() == Some(&b'\n')
-}
 
 /// Prints a text, with a newline at its end.
 pub(crate) fn write_closed<S: Sink>(text: &[u8], out: &mut S) -> Result<(), Fault>

@@ -2,7 +2,6 @@
 ghost use Rattle.std.specs.Prelude.{◌≡◌, ℕ, List, Result, Ok, Err, IfOk, IfErr, IsOk, IsOkUnless, MatchResult};
 ghost use Rattle.rec_text.specs.declared.fault.Fault.{Fault};
 ghost use Rattle.rec_text.specs.Faults.{IsMemoryOr, IsOkUnlessEither};
-ghost use Rattle.rec_check.specs.Schemas.{IsSchema};
 ghost use Rattle.rec_check.specs.Stored.{described};
 ghost use Rattle.rec_select.specs.Printing.{AreIndexes};
 ghost use Rattle.rec_select.specs.Selection.{Answers, IsChoice, has_members, set_without_type, set_of_type, set_for};
@@ -10,8 +9,8 @@ ghost use Rattle.rec_select.specs.Selection.{Answers, IsChoice, has_members, set
 use crate::excerpt::Excerpt;
 use crate::filter::Filter;
 use crate::selection::Selection;
-use rec_check::{Schema, Set_};
-use rec_text::{Bytes, Database, Fault};
+use rec_check::{RecFile, Schema, Set_};
+use rec_text::{Bytes, Fault};
 use std::alloc::Global;
 
 fn has_records(set: &Set_) -> bool
@@ -54,24 +53,20 @@ fn set_of<'s>(schema: &'s Schema, record_type: &Option<Bytes>) -> Result<&'s Set
 }
 
 /// The records that a selection takes, as ascending indexes into the list of records. A descriptor is never taken.
-pub fn choose(
-    alloc: Global,
-    database: &Database,
-    schema: &Schema,
-    selection: &Selection,
-) -> Result<Vec<usize>, Fault>
-    requires { IsSchema database.now (Ok (described schema.now)) }
-    ensures selected { IfOk result (λ selected. IsChoice database.now schema.now selection.now (Ok selected.items)) }
-    ensures indexes { IfOk result (λ selected. AreIndexes database.now selected.items) }
+pub fn choose(alloc: Global, file: &RecFile, selection: &Selection) -> Result<Vec<usize>, Fault>
+    ensures selected { IfOk result (λ selected.
+        IsChoice file.now.pieces file.now.schema selection.now (Ok selected.items)) }
+    ensures indexes { IfOk result (λ selected. AreIndexes file.now.pieces selected.items) }
     ensures refused { IfErr result (λ fault. IsMemoryOr fault
-        (IsChoice database.now schema.now selection.now (Err fault))) }
+        (IsChoice file.now.pieces file.now.schema selection.now (Err fault))) }
     // Memory runs out only where there is a set to select from.
     ensures set { IfErr result (λ fault. fault ≡ Fault.OutOfMemory
-        → IsOk (set_for selection.now.kind (described schema.now).sets)) }
-    ensures only { (other : Result (List ℕ) Fault) → IsChoice database.now schema.now selection.now other
+        → IsOk (set_for selection.now.kind (described file.now.schema).sets)) }
+    ensures only { (other : Result (List ℕ) Fault) → IsChoice file.now.pieces file.now.schema selection.now other
         → MatchResult result (λ selected. other ≡ Ok selected.items) (λ fault. IsMemoryOr fault (other ≡ Err fault)) }
 {
-    let members = &set_of(schema, &selection.kind)?.members;
+    let database = file.database();
+    let members = &set_of(file.schema(), &selection.kind)?.members;
     let mut filter = Filter::of(alloc, &selection.by)?;
     let text = Excerpt::of(database);
     let mut selected = Vec::new(alloc);

@@ -1,9 +1,8 @@
 //! Prints what record sets a text has.
-ghost use Rattle.std.specs.Prelude.{◌++◌, ℕ, flat_map, List, Ok, IsOkUnless, option_map};
+ghost use Rattle.std.specs.Prelude.{◌++◌, ℕ, flat_map, List, IsOkUnless, option_map};
 ghost use Rattle.std.specs.declared.ops.Range.{Range};
 ghost use Rattle.rec_text.specs.Faults.{IsOkUnlessEither};
 ghost use Rattle.rec_text.specs.Records.{AreRecords};
-ghost use Rattle.rec_check.specs.Schemas.{IsSchema};
 ghost use Rattle.rec_check.specs.Stored.{described};
 ghost use Rattle.rec_select.specs.declared.info.InfoForm.TheVariants.{Descriptors};
 ghost use Rattle.rec_select.specs.declared.records.Shape.TheVariants.{Blocks};
@@ -17,7 +16,7 @@ ghost use Rattle.rec_select.specs.Taken.{Prints, PrintsAndCounts, Puts};
 use crate::excerpt::Excerpt;
 use crate::parts::put_parts;
 use itoa::Buffer;
-use rec_check::{Schema, Set_};
+use rec_check::{RecFile, Schema, Set_};
 use rec_text::{Database, Fault, Sink, put_all};
 use std::slice;
 
@@ -145,18 +144,16 @@ fn write_sets<S: Sink>(
 
 /// Prints what sets there are, or what the set of a type is.
 pub fn write_info<S: Sink>(
-    database: &Database,
-    schema: &Schema,
+    file: &RecFile,
     record_type: Option<&[u8]>,
     form: InfoForm,
     out: &mut S,
 ) -> Result<(), Fault>
-    requires { IsSchema database.now (Ok (described schema.now)) }
     ensures written { PrintsAndCounts S.contents S.failure_count out.old out.new
-        (Puts (IsInfo database.now (described schema.now).sets (option_map (λ record_type. record_type.now) record_type.entry) form))
-        result }
+        (Puts (IsInfo file.now.pieces (described file.now.schema).sets
+        (option_map (λ record_type. record_type.now) record_type.entry) form)) result }
     ensures refusals { IsOkUnlessEither result Fault.NoSuchType Fault.StoreFailed }
 {
-    let sets = sets_for(schema, record_type)?;
-    write_sets(database, sets, form, out)
+    let sets = sets_for(file.schema(), record_type)?;
+    write_sets(file.database(), sets, form, out)
 }

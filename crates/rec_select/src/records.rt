@@ -13,8 +13,9 @@ ghost use Rattle.rec_select.specs.Taken.{Prints, PrintsAndCounts, Puts};
 use crate::block::Block;
 use crate::excerpt::Excerpt;
 use itoa::Buffer;
+use rec_check::RecFile;
 use rec_sex::FieldList;
-use rec_text::{Database, Fault, Sink, put_all};
+use rec_text::{Fault, Sink, put_all};
 use std::alloc::Global;
 use std::ops::Range;
 
@@ -106,15 +107,15 @@ fn write_blocks<S: Sink>(
 /// Prints the records of these indexes into the list of records. With `collapse` no empty line stands between them.
 pub fn write_records<S: Sink>(
     alloc: Global,
-    database: &Database,
+    file: &RecFile,
     selected: &[usize],
     shape: &Shape,
     collapse: bool,
     out: &mut S,
 ) -> Result<(), Fault>
-    requires { AreIndexes database.now selected.now }
+    requires { AreIndexes file.now.pieces selected.now }
     ensures written { PrintsAndCounts S.contents S.failure_count out.old out.new
-        (Puts (IsPrinted database.now selected.now shape.now collapse)) result }
+        (Puts (IsPrinted file.now.pieces selected.now shape.now collapse)) result }
     ensures refusals { IsOkUnlessEither result Fault.OutOfMemory Fault.StoreFailed }
     // Their number is printed without any memory.
     ensures number { shape.now ≡ Count → IsOkUnless result Fault.StoreFailed }
@@ -122,6 +123,7 @@ pub fn write_records<S: Sink>(
     if let Shape::Count = shape {
         return write_number(selected.len(), out);
     }
+    let database = file.database();
     let records = database.records().as_slice();
     let separator: &[u8] = if collapse { b"" } else { b"\n" };
     write_blocks(

@@ -30,7 +30,8 @@ term_under patterns (Not' p a) = inverse (term_under patterns a)
 term_under patterns (Negate' p a) = negated (term_under patterns a)
 term_under patterns (Binary' op p a q b) = binary op (term_under patterns a) (term_under patterns b)
 term_under patterns (Found' p a i) = found (term_under patterns a) (pattern_at patterns i)
-term_under patterns (Conditional' p c q a r b) = conditional (term_under patterns c) (term_under patterns a) (term_under patterns b)
+term_under patterns (Conditional' p c q a r b) =
+    conditional (term_under patterns c) (term_under patterns a) (term_under patterns b)
 
 -- the same, with the patterns as they stand in memory
 abbrev pub term_with : List Regex → Tree → Term
@@ -58,7 +59,8 @@ AreSame a b = a ≡ b
 -- Two expressions of one text are the same and select the same records; and a text that is an expression has no fault.
 pub record OneExpression : Type 0 where
   pub same : (text : List ℕ) (one other : Term) → IsExpression text one → IsExpression text other → AreSame one other
-  pub selects : (text : List ℕ) (one other : Term) (pieces : List Piece) → IsExpression text one → IsExpression text other → Selects one pieces → Selects other pieces
+  pub selects : (text : List ℕ) (one other : Term) (pieces : List Piece) → IsExpression text one
+      → IsExpression text other → Selects one pieces → Selects other pieces
   pub faultless : (text : List ℕ) (term : Term) → IsExpression text term → fault_of text ≡ None
 
 -- the refusal is that of a bad expression, at some place

@@ -20,17 +20,21 @@ BeginsList IsList bytes = (rest : List ℕ) × IsList (bytes ++ rest)
 
 -- what stands here ends in a number and a hyphen, and the digits write a lesser one
 abbrev pub IsLess : List ℕ → List ℕ → Type 0
-IsLess before digits = (prefix first : List ℕ) × (before ≡ prefix ++ (first ++ 45 ∷ [])) × AreDigits first [] × (decimal_number digits < decimal_number first)
+IsLess before digits =
+    (prefix first : List ℕ) × (before ≡ prefix ++ (first ++ 45 ∷ [])) × AreDigits first []
+    × (decimal_number digits < decimal_number first)
 
--- A number begins at the place. Either it is too large, and no list begins with the bytes up to its last digit; or it is less
--- than the number before the hyphen, and no list begins with the bytes up to the one after its last digit, if there is one.
+-- A number begins at the place. Either it is too large, and no list begins with the bytes up to its last digit; or it
+-- is less than the number before the hyphen, and no list begins with the bytes up to the one after its last digit, if
+-- there is one.
 abbrev pub HasBadNumber : (List ℕ → Type 0) → List ℕ → ℕ → Type 0
 HasBadNumber IsList text place = (digits rest : List ℕ) × (drop place text ≡ digits ++ rest) × AreDigits digits rest
     × (((greatest < decimal_number digits) × ¬ BeginsList IsList (take (place + length digits) text))
     ⊎ (IsLess (take place text) digits × ((rest ≡ []) ⊎ ¬ BeginsList IsList (take (place + (length digits + 1)) text))))
 
--- The text is no list, some list begins with the bytes before the place, and none with these and the byte at the place. Two
--- places differ: the end of a text that only ends too early, and the first digit of a number that is wrong as a whole.
+-- The text is no list, some list begins with the bytes before the place, and none with these and the byte at the place.
+-- Two places differ: the end of a text that only ends too early, and the first digit of a number that is wrong as a
+-- whole.
 pub record IsFirstFault (IsList : List ℕ → Type 0) (text : List ℕ) (place : ℕ) : Type 0 where
   pub refused : ¬ IsList text
   pub before : BeginsList IsList (take place text)

@@ -52,34 +52,45 @@ level_of Remainder = 7
 
 -- this is the pattern that `regex` builds of the text
 abbrev pub IsPatternOf : List ℕ → Re → Type 0
-IsPatternOf text pattern = (r : Regex) × (regex_source r ≡ text) × (regex_config r ≡ default_config) × IsReadFromSource r × (regex_pattern r ≡ pattern)
+IsPatternOf text pattern =
+    (r : Regex) × (regex_source r ≡ text) × (regex_config r ≡ default_config) × IsReadFromSource r
+    × (regex_pattern r ≡ pattern)
 
--- These tokens are an expression of this level: 0 with a conditional, 1 to 7 by the operators, 8 with a sign, 9 an operand.
+-- These tokens are an expression of this level: 0 with a conditional, 1 to 7 by the operators,
+-- 8 with a sign, 9 an operand.
 pub data Derives : ℕ → List Token → Term → Type 0 where
   -- expr = imp [ "?" expr ":" expr ]
-  by_conditional : (tokens condition yes_part no_part : List Token) (c a b : Term) → tokens ≡ condition ++ Then ∷ (yes_part ++ Else ∷ no_part)
+  by_conditional : (tokens condition yes_part no_part : List Token) (c a b : Term)
+      → tokens ≡ condition ++ Then ∷ (yes_part ++ Else ∷ no_part)
       → Derives 1 condition c → Derives 0 yes_part a → Derives 0 no_part b → Derives 0 tokens (conditional c a b)
   -- imp = or [ "=>" imp ]
   by_implication : (tokens left right : List Token) (a b : Term) → tokens ≡ left ++ Binary Implies ∷ right
       → Derives 2 left a → Derives 1 right b → Derives 1 tokens (binary Implies a b)
   -- the other operators repeat from the left
-  by_operator : (op : Operator) (tokens left right : List Token) (a b : Term) → 2 ≤ level_of op → tokens ≡ left ++ Binary op ∷ right
+  by_operator : (op : Operator) (tokens left right : List Token) (a b : Term) → 2 ≤ level_of op
+      → tokens ≡ left ++ Binary op ∷ right
       → Derives (level_of op) left a → Derives (level_of op + 1) right b → Derives (level_of op) tokens (binary op a b)
   -- cmp = cat { .. | "~" TEXT }
-  by_pattern : (tokens left : List Token) (a : Term) (text : List ℕ) (pattern : Re) → tokens ≡ left ++ Found ∷ Literal text ∷ []
+  by_pattern : (tokens left : List Token) (a : Term) (text : List ℕ) (pattern : Re)
+      → tokens ≡ left ++ Found ∷ Literal text ∷ []
       → Derives 4 left a → IsPatternOf text pattern → Derives 4 tokens (found a pattern)
   -- pre = ("!" | "-") pre
-  by_not : (tokens operand : List Token) (a : Term) → tokens ≡ Not ∷ operand → Derives 8 operand a → Derives 8 tokens (inverse a)
-  by_minus : (tokens operand : List Token) (a : Term) → tokens ≡ Binary Subtract ∷ operand → Derives 8 operand a → Derives 8 tokens (negated a)
+  by_not : (tokens operand : List Token) (a : Term) → tokens ≡ Not ∷ operand → Derives 8 operand a
+      → Derives 8 tokens (inverse a)
+  by_minus : (tokens operand : List Token) (a : Term) → tokens ≡ Binary Subtract ∷ operand → Derives 8 operand a
+      → Derives 8 tokens (negated a)
   -- what binds more strongly
-  by_next : (level next : ℕ) (tokens : List Token) (a : Term) → next ≡ level + 1 → next ≤ 9 → Derives next tokens a → Derives level tokens a
+  by_next : (level next : ℕ) (tokens : List Token) (a : Term) → next ≡ level + 1 → next ≤ 9 → Derives next tokens a
+      → Derives level tokens a
   -- atom = INT | TEXT | NAME | NAME[i] | #NAME | "(" expr ")"
   by_integer : (tokens : List Token) (n : ℤ) → tokens ≡ Integer n ∷ [] → Derives 9 tokens (number n)
   by_literal : (tokens : List Token) (text : List ℕ) → tokens ≡ Literal text ∷ [] → Derives 9 tokens (literal text)
   by_name : (tokens : List Token) (name : List ℕ) → tokens ≡ Name name ∷ [] → Derives 9 tokens (field name)
-  by_occurrence : (tokens : List Token) (name : List ℕ) (i : ℕ) → tokens ≡ Occurrence name i ∷ [] → Derives 9 tokens (occurrence name i)
+  by_occurrence : (tokens : List Token) (name : List ℕ) (i : ℕ) → tokens ≡ Occurrence name i ∷ []
+      → Derives 9 tokens (occurrence name i)
   by_count : (tokens : List Token) (name : List ℕ) → tokens ≡ Count name ∷ [] → Derives 9 tokens (count name)
-  by_parentheses : (tokens inner : List Token) (a : Term) → tokens ≡ Open ∷ (inner ++ Close ∷ []) → Derives 0 inner a → Derives 9 tokens a
+  by_parentheses : (tokens inner : List Token) (a : Term) → tokens ≡ Open ∷ (inner ++ Close ∷ []) → Derives 0 inner a
+      → Derives 9 tokens a
 
 -- ---- the walk that finds the leftmost fault
 
@@ -117,7 +128,8 @@ after_else _ = None
 
 -- a token after an operand; after a pattern no operator that binds more strongly than a comparison
 abbrev pub after_operand : Bool → List Opened → Token → Option Walk
-after_operand any stack (Binary op) = if nat_le (level_of op) (if any then 7 else 4) then Some (record { want = Operand; stack = stack }) else None
+after_operand any stack (Binary op) =
+    if nat_le (level_of op) (if any then 7 else 4) then Some (record { want = Operand; stack = stack }) else None
 after_operand any stack Then = Some (record { want = Operand; stack = Question ∷ stack })
 after_operand any stack Else = after_else stack
 after_operand any stack Close = after_close stack
@@ -160,7 +172,8 @@ abbrev pub fault_from : ℕ → ℕ → Walk → List Placed → Option ℕ
 fault_from end more walk [] = if may_end walk then None else Some end
 fault_from end zero walk (placed ∷ rest) = Some placed.place
 fault_from end (suc more) walk (placed ∷ rest) = elim placed.lexeme [
-  | Whole token len ↦ elim (following walk token) [ None ↦ Some placed.place | Some next ↦ fault_from end more next rest ]
+  | Whole token len ↦
+      elim (following walk token) [ None ↦ Some placed.place | Some next ↦ fault_from end more next rest ]
   | Broken at ↦ Some (placed.place + fault_inside walk at)
 ]
 
@@ -189,9 +202,12 @@ pub record AreTaken (tokens : List Token) : Type 0 where
 
 -- each text after a `~` builds a pattern
 abbrev pub HaveGoodPatterns : List Token → Type 0
-HaveGoodPatterns tokens = (prefix rest : List Token) (text : List ℕ) → tokens ≡ prefix ++ Found ∷ (Literal text ∷ rest) → (pattern : Re) × IsPatternOf text pattern
+HaveGoodPatterns tokens =
+    (prefix rest : List Token) (text : List ℕ) → tokens ≡ prefix ++ Found ∷ (Literal text ∷ rest)
+    → (pattern : Re) × IsPatternOf text pattern
 
 -- The walk, which only looks for a fault, takes exactly the tokens that the grammar derives.
 pub record WalkIsGrammar : Type 0 where
-  pub derived : (tokens : List Token) → AreTaken tokens → HaveGoodPatterns tokens → (term : Term) × Derives 0 tokens term
+  pub derived : (tokens : List Token) → AreTaken tokens → HaveGoodPatterns tokens
+      → (term : Term) × Derives 0 tokens term
   pub taken : (tokens : List Token) (term : Term) → Derives 0 tokens term → length tokens ≤ 1000 → AreTaken tokens

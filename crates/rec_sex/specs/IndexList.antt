@@ -38,19 +38,23 @@ IsIndex digits index rest = AreDigits digits rest × (decimal_number digits ≡ 
 abbrev pub IsSpan : List ℕ → Span → List ℕ → Type 0
 IsSpan text span rest =
     (IsIndex text span.first rest × (span.last ≡ span.first) × (begins_with 45 rest ≡ false))
-    ⊎ ((a b : List ℕ) × (text ≡ a ++ 45 ∷ b) × IsIndex a span.first [] × IsIndex b span.last rest × (span.first ≤ span.last))
+    ⊎ ((a b : List ℕ) × (text ≡ a ++ 45 ∷ b) × IsIndex a span.first [] × IsIndex b span.last rest
+    × (span.first ≤ span.last))
 
--- no index that is at least this comes first: no digit does, or the digits write a lesser number or one that is too large
+-- no index that is at least this comes first:
+-- no digit does, or the digits write a lesser number or one that is too large
 abbrev pub LacksIndex : ℕ → List ℕ → Type 0
 LacksIndex least text =
     (begins_digit text ≡ false)
-    ⊎ ((digits rest : List ℕ) × (text ≡ digits ++ rest) × AreDigits digits rest × ((decimal_number digits < least) ⊎ (greatest < decimal_number digits)))
+    ⊎ ((digits rest : List ℕ) × (text ≡ digits ++ rest) × AreDigits digits rest
+    × ((decimal_number digits < least) ⊎ (greatest < decimal_number digits)))
 
 -- a span lacks an index at this place: its first, or after that and the hyphen one that is at least the first
 abbrev pub IsSpanFault : List ℕ → ℕ → Type 0
 IsSpanFault text place =
     (LacksIndex 0 text × (place ≡ 0))
-    ⊎ ((a second : List ℕ) × (first : ℕ) × (text ≡ a ++ 45 ∷ second) × IsIndex a first [] × LacksIndex first second × (place ≡ length a + 1))
+    ⊎ ((a second : List ℕ) × (first : ℕ) × (text ≡ a ++ 45 ∷ second) × IsIndex a first [] × LacksIndex first second
+    × (place ≡ length a + 1))
 
 -- an item: a span, and nothing more
 abbrev pub IsItem : List ℕ → Span → Type 0
@@ -65,7 +69,8 @@ AreItems text spans = AreJoined IsItem text spans
 abbrev pub IsItemFault : List ℕ → ℕ → Type 0
 IsItemFault text place =
     IsSpanFault text place
-    ⊎ ((prefix rest : List ℕ) × (span : Span) × (text ≡ prefix ++ rest) × IsSpan prefix span rest × (ends_item rest ≡ false) × (place ≡ length prefix))
+    ⊎ ((prefix rest : List ℕ) × (span : Span) × (text ≡ prefix ++ rest) × IsSpan prefix span rest
+    × (ends_item rest ≡ false) × (place ≡ length prefix))
 
 -- an item of the list has a fault at this place, and those before it have none
 abbrev pub HasFault : List ℕ → ℕ → Type 0

@@ -18,12 +18,14 @@ digit_of b = if nat_le 48 b && nat_le b 57 then Some (b - 48)
 -- the number that digits of this base write, after the number so far
 abbrev pub number_from : ℕ → ℕ → List ℕ → Option ℕ
 number_from base n [] = Some n
-number_from base n (b ∷ bs) = option_and_then (λ digit. if nat_lt digit base then number_from base (n * base + digit) bs else None) (digit_of b)
+number_from base n (b ∷ bs) =
+    option_and_then (λ digit. if nat_lt digit base then number_from base (n * base + digit) bs else None) (digit_of b)
 
 -- after a zero: hexadecimal digits after an x, at least one, or octal digits, possibly none
 abbrev pub after_zero : List ℕ → Option ℕ
 after_zero [] = Some 0
-after_zero (b ∷ bs) = if b == 120 || b == 88 then (if is_nil bs then None else number_from 16 0 bs) else number_from 8 0 (b ∷ bs)
+after_zero (b ∷ bs) =
+    if b == 120 || b == 88 then (if is_nil bs then None else number_from 16 0 bs) else number_from 8 0 (b ∷ bs)
 
 -- a number without a sign
 abbrev pub magnitude_of : List ℕ → Option ℕ

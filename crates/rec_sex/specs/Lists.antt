@@ -28,7 +28,9 @@ IsSubscript text (Some span) = (inside : List ℕ) × (text ≡ 91 ∷ (inside +
 
 -- an item: FIELD, FIELD[i] or FIELD[i-j]
 abbrev pub IsItem : List ℕ → Item → Type 0
-IsItem text item = (subscript : List ℕ) × (text ≡ item.name ++ subscript) × (is_field_name item.name ≡ true) × IsSubscript subscript item.occurrences
+IsItem text item =
+    (subscript : List ℕ) × (text ≡ item.name ++ subscript) × (is_field_name item.name ≡ true)
+    × IsSubscript subscript item.occurrences
 
 -- a list: items joined by commas, at least one
 abbrev pub AreItems : List ℕ → List Item → Type 0
@@ -44,7 +46,8 @@ IsClosingFault text place =
 abbrev pub IsSubscriptFault : List ℕ → ℕ → Type 0
 IsSubscriptFault text place =
     IsSpanFault text place
-    ⊎ ((prefix rest : List ℕ) × (span : Span) × (at : ℕ) × (text ≡ prefix ++ rest) × IsSpan prefix span rest × IsClosingFault rest at × (place ≡ length prefix + at))
+    ⊎ ((prefix rest : List ℕ) × (span : Span) × (at : ℕ) × (text ≡ prefix ++ rest) × IsSpan prefix span rest
+    × IsClosingFault rest at × (place ≡ length prefix + at))
 
 -- An item has a fault at this place: the first byte that can't go on, or its end where it ends too early; or the first
 -- digit of a number that is too large or, in a pair, less than the one before it.
@@ -53,7 +56,8 @@ IsItemFault text place =
     ((begins_field text ≡ false) × (place ≡ 0))
     ⊎ ((name rest : List ℕ) × (text ≡ name ++ rest) × IsName name rest
     × (((begins_with 91 rest ≡ false) × (ends_item rest ≡ false) × (place ≡ length name))
-    ⊎ ((subscript : List ℕ) × (at : ℕ) × (rest ≡ 91 ∷ subscript) × IsSubscriptFault subscript at × (place ≡ length name + 1 + at))))
+    ⊎ ((subscript : List ℕ) × (at : ℕ) × (rest ≡ 91 ∷ subscript) × IsSubscriptFault subscript at
+    × (place ≡ length name + 1 + at))))
 
 -- an item of the list has a fault at this place, and those before it have none
 abbrev pub HasFault : List ℕ → ℕ → Type 0
@@ -70,7 +74,8 @@ IsFieldList text (Err _) = ⊥
 -- the places of the fields of a name; the first of the fields has this place
 abbrev pub places_from : ℕ → List ℕ → List Piece → List ℕ
 places_from i name [] = []
-places_from i name (field ∷ fields) = if bytes_eq (name_of field) name then i ∷ places_from (i + 1) name fields else places_from (i + 1) name fields
+places_from i name (field ∷ fields) =
+    if bytes_eq (name_of field) name then i ∷ places_from (i + 1) name fields else places_from (i + 1) name fields
 
 -- all of these, or those of the occurrences from the first to the last
 abbrev pub occurrences : Option Span → List ℕ → List ℕ

@@ -17,7 +17,8 @@ use Rattle.rec_sex.specs.Integers.{int_of}
 -- the values of the fields of a name, in record order
 abbrev pub values_of : List ℕ → List Piece → List (List ℕ)
 values_of name [] = []
-values_of name (piece ∷ pieces) = if bytes_eq (name_of piece) name then value_of piece ∷ values_of name pieces else values_of name pieces
+values_of name (piece ∷ pieces) =
+    if bytes_eq (name_of piece) name then value_of piece ∷ values_of name pieces else values_of name pieces
 
 -- the value of an occurrence, counted from 0; the empty text where there is none
 abbrev pub value_at : List Piece → List ℕ → ℕ → List ℕ
@@ -65,7 +66,8 @@ abbrev pub option_is : ℤ → Option ℤ → Bool
 option_is x None = false
 option_is x (Some z) = int_eq x z
 
--- two texts by their bytes, two integers by value; an integer and a text by the text's reading, unequal where it has none
+-- two texts by their bytes, two integers by value;
+-- an integer and a text by the text's reading, unequal where it has none
 abbrev pub are_equal : Meaning → Meaning → Bool
 are_equal (integer x) (integer y) = int_eq x y
 are_equal (text a) (text b) = bytes_eq a b
@@ -120,11 +122,14 @@ sem (inverse a) pieces c = inverted (sem a pieces c)
 sem (negated a) pieces c = negation_of (sem a pieces c)
 sem (binary op a b) pieces c = applied op (sem a pieces c) (sem b pieces c)
 sem (found a pattern) pieces c = option_map (λ x. truth (is_found pattern (as_text x))) (sem a pieces c)
-sem (conditional condition a b) pieces c = option_and_then (λ x. option_and_then (λ z. if is_zero z then sem b pieces c else sem a pieces c) (reading_of x)) (sem condition pieces c)
+sem (conditional condition a b) pieces c = option_and_then
+    (λ x. option_and_then (λ z. if is_zero z then sem b pieces c else sem a pieces c) (reading_of x))
+    (sem condition pieces c)
 
 -- the occurrence chosen for each name is one that the record has
 abbrev pub IsChoice : List Piece → Assignment → Type 0
-IsChoice pieces c = (name : List ℕ) → (c name < length (values_of name pieces)) ⊎ ((values_of name pieces ≡ []) × (c name ≡ 0))
+IsChoice pieces c =
+    (name : List ℕ) → (c name < length (values_of name pieces)) ⊎ ((values_of name pieces ≡ []) × (c name ≡ 0))
 
 -- the reading is defined and not 0
 abbrev pub is_true : Option Meaning → Bool

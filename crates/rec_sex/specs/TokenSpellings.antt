@@ -26,7 +26,8 @@ begins_escape (b ∷ c ∷ bs) = b == 92 && is_quote c
 abbrev pub Closes : ℕ → List ℕ → List ℕ → Type 0
 Closes quote bytes [] = bytes ≡ quote ∷ []
 Closes quote bytes (c ∷ text) = (rest : List ℕ) × Closes quote rest text
-    × (((bytes ≡ c ∷ rest) × (c ≢ quote) × (begins_escape bytes ≡ false)) ⊎ ((bytes ≡ 92 ∷ c ∷ rest) × (is_quote c ≡ true)))
+    × (((bytes ≡ c ∷ rest) × (c ≢ quote) × (begins_escape bytes ≡ false))
+    ⊎ ((bytes ≡ 92 ∷ c ∷ rest) × (is_quote c ≡ true)))
 
 -- the operator or parenthesis that all these bytes are
 abbrev pub operator_of : List ℕ → Option Token
@@ -38,14 +39,17 @@ operator_of (b ∷ c ∷ d ∷ bs) = None
 -- these bytes, and no others, write the token
 pub data Spells : List ℕ → Token → Type 0 where
   by_integer : (bytes : List ℕ) (n : ℕ) → magnitude_of bytes ≡ Some n → n < 2 ^ 63 → Spells bytes (Integer (pos n))
-  by_literal : (bytes following text : List ℕ) (quote : ℕ) → bytes ≡ quote ∷ following → is_quote quote ≡ true → Closes quote following text → Spells bytes (Literal text)
+  by_literal : (bytes following text : List ℕ) (quote : ℕ) → bytes ≡ quote ∷ following → is_quote quote ≡ true
+      → Closes quote following text → Spells bytes (Literal text)
   by_name : (name : List ℕ) → is_plain_name name ≡ true → Spells name (Name name)
-  by_occurrence : (bytes name digits : List ℕ) → bytes ≡ name ++ 91 ∷ (digits ++ 93 ∷ []) → is_plain_name name ≡ true → AreDigits digits [] → decimal_number digits ≤ greatest
+  by_occurrence : (bytes name digits : List ℕ) → bytes ≡ name ++ 91 ∷ (digits ++ 93 ∷ []) → is_plain_name name ≡ true
+      → AreDigits digits [] → decimal_number digits ≤ greatest
       → Spells bytes (Occurrence name (decimal_number digits))
   by_count : (bytes name : List ℕ) → bytes ≡ 35 ∷ name → is_plain_name name ≡ true → Spells bytes (Count name)
   by_operator : (bytes : List ℕ) (token : Token) → operator_of bytes ≡ Some token → Spells bytes token
 
--- A number, a name or a count isn't complete while a letter, a digit or _ follows directly; nor is a name while `[` does.
+-- A number, a name or a count isn't complete while a letter, a digit or _ follows directly;
+-- nor is a name while `[` does.
 abbrev pub is_continued : Token → List ℕ → Bool
 is_continued token [] = false
 is_continued (Integer n) (b ∷ bs) = continues_name b
@@ -57,12 +61,13 @@ is_continued token (b ∷ bs) = false
 pub record IsLongest (bytes rest : List ℕ) (token : Token) : Type 0 where
   pub spells : Spells bytes token
   pub ended : is_continued token rest ≡ false
-  pub longest : (other : Token) (prefix following : List ℕ) → bytes ++ rest ≡ prefix ++ following → Spells prefix other → length prefix ≤ length bytes
+  pub longest : (other : Token) (prefix following : List ℕ) → bytes ++ rest ≡ prefix ++ following → Spells prefix other
+      → length prefix ≤ length bytes
 
 -- ---- the whole text
 
--- Where a subscript can't go on, after its opening bracket: at the first byte, where that is no digit, and also where the
--- number is too large; else after the digits.
+-- Where a subscript can't go on, after its opening bracket: at the first byte, where that is no digit, and also where
+-- the number is too large; else after the digits.
 abbrev pub IsSubscriptFault : List ℕ → ℕ → Type 0
 IsSubscriptFault text at =
     ((begins_digit text ≡ false) × (at ≡ 0))
@@ -73,7 +78,8 @@ IsSubscriptFault text at =
 -- all else it is the first byte.
 abbrev pub IsFaultInside : List ℕ → ℕ → Type 0
 IsFaultInside text at =
-    ((name rest : List ℕ) × (inside : ℕ) × (text ≡ name ++ 91 ∷ rest) × (is_plain_name name ≡ true) × IsSubscriptFault rest inside × (at ≡ length name + 1 + inside))
+    ((name rest : List ℕ) × (inside : ℕ) × (text ≡ name ++ 91 ∷ rest) × (is_plain_name name ≡ true)
+    × IsSubscriptFault rest inside × (at ≡ length name + 1 + inside))
     ⊎ (((name rest : List ℕ) → text ≡ name ++ 91 ∷ rest → is_plain_name name ≡ true → ⊥) × (at ≡ 0))
 
 -- something that is no blank stands here, and no token; its fault lies so far inside
@@ -85,13 +91,16 @@ pub record IsNoToken (text : List ℕ) (at : ℕ) : Type 0 where
   pub none : (bytes rest : List ℕ) (token : Token) → text ≡ bytes ++ rest → IsLongest bytes rest token → ⊥
   pub fault : IsFaultInside text at
 
--- The text from this place on is blanks, a token, blanks, a token, and so on, all of it up to the first place that no token
--- stands at. Each token is the longest there, and all have their places.
+-- The text from this place on is blanks, a token, blanks, a token, and so on, all of it up to the first place that no
+-- token stands at. Each token is the longest there, and all have their places.
 abbrev pub AreLexemes : ℕ → List ℕ → List Placed → Type 0
 AreLexemes place text [] = list_all is_space text ≡ true
-AreLexemes place text (placed ∷ places) = (blanks following : List ℕ) × (text ≡ blanks ++ following) × (list_all is_space blanks ≡ true) × (placed.place ≡ place + length blanks)
+AreLexemes place text (placed ∷ places) =
+    (blanks following : List ℕ) × (text ≡ blanks ++ following) × (list_all is_space blanks ≡ true)
+    × (placed.place ≡ place + length blanks)
     × (elim placed.lexeme [
-      | Whole token len ↦ (bytes rest : List ℕ) × (following ≡ bytes ++ rest) × (len ≡ length bytes) × IsLongest bytes rest token × AreLexemes (placed.place + len) rest places
+      | Whole token len ↦ (bytes rest : List ℕ) × (following ≡ bytes ++ rest) × (len ≡ length bytes)
+          × IsLongest bytes rest token × AreLexemes (placed.place + len) rest places
       | Broken at ↦ IsNoToken following at
     ])
 
@@ -105,8 +114,8 @@ AreSameTokens (placed ∷ places) (other ∷ others) = (placed.place ≡ other.p
 AreSameTokens [] (other ∷ others) = ⊥
 AreSameTokens (placed ∷ places) [] = ⊥
 
--- The tokens of a text are those that stand in it one after another with blanks between them, each the longest; there is
--- one way to read a text so.
+-- The tokens of a text are those that stand in it one after another with blanks between them, each the longest; there
+-- is one way to read a text so.
 pub record TokensAreLongest : Type 0 where
   pub are : (text : List ℕ) → AreLexemes 0 text (lexemes text)
   pub only : (text : List ℕ) (places : List Placed) → AreLexemes 0 text places → AreSameTokens places (lexemes text)

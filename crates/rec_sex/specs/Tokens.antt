@@ -7,7 +7,8 @@ use Rattle.rec_text.specs.Bytes.{is_space, is_letter, continues_name}
 use Rattle.rec_sex.specs.declared.syntax.token.Operator.TheVariants.{Equal, NotEqual, Less, Greater, LessOrEqual, GreaterOrEqual, Join, Add, Subtract, Multiply, Divide, Remainder, And, Or, Implies}
 use Rattle.rec_sex.specs.declared.syntax.token.Token.{Token}
 use Rattle.rec_sex.specs.declared.syntax.token.Token.TheVariants.{Integer, Literal, Name, Occurrence, Count, Not, Binary, Found, Open, Close, Then, Else, Unused}
--- a token and its length in bytes; or a fault, at this offset where an operand is wanted, and at the first byte elsewhere
+-- a token and its length in bytes; or a fault,
+-- at this offset where an operand is wanted, and at the first byte elsewhere
 pub use Rattle.rec_sex.specs.declared.syntax.lexeme.Lexeme.{Lexeme}
 pub use Rattle.rec_sex.specs.declared.syntax.lexeme.Lexeme.TheVariants.{Whole, Broken}
 use Rattle.rec_sex.specs.IndexList.{decimal_number, greatest}
@@ -19,8 +20,8 @@ use Rattle.rec_sex.specs.Integers.{magnitude_of}
 abbrev pub with_byte : ℕ → Option (List ℕ × ℕ) → Option (List ℕ × ℕ)
 with_byte b found = option_map (λ x. (b ∷ x.0, x.1 + 1)) found
 
--- A text literal after its opening quote: its text, and its bytes up to and with the closing quote. A backslash directly
--- before either quote is dropped, and that quote is part of the text.
+-- A text literal after its opening quote: its text, and its bytes up to and with the closing quote. A backslash
+-- directly before either quote is dropped, and that quote is part of the text.
 abbrev pub literal_from : ℕ → List ℕ → Option (List ℕ × ℕ)
 literal_from quote [] = None
 literal_from quote (b ∷ []) = if b == quote then Some ([], 1) else None
@@ -55,7 +56,8 @@ subscript_at name text len =
 -- after a name: its subscript, where a bracket stands directly after it
 abbrev pub token_after_name : List ℕ → List ℕ → Lexeme
 token_after_name name [] = Whole (Name name) (length name)
-token_after_name name (b ∷ bs) = if b == 91 then subscript_at name bs (length name + 1) else Whole (Name name) (length name)
+token_after_name name (b ∷ bs) =
+    if b == 91 then subscript_at name bs (length name + 1) else Whole (Name name) (length name)
 
 abbrev pub name_at : List ℕ → Lexeme
 name_at text = let name = take_while continues_name text in token_after_name name (drop (length name) text)
@@ -63,7 +65,9 @@ name_at text = let name = take_while continues_name text in token_after_name nam
 -- `#` and a name directly after it
 abbrev pub count_at : List ℕ → Lexeme
 count_at [] = Broken 0
-count_at (b ∷ bs) = if is_letter b then (let name = take_while continues_name (b ∷ bs) in Whole (Count name) (length name + 1)) else Broken 0
+count_at (b ∷ bs) =
+    if is_letter b then (let name = take_while continues_name (b ∷ bs) in Whole (Count name) (length name + 1))
+    else Broken 0
 
 -- operators and parentheses, the longest first: those of two bytes, and those of one
 abbrev pub token_of_two : ℕ → ℕ → Option Token
@@ -74,16 +78,20 @@ token_of_two b c =
     else if bytes_eq (b ∷ c ∷ []) (codes ">=") then Some (Binary GreaterOrEqual)
     else if bytes_eq (b ∷ c ∷ []) (codes "&&") then Some (Binary And)
     else if bytes_eq (b ∷ c ∷ []) (codes "||") then Some (Binary Or)
-    else if bytes_eq (b ∷ c ∷ []) (codes "==") || bytes_eq (b ∷ c ∷ []) (codes "<<") || bytes_eq (b ∷ c ∷ []) (codes ">>") then Some Unused
+    else if bytes_eq (b ∷ c ∷ []) (codes "==") || bytes_eq (b ∷ c ∷ []) (codes "<<")
+    || bytes_eq (b ∷ c ∷ []) (codes ">>") then Some Unused
     else None
 
 abbrev pub token_of_one : ℕ → Option Token
 token_of_one b =
-    if b == 61 then Some (Binary Equal) else if b == 60 then Some (Binary Less) else if b == 62 then Some (Binary Greater)
-    else if b == 38 then Some (Binary Join) else if b == 43 then Some (Binary Add) else if b == 45 then Some (Binary Subtract)
-    else if b == 42 then Some (Binary Multiply) else if b == 47 then Some (Binary Divide) else if b == 37 then Some (Binary Remainder)
-    else if b == 33 then Some Not else if b == 126 then Some Found else if b == 40 then Some Open else if b == 41 then Some Close
-    else if b == 63 then Some Then else if b == 58 then Some Else else None
+    if b == 61 then Some (Binary Equal) else if b == 60 then Some (Binary Less)
+    else if b == 62 then Some (Binary Greater) else if b == 38 then Some (Binary Join)
+    else if b == 43 then Some (Binary Add) else if b == 45 then Some (Binary Subtract)
+    else if b == 42 then Some (Binary Multiply) else if b == 47 then Some (Binary Divide)
+    else if b == 37 then Some (Binary Remainder) else if b == 33 then Some Not
+    else if b == 126 then Some Found else if b == 40 then Some Open
+    else if b == 41 then Some Close else if b == 63 then Some Then
+    else if b == 58 then Some Else else None
 
 abbrev pub of_one : ℕ → Lexeme
 of_one b = elim (token_of_one b) [ None ↦ Broken 0 | Some token ↦ Whole token 1 ]
@@ -119,7 +127,8 @@ lexemes_from skip place [] = []
 lexemes_from (suc skip) place (b ∷ bs) = lexemes_from skip (place + 1) bs
 lexemes_from zero place (b ∷ bs) =
     if is_space b then lexemes_from 0 (place + 1) bs
-    else record { place = place; lexeme = lexeme_at (b ∷ bs) } ∷ lexemes_from (len_of (lexeme_at (b ∷ bs)) - 1) (place + 1) bs
+    else record { place = place; lexeme = lexeme_at (b ∷ bs) }
+    ∷ lexemes_from (len_of (lexeme_at (b ∷ bs)) - 1) (place + 1) bs
 
 abbrev pub lexemes : List ℕ → List Placed
 lexemes text = lexemes_from 0 0 text

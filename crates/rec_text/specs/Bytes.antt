@@ -1,4 +1,5 @@
--- Classes of bytes, and tests on the ends of a text. 9 is a tab, 10 a newline, 32 a space, 35 `#`, 37 `%`, 43 `+`, 58 `:`, 92 a backslash.
+-- Classes of bytes, and tests on the ends of a text.
+-- 9 is a tab, 10 a newline, 32 a space, 35 `#`, 37 `%`, 43 `+`, 58 `:`, 92 a backslash.
 use Rattle.std.specs.Prelude.{ℕ, Bool, true, false, List, [], ◌∷◌, ◌++◌, ◌==◌, ◌||◌, ◌&&◌, if◌then◌else◌, map, nat_le}
 use Rattle.std.specs.Borrow.{Bor}
 use Rattle.std.specs.List.{list_any}

@@ -37,7 +37,8 @@ canonical name value = record { kind = Field; bytes = field_of name value }
 
 -- Ok where the field can be written, else the reason
 abbrev pub put_outcome : List ℕ → List ℕ → Result (Unit {0}) Fault
-put_outcome name value = if is_plain_name name then (if is_foldable 32 value then Ok tt else Err BadValue) else Err BadName
+put_outcome name value =
+    if is_plain_name name then (if is_foldable 32 value then Ok tt else Err BadValue) else Err BadName
 
 -- the old bytes are a prefix of the new ones
 abbrev pub Extends : List ℕ → List ℕ → Type 0

@@ -20,7 +20,8 @@ begins_element (b ∷ bs) = begins_blank_line (b ∷ bs) || b == 35 || is_named 
 abbrev pub line_after : List ℕ → ℕ
 line_after bytes = count_by (λ b. b == 10) bytes + 1
 
--- elements that stand before more text: each ends in a newline, and no field is directly followed by a `+`, which would be its own
+-- elements that stand before more text: each ends in a newline,
+-- and no field is directly followed by a `+`, which would be its own
 abbrev pub AreBefore : List Piece → List ℕ → Type 0
 AreBefore [] rest = Unit {0}
 AreBefore (piece ∷ pieces) rest = IsElement piece × IsTrue (ends_newline piece.bytes)
@@ -56,4 +57,5 @@ IsReading text (Err _) = ⊥
 
 -- a text has at most one reading
 abbrev pub OneReading : Type 0
-OneReading = (text : List ℕ) (one other : Result (List Piece) Fault) → IsReading text one → IsReading text other → one ≡ other
+OneReading =
+    (text : List ℕ) (one other : Result (List Piece) Fault) → IsReading text one → IsReading text other → one ≡ other

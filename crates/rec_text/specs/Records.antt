@@ -85,5 +85,7 @@ record_at pieces records i = option_map_or (elements_in pieces) (slice_get recor
 
 -- at most one list is that of the paragraphs, and at most one that of the records
 pub record OneListOfRecords : Type 0 where
-  pub paragraphs : (pieces : List Piece) (some other : List (Range ℕ)) → AreParagraphs pieces some → AreParagraphs pieces other → some ≡ other
-  pub records : (pieces : List Piece) (some other : List (Range ℕ)) → AreRecords pieces some → AreRecords pieces other → some ≡ other
+  pub paragraphs : (pieces : List Piece) (some other : List (Range ℕ)) → AreParagraphs pieces some
+      → AreParagraphs pieces other → some ≡ other
+  pub records : (pieces : List Piece) (some other : List (Range ℕ)) → AreRecords pieces some → AreRecords pieces other
+      → some ≡ other

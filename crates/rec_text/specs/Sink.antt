@@ -25,7 +25,8 @@ answer_of bytes (Ok n) = if is_nil bytes || nat_lt 0 n then Ok n else Err StoreF
 answer_of bytes (Err error) = Err StoreFailed
 
 -- one call of a writer was made with the bytes, and the sink's answer is made of the writer's
-pub record IsOneCall {W E : Type 0} (gives : W → List ℕ → Result ℕ E → W → Type 0) (old new : W) (bytes : List ℕ) (result : Result ℕ Fault) : Type 0 where
+pub record IsOneCall {W E : Type 0} (gives : W → List ℕ → Result ℕ E → W → Type 0)
+    (old new : W) (bytes : List ℕ) (result : Result ℕ Fault) : Type 0 where
   pub answer : Result ℕ E
   pub given : gives old bytes answer new
   pub told : result ≡ answer_of bytes answer

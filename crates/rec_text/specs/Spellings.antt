@@ -29,10 +29,12 @@ plus_bytes lines = flat_map (λ line. 10 ∷ 43 ∷ line_bytes line) lines
 pub record IsLogicalLine (dropped : ℕ → Bool) (line : LogicalLine) : Type 0 where
   pub unbroken : AllByRecursion HasNoNewline line.parts
   pub ends : ends_backslash (joined line.parts) ≡ false
-  pub mark : ((b : ℕ) × (line.mark ≡ b ∷ []) × IsTrue (dropped b)) ⊎ ((line.mark ≡ []) × (begins dropped (joined line.parts) ≡ false))
+  pub mark : ((b : ℕ) × (line.mark ≡ b ∷ []) × IsTrue (dropped b))
+      ⊎ ((line.mark ≡ []) × (begins dropped (joined line.parts) ≡ false))
 
 -- the element is a name, a colon, a logical line and plus lines, and a newline or the end
-pub record Spells (piece : Piece) (name : List ℕ) (first : LogicalLine) (plus : List LogicalLine) (close : List ℕ) : Type 0 where
+pub record Spells (piece : Piece) (name : List ℕ) (first : LogicalLine) (plus : List LogicalLine)
+    (close : List ℕ) : Type 0 where
   pub is_field : piece.kind ≡ Field
   pub bytes : piece.bytes ≡ name ++ 58 ∷ (line_bytes first ++ (plus_bytes plus ++ close))
   pub named : IsTrue (is_field_name name)

@@ -13,10 +13,12 @@ abbrev pub on_first : ℕ → List (List ℕ) → List (List ℕ)
 on_first b [] = (b ∷ []) ∷ []
 on_first b (line ∷ lines) = (b ∷ line) ∷ lines
 
--- the logical lines: a text cut after each newline that has no backslash before it; `before` is the byte before the text
+-- the logical lines: a text cut after each newline that has no backslash before it;
+-- `before` is the byte before the text
 abbrev pub logical_lines : ℕ → List ℕ → List (List ℕ)
 logical_lines before [] = []
-logical_lines before (b ∷ bs) = if b == 10 && not (before == 92) then (b ∷ []) ∷ logical_lines b bs else on_first b (logical_lines b bs)
+logical_lines before (b ∷ bs) =
+    if b == 10 && not (before == 92) then (b ∷ []) ∷ logical_lines b bs else on_first b (logical_lines b bs)
 
 -- without each backslash and newline in a row, and without a newline at the end
 abbrev pub unfolded : List ℕ → List ℕ

@@ -16,16 +16,19 @@ field_flaw named fields k = option_and_then (element_flaw named (take k fields))
 
 -- the types that the records before an index name
 abbrev pub types_before : List Piece → List (Range ℕ) → ℕ → List (List ℕ)
-types_before pieces records i = filter_map (λ own_range. if nat_le own_range.end i then type_of (elements_in pieces own_range) else None) records
+types_before pieces records i =
+    filter_map (λ own_range. if nat_le own_range.end i then type_of (elements_in pieces own_range) else None) records
 
 -- the descriptor that has the element of this index, if one has
 abbrev pub descriptor_at : List Piece → List (Range ℕ) → ℕ → Option (Range ℕ)
-descriptor_at pieces records i = find (λ own_range. holds_index i own_range && is_some (type_of (elements_in pieces own_range))) records
+descriptor_at pieces records i =
+    find (λ own_range. holds_index i own_range && is_some (type_of (elements_in pieces own_range))) records
 
 -- what is wrong with the element of this index, if anything is
 abbrev pub flaw_at : List Piece → List (Range ℕ) → ℕ → Option Flaw
 flaw_at pieces records i = option_and_then
-    (λ own_range. field_flaw (types_before pieces records own_range.start) (elements_in pieces own_range) (i - own_range.start))
+    (λ own_range. field_flaw (types_before pieces records own_range.start) (elements_in pieces own_range)
+    (i - own_range.start))
     (descriptor_at pieces records i)
 
 -- nothing is wrong with the field of this index among those of a descriptor, and what it says is built
@@ -36,4 +39,5 @@ pub record FieldIsRead (named : List (List ℕ)) (fields : List Piece) (k : ℕ)
 -- the same of the element of this index, if a descriptor has it
 abbrev pub ElementIsRead : List Piece → List (Range ℕ) → ℕ → Type 0
 ElementIsRead pieces records i = IfSome (descriptor_at pieces records i)
-    (λ own_range. FieldIsRead (types_before pieces records own_range.start) (elements_in pieces own_range) (i - own_range.start))
+    (λ own_range. FieldIsRead (types_before pieces records own_range.start) (elements_in pieces own_range)
+    (i - own_range.start))

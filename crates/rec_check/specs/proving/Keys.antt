@@ -12,4 +12,5 @@ has_taken key value = contains_by (λ bytes. bytes_eq value (cow_slice_items byt
 
 -- the keys that these records have taken
 abbrev pub IsKeyAfter : Key → List (List Piece) → Type 0
-IsKeyAfter key earlier = (name value : List ℕ) → key.name.now ≡ Some name → has_taken key value ≡ is_taken name earlier value
+IsKeyAfter key earlier =
+    (name value : List ℕ) → key.name.now ≡ Some name → has_taken key value ≡ is_taken name earlier value

@@ -8,7 +8,9 @@ use Rattle.rec_check.specs.Types.{FieldType, Definition}
 abbrev pub meaning_within : ℕ → List Definition → List ℕ → FieldType Re → Option (FieldType Re)
 meaning_within zero definitions kind own = if is_known_kind kind then Some own else None
 meaning_within (suc most) definitions kind own =
-    if is_known_kind kind then Some own else option_and_then (λ step. meaning_within most definitions step.kind step.value_type) (last_definition definitions kind)
+    if is_known_kind kind then Some own
+    else option_and_then (λ step. meaning_within most definitions step.kind step.value_type)
+    (last_definition definitions kind)
 
 -- no more steps are needed than there are definitions
 unfoldable pub meaning_in : List Definition → List ℕ → FieldType Re → Option (FieldType Re)

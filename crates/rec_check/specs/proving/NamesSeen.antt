@@ -7,7 +7,8 @@ use Rattle.rec_check.specs.Violations.{occurrences}
 -- at which places of a list, the first of which is this one, names stand that pass a test
 abbrev pub places_from : ℕ → (List ℕ → Bool) → List (List ℕ) → List ℕ
 places_from at test [] = []
-places_from at test (name ∷ names) = if test name then at ∷ places_from (at + 1) test names else places_from (at + 1) test names
+places_from at test (name ∷ names) =
+    if test name then at ∷ places_from (at + 1) test names else places_from (at + 1) test names
 
 abbrev pub places_of : (List ℕ → Bool) → List (List ℕ) → List ℕ
 places_of test names = places_from 0 test names

@@ -13,4 +13,5 @@ module _ {Y Z S : Type 0} where
 
   -- the pattern that a text finds is what `regex` builds of that text
   abbrev pub ArePatterns : HashMap (String Y) (Rc Regex Z) S → Type 0
-  ArePatterns built = (text : List ℕ) (pattern : Rc Regex Z) → get_by_text built text ≡ Some pattern → IsBuiltFrom text pattern.value
+  ArePatterns built = (text : List ℕ) (pattern : Rc Regex Z) → get_by_text built text ≡ Some pattern
+      → IsBuiltFrom text pattern.value

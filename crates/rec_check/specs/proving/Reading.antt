@@ -1,4 +1,5 @@
--- How a record is read: what the fields of a descriptor say so far, what one more adds, and what is answered of the whole.
+-- How a record is read: what the fields of a descriptor say so far, what one more adds, and what is answered of the
+-- whole.
 use Rattle.std.specs.Prelude.{◌≡◌, ℕ, ◌<◌, Bool, true, false, List, [], ◌∷◌, ◌++◌, take, map, is_some, slice_get, unwrap_or, Option, Some, None, option_and_then, Result, Ok, Err}
 use Rattle.rec_text.specs.declared.element.Element.{Element}
 use Rattle.rec_text.specs.declared.fault.Fault.{Fault}
@@ -14,8 +15,10 @@ use Rattle.rec_check.specs.declared.field_types.definition.Definition.{Definitio
 use Rattle.rec_check.specs.declared.descriptors.descriptor.Descriptor.{Descriptor}
 use Rattle.rec_check.specs.declared.descriptors.draft.Draft.{Draft}
 use Rattle.rec_check.specs.declared.field_types.field_type.Typing.{Typing as StoredTyping}
-use Rattle.rec_check.specs.declared.descriptors.refusal.Refusal.{Refusal}
-use Rattle.rec_check.specs.declared.descriptors.refusal.Refusal.TheVariants.{Bad, Unsupported as NotSupported, Pattern, OutOfMemory}
+use Rattle.rec_text.specs.declared.or_memory.OrMemory.{OrMemory}
+use Rattle.rec_check.specs.declared.descriptors.descriptor_fault.DescriptorFault.{DescriptorFault}
+use Rattle.rec_text.specs.declared.or_memory.OrMemory.TheVariants.{Refused, OutOfMemory}
+use Rattle.rec_check.specs.declared.descriptors.descriptor_fault.DescriptorFault.TheVariants.{Bad, Unsupported as NotSupported, Pattern}
 use Rattle.rec_check.specs.declared.descriptors.special.Special.{Special}
 use Rattle.rec_check.specs.declared.descriptors.special.Special.TheVariants.{Rec, Key, Mandatory, Prohibit, Unique, Singular, Allowed, Auto, Typed, Typedef, Size, Constraint, Confidential}
 use Rattle.rec_check.specs.Descriptors.{Flaw, bad, unsupported, first_word, special_flaw, special_of, type_of, bound_in}
@@ -53,16 +56,27 @@ is_repeated _ so_far = false
 abbrev pub Adds : Special → List ℕ → Said → Said → Type 0
 Adds Rec value old new = new ≡ record old { record_type = Some (first_word (words value)) }
 Adds Key value old new = new ≡ record old { rules = record old.rules { key = slice_get (words value) 0 } }
-Adds Mandatory value old new = new ≡ record old { rules = record old.rules { mandatory = old.rules.mandatory ++ words value } }
-Adds Prohibit value old new = new ≡ record old { rules = record old.rules { prohibited = old.rules.prohibited ++ words value } }
+Adds Mandatory value old new =
+    new ≡ record old { rules = record old.rules { mandatory = old.rules.mandatory ++ words value } }
+Adds Prohibit value old new =
+    new ≡ record old { rules = record old.rules { prohibited = old.rules.prohibited ++ words value } }
 Adds Unique value old new = new ≡ record old { rules = record old.rules { unique = old.rules.unique ++ words value } }
-Adds Singular value old new = new ≡ record old { rules = record old.rules { singular = old.rules.singular ++ words value } }
-Adds Allowed value old new = new ≡ record old { rules = record old.rules { allowed = Some (unwrap_or old.rules.allowed [] ++ words value) } }
-Adds Auto value old new = new ≡ record old { rules = record old.rules { automatic = old.rules.automatic ++ words value } }
-Adds Typed value old new = (typing : Typing) × IsTyping value typing × (new ≡ record old { rules = record old.rules { types = old.rules.types ++ typing ∷ [] } })
-Adds Typedef value old new = (definition : Definition) × IsDefinition value definition × (new ≡ record old { rules = record old.rules { definitions = old.rules.definitions ++ definition ∷ [] } })
+Adds Singular value old new =
+    new ≡ record old { rules = record old.rules { singular = old.rules.singular ++ words value } }
+Adds Allowed value old new =
+    new ≡ record old { rules = record old.rules { allowed = Some (unwrap_or old.rules.allowed [] ++ words value) } }
+Adds Auto value old new =
+    new ≡ record old { rules = record old.rules { automatic = old.rules.automatic ++ words value } }
+Adds Typed value old new =
+    (typing : Typing) × IsTyping value typing
+    × (new ≡ record old { rules = record old.rules { types = old.rules.types ++ typing ∷ [] } })
+Adds Typedef value old new =
+    (definition : Definition) × IsDefinition value definition
+    × (new ≡ record old { rules = record old.rules { definitions = old.rules.definitions ++ definition ∷ [] } })
 Adds Size value old new = new ≡ record old { rules = record old.rules { size = bound_in value } }
-Adds Constraint value old new = (term : Term) × IsExpression value term × (new ≡ record old { rules = record old.rules { constraints = old.rules.constraints ++ term ∷ [] } })
+Adds Constraint value old new =
+    (term : Term) × IsExpression value term
+    × (new ≡ record old { rules = record old.rules { constraints = old.rules.constraints ++ term ∷ [] } })
 Adds Confidential value old new = ⊥
 
 -- a field of this name has a pattern that may be refused
@@ -72,28 +86,33 @@ MayBeRefusedAs Typedef value = DefinitionMayBeRefused value
 MayBeRefusedAs Constraint value = ExpressionMayBeRefused value
 MayBeRefusedAs _ value = ⊥
 
--- What is answered of a field with which this is wrong: what it says is added, its flaw is told, or its pattern is refused.
-abbrev pub Answers : Option Flaw → Type 0 → Type 0 → Result (Unit {0}) Refusal → Type 0
+-- What is answered of a field with which this is wrong: what it says is added, its flaw is told, or its pattern is
+-- refused.
+abbrev pub Answers : Option Flaw → Type 0 → Type 0 → Result (Unit {0}) (OrMemory DescriptorFault) → Type 0
 Answers flaw Added IsRefused (Ok done) = (flaw ≡ None) × Added
-Answers flaw Added IsRefused (Err Bad) = flaw ≡ Some bad
-Answers flaw Added IsRefused (Err NotSupported) = flaw ≡ Some unsupported
-Answers flaw Added IsRefused (Err Pattern) = (flaw ≡ None) × IsRefused
+Answers flaw Added IsRefused (Err (Refused Bad)) = flaw ≡ Some bad
+Answers flaw Added IsRefused (Err (Refused NotSupported)) = flaw ≡ Some unsupported
+Answers flaw Added IsRefused (Err (Refused Pattern)) = (flaw ≡ None) × IsRefused
 Answers flaw Added IsRefused (Err OutOfMemory) = Unit {0}
 
 -- the same of types, definitions and expressions in memory
 abbrev pub AddsTyping : List ℕ → List StoredTyping → List StoredTyping → Type 0
-AddsTyping value old new = (typing : Typing) × IsTyping value typing × (map typing_stored new ≡ map typing_stored old ++ typing ∷ [])
+AddsTyping value old new =
+    (typing : Typing) × IsTyping value typing × (map typing_stored new ≡ map typing_stored old ++ typing ∷ [])
 
 abbrev pub AddsDefinition : List ℕ → List StoredDefinition → List StoredDefinition → Type 0
-AddsDefinition value old new = (definition : Definition) × IsDefinition value definition × (map definition_stored new ≡ map definition_stored old ++ definition ∷ [])
+AddsDefinition value old new =
+    (definition : Definition) × IsDefinition value definition
+    × (map definition_stored new ≡ map definition_stored old ++ definition ∷ [])
 
 abbrev pub AddsConstraint : List ℕ → List Expr → List Expr → Type 0
-AddsConstraint value old new = (term : Term) × IsExpression value term × (map term_of new ≡ map term_of old ++ term ∷ [])
+AddsConstraint value old new =
+    (term : Term) × IsExpression value term × (map term_of new ≡ map term_of old ++ term ∷ [])
 
 -- what is told of a constraint that is refused so
-abbrev pub refusal_for : Fault → Refusal
-refusal_for (BadExpression at) = Bad
-refusal_for BadPattern = Pattern
+abbrev pub refusal_for : Fault → OrMemory DescriptorFault
+refusal_for (BadExpression at) = Refused Bad
+refusal_for BadPattern = Refused Pattern
 refusal_for _ = OutOfMemory
 
 -- what an element of a descriptor adds: a comment and a field of another name nothing
@@ -106,11 +125,14 @@ AddsField piece old new = AddsOf (special_of (name_of piece)) (value_of piece) o
 
 -- what is wrong with an element after those that say this
 abbrev pub flaw_after : List (List ℕ) → Said → Piece → Option Flaw
-flaw_after named so_far piece = option_and_then (λ special. special_flaw special (is_repeated special so_far) named (value_of piece)) (special_of (name_of piece))
+flaw_after named so_far piece =
+    option_and_then (λ special. special_flaw special (is_repeated special so_far) named (value_of piece))
+    (special_of (name_of piece))
 
 -- what is answered of an element after those that say this, memory aside
-abbrev pub AnswersField : List (List ℕ) → Piece → Said → Said → Result (Unit {0}) Refusal → Type 0
-AnswersField named piece old new answer = Answers (flaw_after named old piece) (AddsField piece old new) (FieldMayBeRefused piece) answer
+abbrev pub AnswersField : List (List ℕ) → Piece → Said → Said → Result (Unit {0}) (OrMemory DescriptorFault) → Type 0
+AnswersField named piece old new answer =
+    Answers (flaw_after named old piece) (AddsField piece old new) (FieldMayBeRefused piece) answer
 
 -- ---- one descriptor
 
@@ -127,7 +149,8 @@ pub record AreSaid (named : List (List ℕ)) (fields : List Piece) (said : Said)
   pub rules : AreRules fields said.rules
 
 -- the first of the fields with which anything is wrong; it begins at this line, and those before it are read
-pub record HasFieldFlaw (text : List ℕ) (named : List (List ℕ)) (fields : List Element) (flaw : Flaw) (line : ℕ) : Type 0 where
+pub record HasFieldFlaw (text : List ℕ) (named : List (List ℕ)) (fields : List Element) (flaw : Flaw) (line : ℕ)
+    : Type 0 where
   pub at : ℕ
   pub first : (k : ℕ) → k < at → FieldIsRead named (pieces_of fields) k
   pub met : field_flaw named (pieces_of fields) at ≡ Some flaw
@@ -169,11 +192,13 @@ drafted draft = record { sets = draft.sets.items; rules = map rules_stored draft
 abbrev pub AddsRecordAs : Bool → List (List ℕ) → List Piece → ℕ → Described → Described → Type 0
 AddsRecordAs false named fields index old new = (new.sets ≡ with_record old.sets index None) × (new.rules ≡ old.rules)
 AddsRecordAs true named fields index old new =
-    (said : Said) × AreSaid named fields said × (new.sets ≡ with_record old.sets index said.record_type) × (new.rules ≡ old.rules ++ said.rules ∷ [])
+    (said : Said) × AreSaid named fields said × (new.sets ≡ with_record old.sets index said.record_type)
+    × (new.rules ≡ old.rules ++ said.rules ∷ [])
 
 abbrev pub AddsRecord : List (List ℕ) → List Piece → ℕ → Described → Described → Type 0
 AddsRecord named fields index old new = AddsRecordAs (is_some (type_of fields)) named fields index old new
 
 -- it is a descriptor that is refused so
 abbrev pub IsRefusedRecord : List ℕ → List (List ℕ) → List Element → Fault → Type 0
-IsRefusedRecord text named fields fault = (is_some (type_of (pieces_of fields)) ≡ true) × IsRead text named fields (Err fault)
+IsRefusedRecord text named fields fault =
+    (is_some (type_of (pieces_of fields)) ≡ true) × IsRead text named fields (Err fault)

@@ -26,13 +26,16 @@ meant value_type = option_map (λ value_type. type_stored value_type.now) value_
 -- the definition at a place holds for the kind of this one; or this one means that type
 abbrev pub IsRight : List Definition → Definition → Meaning → Type 0
 IsRight definitions definition (SameAs place) = (is_known_kind definition.kind ≡ false)
-    × ((next : Definition) × (slice_get definitions place ≡ Some next) × (last_definition definitions definition.kind ≡ Some next))
-IsRight definitions definition (Settled value_type) = meant value_type ≡ meaning_in definitions definition.kind definition.value_type
+    × ((next : Definition) × (slice_get definitions place ≡ Some next)
+    × (last_definition definitions definition.kind ≡ Some next))
+IsRight definitions definition (Settled value_type) =
+    meant value_type ≡ meaning_in definitions definition.kind definition.value_type
 
 -- right for each definition
 pub record AreRight (definitions : List Definition) (meanings : List Meaning) : Type 0 where
   pub size : length meanings ≡ length definitions
-  pub right : (place : ℕ) (definition : Definition) (meaning : Meaning) → slice_get definitions place ≡ Some definition → slice_get meanings place ≡ Some meaning → IsRight definitions definition meaning
+  pub right : (place : ℕ) (definition : Definition) (meaning : Meaning) → slice_get definitions place ≡ Some definition
+      → slice_get meanings place ≡ Some meaning → IsRight definitions definition meaning
 
 abbrev pub next_in : Meaning → Option ℕ
 next_in (SameAs next) = Some next
@@ -65,21 +68,27 @@ ArePlacesWithin places meanings = (place : ℕ) → is_at places place ≡ true 
 -- both mean the same, and where this is a type, the second is nearer to it
 pub record IsAhead (definitions : List Definition) (first second : Definition) : Type 0 where
   pub same : meaning_in definitions first.kind first.value_type ≡ meaning_in definitions second.kind second.value_type
-  pub nearer : (value_type : FieldType Re) (steps : List Definition) → LeadsTo definitions first.kind first.value_type steps value_type
-      → (rest : List Definition) × (length rest < length steps) × LeadsTo definitions second.kind second.value_type rest value_type
+  pub nearer : (value_type : FieldType Re) (steps : List Definition)
+      → LeadsTo definitions first.kind first.value_type steps value_type
+      → (rest : List Definition) × (length rest < length steps)
+      × LeadsTo definitions second.kind second.value_type rest value_type
 
--- the definitions at some places have led to the one at a place, and count as resolved to nothing meanwhile; the others are right
+-- the definitions at some places have led to the one at a place, and count as resolved to nothing meanwhile; the others
+-- are right
 pub record AreAtWork (definitions : List Definition) (passed : List ℕ) (at : ℕ) (meanings : List Meaning) : Type 0 where
   pub size : length meanings ≡ length definitions
-  pub right : (place : ℕ) (definition : Definition) (meaning : Meaning) → slice_get definitions place ≡ Some definition → slice_get meanings place ≡ Some meaning
+  pub right : (place : ℕ) (definition : Definition) (meaning : Meaning) → slice_get definitions place ≡ Some definition
+      → slice_get meanings place ≡ Some meaning
       → IsRight definitions definition meaning ⊎ ((is_at passed place ≡ true) × (meaning ≡ Settled None))
   pub ahead : (place : ℕ) → is_at passed place ≡ true
-      → (first : Definition) × (slice_get definitions place ≡ Some first) × ((second : Definition) × (slice_get definitions at ≡ Some second) × IsAhead definitions first second)
+      → (first : Definition) × (slice_get definitions place ≡ Some first)
+      × ((second : Definition) × (slice_get definitions at ≡ Some second) × IsAhead definitions first second)
 
 -- the meanings at these places are settled to a type, and the others stay
 pub record AreSettledAt (places : List ℕ) (value_type : Option (Bor StoredType)) (old new : List Meaning) : Type 0 where
   pub size : length new ≡ length old
-  pub each : (place : ℕ) → place < length old → slice_get new place ≡ (if is_at places place then Some (Settled value_type) else slice_get old place)
+  pub each : (place : ℕ) → place < length old
+      → slice_get new place ≡ (if is_at places place then Some (Settled value_type) else slice_get old place)
 
 -- ---- the resolver
 

@@ -20,4 +20,8 @@ with_member (s ∷ next ∷ sets) index = s ∷ with_member (next ∷ sets) inde
 abbrev pub with_record : List Set_ → ℕ → Option (List ℕ) → List Set_
 with_record sets index None = with_member sets index
 with_record sets index (Some record_type) =
-    sets ++ record { kind = Some record_type; head = Some index; members = record { start = index + 1; end = index + 1 } } ∷ []
+    sets ++ record {
+      kind = Some record_type;
+      head = Some index;
+      members = record { start = index + 1; end = index + 1 };
+    } ∷ []

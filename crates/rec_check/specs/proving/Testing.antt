@@ -29,7 +29,9 @@ passes (Pattern matcher) value_type value = is_found (matcher_pattern matcher.va
 
 -- the test passes the values that fit the type
 abbrev pub Serves : Test → FieldType → Type 0
-Serves test value_type = (may_serve test value_type ≡ true) × ((value : List ℕ) → passes test value_type value ≡ fits (type_stored value_type) value)
+Serves test value_type =
+    (may_serve test value_type ≡ true)
+    × ((value : List ℕ) → passes test value_type value ≡ fits (type_stored value_type) value)
 
 -- the same of a test that may not be made yet
 abbrev pub ServesOnceMade : Option Test → FieldType → Type 0

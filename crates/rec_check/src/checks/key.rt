@@ -1,5 +1,5 @@
 //! The key of a set.
-ghost use Rattle.std.specs.Prelude.{◌≡◌, IfOk, option_map, IsOkUnless};
+ghost use Rattle.std.specs.Prelude.{◌≡◌, option_map};
 ghost use Rattle.std.specs.Cow.{cow_slice_items};
 ghost use Rattle.rec_text.specs.Places.{piece_of, pieces_of};
 ghost use Rattle.rec_text.specs.Values.{bytes_of, value_of};
@@ -28,14 +28,13 @@ fn only_field<'f, 't>(fields: &'f [Element<'t>], name: &[u8]) -> Option<&'f Elem
     only
 }
 
-/// The bytes of a value, copied only where they don't stand in the text.
-pub(crate) fn bytes_in<'t>(alloc: Global, value: Value<'t>) -> Result<CowSlice<'t, u8>, Fault>
-    ensures bytes { IfOk result (λ bytes. cow_slice_items bytes ≡ bytes_of value.entry) }
-    ensures refusals { IsOkUnless result Fault.OutOfMemory }
+/// The bytes of a value.
+pub(crate) fn bytes_in(value: Value<'_>) -> CowSlice<'_, u8>
+    ensures { cow_slice_items result ≡ bytes_of value.entry }
 {
     match value {
-        Value::Part(part) => Ok(CowSlice::Borrowed(part)),
-        Value::Made(made) => Ok(CowSlice::Owned(Vec::from_slice(alloc, made.as_slice())?)),
+        Value::Part(part) => CowSlice::Borrowed(part),
+        Value::Made(made) => CowSlice::Owned(made.into_vec()),
     }
 }
 
@@ -67,14 +66,14 @@ impl<'r, 't> Key<'r, 't> {
     }
 
     /// Takes a key, and answers whether it was taken already.
-    fn take(&mut self, alloc: Global, value: Value<'t>) -> Result<bool, Fault>
+    fn take(&mut self, value: Value<'t>) -> Result<bool, Fault>
         ensures was_taken { IfOk result (λ answer. answer ≡ has_taken self.old (bytes_of value.entry)) }
         ensures taken { OnOk result ((other : List ℕ)
             → has_taken self.new other ≡ (has_taken self.old other || bytes_eq other (bytes_of value.entry))) }
         ensures name { self.new.name ≡ self.old.name }
         ensures refusals { IsOkUnless result Fault.OutOfMemory }
     {
-        let is_new = self.taken.insert(bytes_in(alloc, value)?)?;
+        let is_new = self.taken.insert(bytes_in(value))?;
         Ok(!is_new)
     }
 
@@ -90,7 +89,7 @@ impl<'r, 't> Key<'r, 't> {
         ensures refusals { IsOkUnless result Fault.OutOfMemory }
     {
         match only_field(fields, name) {
-            Some(field) => self.take(alloc, field.value(alloc)?),
+            Some(field) => self.take(field.value(alloc)?),
             None => Ok(true),
         }
     }

@@ -56,7 +56,7 @@ impl<'r, 't> Singular<'r, 't> {
         let Some(place) = self.names.place_of(field.name()) else {
             return Ok(None);
         };
-        let value = bytes_in(alloc, field.value(alloc)?)?;
+        let value = bytes_in(field.value(alloc)?);
         Ok(Some((place, value)))
     }
 

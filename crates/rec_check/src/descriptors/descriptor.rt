@@ -11,8 +11,8 @@ ghost use Rattle.rec_check.specs.proving.Reading.{Answers, AddsDefinition, AddsT
 ghost use Rattle.rec_check.specs.Types.{DefinitionMayBeRefused, TypeMayBeRefused};
 ghost use Rattle.rec_check.specs.Words.{words};
 
+use crate::descriptors::descriptor_fault::{DescriptorFault, FieldResult, fault_at_line};
 use crate::descriptors::patterns::Patterns;
-use crate::descriptors::refusal::Refusal;
 use crate::descriptors::special::{Bound, Special, bound_in, special_of};
 use crate::descriptors::type_names::TypeNames;
 use crate::descriptors::typing::{definition_in, typing_in};
@@ -21,7 +21,7 @@ use crate::field_types::definition::Definition;
 use crate::field_types::field_type::Typing;
 use crate::rules::Rules;
 use rec_sex::Expr;
-use rec_text::{Bytes, Database, Element, Fault, is_field_name, is_plain_name};
+use rec_text::{Bytes, Database, Element, Fault, OrMemory, is_field_name, is_plain_name};
 use std::alloc::Global;
 
 /// What the fields of a descriptor say.
@@ -53,47 +53,47 @@ fn add_type(
     record_type: &mut Option<Bytes>,
     types: &TypeNames,
     value: &[u8],
-) -> Result<(), Refusal>
+) -> FieldResult<()>
     ensures { Answers (rec_flaw (is_some record_type.old) types.now (words value.now))
         (record_type.new ≡ Some (first_word (words value.now))) ⊥ result }
 {
     let Some((word, source)) = split_word(value) else {
-        return Err(Refusal::Bad);
+        return Err(OrMemory::Refused(DescriptorFault::Bad));
     };
     if record_type.is_some() || !is_plain_name(word) || types.contains(word) {
-        return Err(Refusal::Bad);
+        return Err(OrMemory::Refused(DescriptorFault::Bad));
     }
     if split_word(source).is_some() {
-        return Err(Refusal::Unsupported);
+        return Err(OrMemory::Refused(DescriptorFault::Unsupported));
     }
     *record_type = Some(Bytes::copy_of(alloc, word)?);
     Ok(())
 }
 
 /// Takes the one name of a `%key` field.
-fn add_key(alloc: Global, key: &mut Option<Bytes>, value: &[u8]) -> Result<(), Refusal>
+fn add_key(alloc: Global, key: &mut Option<Bytes>, value: &[u8]) -> FieldResult<()>
     ensures { Answers (special_flaw Special.Key (is_some key.old) [] value.now)
         (key.new ≡ slice_get (words value.now) 0) ⊥ result }
 {
     let Some((name, following)) = split_word(value) else {
-        return Err(Refusal::Bad);
+        return Err(OrMemory::Refused(DescriptorFault::Bad));
     };
     if key.is_some() || !is_field_name(name) || split_word(following).is_some() {
-        return Err(Refusal::Bad);
+        return Err(OrMemory::Refused(DescriptorFault::Bad));
     }
     *key = Some(Bytes::copy_of(alloc, name)?);
     Ok(())
 }
 
 /// Takes the names of a field that lists some.
-fn add_names(alloc: Global, names: &mut Vec<Bytes>, value: &[u8]) -> Result<(), Refusal>
+fn add_names(alloc: Global, names: &mut Vec<Bytes>, value: &[u8]) -> FieldResult<()>
     ensures { Answers (bad_unless (list_all may_name_a_field (words value.now)))
         (names.new.items ≡ names.old.items ++ words value.now) ⊥ result }
 {
     let mut rest = value;
     while let Some((name, following)) = split_word(rest) {
         if !is_field_name(name) {
-            return Err(Refusal::Bad);
+            return Err(OrMemory::Refused(DescriptorFault::Bad));
         }
         names.push(Bytes::copy_of(alloc, name)?)?;
         rest = following;
@@ -102,7 +102,7 @@ fn add_names(alloc: Global, names: &mut Vec<Bytes>, value: &[u8]) -> Result<(), 
 }
 
 /// Takes the names of an `%allowed` field.
-fn add_allowed(alloc: Global, allowed: &mut Option<Vec<Bytes>>, value: &[u8]) -> Result<(), Refusal>
+fn add_allowed(alloc: Global, allowed: &mut Option<Vec<Bytes>>, value: &[u8]) -> FieldResult<()>
     ensures { Answers (bad_unless (list_all may_name_a_field (words value.now)))
         (option_map (λ names. names.items) allowed.new
         ≡ Some (unwrap_or (option_map (λ names. names.items) allowed.old) [] ++ words value.now)) ⊥ result }
@@ -122,7 +122,7 @@ fn add_typing(
     patterns: &mut Patterns,
     types: &mut Vec<Typing>,
     value: &[u8],
-) -> Result<(), Refusal>
+) -> FieldResult<()>
     ensures { Answers (special_flaw Special.Typed false [] value.now)
         (AddsTyping value.now types.old.items types.new.items)
         (TypeMayBeRefused value.now) result }
@@ -137,7 +137,7 @@ fn add_definition(
     patterns: &mut Patterns,
     definitions: &mut Vec<Definition>,
     value: &[u8],
-) -> Result<(), Refusal>
+) -> FieldResult<()>
     ensures { Answers (special_flaw Special.Typedef false [] value.now)
         (AddsDefinition value.now definitions.old.items definitions.new.items)
         (DefinitionMayBeRefused value.now) result }
@@ -147,33 +147,33 @@ fn add_definition(
 }
 
 /// Takes what a `%size` field says.
-fn add_bound(size: &mut Option<Bound>, value: &[u8]) -> Result<(), Refusal>
+fn add_bound(size: &mut Option<Bound>, value: &[u8]) -> FieldResult<()>
     ensures { Answers (special_flaw Special.Size (is_some size.old) [] value.now)
         (size.new ≡ bound_in value.now) ⊥ result }
 {
     let None = size else {
-        return Err(Refusal::Bad);
+        return Err(OrMemory::Refused(DescriptorFault::Bad));
     };
     *size = bound_in(value);
     match size {
         Some(_) => Ok(()),
-        None => Err(Refusal::Bad),
+        None => Err(OrMemory::Refused(DescriptorFault::Bad)),
     }
 }
 
 /// What is told of a constraint that is no expression.
-fn refusal_of(fault: Fault) -> Refusal
+fn refusal_of(fault: Fault) -> OrMemory<DescriptorFault>
     ensures { result ≡ refusal_for fault }
 {
     match fault {
-        Fault::BadExpression { .. } => Refusal::Bad,
-        Fault::BadPattern => Refusal::Pattern,
-        _ => Refusal::OutOfMemory,
+        Fault::BadExpression { .. } => OrMemory::Refused(DescriptorFault::Bad),
+        Fault::BadPattern => OrMemory::Refused(DescriptorFault::Pattern),
+        _ => OrMemory::OutOfMemory,
     }
 }
 
 /// Takes the expression of a `%constraint` field.
-fn add_constraint(alloc: Global, constraints: &mut Vec<Expr>, value: &[u8]) -> Result<(), Refusal>
+fn add_constraint(alloc: Global, constraints: &mut Vec<Expr>, value: &[u8]) -> FieldResult<()>
     ensures { Answers (special_flaw Special.Constraint false [] value.now)
         (AddsConstraint value.now constraints.old.items constraints.new.items)
         (ExpressionMayBeRefused value.now) result }
@@ -212,7 +212,7 @@ impl Descriptor {
         types: &TypeNames,
         special: Special,
         value: &[u8],
-    ) -> Result<(), Refusal>
+    ) -> FieldResult<()>
         ensures { Answers (special_flaw special (is_repeated special (said self.old)) types.now value.now)
             (Adds special value.now (said self.old) (said self.new)) (MayBeRefusedAs special value.now) result }
     {
@@ -230,24 +230,19 @@ impl Descriptor {
             Special::Typedef => add_definition(alloc, patterns, &mut self.rules.definitions, value),
             Special::Size => add_bound(&mut self.rules.size, value),
             Special::Constraint => add_constraint(alloc, &mut self.rules.constraints, value),
-            Special::Confidential => Err(Refusal::Unsupported),
+            Special::Confidential => Err(OrMemory::Refused(DescriptorFault::Unsupported)),
         }
     }
 
     /// Takes what an element says.
-    fn add_field(
-        &mut self,
-        alloc: Global,
-        types: &TypeNames,
-        field: &Element,
-    ) -> Result<(), Refusal>
+    fn add_field(&mut self, alloc: Global, types: &TypeNames, field: &Element) -> FieldResult<()>
         ensures { AnswersField types.now (piece_of field.now) (said self.old) (said self.new) result }
     {
         let Some(special) = special_of(field.name()) else {
             return Ok(());
         };
         let Ok(value) = field.value(alloc) else {
-            return Err(Refusal::OutOfMemory);
+            return Err(OrMemory::OutOfMemory);
         };
         self.add(alloc, types, special, value.bytes())
     }
@@ -270,7 +265,7 @@ impl Descriptor {
         for field in fields {
             match descriptor.add_field(alloc, types, field) {
                 Ok(()) => {}
-                Err(refusal) => return Err(refusal.at_line(database.line_of(field.at))),
+                Err(refusal) => return Err(fault_at_line(refusal, database.line_of(field.at))),
             }
         }
         Ok(descriptor)

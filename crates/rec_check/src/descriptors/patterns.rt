@@ -1,9 +1,9 @@
 //! The patterns of a descriptor that are built so far.
 ghost use Rattle.rec_check.specs.proving.Kinds.{IsPatternFor};
 
-use crate::descriptors::refusal::Refusal;
+use crate::descriptors::descriptor_fault::{DescriptorFault, FieldResult};
 use rec_sex::pattern_of;
-use rec_text::Fault;
+use rec_text::{Fault, OrMemory};
 use regex::Regex;
 use std::alloc::Global;
 use std::collections::HashMap;
@@ -29,13 +29,13 @@ impl Model for Patterns {
 }
 
 /// The pattern of a text.
-fn built(alloc: Global, text: &str) -> Result<Regex, Refusal>
+fn built(alloc: Global, text: &str) -> FieldResult<Regex>
     ensures { IsPatternFor text.now result }
 {
     match pattern_of(alloc, text) {
         Ok(pattern) => Ok(pattern),
-        Err(Fault::BadPattern) => Err(Refusal::Pattern),
-        Err(_) => Err(Refusal::OutOfMemory),
+        Err(Fault::BadPattern) => Err(OrMemory::Refused(DescriptorFault::Pattern)),
+        Err(_) => Err(OrMemory::OutOfMemory),
     }
 }
 
@@ -53,7 +53,7 @@ impl Patterns {
     }
 
     /// The pattern of a text, which is built where that wasn't asked for before. What is refused isn't kept.
-    pub(crate) fn pattern_of(&mut self, alloc: Global, text: &str) -> Result<Rc<Regex>, Refusal>
+    pub(crate) fn pattern_of(&mut self, alloc: Global, text: &str) -> FieldResult<Rc<Regex>>
         ensures pattern { IsSharedPatternFor text.now result }
         ensures kept { OnOk result (is_among self.new text.now ≡ true) }
     {

@@ -6,13 +6,13 @@ ghost use Rattle.rec_check.specs.proving.Kinds.{IsKindIn};
 ghost use Rattle.rec_check.specs.Stored.{definition_stored, typing_stored};
 ghost use Rattle.rec_check.specs.Types.{IsDefinition, IsTyping, DefinitionMayBeRefused, TypeMayBeRefused, definition_of, typing_of};
 
+use crate::descriptors::descriptor_fault::{DescriptorFault, FieldResult};
 use crate::descriptors::patterns::Patterns;
-use crate::descriptors::refusal::Refusal;
 use crate::descriptors::words::split_word;
 use crate::field_types::definition::Definition;
 use crate::field_types::field_type::{FieldType, Typing};
 use crate::field_types::kind::type_of_kind;
-use rec_text::{Bytes, is_field_name, is_plain_name};
+use rec_text::{Bytes, OrMemory, is_field_name, is_plain_name};
 use std::alloc::{AllocError, Global};
 
 /// Copies of what stands between commas.
@@ -33,38 +33,30 @@ fn are_names(names: &[Bytes]) -> bool
 }
 
 /// The kind that comes first, and its type, with the words of it that stand after.
-fn kind_in(
-    alloc: Global,
-    patterns: &mut Patterns,
-    text: &[u8],
-) -> Result<(Bytes, FieldType), Refusal>
+fn kind_in(alloc: Global, patterns: &mut Patterns, text: &[u8]) -> FieldResult<(Bytes, FieldType)>
     ensures { IsKindIn text.now result }
 {
     let Some((kind, following)) = split_word(text) else {
-        return Err(Refusal::Bad);
+        return Err(OrMemory::Refused(DescriptorFault::Bad));
     };
     let value_type = type_of_kind(alloc, patterns, kind, following)?;
     Ok((Bytes::copy_of(alloc, kind)?, value_type))
 }
 
 /// The names, the kind and the type that the value of a `%type` field gives.
-pub(crate) fn typing_in(
-    alloc: Global,
-    patterns: &mut Patterns,
-    value: &[u8],
-) -> Result<Typing, Refusal>
+pub(crate) fn typing_in(alloc: Global, patterns: &mut Patterns, value: &[u8]) -> FieldResult<Typing>
     ensures found { IfOk result (λ typing. IsTyping value.now (typing_stored typing)) }
-    ensures bad { IsErrOf result Refusal.Bad → typing_of value.now ≡ None }
-    ensures pattern { IsErrOf result Refusal.Pattern → TypeMayBeRefused value.now }
-    ensures refusals { IfErr result (λ refusal. (refusal ≡ Refusal.Bad)
-        ⊎ ((refusal ≡ Refusal.Pattern) ⊎ (refusal ≡ Refusal.OutOfMemory))) }
+    ensures bad { IsErrOf result (OrMemory.Refused DescriptorFault.Bad) → typing_of value.now ≡ None }
+    ensures pattern { IsErrOf result (OrMemory.Refused DescriptorFault.Pattern) → TypeMayBeRefused value.now }
+    ensures refusals { IfErr result (λ refusal. (refusal ≡ OrMemory.Refused DescriptorFault.Bad)
+        ⊎ ((refusal ≡ OrMemory.Refused DescriptorFault.Pattern) ⊎ (refusal ≡ OrMemory.OutOfMemory))) }
 {
     let Some((joined, following)) = split_word(value) else {
-        return Err(Refusal::Bad);
+        return Err(OrMemory::Refused(DescriptorFault::Bad));
     };
     let names = split_names(alloc, joined)?;
     if !are_names(&names) {
-        return Err(Refusal::Bad);
+        return Err(OrMemory::Refused(DescriptorFault::Bad));
     }
     let (kind, value_type) = kind_in(alloc, patterns, following)?;
     Ok(Typing {
@@ -79,18 +71,18 @@ pub(crate) fn definition_in(
     alloc: Global,
     patterns: &mut Patterns,
     value: &[u8],
-) -> Result<Definition, Refusal>
+) -> FieldResult<Definition>
     ensures found { IfOk result (λ definition. IsDefinition value.now (definition_stored definition)) }
-    ensures bad { IsErrOf result Refusal.Bad → definition_of value.now ≡ None }
-    ensures pattern { IsErrOf result Refusal.Pattern → DefinitionMayBeRefused value.now }
-    ensures refusals { IfErr result (λ refusal. (refusal ≡ Refusal.Bad)
-        ⊎ ((refusal ≡ Refusal.Pattern) ⊎ (refusal ≡ Refusal.OutOfMemory))) }
+    ensures bad { IsErrOf result (OrMemory.Refused DescriptorFault.Bad) → definition_of value.now ≡ None }
+    ensures pattern { IsErrOf result (OrMemory.Refused DescriptorFault.Pattern) → DefinitionMayBeRefused value.now }
+    ensures refusals { IfErr result (λ refusal. (refusal ≡ OrMemory.Refused DescriptorFault.Bad)
+        ⊎ ((refusal ≡ OrMemory.Refused DescriptorFault.Pattern) ⊎ (refusal ≡ OrMemory.OutOfMemory))) }
 {
     let Some((name, following)) = split_word(value) else {
-        return Err(Refusal::Bad);
+        return Err(OrMemory::Refused(DescriptorFault::Bad));
     };
     if !is_plain_name(name) {
-        return Err(Refusal::Bad);
+        return Err(OrMemory::Refused(DescriptorFault::Bad));
     }
     let (kind, value_type) = kind_in(alloc, patterns, following)?;
     let name = Bytes::copy_of(alloc, name)?;

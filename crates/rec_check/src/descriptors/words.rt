@@ -15,8 +15,8 @@ pub(crate) fn strip(text: &[u8]) -> &[u8]
 
 /// The first word of a text, and what follows it.
 pub(crate) fn split_word(text: &[u8]) -> Option<(&[u8], &[u8])>
-    ensures { MatchOption result (words text.now ≡ []) (λ (word, following). (words text.now ≡ word.now ∷ words following.now)
-        × (following.now ≡ after_first_word text.now)) }
+    ensures { MatchOption result (words text.now ≡ []) (λ (word, following).
+        (words text.now ≡ word.now ∷ words following.now) × (following.now ≡ after_first_word text.now)) }
 {
     let found = BlankOrNewline.trim_start(text);
     if found.is_empty() {

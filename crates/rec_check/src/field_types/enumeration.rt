@@ -5,10 +5,10 @@ ghost use Rattle.rec_check.specs.proving.Kinds.{IsTypeOf};
 ghost use Rattle.rec_check.specs.Types.{continues_item as may_continue, is_item as may_be_item, without_comments, enum_of};
 ghost use Rattle.rec_check.specs.Words.{words};
 
-use crate::descriptors::refusal::Refusal;
+use crate::descriptors::descriptor_fault::{DescriptorFault, FieldResult};
 use crate::descriptors::words::words_of;
 use crate::field_types::field_type::FieldType;
-use rec_text::Bytes;
+use rec_text::{Bytes, OrMemory};
 use std::alloc::{AllocError, Global};
 
 fn continues_item(byte: u8) -> bool
@@ -61,15 +61,15 @@ fn without_comments(alloc: Global, text: &[u8]) -> Result<Option<Vec<u8>>, Alloc
 }
 
 /// The type of one of some words.
-pub(crate) fn enum_type(alloc: Global, text: &[u8]) -> Result<FieldType, Refusal>
+pub(crate) fn enum_type(alloc: Global, text: &[u8]) -> FieldResult<FieldType>
     ensures { IsTypeOf (option_and_then (λ kept. enum_of (words kept)) (without_comments text.now)) result }
 {
     let Some(kept) = without_comments(alloc, text)? else {
-        return Err(Refusal::Bad);
+        return Err(OrMemory::Refused(DescriptorFault::Bad));
     };
     let items = words_of(alloc, &kept)?;
     if items.is_empty() || !are_items(&items) {
-        return Err(Refusal::Bad);
+        return Err(OrMemory::Refused(DescriptorFault::Bad));
     }
     Ok(FieldType::OneOf(items))
 }

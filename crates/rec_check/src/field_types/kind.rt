@@ -5,14 +5,15 @@ ghost use Rattle.rec_check.specs.Stored.{type_stored};
 ghost use Rattle.rec_check.specs.Types.{FieldType as WrittenType, range, size, natural_of, alone, bound_of, range_of, size_type_of, type_of_known, type_of_kind, IsBuilt};
 ghost use Rattle.rec_check.specs.Words.{words};
 
+use crate::descriptors::descriptor_fault::{DescriptorFault, FieldResult};
 use crate::descriptors::patterns::Patterns;
-use crate::descriptors::refusal::Refusal;
 use crate::descriptors::words::split_word;
 use crate::field_types::enumeration::enum_type;
 use crate::field_types::field_type::FieldType;
 use crate::field_types::known_kind::KnownKind;
 use crate::field_types::regexp::regexp_type;
 use rec_sex::int_of;
+use rec_text::OrMemory;
 use std::alloc::Global;
 
 /// An integer that isn't negative.
@@ -63,31 +64,31 @@ fn number_in(text: &[u8]) -> Option<u64>
 }
 
 /// A type without words of its own.
-fn alone(text: &[u8], value_type: FieldType) -> Result<FieldType, Refusal>
+fn alone(text: &[u8], value_type: FieldType) -> FieldResult<FieldType>
     ensures { (written : WrittenType (List ℕ)) → IsBuilt written (type_stored value_type)
         → IsTypeOf (alone (words text.now) written) result }
 {
     if split_word(text).is_some() {
-        return Err(Refusal::Bad);
+        return Err(OrMemory::Refused(DescriptorFault::Bad));
     }
     Ok(value_type)
 }
 
-fn range_type(text: &[u8]) -> Result<FieldType, Refusal>
+fn range_type(text: &[u8]) -> FieldResult<FieldType>
     ensures { IsTypeOf (range_of (words text.now)) result }
 {
     match ends_in(text) {
         Some((least, greatest)) => Ok(FieldType::Range(least, greatest)),
-        None => Err(Refusal::Bad),
+        None => Err(OrMemory::Refused(DescriptorFault::Bad)),
     }
 }
 
-fn size_type(text: &[u8]) -> Result<FieldType, Refusal>
+fn size_type(text: &[u8]) -> FieldResult<FieldType>
     ensures { IsTypeOf (size_type_of (words text.now)) result }
 {
     match number_in(text) {
         Some(most) => Ok(FieldType::Size(most)),
-        None => Err(Refusal::Bad),
+        None => Err(OrMemory::Refused(DescriptorFault::Bad)),
     }
 }
 
@@ -97,7 +98,7 @@ fn type_of_known(
     patterns: &mut Patterns,
     kind: KnownKind,
     text: &[u8],
-) -> Result<FieldType, Refusal>
+) -> FieldResult<FieldType>
     ensures { IsTypeOf (type_of_known kind text.now) result }
 {
     match kind {
@@ -118,7 +119,7 @@ pub(crate) fn type_of_kind(
     patterns: &mut Patterns,
     kind: &[u8],
     text: &[u8],
-) -> Result<FieldType, Refusal>
+) -> FieldResult<FieldType>
     ensures { IsTypeOf (type_of_kind kind.now text.now) result }
 {
     match KnownKind::of(kind) {

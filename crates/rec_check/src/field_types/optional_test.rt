@@ -19,7 +19,8 @@ impl<'r> OptionalTest<'r> {
     ghost use Rattle.rec_check.specs.Types.{fits, unchecked};
 
     pub(crate) fn of(value_type: Option<&'r FieldType>) -> OptionalTest<'r>
-        ensures { type_tested result ≡ unwrap_or (option_map (λ value_type. type_stored value_type.now) value_type.entry) unchecked }
+        ensures { type_tested result
+            ≡ unwrap_or (option_map (λ value_type. type_stored value_type.now) value_type.entry) unchecked }
     {
         match value_type {
             Some(value_type) => OptionalTest {

@@ -8,7 +8,10 @@ use Rattle.rec_check.specs.declared.set.Set_.{Set_}
 -- the descriptors of the sets stand in order, from this index on and below the size
 abbrev pub HeadsFrom : ℕ → ℕ → List Set_ → Type 0
 HeadsFrom size at [] = at ≤ size
-HeadsFrom size at (s ∷ sets) = elim s.head [ None ↦ HeadsFrom size at sets | Some head ↦ (at ≤ head) × HeadsFrom size (head + 1) sets ]
+HeadsFrom size at (s ∷ sets) = elim s.head [
+  | None ↦ HeadsFrom size at sets
+  | Some head ↦ (at ≤ head) × HeadsFrom size (head + 1) sets
+]
 
 -- the descriptors of the sets are records of the text, in order
 abbrev pub AreHeads : List Piece → List Set_ → Type 0

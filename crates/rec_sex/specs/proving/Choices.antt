@@ -47,7 +47,8 @@ patterns_of matchers = map matcher_pattern matchers
 -- a name that occurs more than once and has no chosen occurrence comes after the others, unless it is among them
 abbrev pub with_repeated : List Piece → List NameChoice → List (List ℕ) → List ℕ → List (List ℕ)
 with_repeated pieces entries names name =
-    if (nat_lt 1 (length (values_of name pieces)) && not (is_chosen entries name)) && not (is_among names name) then names ++ name ∷ [] else names
+    if (nat_lt 1 (length (values_of name pieces)) && not (is_chosen entries name)) && not (is_among names name)
+    then names ++ name ∷ [] else names
 
 -- the names for which an expression still has to choose among several occurrences, after these
 abbrev pub repeated_names : List Piece → List NameChoice → List (List ℕ) → Tree → List (List ℕ)
@@ -58,7 +59,8 @@ repeated_names pieces entries names (Occurrence name i) = names
 repeated_names pieces entries names (Count name) = names
 repeated_names pieces entries names (Not' p a) = repeated_names pieces entries names a
 repeated_names pieces entries names (Negate' p a) = repeated_names pieces entries names a
-repeated_names pieces entries names (Binary' op p a q b) = repeated_names pieces entries (repeated_names pieces entries names a) b
+repeated_names pieces entries names (Binary' op p a q b) =
+    repeated_names pieces entries (repeated_names pieces entries names a) b
 repeated_names pieces entries names (Found' p a i) = repeated_names pieces entries names a
 repeated_names pieces entries names (Conditional' p c q a r b) =
     repeated_names pieces entries (repeated_names pieces entries (repeated_names pieces entries names c) a) b
@@ -74,7 +76,8 @@ has_repeated pieces (Not' p a) = has_repeated pieces a
 has_repeated pieces (Negate' p a) = has_repeated pieces a
 has_repeated pieces (Binary' op p a q b) = has_repeated pieces a || has_repeated pieces b
 has_repeated pieces (Found' p a i) = has_repeated pieces a
-has_repeated pieces (Conditional' p c q a r b) = (has_repeated pieces c || has_repeated pieces a) || has_repeated pieces b
+has_repeated pieces (Conditional' p c q a r b) =
+    (has_repeated pieces c || has_repeated pieces a) || has_repeated pieces b
 
 -- how often a name stands at one place: once where it is the name there
 abbrev pub places_here : List ℕ → List ℕ → ℕ
@@ -97,9 +100,12 @@ places_of name (Conditional' p c q a r b) = (places_of name c + places_of name a
 abbrev pub has_name : {S : Type 0} → HashSet (Bor (List ℕ)) S → List ℕ → Bool
 has_name names name = contains_by (λ one. bytes_eq name one.now) names
 
--- the sets have the names that stand once or more, and those that stand twice or more, where each name stands this often
+-- the sets have the names that stand once or more, and those that stand twice or more,
+-- where each name stands this often
 abbrev pub StandThisOften : (List ℕ → ℕ) → NamesFound → Type 0
-StandThisOften places names = (name : List ℕ) → (has_name names.once name ≡ nat_lt 0 (places name)) × (has_name names.again name ≡ nat_lt 1 (places name))
+StandThisOften places names =
+    (name : List ℕ) → (has_name names.once name ≡ nat_lt 0 (places name))
+    × (has_name names.again name ≡ nat_lt 1 (places name))
 
 -- the set has the names that stand in an expression more than once
 abbrev pub AreShared : {S : Type 0} → HashSet (Bor (List ℕ)) S → Tree → Type 0
@@ -122,7 +128,8 @@ any_choice test pieces (name ∷ names) entries =
 
 -- the expression is true with some occurrence of the name, and with the first one of the others
 abbrev pub holds_for_some : Term → List Piece → List ℕ → Bool
-holds_for_some term pieces name = any_below (length (values_of name pieces)) (λ i. is_true (sem term pieces (chosen_in ((name, i) ∷ []))))
+holds_for_some term pieces name =
+    any_below (length (values_of name pieces)) (λ i. is_true (sem term pieces (chosen_in ((name, i) ∷ []))))
 
 -- the patterns of each number are found in the same texts
 abbrev pub FindAlike : List Re → List Re → Type 0

@@ -10,7 +10,8 @@ use Rattle.rec_sex.specs.Grammar.{Want, Opened, Parenthesis, Question, Walk, fol
 abbrev pub index_at : List ℕ → Option (ℕ × ℕ)
 index_at text =
     let digits = take_while is_ascii_digit text in
-    if length digits == 0 || nat_lt greatest (decimal_number digits) then None else Some (decimal_number digits, length digits)
+    if length digits == 0 || nat_lt greatest (decimal_number digits) then None
+    else Some (decimal_number digits, length digits)
 
 -- the byte that a literal goes on with, and how many bytes write it
 abbrev pub literal_byte : List ℕ → ℕ × ℕ
@@ -45,4 +46,5 @@ IsWalkStep before token false after = following before token ≡ None
 -- the walk after a token that closes what was opened last, if it was this
 abbrev pub after_closed : Opened → Want → List Opened → Option Walk
 after_closed opened want [] = None
-after_closed opened want (last ∷ stack) = if is_opened opened last then Some (record { want = want; stack = stack }) else None
+after_closed opened want (last ∷ stack) =
+    if is_opened opened last then Some (record { want = want; stack = stack }) else None

@@ -97,16 +97,18 @@ outcomes_over term pieces (name ∷ names) entries =
 
 -- the same for all names of the expression that have no entry
 abbrev pub outcomes_of_part : List Re → List Piece → List NameChoice → Tree → Outcomes
-outcomes_of_part patterns pieces entries tree = outcomes_over (term_under patterns tree) pieces (repeated_names pieces entries [] tree) entries
+outcomes_of_part patterns pieces entries tree =
+    outcomes_over (term_under patterns tree) pieces (repeated_names pieces entries [] tree) entries
 
 -- the same, where a connective's operands are looked at apart
 abbrev pub outcomes_in : List Re → List Piece → List NameChoice → Tree → Outcomes
 outcomes_in patterns pieces entries (Not' p a) = inverse_of (outcomes_in patterns pieces entries a)
 outcomes_in patterns pieces entries (Binary' op p a q b) =
-    if is_connective op then joined_by op (outcomes_in patterns pieces entries a) (outcomes_in patterns pieces entries b)
+    if is_connective op
+    then joined_by op (outcomes_in patterns pieces entries a) (outcomes_in patterns pieces entries b)
     else outcomes_of_part patterns pieces entries (Binary' op p a q b)
-outcomes_in patterns pieces entries (Conditional' p c q a r b) =
-    branch_of (outcomes_in patterns pieces entries c) (outcomes_in patterns pieces entries a) (outcomes_in patterns pieces entries b)
+outcomes_in patterns pieces entries (Conditional' p c q a r b) = branch_of (outcomes_in patterns pieces entries c)
+    (outcomes_in patterns pieces entries a) (outcomes_in patterns pieces entries b)
 outcomes_in patterns pieces entries tree = outcomes_of_part patterns pieces entries tree
 
 -- with these entries the expression can hold

@@ -61,11 +61,14 @@ AreBuiltFrom (text ∷ texts) [] = ⊥
 
 -- each of the texts stands after a `~`
 abbrev pub AreAmong : List Token → List (List ℕ) → Type 0
-AreAmong tokens texts = AllByRecursion (λ text. (prefix rest : List Token) × (tokens ≡ prefix ++ Found ∷ (Literal text ∷ rest)) × (is_utf8 text ≡ true)) texts
+AreAmong tokens texts = AllByRecursion
+    (λ text. (prefix rest : List Token) × (tokens ≡ prefix ++ Found ∷ (Literal text ∷ rest)) × (is_utf8 text ≡ true))
+    texts
 
 -- each text's pattern has the text's number
 abbrev pub AreNumbered : List (List ℕ) → List Regex → Type 0
-AreNumbered texts patterns = (i : ℕ) → i < length texts → IsPatternOf (slice_index_or texts i []) (pattern_at (map regex_pattern patterns) i)
+AreNumbered texts patterns =
+    (i : ℕ) → i < length texts → IsPatternOf (slice_index_or texts i []) (pattern_at (map regex_pattern patterns) i)
 
 -- the tokens up to the rest are taken, and the texts of their patterns stand after those of before
 pub record Passes (tokens rest : List Token) (texts more : List (List ℕ)) : Type 0 where
@@ -77,14 +80,16 @@ pub record Passes (tokens rest : List Token) (texts more : List (List ℕ)) : Ty
 -- the tree is that of the tokens up to the rest, which are an expression of this level
 pub record IsTree (level : ℕ) (tokens rest : List Token) (texts more : List (List ℕ)) (tree : Tree) : Type 0 where
   pub passes : Passes tokens rest texts more
-  pub derived : (patterns : List Regex) → AreNumbered more patterns → Derives level passes.used (term_with patterns tree)
+  pub derived : (patterns : List Regex) → AreNumbered more patterns
+      → Derives level passes.used (term_with patterns tree)
   pub goes_on : (stack : List Opened) → takes_from Operand stack tokens ≡ true → takes_from Infix stack rest ≡ true
 
 -- the tree is that of the left operand and of the operator and right operand up to the rest
 pub record Extends (tokens rest : List Token) (texts more : List (List ℕ)) (left tree : Tree) : Type 0 where
   pub passes : Passes tokens rest texts more
   pub derived : (patterns : List Regex) → AreNumbered more patterns → (prefix : List Token)
-      → Derives (left_level (level_at tokens)) prefix (term_with patterns left) → Derives (level_at tokens) (prefix ++ passes.used) (term_with patterns tree)
+      → Derives (left_level (level_at tokens)) prefix (term_with patterns left)
+      → Derives (level_at tokens) (prefix ++ passes.used) (term_with patterns tree)
   pub goes_on : (stack : List Opened) → takes_from Infix stack tokens ≡ true → takes_from Infix stack rest ≡ true
   pub stops : level_at rest < right_level (level_at tokens)
   pub shorter : length rest < length tokens
@@ -95,7 +100,8 @@ pub record IsFoundTree (tokens rest : List Token) (texts more : List (List ℕ))
   pub parts : tokens ≡ Literal text ∷ rest
   pub utf8 : is_utf8 text ≡ true
   pub collected : more ≡ texts ++ text ∷ []
-  pub term : (patterns : List Regex) → term_with patterns tree ≡ found (term_with patterns operand) (pattern_at (map regex_pattern patterns) (length texts))
+  pub term : (patterns : List Regex) → term_with patterns tree
+      ≡ found (term_with patterns operand) (pattern_at (map regex_pattern patterns) (length texts))
 
 -- the tree is that of the tokens up to the rest, some level at least this strong, and no stronger operator follows
 pub record IsBoundAbove (level : ℕ) (tokens rest : List Token) (texts more : List (List ℕ)) (tree : Tree) : Type 0 where
@@ -109,12 +115,15 @@ pub record IsBoundAbove (level : ℕ) (tokens rest : List Token) (texts more : L
 
 -- it takes the tokens of an expression of this level, and the tree is that expression's
 abbrev pub Reads : ℕ → Parser → Parser → Tree → Type 0
-Reads level before after tree = IsTree level before.rest.items after.rest.items before.patterns.items after.patterns.items tree
+Reads level before after tree =
+    IsTree level before.rest.items after.rest.items before.patterns.items after.patterns.items tree
 
 -- it takes an operator and its right operand, and the tree is that of both operands
 abbrev pub ReadsMore : Parser → Parser → Tree → Tree → Type 0
-ReadsMore before after left tree = Extends before.rest.items after.rest.items before.patterns.items after.patterns.items left tree
+ReadsMore before after left tree =
+    Extends before.rest.items after.rest.items before.patterns.items after.patterns.items left tree
 
 -- it takes a pattern, and the tree looks for it
 abbrev pub ReadsPattern : Parser → Parser → Tree → Tree → Type 0
-ReadsPattern before after operand tree = IsFoundTree before.rest.items after.rest.items before.patterns.items after.patterns.items operand tree
+ReadsPattern before after operand tree =
+    IsFoundTree before.rest.items after.rest.items before.patterns.items after.patterns.items operand tree

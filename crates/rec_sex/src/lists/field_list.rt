@@ -8,11 +8,11 @@ ghost use Rattle.rec_sex.specs.proving.FieldItems.{is_meant, BeginsName, Closes,
 ghost use Rattle.rec_sex.specs.proving.ItemStarts.{Covers};
 
 use crate::lists::index_list::{Span, ends_item, leading_span};
-use crate::lists::joined::{ListItem, Unread, items_of};
+use crate::lists::joined::{ListItem, items_of};
 use crate::lists::picking::picked_by_name;
 use crate::lists::starts::starts_of;
 use crate::syntax::lexeme::word_at;
-use rec_text::{Bytes, Element, Fault};
+use rec_text::{Bytes, Element, Fault, OrMemory};
 use std::alloc::{AllocError, Global};
 use std::collections::HashMap;
 use std::marker::Model;
@@ -126,8 +126,8 @@ impl ListItem for Item {
 
     ghost is_fault = { IsItemFault };
 
-    fn leading(alloc: Global, text: &[u8]) -> Result<(Item, &[u8]), Unread> {
-        let (name, occurrences, rest) = leading_item(text).map_err(Unread::FaultAt)?;
+    fn leading(alloc: Global, text: &[u8]) -> Result<(Item, &[u8]), OrMemory<usize>> {
+        let (name, occurrences, rest) = leading_item(text).map_err(OrMemory::Refused)?;
         let name = Bytes::copy_of(alloc, name)?;
         Ok((Item { name, occurrences }, rest))
     }
@@ -204,8 +204,8 @@ impl FieldList {
                 let starts = starts_of_many(alloc, &items)?;
                 Ok(FieldList { items, starts })
             }
-            Err(Unread::FaultAt(at)) => Err(Fault::BadFieldList { at }),
-            Err(Unread::OutOfMemory) => Err(Fault::OutOfMemory),
+            Err(OrMemory::Refused(at)) => Err(Fault::BadFieldList { at }),
+            Err(OrMemory::OutOfMemory) => Err(Fault::OutOfMemory),
         }
     }
 

@@ -7,8 +7,8 @@ ghost use Rattle.rec_sex.specs.IndexList.{decimal_number, greatest, begins_with,
 ghost use Rattle.rec_sex.specs.Joined.{ends_item};
 ghost use Rattle.rec_sex.specs.proving.IndexItems.{BeginsIndex, BeginsSpan, AreSorted, reach_from};
 
-use crate::lists::joined::{ListItem, Unread, items_of};
-use rec_text::Fault;
+use crate::lists::joined::{ListItem, items_of};
+use rec_text::{Fault, OrMemory};
 use std::alloc::{AllocError, Global};
 use std::marker::Model;
 
@@ -119,10 +119,10 @@ impl ListItem for Span {
 
     ghost is_fault = { IsItemFault };
 
-    fn leading(_alloc: Global, text: &[u8]) -> Result<(Span, &[u8]), Unread> {
-        let (span, rest) = leading_span(text).map_err(Unread::FaultAt)?;
+    fn leading(_alloc: Global, text: &[u8]) -> Result<(Span, &[u8]), OrMemory<usize>> {
+        let (span, rest) = leading_span(text).map_err(OrMemory::Refused)?;
         if !ends_item(rest) {
-            return Err(Unread::FaultAt(text.len() - rest.len()));
+            return Err(OrMemory::Refused(text.len() - rest.len()));
         }
         Ok((span, rest))
     }
@@ -171,8 +171,8 @@ impl IndexList {
                 let sorted = sorted_spans(alloc, &spans)?;
                 Ok(IndexList { spans, sorted })
             }
-            Err(Unread::FaultAt(at)) => Err(Fault::BadIndexList { at }),
-            Err(Unread::OutOfMemory) => Err(Fault::OutOfMemory),
+            Err(OrMemory::Refused(at)) => Err(Fault::BadIndexList { at }),
+            Err(OrMemory::OutOfMemory) => Err(Fault::OutOfMemory),
         }
     }
 

@@ -1,4 +1,5 @@
--- The maximal runs of a test, and a range without its ends that fail it, made index by index from the last to the first.
+-- The maximal runs of a test, and a range without its ends that fail it,
+-- made index by index from the last to the first.
 use Rattle.std.specs.Prelude.{◌≡◌, ℕ, ◌+◌, ◌-◌, ◌<◌, ◌≤◌, Bool, true, false, List, [], ◌∷◌, ◌==◌, if◌then◌else◌, Option, Some, None, suc, zero}
 use Rattle.std.specs.List.{filter_map}
 use Rattle.std.specs.declared.ops.Range.{Range}
@@ -21,7 +22,8 @@ extended i (run ∷ runs) = if run.start == i + 1 then range i run.end ∷ runs 
 -- the maximal runs among this many indexes from i on
 unfoldable pub runs_from : (ℕ → Bool) → ℕ → ℕ → List (Range ℕ)
 runs_from test i zero = []
-runs_from test i (suc count) = if test i then extended i (runs_from test (i + 1) count) else runs_from test (i + 1) count
+runs_from test i (suc count) =
+    if test i then extended i (runs_from test (i + 1) count) else runs_from test (i + 1) count
 
 -- the maximal runs from i on, below the size
 abbrev pub runs_to : (ℕ → Bool) → ℕ → ℕ → List (Range ℕ)

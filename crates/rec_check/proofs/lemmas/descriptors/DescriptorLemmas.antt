@@ -20,8 +20,10 @@ use Rattle.rec_text.specs.Values.{value_of}
 use Rattle.rec_text.proofs.lemmas.ListLemmas.{AllByRecursion-slice_get, slice_get-take}
 use Rattle.rec_sex.specs.Expressions.{IsExpression}
 use Rattle.rec_sex.specs.Meaning.{values_of}
-use Rattle.rec_check.specs.declared.descriptors.refusal.Refusal.{Refusal}
-use Rattle.rec_check.specs.declared.descriptors.refusal.Refusal.TheVariants.{Bad, Unsupported as NotSupported, Pattern, OutOfMemory}
+use Rattle.rec_text.specs.declared.or_memory.OrMemory.{OrMemory}
+use Rattle.rec_check.specs.declared.descriptors.descriptor_fault.DescriptorFault.{DescriptorFault}
+use Rattle.rec_text.specs.declared.or_memory.OrMemory.TheVariants.{Refused, OutOfMemory}
+use Rattle.rec_check.specs.declared.descriptors.descriptor_fault.DescriptorFault.TheVariants.{Bad, Unsupported as NotSupported, Pattern}
 use Rattle.rec_check.specs.declared.descriptors.special.Special.{Special}
 use Rattle.rec_check.specs.declared.descriptors.special.Special.TheVariants.{Rec, Key, Mandatory, Prohibit, Unique, Singular, Allowed, Auto, Typed, Typedef, Size, Constraint, Confidential}
 use Rattle.rec_check.specs.Descriptors.{Flaw, bad, unsupported, bad_unless, bound_in, first_word, is_one_name, rec_flaw, rec_name, special_flaw, special_of, type_of}
@@ -29,7 +31,7 @@ use Rattle.rec_check.specs.proving.Reading.{Said, Adds, AddsOf, AddsField, Answe
 use Rattle.rec_check.specs.Rules.{Rules, AreRules, names_in}
 use Rattle.rec_check.specs.Schemas.{FieldIsBuilt}
 use Rattle.rec_check.specs.proving.Flaws.{FieldIsRead, element_flaw, field_flaw}
-use Rattle.rec_check.specs.Stored.{fault_of}
+use Rattle.rec_check.specs.Stored.{fault_at_line}
 use Rattle.rec_check.specs.Types.{IsDefinition, IsTyping}
 use Rattle.rec_check.specs.Words.{words}
 use Rattle.rec_text.specs.Bytes.{is_among}
@@ -515,10 +517,10 @@ module _ (named : List (List ℕ)) (fields : List Piece) (i : ℕ) (said : Said)
         number = line_is;
       }
 
-      is_read_fault : (refusal : Refusal) → AnswersField named piece said more (Err refusal) → IsMemoryOr (fault_of refusal line) (IsRead text named elements (Err (fault_of refusal line)))
-      is_read_fault Bad told = has_flaw bad told
-      is_read_fault NotSupported told = has_flaw unsupported told
-      is_read_fault Pattern told = record {
+      is_read_fault : (refusal : OrMemory DescriptorFault) → AnswersField named piece said more (Err refusal) → IsMemoryOr (fault_at_line refusal line) (IsRead text named elements (Err (fault_at_line refusal line)))
+      is_read_fault (Refused Bad) told = has_flaw bad told
+      is_read_fault (Refused NotSupported) told = has_flaw unsupported told
+      is_read_fault (Refused Pattern) told = record {
         at = i;
         first = λ k less. subst (λ fs. FieldIsRead named fs k) elements_are (read_before k less);
         sound = ap (λ fs. field_flaw named fs i) (sym elements_are) ∙ field_flaw-met ∙ told.0;
@@ -528,7 +530,7 @@ module _ (named : List (List ℕ)) (fields : List Piece) (i : ℕ) (said : Said)
       }
       is_read_fault OutOfMemory told = tt
 
-      pub read_fault : (refusal : Refusal) (fault : Fault) → fault ≡ fault_of refusal line → AnswersField named piece said more (Err refusal) → IsMemoryOr fault (IsRead text named elements (Err fault))
+      pub read_fault : (refusal : OrMemory DescriptorFault) (fault : Fault) → fault ≡ fault_at_line refusal line → AnswersField named piece said more (Err refusal) → IsMemoryOr fault (IsRead text named elements (Err fault))
       read_fault refusal fault is told =
           let P : Fault → Type 0 = λ f. IsMemoryOr f (IsRead text named elements (Err f)) in
           subst P (sym is) (is_read_fault refusal told)

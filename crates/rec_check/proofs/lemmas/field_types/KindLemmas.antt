@@ -3,8 +3,10 @@ use Rattle.std.proofs.Common.{◌≡◌, ◌∙◌, ℕ, ◌<◌, ◌==◌, true
 use Rattle.std.specs.List.{list_all, slice_split}
 use Rattle.std.specs.Option.{option_and_then, option_map}
 use Rattle.rec_text.specs.Canonical.{is_field_name, is_plain_name}
-use Rattle.rec_check.specs.declared.descriptors.refusal.Refusal.{Refusal}
-use Rattle.rec_check.specs.declared.descriptors.refusal.Refusal.TheVariants.{Bad, Unsupported, Pattern, OutOfMemory}
+use Rattle.rec_text.specs.declared.or_memory.OrMemory.{OrMemory}
+use Rattle.rec_check.specs.declared.descriptors.descriptor_fault.DescriptorFault.{DescriptorFault}
+use Rattle.rec_text.specs.declared.or_memory.OrMemory.TheVariants.{Refused, OutOfMemory}
+use Rattle.rec_check.specs.declared.descriptors.descriptor_fault.DescriptorFault.TheVariants.{Bad, Unsupported, Pattern}
 use Rattle.rec_check.specs.proving.Kinds.{IsKindIn, IsTypeOf}
 use Rattle.rec_check.specs.Types.{FieldType, DefinitionMayBeRefused, Written, WrittenDefinition, one_of, definition_of, is_item, without_comments, enum_of, kind_of, names_of, type_of_kind, typing_of}
 use Rattle.rec_check.specs.Words.{words, after_first_word}
@@ -30,10 +32,10 @@ module _ (text kind rest : List ℕ) (first : words text ≡ kind ∷ words rest
   pub kind_of-parts : kind_of text ≡ option_map (λ value_type. (kind, value_type)) (type_of_kind kind rest)
   kind_of-parts = ap kind_by first ∙ ap (λ following. option_map (λ value_type. (kind, value_type)) (type_of_kind kind following)) (sym rest_is)
 
-  pub kind_refused : (refusal : Refusal) → IsTypeOf (type_of_kind kind rest) (Err refusal) → IsKindIn text (Err refusal)
-  kind_refused Bad told = kind_of-parts ∙ ap (option_map (λ value_type. (kind, value_type))) told
-  kind_refused Unsupported told = told
-  kind_refused Pattern (pattern, written, refused) = (kind, pattern, kind_of-parts ∙ ap (option_map (λ value_type. (kind, value_type))) written, refused)
+  pub kind_refused : (refusal : OrMemory DescriptorFault) → IsTypeOf (type_of_kind kind rest) (Err refusal) → IsKindIn text (Err refusal)
+  kind_refused (Refused Bad) told = kind_of-parts ∙ ap (option_map (λ value_type. (kind, value_type))) told
+  kind_refused (Refused Unsupported) told = told
+  kind_refused (Refused Pattern) (pattern, written, refused) = (kind, pattern, kind_of-parts ∙ ap (option_map (λ value_type. (kind, value_type))) written, refused)
   kind_refused OutOfMemory told = tt
 
 -- a field whose first word gives these names
@@ -67,8 +69,8 @@ module _ (value name following : List ℕ) (first : words value ≡ name ∷ wor
   definition_of-parts =
       ap definition_by first ∙ ap (λ text. cond (is_plain_name name) (option_map (λ (kind, value_type). record { name = name; kind = kind; value_type = value_type }) (kind_of text)) None) (sym following_is)
 
-  pub refused_definition : (refusal : Refusal) → is_plain_name name ≡ true → IsKindIn following (Err refusal) → refusal ≡ Pattern → DefinitionMayBeRefused value
-  refused_definition Pattern plain (kind, pattern, written, refused) is = (
+  pub refused_definition : (refusal : OrMemory DescriptorFault) → is_plain_name name ≡ true → IsKindIn following (Err refusal) → refusal ≡ Refused Pattern → DefinitionMayBeRefused value
+  refused_definition (Refused Pattern) plain (kind, pattern, written, refused) is = (
     name,
     kind,
     pattern,

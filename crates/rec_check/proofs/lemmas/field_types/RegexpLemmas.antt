@@ -9,8 +9,10 @@ use Rattle.regex.specs.declared.string.regex.Regex.{Regex}
 use Rattle.regex.specs.Strings.{regex_pattern}
 use Rattle.rec_sex.specs.Patterns.{IsBuiltFrom}
 use Rattle.rec_check.specs.declared.field_types.field_type.FieldType.{FieldType as StoredType}
-use Rattle.rec_check.specs.declared.descriptors.refusal.Refusal.{Refusal}
-use Rattle.rec_check.specs.declared.descriptors.refusal.Refusal.TheVariants.{Bad, Unsupported, Pattern, OutOfMemory}
+use Rattle.rec_text.specs.declared.or_memory.OrMemory.{OrMemory}
+use Rattle.rec_check.specs.declared.descriptors.descriptor_fault.DescriptorFault.{DescriptorFault}
+use Rattle.rec_text.specs.declared.or_memory.OrMemory.TheVariants.{Refused, OutOfMemory}
+use Rattle.rec_check.specs.declared.descriptors.descriptor_fault.DescriptorFault.TheVariants.{Bad, Unsupported, Pattern}
 use Rattle.rec_check.specs.proving.Kinds.{IsPatternFor, IsTypeOf}
 use Rattle.rec_check.specs.Stored.{type_stored}
 use Rattle.rec_check.specs.Types.{between, matching, pattern_in, regexp_of, IsBuilt}
@@ -52,10 +54,10 @@ module _ (text bare found pattern : List ℕ) (stripped_is : bare ≡ stripped t
       let between_is : pattern_in (stripped text) ≡ Some found = ap pattern_in (sym stripped_is) ∙ sym found_is in
       rw (between_is, is_utf8-from_IsUtf8 found utf8, same)
 
-  pub regexp_type-refused : (refusal : Refusal) → IsPatternFor pattern (Err refusal) → IsTypeOf (regexp_of text) (Err refusal)
-  regexp_type-refused Bad refused = absurd refused
-  regexp_type-refused Unsupported refused = absurd refused
-  regexp_type-refused Pattern refused = (pattern, regexp_of-some, refused)
+  pub regexp_type-refused : (refusal : OrMemory DescriptorFault) → IsPatternFor pattern (Err refusal) → IsTypeOf (regexp_of text) (Err refusal)
+  regexp_type-refused (Refused Bad) refused = absurd refused
+  regexp_type-refused (Refused Unsupported) refused = absurd refused
+  regexp_type-refused (Refused Pattern) refused = (pattern, regexp_of-some, refused)
   regexp_type-refused OutOfMemory refused = tt
 
   pub regexp_type-built : (built : Regex) (value_type : StoredType) → type_stored value_type ≡ matching (regex_pattern built) → IsBuiltFrom pattern built → IsTypeOf (regexp_of text) (Ok value_type)

@@ -1,29 +1,32 @@
-use Rattle.std.proofs.Common.{◌∙◌, ◌-◌, ◌<◌, ◌^◌, ap, inl, length, arith, refl, sym, Ok}
+use Rattle.std.proofs.Common.{◌≡◌, ◌∙◌, ◌-◌, ◌<◌, ◌^◌, ap, inl, length, arith, refl, subst, sym, Ok}
 use Rattle.std.specs.Prelude.{◌↔◌, IsTrue}
 use Rattle.std.proofs.lemmas.Bool.{false≢true}
 use Rattle.rec_check.specs.Stored.{described}
-use Rattle.rec_text.specs.Records.{elements_in}
-use Rattle.rec_select.specs.Selection.{Passes, filter_of}
+use Rattle.rec_text.specs.Records.{AreRecords, elements_in}
+use Rattle.rec_select.specs.Selection.{Passes, filter_of, set_for}
 use Rattle.rec_select.proofs.IndexLemmas.{selected_are_records}
 use Rattle.rec_select.proofs.SelectionLemmas.{IsChosenUpTo, none_chosen, countable, passes_as, one_passed, one_taken, members_within, all_chosen, one_selection}
 use Rattle.rec_select.proofs.chooser.choose.Goals as goal
 use Rattle.rec_select.proofs.chooser.choose.Goals.{After-into_iter-index-iterator, In_ok-passes}
 
-few : (c : After-into_iter-index-iterator) → length c.args.database.now < 2 ^ 64
-few c = omega (arith, c.of-text.ensures.countable, ap length c.of-text.ensures.elements)
+few : (c : After-into_iter-index-iterator) → length c.args.file.now.pieces < 2 ^ 64
+few c = omega (arith, c.of-text.ensures.countable, ap length (c.of-text.ensures.elements ∙ c.database-database.ensures.elements))
 
 start : (c : After-into_iter-index-iterator)
-    → IsChosenUpTo c.args.database.now c.in_ok-members.field-0.now.members (filter_of c.args.selection.now.by)
+    → IsChosenUpTo c.args.file.now.pieces c.in_ok-members.field-0.now.members (filter_of c.args.selection.now.by)
     c.into_iter-index-iterator.result.iter.count c.into_iter-index-iterator.result.iter.iter c.new-selected.result.items
 start c =
     let taken = ap (λ i. i.iter) c.into_iter-index-iterator.ensures.into_iter_gives ∙ c.take-index-items.ensures.source in
-    none_chosen _ _ _ c.records.result _ _ _ c.records.ensures (ap (λ i. i.count) taken ∙ c.enumerate.ensures.count) (ap (λ i. i.iter) taken ∙ c.enumerate.ensures.source) c.new-selected.ensures.items
+    none_chosen _ _ _ c.records.result _ _ _ (subst (λ pieces. AreRecords pieces c.records.result) c.database-database.ensures.elements c.records.ensures) (ap (λ i. i.count) taken ∙ c.enumerate.ensures.count) (ap (λ i. i.iter) taken ∙ c.enumerate.ensures.source) c.new-selected.ensures.items
 
 passes : (c : In_ok-passes)
-    → IsTrue c.in_ok-passes.field-0 ↔ Passes (filter_of c.args.selection.now.by) (elements_in c.args.database.now c.in-Some.record) (c.in-Some.index - c.in_ok-members.field-0.now.members.start)
+    → IsTrue c.in_ok-passes.field-0 ↔ Passes (filter_of c.args.selection.now.by) (elements_in c.args.file.now.pieces c.in-Some.record) (c.in-Some.index - c.in_ok-members.field-0.now.members.start)
 passes c =
     passes_as _ _ _ _ _ _ c.in-Some.record _ c.loop-index.invariant.so_far c.in-Some.ensures.steps.0.0 c.of-text.result _ _ _ _
-    c.of-text.ensures.elements c.part-fields.ensures c.loop-index.invariant.same c.in_ok-passes.ensures.passes
+    (c.of-text.ensures.elements ∙ c.database-database.ensures.elements) c.part-fields.ensures c.loop-index.invariant.same c.in_ok-passes.ensures.passes
+
+found : (c : After-into_iter-index-iterator) → set_for c.args.selection.now.kind c.args.file.now.schema.sets.items ≡ Ok c.in_ok-members.field-0.now
+found c = subst (λ schema. set_for c.args.selection.now.kind schema.sets.items ≡ Ok c.in_ok-members.field-0.now) c.schema.ensures.schema c.in_ok-members.ensures.set
 
 pub loop-index-init-derived : goal.loop-index-init-derived
 loop-index-init-derived c = ((tt, tt, inl (countable _ _ _ _ _ _ (2 ^ 64) (start c) (few c))), tt)
@@ -83,17 +86,18 @@ loop-index-preserved c =
     }
 
 pub returns-clause-selected : goal.returns-clause-selected
-returns-clause-selected c = (
-  c.in_ok-members.field-0.now,
-  c.in_ok-members.ensures.set,
-  all_chosen _ _ _ c.in_ok-members.field-0.now _ _ _ _ c.loop-index.invariant.so_far refl
-      (λ records are. members_within _ _ records _ _ c.requires are c.in_ok-members.ensures.set) c.loop-index.invariant.ends (λ more. (c.in-None.ensures.steps more).0.0),
-)
+returns-clause-selected c =
+    let set = found (goal.at.returns-clause-selected c).After-into_iter-index-iterator in (
+      c.in_ok-members.field-0.now,
+      set,
+      all_chosen _ _ _ c.in_ok-members.field-0.now _ _ _ _ c.loop-index.invariant.so_far refl
+          (λ records are. members_within _ _ records _ _ c.database-database.ensures.together are set) c.loop-index.invariant.ends (λ more. (c.in-None.ensures.steps more).0.0),
+    )
 
 pub returns-clause-only : goal.returns-clause-only
 returns-clause-only c = λ other is.
-    sym (one_selection c.args.database.now c.args.schema.now.sets.items c.args.selection.now.kind (filter_of c.args.selection.now.by) (Ok c.loop-index.selected.items) other (returns-clause-selected c) is)
+    sym (one_selection c.args.file.now.pieces c.args.file.now.schema.sets.items c.args.selection.now.kind (filter_of c.args.selection.now.by) (Ok c.loop-index.selected.items) other (returns-clause-selected c) is)
 
 pub returns-clause-indexes : goal.returns-clause-indexes
 returns-clause-indexes c =
-    selected_are_records c.args.database.now (described c.args.schema.now) c.args.selection.now.kind (filter_of c.args.selection.now.by) c.loop-index.selected.items c.requires (returns-clause-selected c)
+    selected_are_records c.args.file.now.pieces (described c.args.file.now.schema) c.args.selection.now.kind (filter_of c.args.selection.now.by) c.loop-index.selected.items c.database-database.ensures.together (returns-clause-selected c)

@@ -9,6 +9,6 @@ invariant-loop-index l = record {
   can : (goal.iterator-loop-index).can_next l.index-iterator;
   finite : (goal.iterator-loop-index).is_finite l.index-iterator;
   same : stands_for l.filter ≡ filter_of l.selection.by;
-  so_far : IsChosenUpTo l.database l.members (filter_of l.selection.by) l.index-iterator.iter.count l.index-iterator.iter.iter l.selected.items;
+  so_far : IsChosenUpTo l.file.pieces l.members (filter_of l.selection.by) l.index-iterator.iter.count l.index-iterator.iter.iter l.selected.items;
   ends : l.index-iterator.iter.count + l.index-iterator.n ≡ l.members.end;
 }

@@ -1,15 +1,17 @@
 use Rattle.std.proofs.Common.{◌≡◌, ◌∙◌, Result, Err, sym}
 use Rattle.std.proofs.lemmas.Result.{err_from_is_err_and}
-use Rattle.rec_check.specs.declared.descriptors.refusal.Refusal.{Refusal}
-use Rattle.rec_check.specs.declared.descriptors.refusal.Refusal.TheVariants.{Pattern}
+use Rattle.rec_text.specs.declared.or_memory.OrMemory.{OrMemory}
+use Rattle.rec_check.specs.declared.descriptors.descriptor_fault.DescriptorFault.{DescriptorFault}
+use Rattle.rec_text.specs.declared.or_memory.OrMemory.TheVariants.{Refused}
+use Rattle.rec_check.specs.declared.descriptors.descriptor_fault.DescriptorFault.TheVariants.{Pattern}
 use Rattle.rec_check.proofs.lemmas.field_types.KindLemmas.{refused_definition}
 use Rattle.rec_check.proofs.descriptors.typing.definition_in.Goals as goal
 
-same_refusal : {T : Type 0} (one other : Refusal) → ◌≡◌ {A = Result T Refusal} (Err one) (Err other) → one ≡ other
+same_refusal : {T : Type 0} (one other : OrMemory DescriptorFault) → ◌≡◌ {A = Result T (OrMemory DescriptorFault)} (Err one) (Err other) → one ≡ other
 same_refusal one other same = cc
 
 pub returns-in_err-kind-clause-pattern : goal.returns-in_err-kind-clause-pattern
 returns-in_err-kind-clause-pattern c = λ is.
     let kept = err_from_is_err_and c.from_residual.result c.from_residual.ensures.1 in
     refused_definition c.args.value.now c.in-Some.name.now c.in-Some.following.now c.in-Some.ensures.0 c.in-Some.ensures.1 c.in_err-kind.field-0.0
-    (sym c.is_plain_name.ensures ∙ c.if-not-is_plain_name.false) c.in_err-kind.ensures (sym kept.2 ∙ same_refusal kept.0 Pattern (sym kept.1 ∙ is))
+    (sym c.is_plain_name.ensures ∙ c.if-not-is_plain_name.false) c.in_err-kind.ensures (sym kept.2 ∙ same_refusal kept.0 (Refused Pattern) (sym kept.1 ∙ is))

@@ -13,7 +13,7 @@ returns-in-Err-clause-refused c =
     read_fault c.args.types.now (pieces_of fields) c.loop-field.field-index (said c.loop-field.descriptor) c.loop-field.invariant
     _ (piece_met fields c.loop-field.field-index _ c.loop-field-test.true) (text_of c.args.database.now) fields _ refl
     (slice_get-get_or fields c.loop-field.field-index _ c.loop-field-test.true) c.line_of.result c.line_of.ensures (said c.add_field.new.self)
-    c.in-Err.refusal c.at_line.result c.at_line.ensures c.in-Err.ensures
+    c.in-Err.refusal c.fault_at_line.result c.fault_at_line.ensures c.in-Err.ensures
 
 pub loop-field-preserved : goal.loop-field-preserved
 loop-field-preserved c =

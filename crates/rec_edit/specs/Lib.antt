@@ -8,5 +8,6 @@ pub mod Automatic
 pub mod Outcome
 pub mod Effect
 pub mod Batch
+pub mod Options
 -- what serves proofs
 pub mod proving

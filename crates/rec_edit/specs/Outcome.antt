@@ -1,5 +1,5 @@
--- The outcome of an edit: its first refusal in their order, or its script and how many records it changes.
-use Rattle.std.specs.Prelude.{◌≡◌, ◌≢◌, ◌≤◌, ℕ, Bool, true, false, not, List, [], ◌∷◌, ◌++◌, length, map, filter_map, count_by, slice_get, Option, None, Result, Ok, Err, if◌then◌else◌}
+-- What one edit makes of the elements of a text: its first refusal in their order, or its script and how many records it changes.
+use Rattle.std.specs.Prelude.{◌≡◌, ◌≤◌, ℕ, Bool, true, false, not, List, [], ◌∷◌, ◌++◌, length, map, filter_map, count_by, slice_get, Option, None, Result, Ok, Err, if◌then◌else◌}
 use Rattle.std.specs.Str.{bytes_eq}
 use Rattle.std.specs.declared.ops.Range.{Range}
 use Rattle.rec_text.specs.declared.fault.Fault.{Fault}
@@ -18,7 +18,7 @@ use Rattle.rec_journal.specs.Bound.{most_bytes}
 use Rattle.rec_journal.specs.Event.{IsEditInRange, spelling}
 use Rattle.rec_journal.specs.Revisions.{all_hunks, is_batch}
 use Rattle.rec_select.specs.Selection.{Filter, all, by_expression, at_places, with_text, IsSelection}
-use Rattle.rec_edit.specs.declared.outcome.Edited.{Edited}
+use Rattle.rec_edit.specs.declared.outcome.Patched.{Patched}
 use Rattle.rec_edit.specs.Task.{Wanted, Task, insert, replace, delete, comment_out, set, auto_fill}
 use Rattle.rec_edit.specs.Script.{Part, Layout, closed, IsScriptOf, old_pieces, new_pieces, edited_text, parts_in, AreChangesOf}
 use Rattle.rec_edit.specs.Rules.{fields_of, deletion, commenting, replacement, setting}
@@ -110,26 +110,19 @@ abbrev pub IsSoundUnlessForced : Bool → List ℕ → Result (Unit {0}) Fault �
 IsSoundUnlessForced true text answer = answer ≡ Ok tt
 IsSoundUnlessForced false text answer = IsSound text answer
 
--- ---- the outcome
+-- ---- what it comes to
 
--- what an edit comes to: the changes of its script, the edited text, and the number of changed records
-pub record IsEditedBy (edit : EditScript) (edited : Edited) : Type 0 where
+-- the changes of the script, the edited text, and the number of changed records
+pub record IsEditedBy (edit : EditScript) (edited : Patched) : Type 0 where
   pub patch : AreChangesOf edit.script edited.patch
   pub text : edited.text ≡ edited_text edit.script
   pub changed : edited.changed ≡ edit.changed
 
 -- what an edit makes of the text of these elements, violations aside
-abbrev pub IsEditOf : List Piece → Described → Bool → Task → Result Edited Fault → Type 0
+abbrev pub IsEditOf : List Piece → Described → Bool → Task → Result Patched Fault → Type 0
 IsEditOf pieces schema force task =
     Then (IsEditScript pieces schema force task) (λ edit answer.
-    (edited : Edited) × IsEditedBy edit edited × (answer ≡ Ok edited))
-
--- the one answer to an edit, memory aside
-abbrev pub IsOutcome : List Piece → Described → Bool → Task → Result Edited Fault → Type 0
-IsOutcome pieces schema force task =
-    Then (IsEditOf pieces schema force task) (λ edited.
-    Then (IsSoundUnlessForced force edited.text) (λ _ answer.
-    answer ≡ Ok edited))
+    (edited : Patched) × IsEditedBy edit edited × (answer ≡ Ok edited))
 
 -- the refusals that an edit has at all
 abbrev pub IsEditRefusal : Fault → Type 0
@@ -145,13 +138,6 @@ IsEditRefusal BadRecord = Unit {0}
 IsEditRefusal (Integrity violations) = Unit {0}
 IsEditRefusal AutoImpossible = Unit {0}
 IsEditRefusal _ = ⊥
-
--- An edit has one outcome, whichever way the patterns of the text were built; only where `regex` may refuse a pattern of the
--- edited text, that refusal may stand instead of the other answer.
-abbrev pub OneOutcome : Type 0
-OneOutcome = (pieces : List Piece) (schema same : Described) (force : Bool) (task : Task) (one other : Result Edited Fault)
-    → IsSchema pieces (Ok schema) → IsSchema pieces (Ok same) → IsOutcome pieces schema force task one → IsOutcome pieces same force task other
-    → (one ≢ Err BadPattern) → (other ≢ Err BadPattern) → one ≡ other
 
 -- no descriptor is put in: only a new record of a type may bring one
 abbrev pub PutsNoDescriptorIn : Task → Type 0

@@ -47,7 +47,7 @@ fn names_of<'p>(alloc: Global, pairs: &'p [Pair]) -> Result<HashSet<&'p [u8]>, F
 /// The automatic fields of the set at a place that a new record lacks.
 fn given_at<'s>(
     alloc: Global,
-    file: &RecFile<'s, '_>,
+    file: &'s RecFile<'_>,
     place: usize,
     pairs: &[Pair],
 ) -> Result<Vec<NumberedField<'s>>, Fault>

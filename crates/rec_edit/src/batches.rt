@@ -1,195 +1,191 @@
-//! Edits one after another, as one.
-ghost use Rattle.std.specs.Prelude.{◌≡◌, ◌≢◌, ◌∷◌, [], ℕ, List, map, drop, Result, Ok, Err, IfOk, IfErr, OnOk};
+//! Edits in turn, each of the text that the one before it gave. One edit is a batch of one.
+ghost use Rattle.std.specs.Prelude.{◌≡◌, ◌≢◌, ◌∷◌, ◌++◌, [], ℕ, List, map, take, Result, Ok, Err, IfOk, IfErr, OnOk};
 ghost use Rattle.rec_text.specs.declared.fault.Fault.{Fault};
 ghost use Rattle.rec_text.specs.declared.fault.Fault.TheVariants.{BadPattern};
 ghost use Rattle.rec_text.specs.Elements.{text_of};
 ghost use Rattle.rec_text.specs.Faults.{IsMemoryOr, UnlessMemory};
-ghost use Rattle.rec_check.specs.Schemas.{IsSchema};
-ghost use Rattle.rec_check.specs.Stored.{described};
 ghost use Rattle.rec_journal.specs.Revisions.{LeadsBy, AreDone};
-ghost use Rattle.rec_edit.specs.declared.batches.BatchEdited.{BatchEdited as MadeByBatch};
-ghost use Rattle.rec_edit.specs.Task.{task_of};
+ghost use Rattle.rec_edit.specs.declared.answer.Edited.{Edited as EditedOf};
+ghost use Rattle.rec_edit.specs.Task.{Task, task_of};
 ghost use Rattle.rec_edit.specs.Outcome.{IsEditRefusal};
-ghost use Rattle.rec_edit.specs.Batch.{IsEditOn, AreSteps, IsBatchOutcome, HaveEffects};
-ghost use Rattle.rec_edit.specs.proving.Batches.{IsUnderWay};
-ghost use Rattle.rec_edit.specs.Task.{Task};
+ghost use Rattle.rec_edit.specs.Batch.{IsEditOn, AreSteps, IsBatchOutcome, IsRefusedAt, AreRefusedAt, AreWholeSteps, HaveEffects, fault_alone};
 
 mod progress;
 
+use crate::answer::{Edited, RefusedEdit};
 use crate::batches::progress::Progress;
-use crate::outcome::{Edited, made};
+use crate::outcome::{Patched, made};
 use crate::request::Edit;
-use crate::sound::require_sound;
-use rec_check::{RecFile, Schema};
-use rec_journal::EditSteps;
-use rec_text::{Bytes, Database, Fault, read};
+use crate::sound::{keep_rules, require_sound};
+use rec_check::RecFile;
+use rec_text::{Bytes, Fault};
 use std::alloc::Global;
-
-/// What a batch makes of a text: the steps that lead to the text after it, one for each edit that changes something, and the
-/// sum of the numbers of records that the edits changed.
-#[derive(Drop)]
-pub struct BatchEdited {
-    pub steps: EditSteps,
-    pub text: Bytes,
-    pub changed: usize,
-}
+use std::slice;
 
 /// What an edit makes of a text that is read for it. The edited text may break rules.
-fn made_on(alloc: Global, text: &[u8], edit: &Edit, force: bool) -> Result<Edited, Fault>
+fn made_on(alloc: Global, text: &[u8], edit: &Edit, force: bool) -> Result<Patched, Fault>
     ensures { UnlessMemory result (IsEditOn force (task_of edit.now) text.now) }
 {
-    let database = read(alloc, text)?;
-    let schema = Schema::read(alloc, &database)?;
-    made(alloc, &RecFile::new(&database, &schema), edit, force)
+    let file = RecFile::read(alloc, text)?;
+    made(alloc, &file, edit, force)
 }
 
-/// One edit more.
-fn take_step(alloc: Global, edit: &Edit, force: bool, done: &mut Progress) -> Result<(), Fault>
-    ensures done { (tasks left : List Task) (text : List ℕ)
-        → IsUnderWay force tasks text done.old (task_of edit.now ∷ left)
-        → OnOk result (IsUnderWay force tasks text done.new left) }
-    ensures refused { (tasks left : List Task) (text : List ℕ)
-        → IsUnderWay force tasks text done.old (task_of edit.now ∷ left)
-        → IfErr result (λ fault. IsMemoryOr fault (AreSteps force tasks text (Err fault))) }
-{
-    let edited = made_on(alloc, done.text(), edit, force)?;
-    done.add(edit.tool(), edited)?;
-    Ok(())
-}
-
-/// The edits that are left, one after another.
-fn take_steps(alloc: Global, edits: &[Edit], force: bool, done: &mut Progress) -> Result<(), Fault>
-    ensures done { (tasks : List Task) (text : List ℕ)
-        → IsUnderWay force tasks text done.old (map task_of edits.now)
-        → OnOk result (IsUnderWay force tasks text done.new []) }
-    ensures refused { (tasks : List Task) (text : List ℕ)
-        → IsUnderWay force tasks text done.old (map task_of edits.now)
-        → IfErr result (λ fault. IsMemoryOr fault (AreSteps force tasks text (Err fault))) }
-{
-    for edit in edits {
-        take_step(alloc, edit, force, done)?;
-    }
-    Ok(())
-}
-
-/// Those after the first one.
-fn after_first<'e, 'r>(edits: &'e [Edit<'r>]) -> &'e [Edit<'r>]
-    ensures { map task_of result.now ≡ map task_of (drop 1 edits.now) }
-{
-    &edits[edits.len().min(1)..]
-}
-
-/// What the first of some edits makes of a file; it takes the file as it was read.
-fn first_made(alloc: Global, file: &RecFile, edits: &[Edit], force: bool) -> Result<Progress, Fault>
-    ensures begun { IfOk result (λ done. IsUnderWay force (map task_of edits.now) (text_of file.now.pieces) done
-        (map task_of (drop 1 edits.now))) }
+/// What the first of some edits makes of a file, which is let go here.
+fn first_made(alloc: Global, file: RecFile, edits: &[Edit], force: bool) -> Result<Progress, Fault>
+    ensures made { IfOk result (λ done.
+        AreSteps force (take 1 (map task_of edits.now)) (text_of file.entry.pieces) (Ok done)) }
     ensures refused { IfErr result (λ fault.
-        IsMemoryOr fault (AreSteps force (map task_of edits.now) (text_of file.now.pieces) (Err fault))) }
+        IsMemoryOr fault (IsRefusedAt force (map task_of edits.now) (text_of file.entry.pieces) 0 fault)) }
 {
     let text = file.database().text();
     let Some((first, _)) = edits.split_first() else {
         return Ok(Progress::start(alloc, Bytes::copy_of(alloc, text)?));
     };
     let mut done = Progress::start(alloc, Bytes::from_vec(Vec::new(alloc)));
-    done.add(first.tool(), made(alloc, file, first, force)?)?;
+    done.add(first.tool(), made(alloc, &file, first, force)?)?;
     Ok(done)
 }
 
-/// The same of a text's elements and record sets, which are let go here.
-fn first_made_of(
-    alloc: Global,
-    database: Database,
-    schema: Schema,
-    edits: &[Edit],
-    force: bool,
-) -> Result<Progress, Fault>
-    requires { IsSchema database (Ok (described schema)) }
-    ensures begun { IfOk result (λ done.
-        IsUnderWay force (map task_of edits.now) (text_of database.entry) done (map task_of (drop 1 edits.now))) }
+/// One edit more.
+fn take_step(alloc: Global, edit: &Edit, force: bool, done: &mut Progress) -> Result<(), Fault>
+    ensures made { (tasks : List Task) (text : List ℕ) → AreSteps force tasks text (Ok done.old)
+        → OnOk result (AreSteps force (tasks ++ task_of edit.now ∷ []) text (Ok done.new)) }
     ensures refused { IfErr result (λ fault.
-        IsMemoryOr fault (AreSteps force (map task_of edits.now) (text_of database.entry) (Err fault))) }
+        IsMemoryOr fault (IsEditOn force (task_of edit.now) done.old.text (Err fault))) }
 {
-    first_made(alloc, &RecFile::new(&database, &schema), edits, force)
+    let patched = made_on(alloc, done.text(), edit, force)?;
+    done.add(edit.tool(), patched)?;
+    Ok(())
 }
 
-/// The edits after the first one. The last text must keep its rules, unless that is forced.
-fn others_made(
+/// The edits after the first one, one after another.
+fn take_others(
     alloc: Global,
     edits: &[Edit],
     force: bool,
-    mut done: Progress,
-) -> Result<BatchEdited, Fault>
-    ensures { (tasks : List Task) (text : List ℕ)
-        → IsUnderWay force tasks text done (map task_of (drop 1 edits.now))
-        → UnlessMemory result (IsBatchOutcome force tasks text) }
+    done: &mut Progress,
+) -> Result<(), RefusedEdit>
+    ensures made { (text : List ℕ) → AreSteps force (take 1 (map task_of edits.now)) text (Ok done.old)
+        → OnOk result (AreSteps force (map task_of edits.now) text (Ok done.new)) }
+    ensures refused { (text : List ℕ) → AreSteps force (take 1 (map task_of edits.now)) text (Ok done.old)
+        → IfErr result (λ refused. IsMemoryOr refused.fault
+        (AreRefusedAt force (map task_of edits.now) text refused.index refused.fault)) }
 {
-    take_steps(alloc, after_first(edits), force, &mut done)?;
-    if !force {
-        require_sound(alloc, done.text())?;
+    for index in 1..edits.len() {
+        if let Err(fault) = take_step(alloc, &edits[index], force, done) {
+            return Err(RefusedEdit {
+                fault,
+                index: Some(index),
+            });
+        }
     }
+    Ok(())
+}
+
+/// What all edits make of a file in turn.
+fn all_made(
+    alloc: Global,
+    file: RecFile,
+    edits: &[Edit],
+    force: bool,
+) -> Result<Edited, RefusedEdit>
+    ensures made { IfOk result (λ made.
+        AreSteps force (map task_of edits.now) (text_of file.entry.pieces) (Ok made)) }
+    ensures refused { IfErr result (λ refused. IsMemoryOr refused.fault
+        (AreRefusedAt force (map task_of edits.now) (text_of file.entry.pieces) refused.index refused.fault)) }
+{
+    let mut done = match first_made(alloc, file, edits, force) {
+        Ok(done) => done,
+        Err(fault) => {
+            return Err(RefusedEdit {
+                fault,
+                index: Some(0),
+            });
+        }
+    };
+    take_others(alloc, edits, force, &mut done)?;
     Ok(done.finish())
 }
 
-/// What edits make of a file in turn.
-fn all_made(
-    alloc: Global,
-    file: &RecFile,
-    edits: &[Edit],
-    force: bool,
-) -> Result<BatchEdited, Fault>
-    ensures { UnlessMemory result (IsBatchOutcome force (map task_of edits.now) (text_of file.now.pieces)) }
+/// The text after all edits must keep its rules, unless that is forced.
+fn outcome(alloc: Global, file: RecFile, edits: &[Edit], force: bool) -> Result<Edited, RefusedEdit>
+    ensures made { IfOk result (λ made.
+        IsBatchOutcome force (map task_of edits.now) (text_of file.entry.pieces) (Ok made)) }
+    ensures refused { IfErr result (λ refused. IsMemoryOr refused.fault
+        (AreRefusedAt force (map task_of edits.now) (text_of file.entry.pieces) refused.index refused.fault)) }
 {
-    let done = first_made(alloc, file, edits, force)?;
-    others_made(alloc, edits, force, done)
+    let is_sound = keep_rules(&file, edits, force);
+    let made = all_made(alloc, file, edits, force)?;
+    let text = made.text.as_slice();
+    if !is_sound {
+        if let Err(fault) = require_sound(alloc, text) {
+            return Err(RefusedEdit { fault, index: None });
+        }
+    }
+    Ok(made)
 }
 
 /// What edits make of a text, each of the text that the one before gave. Without `force` the last text must keep the rules of
-/// its record sets, and no edit deletes or comments out records without a selection.
-pub fn batch(
+/// its record sets, and no edit deletes or comments out records without a selection. The elements of the file are let go once
+/// the first edit is made, before any other text is read.
+pub fn edited(
     alloc: Global,
-    database: &Database,
-    schema: &Schema,
+    file: RecFile,
     edits: &[Edit],
     force: bool,
-) -> Result<BatchEdited, Fault>
-    requires schema { IsSchema database.now (Ok (described schema.now)) }
-    ensures found { UnlessMemory result (IsBatchOutcome force (map task_of edits.now) (text_of database.now)) }
-    ensures only { (other : Result MadeByBatch Fault)
-        → IsBatchOutcome force (map task_of edits.now) (text_of database.now) other → (other ≢ Err BadPattern)
-        → UnlessMemory result (λ answer. (answer ≢ Err BadPattern) → answer ≡ other) }
+) -> Result<Edited, RefusedEdit>
+    ensures found { UnlessMemory (fault_alone result)
+        (IsBatchOutcome force (map task_of edits.now) (text_of file.entry.pieces)) }
+    ensures only { (other : Result EditedOf Fault)
+        → IsBatchOutcome force (map task_of edits.now) (text_of file.entry.pieces) other → (other ≢ Err BadPattern)
+        → UnlessMemory (fault_alone result) (λ answer. (answer ≢ Err BadPattern) → answer ≡ other) }
 
-    ensures refusals { IfErr result IsEditRefusal }
+    // Which edit is refused, if one is.
+    ensures refusals { IfErr result (λ refused. IsEditRefusal refused.fault) }
+    ensures place { IfErr result (λ refused. IsMemoryOr refused.fault
+        (AreRefusedAt force (map task_of edits.now) (text_of file.entry.pieces) refused.index refused.fault)) }
 
-    // The steps lead from the text to the last one; each has a hunk and a tool that isn't `batch`.
-    ensures leads { IfOk result (λ made. LeadsBy made.steps (text_of database.now) made.text) }
+    // The steps lead from the text to the last one. Each has a hunk and a tool that isn't `batch`, takes whole elements out of
+    // the text that it is of, and makes another text of it.
+    ensures leads { IfOk result (λ made. LeadsBy made.steps (text_of file.entry.pieces) made.text) }
     ensures changes { IfOk result (λ made. AreDone made.steps) }
+    ensures whole { IfOk result (λ made. AreWholeSteps made.steps (text_of file.entry.pieces)) }
 
     // What it means for the records, edit by edit.
     ensures effects { IfOk result (λ made.
-        HaveEffects (map task_of edits.now) (text_of database.now) made.text) }
+        HaveEffects (map task_of edits.now) (text_of file.entry.pieces) made.text) }
 {
     // These are the elements of a text.
-    let _text = database.text();
-    all_made(alloc, &RecFile::new(database, schema), edits, force)
+    let _text = file.database().text();
+    outcome(alloc, file, edits, force)
 }
 
-/// The same of elements and record sets that nobody needs any more: they are let go once the first edit is made, before any
-/// other text is read.
-pub fn batch_owned(
-    alloc: Global,
-    database: Database,
-    schema: Schema,
-    edits: &[Edit],
-    force: bool,
-) -> Result<BatchEdited, Fault>
-    requires schema { IsSchema database (Ok (described schema)) }
-    ensures found { UnlessMemory result (IsBatchOutcome force (map task_of edits.now) (text_of database.entry)) }
+/// The same, without the place of the edit that is refused.
+pub fn batch(alloc: Global, file: RecFile, edits: &[Edit], force: bool) -> Result<Edited, Fault>
+    ensures found { UnlessMemory result
+        (IsBatchOutcome force (map task_of edits.now) (text_of file.entry.pieces)) }
+    ensures only { (other : Result EditedOf Fault)
+        → IsBatchOutcome force (map task_of edits.now) (text_of file.entry.pieces) other → (other ≢ Err BadPattern)
+        → UnlessMemory result (λ answer. (answer ≢ Err BadPattern) → answer ≡ other) }
     ensures refusals { IfErr result IsEditRefusal }
-    ensures leads { IfOk result (λ made. LeadsBy made.steps (text_of database.entry) made.text) }
-    ensures changes { IfOk result (λ made. AreDone made.steps) }
+    ensures leads { IfOk result (λ made. LeadsBy made.steps (text_of file.entry.pieces) made.text) }
+    ensures effects { IfOk result (λ made.
+        HaveEffects (map task_of edits.now) (text_of file.entry.pieces) made.text) }
 {
-    // These are the elements of a text.
-    let _text = database.text();
-    let done = first_made_of(alloc, database, schema, edits, force)?;
-    others_made(alloc, edits, force, done)
+    Ok(edited(alloc, file, edits, force)?)
+}
+
+/// What one edit makes of a text.
+pub fn edit(alloc: Global, file: RecFile, edit: &Edit, force: bool) -> Result<Edited, Fault>
+    ensures found { UnlessMemory result
+        (IsBatchOutcome force (task_of edit.now ∷ []) (text_of file.entry.pieces)) }
+    ensures only { (other : Result EditedOf Fault)
+        → IsBatchOutcome force (task_of edit.now ∷ []) (text_of file.entry.pieces) other → (other ≢ Err BadPattern)
+        → UnlessMemory result (λ answer. (answer ≢ Err BadPattern) → answer ≡ other) }
+    ensures refusals { IfErr result IsEditRefusal }
+    ensures leads { IfOk result (λ made. LeadsBy made.steps (text_of file.entry.pieces) made.text) }
+    ensures effects { IfOk result (λ made.
+        HaveEffects (task_of edit.now ∷ []) (text_of file.entry.pieces) made.text) }
+{
+    batch(alloc, file, slice::from_ref(edit), force)
 }

@@ -40,9 +40,9 @@ pub(crate) fn chosen_records(
     ensures refused { IfErr result (λ fault. IsMemoryOr fault (AreChosenIn file.now selection.now (Err fault))) }
     ensures ranges { IfOk result (λ chosen. AreRanges (length file.now.pieces) chosen.items) }
 {
-    let database = file.database();
-    let selected = choose(alloc, database, file.schema(), selection)?;
-    Ok(ranges_at(alloc, database.records().as_slice(), &selected)?)
+    let selected = choose(alloc, file, selection)?;
+    let records = file.database().records();
+    Ok(ranges_at(alloc, records.as_slice(), &selected)?)
 }
 
 /// Refuses to take records without a selection, unless that is forced.

@@ -1,6 +1,6 @@
 //! Laws of the definitions, which no function computes.
-ghost use Rattle.rec_edit.specs.Outcome.{HunksAreChanges, OneOutcome, UnruledEditsAreSound};
-ghost use Rattle.rec_edit.specs.Batch.{OneBatch};
+ghost use Rattle.rec_edit.specs.Outcome.{HunksAreChanges, UnruledEditsAreSound};
+ghost use Rattle.rec_edit.specs.Batch.{EditsHaveOneOutcome};
 ghost use Rattle.rec_edit.specs.Script.{OneScript};
 
 /// A layout has exactly one script of a text.
@@ -8,14 +8,9 @@ pub fn one_script()
     ensures { OneScript }
 {}
 
-/// An edit has one outcome, whichever way the patterns of its text were built.
-pub fn one_outcome()
-    ensures { OneOutcome }
-{}
-
-/// A batch has one outcome, whichever way the patterns of its texts were built.
-pub fn one_batch()
-    ensures { OneBatch }
+/// Edits have one outcome, whichever way the patterns of their texts were built.
+pub fn edits_have_one_outcome()
+    ensures { EditsHaveOneOutcome }
 {}
 
 /// An edit that puts no descriptor into a text without one breaks no rule, so what it makes needn't be read and checked.

@@ -2,6 +2,7 @@
 //! `docs/editing.md` describes the rules of layout, and `specs/` defines them, from `Task` on.
 #![tactic(auto)]
 
+mod answer;
 mod automatic;
 mod batches;
 mod chosen;
@@ -14,11 +15,11 @@ mod script;
 mod sound;
 mod wording;
 
-pub use batches::{BatchEdited, batch, batch_owned};
-pub use laws::{hunks_are_changes, one_batch, one_outcome, one_script, unruled_edits_are_sound};
-pub use outcome::{Edited, edit, edit_owned};
-pub use rec_check::Schema;
-pub use rec_journal::{Patch, Tool};
+pub use answer::{Edited, RefusedEdit};
+pub use batches::{batch, edit, edited};
+pub use laws::{edits_have_one_outcome, hunks_are_changes, one_script, unruled_edits_are_sound};
+pub use rec_check::RecFile;
+pub use rec_journal::{EditStep, EditSteps, Patch, Tool};
 pub use rec_select::{By, Selection};
-pub use rec_text::{Bytes, Database, Fault};
+pub use rec_text::{Bytes, Fault};
 pub use request::{Action, Edit, NewRecord, Pair};

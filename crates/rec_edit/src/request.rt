@@ -1,7 +1,10 @@
 //! What an edit is to do.
+ghost use Rattle.std.specs.Prelude.{◌≡◌, map, length, IfOk};
+
 use rec_journal::Tool;
 use rec_select::Selection;
 use rec_text::Bytes;
+use std::alloc::{AllocError, Global};
 
 /// What is done to the fields that a list picks of a record.
 #[derive(Drop)]
@@ -20,6 +23,37 @@ pub enum Action {
     Comment,
 }
 
+impl Action {
+    ghost use Rattle.std.specs.Prelude.{◌≡◌, MatchOption};
+    ghost use Rattle.rec_edit.specs.declared.request.Action.{Action as ActionOf};
+    ghost use Rattle.rec_edit.specs.Options.{action_for};
+
+    /// What is done to fields by one of these: values to set, to add, and to set or else add, a new name, or that they are
+    /// deleted or become comments. It is none where not exactly one is given.
+    pub fn of(
+        set: Option<Bytes>,
+        add: Option<Bytes>,
+        set_add: Option<Bytes>,
+        rename: Option<Bytes>,
+        deletes: bool,
+        comments: bool,
+    ) -> Option<Action>
+        ensures { MatchOption result
+            ((action : ActionOf) → action_for action ≡ (set, add, set_add, rename, deletes, comments) → ⊥)
+            (λ action. action_for action ≡ (set, add, set_add, rename, deletes, comments)) }
+    {
+        match (set, add, set_add, rename, deletes, comments) {
+            (Some(value), None, None, None, false, false) => Some(Action::Set(value)),
+            (None, Some(value), None, None, false, false) => Some(Action::Add(value)),
+            (None, None, Some(value), None, false, false) => Some(Action::SetAdd(value)),
+            (None, None, None, Some(name), false, false) => Some(Action::Rename(name)),
+            (None, None, None, None, true, false) => Some(Action::Delete),
+            (None, None, None, None, false, true) => Some(Action::Comment),
+            _ => None,
+        }
+    }
+}
+
 /// A field of a new record.
 #[derive(Drop)]
 pub struct Pair {
@@ -34,6 +68,46 @@ pub enum NewRecord {
     Pairs(Vec<Pair>),
     /// A text that holds it alone. Comments and blank lines of the text are dropped.
     Text(Bytes),
+}
+
+/// Names and values as fields, place by place.
+fn pairs_of(alloc: Global, names: Vec<Bytes>, values: Vec<Bytes>) -> Result<Vec<Pair>, AllocError>
+    requires { length names.items ≡ length values.items }
+    ensures names { IfOk result (λ pairs. map (λ pair. pair.name) pairs.items ≡ names.items) }
+    ensures values { IfOk result (λ pairs. map (λ pair. pair.value) pairs.items ≡ values.items) }
+{
+    let mut pairs = Vec::with_capacity(alloc, names.len())?;
+    for (name, value) in names.into_iter().zip(values) {
+        pairs.push(Pair { name, value })?;
+    }
+    Ok(pairs)
+}
+
+impl NewRecord {
+    ghost use Rattle.std.specs.Prelude.{◌≡◌, IfOk, MatchOption};
+    ghost use Rattle.rec_edit.specs.declared.request.NewRecord.{NewRecord as GivenRecord};
+    ghost use Rattle.rec_edit.specs.Options.{new_record_for};
+
+    /// The record of these names and values, which belong together place by place, or of this text. It is none where they
+    /// don't pair, and where both are given; no name, no value and no text are the record of no fields.
+    pub fn of(
+        alloc: Global,
+        names: Vec<Bytes>,
+        values: Vec<Bytes>,
+        text: Option<Bytes>,
+    ) -> Result<Option<NewRecord>, AllocError>
+        ensures { IfOk result (λ found. MatchOption found
+            ((fresh : GivenRecord) → new_record_for fresh ≡ (names.items, values.items, text) → ⊥)
+            (λ fresh. new_record_for fresh ≡ (names.items, values.items, text))) }
+    {
+        match text {
+            None if names.len() == values.len() => {
+                Ok(Some(NewRecord::Pairs(pairs_of(alloc, names, values)?)))
+            }
+            Some(text) if names.is_empty() && values.is_empty() => Ok(Some(NewRecord::Text(text))),
+            _ => Ok(None),
+        }
+    }
 }
 
 /// An edit of the records of a text. The texts that it works with are borrowed.

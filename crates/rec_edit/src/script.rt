@@ -1,7 +1,7 @@
 //! Carries an edit out, element by element.
 ghost use Rattle.std.specs.Prelude.{◌≡◌, ◌++◌, ◌+◌, ◌^◌, ◌<◌, ◌≤◌, [], List, count_by, length, OnOk, IfOk};
 ghost use Rattle.std.specs.Str.{bytes_eq};
-ghost use Rattle.rec_text.specs.Bytes.{ends_newline as newline_is_last, closed_text};
+ghost use Rattle.rec_text.specs.Bytes.{closed_text};
 ghost use Rattle.rec_text.specs.Elements.{text_of};
 ghost use Rattle.rec_text.specs.Places.{piece_of, pieces_of};
 ghost use Rattle.rec_edit.specs.Script.{Part, closed};
@@ -12,20 +12,13 @@ ghost use Rattle.rec_edit.specs.proving.Edits.{laid_script, edited_by};
 mod draft;
 pub mod layout;
 
-use crate::outcome::Edited;
+use crate::outcome::Patched;
 use crate::script::draft::Draft;
 use crate::script::layout::Layout;
 use rec_check::RecFile;
-use rec_text::{Database, Element, elements_in};
+use rec_text::{Database, Element, elements_in, ends_newline};
 use std::alloc::{AllocError, Global};
 use std::ops::Range;
-
-/// Whether a newline comes last.
-fn ends_newline(text: &[u8]) -> bool
-    ensures { result ≡ newline_is_last text.now }
-{
-    text.last() == Some(&b'\n')
-}
 
 /// Appends what stands instead of an element, which may lack a newline at its end.
 fn lay_closed<P: Layout>(
@@ -296,14 +289,14 @@ pub(crate) fn carried_out_on<P: Layout>(
     file: &RecFile,
     changed: usize,
     layout: &P,
-) -> Result<Edited, AllocError>
+) -> Result<Patched, AllocError>
     requires { LaysLines (P.layout layout.now) }
     ensures { IfOk result (λ edited.
         edited ≡ edited_by (record { script = script_of (P.layout layout.now) file.now.pieces; changed = changed })) }
 {
     let draft = drafted(alloc, file.database(), layout)?;
     let (patch, text) = draft.finish()?;
-    Ok(Edited {
+    Ok(Patched {
         patch,
         text,
         changed,
@@ -316,7 +309,7 @@ pub(crate) fn carried_out<P: Layout>(
     file: &RecFile,
     chosen: &[Range<usize>],
     layout: &P,
-) -> Result<Edited, AllocError>
+) -> Result<Patched, AllocError>
     requires chosen { AreRanges (length file.now.pieces) chosen.now }
     requires lines { LaysLines (P.layout layout.now) }
     ensures { IfOk result (λ edited. edited ≡ edited_by (laid_script file.now.pieces chosen.now (P.layout layout.now))) }

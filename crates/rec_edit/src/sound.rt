@@ -1,18 +1,52 @@
 //! The rules of the record sets of an edited text.
+ghost use Rattle.std.specs.Prelude.{◌≡◌, false, map, IsTrue, Ok};
+ghost use Rattle.rec_text.specs.Elements.{text_of};
 ghost use Rattle.rec_text.specs.Faults.{UnlessMemory};
-ghost use Rattle.rec_edit.specs.Outcome.{IsSound};
+ghost use Rattle.rec_edit.specs.declared.answer.Edited.{Edited};
+ghost use Rattle.rec_edit.specs.Batch.{AreSteps};
+ghost use Rattle.rec_edit.specs.Outcome.{IsSound, IsSoundUnlessForced, PutsNoDescriptorIn};
+ghost use Rattle.rec_edit.specs.Task.{task_of};
 
-use rec_check::Schema;
-use rec_text::{Fault, Violations, read};
+use crate::request::Edit;
+use rec_check::RecFile;
+use rec_text::{Fault, Violations};
 use std::alloc::Global;
+
+/// Whether no descriptor is put in: only a new record of a type may bring one.
+fn puts_no_descriptor_in(edit: &Edit) -> bool
+    ensures { IsTrue result → PutsNoDescriptorIn (task_of edit.now) }
+{
+    match edit {
+        Edit::Insert { kind: Some(_), .. } => false,
+        Edit::Insert { kind: None, .. } | Edit::Replace { .. } | Edit::AutoFill => true,
+        Edit::Delete(_) | Edit::CommentOut(_) | Edit::Set { .. } => true,
+    }
+}
+
+/// Whether the text after some edits needn't be checked. That is so where they are forced; and a text without a descriptor
+/// has no rules, and most edits put none in.
+pub(crate) fn keep_rules(file: &RecFile, edits: &[Edit], force: bool) -> bool
+    ensures kept { IsTrue result → (made : Edited) → AreSteps force (map task_of edits.now) (text_of file.now.pieces) (Ok made)
+        → IsSoundUnlessForced force made.text (Ok tt) }
+    ensures unforced { result ≡ false → force ≡ false }
+{
+    if force {
+        return true;
+    }
+    // These are the elements of a text.
+    let _text = file.database().text();
+    match edits {
+        [edit] => puts_no_descriptor_in(edit) && file.schema().sets().len() == 1,
+        _ => false,
+    }
+}
 
 /// Refuses a text that breaks the rules of its record sets, with all its violations.
 pub(crate) fn require_sound(alloc: Global, text: &[u8]) -> Result<(), Fault>
     ensures { UnlessMemory result (IsSound text.now) }
 {
-    let database = read(alloc, text)?;
-    let schema = Schema::read(alloc, &database)?;
-    let found = schema.violations(alloc, &database)?;
+    let file = RecFile::read(alloc, text)?;
+    let found = file.schema().violations(alloc, file.database())?;
     if !found.is_empty() {
         return Err(Fault::Integrity(Violations::from_vec(found)));
     }

@@ -6,4 +6,4 @@ pub mod EditLemmas
 pub mod AnswerLemmas
 pub mod WrittenLemmas
 pub mod BatchLemmas
-pub mod OneBatchLemmas
+pub mod OneOutcomeLemmas

@@ -13,9 +13,9 @@ joining hunk (next ∷ hunks) =
     else hunk ∷ next ∷ hunks
 
 -- changes next to each other are one
-abbrev pub joined : List Hunk → List Hunk
-joined [] = []
-joined (hunk ∷ hunks) = joining hunk (joined hunks)
+abbrev pub merged : List Hunk → List Hunk
+merged [] = []
+merged (hunk ∷ hunks) = joining hunk (merged hunks)
 
 -- a change of a text to the same text is none
 abbrev pub real_changes : List Hunk → List Hunk
@@ -23,4 +23,4 @@ real_changes hunks = filter (λ hunk. not (bytes_eq hunk.old hunk.new)) hunks
 
 -- a hunk for each run of changes
 abbrev pub hunks_of : List Part → List Hunk
-hunks_of script = real_changes (joined (changes_from 0 script))
+hunks_of script = real_changes (merged (changes_from 0 script))

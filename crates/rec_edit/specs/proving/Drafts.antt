@@ -11,7 +11,7 @@ use Rattle.rec_edit.specs.declared.script.draft.Draft.{Draft}
 use Rattle.rec_edit.specs.declared.script.draft.Run.{Run}
 use Rattle.rec_edit.specs.Script.{Part, Layout, closed, opened, settled, old_pieces, edited_text, changes_from}
 use Rattle.rec_edit.specs.proving.Parts.{parts_from, script_of}
-use Rattle.rec_edit.specs.proving.Changes.{joining, joined, real_changes, hunks_of}
+use Rattle.rec_edit.specs.proving.Changes.{joining, merged, real_changes, hunks_of}
 
 -- ranges of indexes below the size, in order and none of them empty
 pub record AreRanges (size : ℕ) (ranges : List (Range ℕ)) : Type 0 where
@@ -52,7 +52,7 @@ EndsBy (Some run) at = run.at + length run.old.items ≤ at
 
 -- of these parts, the last ones are left to do
 pub record IsDraft (draft : Draft) (left whole : List Part) : Type 0 where
-  pub hunks : hunks_of whole ≡ draft.hunks.items ++ real_changes (opening draft.run (joined (changes_from draft.at left)))
+  pub hunks : hunks_of whole ≡ draft.hunks.items ++ real_changes (opening draft.run (merged (changes_from draft.at left)))
   pub text : edited_text whole ≡ draft.text.items ++ edited_text left
   pub at : length (text_of (old_pieces whole)) ≡ draft.at + length (text_of (old_pieces left))
   pub run_ends : EndsBy draft.run draft.at

@@ -6,11 +6,11 @@ use Rattle.rec_text.specs.Elements.{Piece}
 use Rattle.rec_text.specs.Steps.{Then}
 use Rattle.rec_check.specs.declared.set.Set_.{Set_}
 use Rattle.rec_check.specs.Schemas.{Described}
-use Rattle.rec_edit.specs.declared.outcome.Edited.{Edited}
+use Rattle.rec_edit.specs.declared.outcome.Patched.{Patched}
 use Rattle.rec_edit.specs.Task.{Task}
 use Rattle.rec_edit.specs.Script.{Layout, edited_text}
 use Rattle.rec_edit.specs.Insertions.{inserting, insertion_for}
-use Rattle.rec_edit.specs.Outcome.{EditScript, IsEditScript, IsSoundUnlessForced, is_changed_by}
+use Rattle.rec_edit.specs.Outcome.{EditScript, IsEditScript, is_changed_by}
 use Rattle.rec_edit.specs.proving.Parts.{script_of}
 use Rattle.rec_edit.specs.proving.Changes.{hunks_of}
 use Rattle.rec_edit.specs.proving.Drafts.{is_changed}
@@ -28,13 +28,9 @@ abbrev pub laid_script : List Piece → List (Range ℕ) → Layout → EditScri
 laid_script pieces chosen layout = record { script = script_of layout pieces; changed = count_by (is_changed layout pieces) chosen }
 
 -- what the script of an edit comes to
-abbrev pub edited_by : EditScript → Edited
+abbrev pub edited_by : EditScript → Patched
 edited_by edit = record { patch = hunks_of edit.script; text = edited_text edit.script; changed = edit.changed }
 
 -- what an edit makes of a text, violations aside
-abbrev pub IsCarriedOut : List Piece → Described → Bool → Task → Result Edited Fault → Type 0
+abbrev pub IsCarriedOut : List Piece → Described → Bool → Task → Result Patched Fault → Type 0
 IsCarriedOut pieces schema force task = Then (IsEditScript pieces schema force task) (λ edit answer. answer ≡ Ok (edited_by edit))
-
--- what an edit comes to that made this: the text is checked unless that isn't needed
-abbrev pub IsChecked : Edited → Bool → Result Edited Fault → Type 0
-IsChecked edited keeps_rules = Then (IsSoundUnlessForced keeps_rules edited.text) (λ _ answer. answer ≡ Ok edited)

@@ -8,13 +8,13 @@ use Rattle.rec_check.specs.declared.set.Set_.{Set_}
 use Rattle.rec_check.specs.Rules.{Rules}
 use Rattle.rec_check.specs.Stored.{described}
 use Rattle.rec_select.specs.declared.selection.Selection.{Selection}
-use Rattle.rec_edit.specs.declared.outcome.Edited.{Edited}
+use Rattle.rec_edit.specs.declared.outcome.Patched.{Patched}
 use Rattle.rec_edit.specs.Automatic.{AreAutomatic, AreFilledMembers}
 use Rattle.rec_edit.specs.proving.Edits.{IsCarriedOut}
 use Rattle.rec_edit.specs.proving.Filling.{AreAllFilled, AreLacking}
 use Rattle.rec_edit.specs.proving.Given.{IsAutomaticText}
 use Rattle.rec_edit.specs.Insertions.{Numbered, Filled}
-use Rattle.rec_edit.specs.Outcome.{AreChosen, AreRemovable, IsEditOf, IsOutcome}
+use Rattle.rec_edit.specs.Outcome.{AreChosen, AreRemovable, IsEditOf}
 use Rattle.rec_edit.specs.proving.Sites.{IsRecordPut}
 use Rattle.rec_edit.specs.Task.{Pair, Task, wanted_by}
 use Rattle.rec_edit.specs.Wording.{names_in}
@@ -59,11 +59,8 @@ AreFilledIn file = AreAllFilled file.pieces (described file.schema)
 
 -- ---- the edit
 
-abbrev pub IsCarriedOutIn : ReadText → Bool → Task → Result Edited Fault → Type 0
+abbrev pub IsCarriedOutIn : ReadText → Bool → Task → Result Patched Fault → Type 0
 IsCarriedOutIn file = IsCarriedOut file.pieces (described file.schema)
 
-abbrev pub IsEditIn : ReadText → Bool → Task → Result Edited Fault → Type 0
+abbrev pub IsEditIn : ReadText → Bool → Task → Result Patched Fault → Type 0
 IsEditIn file = IsEditOf file.pieces (described file.schema)
-
-abbrev pub IsOutcomeIn : ReadText → Bool → Task → Result Edited Fault → Type 0
-IsOutcomeIn file = IsOutcome file.pieces (described file.schema)

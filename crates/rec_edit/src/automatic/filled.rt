@@ -91,7 +91,7 @@ fn fill_records<'s, 't>(
 /// Fills the records of the set at this place.
 fn fill_set<'s>(
     alloc: Global,
-    file: &RecFile<'s, '_>,
+    file: &'s RecFile<'_>,
     place: usize,
     filled: &mut Vec<FilledRecord<'s>>,
 ) -> Result<(), Fault>
@@ -110,7 +110,7 @@ fn fill_set<'s>(
 /// All records but the descriptors, set by set, each with the automatic fields that it lacks.
 pub(crate) fn filled_records<'s>(
     alloc: Global,
-    file: &RecFile<'s, '_>,
+    file: &'s RecFile<'_>,
 ) -> Result<Vec<FilledRecord<'s>>, Fault>
     ensures filled { IfOk result (λ filled. AreFilledIn file.now (Ok (filled_of filled.items))) }
     ensures refused { IfErr result (λ fault. IsMemoryOr fault (AreFilledIn file.now (Err fault))) }

@@ -2,8 +2,8 @@
 ghost use Rattle.std.specs.Prelude.{◌≡◌, ◌++◌, OnOk};
 ghost use Rattle.rec_edit.specs.Batch.{step_with};
 
-use crate::batches::BatchEdited;
-use crate::outcome::Edited;
+use crate::answer::Edited;
+use crate::outcome::Patched;
 use rec_journal::{EditStep, EditSteps, Patch, Tool};
 use rec_text::Bytes;
 use std::alloc::{AllocError, Global};
@@ -18,9 +18,9 @@ pub(crate) struct Progress {
 }
 
 impl Model for Progress {
-    ghost use Rattle.rec_edit.specs.declared.batches.BatchEdited.{BatchEdited};
+    ghost use Rattle.rec_edit.specs.declared.answer.Edited.{Edited};
 
-    ghost Value = { BatchEdited };
+    ghost Value = { Edited };
 
     ghost view = { λ p. record { steps = p.steps.items; text = p.text; changed = p.changed } };
 }
@@ -59,7 +59,7 @@ impl Progress {
     }
 
     /// Adds an edit of that text by a tool.
-    pub fn add(&mut self, tool: Tool, edited: Edited) -> Result<(), AllocError>
+    pub fn add(&mut self, tool: Tool, edited: Patched) -> Result<(), AllocError>
         ensures { OnOk result (self.new ≡ after_edit self.old tool edited) }
     {
         append_step(&mut self.steps, tool, edited.patch)?;
@@ -69,10 +69,10 @@ impl Progress {
     }
 
     /// What the edits made, as one.
-    pub fn finish(self) -> BatchEdited
+    pub fn finish(self) -> Edited
         ensures { result ≡ self }
     {
-        BatchEdited {
+        Edited {
             steps: EditSteps::from_vec(self.steps),
             text: self.text,
             changed: self.changed,

@@ -213,7 +213,7 @@ impl<'s, 't> Setting<'s, 't> {
 
     pub fn of(
         alloc: Global,
-        file: &RecFile<'s, 't>,
+        file: &'s RecFile<'t>,
         chosen: &'s [Range<usize>],
         list: &'s FieldList,
         action: &'s Action,

@@ -1,36 +1,39 @@
-use Rattle.std.proofs.Common.{◌≡◌, filter_map, slice_get, Ok, inl, inr, ap, refl, sym}
+use Rattle.std.proofs.Common.{◌≡◌, filter_map, slice_get, Ok, inl, inr, ap, refl, subst}
 use Rattle.std.proofs.lemmas.Result.{err_from_is_err_and}
+use Rattle.rec_text.specs.Records.{AreRecords}
 use Rattle.rec_text.proofs.lemmas.FaultLemmas.{memory_or_weaker}
 use Rattle.rec_edit.proofs.lemmas.records.MemberLemmas.{AreRanges-chosen, indexes_within, chosen_found}
 use Rattle.rec_edit.proofs.chosen.chosen_records.Goals as goal
 use Rattle.rec_edit.proofs.chosen.chosen_records.Goals.{In_ok-ranges_at}
 
-found : (c : In_ok-ranges_at) → c.in_ok-ranges_at.field-0.items ≡ filter_map (slice_get c.records.result) c.in_ok-selected.selected.items
+found : (c : In_ok-ranges_at) → c.in_ok-ranges_at.field-0.items ≡ filter_map (slice_get c.records-records.result) c.in_ok-selected.selected.items
 found c = chosen_found _ _ _ _ _ c.in_ok-ranges_at.ensures c.as_slice.ensures c.deref.ensures.value
-
-pub choose-requires : goal.choose-requires
-choose-requires c = rw (c.database-database.ensures.elements, c.schema.ensures.schema) c.database-database.ensures.together
 
 pub returns-in_err-selected-clause-refused : goal.returns-in_err-selected-clause-refused
 returns-in_err-selected-clause-refused c =
     let kept = err_from_is_err_and c.from_residual.result c.from_residual.ensures.1 in
-    let schema = c.schema.ensures.schema in
     let fault = c.in_err-selected.field-0.0 in
-    rw (kept.1, kept.2) (memory_or_weaker fault _ _ (λ refused. inl (fault, refused, refl)) (rw schema at c.in_err-selected.ensures.refused))
+    rw (kept.1, kept.2) (memory_or_weaker fault _ _ (λ refused. inl (fault, refused, refl)) c.in_err-selected.ensures.refused)
 
 pub ranges_at-requires : goal.ranges_at-requires
 ranges_at-requires c =
-    indexes_within c.database-database.result.now c.records.result _ c.in_ok-selected.selected.items _ c.in_ok-selected.ensures.indexes c.records.ensures c.as_slice.ensures c.deref.ensures.value
+    indexes_within c.args.file.now.pieces c.records-records.result _ c.in_ok-selected.selected.items _ c.in_ok-selected.ensures.indexes
+    (subst (λ pieces. AreRecords pieces c.records-records.result) c.database.ensures.elements c.records-records.ensures) c.as_slice.ensures c.deref.ensures.value
 
 pub returns-clause-found : goal.returns-clause-found
-returns-clause-found c = rw (sym c.database-database.ensures.elements, sym c.schema.ensures.schema) (inr (
+returns-clause-found c = inr (
   c.in_ok-selected.selected.items,
   c.in_ok-selected.ensures.selected,
-  (c.records.result, c.records.ensures, ap Ok (found (goal.at.returns-clause-found c).In_ok-ranges_at)),
-))
+  (
+    c.records-records.result,
+    subst (λ pieces. AreRecords pieces c.records-records.result) c.database.ensures.elements c.records-records.ensures,
+    ap Ok (found (goal.at.returns-clause-found c).In_ok-ranges_at),
+  ),
+)
 
 pub returns-clause-ranges : goal.returns-clause-ranges
-returns-clause-ranges c = rw (sym c.database-database.ensures.elements)
-    (AreRanges-chosen c.database-database.result.now c.records.result _ c.in_ok-selected.selected.items c.records.ensures c.in_ok-selected.ensures.selected.2.ascending
-    (indexes_within c.database-database.result.now c.records.result _ _ _ c.in_ok-selected.ensures.indexes c.records.ensures refl refl)
-    (found (goal.at.returns-clause-ranges c).In_ok-ranges_at))
+returns-clause-ranges c =
+    let are = subst (λ pieces. AreRecords pieces c.records-records.result) c.database.ensures.elements c.records-records.ensures in
+    AreRanges-chosen c.args.file.now.pieces c.records-records.result _ c.in_ok-selected.selected.items are c.in_ok-selected.ensures.selected.2.ascending
+    (indexes_within c.args.file.now.pieces c.records-records.result _ _ _ c.in_ok-selected.ensures.indexes are refl refl)
+    (found (goal.at.returns-clause-ranges c).In_ok-ranges_at)

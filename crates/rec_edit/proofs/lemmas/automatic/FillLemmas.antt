@@ -27,7 +27,7 @@ use Rattle.rec_edit.specs.Insertions.{Numbered, Filled, filling, numbered_fields
 use Rattle.rec_text.specs.Faults.{IsMemoryOr}
 use Rattle.rec_check.specs.Descriptors.{type_of}
 use Rattle.rec_check.specs.Schemas.{Described, IsDescribed, IsSchema}
-use Rattle.rec_edit.specs.declared.outcome.Edited.{Edited}
+use Rattle.rec_edit.specs.declared.outcome.Patched.{Patched}
 use Rattle.rec_edit.specs.proving.Edits.{IsCarriedOut, laid_script, edit_script, edited_by}
 use Rattle.rec_edit.proofs.lemmas.scripts.TiedLemmas.{laid_out}
 use Rattle.rec_edit.proofs.lemmas.outcomes.CountedLemmas.{filling_counted}
@@ -202,7 +202,7 @@ module _ (pieces : List Piece) (schema : Described) where
         memory_or_weaker fault (AreAllFilled pieces schema (Err fault)) (IsCarriedOut pieces schema force auto_fill (Err fault))
         (λ refused. inl (fault, (refused.0, refused.1, inl (fault, refused.2, refl)), refl)) is
 
-    pub auto_fill-made : (filled taken : List Filled) (given : List (Range ℕ)) (edited : Edited) → IsSchema pieces (Ok schema) → AreAllFilled pieces schema (Ok filled) → taken ≡ filled
+    pub auto_fill-made : (filled taken : List Filled) (given : List (Range ℕ)) (edited : Patched) → IsSchema pieces (Ok schema) → AreAllFilled pieces schema (Ok filled) → taken ≡ filled
         → given ≡ ranges_of filled → edited ≡ edited_by (laid_script pieces given (filling taken)) → IsCarriedOut pieces schema force auto_fill (Ok edited)
     auto_fill-made filled taken given edited is_schema are_filled planned same is =
         inr (

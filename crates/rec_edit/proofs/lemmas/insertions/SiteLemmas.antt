@@ -27,10 +27,10 @@ use Rattle.rec_edit.specs.Rules.{fields_of, canonical, empty_line}
 use Rattle.rec_edit.specs.proving.Sites.{empty_line_before, empty_line_after, around, placed, heading, Begins, IsPut, IsRecordPut, block}
 use Rattle.rec_text.specs.Bytes.{ends_newline}
 use Rattle.rec_journal.specs.declared.patch.Hunk.{Hunk}
-use Rattle.rec_edit.specs.declared.outcome.Edited.{Edited}
+use Rattle.rec_edit.specs.declared.outcome.Patched.{Patched}
 use Rattle.rec_edit.specs.Script.{Part, Layout, closed, opened, lacks_newline, settled, new_pieces, changes_from, edited_text}
 use Rattle.rec_edit.specs.proving.Parts.{putting, parts_from, script_of}
-use Rattle.rec_edit.specs.proving.Changes.{joined, real_changes, hunks_of}
+use Rattle.rec_edit.specs.proving.Changes.{merged, real_changes, hunks_of}
 use Rattle.rec_edit.specs.proving.Drafts.{LaysLines}
 use Rattle.rec_text.specs.declared.fault.Fault.{Fault}
 use Rattle.rec_text.specs.Faults.{IsMemoryOr}
@@ -274,8 +274,8 @@ module _ (place : ℕ) (new more : List Piece) (same : PutAlike new more) where
       → edited_by (record { script = script_of one pieces; changed = changed }) ≡ edited_by (record { script = script_of other pieces; changed = changed })
   same_insertion pieces changed =
       let alike = settled_alike (parts_from 0 one pieces) (parts_from 0 other pieces) (parts_alike 0 pieces) in
-      let made : List Hunk → List ℕ → Edited = λ hunks text. record { patch = hunks; text = text; changed = changed } in
-      ap (λ hunks. made (real_changes (joined hunks)) (edited_text (script_of one pieces))) (same_changes 0 (script_of one pieces) (script_of other pieces) alike)
+      let made : List Hunk → List ℕ → Patched = λ hunks text. record { patch = hunks; text = text; changed = changed } in
+      ap (λ hunks. made (real_changes (merged hunks)) (edited_text (script_of one pieces))) (same_changes 0 (script_of one pieces) (script_of other pieces) alike)
       ∙ ap (made (hunks_of (script_of other pieces))) (same_edited (script_of one pieces) (script_of other pieces) alike)
 
 -- ---- in one piece
@@ -320,7 +320,7 @@ LaysLines-in_one place text new ended is = record {
 pub put_in_one : (pieces : List Piece) (place : ℕ) (text : List ℕ) (insertion : Insertion) (changed : ℕ) → AreEnded insertion.new → IsPut place text insertion
     → edited_by (record { script = script_of (inserting (in_one place text)) pieces; changed = changed }) ≡ edited_by (record { script = script_of (inserting insertion) pieces; changed = changed })
 put_in_one pieces place text insertion changed ended is =
-    let made : ℕ → Edited = λ at. edited_by (record { script = script_of (inserting (in_one at text)) pieces; changed = changed }) in
+    let made : ℕ → Patched = λ at. edited_by (record { script = script_of (inserting (in_one at text)) pieces; changed = changed }) in
     ap made is.same_place ∙ same_insertion insertion.place (block text) insertion.new (block-alike text insertion.new ended is.same_text) pieces changed
 
 -- ---- the edit that puts a new record in, and its refusals
@@ -389,7 +389,7 @@ module _ (pieces : List Piece) (schema : Described) (record_type : Option (List 
       pub LaysLines-insert : LaysLines (inserting (in_one place text))
       LaysLines-insert = LaysLines-in_one place text (insertion_for pieces put.records schema.sets record_type fields).new ended is_put.same_text
 
-      pub insert-made : (force : Bool) (edited : Edited) → edited ≡ edited_by (record { script = script_of (inserting (in_one place text)) pieces; changed = 1 })
+      pub insert-made : (force : Bool) (edited : Patched) → edited ≡ edited_by (record { script = script_of (inserting (in_one place text)) pieces; changed = 1 })
           → IsCarriedOut pieces schema force (insert record_type fresh auto) (Ok edited)
       insert-made force edited is =
           inr (

@@ -14,7 +14,7 @@ use Rattle.rec_edit.specs.Task.{Task, Pair, Wanted, NewRecord, of_pairs, of_text
 use Rattle.rec_edit.specs.Script.{Layout, new_pieces, edited_text}
 use Rattle.rec_edit.specs.proving.Parts.{script_of}
 use Rattle.rec_edit.specs.proving.Changes.{hunks_of}
-use Rattle.rec_edit.specs.Outcome.{allowed, AreChosen, AreRemovable, IsLaidOut, IsPutIn, EditScript, IsEditScript, none_of, IsSoundUnlessForced, IsEditOf, IsOutcome, IsEditRefusal}
+use Rattle.rec_edit.specs.Outcome.{allowed, AreChosen, AreRemovable, IsLaidOut, IsPutIn, EditScript, IsEditScript, none_of, IsSoundUnlessForced, IsEditOf, IsEditRefusal}
 use Rattle.rec_edit.specs.Effect.{HasEffect}
 use Rattle.rec_sex.specs.declared.lists.field_list.Item.{Item}
 use Rattle.rec_edit.specs.declared.request.Action.TheVariants.{Add}
@@ -32,7 +32,6 @@ use Rattle.rec_check.specs.Sets.{is_of_type}
 use Rattle.rec_check.specs.Violations.{AreViolationsOf, members, names_of}
 use Rattle.rec_select.specs.Selection.{Filter, all, by_expression, at_places, with_text, has_members, only_set, set_for, IsSelection}
 use Rattle.rec_edit.specs.declared.request.Action.{Action}
-use Rattle.rec_edit.specs.declared.outcome.Edited.{Edited}
 use Rattle.rec_edit.specs.Insertions.{Numbered, numbered_fields, filling}
 use Rattle.rec_edit.specs.Rules.{fields_of, deletion, commenting, replacement, setting}
 use Rattle.rec_edit.specs.Automatic.{lacking, AreNumbered, AreAutomatic, numbers_in, AreFilled, AreFilledSets}
@@ -294,10 +293,3 @@ module _ (text : List ℕ) (new : List Piece) (same : Described) (read : AreElem
 pub RefusesSo-edit : (pieces : List Piece) (schema : Described) (force : Bool) (task : Task) → RefusesSo (IsEditOf pieces schema force task)
 RefusesSo-edit pieces schema force task =
     RefusesSo-Then (IsEditScript pieces schema force task) _ (RefusesSo-step pieces schema force task) (λ edit answer (edited, by, e). subst MayBe (sym e) tt)
-
-pub RefusesSo-outcome : (pieces : List Piece) (schema : Described) (force : Bool) (task : Task)
-    → ((edited : Edited) → IsEditOf pieces schema force task (Ok edited) → RefusesSo (IsSoundUnlessForced force edited.text)) → RefusesSo (IsOutcome pieces schema force task)
-RefusesSo-outcome pieces schema force task sound_so answer (inl (fault, is, e)) =
-    subst (λ (r : Result Edited Fault). MayBe r) (sym e) (RefusesSo-edit pieces schema force task (Err fault) is)
-RefusesSo-outcome pieces schema force task sound_so answer (inr (edited, is, rest)) =
-    RefusesSo-Then (IsSoundUnlessForced force edited.text) (λ _ answer. answer ≡ Ok edited) (sound_so edited is) (λ _. RefusesSo-same (Ok edited) tt) answer rest

@@ -1,10 +1,12 @@
--- Edits one after another: each text between is read, the steps lead from the first text to the last, and what is done and
--- what is left are the whole.
-use Rattle.std.proofs.Common.{◌≡◌, ◌∙◌, ℕ, ◌+◌, ◌-◌, ◌<◌, ◌≤◌, length, map, take, drop, get_or, Bool, true, false, List, [], ◌∷◌, ◌++◌, refl, ap, ap₂, sym, subst, inl, inr, arith, append_assoc, append-nil, Result, Ok, Err}
-use Rattle.std.specs.Prelude.{IfOk, IfErr, min}
+-- Edits one after another: each text between is read, the steps lead from the first text to the last, and which edit is
+-- refused.
+use Rattle.std.proofs.Common.{◌≡◌, ◌∙◌, ℕ, zero, suc, ◌+◌, ◌<◌, length, map, take, drop, get_or, Bool, false, List, [], ◌∷◌, ◌++◌, refl, ap, ap₂, sym, subst, inl, inr, arith, append_assoc, append-nil, Option, Some, None, Result, Ok, Err}
+use Rattle.std.specs.Prelude.{IfOk, IfErr}
+use Rattle.std.specs.List.{AllByRecursion}
 use Rattle.std.proofs.lemmas.Int.{clamps}
-use Rattle.std.proofs.lemmas.List.{at_drop_more, drop_all, take_rest}
+use Rattle.std.proofs.lemmas.List.{drop-map, drop_more, map_more, take-map}
 use Rattle.rec_text.specs.declared.fault.Fault.{Fault}
+use Rattle.rec_text.specs.declared.fault.Fault.TheVariants.{BadPattern}
 use Rattle.rec_text.specs.Elements.{Piece, text_of, AreElementsOf}
 use Rattle.rec_text.specs.Faults.{IsMemoryOr, UnlessMemory}
 use Rattle.rec_text.specs.Reading.{IsReading}
@@ -16,24 +18,26 @@ use Rattle.rec_journal.specs.declared.event.Tool.{Tool}
 use Rattle.rec_journal.specs.declared.patch.Hunk.{Hunk}
 use Rattle.rec_journal.specs.Patch.{Splices}
 use Rattle.rec_journal.specs.Revisions.{LeadsBy, AreDone, is_batch}
-use Rattle.rec_edit.specs.declared.batches.BatchEdited.{BatchEdited}
-use Rattle.rec_edit.specs.declared.outcome.Edited.{Edited}
+use Rattle.rec_edit.specs.declared.answer.Edited.{Edited}
+use Rattle.rec_edit.specs.declared.answer.RefusedEdit.{RefusedEdit}
+use Rattle.rec_edit.specs.declared.outcome.Patched.{Patched}
 use Rattle.rec_edit.specs.declared.request.Edit.{Edit}
 use Rattle.rec_edit.specs.Task.{Task, task_of, tool_of, insert, replace, delete, comment_out, set, auto_fill}
-use Rattle.rec_edit.specs.Script.{edited_text, new_pieces, old_pieces}
+use Rattle.rec_edit.specs.Script.{edited_text, new_pieces, old_pieces, TakesWhole}
 use Rattle.rec_edit.specs.proving.Changes.{hunks_of}
-use Rattle.rec_edit.specs.Outcome.{IsEditOf, IsSound, IsSoundUnlessForced, IsEditRefusal}
-use Rattle.rec_edit.specs.Batch.{IsEditOn, step_with, at_most_greatest, joined, AreSteps, IsBatchOutcome, HaveEffects}
+use Rattle.rec_edit.specs.Outcome.{IsEditOf, IsSound, IsSoundUnlessForced, IsEditRefusal, PutsNoDescriptorIn}
+use Rattle.rec_edit.specs.Batch.{IsEditOn, step_with, at_most_greatest, with_first, AreSteps, IsBatchOutcome, fault_alone, IsRefusedAt, AreRefusedAt, AreWholeSteps, HaveEffects}
 use Rattle.rec_edit.specs.Effect.{HasEffect}
-use Rattle.rec_edit.specs.proving.Batches.{untouched, after_edit, followed, IsUnderWay}
+use Rattle.rec_edit.specs.proving.Batches.{untouched, after_edit}
 use Rattle.rec_edit.specs.proving.Edits.{edited_by}
 use Rattle.rec_text.proofs.lemmas.reading.ReadingLemmas.{one_reading}
 use Rattle.rec_text.proofs.lemmas.FaultLemmas.{no_both, same_value, memory_or_weaker}
 use Rattle.rec_text.proofs.lemmas.StepLemmas.{Then-ok}
+use Rattle.rec_check.proofs.lemmas.laws.SameLemmas.{one_schema}
 use Rattle.rec_edit.proofs.lemmas.outcomes.AnswerLemmas.{RefusesSo-edit, RefusesSo-sound, schema_refusal, unless_memory-weaker}
-use Rattle.rec_edit.proofs.lemmas.outcomes.EditLemmas.{fault_is, is_edited_by, old_pieces-edit, script_of_edit}
+use Rattle.rec_edit.proofs.lemmas.outcomes.EditLemmas.{fault_is, is_edited_by, old_pieces-edit, outcome-unruled, script_of_edit}
 use Rattle.rec_edit.proofs.lemmas.outcomes.UnruledLemmas.{faithful}
-use Rattle.rec_edit.proofs.lemmas.scripts.ScriptLemmas.{Splices-hunks_of, same_where_no_hunk}
+use Rattle.rec_edit.proofs.lemmas.scripts.ScriptLemmas.{Splices-hunks_of, TakesWhole-hunks_of, same_where_no_hunk}
 
 -- an edit is done by a tool of its own
 pub is_batch-tool_of : (task : Task) → is_batch (tool_of task) ≡ false
@@ -43,77 +47,6 @@ is_batch-tool_of (delete wanted) = refl
 is_batch-tool_of (comment_out wanted) = refl
 is_batch-tool_of (set wanted list action) = refl
 is_batch-tool_of auto_fill = refl
-
--- ---- what is done, and the rest
-
-same_made : (a b : List EditStep) (text : List ℕ) (m n : ℕ) → a ≡ b → m ≡ n
-    → ◌≡◌ {A = BatchEdited} (record { steps = a; text = text; changed = m }) (record { steps = b; text = text; changed = n })
-same_made a b text m n steps changed = ap₂ (λ s c. record { steps = s; text = text; changed = c }) steps changed
-
-sum_of_two : (a b : ℕ) → at_most_greatest (at_most_greatest (0 + a) + b) ≡ at_most_greatest (a + b)
-sum_of_two a b = omega (arith, clamps)
-
-sum_of_three : (a b c : ℕ) → at_most_greatest (a + at_most_greatest (b + c)) ≡ at_most_greatest (at_most_greatest (a + b) + c)
-sum_of_three a b c = omega (arith, clamps)
-
-at_most : (a : ℕ) → at_most_greatest a ≤ 18446744073709551615
-at_most a = omega (arith, clamps)
-
-as_it_is : (a : ℕ) → a ≤ 18446744073709551615 → at_most_greatest (a + 0) ≡ a
-as_it_is a small = omega (arith, clamps, small)
-
-module _ (force : Bool) where
-  -- the first edit is made
-  first_edit : (task : Task) (left : List Task) (text empty : List ℕ) (edited : Edited) → IsEditOn force task text (Ok edited)
-      → IsUnderWay force (task ∷ left) text (after_edit (untouched empty) (tool_of task) edited) left
-  first_edit task left text empty edited is = record {
-    goes_on = λ rest are. inr (
-      edited,
-      is,
-      inr (rest, are, ap Ok (same_made _ _ rest.text _ _ refl (sum_of_two edited.changed rest.changed))),
-    );
-    fits = at_most (0 + edited.changed);
-    stops = λ fault refused. inr (edited, is, inl (fault, refused, refl));
-  }
-
-  -- there is no edit
-  no_edit : (text : List ℕ) → IsUnderWay force [] text (untouched text) []
-  no_edit text = record {
-    goes_on = λ rest are. subst (λ r. ◌≡◌ {A = Result BatchEdited Fault} (Ok (followed (untouched text) r)) (Ok (untouched text))) (sym (same_value rest (untouched text) are)) refl;
-    fits = omega arith;
-    stops = λ fault refused. refused;
-  }
-
-  -- where no edit is the first, none is made of a copy of the text
-  pub no_first : (edits : List Edit) (text copy : List ℕ) (done : BatchEdited) → length edits ≡ 0 → copy ≡ text → done ≡ untouched copy
-      → IsUnderWay force (map task_of edits) text done (map task_of (drop 1 edits))
-  no_first [] text copy done none same is = subst (λ d. IsUnderWay force [] text d []) (sym (is ∙ ap untouched same)) (no_edit text)
-  no_first (edit ∷ edits) text copy done none same is = absurd (omega arith)
-
-  module _ (tasks : List Task) (text : List ℕ) (done : BatchEdited) where
-    -- one edit more
-    next_edit : (task : Task) (left : List Task) (edited : Edited) → IsUnderWay force tasks text done (task ∷ left) → IsEditOn force task done.text (Ok edited)
-        → IsUnderWay force tasks text (after_edit done (tool_of task) edited) left
-    next_edit task left edited under_way is = record {
-      goes_on = λ rest are.
-          let same : followed done (joined task edited rest) ≡ followed (after_edit done (tool_of task) edited) rest =
-          same_made _ _ rest.text _ _ (sym (append_assoc done.steps (step_with (tool_of task) edited.patch) rest.steps)) (sum_of_three done.changed edited.changed rest.changed) in
-          subst (λ r. AreSteps force tasks text (Ok r)) same (under_way.goes_on (joined task edited rest) (inr (edited, is, inr (rest, are, refl))));
-      fits = at_most (done.changed + edited.changed);
-      stops = λ fault refused. under_way.stops fault (inr (edited, is, inl (fault, refused, refl)));
-    }
-
-    -- the next edit is refused
-    next_refused : (task : Task) (left : List Task) (fault : Fault) → IsUnderWay force tasks text done (task ∷ left) → IsEditOn force task done.text (Err fault)
-        → AreSteps force tasks text (Err fault)
-    next_refused task left fault under_way refused = under_way.stops fault (inl (fault, refused, refl))
-
-    -- no edit is left
-    pub all_edits : IsUnderWay force tasks text done [] → AreSteps force tasks text (Ok done)
-    all_edits under_way =
-        let same : followed done (untouched done.text) ≡ done =
-        same_made _ _ done.text _ _ (append-nil done.steps) (as_it_is done.changed under_way.fits) in
-        subst (λ r. AreSteps force tasks text (Ok r)) same (under_way.goes_on (untouched done.text) refl)
 
 -- ---- one edit of a text that is read
 
@@ -135,31 +68,50 @@ described_parts text described is =
 pub read_is_described : (text : List ℕ) (pieces : List Piece) (schema : Described) → IsRead text pieces schema → IsDescribedText text (Ok (record { pieces = pieces; schema = schema }))
 read_is_described text pieces schema there = inr (pieces, there.read, inr (schema, there.is, refl))
 
+-- a text that isn't read keeps no rules
+refused_reading : (text : List ℕ) (fault : Fault) → IsDescribedText text (Err fault) → IsSound text (Err fault)
+refused_reading text fault (inl (other, unread, e)) = let one : other ≡ fault = cc in inl (fault, inl (subst (λ f. IsReading text (Err f)) one unread), refl)
+refused_reading text fault (inr (pieces, read, inl (other, bad, e))) = let one : other ≡ fault = cc in inl (fault, inr (pieces, read, subst (λ f. IsSchema pieces (Err f)) one bad), refl)
+refused_reading text fault (inr (pieces, read, inr (schema, is, e))) = absurd (no_both _ fault (sym e))
+
+pub unsound_unread : (text : List ℕ) (fault : Fault) → IsMemoryOr fault (IsDescribedText text (Err fault)) → IsMemoryOr fault (IsSound text (Err fault))
+unsound_unread text fault is = memory_or_weaker fault (IsDescribedText text (Err fault)) (IsSound text (Err fault)) (refused_reading text fault) is
+
 -- what holds of an edit of a text
-pub record IsFaithfulOn (task : Task) (text : List ℕ) (edited : Edited) : Type 0 where
+pub record IsFaithfulOn (task : Task) (text : List ℕ) (edited : Patched) : Type 0 where
   pub leads : Splices edited.patch text edited.text
-  pub unchanged : edited.patch ≡ [] → text ≡ edited.text
+  pub same : edited.patch ≡ [] → text ≡ edited.text
+  pub unchanged : edited.text ≡ text → edited.patch ≡ []
   pub pieces : List Piece
   pub schema : Described
   pub read : IsRead edited.text pieces schema
-  pub effect : (described : DescribedText) × IsDescribedText text (Ok described) × HasEffect described.pieces described.schema task edited.text
+  pub before : DescribedText
+  pub is_before : IsDescribedText text (Ok before)
+  pub elements : AreElementsOf before.pieces text
+  pub whole : AllByRecursion (TakesWhole before.pieces) edited.patch
+  pub effect : HasEffect before.pieces before.schema task edited.text
 
-pub faithful_on : (force : Bool) (task : Task) (text : List ℕ) (edited : Edited) → IsEditOn force task text (Ok edited) → IsFaithfulOn task text edited
+pub faithful_on : (force : Bool) (task : Task) (text : List ℕ) (edited : Patched) → IsEditOn force task text (Ok edited) → IsFaithfulOn task text edited
 faithful_on force task text edited is =
     let (described, is_described, is_edit) = Then-ok (IsDescribedText text) (λ described. IsEditOf described.pieces described.schema force task) edited is in
     let there = described_parts text described is_described in
     let whole : AreElementsOf described.pieces (text_of described.pieces) = subst (AreElementsOf described.pieces) (sym there.read.joined) there.read in
     let (edit, is_script, by) = script_of_edit described.pieces described.schema task force edited is_edit in
     let of_script = faithful described.pieces described.schema force task whole there.is edit is_script in
-    let old : text_of (old_pieces edit.script) ≡ text =
-    ap text_of (old_pieces-edit described.pieces described.schema force task whole there.is edit is_script) ∙ there.read.joined in
+    let old_are : old_pieces edit.script ≡ described.pieces = old_pieces-edit described.pieces described.schema force task whole there.is edit is_script in
+    let old : text_of (old_pieces edit.script) ≡ text = ap text_of old_are ∙ there.read.joined in
     let holds : IsFaithfulOn task text (edited_by edit) = record {
       leads = subst (λ before. Splices (hunks_of edit.script) before (edited_text edit.script)) old (Splices-hunks_of edit.script);
-      unchanged = λ none. sym (same_where_no_hunk edit.script none ∙ old);
+      same = λ none. sym (same_where_no_hunk edit.script none ∙ old);
+      unchanged = λ same. of_script.unchanged (same ∙ sym there.read.joined);
       pieces = new_pieces edit.script;
       schema = of_script.sound.0;
       read = record { read = of_script.read; is = of_script.sound.1 };
-      effect = (described, is_described, of_script.effect);
+      before = described;
+      is_before = is_described;
+      elements = there.read;
+      whole = subst (λ pieces. AllByRecursion (TakesWhole pieces) (hunks_of edit.script)) old_are (TakesWhole-hunks_of edit.script);
+      effect = of_script.effect;
     } in
     subst (IsFaithfulOn task text) (sym (is_edited_by described.pieces described.schema force task whole there.is edit edited is_script by)) holds
 
@@ -179,18 +131,68 @@ edit_refusal force task text pieces schema fault there (inl (other, inr (more, i
 -- ---- all edits
 
 -- the parts of what a first edit and those after it make
-record AreParts (force : Bool) (task : Task) (tasks : List Task) (text : List ℕ) (made : BatchEdited) : Type 0 where
-  edited : Edited
-  is : IsEditOn force task text (Ok edited)
-  rest : BatchEdited
-  are : AreSteps force tasks edited.text (Ok rest)
-  joins : made ≡ joined task edited rest
+record AreParts (force : Bool) (task : Task) (tasks : List Task) (text : List ℕ) (made : Edited) : Type 0 where
+  first : Patched
+  is : IsEditOn force task text (Ok first)
+  rest : Edited
+  are : AreSteps force tasks first.text (Ok rest)
+  joins : made ≡ with_first task first rest
 
-parts_of : (force : Bool) (task : Task) (tasks : List Task) (text : List ℕ) (made : BatchEdited) → AreSteps force (task ∷ tasks) text (Ok made) → AreParts force task tasks text made
+parts_of : (force : Bool) (task : Task) (tasks : List Task) (text : List ℕ) (made : Edited) → AreSteps force (task ∷ tasks) text (Ok made) → AreParts force task tasks text made
 parts_of force task tasks text made steps =
-    let first = Then-ok (IsEditOn force task text) (λ edited. Then (AreSteps force tasks edited.text) (λ rest answer. answer ≡ Ok (joined task edited rest))) made steps in
-    let others = Then-ok (AreSteps force tasks first.0.text) (λ rest answer. answer ≡ Ok (joined task first.0 rest)) made first.2 in
-    record { edited = first.0; is = first.1; rest = others.0; are = others.1; joins = same_value made (joined task first.0 others.0) others.2 }
+    let first = Then-ok (IsEditOn force task text) (λ edited. Then (AreSteps force tasks edited.text) (λ rest answer. answer ≡ Ok (with_first task edited rest))) made steps in
+    let others = Then-ok (AreSteps force tasks first.0.text) (λ rest answer. answer ≡ Ok (with_first task first.0 rest)) made first.2 in
+    record { first = first.0; is = first.1; rest = others.0; are = others.1; joins = same_value made (with_first task first.0 others.0) others.2 }
+
+same_made : (a b : List EditStep) (text : List ℕ) (m n : ℕ) → a ≡ b → m ≡ n
+    → ◌≡◌ {A = Edited} (record { steps = a; text = text; changed = m }) (record { steps = b; text = text; changed = n })
+same_made a b text m n steps changed = ap₂ (λ s c. record { steps = s; text = text; changed = c }) steps changed
+
+sum_of_one : (a : ℕ) → at_most_greatest (a + 0) ≡ at_most_greatest (0 + a)
+sum_of_one a = omega (arith, clamps)
+
+sum_of_three : (a b c : ℕ) → at_most_greatest (a + at_most_greatest (b + c)) ≡ at_most_greatest (at_most_greatest (a + b) + c)
+sum_of_three a b c = omega (arith, clamps)
+
+module _ (force : Bool) (task : Task) where
+  -- edits with one more after them
+  pub with_last : (tasks : List Task) (text : List ℕ) (done : Edited) (last : Patched) → AreSteps force tasks text (Ok done) → IsEditOn force task done.text (Ok last)
+      → AreSteps force (tasks ++ task ∷ []) text (Ok (after_edit done (tool_of task) last))
+  with_last [] text done last is made =
+      let begun : done ≡ untouched text = same_value done (untouched text) is in
+      subst (λ (d : Edited). AreSteps force (task ∷ []) text (Ok (after_edit d (tool_of task) last))) (sym begun)
+      (inr (
+        last,
+        subst (λ (d : Edited). IsEditOn force task d.text (Ok last)) begun made,
+        inr (untouched last.text, refl, ap Ok (sym (same_made _ _ last.text _ _ (append-nil (step_with (tool_of task) last.patch)) (sum_of_one last.changed)))),
+      ))
+  with_last (one ∷ tasks) text done last is made =
+      let parts = parts_of force one tasks text done is in
+      let rest = with_last tasks parts.first.text parts.rest last parts.are (subst (λ (d : Edited). IsEditOn force task d.text (Ok last)) parts.joins made) in
+      subst (λ (d : Edited). AreSteps force (one ∷ (tasks ++ task ∷ [])) text (Ok (after_edit d (tool_of task) last))) (sym parts.joins)
+      (inr (
+        parts.first,
+        parts.is,
+        inr (
+          after_edit parts.rest (tool_of task) last,
+          rest,
+          ap Ok (same_made _ _ last.text _ _ (append_assoc (step_with (tool_of one) parts.first.patch) parts.rest.steps (step_with (tool_of task) last.patch))
+              (sym (sum_of_three parts.first.changed parts.rest.changed last.changed))),
+        ),
+      ))
+
+  -- the edits before one are made, and it is refused
+  refused_next : (i : ℕ) (tasks left : List Task) (text : List ℕ) (done : Edited) (fault : Fault) → AreSteps force (take i tasks) text (Ok done) → drop i tasks ≡ task ∷ left
+      → IsEditOn force task done.text (Err fault) → IsRefusedAt force tasks text i fault
+  refused_next zero [] left text done fault is next refused = absurd (cc)
+  refused_next zero (one ∷ tasks) left text done fault is next refused =
+      let begun : done ≡ untouched text = same_value done (untouched text) is in
+      let same : task ≡ one = cc in
+      subst (λ t. IsEditOn force t text (Err fault)) same (subst (λ (d : Edited). IsEditOn force task d.text (Err fault)) begun refused)
+  refused_next (suc i) [] left text done fault is next refused = absurd (cc)
+  refused_next (suc i) (one ∷ tasks) left text done fault is next refused =
+      let parts = parts_of force one (take i tasks) text done is in
+      (parts.first, parts.is, refused_next i tasks left parts.first.text parts.rest fault parts.are next (subst (λ (d : Edited). IsEditOn force task d.text (Err fault)) parts.joins refused))
 
 leads-step_with : (tool : Tool) (hunks : List Hunk) (steps : List EditStep) (before between after : List ℕ) → Splices hunks before between → (hunks ≡ [] → before ≡ between)
     → LeadsBy steps between after → LeadsBy (step_with tool hunks ++ steps) before after
@@ -201,167 +203,190 @@ done-step_with : (tool : Tool) (hunks : List Hunk) (steps : List EditStep) → i
 done-step_with tool [] steps by_one_tool done = done
 done-step_with tool (hunk ∷ hunks) steps by_one_tool done = (((λ none. cc), by_one_tool), done)
 
+whole-step_with : (tool : Tool) (hunks : List Hunk) (steps : List EditStep) (before between : List ℕ) (pieces : List Piece) → Splices hunks before between → (hunks ≡ [] → before ≡ between)
+    → (between ≡ before → hunks ≡ []) → AreElementsOf pieces before → AllByRecursion (TakesWhole pieces) hunks → AreWholeSteps steps between → AreWholeSteps (step_with tool hunks ++ steps) before
+whole-step_with tool [] steps before between pieces splices same unchanged elements whole are = subst (AreWholeSteps steps) (sym (same refl)) are
+whole-step_with tool (hunk ∷ hunks) steps before between pieces splices same unchanged elements whole are = (
+  between,
+  record { leads = splices; changes = λ e. let none = unchanged e in cc; pieces = pieces; elements = elements; whole = whole },
+  are,
+)
+
 module _ (force : Bool) where
-  steps_lead : (tasks : List Task) (text : List ℕ) (made : BatchEdited) → AreSteps force tasks text (Ok made) → LeadsBy made.steps text made.text
-  steps_lead [] text made is = subst (λ (m : BatchEdited). LeadsBy m.steps text m.text) (sym (same_value made (untouched text) is)) refl
+  steps_lead : (tasks : List Task) (text : List ℕ) (made : Edited) → AreSteps force tasks text (Ok made) → LeadsBy made.steps text made.text
+  steps_lead [] text made is = subst (λ (m : Edited). LeadsBy m.steps text m.text) (sym (same_value made (untouched text) is)) refl
   steps_lead (task ∷ tasks) text made is =
       let parts = parts_of force task tasks text made is in
-      let holds = faithful_on force task text parts.edited parts.is in
-      subst (λ (m : BatchEdited). LeadsBy m.steps text m.text) (sym parts.joins)
-      (leads-step_with (tool_of task) parts.edited.patch parts.rest.steps text parts.edited.text parts.rest.text holds.leads holds.unchanged
-      (steps_lead tasks parts.edited.text parts.rest parts.are))
+      let holds = faithful_on force task text parts.first parts.is in
+      subst (λ (m : Edited). LeadsBy m.steps text m.text) (sym parts.joins)
+      (leads-step_with (tool_of task) parts.first.patch parts.rest.steps text parts.first.text parts.rest.text holds.leads holds.same
+      (steps_lead tasks parts.first.text parts.rest parts.are))
 
-  steps_are_done : (tasks : List Task) (text : List ℕ) (made : BatchEdited) → AreSteps force tasks text (Ok made) → AreDone made.steps
-  steps_are_done [] text made is = subst (λ (m : BatchEdited). AreDone m.steps) (sym (same_value made (untouched text) is)) tt
+  steps_are_done : (tasks : List Task) (text : List ℕ) (made : Edited) → AreSteps force tasks text (Ok made) → AreDone made.steps
+  steps_are_done [] text made is = subst (λ (m : Edited). AreDone m.steps) (sym (same_value made (untouched text) is)) tt
   steps_are_done (task ∷ tasks) text made is =
       let parts = parts_of force task tasks text made is in
-      subst (λ (m : BatchEdited). AreDone m.steps) (sym parts.joins)
-      (done-step_with (tool_of task) parts.edited.patch parts.rest.steps (is_batch-tool_of task) (steps_are_done tasks parts.edited.text parts.rest parts.are))
+      subst (λ (m : Edited). AreDone m.steps) (sym parts.joins)
+      (done-step_with (tool_of task) parts.first.patch parts.rest.steps (is_batch-tool_of task) (steps_are_done tasks parts.first.text parts.rest parts.are))
 
-  steps_have_effects : (tasks : List Task) (text : List ℕ) (made : BatchEdited) → AreSteps force tasks text (Ok made) → HaveEffects tasks text made.text
-  steps_have_effects [] text made is = ap (λ (m : BatchEdited). m.text) (sym (same_value made (untouched text) is))
+  steps_are_whole : (tasks : List Task) (text : List ℕ) (made : Edited) → AreSteps force tasks text (Ok made) → AreWholeSteps made.steps text
+  steps_are_whole [] text made is = subst (λ (m : Edited). AreWholeSteps m.steps text) (sym (same_value made (untouched text) is)) tt
+  steps_are_whole (task ∷ tasks) text made is =
+      let parts = parts_of force task tasks text made is in
+      let holds = faithful_on force task text parts.first parts.is in
+      subst (λ (m : Edited). AreWholeSteps m.steps text) (sym parts.joins)
+      (whole-step_with (tool_of task) parts.first.patch parts.rest.steps text parts.first.text holds.before.pieces holds.leads holds.same holds.unchanged holds.elements holds.whole
+      (steps_are_whole tasks parts.first.text parts.rest parts.are))
+
+  steps_have_effects : (tasks : List Task) (text : List ℕ) (made : Edited) → AreSteps force tasks text (Ok made) → HaveEffects tasks text made.text
+  steps_have_effects [] text made is = ap (λ (m : Edited). m.text) (sym (same_value made (untouched text) is))
   steps_have_effects (task ∷ tasks) text made is =
       let parts = parts_of force task tasks text made is in
-      let effect = (faithful_on force task text parts.edited parts.is).effect in
-      subst (λ (m : BatchEdited). HaveEffects (task ∷ tasks) text m.text) (sym parts.joins)
-      (effect.0, parts.edited.text, effect.1, effect.2, steps_have_effects tasks parts.edited.text parts.rest parts.are)
+      let holds = faithful_on force task text parts.first parts.is in
+      subst (λ (m : Edited). HaveEffects (task ∷ tasks) text m.text) (sym parts.joins)
+      (holds.before, parts.first.text, holds.is_before, holds.effect, steps_have_effects tasks parts.first.text parts.rest parts.are)
 
   -- the last text is read
-  last_is_read : (tasks : List Task) (text : List ℕ) (pieces : List Piece) (schema : Described) (made : BatchEdited) → IsRead text pieces schema
+  last_is_read : (tasks : List Task) (text : List ℕ) (pieces : List Piece) (schema : Described) (made : Edited) → IsRead text pieces schema
       → AreSteps force tasks text (Ok made) → (last : List Piece) × (sets : Described) × IsRead made.text last sets
   last_is_read [] text pieces schema made there is =
-      (pieces, schema, subst (λ (m : BatchEdited). IsRead m.text pieces schema) (sym (same_value made (untouched text) is)) there)
+      (pieces, schema, subst (λ (m : Edited). IsRead m.text pieces schema) (sym (same_value made (untouched text) is)) there)
   last_is_read (task ∷ tasks) text pieces schema made there is =
       let parts = parts_of force task tasks text made is in
-      let next = faithful_on force task text parts.edited parts.is in
-      let last = last_is_read tasks parts.edited.text next.pieces next.schema parts.rest next.read parts.are in
-      (last.0, last.1, subst (λ (m : BatchEdited). IsRead m.text last.0 last.1) (sym parts.joins) last.2)
+      let next = faithful_on force task text parts.first parts.is in
+      let last = last_is_read tasks parts.first.text next.pieces next.schema parts.rest next.read parts.are in
+      (last.0, last.1, subst (λ (m : Edited). IsRead m.text last.0 last.1) (sym parts.joins) last.2)
 
-  steps_refusal : (tasks : List Task) (text : List ℕ) (pieces : List Piece) (schema : Described) (fault : Fault) → IsRead text pieces schema
-      → AreSteps force tasks text (Err fault) → IsEditRefusal fault
-  steps_refusal [] text pieces schema fault there is = absurd (no_both (untouched text) fault (sym is))
-  steps_refusal (task ∷ tasks) text pieces schema fault there (inl (other, is, e)) =
-      let one : other ≡ fault = cc in
-      subst IsEditRefusal one (edit_refusal force task text pieces schema other there is)
-  steps_refusal (task ∷ tasks) text pieces schema fault there (inr (edited, is, inl (other, are, e))) =
-      let next = faithful_on force task text edited is in
-      let one : other ≡ fault = cc in
-      subst IsEditRefusal one (steps_refusal tasks edited.text next.pieces next.schema other next.read are)
-  steps_refusal (task ∷ tasks) text pieces schema fault there (inr (edited, is, inr (rest, are, e))) = absurd (no_both (joined task edited rest) fault (sym e))
+  refusal_at : (tasks : List Task) (text : List ℕ) (pieces : List Piece) (schema : Described) (index : ℕ) (fault : Fault) → IsRead text pieces schema
+      → IsRefusedAt force tasks text index fault → IsEditRefusal fault
+  refusal_at [] text pieces schema index fault there is = absurd is
+  refusal_at (task ∷ tasks) text pieces schema zero fault there is = edit_refusal force task text pieces schema fault there is
+  refusal_at (task ∷ tasks) text pieces schema (suc index) fault there (edited, made, is) =
+      let next = faithful_on force task text edited made in
+      refusal_at tasks edited.text next.pieces next.schema index fault next.read is
 
-  -- ---- the outcome of a batch
+  -- an edit that is refused refuses them all
+  steps_refused_at : (tasks : List Task) (text : List ℕ) (index : ℕ) (fault : Fault) → IsRefusedAt force tasks text index fault → AreSteps force tasks text (Err fault)
+  steps_refused_at [] text index fault is = absurd is
+  steps_refused_at (task ∷ tasks) text zero fault is = inl (fault, is, refl)
+  steps_refused_at (task ∷ tasks) text (suc index) fault (edited, made, is) = inr (edited, made, inl (fault, steps_refused_at tasks edited.text index fault is, refl))
+
+  -- ---- what they come to
 
   module _ (tasks : List Task) (text : List ℕ) where
-    steps_of_outcome : (made : BatchEdited) → IsBatchOutcome force tasks text (Ok made) → AreSteps force tasks text (Ok made)
+    outcome_refused : (index : Option ℕ) (fault : Fault) → AreRefusedAt force tasks text index fault → IsBatchOutcome force tasks text (Err fault)
+    outcome_refused (Some index) fault is = inl (fault, steps_refused_at tasks text index fault is, refl)
+    outcome_refused None fault (made, are, unsound) = inr (made, are, inl (fault, unsound, refl))
+
+    outcome_refusal : (pieces : List Piece) (schema : Described) → IsRead text pieces schema → (index : Option ℕ) (fault : Fault) → AreRefusedAt force tasks text index fault → IsEditRefusal fault
+    outcome_refusal pieces schema there (Some index) fault is = refusal_at tasks text pieces schema index fault there is
+    outcome_refusal pieces schema there None fault (made, are, unsound) =
+        let last = last_is_read tasks text pieces schema made there are in
+        RefusesSo-sound made.text last.0 last.1 last.2.read last.2.is force (Err fault) unsound
+
+    module _ (made : Edited) (are : AreSteps force tasks text (Ok made)) where
+      pub kept_outcome : IsSoundUnlessForced force made.text (Ok tt) → IsBatchOutcome force tasks text (Ok made)
+      kept_outcome sound = inr (made, are, inr (tt, sound, refl))
+
+      module _ (unforced : force ≡ false) (last : List ℕ) (same : last ≡ made.text) where
+        pub sound_outcome : IsSound last (Ok tt) → IsBatchOutcome force tasks text (Ok made)
+        sound_outcome sound = kept_outcome (subst (λ f. IsSoundUnlessForced f made.text (Ok tt)) (sym unforced) (subst (λ t. IsSound t (Ok tt)) same sound))
+
+        pub unsound_outcome : (fault : Fault) → IsMemoryOr fault (IsSound last (Err fault)) → IsMemoryOr fault (AreRefusedAt force tasks text None fault)
+        unsound_outcome fault is =
+            memory_or_weaker fault (IsSound last (Err fault)) (AreRefusedAt force tasks text None fault)
+            (λ unsound. (made, are, subst (λ f. IsSoundUnlessForced f made.text (Err fault)) (sym unforced) (subst (λ t. IsSound t (Err fault)) same unsound))) is
+
+    steps_of_outcome : (made : Edited) → IsBatchOutcome force tasks text (Ok made) → AreSteps force tasks text (Ok made)
     steps_of_outcome made is =
         let first = Then-ok (AreSteps force tasks text) (λ made. Then (IsSoundUnlessForced force made.text) (λ _ answer. answer ≡ Ok made)) made is in
         let rest = Then-ok (IsSoundUnlessForced force first.0.text) (λ _ answer. answer ≡ Ok first.0) made first.2 in
         subst (λ m. AreSteps force tasks text (Ok m)) (sym (same_value made first.0 rest.2)) first.1
 
-    pub batch-leads : (result : Result BatchEdited Fault) → UnlessMemory result (IsBatchOutcome force tasks text) → IfOk result (λ made. LeadsBy made.steps text made.text)
-    batch-leads (Ok made) found = steps_lead tasks text made (steps_of_outcome made found)
-    batch-leads (Err fault) found = tt
+    of_steps : (P : Edited → Type 0) (result : Result Edited RefusedEdit) → ((made : Edited) → AreSteps force tasks text (Ok made) → P made)
+        → IfOk result (λ made. IsBatchOutcome force tasks text (Ok made)) → IfOk result P
+    of_steps P (Ok made) holds is = holds made (steps_of_outcome made is)
+    of_steps P (Err refused) holds is = tt
 
-    pub batch-changes : (result : Result BatchEdited Fault) → UnlessMemory result (IsBatchOutcome force tasks text) → IfOk result (λ made. AreDone made.steps)
-    batch-changes (Ok made) found = steps_are_done tasks text made (steps_of_outcome made found)
-    batch-changes (Err fault) found = tt
+    module _ (result : Result Edited RefusedEdit) (is : IfOk result (λ made. IsBatchOutcome force tasks text (Ok made))) where
+      pub outcome-leads : IfOk result (λ made. LeadsBy made.steps text made.text)
+      outcome-leads = of_steps (λ made. LeadsBy made.steps text made.text) result (steps_lead tasks text) is
 
-    pub batch-effects : (result : Result BatchEdited Fault) → UnlessMemory result (IsBatchOutcome force tasks text) → IfOk result (λ made. HaveEffects tasks text made.text)
-    batch-effects (Ok made) found = steps_have_effects tasks text made (steps_of_outcome made found)
-    batch-effects (Err fault) found = tt
+      pub outcome-changes : IfOk result (λ made. AreDone made.steps)
+      outcome-changes = of_steps (λ made. AreDone made.steps) result (steps_are_done tasks text) is
 
-    module _ (pieces : List Piece) (schema : Described) (there : IsRead text pieces schema) where
-      outcome_refusal : (fault : Fault) → IsBatchOutcome force tasks text (Err fault) → IsEditRefusal fault
-      outcome_refusal fault (inl (other, is, e)) =
-          let one : other ≡ fault = cc in
-          subst IsEditRefusal one (steps_refusal tasks text pieces schema other there is)
-      outcome_refusal fault (inr (made, is, inl (other, unsound, e))) =
-          let last = last_is_read tasks text pieces schema made there is in
-          let one : other ≡ fault = cc in
-          subst IsEditRefusal one (RefusesSo-sound made.text last.0 last.1 last.2.read last.2.is force (Err other) unsound)
-      outcome_refusal fault (inr (made, is, inr (_, sound, e))) = absurd (no_both made fault (sym e))
+      pub outcome-whole : IfOk result (λ made. AreWholeSteps made.steps text)
+      outcome-whole = of_steps (λ made. AreWholeSteps made.steps text) result (steps_are_whole tasks text) is
 
-      pub batch-refusals : (result : Result BatchEdited Fault) → UnlessMemory result (IsBatchOutcome force tasks text) → IfErr result IsEditRefusal
-      batch-refusals (Ok made) found = tt
-      batch-refusals (Err fault) found = fault_is fault (memory_or_weaker fault (IsBatchOutcome force tasks text (Err fault)) (IsEditRefusal fault) (outcome_refusal fault) found)
+      pub outcome-effects : IfOk result (λ made. HaveEffects tasks text made.text)
+      outcome-effects = of_steps (λ made. HaveEffects tasks text made.text) result (steps_have_effects tasks text) is
+
+    pub outcome-found : (result : Result Edited RefusedEdit) → IfOk result (λ made. IsBatchOutcome force tasks text (Ok made))
+        → IfErr result (λ refused. IsMemoryOr refused.fault (AreRefusedAt force tasks text refused.index refused.fault))
+        → UnlessMemory (fault_alone result) (IsBatchOutcome force tasks text)
+    outcome-found (Ok made) is refused = is
+    outcome-found (Err why) is refused = memory_or_weaker why.fault _ (IsBatchOutcome force tasks text (Err why.fault)) (outcome_refused why.index why.fault) refused
+
+    pub outcome-refusals : (pieces : List Piece) (schema : Described) (there : IsRead text pieces schema) (result : Result Edited RefusedEdit)
+        → IfErr result (λ refused. IsMemoryOr refused.fault (AreRefusedAt force tasks text refused.index refused.fault)) → IfErr result (λ refused. IsEditRefusal refused.fault)
+    outcome-refusals pieces schema there (Ok made) refused = tt
+    outcome-refusals pieces schema there (Err why) refused =
+        fault_is why.fault (memory_or_weaker why.fault _ (IsEditRefusal why.fault) (outcome_refusal pieces schema there why.index why.fault) refused)
 
 -- ---- what the code makes of a text
 
 module _ (force : Bool) (task : Task) (text : List ℕ) where
-  -- it isn't read
-  pub unread_edit : (fault : Fault) → IsMemoryOr fault (IsReading text (Err fault)) → IsMemoryOr fault (IsEditOn force task text (Err fault))
-  unread_edit fault is =
-      memory_or_weaker fault (IsReading text (Err fault)) (IsEditOn force task text (Err fault))
-      (λ unread. inl (fault, inl (fault, unread, refl), refl)) is
+  -- it isn't read, or its descriptors aren't
+  pub undescribed_edit : (fault : Fault) → IsMemoryOr fault (IsDescribedText text (Err fault)) → IsMemoryOr fault (IsEditOn force task text (Err fault))
+  undescribed_edit fault is =
+      memory_or_weaker fault (IsDescribedText text (Err fault)) (IsEditOn force task text (Err fault)) (λ undescribed. inl (fault, undescribed, refl)) is
 
-  -- a descriptor is refused
-  pub undescribed_edit : (pieces : List Piece) (fault : Fault) → AreElementsOf pieces text → IsMemoryOr fault (IsSchema pieces (Err fault))
-      → IsMemoryOr fault (IsEditOn force task text (Err fault))
-  undescribed_edit pieces fault read is =
-      memory_or_weaker fault (IsSchema pieces (Err fault)) (IsEditOn force task text (Err fault))
-      (λ bad. inl (fault, inr (pieces, read, inl (fault, bad, refl)), refl)) is
+  pub edit_of_described : (described : DescribedText) (result : Result Patched Fault) → IsDescribedText text (Ok described)
+      → UnlessMemory result (IsEditOf described.pieces described.schema force task) → UnlessMemory result (IsEditOn force task text)
+  edit_of_described described result there is =
+      unless_memory-weaker result (IsEditOf described.pieces described.schema force task) (IsEditOn force task text) (λ answer edits. inr (described, there, edits)) is
 
-  edit_of : (pieces : List Piece) (schema : Described) (answer : Result Edited Fault) → IsRead text pieces schema → IsEditOf pieces schema force task answer → IsEditOn force task text answer
-  edit_of pieces schema answer there is = inr (record { pieces = pieces; schema = schema }, read_is_described text pieces schema there, is)
+-- an edit of a file that was read
+pub edit_of_read : (force : Bool) (task : Task) (text : List ℕ) (pieces : List Piece) (schema : Described) (result : Result Patched Fault) → IsRead text pieces schema
+    → UnlessMemory result (IsEditOf pieces schema force task) → UnlessMemory result (IsEditOn force task text)
+edit_of_read force task text pieces schema result there is = edit_of_described force task text (record { pieces = pieces; schema = schema }) result (read_is_described text pieces schema there) is
 
-  pub edit_of_read : (pieces : List Piece) (schema : Described) (result : Result Edited Fault) → IsRead text pieces schema → UnlessMemory result (IsEditOf pieces schema force task)
-      → UnlessMemory result (IsEditOn force task text)
-  edit_of_read pieces schema result there is = unless_memory-weaker result (IsEditOf pieces schema force task) (IsEditOn force task text) (λ answer. edit_of pieces schema answer there) is
+-- an edit that puts no descriptor into a text without one keeps its rules
+pub unruled_steps : (task : Task) (pieces : List Piece) (schema : Described) (made : Edited) → IsRead (text_of pieces) pieces schema → PutsNoDescriptorIn task → length schema.sets ≡ 1
+    → AreSteps false (task ∷ []) (text_of pieces) (Ok made) → IsSound made.text (Ok tt)
+unruled_steps task pieces schema made there puts one are =
+    let parts = parts_of false task [] (text_of pieces) made are in
+    let (described, is_described, is_edit) = Then-ok (IsDescribedText (text_of pieces)) (λ described. IsEditOf described.pieces described.schema false task) parts.first parts.is in
+    let here = described_parts (text_of pieces) described is_described in
+    let same : described.pieces ≡ pieces = same_value described.pieces pieces (one_reading (text_of pieces) (Ok described.pieces) (Ok pieces) here.read there.read) in
+    let is : IsSchema pieces (Ok described.schema) = subst (λ ps. IsSchema ps (Ok described.schema)) same here.is in
+    let alike = one_schema pieces (Ok described.schema) (Ok schema) is there.is (no_both described.schema BadPattern) (no_both schema BadPattern) in
+    let sound : IsSound parts.first.text (Ok tt) =
+    outcome-unruled pieces described.schema task parts.first (subst (λ ps. IsEditOf ps described.schema false task (Ok parts.first)) same is_edit) puts there.read is (ap length alike.0 ∙ one) in
+    let last : parts.rest ≡ untouched parts.first.text = same_value parts.rest (untouched parts.first.text) parts.are in
+    let end : made.text ≡ parts.first.text = ap (λ (m : Edited). m.text) parts.joins ∙ ap (λ (m : Edited). m.text) last in
+    subst (λ t. IsSound t (Ok tt)) (sym end) sound
 
-module _ (force : Bool) (tasks : List Task) (text : List ℕ) (done : BatchEdited) (task : Task) (left : List Task) (under_way : IsUnderWay force tasks text done (task ∷ left)) where
-  pub taken_step : (new : BatchEdited) (tool : Tool) (edited : Edited) (here : List ℕ) → here ≡ done.text → tool ≡ tool_of task → new ≡ after_edit done tool edited
-      → IsEditOn force task here (Ok edited) → IsUnderWay force tasks text new left
-  taken_step new tool edited here same by is made =
-      subst (λ d. IsUnderWay force tasks text d left) (sym (is ∙ ap (λ t. after_edit done t edited) by))
-      (next_edit force tasks text done task left edited under_way (subst (λ t. IsEditOn force task t (Ok edited)) same made))
+-- ---- the first edit
 
-  pub refused_step : (here : List ℕ) (fault : Fault) → here ≡ done.text → IsMemoryOr fault (IsEditOn force task here (Err fault)) → IsMemoryOr fault (AreSteps force tasks text (Err fault))
-  refused_step here fault same is =
-      memory_or_weaker fault (IsEditOn force task here (Err fault)) (AreSteps force tasks text (Err fault))
-      (λ refused. next_refused force tasks text done task left fault under_way (subst (λ t. IsEditOn force task t (Err fault)) same refused)) is
-
-module _ (force : Bool) (task : Task) (left : List Task) (text : List ℕ) (pieces : List Piece) (schema : Described) (there : IsRead text pieces schema) where
-  pub taken_first : (new : BatchEdited) (tool : Tool) (edited : Edited) (empty : List ℕ) → tool ≡ tool_of task → new ≡ after_edit (untouched empty) tool edited
-      → IsEditOf pieces schema force task (Ok edited) → IsUnderWay force (task ∷ left) text new left
-  taken_first new tool edited empty by is made =
-      subst (λ d. IsUnderWay force (task ∷ left) text d left) (sym (is ∙ ap (λ t. after_edit (untouched empty) t edited) by))
-      (first_edit force task left text empty edited (edit_of force task text pieces schema (Ok edited) there made))
-
-  pub refused_first : (fault : Fault) → IsMemoryOr fault (IsEditOf pieces schema force task (Err fault)) → IsMemoryOr fault (AreSteps force (task ∷ left) text (Err fault))
-  refused_first fault is =
-      memory_or_weaker fault (IsEditOf pieces schema force task (Err fault)) (AreSteps force (task ∷ left) text (Err fault))
-      (λ refused. inl (fault, edit_of force task text pieces schema (Err fault) there refused, refl)) is
-
--- ---- what the code answers
-
-module _ (tasks : List Task) (text : List ℕ) (made : BatchEdited) where
-  pub forced_batch : AreSteps true tasks text (Ok made) → IsBatchOutcome true tasks text (Ok made)
-  forced_batch are = inr (made, are, inr (tt, refl, refl))
-
-  pub sound_batch : AreSteps false tasks text (Ok made) → IsSound made.text (Ok tt) → IsBatchOutcome false tasks text (Ok made)
-  sound_batch are sound = inr (made, are, inr (tt, sound, refl))
-
-  pub unsound_batch : (fault : Fault) → AreSteps false tasks text (Ok made) → IsMemoryOr fault (IsSound made.text (Err fault)) → IsMemoryOr fault (IsBatchOutcome false tasks text (Err fault))
-  unsound_batch fault are is =
-      memory_or_weaker fault (IsSound made.text (Err fault)) (IsBatchOutcome false tasks text (Err fault)) (λ unsound. inr (made, are, inl (fault, unsound, refl))) is
-
-pub refused_batch : (force : Bool) (tasks : List Task) (text : List ℕ) (fault : Fault) → IsMemoryOr fault (AreSteps force tasks text (Err fault)) → IsMemoryOr fault (IsBatchOutcome force tasks text (Err fault))
-refused_batch force tasks text fault is =
-    memory_or_weaker fault (AreSteps force tasks text (Err fault)) (IsBatchOutcome force tasks text (Err fault)) (λ refused. inl (fault, refused, refl)) is
+pub tasks_of_one : (edits : List Edit) (edit : Edit) → length edits ≡ 1 → edit ≡ get_or edits 0 edit → map task_of edits ≡ task_of edit ∷ []
+tasks_of_one [] edit one is = absurd (cc)
+tasks_of_one (first ∷ []) edit one is = ap (λ e. task_of e ∷ []) (sym is)
+tasks_of_one (first ∷ second ∷ edits) edit one is = absurd (omega (arith, one))
 
 -- ---- the edits that are left
 
-pub tasks_left : (edits : List Edit) (i : ℕ) (edit : Edit) → i < length edits → edit ≡ get_or edits i edit
-    → map task_of (drop i edits) ≡ task_of edit ∷ map task_of (drop (i + 1) edits)
-tasks_left edits i edit within is = at_drop_more (map task_of) edits i edit within ∙ ap (λ e. task_of e ∷ map task_of (drop (i + 1) edits)) (sym is)
+module _ (force : Bool) (edits : List Edit) (text : List ℕ) (done : Edited) where
+  -- the edits before this one are made
+  pub refused_edit : (i : ℕ) (edit : Edit) (fault : Fault) → i < length edits → edit ≡ get_or edits i edit → AreSteps force (take i (map task_of edits)) text (Ok done)
+      → IsMemoryOr fault (IsEditOn force (task_of edit) done.text (Err fault)) → IsMemoryOr fault (IsRefusedAt force (map task_of edits) text i fault)
+  refused_edit i edit fault within is are refused =
+      let left : drop i (map task_of edits) ≡ task_of edit ∷ map task_of (drop (i + 1) edits) =
+      drop-map task_of i edits ∙ ap (map task_of) (drop_more edits i edit within) ∙ ap (λ e. task_of e ∷ map task_of (drop (i + 1) edits)) (sym is) in
+      memory_or_weaker fault (IsEditOn force (task_of edit) done.text (Err fault)) (IsRefusedAt force (map task_of edits) text i fault)
+      (refused_next force (task_of edit) i (map task_of edits) (map task_of (drop (i + 1) edits)) text done fault are left) refused
 
-pub none_left : (edits : List Edit) (i : ℕ) → length edits ≤ i → map task_of (drop i edits) ≡ []
-none_left edits i past = ap (map task_of) (drop_all i edits past)
-
-drop_first : (edits : List Edit) (n : ℕ) → n ≡ min (length edits) 1 → drop n edits ≡ drop 1 edits
-drop_first [] n is = let none : n ≡ 0 = omega (arith, is) in ap (λ k. drop k []) none
-drop_first (edit ∷ edits) n is = let one : n ≡ 1 = omega (arith, is) in ap (λ k. drop k (edit ∷ edits)) one
-
--- the code's slice of the edits after the first one
-pub tasks_after_first : (edits : List Edit) (n : ℕ) → n ≡ min (length edits) 1 → map task_of (take (length edits - n) (drop n edits)) ≡ map task_of (drop 1 edits)
-tasks_after_first edits n is = ap (map task_of) (take_rest edits n ∙ drop_first edits n is)
+pub tasks_with : (edits : List Edit) (i : ℕ) (edit : Edit) → i < length edits → edit ≡ get_or edits i edit → take i (map task_of edits) ++ task_of edit ∷ [] ≡ take (i + 1) (map task_of edits)
+tasks_with edits i edit within is =
+    ap (λ tasks. tasks ++ task_of edit ∷ []) (take-map task_of i edits) ∙ ap (λ e. map task_of (take i edits) ++ task_of e ∷ []) is
+    ∙ sym (map_more task_of edits i edit within) ∙ sym (take-map task_of (i + 1) edits)

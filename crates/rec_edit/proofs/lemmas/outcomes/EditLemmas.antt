@@ -4,7 +4,6 @@ use Rattle.std.specs.List.{AllByRecursion}
 use Rattle.std.specs.Str.{bytes_eq}
 use Rattle.std.proofs.lemmas.Bool.{cases_Bool, eq-eqb, ne_eqb, cond_both}
 use Rattle.std.proofs.lemmas.List.{length-append}
-use Rattle.std.specs.Prelude.{◌↔◌, IsTrue, IfOk, IfErr}
 use Rattle.std.specs.declared.ops.Range.{Range}
 use Rattle.rec_text.specs.Elements.{Piece, IsElement, text_of, AreElementsOf}
 use Rattle.rec_journal.specs.declared.event.Event.TheVariants.{Edited as Revised}
@@ -12,24 +11,21 @@ use Rattle.rec_journal.specs.declared.patch.Hunk.{Hunk}
 use Rattle.rec_journal.specs.Bound.{most_bytes, most_of_batch}
 use Rattle.rec_journal.specs.Revisions.{all_hunks}
 use Rattle.rec_journal.specs.Event.{spelling}
-use Rattle.rec_edit.specs.Outcome.{HunksAreChanges, AreChosen, AreRemovable, EditScript, IsEditScript, IsSound, IsSoundUnlessForced, IsEditedBy, IsEditOf, IsOutcome, IsEditRefusal, PutsNoDescriptorIn}
-use Rattle.rec_edit.specs.Script.{Part, Layout, closed, is_kept, old_pieces, new_pieces, edited_text, changes_from, as_one, AreInTurn, AreChangesOf, TakesWhole}
+use Rattle.rec_edit.specs.Outcome.{HunksAreChanges, AreChosen, AreRemovable, EditScript, IsEditScript, IsSound, IsEditedBy, IsEditOf, IsEditRefusal, PutsNoDescriptorIn}
+use Rattle.rec_edit.specs.Script.{Part, Layout, closed, is_kept, old_pieces, new_pieces, edited_text, changes_from, as_one, AreInTurn, AreChangesOf}
 use Rattle.rec_edit.specs.proving.Parts.{putting, changing, parts_from, script_of}
-use Rattle.rec_edit.specs.proving.Changes.{joining, joined, real_changes, hunks_of}
+use Rattle.rec_edit.specs.proving.Changes.{joining, merged, real_changes, hunks_of}
 use Rattle.rec_text.specs.declared.fault.Fault.{Fault}
-use Rattle.rec_text.specs.declared.fault.Fault.TheVariants.{OutOfMemory, BadPattern}
+use Rattle.rec_text.specs.declared.fault.Fault.TheVariants.{OutOfMemory}
 use Rattle.rec_text.specs.Faults.{IsMemoryOr, UnlessMemory}
-use Rattle.rec_text.specs.Steps.{Then}
 use Rattle.rec_sex.specs.declared.lists.field_list.Item.{Item}
 use Rattle.rec_check.specs.Schemas.{Described, IsSchema}
-use Rattle.rec_journal.specs.Patch.{Splices}
 use Rattle.rec_edit.specs.declared.request.Action.{Action}
-use Rattle.rec_edit.specs.declared.outcome.Edited.{Edited}
+use Rattle.rec_edit.specs.declared.outcome.Patched.{Patched}
 use Rattle.rec_edit.specs.Task.{Wanted, Task, delete, comment_out, set, Pair, NewRecord, replace}
 use Rattle.rec_edit.specs.Rules.{with_blanks, removing, deletion, commenting, setting, fields_of, is_own, replacement}
 use Rattle.rec_edit.specs.Wording.{AreItemsFor, IsNewRecord}
-use Rattle.rec_edit.specs.proving.Edits.{edit_script, laid_script, edited_by, IsCarriedOut, IsChecked}
-use Rattle.rec_edit.specs.Effect.{HasEffect}
+use Rattle.rec_edit.specs.proving.Edits.{edit_script, laid_script, edited_by, IsCarriedOut}
 use Rattle.rec_edit.specs.proving.Endings.{FieldEdit}
 use Rattle.rec_text.specs.Bytes.{ends_newline}
 use Rattle.rec_edit.specs.proving.Marks.{is_start}
@@ -42,12 +38,12 @@ use Rattle.rec_edit.proofs.lemmas.scripts.PassLemmas.{some_text}
 use Rattle.rec_edit.proofs.lemmas.scripts.EqualLemmas.{length-opened, settled-all}
 use Rattle.rec_edit.proofs.lemmas.outcomes.UnruledLemmas.{faithful, unruled_edit_is_sound}
 use Rattle.rec_edit.proofs.lemmas.scripts.RunLemmas.{one_list_of_changes}
-use Rattle.rec_edit.proofs.lemmas.scripts.ScriptLemmas.{old_pieces-script_of, Splices-hunks_of, TakesWhole-hunks_of, same_where_no_hunk}
-use Rattle.rec_text.proofs.lemmas.FaultLemmas.{no_both, same_value, memory_or_weaker}
+use Rattle.rec_edit.proofs.lemmas.scripts.ScriptLemmas.{old_pieces-script_of}
+use Rattle.rec_text.proofs.lemmas.FaultLemmas.{same_value, memory_or_weaker}
 use Rattle.rec_text.proofs.lemmas.StepLemmas.{Then-ok}
-use Rattle.rec_edit.proofs.lemmas.outcomes.AnswerLemmas.{IsFaithful, RefusesSo, RefusesSo-sound, RefusesSo-outcome, unless_memory-weaker}
+use Rattle.rec_edit.proofs.lemmas.outcomes.AnswerLemmas.{unless_memory-weaker}
 use Rattle.rec_edit.proofs.lemmas.outcomes.CountedLemmas.{deletion_counted, commenting_counted, replacement_counted, setting_counted}
-use Rattle.rec_edit.proofs.lemmas.outcomes.OutcomeLemmas.{one_outcome, same_edited}
+use Rattle.rec_edit.proofs.lemmas.outcomes.OutcomeLemmas.{same_edited}
 use Rattle.rec_edit.proofs.lemmas.scripts.LaidLemmas.{canonical-ends}
 
 -- ---- the hunks of a script are its changes: the script is cut into runs of kept parts and of changed ones
@@ -98,7 +94,7 @@ IsFull part = is_kept part ≡ true → 0 < length (text_of part.old)
 record IsCut (kept : Bool) (script : List Part) (runs : List (List Part)) : Type 0 where
   pub parts : flat_map (λ run. run) runs ≡ script
   pub in_turn : AreInTurn kept runs
-  pub hunks : (at : ℕ) → joined (changes_from at script) ≡ run_hunks kept at runs
+  pub hunks : (at : ℕ) → merged (changes_from at script) ≡ run_hunks kept at runs
 
 none_cut : (kept other : Bool) (script : List Part) → IsCut kept script [] → IsCut other script []
 none_cut kept other script cut = record { parts = cut.parts; in_turn = tt; hunks = cut.hunks }
@@ -281,14 +277,14 @@ module _ (pieces : List Piece) (schema : Described) (force : Bool) (task : Task)
   IsEditedBy-edited_by : (edit : EditScript) → IsEditScript pieces schema force task (Ok edit) → IsEditedBy edit (edited_by edit)
   IsEditedBy-edited_by edit is = record { patch = changes_of_edit edit is; text = refl; changed = refl }
 
-  pub is_edited_by : (edit : EditScript) (edited : Edited) → IsEditScript pieces schema force task (Ok edit) → IsEditedBy edit edited → edited ≡ edited_by edit
+  pub is_edited_by : (edit : EditScript) (edited : Patched) → IsEditScript pieces schema force task (Ok edit) → IsEditedBy edit edited → edited ≡ edited_by edit
   is_edited_by edit edited is by = same_edited edit edited (edited_by edit) by (IsEditedBy-edited_by edit is)
 
-  is_carried_out : (answer : Result Edited Fault) → IsCarriedOut pieces schema force task answer → IsEditOf pieces schema force task answer
+  is_carried_out : (answer : Result Patched Fault) → IsCarriedOut pieces schema force task answer → IsEditOf pieces schema force task answer
   is_carried_out answer (inl refused) = inl refused
   is_carried_out answer (inr (edit, is, e)) = inr (edit, is, (edited_by edit, IsEditedBy-edited_by edit is, e))
 
-  pub carried_out : (result : Result Edited Fault) → UnlessMemory result (IsCarriedOut pieces schema force task) → UnlessMemory result (IsEditOf pieces schema force task)
+  pub carried_out : (result : Result Patched Fault) → UnlessMemory result (IsCarriedOut pieces schema force task) → UnlessMemory result (IsEditOf pieces schema force task)
   carried_out result is = unless_memory-weaker result (IsCarriedOut pieces schema force task) (IsEditOf pieces schema force task) is_carried_out is
 
 pub hunks_are_changes : HunksAreChanges
@@ -309,9 +305,9 @@ hunks_are_changes pieces schema force task edit elements is_schema is =
 -- ---- by its kind
 
 -- a step of the same chosen records and the same layout
-same_script : (pieces : List Piece) (given chosen : List (Range ℕ)) (done layout : Layout) (edited : Edited) → edited ≡ edited_by (laid_script pieces given done)
+same_script : (pieces : List Piece) (given chosen : List (Range ℕ)) (done layout : Layout) (edited : Patched) → edited ≡ edited_by (laid_script pieces given done)
     → given ≡ chosen → done ≡ layout → laid_script pieces chosen layout ≡ edit_script pieces chosen layout
-    → ◌≡◌ {A = Result Edited Fault} (Ok edited) (Ok (edited_by (edit_script pieces chosen layout)))
+    → ◌≡◌ {A = Result Patched Fault} (Ok edited) (Ok (edited_by (edit_script pieces chosen layout)))
 same_script pieces given chosen done layout edited is same alike counted =
     ap Ok (is ∙ ap (λ ranges. edited_by (laid_script pieces ranges done)) same ∙ ap (λ l. edited_by (laid_script pieces chosen l)) alike ∙ ap edited_by counted)
 
@@ -321,7 +317,7 @@ module _ (pieces : List Piece) (schema : Described) (force : Bool) (wanted : Wan
       memory_or_weaker fault (AreRemovable pieces schema.sets wanted force (Err fault)) (IsCarriedOut pieces schema force (delete wanted) (Err fault))
       (λ refused. inl (fault, inl (fault, refused, refl), refl)) is
 
-  pub delete-made : (chosen given covered gone : List (Range ℕ)) (as_comments : Bool) (edited : Edited) → AreRemovable pieces schema.sets wanted force (Ok chosen)
+  pub delete-made : (chosen given covered gone : List (Range ℕ)) (as_comments : Bool) (edited : Patched) → AreRemovable pieces schema.sets wanted force (Ok chosen)
       → covered ≡ chosen → gone ≡ map (with_blanks pieces) covered → as_comments ≡ false → given ≡ chosen → edited ≡ edited_by (laid_script pieces given (removing as_comments gone))
       → IsCarriedOut pieces schema force (delete wanted) (Ok edited)
   delete-made chosen given covered gone as_comments edited are all goes none same is =
@@ -338,7 +334,7 @@ module _ (pieces : List Piece) (schema : Described) (force : Bool) (wanted : Wan
       memory_or_weaker fault (AreRemovable pieces schema.sets wanted force (Err fault)) (IsCarriedOut pieces schema force (comment_out wanted) (Err fault))
       (λ refused. inl (fault, inl (fault, refused, refl), refl)) is
 
-  pub comment_out-made : (chosen given covered own : List (Range ℕ)) (as_comments : Bool) (edited : Edited) → AreRemovable pieces schema.sets wanted force (Ok chosen)
+  pub comment_out-made : (chosen given covered own : List (Range ℕ)) (as_comments : Bool) (edited : Patched) → AreRemovable pieces schema.sets wanted force (Ok chosen)
       → covered ≡ chosen → own ≡ covered → as_comments ≡ true → given ≡ chosen → edited ≡ edited_by (laid_script pieces given (removing as_comments own))
       → IsCarriedOut pieces schema force (comment_out wanted) (Ok edited)
   comment_out-made chosen given covered own as_comments edited are all goes all_comments same is =
@@ -362,7 +358,7 @@ module _ (pieces : List Piece) (schema : Described) (force : Bool) (wanted : Wan
         (λ refused. inl (fault, inr (items, are, inl (fault, refused, refl)), refl)) is
 
     -- the same edit as its layout keeps it
-    pub set-made : (items : List Item) (chosen given covered : List (Range ℕ)) (edit : FieldEdit) (edited : Edited) → AreItemsFor action list (Ok items)
+    pub set-made : (items : List Item) (chosen given covered : List (Range ℕ)) (edit : FieldEdit) (edited : Patched) → AreItemsFor action list (Ok items)
         → AreChosen pieces schema.sets wanted (Ok chosen) → edit ≡ record { action = action; items = items; pieces = pieces; chosen = covered } → covered ≡ chosen → given ≡ chosen
         → edited ≡ edited_by (laid_script pieces given (setting edit.action edit.items edit.pieces edit.chosen)) → IsCarriedOut pieces schema force (set wanted list action) (Ok edited)
     set-made items chosen given covered edit edited are are_chosen planned all same is =
@@ -374,121 +370,25 @@ module _ (pieces : List Piece) (schema : Described) (force : Bool) (wanted : Wan
               (setting_counted pieces schema wanted list action items chosen are are_chosen),
         )
 
--- ---- the outcome
+-- ---- what an edit comes to
 
 module _ (pieces : List Piece) (schema : Described) (task : Task) where
   -- the script of an edit
-  pub script_of_edit : (force : Bool) (edited : Edited) → IsEditOf pieces schema force task (Ok edited) → (edit : EditScript) × IsEditScript pieces schema force task (Ok edit) × IsEditedBy edit edited
+  pub script_of_edit : (force : Bool) (edited : Patched) → IsEditOf pieces schema force task (Ok edited) → (edit : EditScript) × IsEditScript pieces schema force task (Ok edit) × IsEditedBy edit edited
   script_of_edit force edited is =
-      let (edit, is_script, (made, by, e)) = Then-ok (IsEditScript pieces schema force task) (λ edit answer. (edited : Edited) × IsEditedBy edit edited × (answer ≡ Ok edited)) edited is in
+      let (edit, is_script, (made, by, e)) = Then-ok (IsEditScript pieces schema force task) (λ edit answer. (edited : Patched) × IsEditedBy edit edited × (answer ≡ Ok edited)) edited is in
       (edit, is_script, subst (IsEditedBy edit) (sym (same_value edited made e)) by)
 
-  pub outcome-unruled : (edited : Edited) → IsEditOf pieces schema false task (Ok edited) → PutsNoDescriptorIn task → AreElementsOf pieces (text_of pieces) → IsSchema pieces (Ok schema)
+  pub outcome-unruled : (edited : Patched) → IsEditOf pieces schema false task (Ok edited) → PutsNoDescriptorIn task → AreElementsOf pieces (text_of pieces) → IsSchema pieces (Ok schema)
       → length schema.sets ≡ 1 → IsSound edited.text (Ok tt)
   outcome-unruled edited is puts elements has one =
       let (edit, is_script, by) = script_of_edit false edited is in
       subst (λ t. IsSound t (Ok tt)) (sym by.text) (unruled_edit_is_sound pieces schema false task edit elements puts has one is_script)
 
-  -- what an edit comes to that was made
-  pub outcome-checked : (force keeps_rules : Bool) (edited : Edited) → IsEditOf pieces schema force task (Ok edited)
-      → (IsTrue keeps_rules → IsSoundUnlessForced force edited.text (Ok tt)) → (keeps_rules ≡ false → force ≡ false)
-      → (answer : Result Edited Fault) → IsChecked edited keeps_rules answer → IsOutcome pieces schema force task answer
-  outcome-checked force true edited is kept unforced answer (inl (fault, refused, e)) = absurd (no_both tt fault (sym refused))
-  outcome-checked force true edited is kept unforced answer (inr (_, sound, e)) = inr (edited, is, inr (tt, kept refl, e))
-  outcome-checked force false edited is kept unforced answer checks =
-      inr (edited, is, subst (λ f. Then (IsSoundUnlessForced f edited.text) (λ _ answer. answer ≡ Ok edited) answer) (sym (unforced refl)) checks)
-
-  -- an edit that is refused comes to that
-  pub outcome-refused : (force : Bool) (fault : Fault) → IsMemoryOr fault (IsEditOf pieces schema force task (Err fault)) → IsMemoryOr fault (IsOutcome pieces schema force task (Err fault))
-  outcome-refused force fault is =
-      memory_or_weaker fault (IsEditOf pieces schema force task (Err fault)) (IsOutcome pieces schema force task (Err fault)) (λ refused. inl (fault, refused, refl)) is
-
--- ---- the check of what an edit made
-
-module _ (edited : Edited) (keeps_rules : Bool) where
-  pub checked-kept : keeps_rules ≡ true → IsChecked edited keeps_rules (Ok edited)
-  checked-kept keeps = rw keeps (inr (tt, refl, refl))
-
-  module _ (checks : keeps_rules ≡ false) (text : List ℕ) (same : text ≡ edited.text) where
-    pub checked-sound : IsSound text (Ok tt) → IsChecked edited keeps_rules (Ok edited)
-    checked-sound sound = rw checks (inr (tt, subst (λ t. IsSound t (Ok tt)) same sound, refl))
-
-    pub checked-unsound : (fault : Fault) → IsMemoryOr fault (IsSound text (Err fault)) → IsMemoryOr fault (IsChecked edited keeps_rules (Err fault))
-    checked-unsound fault unsound =
-        memory_or_weaker fault (IsSound text (Err fault)) (IsChecked edited keeps_rules (Err fault))
-        (λ refused. rw checks (inl (fault, subst (λ t. IsSound t (Err fault)) same refused, refl))) unsound
-
--- ---- what follows from the outcome
-
 -- memory is one of them
 pub fault_is : (fault : Fault) → IsMemoryOr fault (IsEditRefusal fault) → IsEditRefusal fault
 fault_is OutOfMemory is = tt
 fault_is _ is = is
-
-module _ (pieces : List Piece) (schema : Described) (force : Bool) (task : Task) where
-  pub only_outcome : (result : Result Edited Fault) → IsSchema pieces (Ok schema) → UnlessMemory result (IsOutcome pieces schema force task)
-      → (other : Result Edited Fault) → IsOutcome pieces schema force task other → other ≢ Err BadPattern
-      → UnlessMemory result (λ answer. (answer ≢ Err BadPattern) → answer ≡ other)
-  only_outcome (Ok edited) is_schema found other is built = λ built_too. one_outcome pieces schema schema force task (Ok edited) other is_schema is_schema found is built_too built
-  only_outcome (Err fault) is_schema found other is built =
-      memory_or_weaker fault (IsOutcome pieces schema force task (Err fault)) ((Err fault ≢ Err BadPattern) → Err fault ≡ other)
-      (λ there built_too. one_outcome pieces schema schema force task (Err fault) other is_schema is_schema there is built_too built) found
-
-  module _ (elements : AreElementsOf pieces (text_of pieces)) (is_schema : IsSchema pieces (Ok schema)) where
-    -- the script of an outcome
-    script_of_outcome : (edited : Edited) → IsOutcome pieces schema force task (Ok edited) → (edit : EditScript) × IsEditScript pieces schema force task (Ok edit) × (edited ≡ edited_by edit)
-    script_of_outcome edited is =
-        let (made, is_edit, rest) = Then-ok (IsEditOf pieces schema force task) (λ made. Then (IsSoundUnlessForced force made.text) (λ _ answer. answer ≡ Ok made)) edited is in
-        let last = Then-ok (IsSoundUnlessForced force made.text) (λ _ answer. answer ≡ Ok made) edited rest in
-        let (edit, is_script, by) = script_of_edit pieces schema task force made is_edit in
-        (edit, is_script, same_value edited made last.2 ∙ is_edited_by pieces schema force task elements is_schema edit made is_script by)
-
-    faithful_script : (edit : EditScript) → IsEditScript pieces schema force task (Ok edit) → IsFaithful pieces schema task edit
-    faithful_script = faithful pieces schema force task elements is_schema
-
-    old_pieces-script : (edit : EditScript) → IsEditScript pieces schema force task (Ok edit) → old_pieces edit.script ≡ pieces
-    old_pieces-script = old_pieces-edit pieces schema force task elements is_schema
-
-    pub outcome-leads : (result : Result Edited Fault) → UnlessMemory result (IsOutcome pieces schema force task)
-        → IfOk result (λ edited. Splices edited.patch (text_of pieces) edited.text)
-    outcome-leads (Ok edited) found =
-        let (edit, is, made) = script_of_outcome edited found in
-        subst (λ e. Splices e.patch (text_of pieces) e.text) (sym made)
-        (subst (λ old. Splices (hunks_of edit.script) (text_of old) (edited_text edit.script)) (old_pieces-script edit is) (Splices-hunks_of edit.script))
-    outcome-leads (Err fault) found = tt
-
-    pub outcome-unchanged : (result : Result Edited Fault) → UnlessMemory result (IsOutcome pieces schema force task)
-        → IfOk result (λ edited. (edited.patch ≡ []) ↔ (edited.text ≡ text_of pieces))
-    outcome-unchanged (Ok edited) found =
-        let (edit, is, made) = script_of_outcome edited found in
-        let same = λ (no_hunk : hunks_of edit.script ≡ []). same_where_no_hunk edit.script no_hunk ∙ ap text_of (old_pieces-script edit is) in
-        subst (λ e. (e.patch ≡ []) ↔ (e.text ≡ text_of pieces)) (sym made) (same, (faithful_script edit is).unchanged)
-    outcome-unchanged (Err fault) found = tt
-
-    pub outcome-whole : (result : Result Edited Fault) → UnlessMemory result (IsOutcome pieces schema force task)
-        → IfOk result (λ edited. AllByRecursion (TakesWhole pieces) edited.patch)
-    outcome-whole (Ok edited) found =
-        let (edit, is, made) = script_of_outcome edited found in
-        subst (λ e. AllByRecursion (TakesWhole pieces) e.patch) (sym made)
-        (subst (λ old. AllByRecursion (TakesWhole old) (hunks_of edit.script)) (old_pieces-script edit is) (TakesWhole-hunks_of edit.script))
-    outcome-whole (Err fault) found = tt
-
-    edited_text_is_checked : (edited : Edited) → IsEditOf pieces schema force task (Ok edited) → RefusesSo (IsSoundUnlessForced force edited.text)
-    edited_text_is_checked edited made =
-        let (edit, is, by) = script_of_edit pieces schema task force edited made in
-        let told = faithful_script edit is in
-        subst (λ text. RefusesSo (IsSoundUnlessForced force text)) (sym by.text) (RefusesSo-sound (edited_text edit.script) (new_pieces edit.script) told.sound.0 told.read told.sound.1 force)
-
-    pub outcome-refusals : (result : Result Edited Fault) → UnlessMemory result (IsOutcome pieces schema force task) → IfErr result IsEditRefusal
-    outcome-refusals (Ok edited) found = tt
-    outcome-refusals (Err fault) found =
-        fault_is fault (memory_or_weaker fault (IsOutcome pieces schema force task (Err fault)) (IsEditRefusal fault) (RefusesSo-outcome pieces schema force task edited_text_is_checked (Err fault)) found)
-
-    pub outcome-effect : (result : Result Edited Fault) → UnlessMemory result (IsOutcome pieces schema force task) → IfOk result (λ edited. HasEffect pieces schema task edited.text)
-    outcome-effect (Ok edited) found =
-        let (edit, is, made) = script_of_outcome edited found in
-        subst (λ e. HasEffect pieces schema task e.text) (sym made) (faithful_script edit is).effect
-    outcome-effect (Err fault) found = tt
 
 -- ---- the layout of a replacement, and what the edit makes of a text
 
@@ -521,7 +421,7 @@ module _ (pieces : List Piece) (schema : Described) (force : Bool) (wanted : Wan
       memory_or_weaker fault (AreChosen pieces schema.sets wanted (Err fault)) (IsCarriedOut pieces schema force (replace wanted fresh) (Err fault))
       (λ refused. inl (fault, inr (pairs, are, inl (fault, refused, refl)), refl)) is
 
-  pub replace-made : (pairs written : List Pair) (chosen given covered own : List (Range ℕ)) (edited : Edited) → AreElementsOf pieces (text_of pieces) → IsNewRecord None fresh (Ok pairs)
+  pub replace-made : (pairs written : List Pair) (chosen given covered own : List (Range ℕ)) (edited : Patched) → AreElementsOf pieces (text_of pieces) → IsNewRecord None fresh (Ok pairs)
       → AreChosen pieces schema.sets wanted (Ok chosen) → written ≡ pairs → own ≡ covered → covered ≡ chosen → given ≡ chosen
       → edited ≡ edited_by (laid_script pieces given (replacement (fields_of written) own)) → IsCarriedOut pieces schema force (replace wanted fresh) (Ok edited)
   replace-made pairs written chosen given covered own edited elements are are_chosen same_pairs goes all same is =

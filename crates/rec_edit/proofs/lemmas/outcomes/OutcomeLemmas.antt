@@ -4,7 +4,7 @@ use Rattle.std.specs.List.{AllByRecursion, list_all, flat_map, AllZip}
 use Rattle.std.specs.declared.ops.Range.{Range}
 use Rattle.std.proofs.lemmas.Bool.{cond_both, and_parts, ne_eqb}
 use Rattle.rec_text.specs.declared.fault.Fault.{Fault}
-use Rattle.rec_text.specs.declared.fault.Fault.TheVariants.{BadName, BadValue, BadPattern, BadRecord, Integrity}
+use Rattle.rec_text.specs.declared.fault.Fault.TheVariants.{BadName, BadValue, BadRecord, Integrity}
 use Rattle.rec_text.specs.Canonical.{is_plain_name, is_foldable}
 use Rattle.rec_text.specs.Elements.{Piece, IsElement, AreElementsOf, text_of}
 use Rattle.rec_text.specs.Records.{elements_in, AreRecords}
@@ -20,7 +20,7 @@ use Rattle.rec_edit.specs.proving.Parts.{script_of}
 use Rattle.rec_edit.specs.proving.Changes.{hunks_of}
 use Rattle.rec_edit.specs.Rules.{comments_of, is_own, is_picked, taking_out, deletion, commenting, replacement, setting, picked_becomes, added, with_blanks, fields_of}
 use Rattle.rec_edit.specs.Wording.{written, unnumbered, names_of_action, values_of_action, AreItemsFor, pairs_of, IsRecordText, ArePairs, IsNewRecord}
-use Rattle.rec_edit.specs.Outcome.{EditScript, AreChosen, AreRemovable, IsLaidOut, IsPutIn, IsEditScript, none_of, IsSoundUnlessForced, IsEditedBy, IsEditOf, OneOutcome}
+use Rattle.rec_edit.specs.Outcome.{EditScript, AreChosen, AreRemovable, IsLaidOut, IsPutIn, IsEditScript, none_of, IsSoundUnlessForced, IsEditedBy, IsEditOf}
 use Rattle.rec_edit.specs.proving.Edits.{insert_script}
 use Rattle.rec_text.specs.declared.violations.Violation.{Violation}
 use Rattle.rec_check.specs.declared.set.Set_.{Set_}
@@ -29,7 +29,7 @@ use Rattle.rec_check.specs.Rules.{Rules, AreSameRules}
 use Rattle.rec_check.specs.Sets.{is_of_type}
 use Rattle.rec_check.specs.Violations.{AreViolationsOf, members, names_of}
 use Rattle.rec_check.specs.Words.{distinct}
-use Rattle.rec_edit.specs.declared.outcome.Edited.{Edited}
+use Rattle.rec_edit.specs.declared.outcome.Patched.{Patched}
 use Rattle.rec_edit.specs.Insertions.{Filled, Numbered, numbered_fields, filling}
 use Rattle.rec_edit.specs.Automatic.{lacking, AreNumbered, AreAutomatic, numbers_in, AreFilled, AreFilledSets}
 use Rattle.rec_text.proofs.lemmas.ListLemmas.{AllByRecursion-slice_get}
@@ -44,10 +44,8 @@ use Rattle.rec_text.proofs.lemmas.records.RecordLemmas.{OneListOfRecords-holds}
 use Rattle.rec_sex.proofs.lemmas.lists.FieldListReading.{one_field_list}
 use Rattle.rec_check.proofs.lemmas.laws.CheckLemmas.{one_check}
 use Rattle.rec_check.proofs.lemmas.automatic.NextLemmas.{is_counter-same, one_next, automatic_of-same, one_automatic}
-use Rattle.rec_check.proofs.lemmas.laws.SameLemmas.{one_schema}
 use Rattle.rec_select.proofs.SelectionLemmas.{one_selection}
-use Rattle.rec_text.proofs.lemmas.FaultLemmas.{no_both}
-use Rattle.rec_text.proofs.lemmas.StepLemmas.{AreOne, HasOne, HasOneBut, HasOneBut-of, HasOne-same, AreOne-Then, HasOne-Then, AgreeBut-of, AgreeBut-Then, HasOneBut-Then, Then-ok}
+use Rattle.rec_text.proofs.lemmas.StepLemmas.{AreOne, HasOne, HasOneBut, HasOneBut-of, HasOne-same, AreOne-Then, HasOne-Then, HasOneBut-Then, Then-ok}
 
 -- ---- what an edit makes of a text are the elements of the edited text, and where that is the old text the edit has no hunk
 
@@ -409,25 +407,15 @@ HasOneBut-sound false text = HasOneBut-Then (AreViolationsOf text) _ (one_check 
 
 -- ---- what an edit comes to
 
-pub same_edited : (edit : EditScript) (one other : Edited) → IsEditedBy edit one → IsEditedBy edit other → one ≡ other
+pub same_edited : (edit : EditScript) (one other : Patched) → IsEditedBy edit one → IsEditedBy edit other → one ≡ other
 same_edited edit one other by too =
-    let made : List Hunk → List ℕ → ℕ → Edited = λ patch text changed. record { patch = patch; text = text; changed = changed } in
+    let made : List Hunk → List ℕ → ℕ → Patched = λ patch text changed. record { patch = patch; text = text; changed = changed } in
     ap (λ patch. made patch one.text one.changed) (one_list_of_changes edit.script one.patch other.patch by.patch too.patch)
     ∙ ap₂ (made other.patch) (by.text ∙ sym too.text) (by.changed ∙ sym too.changed)
 
-HasOne-edited : (edit : EditScript) → HasOne (λ answer. (edited : Edited) × IsEditedBy edit edited × (answer ≡ Ok edited))
+HasOne-edited : (edit : EditScript) → HasOne (λ answer. (edited : Patched) × IsEditedBy edit edited × (answer ≡ Ok edited))
 HasOne-edited edit one other (a, by, e) (b, by_too, k) = e ∙ ap Ok (same_edited edit a b by by_too) ∙ sym k
 
 pub AreOne-edit : (pieces : List Piece) (schema same : Described) (force : Bool) (task : Task) → AreSameSchemas (Ok schema) (Ok same)
     → AreOne (IsEditOf pieces schema force task) (IsEditOf pieces same force task)
 AreOne-edit pieces schema same force task alike = AreOne-Then _ _ _ _ (AreOne-step pieces schema same force task alike) (λ edit _. HasOne-edited edit)
-
--- what follows the edit
-abbrev finishing : Bool → Edited → Result Edited Fault → Type 0
-finishing force edited = Then (IsSoundUnlessForced force edited.text) (λ _ answer. answer ≡ Ok edited)
-
-pub one_outcome : OneOutcome
-one_outcome pieces schema same force task one other is is_too outcome outcome_too =
-    AgreeBut-Then (IsEditOf pieces schema force task) (IsEditOf pieces same force task) (finishing force) (finishing force)
-    (AgreeBut-of _ _ (AreOne-edit pieces schema same force task (one_schema pieces (Ok schema) (Ok same) is is_too (no_both schema BadPattern) (no_both same BadPattern))))
-    (λ edited _. HasOneBut-Then _ _ (HasOneBut-sound force edited.text) (λ _ _. HasOneBut-of _ (HasOne-same _))) one other outcome outcome_too

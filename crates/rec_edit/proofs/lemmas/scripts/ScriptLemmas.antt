@@ -10,7 +10,7 @@ use Rattle.rec_journal.specs.declared.patch.Hunk.{Hunk}
 use Rattle.rec_journal.specs.Patch.{AreApartFrom, IsPatch, SplicesFrom, Splices}
 use Rattle.rec_edit.specs.Script.{Part, Layout, lacks_newline, settled, closed, old_pieces, edited_text, new_pieces, is_kept, changes_from, TakesWhole}
 use Rattle.rec_edit.specs.proving.Parts.{putting, changing, parts_from, script_of}
-use Rattle.rec_edit.specs.proving.Changes.{joining, joined, real_changes, hunks_of}
+use Rattle.rec_edit.specs.proving.Changes.{joining, merged, real_changes, hunks_of}
 use Rattle.rec_edit.specs.declared.script.draft.Draft.{Draft}
 use Rattle.rec_edit.specs.declared.script.draft.Run.{Run}
 use Rattle.rec_edit.specs.proving.Drafts.{hunk_of, opening, EndsBy, IsDraft, IsRunHere}
@@ -114,10 +114,10 @@ Cuts-joining place hunk (next ∷ hunks) pieces after cuts = elim (cases_Bool (h
   | inr apart ↦ rw apart cuts
 ]
 
-pub Cuts-joined : (place : ℕ) (hunks : List Hunk) (pieces : List Piece) (after : List ℕ) → Cuts place hunks pieces after → Cuts place (joined hunks) pieces after
-Cuts-joined place [] pieces after cuts = cuts
-Cuts-joined place (hunk ∷ hunks) pieces after (kept, old, following, rest, place_is, before_is, old_is, after_is, cuts) =
-    Cuts-joining place hunk (joined hunks) pieces after (kept, old, following, rest, place_is, before_is, old_is, after_is, Cuts-joined (hunk.at + length hunk.old) hunks following rest cuts)
+pub Cuts-merged : (place : ℕ) (hunks : List Hunk) (pieces : List Piece) (after : List ℕ) → Cuts place hunks pieces after → Cuts place (merged hunks) pieces after
+Cuts-merged place [] pieces after cuts = cuts
+Cuts-merged place (hunk ∷ hunks) pieces after (kept, old, following, rest, place_is, before_is, old_is, after_is, cuts) =
+    Cuts-joining place hunk (merged hunks) pieces after (kept, old, following, rest, place_is, before_is, old_is, after_is, Cuts-merged (hunk.at + length hunk.old) hunks following rest cuts)
 
 pub Cuts-real_changes : (place : ℕ) (hunks : List Hunk) (pieces : List Piece) (after : List ℕ) → Cuts place hunks pieces after → Cuts place (real_changes hunks) pieces after
 Cuts-real_changes place [] pieces after cuts = cuts
@@ -140,7 +140,7 @@ Cuts-real_changes place (hunk ∷ hunks) pieces after (kept, old, following, res
 
 pub Cuts-hunks_of : (script : List Part) → Cuts 0 (hunks_of script) (old_pieces script) (edited_text script)
 Cuts-hunks_of script =
-    Cuts-real_changes 0 (joined (changes_from 0 script)) _ _ (Cuts-joined 0 (changes_from 0 script) _ _ (Cuts-changes_from 0 script))
+    Cuts-real_changes 0 (merged (changes_from 0 script)) _ _ (Cuts-merged 0 (changes_from 0 script) _ _ (Cuts-changes_from 0 script))
 
 -- ---- the two texts
 
@@ -219,9 +219,9 @@ AreSeparate-joining least hunk (next ∷ hunks) low separate = elim (cases_Bool 
   | inr apart ↦ rw apart (low, (let past : hunk.at + length hunk.old ≢ next.at = eqb-false _ _ apart in omega (arith, separate.0, past), separate.1))
 ]
 
-AreSeparate-joined : (least : ℕ) (hunks : List Hunk) → AreInOrder least hunks → AreSeparate least (joined hunks)
-AreSeparate-joined least [] order = tt
-AreSeparate-joined least (hunk ∷ hunks) order = AreSeparate-joining least hunk (joined hunks) order.0 (AreSeparate-joined (hunk.at + length hunk.old) hunks order.1)
+AreSeparate-merged : (least : ℕ) (hunks : List Hunk) → AreInOrder least hunks → AreSeparate least (merged hunks)
+AreSeparate-merged least [] order = tt
+AreSeparate-merged least (hunk ∷ hunks) order = AreSeparate-joining least hunk (merged hunks) order.0 (AreSeparate-merged (hunk.at + length hunk.old) hunks order.1)
 
 AreApartFrom-real_changes : (least more : ℕ) (hunks : List Hunk) → least ≤ more → AreSeparate more hunks → AreApartFrom least (real_changes hunks)
 AreApartFrom-real_changes least more [] lower separate = tt
@@ -235,7 +235,7 @@ AreApartFrom-real_changes least more (hunk ∷ hunks) lower separate = elim (cas
 ]
 
 pub IsPatch-hunks_of : (script : List Part) → IsPatch (hunks_of script)
-IsPatch-hunks_of script = AreApartFrom-real_changes 0 0 (joined (changes_from 0 script)) (omega arith) (AreSeparate-joined 0 (changes_from 0 script) (AreInOrder-changes_from 0 script))
+IsPatch-hunks_of script = AreApartFrom-real_changes 0 0 (merged (changes_from 0 script)) (omega arith) (AreSeparate-merged 0 (changes_from 0 script) (AreInOrder-changes_from 0 script))
 
 -- ---- a draft of an edit, part by part
 
@@ -350,9 +350,9 @@ module _ (draft new : Draft) (old_bytes new_bytes : List ℕ) (part : Part) (res
       let left : changes_from draft.at (part ∷ rest) ≡ changes_from new.at rest = rw kept (ap (λ n. changes_from n rest) place_after) in
       let ends : EndsBy draft.run new.at = EndsBy-later draft.run draft.at new.at (omega arith) is.run_ends in
       record {
-        hunks = is.hunks ∙ ap (λ h. draft.hunks.items ++ real_changes (opening draft.run (joined h))) left
-            ∙ ap (λ h. h ++ real_changes (opening draft.run (joined (changes_from new.at rest)))) (sym hunks)
-            ∙ ap (λ r. new.hunks.items ++ real_changes (opening r (joined (changes_from new.at rest)))) (sym run);
+        hunks = is.hunks ∙ ap (λ h. draft.hunks.items ++ real_changes (opening draft.run (merged h))) left
+            ∙ ap (λ h. h ++ real_changes (opening draft.run (merged (changes_from new.at rest)))) (sym hunks)
+            ∙ ap (λ r. new.hunks.items ++ real_changes (opening r (merged (changes_from new.at rest)))) (sym run);
         text = text_after_label;
         at = at_after;
         run_ends = subst (λ (r : Option Run). EndsBy r new.at) (sym run) ends;
@@ -364,7 +364,7 @@ module _ (draft new : Draft) (old_bytes new_bytes : List ℕ) (part : Part) (res
   draft_changed mid run last here differ hunks open_is last_at last_old last_new =
       let next : Hunk = record { at = draft.at; old = text_of part.old; new = text_of part.new } in
       let changes : is_kept part ≡ false = ap (λ t. bytes_eq t (text_of part.new)) (sym old_is) ∙ ap (bytes_eq old_bytes) (sym new_is) ∙ differ in
-      let more = joined (changes_from new.at rest) in
+      let more = merged (changes_from new.at rest) in
       let left : changes_from draft.at (part ∷ rest) ≡ next ∷ changes_from new.at rest = rw changes (ap (λ n. next ∷ changes_from n rest) place_after) in
       let made : ℕ → List ℕ → List ℕ → Hunk = λ a o n. record { at = a; old = o; new = n } in
       let goes_on : both (hunk_of run) next ≡ hunk_of last =
@@ -373,7 +373,7 @@ module _ (draft new : Draft) (old_bytes new_bytes : List ℕ) (part : Part) (res
       ∙ ap (made last.at last.old.items) (ap (λ t. run.new.items ++ t) (sym new_is) ∙ sym last_new) in
       let ends : last.at + length last.old.items ≤ new.at = omega (arith, here.ends, ap length last_old, length-append run.old.items old_bytes) in
       record {
-        hunks = is.hunks ∙ ap (λ h. draft.hunks.items ++ real_changes (opening draft.run (joined h))) left
+        hunks = is.hunks ∙ ap (λ h. draft.hunks.items ++ real_changes (opening draft.run (merged h))) left
             ∙ here.hunks next more refl
             ∙ ap (λ h. mid.hunks.items ++ real_changes h) (joining-joining (hunk_of run) next more here.ends ∙ ap (λ h. joining h more) goes_on)
             ∙ ap (λ h. h ++ real_changes (joining (hunk_of last) more)) (sym hunks)

@@ -1,4 +1,4 @@
--- A batch has one outcome, whichever way the patterns of its texts were built; a refused pattern may stand aside.
+-- Edits have one outcome, whichever way the patterns of their texts were built; a refused pattern may stand aside.
 use Rattle.std.proofs.Common.{◌≡◌, ◌≢◌, ℕ, Bool, List, [], ◌∷◌, subst, Result, Ok, Err}
 use Rattle.rec_text.specs.declared.fault.Fault.{Fault}
 use Rattle.rec_text.specs.declared.fault.Fault.TheVariants.{BadPattern}
@@ -7,10 +7,10 @@ use Rattle.rec_text.proofs.lemmas.FaultLemmas.{memory_or_weaker}
 use Rattle.rec_text.proofs.lemmas.StepLemmas.{HasOneBut, HasOneBut-of, HasOne-same, AgreeBut-like, HasOneBut-Then}
 use Rattle.rec_check.specs.DescribedTexts.{IsDescribedText}
 use Rattle.rec_check.proofs.lemmas.laws.AlikeLemmas.{SameTexts, AgreeLike-described}
-use Rattle.rec_edit.specs.declared.batches.BatchEdited.{BatchEdited}
+use Rattle.rec_edit.specs.declared.answer.Edited.{Edited}
 use Rattle.rec_edit.specs.Task.{Task}
 use Rattle.rec_edit.specs.Outcome.{IsEditOf, IsSoundUnlessForced}
-use Rattle.rec_edit.specs.Batch.{IsEditOn, AreSteps, IsBatchOutcome, OneBatch}
+use Rattle.rec_edit.specs.Batch.{IsEditOn, AreSteps, IsBatchOutcome, EditsHaveOneOutcome}
 use Rattle.rec_edit.proofs.lemmas.outcomes.OutcomeLemmas.{AreOne-edit, HasOneBut-sound}
 
 -- ---- one edit of a text
@@ -34,13 +34,13 @@ HasOneBut-batch force tasks text =
     HasOneBut-Then (AreSteps force tasks text) _ (HasOneBut-steps force tasks text) (λ made _.
     HasOneBut-Then (IsSoundUnlessForced force made.text) _ (HasOneBut-sound force made.text) (λ _ _. HasOneBut-of _ (HasOne-same _)))
 
-pub one_batch : OneBatch
-one_batch force tasks text one other is is_too built built_too = HasOneBut-batch force tasks text one other is is_too built built_too
+pub edits_have_one_outcome : EditsHaveOneOutcome
+edits_have_one_outcome force tasks text one other is is_too built built_too = HasOneBut-batch force tasks text one other is is_too built built_too
 
-pub batch-only : (force : Bool) (tasks : List Task) (text : List ℕ) (result : Result BatchEdited Fault) → UnlessMemory result (IsBatchOutcome force tasks text)
-    → (other : Result BatchEdited Fault) → IsBatchOutcome force tasks text other → other ≢ Err BadPattern
+pub outcome-only : (force : Bool) (tasks : List Task) (text : List ℕ) (result : Result Edited Fault) → UnlessMemory result (IsBatchOutcome force tasks text)
+    → (other : Result Edited Fault) → IsBatchOutcome force tasks text other → other ≢ Err BadPattern
     → UnlessMemory result (λ answer. (answer ≢ Err BadPattern) → answer ≡ other)
-batch-only force tasks text (Ok made) found other is built = λ built_too. one_batch force tasks text (Ok made) other found is built_too built
-batch-only force tasks text (Err fault) found other is built =
+outcome-only force tasks text (Ok made) found other is built = λ built_too. edits_have_one_outcome force tasks text (Ok made) other found is built_too built
+outcome-only force tasks text (Err fault) found other is built =
     memory_or_weaker fault (IsBatchOutcome force tasks text (Err fault)) ((Err fault ≢ Err BadPattern) → Err fault ≡ other)
-    (λ there built_too. one_batch force tasks text (Err fault) other there is built_too built) found
+    (λ there built_too. edits_have_one_outcome force tasks text (Err fault) other there is built_too built) found

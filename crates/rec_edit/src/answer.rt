@@ -1,0 +1,29 @@
+//! What edits come to.
+use rec_journal::EditSteps;
+use rec_text::{Bytes, Fault};
+
+/// What edits make of a text in turn: the steps that lead from it to the text after them, one for each edit that changes
+/// something, and the sum of the numbers of records that the edits changed.
+#[derive(Drop)]
+pub struct Edited {
+    pub steps: EditSteps,
+    pub text: Bytes,
+    pub changed: usize,
+}
+
+/// Why edits are refused, and which of them is: none where the text after them all breaks rules.
+#[derive(Drop)]
+pub struct RefusedEdit {
+    pub fault: Fault,
+    pub index: Option<usize>,
+}
+
+impl From<RefusedEdit> for Fault {
+    ghost use Rattle.std.specs.Prelude.{◌≡◌};
+
+    ghost from_gives = { λ refused fault. fault ≡ refused.fault };
+
+    fn from(refused: RefusedEdit) -> Fault {
+        refused.fault
+    }
+}

@@ -20,16 +20,17 @@ use Rattle.rec_journal.specs.declared.event.Tool.TheVariants.{RecIns, RecDel, Re
 use Rattle.rec_journal.specs.Event.{tool_name}
 use Rattle.rec_edit.specs.declared.request.Action.{Action}
 use Rattle.rec_edit.specs.declared.request.NewRecord.{NewRecord}
-use Rattle.rec_edit.specs.declared.request.NewRecord.TheVariants.{Pairs, Text as TextOfIt}
+use Rattle.rec_edit.specs.Options.{new_record_for}
 use Rattle.rec_text.proofs.lemmas.FaultLemmas.{no_both, same_fault, same_value}
 use Rattle.rec_journal.proofs.lemmas.events.PartLemmas.{tool-same}
-use Rattle.rec_tools.specs.declared.batches.Refusal.{Refusal}
-use Rattle.rec_tools.specs.declared.batches.Refusal.TheVariants.{NotAnEdit, OutOfMemory}
+use Rattle.rec_text.specs.declared.or_memory.OrMemory.{OrMemory}
+use Rattle.rec_text.specs.declared.or_memory.OrMemory.TheVariants.{Refused, OutOfMemory}
+use Rattle.rec_tools.specs.declared.batches.NotAnEdit.{NotAnEdit}
 use Rattle.rec_tools.specs.declared.request.Ask.TheVariants.{All}
 use Rattle.rec_tools.specs.declared.request.Pick.{Pick}
-use Rattle.rec_tools.specs.declared.request.Request.{Request}
-use Rattle.rec_tools.specs.declared.request.Request.TheVariants.{Insert, Replace, Delete, CommentOut, Set}
-use Rattle.rec_tools.specs.proving.Finding.{Finds, AreEditsIn, unread_by}
+use Rattle.rec_tools.specs.declared.request.EditRequest.{EditRequest}
+use Rattle.rec_tools.specs.declared.request.EditRequest.TheVariants.{Insert, Replace, Delete, CommentOut, Set}
+use Rattle.rec_tools.specs.proving.Finding.{FindsPart, AreEditsIn, unread_by}
 use Rattle.rec_tools.specs.Batches.{is_known, AsksFor, AsksTool, IsBy, IsEdit, HasOnly, HasWord, IsPickOf, IsFreshOf, IsAutoOf, IsActionOf, HasNoEditAt, IsUnreadAt, AreEditsOf, AreEdits, Agree, HasOneAnswer}
 
 -- ---- one value of a name
@@ -88,22 +89,22 @@ AllZip-from-map R f (x ∷ xs) (z ∷ zs) zipped = ((z, zipped.0), AllZip-from-m
 
 -- ---- what a record asks its tool for has all its parts
 
-pub insertion_parts : (own : List Piece) (request : Request) → AsksTool RecIns own request
+pub insertion_parts : (own : List Piece) (edit : EditRequest) → AsksTool RecIns own edit
     → ((pick : Pick) × IsPickOf own pick) × ((fresh : NewRecord) × IsFreshOf own fresh) × ((auto : Bool) × IsAutoOf own auto)
-insertion_parts own (Insert record_type fresh auto force) asks = ((record { kind = record_type; by = All }, asks.0), (fresh, asks.1), (auto, asks.2))
-insertion_parts own (Replace pick fresh force) asks = ((pick, asks.1), (fresh, asks.2), asks.3)
+insertion_parts own (Insert record_type fresh auto) asks = ((record { kind = record_type; by = All }, asks.0), (fresh, asks.1), (auto, asks.2))
+insertion_parts own (Replace pick fresh) asks = ((pick, asks.1), (fresh, asks.2), asks.3)
 insertion_parts own _ asks = absurd asks
 
-pub deletion_parts : (own : List Piece) (request : Request) → AsksTool RecDel own request
+pub deletion_parts : (own : List Piece) (edit : EditRequest) → AsksTool RecDel own edit
     → ((pick : Pick) × IsPickOf own pick) × ((comments : Bool) × HasWord (codes "Comment") (codes "yes") own comments)
-deletion_parts own (Delete pick force) asks = ((pick, asks.1), (false, asks.0))
-deletion_parts own (CommentOut pick force) asks = ((pick, asks.1), (true, asks.0))
+deletion_parts own (Delete pick) asks = ((pick, asks.1), (false, asks.0))
+deletion_parts own (CommentOut pick) asks = ((pick, asks.1), (true, asks.0))
 deletion_parts own _ asks = absurd asks
 
-pub setting_parts : (own : List Piece) (request : Request) → AsksTool RecSet own request
+pub setting_parts : (own : List Piece) (edit : EditRequest) → AsksTool RecSet own edit
     → ((pick : Pick) × IsPickOf own pick) × ((list : List ℕ) × HasOnly (codes "Fields") own (Some list))
     × ((action : Action) × IsActionOf own action)
-setting_parts own (Set pick list action force) asks = ((pick, asks.0), (list, asks.1), (action, asks.2))
+setting_parts own (Set pick list action) asks = ((pick, asks.0), (list, asks.1), (action, asks.2))
 setting_parts own _ asks = absurd asks
 
 pub word_part : (name word : List ℕ) (own : List Piece) (is_there : Bool) → HasWord name word own is_there
@@ -113,8 +114,7 @@ word_part name word own false has = (None, has)
 
 pub record_part : (own : List Piece) (fresh : NewRecord) → IsFreshOf own fresh
     → (value : Option (List ℕ)) × HasOnly (codes "Record") own value
-record_part own (Pairs pairs) is = (None, is.0)
-record_part own (TextOfIt text) is = (Some text, is.0)
+record_part own fresh is = ((new_record_for fresh).2, is.text)
 
 pub tool_part : (own : List Piece) (tool : Tool) → IsBy tool own × (tool ≢ Batch)
     → (value : Option (List ℕ)) × HasOnly (codes "Tool") own value
@@ -123,18 +123,18 @@ tool_part own tool by = (Some (tool_name tool), sym by.0.named)
 -- ---- refusals
 
 -- where a part isn't found, the whole isn't
-pub refused_too : {X Y : Type 0} (P : X → Type 0) (Q : Y → Type 0) (refusal : Refusal) → ((y : Y) → Q y → (x : X) × P x)
-    → Finds P (Err refusal) → Finds Q (Err refusal)
-refused_too P Q NotAnEdit has none = λ y q. let p = has y q in none p.0 p.1
+pub refused_too : {X Y : Type 0} (P : X → Type 0) (Q : Y → Type 0) (refusal : OrMemory NotAnEdit) → ((y : Y) → Q y → (x : X) × P x)
+    → FindsPart P (Err refusal) → FindsPart Q (Err refusal)
+refused_too P Q (Refused no_edit) has none = λ y q. let p = has y q in none p.0 p.1
 refused_too P Q OutOfMemory has none = tt
 
 -- what is found of a record's tool is what the record asks for
-pub by_tool : (own : List Piece) (tool : Tool) (answer : Result Request Refusal) → IsBy tool own
-    → Finds (AsksTool tool own) answer → Finds (AsksFor own) answer
-by_tool own tool (Ok request) by asks = (tool, by, asks)
-by_tool own tool (Err NotAnEdit) by none = λ request asked.
+pub by_tool : (own : List Piece) (tool : Tool) (answer : Result EditRequest (OrMemory NotAnEdit)) → IsBy tool own
+    → FindsPart (AsksTool tool own) answer → FindsPart (AsksFor own) answer
+by_tool own tool (Ok edit) by asks = (tool, by, asks)
+by_tool own tool (Err (Refused no_edit)) by none = λ edit asked.
     let same : asked.0 ≡ tool = one_tool own asked.0 tool asked.1 by in
-    none request (subst (λ tool. AsksTool tool own request) same asked.2)
+    none edit (subst (λ tool. AsksTool tool own edit) same asked.2)
 by_tool own tool (Err OutOfMemory) by none = tt
 
 -- ---- the walk over the records
@@ -156,17 +156,17 @@ AllZip-next R f xs zs i x z within zipped last =
     rw (add-one, take_one_more xs i x within, map-append f (take i xs) (get_or xs i x ∷ []))
     (all_zipped_more R (map f (take i xs)) zs (f (get_or xs i x)) z zipped last)
 
-pub no_edit_at : (pieces : List Piece) (records : List (Range ℕ)) (requests : List Request) (i line place : ℕ) (d : Range ℕ)
-    → i < length records → AllZip AsksFor (map (elements_in pieces) (take i records)) requests
-    → ((request : Request) → AsksFor (elements_in pieces (get_or records i d)) request → ⊥)
+pub no_edit_at : (pieces : List Piece) (records : List (Range ℕ)) (edits : List EditRequest) (i line place : ℕ) (d : Range ℕ)
+    → i < length records → AllZip AsksFor (map (elements_in pieces) (take i records)) edits
+    → ((edit : EditRequest) → AsksFor (elements_in pieces (get_or records i d)) edit → ⊥)
     → place ≡ length (text_of (take (get_or records i d).start pieces)) → line ≡ line_after (take place (text_of pieces))
     → HasNoEditAt pieces records line
-no_edit_at pieces records requests i line place d within zipped none at numbered = record {
+no_edit_at pieces records edits i line place d within zipped none at numbered = record {
   earlier = take i records;
   bad = get_or records i d;
   rest = drop (suc i) records;
   parts = cut_at records i d within;
-  sound = AllZip-from-map AsksFor (elements_in pieces) (take i records) requests zipped;
+  sound = AllZip-from-map AsksFor (elements_in pieces) (take i records) edits zipped;
   none = λ edit. none edit.0 edit.1;
   number = numbered ∙ ap line_after (ap (λ place. take place (text_of pieces)) at ∙ text_of-take (get_or records i d).start pieces);
 }
@@ -180,22 +180,22 @@ one_line pieces records line other one two =
     (sym one.parts ∙ two.parts) one.sound two.sound one.none two.none in
     one.number ∙ (ap (λ (bad : Range ℕ). line_after (text_of (take bad.start pieces))) same ∙ sym two.number)
 
-edits_or_line : (pieces : List Piece) (records : List (Range ℕ)) (requests : List Request) (line : ℕ)
-    → AllZip AsksFor (map (elements_in pieces) records) requests → HasNoEditAt pieces records line → ⊥
-edits_or_line pieces records requests line zipped no_edit =
-    let all = AllZip-from-map AsksFor (elements_in pieces) records requests zipped in
+edits_or_line : (pieces : List Piece) (records : List (Range ℕ)) (edits : List EditRequest) (line : ℕ)
+    → AllZip AsksFor (map (elements_in pieces) records) edits → HasNoEditAt pieces records line → ⊥
+edits_or_line pieces records edits line zipped no_edit =
+    let all = AllZip-from-map AsksFor (elements_in pieces) records edits zipped in
     let parts = subst (AllByRecursion (λ own. IsEdit (elements_in pieces own))) no_edit.parts all in
     no_edit.none (AllByRecursion-following (λ own. IsEdit (elements_in pieces own)) no_edit.earlier (no_edit.bad ∷ no_edit.rest) parts).0
 
-agree_edits : (one other : Result (List Request) Fault) (requests others : List Request) → one ≡ Ok requests → other ≡ Ok others
-    → AllZip (λ one other. (own : List Piece) × AsksFor own one × AsksFor own other) requests others → Agree one other
-agree_edits one other requests others is_one is_other all = rw (is_one, is_other) all
+agree_edits : (one other : Result (List EditRequest) Fault) (edits others : List EditRequest) → one ≡ Ok edits → other ≡ Ok others
+    → AllZip (λ one other. (own : List Piece) × AsksFor own one × AsksFor own other) edits others → Agree one other
+agree_edits one other edits others is_one is_other all = rw (is_one, is_other) all
 
-agree_lines : (one other : Result (List Request) Fault) (line number : ℕ) → one ≡ Err (BadBatch line)
+agree_lines : (one other : Result (List EditRequest) Fault) (line number : ℕ) → one ≡ Err (BadBatch line)
     → other ≡ Err (BadBatch number) → line ≡ number → Agree one other
 agree_lines one other line number is_one is_other same = rw (is_one, is_other) (ap BadBatch same)
 
-agree_records : (pieces : List Piece) (records : List (Range ℕ)) (one other : Result (List Request) Fault)
+agree_records : (pieces : List Piece) (records : List (Range ℕ)) (one other : Result (List EditRequest) Fault)
     → AreEditsOf pieces records one → AreEditsOf pieces records other → Agree one other
 agree_records pieces records one other (inl a) (inl b) =
     agree_edits one other a.0 b.0 a.2 b.2 (AllZip-pairs AsksFor (map (elements_in pieces) records) a.0 b.0 a.1 b.1)
@@ -246,7 +246,7 @@ is_known-field names piece name known field named told =
 
 -- ---- the answer for a text
 
-pub read_edits : (text : List ℕ) (pieces : List Piece) (answer : Result (List Request) Fault) → AreElementsOf pieces text
+pub read_edits : (text : List ℕ) (pieces : List Piece) (answer : Result (List EditRequest) Fault) → AreElementsOf pieces text
     → AreEditsIn pieces answer → AreEdits text answer
 read_edits text pieces answer read edits = inr (pieces, edits.0, read, edits.1, edits.2)
 
@@ -261,33 +261,32 @@ IfErr-weaker P Q weaker (Err error) refused = weaker error refused
 
 -- ---- a record that is refused
 
-not_an_edit : (own other : List Piece) (refusal : Refusal) → refusal ≡ NotAnEdit → own ≡ other → Finds (AsksFor own) (Err refusal)
-    → (request : Request) → AsksFor other request → ⊥
-not_an_edit own other refusal is same none request asks =
-    subst (λ refusal. Finds (AsksFor own) (Err refusal)) is none request (subst (λ own. AsksFor own request) (sym same) asks)
+not_an_edit : (own other : List Piece) (no_edit : NotAnEdit) → own ≡ other → FindsPart (AsksFor own) (Err (Refused no_edit))
+    → (edit : EditRequest) → AsksFor other edit → ⊥
+not_an_edit own other no_edit same none edit asks = none edit (subst (λ own. AsksFor own edit) (sym same) asks)
 
-module _ (held pieces own : List Piece) (records listed : List (Range ℕ)) (requests : List Request) (i : ℕ) (d : Range ℕ)
+module _ (held pieces own : List Piece) (records listed : List (Range ℕ)) (edits : List EditRequest) (i : ℕ) (d : Range ℕ)
     (held_are : held ≡ pieces) (records_are : records ≡ listed) (are : AreRecords pieces listed) (within : i < length records)
     (own_is : own ≡ elements_in held (get_or records i d))
-    (zipped : AllZip AsksFor (map (elements_in held) (take i records)) requests) where
-  pub refused_record : (line place : ℕ) (refusal : Refusal) → refusal ≡ NotAnEdit → Finds (AsksFor own) (Err refusal)
+    (zipped : AllZip AsksFor (map (elements_in held) (take i records)) edits) where
+  pub refused_record : (line place : ℕ) (no_edit : NotAnEdit) → FindsPart (AsksFor own) (Err (Refused no_edit))
       → place ≡ length (text_of (take (get_or records i d).start pieces)) → line ≡ line_after (take place (text_of pieces))
       → AreEditsIn pieces (Err (BadBatch line))
-  refused_record line place refusal is none at numbered =
+  refused_record line place no_edit none at numbered =
       let own_here = own_is ∙ ap (λ pieces. elements_in pieces (get_or records i d)) held_are in
-      let zipped_here = subst (λ pieces. AllZip AsksFor (map (elements_in pieces) (take i records)) requests) held_are zipped in (
+      let zipped_here = subst (λ pieces. AllZip AsksFor (map (elements_in pieces) (take i records)) edits) held_are zipped in (
         records,
         subst (AreRecords pieces) (sym records_are) are,
         inr (
           line,
-          no_edit_at pieces records requests i line place d within zipped_here
-              (not_an_edit own (elements_in pieces (get_or records i d)) refusal is own_here none) at numbered,
+          no_edit_at pieces records edits i line place d within zipped_here
+              (not_an_edit own (elements_in pieces (get_or records i d)) no_edit own_here none) at numbered,
           refl,
         ),
       )
 
-  pub next_record : (request : Request) (more : List Request) → AsksFor own request → more ≡ requests ++ request ∷ []
+  pub next_record : (edit : EditRequest) (more : List EditRequest) → AsksFor own edit → more ≡ edits ++ edit ∷ []
       → AllZip AsksFor (map (elements_in held) (take (i + 1) records)) more
-  next_record request more asks pushed =
-      rw pushed (AllZip-next AsksFor (elements_in held) records requests i d request within zipped
-      (subst (λ own. AsksFor own request) own_is asks))
+  next_record edit more asks pushed =
+      rw pushed (AllZip-next AsksFor (elements_in held) records edits i d edit within zipped
+      (subst (λ own. AsksFor own edit) own_is asks))

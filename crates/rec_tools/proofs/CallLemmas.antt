@@ -3,7 +3,7 @@ use Rattle.std.proofs.Common.{◌≡◌, ◌⊎◌, inl, inr, ℕ, ◌≤◌, �
 use Rattle.std.specs.Prelude.{IfSome}
 use Rattle.std.proofs.lemmas.Bool.{cases_lt}
 use Rattle.rec_text.specs.Sink.{HasRisen}
-use Rattle.rec_tools.specs.Home.{Contents, Call, got, lacked, unread, was_put, left_old, left_new, left_by, left_by_all, Tells, TellAll, Fails, HasFailed, CountsOne, Counts, Went}
+use Rattle.rec_tools.specs.Home.{Contents, Call, got, lacked, unread, put_all, put_some, left_by, left_by_all, TellsOf, TellAll, Fails, HasFailed, CountsOne, CountsFailure, Went}
 
 -- ---- calls after calls
 
@@ -59,13 +59,12 @@ pub rises_after : (n m k : ℕ) → n ≤ m → HasRisen m k → HasRisen n k
 rises_after n m k le (inl lt) = inl (omega arith)
 rises_after n m k le (inr e) = inr e
 
-never_falls : (n : ℕ) (call : Call) (m : ℕ) → Counts n call m → n ≤ m
+never_falls : (n : ℕ) (call : Call) (m : ℕ) → CountsFailure n call m → n ≤ m
 never_falls n (got which bytes) m counted = omega arith
 never_falls n (lacked which) m counted = omega arith
 never_falls n (unread which) m counted = counted.0
-never_falls n (was_put which bytes) m counted = omega arith
-never_falls n (left_old which bytes) m counted = counted.0
-never_falls n (left_new which bytes) m counted = counted.0
+never_falls n (put_all writes) m counted = omega arith
+never_falls n (put_some writes k) m counted = counted.0
 
 one_rises : (n m : ℕ) → CountsOne n m → HasRisen n m
 one_rises n m counted =
@@ -74,25 +73,23 @@ one_rises n m counted =
       | inr most ↦ inr (omega (arith, counted.1))
     ]
 
-rises : (n : ℕ) (call : Call) (m : ℕ) → Counts n call m → Fails call → HasRisen n m
+rises : (n : ℕ) (call : Call) (m : ℕ) → CountsFailure n call m → Fails call → HasRisen n m
 rises n (got which bytes) m counted failed = absurd failed
 rises n (lacked which) m counted failed = absurd failed
 rises n (unread which) m counted failed = one_rises n m counted
-rises n (was_put which bytes) m counted failed = absurd failed
-rises n (left_old which bytes) m counted failed = one_rises n m counted
-rises n (left_new which bytes) m counted failed = one_rises n m counted
+rises n (put_all writes) m counted failed = absurd failed
+rises n (put_some writes k) m counted failed = one_rises n m counted
 
-stays : (n : ℕ) (call : Call) (m : ℕ) → Counts n call m → (Fails call → ⊥) → m ≡ n
+stays : (n : ℕ) (call : Call) (m : ℕ) → CountsFailure n call m → (Fails call → ⊥) → m ≡ n
 stays n (got which bytes) m counted held = counted
 stays n (lacked which) m counted held = counted
 stays n (unread which) m counted held = absurd (held tt)
-stays n (was_put which bytes) m counted held = counted
-stays n (left_old which bytes) m counted held = absurd (held tt)
-stays n (left_new which bytes) m counted held = absurd (held tt)
+stays n (put_all writes) m counted held = counted
+stays n (put_some writes k) m counted held = absurd (held tt)
 
 -- a home whose count of failures follows its calls
 module _ {H : Type 0} (goes : H → Call → H → Type 0) (failures : H → ℕ)
-    (counts : (old new : H) (call : Call) → goes old call new → Counts (failures old) call (failures new)) where
+    (counts : (old new : H) (call : Call) → goes old call new → CountsFailure (failures old) call (failures new)) where
   pub failures_never_fall : (old new : H) (calls : List Call) → Went goes old calls new → failures old ≤ failures new
   failures_never_fall old new [] went = omega (arith, ap failures went)
   failures_never_fall old new (call ∷ calls) went =
@@ -118,7 +115,7 @@ abbrev pub Follows : Option Contents → List Call → Option Contents → Type 
 Follows old calls new = IfSome old (λ c. TellAll c calls × (new ≡ Some (left_by_all c calls)))
 
 follows_first : (old mid new : Option Contents) (call : Call) (calls : List Call)
-    → IfSome old (λ c. Tells c call × (mid ≡ Some (left_by c call))) → Follows mid calls new → Follows old (call ∷ calls) new
+    → IfSome old (λ c. TellsOf c call × (mid ≡ Some (left_by c call))) → Follows mid calls new → Follows old (call ∷ calls) new
 follows_first None mid new call calls first rest = tt
 follows_first (Some c) mid new call calls first rest =
     let then : Follows (Some (left_by c call)) calls new = subst (λ o. Follows o calls new) first.1 rest in
@@ -130,7 +127,7 @@ follows_none (Some c) new same = (tt, same)
 
 -- a home whose contents follow its calls
 module _ {H : Type 0} (goes : H → Call → H → Type 0) (contents : H → Option Contents)
-    (follows : (old new : H) (call : Call) → goes old call new → IfSome (contents old) (λ c. Tells c call × (contents new ≡ Some (left_by c call)))) where
+    (follows : (old new : H) (call : Call) → goes old call new → IfSome (contents old) (λ c. TellsOf c call × (contents new ≡ Some (left_by c call)))) where
   pub contents_follow : (old new : H) (calls : List Call) → Went goes old calls new → Follows (contents old) calls (contents new)
   contents_follow old new [] went = follows_none (contents old) (contents new) (ap contents went)
   contents_follow old new (call ∷ calls) went =

@@ -9,12 +9,12 @@ use Rattle.rec_text.specs.Faults.{IsMemoryOr}
 use Rattle.rec_text.specs.Sink.{HasRisen}
 use Rattle.rec_select.specs.Taken.{PrintsAndCounts}
 use Rattle.rec_tools.specs.declared.decision.Decision.{Decision}
-use Rattle.rec_tools.specs.declared.decision.Decision.TheVariants.{Stay, Put, Rewrite}
+use Rattle.rec_tools.specs.declared.decision.Decision.TheVariants.{Stay, Put}
 use Rattle.rec_tools.specs.declared.home.Which.TheVariants.{Base as TheFile, Journal as TheJournal}
-use Rattle.rec_tools.specs.Home.{Contents, Call, got, with_content, TellAll, Went}
+use Rattle.rec_tools.specs.Home.{Contents, Write, Call, got, TellAll, Went}
 use Rattle.rec_tools.specs.Printouts.{Printout, Printed, PutsPrintout, WentOut, IsSilence, IsShownText, IsHistory, printed_history}
 use Rattle.rec_tools.specs.Requests.{Asked, looking, listing, editing, moving, forgetting, reads_of, IsSilent}
-use Rattle.rec_tools.specs.Outcomes.{Write, Outcome, printing, outcome_of, IsPrinting, IsRequestOutcome}
+use Rattle.rec_tools.specs.Outcomes.{Outcome, printing, outcome_of, IsPrinting, IsRequestOutcome}
 use Rattle.rec_tools.specs.proving.Silently.{ByCalls, DoesSilently}
 use Rattle.rec_tools.specs.Attempts.{Answer, gots, puts, IsPrefix, StopsReading, StopsWriting, IsAnswered, Does, Attempts}
 use Rattle.rec_text.proofs.lemmas.FaultLemmas.{ok_is_no_err, same_fault, same_value}
@@ -203,8 +203,7 @@ does-carried asked c o answer later p both found answered printed kept = inr (in
 
 outcome_of-silent : (decision : Decision) → (outcome_of decision).text ≡ []
 outcome_of-silent (Stay reply) = refl
-outcome_of-silent (Put plan reply) = refl
-outcome_of-silent (Rewrite journal reply) = refl
+outcome_of-silent (Put journal file reply) = refl
 
 -- what holds of the contents that were read holds of those of which the reads tell
 of_told : (file journal : List ℕ) (later : List Call) (P : Contents → List Call → Type 0)
@@ -215,15 +214,11 @@ of_told file journal later P h c tells = subst (λ d. P d (got TheFile file ∷ 
 -- writes read nothing
 TellAll-puts : (c : Contents) (writes : List Write) → TellAll c (puts writes)
 TellAll-puts c [] = tt
-TellAll-puts c (w ∷ writes) = (tt, TellAll-puts (with_content c w.which w.bytes) writes)
+TellAll-puts c (w ∷ writes) = (tt, tt)
 
 TellAll-stopped : (c : Contents) (writes : List Write) (calls : List Call) → StopsWriting writes calls → TellAll c calls
-TellAll-stopped c [] [] stops = tt
-TellAll-stopped c [] (call ∷ calls) stops = absurd stops
-TellAll-stopped c (w ∷ writes) [] stops = tt
-TellAll-stopped c (w ∷ writes) (call ∷ calls) (inl (inl old, none)) = rw (old, none) (tt, tt)
-TellAll-stopped c (w ∷ writes) (call ∷ calls) (inl (inr new, none)) = rw (new, none) (tt, tt)
-TellAll-stopped c (w ∷ writes) (call ∷ calls) (inr (put, stops)) = rw put (tt, TellAll-stopped (with_content c w.which w.bytes) writes calls stops)
+TellAll-stopped c [] calls stops = absurd stops
+TellAll-stopped c (w ∷ writes) calls (k, le, e) = subst (TellAll c) (sym e) (tt, tt)
 
 TellAll-answered : (c : Contents) (o : Outcome) (answer : Answer) (calls : List Call) → IsAnswered o answer calls → TellAll c calls
 TellAll-answered c o answer calls (inl done) = rw done.1 (TellAll-puts c o.writes)

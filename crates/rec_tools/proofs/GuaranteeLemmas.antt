@@ -3,15 +3,15 @@ use Rattle.std.proofs.Common.{◌≡◌, inl, inr, ℕ, List, [], ◌∷◌, ◌
 use Rattle.std.proofs.lemmas.List.{take_all}
 use Rattle.rec_journal.specs.History.{IsRegular}
 use Rattle.rec_tools.specs.declared.request.Request.{Request}
-use Rattle.rec_tools.specs.Home.{Contents, Call, left_by_all, TellAll, HasFailed}
+use Rattle.rec_tools.specs.Home.{Contents, written, Call, left_by_all, TellAll, HasFailed}
 use Rattle.rec_tools.specs.Printouts.{Printed}
 use Rattle.rec_tools.specs.Requests.{Asked, asked_of, reads_of}
 use Rattle.rec_tools.specs.Outcomes.{Outcome, IsRequestOutcome}
-use Rattle.rec_tools.specs.Attempts.{Answer, gots, puts, StopsWriting, IsAnswered, IsPrefix, IsUnread, RanShort, IsRefused, StopsPrinting, IsCarriedOut, Does, AttemptsAll}
+use Rattle.rec_tools.specs.Attempts.{Answer, gots, StopsWriting, IsAnswered, IsPrefix, IsUnread, RanShort, IsRefused, StopsPrinting, IsCarriedOut, Does, AttemptsAll}
 use Rattle.rec_tools.specs.Machine.{State, IsMachineStep, IsMachinePrefix, IsOldOrNext, IsAnswer, Stands}
 use Rattle.rec_tools.specs.Guarantee.{RunsAsMachine, StepsAsMachine}
 use Rattle.rec_tools.proofs.CallLemmas.{HasFailed-prefix, HasFailed-rest, TellAll-prefix, TellAll-rest, left_by_all-append}
-use Rattle.rec_tools.proofs.RunLemmas.{left-gots, stopped-failed, left-stopped, cut-failed, left-carried}
+use Rattle.rec_tools.proofs.RunLemmas.{left-gots, left-puts, stopped-failed, left-stopped, cut-failed, left-carried}
 use Rattle.rec_tools.proofs.StepLemmas.{outcomes_are_steps}
 use Rattle.rec_tools.proofs.StopLemmas.{cut_stands, does-regular}
 
@@ -77,7 +77,8 @@ module _ (c : Contents) (s : State) (asked : Asked) (stands : Stands c s) where
       → IsAnswered done.o answer done.following → Steps c s asked answer calls p
   carried-steps answer calls p stops done (inl put) =
       let step : StepsAsMachine c s asked (Ok done.o) = outcomes_are_steps c s asked (Ok done.o) stands done.outcome in
-      let left : left_by_all c calls ≡ left_by_all c (puts done.o.writes) = left-carried c asked calls p done.following done.calls_are ∙ ap (left_by_all c) put.1 in (
+      let left : left_by_all c calls ≡ written c done.o.writes =
+      left-carried c asked calls p done.following done.calls_are ∙ ap (left_by_all c) put.1 ∙ left-puts c done.o.writes in (
         step.0,
         inl (subst (λ a. IsMachineStep s asked a p.text step.0) (sym put.0) (subst (λ text. IsMachineStep s asked (Ok done.o.reply) text step.0) (sym done.printed) step.1)),
         subst (λ d. Stands d step.0) (sym left) step.2,

@@ -23,6 +23,5 @@ pub mod StopLemmas
 pub mod OutsideLemmas
 pub mod GuaranteeLemmas
 pub mod RunAllLemmas
-pub mod FreshLemmas
 pub mod EditLemmas
 pub mod ListedLemmas

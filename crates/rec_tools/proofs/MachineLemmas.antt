@@ -3,7 +3,7 @@ use Rattle.std.proofs.Common.{arith, ◌≡◌, ◌≢◌, inl, inr, ℕ, List, 
 use Rattle.rec_text.specs.declared.fault.Fault.{Fault}
 use Rattle.rec_text.specs.declared.fault.Fault.TheVariants.{BadPattern}
 use Rattle.rec_journal.specs.declared.event.Tool.{Tool}
-use Rattle.rec_edit.specs.declared.batches.BatchEdited.{BatchEdited}
+use Rattle.rec_edit.specs.declared.answer.Edited.{Edited}
 use Rattle.rec_journal.specs.declared.patch.Direction.{Direction}
 use Rattle.rec_tools.specs.Printouts.{Printout, IsShown}
 use Rattle.rec_tools.specs.Requests.{Asked, looking, listing, editing, moving, forgetting, asked_of}
@@ -13,8 +13,8 @@ use Rattle.rec_tools.specs.Machine.{Entry, State, IsMachineStep, IsEditStep, IsM
 use Rattle.rec_tools.specs.Laws.{OneStep}
 use Rattle.rec_text.proofs.lemmas.FaultLemmas.{no_both}
 use Rattle.rec_text.proofs.lemmas.StepLemmas.{refused_too}
-use Rattle.rec_tools.proofs.AnswerLemmas.{HasOneBut-text}
-use Rattle.rec_tools.proofs.OutcomeLemmas.{MeansOne, one_meaning}
+use Rattle.rec_tools.proofs.EditLemmas.{one_made}
+use Rattle.rec_tools.proofs.OutcomeLemmas.{MeansOne, one_meaning, HasOneBut-once_read}
 
 -- ---- a text is shown in one way
 
@@ -31,7 +31,7 @@ shown_of_built (Err fault) answer printed is built = refused_too answer fault is
 -- ---- an edit steps in one way
 
 module _ (s : State) where
-  one_edit_step : (outcome : Result (Tool × BatchEdited) Fault) (one other : Answer) (t u : State)
+  one_edit_step : (outcome : Result (Tool × Edited) Fault) (one other : Answer) (t u : State)
       → IsEditStep s outcome one t → IsEditStep s outcome other u → (one ≡ other) × (t ≡ u)
   one_edit_step (Err fault) one other t u is is_too = (is.0 ∙ sym is_too.0, is.1 ∙ sym is_too.1)
   one_edit_step (Ok made) one other t u (inl is) (inl is_too) = (is.1 ∙ sym is_too.1, is.2 ∙ sym is_too.2)
@@ -39,7 +39,7 @@ module _ (s : State) where
   one_edit_step (Ok made) one other t u (inr is) (inl is_too) = absurd (is.0 is_too.0)
   one_edit_step (Ok made) one other t u (inr is) (inr is_too) = (is.1 ∙ sym is_too.1, is.2 ∙ sym is_too.2)
 
-  edit_of_built : (outcome : Result (Tool × BatchEdited) Fault) (answer : Answer) (t : State) → IsEditStep s outcome answer t
+  edit_of_built : (outcome : Result (Tool × Edited) Fault) (answer : Answer) (t : State) → IsEditStep s outcome answer t
       → answer ≢ Err BadPattern → outcome ≢ Err BadPattern
   edit_of_built (Ok made) answer t is built = no_both made BadPattern
   edit_of_built (Err fault) answer t is built = refused_too answer fault is.0 built
@@ -73,7 +73,7 @@ module _ (s : State) (one other : Answer) (text printed : List ℕ) (t u : State
       (both.0, both.1, e ∙ sym k)
   one_step_of listing means is is_too = (is.0 ∙ sym is_too.0, is.1 ∙ sym is_too.1, is.2 ∙ sym is_too.2)
   one_step_of (editing IsEdit) means (outcome, is, step, e) (also, is_too, step_too, k) =
-      let same = HasOneBut-text s.present (IsMade IsEdit) means outcome also is is_too
+      let same = HasOneBut-once_read s.present (IsMade IsEdit s.present) (one_made IsEdit means s.present) outcome also is is_too
       (edit_of_built s outcome one t step built) (edit_of_built s also other u step_too built_too) in
       let both = one_edit_step s also one other t u (subst (λ r. IsEditStep s r one t) same step) step_too in
       (both.0, e ∙ sym k, both.1)

@@ -1,10 +1,9 @@
--- A replace of a home in memory is one call, as its list of failures says.
-use Rattle.std.proofs.Common.{◌≡◌, ◌⊎◌, ◌∙◌, ℕ, ◌+◌, ◌-◌, ◌^◌, min, List, Some, None, Result, Ok, Err, OnOk, OnErr, refl, ap, sym, subst, inl, inr}
-use Rattle.rec_tools.specs.declared.home.Which.{Which}
+-- A put of a home in memory that fails is one call, as its list of failures says.
+use Rattle.std.proofs.Common.{arith, ◌≡◌, ◌∙◌, ℕ, ◌+◌, ◌-◌, ◌^◌, ◌≤◌, min, List, length, take, Option, Some, None, Result, Ok, Err, OnOk, OnErr, refl, ap, sym, subst}
+use Rattle.std.proofs.lemmas.List.{take_min}
 use Rattle.rec_tools.specs.declared.memory.MemoryHome.{MemoryHome}
-use Rattle.rec_tools.specs.declared.memory.StoreFault.TheVariants.{LeavesOld, LeavesNew}
-use Rattle.rec_tools.specs.Home.{Call, was_put, left_old, left_new, left_by, with_content, Tells, CountsOne, Counts}
-use Rattle.rec_tools.specs.Memory.{fault_of, held, IsScripted, IsCall}
+use Rattle.rec_tools.specs.Home.{Write, written, Call, put_some, CountsOne}
+use Rattle.rec_tools.specs.Memory.{writes_left, held, IsCut, IsScripted, IsCall}
 
 -- the fault of this number was sought, and counted
 pub record Sought (old mid : MemoryHome) : Type 0 where
@@ -12,59 +11,39 @@ pub record Sought (old mid : MemoryHome) : Type 0 where
   pub numbered : mid.calls ≡ min (old.calls + 1) (2 ^ 64 - 1)
   pub faults : mid.faults.items ≡ old.faults.items
 
-module _ (old mid new : MemoryHome) (which : Which) (bytes : List ℕ) (sought : Sought old mid)
+module _ (old mid new : MemoryHome) (writes : List Write) (sought : Sought old mid)
     (calls : new.calls ≡ mid.calls) (faults : new.faults.items ≡ mid.faults.items) where
-  -- a call that went as the list says, with these contents left
-  called : (call : Call) → IsScripted (fault_of old.faults.items old.calls) call → Tells (held old) call → held new ≡ left_by (held old) call → Counts old.failed call new.failed
-      → IsCall old call new
-  called call scripted tells left counts = record {
-    scripted = scripted;
-    tells = tells;
-    left = left;
-    counts = counts;
-    numbered = calls ∙ sought.numbered;
-    faults = faults ∙ sought.faults;
-  }
+  -- what the list says of the call
+  abbrev said : Option ℕ
+  said = writes_left old.faults.items old.calls
 
-  -- the list gives no fault, and the copy was put
-  pub put-made : fault_of old.faults.items old.calls ≡ None → held new ≡ with_content (held mid) which bytes → new.failed ≡ old.failed
-      → (call : Call) × (call ≡ was_put which bytes) × IsCall old call new
-  put-made none put same = (
-    was_put which bytes,
-    refl,
-    called (was_put which bytes) (subst (λ f. IsScripted f (was_put which bytes)) (sym none) tt) tt (put ∙ ap (λ c. with_content c which bytes) sought.contents) same,
-  )
-
-  -- a replace that failed
   abbrev pub Failed : Type 0
-  Failed = (call : Call) × ((call ≡ left_old which bytes) ⊎ (call ≡ left_new which bytes)) × IsCall old call new
+  Failed = (call : Call) × ((k : ℕ) × (k ≤ length writes) × (call ≡ put_some writes k)) × IsCall old call new
+
+  failed : (k : ℕ) → k ≤ length writes → IsScripted said (put_some writes k) → held new ≡ written (held mid) (take k writes) → CountsOne old.failed new.failed → Failed
+  failed k le scripted left counted = (
+    put_some writes k,
+    (k, le, refl),
+    record {
+      scripted = scripted;
+      tells = tt;
+      left = left ∙ ap (λ c. written c (take k writes)) sought.contents;
+      counts = counted;
+      numbered = calls ∙ sought.numbered;
+      faults = faults ∙ sought.faults;
+    },
+  )
 
   -- the list gives no fault, and there was no memory for a copy
-  pub put-short : fault_of old.faults.items old.calls ≡ None → held new ≡ held mid → CountsOne old.failed new.failed → Failed
-  put-short none left counted = (
-    left_old which bytes,
-    inl refl,
-    called (left_old which bytes) (subst (λ f. IsScripted f (left_old which bytes)) (sym none) tt) tt (left ∙ sought.contents) counted,
-  )
+  pub put-short : said ≡ None → IsCut (held mid) 2 writes (held new) → CountsOne old.failed new.failed → Failed
+  put-short none (k, lt, left) counted =
+      failed k (omega arith) (subst (λ f. IsScripted f (put_some writes k)) (sym none) (omega arith)) left counted
 
-  -- the list says that the new content stays
-  pub put-failing : {X E : Type 0} (result : Result X E) → fault_of old.faults.items old.calls ≡ Some LeavesNew → CountsOne old.failed new.failed
-      → OnOk result (held new ≡ with_content (held mid) which bytes) → OnErr result (held new ≡ held mid) → Failed
-  put-failing (Ok u) some counted put left = (
-    left_new which bytes,
-    inr refl,
-    called (left_new which bytes) (subst (λ f. IsScripted f (left_new which bytes)) (sym some) refl) tt (put ∙ ap (λ c. with_content c which bytes) sought.contents) counted,
-  )
-  put-failing (Err e) some counted put left = (
-    left_old which bytes,
-    inl refl,
-    called (left_old which bytes) (subst (λ f. IsScripted f (left_old which bytes)) (sym some) tt) tt (left ∙ sought.contents) counted,
-  )
-
-  -- the list says that the old content stays
-  pub left-failing : fault_of old.faults.items old.calls ≡ Some LeavesOld → held new ≡ held mid → CountsOne old.failed new.failed → Failed
-  left-failing some left counted = (
-    left_old which bytes,
-    inl refl,
-    called (left_old which bytes) (subst (λ f. IsScripted f (left_old which bytes)) (sym some) tt) tt (left ∙ sought.contents) counted,
-  )
+  -- the list says how many are left
+  pub put-failing : {X E : Type 0} (result : Result X E) (most : ℕ) → said ≡ Some most → CountsOne old.failed new.failed
+      → OnOk result (held new ≡ written (held mid) (take most writes)) → OnErr result (IsCut (held mid) most writes (held new)) → Failed
+  put-failing (Ok u) most some counted put cut =
+      failed (min most (length writes)) (omega arith) (subst (λ f. IsScripted f (put_some writes (min most (length writes)))) (sym some) (omega arith))
+      (put ∙ ap (written (held mid)) (sym (take_min most writes))) counted
+  put-failing (Err e) most some counted put (k, lt, left) =
+      failed k (omega arith) (subst (λ f. IsScripted f (put_some writes k)) (sym some) (omega arith)) left counted

@@ -8,7 +8,7 @@ use Rattle.rec_text.proofs.lemmas.records.RecordLemmas.{OneListOfRecords-holds}
 use Rattle.rec_sex.specs.declared.lists.field_list.Item.{Item}
 use Rattle.rec_sex.proofs.lemmas.lists.FieldListReading.{one_field_list}
 use Rattle.rec_check.specs.declared.set.Set_.{Set_}
-use Rattle.rec_check.specs.DescribedTexts.{DescribedText}
+use Rattle.rec_check.specs.DescribedTexts.{IsDescribedText}
 use Rattle.rec_check.proofs.lemmas.laws.CheckLemmas.{one_check}
 use Rattle.rec_check.specs.Violations.{AreViolationsOf}
 use Rattle.rec_select.specs.declared.info.InfoForm.{InfoForm}
@@ -27,12 +27,12 @@ use Rattle.rec_journal.specs.History.{Opened, Opens, IsOpening}
 use Rattle.rec_journal.specs.Plans.{IsMovePlan}
 use Rattle.rec_journal.proofs.lemmas.plans.PlanLemmas.{one_move_plan}
 use Rattle.rec_journal.proofs.lemmas.histories.Openings.{one_opening}
-use Rattle.rec_edit.specs.declared.batches.BatchEdited.{BatchEdited}
+use Rattle.rec_edit.specs.declared.answer.Edited.{Edited}
 use Rattle.rec_tools.specs.declared.request.Form.{Form}
 use Rattle.rec_tools.specs.declared.request.Form.TheVariants.{Blocks, Print, Values, Row, Count}
 use Rattle.rec_tools.specs.declared.request.Pick.{Pick}
 use Rattle.rec_tools.specs.declared.request.Request.{Request}
-use Rattle.rec_tools.specs.declared.request.Request.TheVariants.{Show, Info, Check, Insert, Replace, Delete, CommentOut, Set, AutoFill, Batch, Undo, Redo, Forget, History}
+use Rattle.rec_tools.specs.declared.request.Request.TheVariants.{Show, Info, Check, Edit, Batch, Undo, Redo, Forget, History}
 use Rattle.rec_tools.specs.declared.request.Reply.{Reply}
 use Rattle.rec_tools.specs.declared.request.Reply.TheVariants.{Shown, Edited as EditedReply}
 use Rattle.rec_tools.specs.Home.{Contents}
@@ -43,10 +43,10 @@ use Rattle.rec_tools.specs.Requests.{Edits, Asked, looking, listing, editing, mo
 use Rattle.rec_tools.specs.Outcomes.{Outcome, IsRequestOutcome, IsPrinting, IsMade, IsEditOutcome, IsMove, IsForgetting, OneOutcome, printing, putting, reply_of}
 use Rattle.rec_text.proofs.lemmas.FaultLemmas.{same_fault, same_value}
 use Rattle.rec_tools.proofs.OpeningLemmas.{no_clash, same_plan_of}
-use Rattle.rec_tools.proofs.EditLemmas.{agree_on_one, agree_on_batch}
+use Rattle.rec_tools.proofs.EditLemmas.{AreEditsAlike, agree_on_one, agree_on_batch, one_made}
 use Rattle.rec_text.proofs.lemmas.FaultLemmas.{no_both}
-use Rattle.rec_text.proofs.lemmas.StepLemmas.{HasOne, HasOneBut, HasOneBut-of, one_value, no_value, one_fault, HasOne-Then, AgreeBut-Then, Then-first, Then-next}
-use Rattle.rec_tools.proofs.AnswerLemmas.{HasOneBut-filter, AgreeOnSchemas, with_schema, HasOneBut-text, agree_by_sets, same_selection}
+use Rattle.rec_text.proofs.lemmas.StepLemmas.{HasOne, HasOneBut, HasOneBut-of, HasOneBut-Then, AgreeLike, one_value, no_value, one_fault, HasOne-Then, Then-first, Then-next}
+use Rattle.rec_tools.proofs.AnswerLemmas.{HasOneBut-filter, HasOneBut-text, agree_by_sets, same_selection}
 
 -- ---- printed texts
 
@@ -136,11 +136,11 @@ HasOneBut-printing step has_one (Err fault) (Err other) is is_too built built_to
 
 -- ---- what is asked for
 
--- what is asked for has one answer: one text of a file, and one edit of elements, whichever of their schemas is taken
+-- what is asked for has one answer: one text of a file, and edits that are alike
 abbrev pub MeansOne : Asked → Type 0
 MeansOne (looking IsText) = (file : List ℕ) → HasOneBut (IsText file)
 MeansOne listing = Unit {0}
-MeansOne (editing IsEdit) = (pieces : List Piece) → AgreeOnSchemas pieces (IsMade IsEdit)
+MeansOne (editing IsEdit) = AgreeLike AreEditsAlike IsEdit IsEdit
 MeansOne (moving direction) = Unit {0}
 MeansOne (forgetting n) = Unit {0}
 
@@ -148,12 +148,7 @@ pub one_meaning : (request : Request) → MeansOne (asked_of request)
 one_meaning (Show pick form collapse) = λ file. HasOneBut-shown _ (HasOneBut-show file pick form collapse)
 one_meaning (Info record_type form) = λ file. HasOneBut-shown _ (HasOneBut-info_of file record_type form)
 one_meaning Check = λ file. HasOneBut-reported _ (HasOneBut-check file)
-one_meaning (Insert record_type fresh auto force) = agree_on_one (Insert record_type fresh auto force) force
-one_meaning (Replace pick fresh force) = agree_on_one (Replace pick fresh force) force
-one_meaning (Delete pick force) = agree_on_one (Delete pick force) force
-one_meaning (CommentOut pick force) = agree_on_one (CommentOut pick force) force
-one_meaning (Set pick list action force) = agree_on_one (Set pick list action force) force
-one_meaning (AutoFill force) = agree_on_one (AutoFill force) force
+one_meaning (Edit edit force) = agree_on_one edit force
 one_meaning (Batch text force) = agree_on_batch text force
 one_meaning Undo = tt
 one_meaning Redo = tt
@@ -162,7 +157,11 @@ one_meaning History = tt
 
 -- ---- an edit
 
-module _ (o : Opened) (c : Contents) (opens : Opens c.file c.journal o) (tool : Tool) (made : BatchEdited) where
+-- a step that doesn't ask for what was read of a text has one answer after it
+pub HasOneBut-once_read : {A : Type 0} (file : List ℕ) (step : Result A Fault → Type 0) → HasOneBut step → HasOneBut (Then (IsDescribedText file) (λ _. step))
+HasOneBut-once_read file step has_one = HasOneBut-text file (λ _. step) (λ pieces schema same is is_too. has_one)
+
+module _ (o : Opened) (c : Contents) (opens : Opens c.file c.journal o) (tool : Tool) (made : Edited) where
   HasOne-edit_outcome : HasOne (IsEditOutcome o c tool made)
   HasOne-edit_outcome (Ok one) (Ok other) (inl (same, e)) (inl (same_too, k)) = ap Ok (e ∙ sym k)
   HasOne-edit_outcome (Ok one) (Ok other) (inl (same, e)) (inr (differs, is_too)) = absurd (differs same)
@@ -216,15 +215,13 @@ module _ (n : ℕ) (o : Opened) (c : Contents) where
 -- ---- outcomes
 
 module _ (c : Contents) where
-  HasOneBut-edit : (IsEdit : Result (Edits × Bool) Fault → Type 0) → ((pieces : List Piece) → AgreeOnSchemas pieces (IsMade IsEdit))
-      → HasOneBut (IsRequestOutcome c (editing IsEdit))
+  HasOneBut-edit : (IsEdit : Result Edits Fault → Type 0) → AgreeLike AreEditsAlike IsEdit IsEdit → HasOneBut (IsRequestOutcome c (editing IsEdit))
   HasOneBut-edit IsEdit agree =
-      let last : Opened → Tool × BatchEdited → Result Outcome Fault → Type 0 = λ o told. IsEditOutcome o c told.0 told.1 in
-      let next : DescribedText → Opened → Result Outcome Fault → Type 0 = λ text o. Then (IsMade IsEdit text) (last o) in
-      HasOneBut-text c.file (λ text. Then (IsOpening c.file c.journal) (next text)) (λ pieces schema same is is_too.
-      AgreeBut-Then (IsOpening c.file c.journal) (IsOpening c.file c.journal) (next (with_schema pieces schema)) (next (with_schema pieces same))
-      (HasOneBut-of (IsOpening c.file c.journal) (one_opening c.file c.journal)) (λ o opens.
-      AgreeBut-Then (IsMade IsEdit (with_schema pieces schema)) (IsMade IsEdit (with_schema pieces same)) (last o) (last o) (agree pieces schema same is is_too)
+      let last : Opened → Tool × Edited → Result Outcome Fault → Type 0 = λ o told. IsEditOutcome o c told.0 told.1 in
+      let next : Opened → Result Outcome Fault → Type 0 = λ o. Then (IsMade IsEdit c.file) (last o) in
+      HasOneBut-once_read c.file (Then (IsOpening c.file c.journal) next)
+      (HasOneBut-Then (IsOpening c.file c.journal) next (HasOneBut-of (IsOpening c.file c.journal) (one_opening c.file c.journal)) (λ o opens.
+      HasOneBut-Then (IsMade IsEdit c.file) (last o) (one_made IsEdit agree c.file)
       (λ made _. HasOneBut-of (last o made) (HasOne-edit_outcome o c opens made.0 made.1))))
 
   -- what is asked for comes to one outcome

@@ -14,13 +14,12 @@ use Rattle.rec_journal.specs.Revisions.{Leads}
 use Rattle.rec_journal.specs.Plans.{edit_to, after_edit_plan}
 use Rattle.rec_journal.proofs.lemmas.histories.Countings.{drifted-empty}
 use Rattle.rec_journal.proofs.lemmas.histories.Openings.{one_opening}
-use Rattle.rec_edit.specs.declared.batches.BatchEdited.{BatchEdited}
+use Rattle.rec_edit.specs.declared.answer.Edited.{Edited}
 use Rattle.rec_tools.specs.declared.request.Reply.TheVariants.{Shown}
-use Rattle.rec_tools.specs.Home.{Contents}
+use Rattle.rec_tools.specs.Home.{Contents, written}
 use Rattle.rec_tools.specs.Printouts.{history_text}
 use Rattle.rec_tools.specs.Requests.{Asked, looking, listing, editing, moving, forgetting, asked_of}
-use Rattle.rec_tools.specs.Outcomes.{Outcome, IsRequestOutcome, IsPlanned, printing, writes_of}
-use Rattle.rec_tools.specs.Attempts.{written}
+use Rattle.rec_tools.specs.Outcomes.{Outcome, IsRequestOutcome, IsPlanned, printing}
 use Rattle.rec_tools.specs.Machine.{AreEntries, Stands}
 use Rattle.rec_tools.specs.Laws.{outside_state, OutsideIsNoticed}
 use Rattle.rec_text.proofs.lemmas.FaultLemmas.{ok_is_no_err, same_value}
@@ -55,7 +54,7 @@ module _ (c : Contents) (o : Opened) (opens : Opens c.file c.journal o) (drifted
       e ∙ ap (λ b. Ok (printing (if b then codes "drifted\n" else history_text (map (λ (x : Revision). (x.number, x.tool)) p.past) (map (λ (x : Revision). (x.number, x.tool)) p.future)) Shown)) is
 
   -- the history after an edit has that edit alone
-  begun : (tool : Tool) (made : BatchEdited) (plan : Plan) → IsPlanned o c tool made plan → Stands (written c (writes_of plan)) (outside_state c o tool plan.file)
+  begun : (tool : Tool) (made : Edited) (plan : Plan) → IsPlanned o c tool made plan → Stands (record { file = plan.file; journal = plan.journal }) (outside_state c o tool plan.file)
   begun tool made plan planned =
       let edit : Revision = edit_to o tool made.text made.steps in
       record {

@@ -7,7 +7,7 @@ use Rattle.std.proofs.lemmas.List.{take_more, take_all}
 use Rattle.std.proofs.lemmas.List.Elements.{All-from_recursion}
 use Rattle.rec_journal.specs.History.{IsRegular}
 use Rattle.rec_tools.specs.declared.request.Request.{Request}
-use Rattle.rec_tools.specs.Home.{Contents, Call, left_by, left_by_all, Tells, HasFailed, Went}
+use Rattle.rec_tools.specs.Home.{Contents, Call, left_by, left_by_all, TellsOf, HasFailed, Went}
 use Rattle.rec_tools.specs.Printouts.{Printed, WentOut, IsBoth, IsSilence}
 use Rattle.rec_tools.specs.Requests.{asked_of, IsSilent}
 use Rattle.rec_tools.specs.Attempts.{Answer, Attempts, AttemptsAll}
@@ -142,7 +142,7 @@ module _ {H S : Type 0} (goes : H → Call → H → Type 0) (told : S → Optio
       (calls, p, ran.0, went_out, done, follow.1, ran.1, ran.2)
 
   module _ (contents : H → Option Contents)
-      (follows : (old new : H) (call : Call) → goes old call new → IfSome (contents old) (λ c. Tells c call × (contents new ≡ Some (left_by c call)))) where
+      (follows : (old new : H) (call : Call) → goes old call new → IfSome (contents old) (λ c. TellsOf c call × (contents new ≡ Some (left_by c call)))) where
     pub attempted_all-fails : (old new : H) (out out_new : S) (requests : List Request) (answers : List Answer)
         → AttemptedAll goes told sink_failures old new out out_new requests answers → RanWithFailures (contents old) (contents new) old new out out_new requests answers
     attempted_all-fails old new out out_new requests answers done =
@@ -150,7 +150,7 @@ module _ {H S : Type 0} (goes : H → Call → H → Type 0) (told : S → Optio
         (contents_follow goes contents follows old new done.0 (AttemptsAll-went goes old new requests answers done.0 done.1 done.3))
 
   pub attempted_all-runs : (contents : H → Option Contents)
-      → ((old new : H) (call : Call) → goes old call new → IfSome (contents old) (λ c. Tells c call × (contents new ≡ Some (left_by c call))))
+      → ((old new : H) (call : Call) → goes old call new → IfSome (contents old) (λ c. TellsOf c call × (contents new ≡ Some (left_by c call))))
       → (old new : H) (out out_new : S) (requests : List Request) (answers : List Answer)
       → AttemptedAll goes told sink_failures old new out out_new requests answers → RanAsMachine (contents old) (contents new) old new out out_new requests answers
   attempted_all-runs contents follows old new out out_new requests answers done =

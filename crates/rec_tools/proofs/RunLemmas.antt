@@ -1,16 +1,16 @@
 -- What `run` ensures besides, from what the request did.
-use Rattle.std.proofs.Common.{◌≡◌, ◌⊎◌, inl, inr, ℕ, suc, take, List, [], ◌∷◌, ◌++◌, Option, Some, None, Ok, Err, ap, sym, subst, refl, ◌∙◌}
+use Rattle.std.proofs.Common.{◌≡◌, ◌⊎◌, inl, inr, ℕ, take, List, [], ◌∷◌, ◌++◌, Option, Some, None, Ok, Err, ap, sym, subst, refl, ◌∙◌}
 use Rattle.std.specs.Prelude.{IfSome, IfErr}
 use Rattle.rec_text.specs.declared.fault.Fault.{Fault}
 use Rattle.rec_text.specs.declared.fault.Fault.TheVariants.{OutOfMemory, StoreFailed}
 use Rattle.rec_text.specs.Sink.{HasRisen}
 use Rattle.rec_tools.specs.declared.home.Which.{Which}
 use Rattle.rec_tools.specs.declared.request.Request.{Request}
-use Rattle.rec_tools.specs.Home.{Contents, Call, got, lacked, was_put, left_by, left_by_all, Tells, TellAll, HasFailed, Counts}
+use Rattle.rec_tools.specs.Home.{Contents, Write, written, Call, got, lacked, left_by, left_by_all, TellsOf, TellAll, HasFailed, CountsFailure}
 use Rattle.rec_tools.specs.Printouts.{Printed}
 use Rattle.rec_tools.specs.Requests.{Asked, looking, listing, editing, moving, forgetting, asked_of, reads_of, WritesNothing}
-use Rattle.rec_tools.specs.Outcomes.{Write, Outcome, IsRequestOutcome}
-use Rattle.rec_tools.specs.Attempts.{Answer, gots, puts, written, StopsReading, StopsWriting, IsAnswered, IsCutShort, IsUnread, IsCarriedOut, Does}
+use Rattle.rec_tools.specs.Outcomes.{Outcome, IsRequestOutcome}
+use Rattle.rec_tools.specs.Attempts.{Answer, gots, puts, StopsReading, StopsWriting, IsAnswered, IsCutShort, IsUnread, IsCarriedOut, Does}
 use Rattle.rec_tools.proofs.CallLemmas.{Follows, HasFailed-rest, HasFailed-parts, left_by_all-append, failures_stay, failures_rise, contents_follow}
 use Rattle.rec_tools.proofs.ExitLemmas.{Attempted}
 use Rattle.rec_text.proofs.lemmas.FaultLemmas.{same_fault, same_value}
@@ -26,7 +26,11 @@ no_failure-gots c (which ∷ whiches) (inr failed) = no_failure-gots c whiches f
 no_failure-puts : (writes : List Write) → HasFailed (puts writes) → ⊥
 no_failure-puts [] failed = failed
 no_failure-puts (w ∷ writes) (inl failed) = failed
-no_failure-puts (w ∷ writes) (inr failed) = no_failure-puts writes failed
+no_failure-puts (w ∷ writes) (inr failed) = failed
+
+pub left-puts : (c : Contents) (writes : List Write) → left_by_all c (puts writes) ≡ written c writes
+left-puts c [] = refl
+left-puts c (w ∷ writes) = refl
 
 left-reads : (c d : Contents) (whiches : List Which) → left_by_all d (gots c whiches) ≡ d
 left-reads c d [] = refl
@@ -73,27 +77,13 @@ left-stopped c (which ∷ rest) (call ∷ calls) fault (inr (inl stops)) = rw (s
 left-stopped c (which ∷ rest) (call ∷ calls) fault (inr (inr stops)) = rw stops.1 (left-stopped c rest calls fault stops.2)
 
 pub cut-failed : (writes : List Write) (calls : List Call) → StopsWriting writes calls → HasFailed calls
-cut-failed [] [] stops = stops
-cut-failed [] (call ∷ calls) stops = absurd stops
-cut-failed (w ∷ writes) [] stops = stops
-cut-failed (w ∷ writes) (call ∷ calls) (inl (inl old, none)) = rw old (inl tt)
-cut-failed (w ∷ writes) (call ∷ calls) (inl (inr new, none)) = rw new (inl tt)
-cut-failed (w ∷ writes) (call ∷ calls) (inr (put, stops)) = inr (cut-failed writes calls stops)
+cut-failed [] calls stops = absurd stops
+cut-failed (w ∷ writes) calls (k, le, e) = subst HasFailed (sym e) (inl tt)
 
--- where a write fails, the first of the writes are there and the others are not
+-- where their call fails, the first of the writes are there and the others are not
 pub cut_left : (c : Contents) (writes : List Write) (calls : List Call) → StopsWriting writes calls → (k : ℕ) × (left_by_all c calls ≡ written c (take k writes))
-cut_left c [] [] stops = absurd stops
-cut_left c [] (call ∷ calls) stops = absurd stops
-cut_left c (w ∷ writes) [] stops = absurd stops
-cut_left c (w ∷ writes) (call ∷ calls) (inl (inl old, none)) = (0, rw (old, none) refl)
-cut_left c (w ∷ writes) (call ∷ calls) (inl (inr new, none)) = (1, rw (new, none) refl)
-cut_left c (w ∷ writes) (call ∷ calls) (inr (put, stops)) =
-    let rest = cut_left (left_by c (was_put w.which w.bytes)) writes calls stops in
-    (suc rest.0, rw put rest.1)
-
-pub no_cut : (calls : List Call) → StopsWriting [] calls → ⊥
-no_cut [] stops = stops
-no_cut (call ∷ calls) stops = stops
+cut_left c [] calls stops = absurd stops
+cut_left c (w ∷ writes) calls (k, le, e) = (k, ap (left_by_all c) e)
 
 -- what writes nothing has no writes
 pub writes_nothing : (c : Contents) (asked : Asked) (o : Outcome) → WritesNothing asked → IsRequestOutcome c asked (Ok o) → o.writes ≡ []
@@ -106,7 +96,7 @@ writes_nothing c (forgetting n) o nothing is = absurd nothing
 
 none-written : (o : Outcome) (answer : Answer) (calls : List Call) → o.writes ≡ [] → IsAnswered o answer calls → calls ≡ []
 none-written o answer calls none (inl put) = put.1 ∙ ap puts none
-none-written o answer calls none (inr stopped) = absurd (no_cut calls (subst (λ writes. StopsWriting writes calls) none stopped.1))
+none-written o answer calls none (inr stopped) = absurd (subst (λ writes. StopsWriting writes calls) none stopped.1)
 
 -- ---- from what was done on contents
 
@@ -234,7 +224,7 @@ looks-told (Some c) new asked answer calls p follow does =
 -- ---- from what was attempted
 
 module _ {H S : Type 0} (goes : H → Call → H → Type 0) (told : S → Option (List ℕ)) (sink_failures : S → ℕ) where
-  module _ (failures : H → ℕ) (counts : (old new : H) (call : Call) → goes old call new → Counts (failures old) call (failures new)) where
+  module _ (failures : H → ℕ) (counts : (old new : H) (call : Call) → goes old call new → CountsFailure (failures old) call (failures new)) where
     pub attempted-kept : (old new : H) (out out_new : S) (asked : Asked) (answer : Answer) → Attempted goes told sink_failures old new out out_new asked answer
         → (answer ≡ Err StoreFailed) ⊎ ((failures new ≡ failures old) × (sink_failures out_new ≡ sink_failures out))
     attempted-kept old new out out_new asked answer (calls, p, went_out, (went, tells, does)) =
@@ -255,7 +245,7 @@ module _ {H S : Type 0} (goes : H → Call → H → Type 0) (told : S → Optio
         ]
 
   module _ (contents : H → Option Contents)
-      (follows : (old new : H) (call : Call) → goes old call new → IfSome (contents old) (λ c. Tells c call × (contents new ≡ Some (left_by c call)))) where
+      (follows : (old new : H) (call : Call) → goes old call new → IfSome (contents old) (λ c. TellsOf c call × (contents new ≡ Some (left_by c call)))) where
     pub attempted-unchanged : (old new : H) (out out_new : S) (asked : Asked) (answer : Answer) → Attempted goes told sink_failures old new out out_new asked answer
         → IfSome (contents old) (λ c. IfErr answer (λ fault. (fault ≡ StoreFailed) ⊎ (contents new ≡ Some c)))
     attempted-unchanged old new out out_new asked answer (calls, p, went_out, (went, tells, does)) =

@@ -1,11 +1,9 @@
--- Requests that one record asks for are one task.
+-- Edits that one record asks for are one task.
 use Rattle.std.proofs.Common.{◌≡◌, ◌∙◌, ℕ, Bool, true, false, not, List, [], ◌∷◌, Option, Some, None, map, codes, inl, inr, refl, sym, ap, ap₂, subst}
 use Rattle.std.specs.Prelude.{Result, Ok}
 use Rattle.std.specs.List.{AllZip}
 use Rattle.rec_text.specs.declared.fault.Fault.{Fault}
-use Rattle.rec_text.specs.declared.fault.Fault.TheVariants.{BadBatch}
 use Rattle.rec_text.specs.Elements.{Piece}
-use Rattle.rec_text.specs.Records.{elements_in}
 use Rattle.rec_text.specs.Steps.{Then}
 use Rattle.rec_journal.specs.declared.event.Tool.{Tool}
 use Rattle.rec_journal.specs.declared.event.Tool.TheVariants.{RecIns, RecDel, RecSet, RecFix}
@@ -18,11 +16,12 @@ use Rattle.rec_edit.specs.Task.{Wanted, Task, NewRecord as FreshRecord, of_pairs
 use Rattle.rec_tools.specs.declared.request.Ask.{Ask}
 use Rattle.rec_tools.specs.declared.request.Ask.TheVariants.{All, Expr, Index, Quick}
 use Rattle.rec_tools.specs.declared.request.Pick.{Pick}
-use Rattle.rec_tools.specs.declared.request.Request.{Request}
-use Rattle.rec_tools.specs.declared.request.Request.TheVariants.{Insert, Replace, Delete, CommentOut, Set, AutoFill}
-use Rattle.rec_tools.specs.Batches.{AsksFor, AsksTool, selection_for, action_for, IsSelectionOf, IsPickOf, IsActionOf, IsFreshOf, word_if, AreEdits}
+use Rattle.rec_tools.specs.declared.request.EditRequest.{EditRequest}
+use Rattle.rec_tools.specs.declared.request.EditRequest.TheVariants.{Insert, Replace, Delete, CommentOut, Set, AutoFill}
+use Rattle.rec_edit.specs.Options.{action_for, new_record_for}
+use Rattle.rec_tools.specs.Asking.{selection_for}
+use Rattle.rec_tools.specs.Batches.{AsksFor, AsksTool, IsSelectionOf, IsPickOf, IsActionOf, IsFreshOf, word_if}
 use Rattle.rec_tools.specs.Requests.{IsTaskBy, IsTaskOf, AreTasks}
-use Rattle.rec_text.proofs.lemmas.FaultLemmas.{no_both, same_value}
 use Rattle.rec_text.proofs.lemmas.StepLemmas.{Then-first, Then-next}
 use Rattle.rec_tools.proofs.BatchLemmas.{one_option, one_tool}
 
@@ -71,18 +70,7 @@ set_too : (answer : Result Task Fault) (a b : Pick) (list items : List ℕ) (act
     → IsTaskBy (λ wanted. set wanted items done) b answer → IsTaskBy (λ wanted. set wanted list action) a answer
 set_too answer a b list items action done p l d told = rw (p, l, d) told
 
--- ---- what is answered of a text
-
--- the edits of a text are those of its records
-pub edits_of_records : (text : List ℕ) (requests : List Request) → AreEdits text (Ok requests)
-    → (records : List (List Piece)) × AllZip AsksFor records requests
-edits_of_records text requests (inl unread) = absurd (no_both requests (BadBatch unread.0) unread.2)
-edits_of_records text requests (inr (pieces, records, elements, are, inl (others, asked, same))) =
-    (map (elements_in pieces) records, subst (AllZip AsksFor (map (elements_in pieces) records)) (sym (same_value requests others same)) asked)
-edits_of_records text requests (inr (pieces, records, elements, are, inr (line, none, same))) =
-    absurd (no_both requests (BadBatch line) same)
-
--- ---- requests of one record are one task
+-- ---- edits of one record are one task
 
 one_word : (word : List ℕ) (a b : Bool) → word_if word a ≡ word_if word b → a ≡ b
 one_word word true true same = refl
@@ -153,60 +141,65 @@ same_pairs (pair ∷ pairs) (other ∷ others) names values =
     (let e : map (λ pair. pair.value) pairs ≡ map (λ pair. pair.value) others = cc in e) in
     ap₂ (λ pair pairs. pair ∷ pairs) (same_pair pair other name value) rest
 
-one_fresh : (own : List Piece) (a b : NewRecord) → IsFreshOf own a → IsFreshOf own b → fresh_by a ≡ fresh_by b
-one_fresh own (Pairs a) (Pairs b) is_a is_b =
-    ap of_pairs (same_pairs a.items b.items (is_a.1 ∙ sym is_b.1) (is_a.2 ∙ sym is_b.2))
-one_fresh own (Pairs a) (TextOfIt b) is_a is_b = absurd (none_or_some b (one_option None (Some b) (is_a.0 ∙ sym is_b.0)))
-one_fresh own (TextOfIt a) (Pairs b) is_a is_b = absurd (none_or_some a (one_option None (Some a) (is_b.0 ∙ sym is_a.0)))
-one_fresh own (TextOfIt a) (TextOfIt b) is_a is_b = ap of_text (some_item a b (one_option (Some a) (Some b) (is_a.0 ∙ sym is_b.0)))
+same_fresh : (a b : NewRecord) → (new_record_for a).0 ≡ (new_record_for b).0 → (new_record_for a).1 ≡ (new_record_for b).1
+    → (new_record_for a).2 ≡ (new_record_for b).2 → fresh_by a ≡ fresh_by b
+same_fresh (Pairs a) (Pairs b) names values text = ap of_pairs (same_pairs a.items b.items names values)
+same_fresh (Pairs a) (TextOfIt b) names values text = absurd (none_or_some b text)
+same_fresh (TextOfIt a) (Pairs b) names values text = absurd (none_or_some a (sym text))
+same_fresh (TextOfIt a) (TextOfIt b) names values text = ap of_text (some_item a b text)
 
-same_asked : (tool : Tool) (own : List Piece) (a b : Request) → AsksTool tool own a → AsksTool tool own b
+one_fresh : (own : List Piece) (a b : NewRecord) → IsFreshOf own a → IsFreshOf own b → fresh_by a ≡ fresh_by b
+one_fresh own a b is_a is_b =
+    same_fresh a b (is_a.names ∙ sym is_b.names) (is_a.values ∙ sym is_b.values) (one_option _ _ (is_a.text ∙ sym is_b.text))
+
+same_asked : (tool : Tool) (own : List Piece) (a b : EditRequest) → AsksTool tool own a → AsksTool tool own b
     → (answer : Result Task Fault) → IsTaskOf b answer → IsTaskOf a answer
-same_asked RecIns own (Insert record_type fresh auto force) (Insert other new automatic forced) is_a is_b answer told =
+same_asked RecIns own (Insert record_type fresh auto) (Insert other new automatic) is_a is_b answer told =
     insert_too answer record_type other (fresh_by fresh) (fresh_by new) auto automatic (ap (λ (pick : Pick). pick.kind)
     (one_pick own (record { kind = record_type; by = All }) (record { kind = other; by = All }) is_a.0 is_b.0))
     (one_fresh own fresh new is_a.1 is_b.1) (same_not auto automatic (one_word (codes "no") (not auto) (not automatic) (is_a.2 ∙ sym is_b.2))) told
-same_asked RecIns own (Insert record_type fresh auto force) (Replace pick new forced) is_a is_b answer told =
+same_asked RecIns own (Insert record_type fresh auto) (Replace pick new) is_a is_b answer told =
     absurd (is_b.0 (one_selection own pick.by All is_b.1.1 is_a.0.1))
-same_asked RecIns own (Replace pick new forced) (Insert record_type fresh auto force) is_a is_b answer told =
+same_asked RecIns own (Replace pick new) (Insert record_type fresh auto) is_a is_b answer told =
     absurd (is_a.0 (one_selection own pick.by All is_a.1.1 is_b.0.1))
-same_asked RecIns own (Replace pick fresh force) (Replace other new forced) is_a is_b answer told =
+same_asked RecIns own (Replace pick fresh) (Replace other new) is_a is_b answer told =
     replace_too answer pick other (fresh_by fresh) (fresh_by new) (one_pick own pick other is_a.1 is_b.1) (one_fresh own fresh new is_a.2 is_b.2) told
-same_asked RecDel own (Delete pick force) (Delete other forced) is_a is_b answer told =
+same_asked RecDel own (Delete pick) (Delete other) is_a is_b answer told =
     picked_too answer delete pick other (one_pick own pick other is_a.1 is_b.1) told
-same_asked RecDel own (Delete pick force) (CommentOut other forced) is_a is_b answer told =
+same_asked RecDel own (Delete pick) (CommentOut other) is_a is_b answer told =
     absurd (false_or_true (one_word (codes "yes") false true (is_a.0 ∙ sym is_b.0)))
-same_asked RecDel own (CommentOut pick force) (Delete other forced) is_a is_b answer told =
+same_asked RecDel own (CommentOut pick) (Delete other) is_a is_b answer told =
     absurd (false_or_true (one_word (codes "yes") false true (is_b.0 ∙ sym is_a.0)))
-same_asked RecDel own (CommentOut pick force) (CommentOut other forced) is_a is_b answer told =
+same_asked RecDel own (CommentOut pick) (CommentOut other) is_a is_b answer told =
     picked_too answer comment_out pick other (one_pick own pick other is_a.1 is_b.1) told
-same_asked RecSet own (Set pick list action force) (Set other items done forced) is_a is_b answer told =
+same_asked RecSet own (Set pick list action) (Set other items done) is_a is_b answer told =
     set_too answer pick other list items action done (one_pick own pick other is_a.0 is_b.0)
     (some_item list items (one_option (Some list) (Some items) (is_a.1 ∙ sym is_b.1))) (one_action own action done is_a.2 is_b.2) told
-same_asked RecFix own (AutoFill force) (AutoFill forced) is_a is_b answer told = told
-same_asked RecIns own (Insert record_type fresh auto force) _ is_a is_b answer told = absurd is_b
-same_asked RecIns own (Replace pick fresh force) _ is_a is_b answer told = absurd is_b
-same_asked RecDel own (Delete pick force) _ is_a is_b answer told = absurd is_b
-same_asked RecDel own (CommentOut pick force) _ is_a is_b answer told = absurd is_b
-same_asked RecSet own (Set pick list action force) _ is_a is_b answer told = absurd is_b
-same_asked RecFix own (AutoFill force) _ is_a is_b answer told = absurd is_b
+same_asked RecFix own AutoFill AutoFill is_a is_b answer told = told
+same_asked RecIns own (Insert record_type fresh auto) _ is_a is_b answer told = absurd is_b
+same_asked RecIns own (Replace pick fresh) _ is_a is_b answer told = absurd is_b
+same_asked RecDel own (Delete pick) _ is_a is_b answer told = absurd is_b
+same_asked RecDel own (CommentOut pick) _ is_a is_b answer told = absurd is_b
+same_asked RecSet own (Set pick list action) _ is_a is_b answer told = absurd is_b
+same_asked RecFix own AutoFill _ is_a is_b answer told = absurd is_b
 same_asked _ own _ b is_a is_b answer told = absurd is_a
 
--- requests of one record have the same task
-same_task : (own : List Piece) (a b : Request) → AsksFor own a → AsksFor own b → (answer : Result Task Fault) → IsTaskOf b answer → IsTaskOf a answer
+-- edits of one record have the same task
+same_task : (own : List Piece) (a b : EditRequest) → AsksFor own a → AsksFor own b → (answer : Result Task Fault)
+    → IsTaskOf b answer → IsTaskOf a answer
 same_task own a b is_a is_b =
     let tool = one_tool own is_b.0 is_a.0 is_b.1 is_a.1 in
     same_asked is_a.0 own a b is_a.2 (subst (λ tool. AsksTool tool own b) tool is_b.2)
 
 -- edits of the same records have the same tasks
-pub same_tasks : (requests others : List Request)
-    → AllZip (λ one other. (own : List Piece) × AsksFor own one × AsksFor own other) requests others
-    → (answer : Result (List Task) Fault) → AreTasks others answer → AreTasks requests answer
+pub same_tasks : (edits others : List EditRequest)
+    → AllZip (λ one other. (own : List Piece) × AsksFor own one × AsksFor own other) edits others
+    → (answer : Result (List Task) Fault) → AreTasks others answer → AreTasks edits answer
 same_tasks [] [] all answer told = told
 same_tasks [] (other ∷ others) all answer told = absurd all
-same_tasks (one ∷ requests) [] all answer told = absurd all
-same_tasks (one ∷ requests) (other ∷ others) (alike, all) answer told =
-    let more : List Request → Task → Result (List Task) Fault → Type 0 = λ rest task. Then (AreTasks rest) (λ tasks given. given ≡ Ok (task ∷ tasks)) in
-    Then-first (IsTaskOf other) (IsTaskOf one) (more requests) (same_task alike.0 one other alike.1 alike.2) answer
-    (Then-next (IsTaskOf other) (more others) (more requests)
-    (λ task. Then-first (AreTasks others) (AreTasks requests) (λ tasks given. given ≡ Ok (task ∷ tasks)) (same_tasks requests others all)) answer told)
+same_tasks (one ∷ edits) [] all answer told = absurd all
+same_tasks (one ∷ edits) (other ∷ others) (alike, all) answer told =
+    let more : List EditRequest → Task → Result (List Task) Fault → Type 0 = λ rest task. Then (AreTasks rest) (λ tasks given. given ≡ Ok (task ∷ tasks)) in
+    Then-first (IsTaskOf other) (IsTaskOf one) (more edits) (same_task alike.0 one other alike.1 alike.2) answer
+    (Then-next (IsTaskOf other) (more others) (more edits)
+    (λ task. Then-first (AreTasks others) (AreTasks edits) (λ tasks given. given ≡ Ok (task ∷ tasks)) (same_tasks edits others all)) answer told)

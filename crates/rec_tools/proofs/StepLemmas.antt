@@ -14,15 +14,14 @@ use Rattle.rec_journal.specs.Plans.{ShareDigest, edit_to, after_edit_plan, edits
 use Rattle.rec_journal.proofs.lemmas.histories.Openings.{one_opening}
 use Rattle.rec_journal.proofs.lemmas.patches.StepLemmas.{edits_lead_to_one_text}
 use Rattle.rec_check.specs.DescribedTexts.{IsDescribedText}
-use Rattle.rec_edit.specs.declared.batches.BatchEdited.{BatchEdited}
+use Rattle.rec_edit.specs.declared.answer.Edited.{Edited}
 use Rattle.rec_tools.specs.declared.request.Reply.TheVariants.{Shown, Edited as EditedReply, Forgotten}
 use Rattle.rec_tools.specs.Home.{Contents}
 use Rattle.rec_tools.specs.Steps.{Then}
 use Rattle.rec_tools.specs.Printouts.{Printout, history_text, printed_history}
 use Rattle.rec_tools.specs.Requests.{Edits, Asked, looking, listing, editing, moving, forgetting, asked_of}
-use Rattle.rec_tools.specs.Outcomes.{Outcome, IsRequestOutcome, IsPrinting, IsMade, IsEditOutcome, IsPlanned, IsMove, IsMoveOutcome, IsForgetting, Forgets, printing, writes_of, reply_of}
-use Rattle.rec_tools.specs.Attempts.{written}
-use Rattle.rec_tools.specs.Machine.{Entry, State, AreEntries, Stands, IsMachineStep, IsMoveStep, Clashes, entries_on, listed, state_after_edit, state_after_move, state_after_forgetting}
+use Rattle.rec_tools.specs.Outcomes.{Outcome, IsRequestOutcome, IsPrinting, IsMade, IsEditOutcome, IsPlanned, IsMove, IsMoveOutcome, IsForgetting, Forgets, printing, reply_of}
+use Rattle.rec_tools.specs.Machine.{Entry, State, AreEntries, Stands, IsMachineStep, IsMoveStep, Clashes, entries_on, state_history, state_after_edit, state_after_move, state_after_forgetting}
 use Rattle.rec_tools.specs.Guarantee.{StepsAsMachine, OutcomesAreSteps}
 use Rattle.rec_text.proofs.lemmas.FaultLemmas.{ok_is_no_err}
 use Rattle.rec_tools.proofs.StandsLemmas.{StandsBy, stands_by}
@@ -138,7 +137,7 @@ module _ (c : Contents) (s : State) (stands : Stands c s) where
 
   -- ---- the history
 
-  printed_as_listed : (o : Opened) → StandsBy o c s → printed_history o ≡ listed s
+  printed_as_listed : (o : Opened) → StandsBy o c s → printed_history o ≡ state_history s
   printed_as_listed o by =
       ap (λ b. if b then codes "drifted\n" else history_text (map of_edit o.past) (map of_edit o.future)) by.settled
       ∙ ap₂ history_text (printed_alike Backward o.past s.past c.file by.past) (printed_alike Forward o.future s.future c.file by.future)
@@ -151,15 +150,16 @@ module _ (c : Contents) (s : State) (stands : Stands c s) where
 
   -- ---- an edit
 
-  module _ (IsEdit : Result (Edits × Bool) Fault → Type 0) where
+  module _ (IsEdit : Result Edits Fault → Type 0) where
     -- what the edit makes of the file it makes of the state's text
-    on_present : (r : Result (Tool × BatchEdited) Fault) → Then (IsDescribedText c.file) (IsMade IsEdit) r → Then (IsDescribedText s.present) (IsMade IsEdit) r
-    on_present r is = subst (λ text. Then (IsDescribedText text) (IsMade IsEdit) r) (sym stands.present) is
+    on_present : (r : Result (Tool × Edited) Fault) → Then (IsDescribedText c.file) (λ _. IsMade IsEdit c.file) r
+        → Then (IsDescribedText s.present) (λ _. IsMade IsEdit s.present) r
+    on_present r is = subst (λ text. Then (IsDescribedText text) (λ _. IsMade IsEdit text) r) (sym stands.present) is
 
-    edit_refused : (fault : Fault) → Then (IsDescribedText c.file) (IsMade IsEdit) (Err fault) → StepsAsMachine c s (editing IsEdit) (Err fault)
+    edit_refused : (fault : Fault) → Then (IsDescribedText c.file) (λ _. IsMade IsEdit c.file) (Err fault) → StepsAsMachine c s (editing IsEdit) (Err fault)
     edit_refused fault is = inl (Err fault, on_present (Err fault) is, (refl, refl), refl)
 
-    module _ (tool : Tool) (made : BatchEdited) (is : Then (IsDescribedText c.file) (IsMade IsEdit) (Ok (tool, made))) where
+    module _ (tool : Tool) (made : Edited) (is : Then (IsDescribedText c.file) (λ _. IsMade IsEdit c.file) (Ok (tool, made))) where
       module _ (differs : made.text ≢ c.file) where
         other : made.text ≢ s.present
         other same = differs (same ∙ stands.present)
@@ -177,7 +177,7 @@ module _ (c : Contents) (s : State) (stands : Stands c s) where
         }
 
       stands_after_edit : (o : Opened) (plan : Plan) → Opens c.file c.journal o → IsPlanned o c tool made plan
-          → Stands (written c (writes_of plan)) (state_after_edit s tool made.text)
+          → Stands (record { file = plan.file; journal = plan.journal }) (state_after_edit s tool made.text)
       stands_after_edit o plan opens planned =
           let by = by_opening o opens in
           let edit = edit_to o tool made.text made.steps in
@@ -208,7 +208,7 @@ module _ (c : Contents) (s : State) (stands : Stands c s) where
       edit_steps o (Err fault) opens (differs, e, same) = inr (e, clashes differs same)
 
     edits_step : (r : Result Outcome Fault)
-        → Then (IsDescribedText c.file) (λ text. Then (IsOpening c.file c.journal) (λ o. Then (IsMade IsEdit text) (λ told. IsEditOutcome o c told.0 told.1))) r
+        → Then (IsDescribedText c.file) (λ _. Then (IsOpening c.file c.journal) (λ o. Then (IsMade IsEdit c.file) (λ told. IsEditOutcome o c told.0 told.1))) r
         → StepsAsMachine c s (editing IsEdit) r
     edits_step r (inl (fault, refused, e)) =
         subst (λ x. StepsAsMachine c s (editing IsEdit) x) (sym e) (edit_refused fault (inl (fault, refused, refl)))
@@ -234,7 +234,7 @@ module _ (c : Contents) (s : State) (stands : Stands c s) where
             subst (λ es. IsMoveStep direction s es (Ok reply) t) (sym has.are) (ap (λ n. Ok (reply_of direction n)) has.number, refl),
             refl,
           ),
-          stands_after_move direction o c (written c (writes_of m.plan)) s m.moves.nearest m.moves.others by has
+          stands_after_move direction o c (record { file = m.plan.file; journal = m.plan.journal }) s m.moves.nearest m.moves.others by has
               (edits_lead_to_one_text direction m.moves.nearest c.file m.plan.file has.entry.text m.moves.leads has.leads) m.safe.next,
         )
 

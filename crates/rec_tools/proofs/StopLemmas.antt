@@ -1,21 +1,21 @@
 -- What an outcome writes, where a write fails and where none does.
-use Rattle.std.proofs.Common.{◌≡◌, ◌⊎◌, inl, inr, ℕ, ◌+◌, zero, suc, List, [], ◌∷◌, length, take, Ok, ap, sym, subst, refl, ◌∙◌, arith}
+use Rattle.std.proofs.Common.{◌≡◌, ◌⊎◌, inl, inr, ℕ, ◌+◌, zero, suc, List, [], ◌∷◌, length, take, Some, Ok, ap, sym, subst, refl, ◌∙◌, arith}
 use Rattle.std.proofs.lemmas.List.{take_all}
 use Rattle.rec_journal.specs.declared.plan.Plan.{Plan}
 use Rattle.rec_journal.specs.History.{Opened, Opens, IsRegular}
 use Rattle.rec_journal.specs.Stops.{keep_in, IsSafe}
 use Rattle.rec_journal.specs.Forgetting.{forgotten_journal}
 use Rattle.rec_tools.specs.declared.home.Which.TheVariants.{Journal as TheJournal}
-use Rattle.rec_tools.specs.Home.{Contents, Call, left_by_all}
+use Rattle.rec_tools.specs.Home.{Contents, Write, writes_by, written, Call, left_by_all}
 use Rattle.rec_tools.specs.Printouts.{Printed}
 use Rattle.rec_tools.specs.Requests.{Asked, looking, listing, editing, moving, forgetting, asked_of, reads_of}
-use Rattle.rec_tools.specs.Outcomes.{Write, Outcome, IsRequestOutcome, writes_of}
-use Rattle.rec_tools.specs.Attempts.{Answer, written, StopsWriting, IsAnswered, IsCarriedOut, Does}
+use Rattle.rec_tools.specs.Outcomes.{Outcome, IsRequestOutcome}
+use Rattle.rec_tools.specs.Attempts.{Answer, StopsWriting, IsAnswered, IsCarriedOut, Does}
 use Rattle.rec_tools.specs.Machine.{State, IsOldOrNext, Stands}
 use Rattle.rec_tools.specs.Guarantee.{StopsAreSteps, WritesAreRegular}
 use Rattle.rec_tools.proofs.StandsLemmas.{StandsBy, stands_by}
 use Rattle.rec_tools.proofs.StepLemmas.{outcomes_are_steps}
-use Rattle.rec_tools.proofs.RunLemmas.{cut_left, left-stopped, left-carried, gots-left, writes_nothing}
+use Rattle.rec_tools.proofs.RunLemmas.{cut_left, left-puts, left-stopped, left-carried, gots-left, writes_nothing}
 
 -- ---- what writes leave
 
@@ -73,12 +73,15 @@ module _ (c : Contents) (regular : IsRegular c.journal) where
           next = by.next;
         }
 
-    leaves-plan : Leaves c (writes_of plan)
+    abbrev writes : List Write
+    writes = writes_by plan.journal (Some plan.file)
+
+    leaves-plan : Leaves c writes
     leaves-plan = record { regular = plan_regular; parts = parts } where
-      parts : (k : ℕ) → StandsAgain c (written c (take k (writes_of plan))) ⊎ (written c (take k (writes_of plan)) ≡ written c (writes_of plan))
+      parts : (k : ℕ) → StandsAgain c (written c (take k writes)) ⊎ (written c (take k writes) ≡ written c writes)
       parts zero = inl as_it_was
       parts (suc zero) = inl (record { regular = plan_regular; stands = half_stands })
-      parts (suc (suc k)) = inr (ap (written c) (take_all (suc (suc k)) (writes_of plan) (omega arith)))
+      parts (suc (suc k)) = inr (ap (written c) (take_all (suc (suc k)) writes (omega arith)))
 
   -- ---- an outcome
 
@@ -146,7 +149,7 @@ module _ (c : Contents) (asked : Asked) (regular : IsRegular c.journal) (answer 
   carried_regular done answered =
       let left : left_by_all c calls ≡ left_by_all c done.following = left-carried c asked calls p done.following done.calls_are in
       elim answered [
-        | inl put ↦ subst (λ (d : Contents). IsRegular d.journal) (sym (left ∙ ap (left_by_all c) put.1)) (written_regular c asked done.o done.outcome regular)
+        | inl put ↦ subst (λ (d : Contents). IsRegular d.journal) (sym (left ∙ ap (left_by_all c) put.1 ∙ left-puts c done.o.writes)) (written_regular c asked done.o done.outcome regular)
         | inr stopped ↦ subst (λ (d : Contents). IsRegular d.journal) (sym left) (cut_regular c asked done.o done.outcome regular done.following stopped.1)
       ]
 

@@ -1,19 +1,19 @@
 -- What is asked for is never refused because a store failed: that comes of calls alone.
-use Rattle.std.proofs.Common.{◌≡◌, inl, inr, ℕ, Bool, Result, Ok, Err}
+use Rattle.std.proofs.Common.{◌≡◌, inl, inr, ℕ, Result, Ok, Err}
 use Rattle.rec_text.specs.declared.fault.Fault.{Fault}
 use Rattle.rec_text.specs.declared.fault.Fault.TheVariants.{StoreFailed}
 use Rattle.rec_journal.specs.declared.event.Tool.{Tool}
 use Rattle.rec_journal.specs.History.{Opened, IsOpening}
-use Rattle.rec_edit.specs.declared.batches.BatchEdited.{BatchEdited}
+use Rattle.rec_edit.specs.declared.answer.Edited.{Edited}
 use Rattle.rec_tools.specs.declared.request.Reply.TheVariants.{Shown}
 use Rattle.rec_tools.specs.declared.request.Request.{Request}
-use Rattle.rec_tools.specs.declared.request.Request.TheVariants.{Show, Info, Check, Insert, Replace, Delete, CommentOut, Set, AutoFill, Batch, Undo, Redo, Forget, History}
+use Rattle.rec_tools.specs.declared.request.Request.TheVariants.{Show, Info, Check, Edit, Batch, Undo, Redo, Forget, History}
 use Rattle.rec_tools.specs.Home.{Contents}
 use Rattle.rec_tools.specs.Steps.{Then}
 use Rattle.rec_journal.specs.declared.patch.Direction.{Direction}
 use Rattle.rec_journal.specs.declared.patch.Direction.TheVariants.{Forward, Backward}
 use Rattle.rec_journal.specs.Plans.{nothing_there}
-use Rattle.rec_check.specs.DescribedTexts.{DescribedText, IsDescribedText}
+use Rattle.rec_check.specs.DescribedTexts.{IsDescribedText}
 use Rattle.rec_tools.specs.Printouts.{printed_history}
 use Rattle.rec_select.specs.Info.{IsInfo}
 use Rattle.rec_tools.specs.Requests.{Edits, IsOneEdit, IsBatch, editing, moving, forgetting, asked_of}
@@ -27,16 +27,16 @@ use Rattle.rec_tools.proofs.EditLemmas.{no_store_made, no_store_one, no_store_li
 
 -- ---- edits
 
-no_store_edit : (o : Opened) (c : Contents) (tool : Tool) (made : BatchEdited) → IsEditOutcome o c tool made (Err StoreFailed) → ⊥
+no_store_edit : (o : Opened) (c : Contents) (tool : Tool) (made : Edited) → IsEditOutcome o c tool made (Err StoreFailed) → ⊥
 no_store_edit o c tool made h = let e = h.1 in cc
 
-never_edits : (c : Contents) (IsEdit : Result (Edits × Bool) Fault → Type 0) → (IsEdit (Err StoreFailed) → ⊥) → IsRequestOutcome c (editing IsEdit) (Err StoreFailed) → ⊥
+never_edits : (c : Contents) (IsEdit : Result Edits Fault → Type 0) → (IsEdit (Err StoreFailed) → ⊥) → IsRequestOutcome c (editing IsEdit) (Err StoreFailed) → ⊥
 never_edits c IsEdit never =
-    let last : Opened → Tool × BatchEdited → Result Outcome Fault → Type 0 = λ o told. IsEditOutcome o c told.0 told.1 in
-    let next : DescribedText → Opened → Result Outcome Fault → Type 0 = λ text o. Then (IsMade IsEdit text) (last o) in
-    no_store_then (IsDescribedText c.file) (λ text. Then (IsOpening c.file c.journal) (next text)) (no_store_text c.file) (λ text.
-    no_store_then (IsOpening c.file c.journal) (next text) (λ h. h) (λ o.
-    no_store_then (IsMade IsEdit text) (last o) (no_store_made IsEdit never text) (λ made. no_store_edit o c made.0 made.1)))
+    let last : Opened → Tool × Edited → Result Outcome Fault → Type 0 = λ o told. IsEditOutcome o c told.0 told.1 in
+    let next : Opened → Result Outcome Fault → Type 0 = λ o. Then (IsMade IsEdit c.file) (last o) in
+    no_store_then (IsDescribedText c.file) (λ _. Then (IsOpening c.file c.journal) next) (no_store_text c.file) (λ _.
+    no_store_then (IsOpening c.file c.journal) next (λ h. h) (λ o.
+    no_store_then (IsMade IsEdit c.file) (last o) (no_store_made IsEdit never c.file) (λ made. no_store_edit o c made.0 made.1)))
 
 -- ---- moves
 
@@ -66,12 +66,7 @@ never_store (Show pick form collapse) c is = no_store_show c.file pick form coll
 never_store (Info record_type form) c is =
     no_store_then (IsDescribedText c.file) (λ text. IsInfo text.pieces text.schema.sets record_type form) (no_store_text c.file) (λ text. no_store_info text record_type form) is
 never_store Check c is = no_store_report c.file is
-never_store (Insert record_type fresh auto force) c is = never_edits c (IsOneEdit (Insert record_type fresh auto force) force) (no_store_one (Insert record_type fresh auto force) force) is
-never_store (Replace pick fresh force) c is = never_edits c (IsOneEdit (Replace pick fresh force) force) (no_store_one (Replace pick fresh force) force) is
-never_store (Delete pick force) c is = never_edits c (IsOneEdit (Delete pick force) force) (no_store_one (Delete pick force) force) is
-never_store (CommentOut pick force) c is = never_edits c (IsOneEdit (CommentOut pick force) force) (no_store_one (CommentOut pick force) force) is
-never_store (Set pick list action force) c is = never_edits c (IsOneEdit (Set pick list action force) force) (no_store_one (Set pick list action force) force) is
-never_store (AutoFill force) c is = never_edits c (IsOneEdit (AutoFill force) force) (no_store_one (AutoFill force) force) is
+never_store (Edit edit force) c is = never_edits c (IsOneEdit edit force) (no_store_one edit force) is
 never_store (Batch text force) c is = never_edits c (IsBatch text force) (no_store_listed text force) is
 never_store Undo c is = never_moves Backward c is
 never_store Redo c is = never_moves Forward c is

@@ -1,5 +1,5 @@
--- What the texts of a request mean: the filter and the shape that are asked for.
-use Rattle.std.specs.Prelude.{◌≡◌, ℕ, List, Some, None, Result, Ok, Err}
+-- How records are asked for, and what the texts of a request mean: the filter and the shape that are asked for.
+use Rattle.std.specs.Prelude.{◌≡◌, ℕ, List, Option, Some, None, Result, Ok, Err}
 use Rattle.rec_text.specs.declared.fault.Fault.{Fault}
 use Rattle.rec_text.specs.declared.fault.Fault.TheVariants.{BadExpression, BadPattern}
 use Rattle.rec_sex.specs.declared.lists.field_list.Item.{Item}
@@ -16,9 +16,20 @@ use Rattle.rec_tools.specs.declared.request.Ask.TheVariants.{All, Expr, Index, Q
 use Rattle.rec_tools.specs.declared.request.Form.{Form}
 use Rattle.rec_tools.specs.declared.request.Form.TheVariants.{Blocks, Print, Values, Row, Count}
 
+-- ---- the options that select records
+
+-- the texts of an expression, of a list of numbers, and of a text to find quickly, where these records are asked for: one
+-- of them is given, or none
+abbrev pub selection_for : Ask → Option (List ℕ) × Option (List ℕ) × Option (List ℕ)
+selection_for All = (None, None, None)
+selection_for (Expr text) = (Some text, None, None)
+selection_for (Index list) = (None, Some list, None)
+selection_for (Quick text) = (None, None, Some text)
+
 -- ---- the filter that is asked for
 
--- The expression of a text, or its leftmost fault. A text after a `~` that `regex` may refuse as a pattern may be refused.
+-- The expression of a text, or its leftmost fault. A text after a `~` that `regex` may refuse as a pattern may be
+-- refused.
 abbrev pub IsExpressionFilter : List ℕ → Result Filter Fault → Type 0
 IsExpressionFilter text (Ok wanted) = (term : Term) × IsExpression text term × (wanted ≡ by_expression term)
 IsExpressionFilter text (Err (BadExpression place)) = fault_of text ≡ Some place

@@ -1,5 +1,5 @@
 -- What requests do, call by call, whether the home fails or not.
-use Rattle.std.specs.Prelude.{◌≡◌, ◌⊎◌, ℕ, List, [], ◌∷◌, ◌++◌, map, take, Option, Some, Result, Ok, Err}
+use Rattle.std.specs.Prelude.{◌≡◌, ◌⊎◌, ℕ, ◌≤◌, List, [], ◌∷◌, ◌++◌, length, map, take, Option, Some, Result, Ok, Err}
 use Rattle.rec_text.specs.declared.fault.Fault.{Fault}
 use Rattle.rec_text.specs.declared.fault.Fault.TheVariants.{OutOfMemory, StoreFailed}
 use Rattle.rec_text.specs.Sink.{HasRisen}
@@ -7,10 +7,10 @@ use Rattle.rec_tools.specs.declared.home.Which.{Which}
 use Rattle.rec_tools.specs.declared.home.Which.TheVariants.{Base as TheFile, Journal as TheJournal}
 use Rattle.rec_tools.specs.declared.request.Request.{Request}
 use Rattle.rec_tools.specs.declared.request.Reply.{Reply}
-use Rattle.rec_tools.specs.Home.{Contents, content_of, Call, got, lacked, unread, was_put, left_old, left_new, left_by_all, TellAll, Went}
+use Rattle.rec_tools.specs.Home.{Contents, content_of, Write, written, Call, got, lacked, unread, put_all, put_some, TellAll, Went}
 use Rattle.rec_tools.specs.Printouts.{Printed, IsBoth, IsSilence}
 use Rattle.rec_tools.specs.Requests.{Asked, asked_of, reads_of}
-use Rattle.rec_tools.specs.Outcomes.{Write, Outcome, IsRequestOutcome}
+use Rattle.rec_tools.specs.Outcomes.{Outcome, IsRequestOutcome}
 
 abbrev pub Answer : Type 0
 Answer = Result Reply Fault
@@ -21,13 +21,10 @@ Answer = Result Reply Fault
 abbrev pub gots : Contents → List Which → List Call
 gots c whiches = map (λ which. got which (content_of c which)) whiches
 
--- these were written, in this order
+-- these were written, by one call unless there are none
 abbrev pub puts : List Write → List Call
-puts writes = map (λ w. was_put w.which w.bytes) writes
-
--- the contents after writes
-abbrev pub written : Contents → List Write → Contents
-written c writes = left_by_all c (puts writes)
+puts [] = []
+puts (w ∷ writes) = put_all (w ∷ writes) ∷ []
 
 -- one of the reads found no memory or failed, and none came after it
 abbrev pub StopsReading : List Which → List Call → Fault → Type 0
@@ -39,26 +36,18 @@ StopsReading (which ∷ rest) (call ∷ calls) fault =
     ⊎ (((call ≡ unread which) × (calls ≡ []) × (fault ≡ StoreFailed))
     ⊎ ((bytes : List ℕ) × (call ≡ got which bytes) × StopsReading rest calls fault))
 
--- one of the writes failed, and none came after it
+-- the call that was to write these failed, and none came after it; where there are none, no call was to
 abbrev pub StopsWriting : List Write → List Call → Type 0
-StopsWriting [] [] = ⊥
-StopsWriting [] (call ∷ calls) = ⊥
-StopsWriting (w ∷ rest) [] = ⊥
-StopsWriting (w ∷ rest) (call ∷ calls) =
-    (((call ≡ left_old w.which w.bytes) ⊎ (call ≡ left_new w.which w.bytes)) × (calls ≡ []))
-    ⊎ ((call ≡ was_put w.which w.bytes) × StopsWriting rest calls)
+StopsWriting [] calls = ⊥
+StopsWriting (w ∷ writes) calls =
+    (k : ℕ) × (k ≤ length (w ∷ writes)) × (calls ≡ put_some (w ∷ writes) k ∷ [])
 
 -- both contents were read, or a read found no memory or failed
 abbrev pub AreRead : Result (List ℕ × List ℕ) Fault → List Call → Type 0
 AreRead (Ok pair) calls = calls ≡ got TheFile pair.0 ∷ got TheJournal pair.1 ∷ []
 AreRead (Err fault) calls = StopsReading (TheFile ∷ TheJournal ∷ []) calls fault
 
--- all writes were made, or one of them failed
-abbrev pub AreWritten : {X : Type 0} → List Write → Result X Fault → List Call → Type 0
-AreWritten writes (Ok _) calls = calls ≡ puts writes
-AreWritten writes (Err fault) calls = (fault ≡ StoreFailed) × StopsWriting writes calls
-
--- the writes of an outcome were made, and its reply is the answer; or one of them failed
+-- the writes of an outcome were made, and its reply is the answer; or their call failed
 abbrev pub IsAnswered : Outcome → Answer → List Call → Type 0
 IsAnswered o answer calls =
     ((answer ≡ Ok o.reply) × (calls ≡ puts o.writes)) ⊎ ((answer ≡ Err StoreFailed) × StopsWriting o.writes calls)

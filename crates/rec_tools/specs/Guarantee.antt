@@ -4,11 +4,11 @@ use Rattle.rec_text.specs.declared.fault.Fault.{Fault}
 use Rattle.rec_text.specs.declared.fault.Fault.TheVariants.{DigestClash}
 use Rattle.rec_journal.specs.History.{IsRegular}
 use Rattle.rec_tools.specs.declared.request.Request.{Request}
-use Rattle.rec_tools.specs.Home.{Contents, Call, left_by_all}
+use Rattle.rec_tools.specs.Home.{Contents, written, Call, left_by_all}
 use Rattle.rec_tools.specs.Printouts.{Printed, IsBoth, IsSilence}
 use Rattle.rec_tools.specs.Requests.{Asked, asked_of}
 use Rattle.rec_tools.specs.Outcomes.{Outcome, IsRequestOutcome}
-use Rattle.rec_tools.specs.Attempts.{Answer, written, StopsWriting}
+use Rattle.rec_tools.specs.Attempts.{Answer, StopsWriting}
 use Rattle.rec_tools.specs.Machine.{State, IsMachineStep, IsOldOrNext, IsAnswer, Clashes, Stands}
 
 -- Contents and the machine's state go through the requests together: each answer is one that the machine allows, so is what

@@ -1,5 +1,5 @@
 -- The two contents that a home keeps, the calls of a home and how each went, and what they leave.
-use Rattle.std.specs.Prelude.{◌≡◌, ◌⊎◌, ℕ, ◌≤◌, List, [], ◌∷◌, Result, Ok, Err}
+use Rattle.std.specs.Prelude.{◌≡◌, ◌⊎◌, ℕ, ◌≤◌, List, [], ◌∷◌, length, take, Option, Some, None, Result, Ok, Err}
 use Rattle.rec_text.specs.declared.fault.Fault.{Fault}
 use Rattle.rec_text.specs.declared.fault.Fault.TheVariants.{OutOfMemory}
 use Rattle.rec_text.specs.Sink.{HasRisen, one_more}
@@ -21,6 +21,23 @@ abbrev pub with_content : Contents → Which → List ℕ → Contents
 with_content c Base bytes = record { file = bytes; journal = c.journal }
 with_content c Journal bytes = record { file = c.file; journal = bytes }
 
+-- ---- writes
+
+-- bytes that are to be put instead of a content
+pub record Write : Type 0 where
+  pub which : Which
+  pub bytes : List ℕ
+
+-- the journal is put in place before the file, so that where only the first is there it tells what became of the edit
+abbrev pub writes_by : List ℕ → Option (List ℕ) → List Write
+writes_by journal None = record { which = Journal; bytes = journal } ∷ []
+writes_by journal (Some file) = record { which = Journal; bytes = journal } ∷ record { which = Base; bytes = file } ∷ []
+
+-- the contents after writes, one after the other
+abbrev pub written : Contents → List Write → Contents
+written c [] = c
+written c (w ∷ writes) = written (with_content c w.which w.bytes) writes
+
 -- ---- calls
 
 -- a call of a home, and how it went
@@ -31,21 +48,18 @@ pub data Call : Type 0 where
   lacked : Which → Call
   -- a read failed
   unread : Which → Call
-  -- these bytes were put instead of a content
-  was_put : Which → List ℕ → Call
-  -- a replace by these bytes failed, and left the content old
-  left_old : Which → List ℕ → Call
-  -- a replace by these bytes failed, and left them there all the same
-  left_new : Which → List ℕ → Call
+  -- all of these were put in place
+  put_all : List Write → Call
+  -- a put of these failed, and left the first n of them in place
+  put_some : List Write → ℕ → Call
 
 -- the contents after a call
 abbrev pub left_by : Contents → Call → Contents
 left_by c (got which bytes) = c
 left_by c (lacked which) = c
 left_by c (unread which) = c
-left_by c (was_put which bytes) = with_content c which bytes
-left_by c (left_old which bytes) = c
-left_by c (left_new which bytes) = with_content c which bytes
+left_by c (put_all writes) = written c writes
+left_by c (put_some writes k) = written c (take k writes)
 
 -- the contents after calls
 abbrev pub left_by_all : Contents → List Call → Contents
@@ -53,18 +67,17 @@ left_by_all c [] = c
 left_by_all c (call ∷ calls) = left_by_all (left_by c call) calls
 
 -- what was read is what stood there
-abbrev pub Tells : Contents → Call → Type 0
-Tells c (got which bytes) = bytes ≡ content_of c which
-Tells c (lacked which) = Unit {0}
-Tells c (unread which) = Unit {0}
-Tells c (was_put which bytes) = Unit {0}
-Tells c (left_old which bytes) = Unit {0}
-Tells c (left_new which bytes) = Unit {0}
+abbrev pub TellsOf : Contents → Call → Type 0
+TellsOf c (got which bytes) = bytes ≡ content_of c which
+TellsOf c (lacked which) = Unit {0}
+TellsOf c (unread which) = Unit {0}
+TellsOf c (put_all writes) = Unit {0}
+TellsOf c (put_some writes k) = Unit {0}
 
 -- what each of the calls read is what stood there at its time
 abbrev pub TellAll : Contents → List Call → Type 0
 TellAll c [] = Unit {0}
-TellAll c (call ∷ calls) = Tells c call × TellAll (left_by c call) calls
+TellAll c (call ∷ calls) = TellsOf c call × TellAll (left_by c call) calls
 
 -- ---- failures
 
@@ -72,9 +85,8 @@ abbrev pub Fails : Call → Type 0
 Fails (got which bytes) = ⊥
 Fails (lacked which) = ⊥
 Fails (unread which) = Unit {0}
-Fails (was_put which bytes) = ⊥
-Fails (left_old which bytes) = Unit {0}
-Fails (left_new which bytes) = Unit {0}
+Fails (put_all writes) = ⊥
+Fails (put_some writes k) = Unit {0}
 
 -- one of the calls failed
 abbrev pub HasFailed : List Call → Type 0
@@ -86,13 +98,12 @@ abbrev pub CountsOne : ℕ → ℕ → Type 0
 CountsOne old new = (old ≤ new) × (new ≡ one_more old)
 
 -- a failure counts one, and any other call none
-abbrev pub Counts : ℕ → Call → ℕ → Type 0
-Counts old (got which bytes) new = new ≡ old
-Counts old (lacked which) new = new ≡ old
-Counts old (unread which) new = CountsOne old new
-Counts old (was_put which bytes) new = new ≡ old
-Counts old (left_old which bytes) new = CountsOne old new
-Counts old (left_new which bytes) new = CountsOne old new
+abbrev pub CountsFailure : ℕ → Call → ℕ → Type 0
+CountsFailure old (got which bytes) new = new ≡ old
+CountsFailure old (lacked which) new = new ≡ old
+CountsFailure old (unread which) new = CountsOne old new
+CountsFailure old (put_all writes) new = new ≡ old
+CountsFailure old (put_some writes k) new = CountsOne old new
 
 -- a count of failures rose from the one to the other
 abbrev pub Rose : {H : Type 0} → (H → ℕ) → H → H → Type 0
@@ -111,7 +122,7 @@ read_call which (Ok bytes) = got which bytes
 read_call which (Err OutOfMemory) = lacked which
 read_call which (Err _) = unread which
 
--- a call that a replace by these bytes with this answer may have been
-abbrev pub IsReplaceCall : {X : Type 0} → Which → List ℕ → Result X Fault → Call → Type 0
-IsReplaceCall which bytes (Ok _) call = call ≡ was_put which bytes
-IsReplaceCall which bytes (Err _) call = (call ≡ left_old which bytes) ⊎ (call ≡ left_new which bytes)
+-- a call that a put of these with this answer may have been
+abbrev pub IsPutCall : {X : Type 0} → List Write → Result X Fault → Call → Type 0
+IsPutCall writes (Ok _) call = call ≡ put_all writes
+IsPutCall writes (Err _) call = (k : ℕ) × (k ≤ length writes) × (call ≡ put_some writes k)

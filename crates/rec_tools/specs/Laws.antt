@@ -7,10 +7,10 @@ use Rattle.rec_journal.specs.History.{Opened, Opens}
 use Rattle.rec_tools.specs.declared.request.Reply.TheVariants.{Shown}
 use Rattle.rec_tools.specs.declared.request.Request.{Request}
 use Rattle.rec_tools.specs.declared.request.Request.TheVariants.{Undo, Redo, Forget, History}
-use Rattle.rec_tools.specs.Home.{Contents}
+use Rattle.rec_tools.specs.Home.{Contents, written}
 use Rattle.rec_tools.specs.Requests.{asked_of}
 use Rattle.rec_tools.specs.Outcomes.{Outcome, IsRequestOutcome, printing}
-use Rattle.rec_tools.specs.Attempts.{Answer, written}
+use Rattle.rec_tools.specs.Attempts.{Answer}
 use Rattle.rec_tools.specs.Machine.{State, IsMachineStep, Stands, first_state}
 
 -- The machine's step is a function of the state and the request; only where `regex` may refuse a pattern, that refusal may

@@ -5,6 +5,7 @@ pub mod Asking
 pub mod Printouts
 pub mod Batches
 pub mod Requests
+pub mod Making
 pub mod Outcomes
 pub mod Attempts
 pub mod Machine

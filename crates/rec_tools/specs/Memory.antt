@@ -1,41 +1,43 @@
 -- A home in memory: what it holds, and which of its calls fail.
-use Rattle.std.specs.Prelude.{◌≡◌, ℕ, ◌+◌, ◌-◌, ◌^◌, min, List, [], ◌∷◌, Option, Some, None, ◌==◌, if◌then◌else◌}
-use Rattle.rec_tools.specs.declared.memory.StoreFault.{StoreFault}
-use Rattle.rec_tools.specs.declared.memory.StoreFault.TheVariants.{LeavesNew}
+use Rattle.std.specs.Prelude.{◌≡◌, ℕ, ◌+◌, ◌-◌, ◌^◌, ◌≤◌, ◌<◌, min, List, [], ◌∷◌, length, take, Option, Some, None, ◌==◌, if◌then◌else◌}
 use Rattle.rec_tools.specs.declared.memory.Failing.{Failing}
 use Rattle.rec_tools.specs.declared.memory.MemoryHome.{MemoryHome}
-use Rattle.rec_tools.specs.Home.{Contents, Call, got, lacked, unread, was_put, left_old, left_new, left_by, Tells, Counts}
+use Rattle.rec_tools.specs.Home.{Contents, Write, written, Call, got, lacked, unread, put_all, put_some, left_by}
+use Rattle.rec_tools.specs.Home.{TellsOf, CountsFailure}
 
--- the first fault that is given for the call of this number
-abbrev pub fault_of : List Failing → ℕ → Option StoreFault
-fault_of [] call = None
-fault_of (failing ∷ faults) call = if failing.call == call then Some failing.fault else fault_of faults call
+-- how many writes the call of this number leaves where it fails, as the first fault that is given for it says
+abbrev pub writes_left : List Failing → ℕ → Option ℕ
+writes_left [] call = None
+writes_left (failing ∷ faults) call = if failing.call == call then Some failing.left else writes_left faults call
 
 -- the two contents
 abbrev pub held : MemoryHome → Contents
 held home = record { file = home.file; journal = home.journal }
 
--- Where the list gives a fault, the call fails, and leaves the new content only where the fault says so. Where it gives none,
--- only a replace may fail, as it does where its copy finds no memory, and then it leaves the old content.
-abbrev pub IsScripted : Option StoreFault → Call → Type 0
+-- of the writes the first are made, fewer than `most` and not all
+abbrev pub IsCut : Contents → ℕ → List Write → Contents → Type 0
+IsCut old most writes new = (k : ℕ) × (k < min most (length writes)) × (new ≡ written old (take k writes))
+
+-- Where the list gives a fault, the call fails, and a put leaves as many of its writes as the fault says, or fewer where a
+-- copy finds no memory. Where it gives none, only a put may fail, as it does where a copy finds no memory, and then it
+-- doesn't leave all.
+abbrev pub IsScripted : Option ℕ → Call → Type 0
 IsScripted None (got which bytes) = Unit {0}
 IsScripted None (lacked which) = Unit {0}
 IsScripted None (unread which) = ⊥
-IsScripted None (was_put which bytes) = Unit {0}
-IsScripted None (left_old which bytes) = Unit {0}
-IsScripted None (left_new which bytes) = ⊥
-IsScripted (Some fault) (got which bytes) = ⊥
-IsScripted (Some fault) (lacked which) = ⊥
-IsScripted (Some fault) (unread which) = Unit {0}
-IsScripted (Some fault) (was_put which bytes) = ⊥
-IsScripted (Some fault) (left_old which bytes) = Unit {0}
-IsScripted (Some fault) (left_new which bytes) = fault ≡ LeavesNew
+IsScripted None (put_all writes) = Unit {0}
+IsScripted None (put_some writes k) = k < length writes
+IsScripted (Some left) (got which bytes) = ⊥
+IsScripted (Some left) (lacked which) = ⊥
+IsScripted (Some left) (unread which) = Unit {0}
+IsScripted (Some left) (put_all writes) = ⊥
+IsScripted (Some left) (put_some writes k) = k ≤ min left (length writes)
 
 -- a call of a home in memory
 pub record IsCall (old : MemoryHome) (call : Call) (new : MemoryHome) : Type 0 where
-  pub scripted : IsScripted (fault_of old.faults.items old.calls) call
-  pub tells : Tells (held old) call
+  pub scripted : IsScripted (writes_left old.faults.items old.calls) call
+  pub tells : TellsOf (held old) call
   pub left : held new ≡ left_by (held old) call
-  pub counts : Counts old.failed call new.failed
+  pub counts : CountsFailure old.failed call new.failed
   pub numbered : new.calls ≡ min (old.calls + 1) (2 ^ 64 - 1)
   pub faults : new.faults.items ≡ old.faults.items

@@ -28,7 +28,8 @@ use Rattle.rec_tools.specs.Asking.{IsFilter, IsShape}
 -- the selected records of a text, in a shape
 abbrev pub IsShowOf : DescribedText → Option (List ℕ) → Filter → Shape → Bool → Result (List ℕ) Fault → Type 0
 IsShowOf text record_type wanted shape collapse =
-    Then (IsSelection text.pieces text.schema.sets record_type wanted) (λ selected. IsPrinted text.pieces selected shape collapse)
+    Then (IsSelection text.pieces text.schema.sets record_type wanted) (λ selected.
+    IsPrinted text.pieces selected shape collapse)
 
 -- the records that a pick selects, in a form
 abbrev pub IsShow : List ℕ → Pick → Form → Bool → Result (List ℕ) Fault → Type 0
@@ -40,7 +41,8 @@ IsShow file pick form collapse =
 
 -- the record sets, or that of a type, in a form
 abbrev pub IsInfoOf : List ℕ → Option (List ℕ) → InfoForm → Result (List ℕ) Fault → Type 0
-IsInfoOf file record_type form = Then (IsDescribedText file) (λ text. IsInfo text.pieces text.schema.sets record_type form)
+IsInfoOf file record_type form =
+    Then (IsDescribedText file) (λ text. IsInfo text.pieces text.schema.sets record_type form)
 
 -- ---- the texts with their replies
 
@@ -61,7 +63,8 @@ verdict found = Violated (length found)
 
 -- the report of the violations, or why there is none
 abbrev pub IsReportText : (Result (List Violation) Fault → Type 0) → Result Printout Fault → Type 0
-IsReportText IsFound (Ok p) = (found : List Violation) × IsFound (Ok found) × (p.text ≡ report found) × (p.reply ≡ verdict found)
+IsReportText IsFound (Ok p) =
+    (found : List Violation) × IsFound (Ok found) × (p.text ≡ report found) × (p.reply ≡ verdict found)
 IsReportText IsFound (Err fault) = IsFound (Err fault)
 
 -- the reply to a request that prints, and what it prints
@@ -77,7 +80,8 @@ step_line word (number, tool) = word ++ 32 ∷ (decimal number ++ 32 ∷ (tool_n
 
 -- the edits that were made, the newest given first and printed last, and those to be made again
 abbrev pub history_text : List (ℕ × Tool) → List (ℕ × Tool) → List ℕ
-history_text past future = flat_map (step_line (codes "done")) (reverse past) ++ flat_map (step_line (codes "undone")) future
+history_text past future =
+    flat_map (step_line (codes "done")) (reverse past) ++ flat_map (step_line (codes "undone")) future
 
 -- the history that a file and its journal stand for
 abbrev pub printed_history : Opened → List ℕ
@@ -91,12 +95,16 @@ IsHistory file journal = Then (IsOpening file journal) (λ o answer. answer ≡ 
 
 -- ---- what went out
 
--- What went out of a call that prints or refuses: at success the whole text, with the reply that belongs to it; where memory
--- ran out or the sink failed, a prefix of the text; at another refusal nothing.
-abbrev pub PutsPrintout : (Result Printout Fault → Type 0) → Option (List ℕ) → Option (List ℕ) → Result Reply Fault → Type 0
-PutsPrintout IsPrintout old new (Ok reply) = (text : List ℕ) × IsPrintout (Ok (record { text = text; reply = reply })) × Appends old new text
-PutsPrintout IsPrintout old new (Err OutOfMemory) = Keeps old new ⊎ ((p : Printout) × IsPrintout (Ok p) × AppendsPrefix old new p.text)
-PutsPrintout IsPrintout old new (Err StoreFailed) = (p : Printout) × IsPrintout (Ok p) × AppendsPrefix old new p.text
+-- What went out of a call that prints or refuses: at success the whole text, with the reply that belongs to it; where
+-- memory ran out or the sink failed, a prefix of the text; at another refusal nothing.
+abbrev pub PutsPrintout :
+    (Result Printout Fault → Type 0) → Option (List ℕ) → Option (List ℕ) → Result Reply Fault → Type 0
+PutsPrintout IsPrintout old new (Ok reply) =
+    (text : List ℕ) × IsPrintout (Ok (record { text = text; reply = reply })) × Appends old new text
+PutsPrintout IsPrintout old new (Err OutOfMemory) =
+    Keeps old new ⊎ ((p : Printout) × IsPrintout (Ok p) × AppendsPrefix old new p.text)
+PutsPrintout IsPrintout old new (Err StoreFailed) =
+    (p : Printout) × IsPrintout (Ok p) × AppendsPrefix old new p.text
 PutsPrintout IsPrintout old new (Err fault) = IsPrintout (Err fault) × Keeps old new
 
 -- what a sink took, and how often it had failed before and after
@@ -112,8 +120,8 @@ WentOut {S} contents failures old new p =
 
 -- the one went out, in which the count of failures didn't fall, and then the other
 abbrev pub IsBoth : Printed → Printed → Printed → Type 0
-IsBoth p first rest = (p.text ≡ first.text ++ rest.text) × (first.before ≡ p.before) × (rest.before ≡ first.after) × (rest.after ≡ p.after)
-    × (first.before ≤ first.after)
+IsBoth p first rest = (p.text ≡ first.text ++ rest.text) × (first.before ≡ p.before)
+    × (rest.before ≡ first.after) × (rest.after ≡ p.after) × (first.before ≤ first.after)
 
 -- nothing went out
 abbrev pub IsSilence : Printed → Type 0

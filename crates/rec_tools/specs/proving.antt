@@ -1,5 +1,4 @@
 -- What serves proofs.
-pub mod ReadFiles
 pub mod Editing
 pub mod Listed
 pub mod Silently

@@ -1,62 +1,84 @@
-//! What a request makes of a file and a journal, before anything is replaced.
-ghost use Rattle.std.specs.Prelude.{◌≡◌, ◌≢◌, ◌↔◌, IsTrue, Ok, Err, IfOk, IfErr, MatchOption};
-ghost use Rattle.rec_text.specs.Faults.{IsMemoryOr, UnlessMemory};
+//! What a request makes of a file and a journal, before anything is put in place.
+ghost use Rattle.std.specs.Prelude.{◌≡◌, ◌≢◌, Some, Ok, IfOk, IfErr};
+ghost use Rattle.rec_text.specs.Elements.{text_of};
+ghost use Rattle.rec_text.specs.Faults.{UnlessMemory};
 ghost use Rattle.rec_journal.specs.History.{IsOpening};
-ghost use Rattle.rec_journal.specs.Plans.{nothing_there};
 ghost use Rattle.rec_tools.specs.Steps.{IsRefusal};
-ghost use Rattle.rec_tools.specs.Requests.{moving, forgetting, asked_of, IsSilent};
-ghost use Rattle.rec_tools.specs.Outcomes.{Decides, reply_of};
-ghost use Rattle.rec_tools.specs.declared.making.Made.TheVariants.{One, Several};
-ghost use Rattle.rec_tools.specs.proving.Editing.{IsEditing, IsChange, IsPut, TellsChanges, told_by};
+ghost use Rattle.rec_tools.specs.Requests.{editing, moving, forgetting, asked_of, IsSilent};
+ghost use Rattle.rec_tools.specs.Outcomes.{IsMade, IsEditOutcome, Decides, outcome_in, reply_of};
+ghost use Rattle.rec_tools.specs.declared.decision.Decision.TheVariants.{Put};
+ghost use Rattle.rec_tools.specs.proving.Editing.{AreEditsFrom, HasSteps};
 
+use crate::batches::batch_edits;
+use crate::editing::make;
 use crate::history::history_of;
-use crate::making::{Made, made_by, text_made};
-use crate::rec_file::read_file;
-use crate::request::{Reply, Request};
-use rec_edit::{BatchEdited, Edited};
+use crate::request::{EditRequest, Reply, Request};
+use rec_check::RecFile;
+use rec_edit::Edited;
 use rec_journal::{
-    Direction, Hashed, History, Plan, Tool, plan_batch, plan_edit, plan_forget, plan_move,
+    Direction, Hashed, History, MovePlan, Plan, Tool, plan_forget, plan_move, plan_steps,
 };
 use rec_text::{Bytes, Fault};
 use std::alloc::Global;
+use std::slice;
 
-/// A reply, and what is to be put in place first: nothing, a plan, or a journal alone.
+/// A reply, and what is to be put in place first: nothing, or a journal and, where it changes, the file.
 #[derive(Drop)]
 pub enum Decision {
     Stay(Reply),
-    Put(Plan, Reply),
-    Rewrite(Bytes, Reply),
+    Put {
+        journal: Bytes,
+        file: Option<Bytes>,
+        reply: Reply,
+    },
 }
 
-/// The history of a file, and what a request makes of the file. The elements of the file are let go here, before the edited
-/// text is checked and a plan is made, which need memory too.
-fn change_by(
+/// Both contents of a plan are to be put in place.
+fn put_plan(plan: Plan, reply: Reply) -> Decision
+    ensures { result ≡ Put plan.journal (Some plan.file) reply }
+{
+    let Plan { journal, file } = plan;
+    Decision::Put {
+        journal,
+        file: Some(file),
+        reply,
+    }
+}
+
+/// What is asked to be made as one edit.
+#[derive(Clone, Copy)]
+pub enum Source<'r> {
+    OneEdit(&'r EditRequest),
+    /// The edits that a rec text lists.
+    Listed(&'r [u8]),
+}
+
+/// What edits make of a file, and the tool that is told with them.
+fn made_from(
     alloc: Global,
-    file: &Hashed<'_>,
-    journal: &[u8],
-    request: &Request,
-) -> Result<(History, Made), Fault>
-    requires { IsEditing (asked_of request.now) }
-    ensures found { IfOk result (λ change. IsChange file.now journal.now (asked_of request.now) change) }
-    ensures refused { IfErr result (λ fault.
-        IsMemoryOr fault (Decides file.now journal.now (asked_of request.now) (Err fault))) }
+    file: RecFile,
+    source: Source<'_>,
+    force: bool,
+) -> Result<(Tool, Edited), Fault>
+    ensures found { UnlessMemory result (IsMade (AreEditsFrom source.entry force) (text_of file.entry.pieces)) }
+    ensures steps { IfOk result (HasSteps (text_of file.entry.pieces)) }
     ensures refusals { IfErr result IsRefusal }
 {
-    let read = read_file(alloc, file.text())?;
-    let history = History::load(alloc, file, journal)?;
-    let made = made_by(alloc, read, request)?;
-    Ok((history, made))
+    match source {
+        Source::OneEdit(edit) => {
+            let made = make(alloc, file, slice::from_ref(edit), force)?;
+            Ok((edit.tool(), made))
+        }
+        Source::Listed(text) => {
+            let edits = batch_edits(alloc, text)?;
+            let made = make(alloc, file, &edits, force)?;
+            Ok((Tool::Batch, made))
+        }
+    }
 }
 
-/// Whether edits leave a text as it is.
-fn is_idle(made: &Made, file: &[u8]) -> bool
-    ensures { IsTrue result ↔ (((told_by made.now).1).text ≡ file.now) }
-{
-    text_made(made) == file
-}
-
-/// Plans what a tool made of a file.
-fn put_one(
+/// Plans what edits made of a file.
+fn put_edited(
     alloc: Global,
     history: &History,
     file: &Hashed<'_>,
@@ -65,79 +87,40 @@ fn put_one(
     edited: Edited,
 ) -> Result<Decision, Fault>
     requires opened { IsOpening file.now journal.now (Ok history.now) }
+    requires steps { HasSteps file.now (tool, edited) }
     requires differs { edited.text ≢ file.now }
-    requires tells { TellsChanges file.now (One tool edited) }
-    ensures found { UnlessMemory result (IsPut history.now file.now journal.now (One tool edited)) }
+    ensures found { UnlessMemory result (λ answer. IsEditOutcome history.now
+        (record { file = file.now; journal = journal.now }) tool edited (outcome_in answer)) }
     ensures refusals { IfErr result IsRefusal }
 {
     let Edited {
-        patch,
-        text,
-        changed,
-    } = edited;
-    let plan = plan_edit(alloc, history, file, journal, tool, &patch, text)?;
-    Ok(Decision::Put(plan, Reply::Edited(changed)))
-}
-
-/// Plans what a batch made of a file.
-fn put_batch(
-    alloc: Global,
-    history: &History,
-    file: &Hashed<'_>,
-    journal: &[u8],
-    edited: BatchEdited,
-) -> Result<Decision, Fault>
-    requires opened { IsOpening file.now journal.now (Ok history.now) }
-    requires differs { edited.text ≢ file.now }
-    requires tells { TellsChanges file.now (Several edited) }
-    ensures found { UnlessMemory result (IsPut history.now file.now journal.now (Several edited)) }
-    ensures refusals { IfErr result IsRefusal }
-{
-    let BatchEdited {
         steps,
         text,
         changed,
     } = edited;
-    let plan = plan_batch(alloc, history, file, journal, &steps, text)?;
-    Ok(Decision::Put(plan, Reply::Edited(changed)))
+    let plan = plan_steps(alloc, history, file, journal, tool, &steps, text)?;
+    Ok(put_plan(plan, Reply::Edited(changed)))
 }
 
-/// Plans what was made of a file.
-fn put_made(
-    alloc: Global,
-    history: &History,
-    file: &Hashed<'_>,
-    journal: &[u8],
-    made: Made,
-) -> Result<Decision, Fault>
-    requires opened { IsOpening file.now journal.now (Ok history.now) }
-    requires differs { ((told_by made).1).text ≢ file.now }
-    requires tells { TellsChanges file.now made }
-    ensures found { UnlessMemory result (IsPut history.now file.now journal.now made) }
-    ensures refusals { IfErr result IsRefusal }
-{
-    match made {
-        Made::One(tool, edited) => put_one(alloc, history, file, journal, tool, edited),
-        Made::Several(edited) => put_batch(alloc, history, file, journal, edited),
-    }
-}
-
-/// Decides an edit on a file that was hashed and a journal.
+/// Decides an edit on a file that was hashed and a journal. The elements of the file are let go before the edited text is
+/// checked and a plan is made, which need memory too.
 fn decide_on(
     alloc: Global,
     file: &Hashed<'_>,
     journal: &[u8],
-    request: &Request,
+    source: Source<'_>,
+    force: bool,
 ) -> Result<Decision, Fault>
-    requires { IsEditing (asked_of request.now) }
-    ensures found { UnlessMemory result (Decides file.now journal.now (asked_of request.now)) }
+    ensures found { UnlessMemory result (Decides file.now journal.now (editing (AreEditsFrom source.entry force))) }
     ensures refusals { IfErr result IsRefusal }
 {
-    let (history, made) = change_by(alloc, file, journal, request)?;
-    if is_idle(&made, file.text()) {
+    let read = RecFile::read(alloc, file.text())?;
+    let history = History::load(alloc, file, journal)?;
+    let (tool, edited) = made_from(alloc, read, source, force)?;
+    if edited.text.as_slice() == file.text() {
         return Ok(Decision::Stay(Reply::Unchanged));
     }
-    put_made(alloc, &history, file, journal, made)
+    put_edited(alloc, &history, file, journal, tool, edited)
 }
 
 /// Decides an edit on a file and a journal.
@@ -145,26 +128,23 @@ fn decide_edit(
     alloc: Global,
     file: &[u8],
     journal: &[u8],
-    request: &Request,
+    source: Source<'_>,
+    force: bool,
 ) -> Result<Decision, Fault>
-    requires { IsEditing (asked_of request.now) }
-    ensures found { UnlessMemory result (Decides file.now journal.now (asked_of request.now)) }
+    ensures found { UnlessMemory result (Decides file.now journal.now (editing (AreEditsFrom source.entry force))) }
     ensures refusals { IfErr result IsRefusal }
 {
     let hashed = Hashed::of(alloc, file)?;
-    decide_on(alloc, &hashed, journal, request)
+    decide_on(alloc, &hashed, journal, source, force)
 }
 
-/// The reply to a move by the edit of this number, or the refusal where there is none.
-fn moved(direction: Direction, number: Option<usize>) -> Result<Reply, Fault>
-    ensures { MatchOption number
-        (result ≡ Err (nothing_there direction)) (λ number. result ≡ Ok (reply_of direction number)) }
+/// The reply to a move by the edit of this number.
+fn reply_of(direction: Direction, number: usize) -> Reply
+    ensures { result ≡ reply_of direction number }
 {
-    match (direction, number) {
-        (Direction::Forward, Some(number)) => Ok(Reply::Redone(number)),
-        (Direction::Backward, Some(number)) => Ok(Reply::Undone(number)),
-        (Direction::Forward, None) => Err(Fault::NothingToRedo),
-        (Direction::Backward, None) => Err(Fault::NothingToUndo),
+    match direction {
+        Direction::Forward => Reply::Redone(number),
+        Direction::Backward => Reply::Undone(number),
     }
 }
 
@@ -179,9 +159,8 @@ fn decide_move(
     ensures refusals { IfErr result IsRefusal }
 {
     let history = history_of(alloc, file, journal)?;
-    let plan = plan_move(alloc, direction, &history, file, journal)?;
-    let reply = moved(direction, history.nearest_number(direction))?;
-    Ok(Decision::Put(plan, reply))
+    let MovePlan { plan, number } = plan_move(alloc, direction, &history, file, journal)?;
+    Ok(put_plan(plan, reply_of(direction, number)))
 }
 
 /// Decides what is forgotten, on a file and a journal.
@@ -203,7 +182,11 @@ fn decide_forgetting(
         return Ok(Decision::Stay(Reply::Forgotten(0)));
     }
     let left = plan_forget(alloc, &history, file, journal, n)?;
-    Ok(Decision::Rewrite(left, Reply::Forgotten(undos - n)))
+    Ok(Decision::Put {
+        journal: left,
+        file: None,
+        reply: Reply::Forgotten(undos - n),
+    })
 }
 
 /// Decides a request that prints nothing, on a file and a journal.
@@ -218,9 +201,18 @@ pub fn decide(
     ensures refusals { IfErr result IsRefusal }
 {
     match request {
+        Request::Edit { edit, force } => {
+            decide_edit(alloc, file, journal, Source::OneEdit(edit), *force)
+        }
+        Request::Batch { text, force } => {
+            let text = text.as_slice();
+            decide_edit(alloc, file, journal, Source::Listed(text), *force)
+        }
         Request::Undo => decide_move(alloc, file, journal, Direction::Backward),
         Request::Redo => decide_move(alloc, file, journal, Direction::Forward),
         Request::Forget(n) => decide_forgetting(alloc, file, journal, *n as usize),
-        _ => decide_edit(alloc, file, journal, request),
+        Request::Show { .. } | Request::Info { .. } | Request::Check | Request::History => {
+            unreachable!()
+        }
     }
 }

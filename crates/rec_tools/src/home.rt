@@ -1,7 +1,7 @@
 //! Where a file and its journal are kept.
-ghost use Rattle.std.specs.Prelude.{◌≡◌, ℕ, Option, Some, IfSome, IsOkUnless};
+ghost use Rattle.std.specs.Prelude.{◌≡◌, ℕ, Option, Some, IfSome, IsOkUnless, option_copied};
 ghost use Rattle.rec_text.specs.Faults.{IsOkUnlessEither};
-ghost use Rattle.rec_tools.specs.Home.{Contents, Call, Tells, Counts, left_by, read_call, IsReplaceCall};
+ghost use Rattle.rec_tools.specs.Home.{Contents, writes_by, Call, left_by, TellsOf, CountsFailure, read_call, IsPutCall};
 
 use rec_text::{Bytes, Fault};
 use std::alloc::Global;
@@ -31,9 +31,11 @@ pub trait Home {
         ensures call { goes self.old (read_call which result) self.new }
         ensures refusals { IsOkUnlessEither result Fault.OutOfMemory Fault.StoreFailed };
 
-    /// Puts these bytes instead of a content. A failure leaves that content old or new, and the other as it was.
-    fn replace(&mut self, which: Which, bytes: &[u8]) -> Result<(), Fault>
-        ensures call { (call : Call) × IsReplaceCall which bytes.now result call × goes self.old call self.new }
+    /// Puts the journal in place and then, where one is given, the file. A failure leaves the first of them in place: none,
+    /// one or both.
+    fn put(&mut self, journal: &[u8], file: Option<&[u8]>) -> Result<(), Fault>
+        ensures call { (call : Call) × IsPutCall (writes_by journal.now (option_copied file.entry)) result call
+            × goes self.old call self.new }
         ensures refusals { IsOkUnless result Fault.StoreFailed };
 
     /// How often the home failed.
@@ -42,8 +44,9 @@ pub trait Home {
 
     /// What a call reads is what stands there, and what stands there afterwards is what the call leaves.
     ghost follows: { (old new : Self) (call : Call) → goes old call new
-        → IfSome (contents old) (λ c. Tells c call × (contents new ≡ Some (left_by c call))) };
+        → IfSome (contents old) (λ c. TellsOf c call × (contents new ≡ Some (left_by c call))) };
 
     /// A failure counts one, and any other call none.
-    ghost counts: { (old new : Self) (call : Call) → goes old call new → Counts (failure_count old) call (failure_count new) };
+    ghost counts: { (old new : Self) (call : Call) → goes old call new
+        → CountsFailure (failure_count old) call (failure_count new) };
 }

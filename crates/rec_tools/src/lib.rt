@@ -8,23 +8,23 @@ mod editing;
 mod history;
 mod home;
 mod laws;
-mod making;
 mod memory;
 mod printing;
-mod rec_file;
 mod request;
 mod runner;
 mod selecting;
 
-pub use batches::batch_requests;
+pub use batches::batch_edits;
+pub use editing::make;
 pub use home::{Home, Which};
 pub use laws::{
     first_stands, one_outcome, one_state, one_step, outcomes_are_steps, outside_is_noticed,
     stops_are_steps,
 };
-pub use memory::{MemoryHome, StoreFault};
-pub use rec_edit::{Action, NewRecord, Pair};
+pub use memory::MemoryHome;
+pub use rec_check::RecFile;
+pub use rec_edit::{Action, Edited, NewRecord, Pair, RefusedEdit};
 pub use rec_select::InfoForm;
 pub use rec_text::{Bytes, Fault, Output, Rule, Sink, Violation, Violations};
-pub use request::{Ask, Form, Pick, Reply, Request};
+pub use request::{Ask, EditRequest, Form, Pick, Reply, Request};
 pub use runner::{run, run_all};

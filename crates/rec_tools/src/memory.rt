@@ -1,27 +1,19 @@
 //! A home in memory, some of whose calls fail.
-ghost use Rattle.std.specs.Prelude.{◌≡◌, ◌+◌, ◌-◌, ◌^◌, min, [], ◌∷◌, ◌++◌, Some, IfSome, OnOk, OnErr, MatchOption, is_some};
+ghost use Rattle.std.specs.Prelude.{◌≡◌, ◌+◌, ◌-◌, ◌^◌, min, [], ◌∷◌, ◌++◌, take, Some, IfSome, OnOk, OnErr, MatchOption, is_some, option_copied};
 ghost use Rattle.std.proofs.Common.{ap};
-ghost use Rattle.rec_tools.specs.Home.{CountsOne, content_of, with_content};
-ghost use Rattle.rec_tools.specs.Memory.{fault_of, held, IsCall};
+ghost use Rattle.rec_tools.specs.Home.{CountsOne, content_of, with_content, writes_by, written};
+ghost use Rattle.rec_tools.specs.Memory.{writes_left, held, IsCut, IsCall};
 
 use crate::home::{Home, Which};
 use rec_text::{Bytes, Fault};
 use std::alloc::{AllocError, Global};
 
-/// How a call of a home in memory fails.
-#[derive(Clone, Copy)]
-pub enum StoreFault {
-    /// Nothing is changed.
-    LeavesOld,
-    /// The new content stands, and the call fails all the same.
-    LeavesNew,
-}
-
-/// A call that fails, by its number: calls are counted from 0, reads and replaces alike.
+/// A call that fails, by its number: calls are counted from 0, reads and puts alike.
 #[derive(Clone, Copy)]
 pub struct Failing {
     pub call: u64,
-    pub fault: StoreFault,
+    /// How many writes of a put are made all the same.
+    pub left: usize,
 }
 
 /// A file and a journal in memory.
@@ -35,13 +27,13 @@ pub struct MemoryHome {
     pub alloc: Global,
 }
 
-/// How the call of this number fails, if it does.
-fn fault_at(faults: &[Failing], call: u64) -> Option<StoreFault>
-    ensures { result ≡ fault_of faults.now call }
+/// How many writes the call of this number leaves, if it fails.
+fn left_at(faults: &[Failing], call: u64) -> Option<usize>
+    ensures { result ≡ writes_left faults.now call }
 {
     for failing in faults {
         if failing.call == call {
-            return Some(failing.fault);
+            return Some(failing.left);
         }
     }
     None
@@ -65,16 +57,16 @@ impl MemoryHome {
         }
     }
 
-    /// Lets the call of this number fail, unless another fault was given for it before.
-    pub fn fail(&mut self, call: u64, fault: StoreFault) -> Result<(), AllocError>
+    /// Lets the call of this number fail, and leave this number of its writes, unless another fault was given for it before.
+    pub fn fail(&mut self, call: u64, left: usize) -> Result<(), AllocError>
         ensures added { OnOk result
-            (self.new.faults.items ≡ self.old.faults.items ++ record { call = call; fault = fault } ∷ []) }
+            (self.new.faults.items ≡ self.old.faults.items ++ record { call = call; left = left } ∷ []) }
         ensures unchanged { OnErr result (self.new.faults.items ≡ self.old.faults.items) }
         ensures contents { held self.new ≡ held self.old }
         ensures calls { self.new.calls ≡ self.old.calls }
         ensures failed { self.new.failed ≡ self.old.failed }
     {
-        self.faults.push(Failing { call, fault })?;
+        self.faults.push(Failing { call, left })?;
         Ok(())
     }
 
@@ -102,25 +94,25 @@ impl MemoryHome {
     }
 
     /// Counts a call, and a failure where the call fails.
-    fn next_fault(&mut self) -> Option<StoreFault>
-        ensures fault { result ≡ fault_of self.old.faults.items self.old.calls }
+    fn next_fault(&mut self) -> Option<usize>
+        ensures left { result ≡ writes_left self.old.faults.items self.old.calls }
         ensures contents { held self.new ≡ held self.old }
         ensures numbered { self.new.calls ≡ min (self.old.calls + 1) (2 ^ 64 - 1) }
         ensures faults { self.new.faults.items ≡ self.old.faults.items }
         ensures counted { MatchOption result
             (self.new.failed ≡ self.old.failed) (λ _. CountsOne self.old.failed self.new.failed) }
     {
-        let fault = fault_at(&self.faults, self.calls);
+        let left = left_at(&self.faults, self.calls);
         self.calls = self.calls.saturating_add(1);
-        if fault.is_some() {
+        if left.is_some() {
             self.failed = self.failed.saturating_add(1);
         }
-        fault
+        left
     }
 
     /// Puts a copy of these bytes instead of a content. Where memory is refused, the old content stays.
-    fn put(&mut self, which: Which, bytes: &[u8]) -> Result<(), AllocError>
-        ensures put { OnOk result (held self.new ≡ with_content (held self.old) which bytes.now) }
+    fn write(&mut self, which: Which, bytes: &[u8]) -> Result<(), AllocError>
+        ensures written { OnOk result (held self.new ≡ with_content (held self.old) which bytes.now) }
         ensures old { OnErr result (held self.new ≡ held self.old) }
         ensures numbered { self.new.calls ≡ self.old.calls }
         ensures faults { self.new.faults.items ≡ self.old.faults.items }
@@ -132,6 +124,35 @@ impl MemoryHome {
             Which::Journal => self.journal = copy,
         }
         Ok(())
+    }
+
+    /// Puts copies of the journal and then, where one is given, the file, but not more than `most` of the two. Where memory is
+    /// refused, what was put before it stays.
+    fn put_first(
+        &mut self,
+        most: usize,
+        journal: &[u8],
+        file: Option<&[u8]>,
+    ) -> Result<(), AllocError>
+        ensures put { OnOk result (held self.new
+            ≡ written (held self.old) (take most (writes_by journal.now (option_copied file.entry)))) }
+        ensures cut { OnErr result
+            (IsCut (held self.old) most (writes_by journal.now (option_copied file.entry)) (held self.new)) }
+        ensures numbered { self.new.calls ≡ self.old.calls }
+        ensures faults { self.new.faults.items ≡ self.old.faults.items }
+        ensures failed { self.new.failed ≡ self.old.failed }
+    {
+        if most == 0 {
+            return Ok(());
+        }
+        self.write(Which::Journal, journal)?;
+        let Some(file) = file else {
+            return Ok(());
+        };
+        if most == 1 {
+            return Ok(());
+        }
+        self.write(Which::Base, file)
     }
 }
 
@@ -153,14 +174,13 @@ impl Home for MemoryHome {
         Ok(Bytes::copy_of(alloc, self.content(which))?)
     }
 
-    fn replace(&mut self, which: Which, bytes: &[u8]) -> Result<(), Fault> {
+    fn put(&mut self, journal: &[u8], file: Option<&[u8]>) -> Result<(), Fault> {
         match self.next_fault() {
-            Some(StoreFault::LeavesOld) => Err(Fault::StoreFailed),
-            Some(StoreFault::LeavesNew) => {
-                let _ = self.put(which, bytes);
+            Some(left) => {
+                let _ = self.put_first(left, journal, file);
                 Err(Fault::StoreFailed)
             }
-            None => match self.put(which, bytes) {
+            None => match self.put_first(2, journal, file) {
                 Ok(()) => Ok(()),
                 Err(_) => {
                     self.failed = self.failed.saturating_add(1);

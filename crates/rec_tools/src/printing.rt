@@ -1,15 +1,15 @@
 //! The requests that print.
 ghost use Rattle.std.specs.Prelude.{◌≡◌, option_map, IfErr};
+ghost use Rattle.rec_check.specs.DescribedTexts.{described_text};
 ghost use Rattle.rec_check.specs.Violations.{AreViolationsOf};
 ghost use Rattle.rec_select.specs.Selection.{filter_of};
 ghost use Rattle.rec_select.specs.Taken.{PrintsAndCounts};
 ghost use Rattle.rec_tools.specs.Steps.{IsRefusal};
-ghost use Rattle.rec_tools.specs.proving.ReadFiles.{described_file, BelongTogether};
 ghost use Rattle.rec_tools.specs.Printouts.{IsShowOf, IsShow, IsInfoOf, IsShownText, IsReportText, PutsPrintout, verdict};
 
-use crate::rec_file::{ReadFile, read_file};
 use crate::request::{Form, Pick, Reply};
 use crate::selecting::{Wanted, wanted_of};
+use rec_check::RecFile;
 use rec_select::{InfoForm, choose, write_info, write_records, write_report};
 use rec_text::{Bytes, Fault, Sink, Violation};
 use std::alloc::Global;
@@ -17,20 +17,18 @@ use std::alloc::Global;
 /// Prints the records of a file that are asked for.
 fn print_wanted<S: Sink>(
     alloc: Global,
-    file: &ReadFile,
+    file: &RecFile,
     wanted: &Wanted,
     collapse: bool,
     out: &mut S,
 ) -> Result<Reply, Fault>
-    requires { BelongTogether file.now }
     ensures written { PrintsAndCounts S.contents S.failure_count out.old out.new
-        (PutsPrintout (IsShownText (IsShowOf (described_file file.now) wanted.now.selection.kind
+        (PutsPrintout (IsShownText (IsShowOf (described_text file.now) wanted.now.selection.kind
         (filter_of wanted.now.selection.by) wanted.now.shape collapse))) result }
     ensures refusals { IfErr result IsRefusal }
 {
-    let database = &file.database;
-    let selected = choose(alloc, database, &file.schema, &wanted.selection)?;
-    write_records(alloc, database, &selected, &wanted.shape, collapse, out)?;
+    let selected = choose(alloc, file, &wanted.selection)?;
+    write_records(alloc, file, &selected, &wanted.shape, collapse, out)?;
     Ok(Reply::Shown)
 }
 
@@ -47,7 +45,7 @@ pub fn show<S: Sink>(
         (PutsPrintout (IsShownText (IsShow file.now pick.now form.now collapse))) result }
     ensures refusals { IfErr result IsRefusal }
 {
-    let read = read_file(alloc, file)?;
+    let read = RecFile::read(alloc, file)?;
     let wanted = wanted_of(alloc, pick, form)?;
     print_wanted(alloc, &read, &wanted, collapse, out)
 }
@@ -74,14 +72,8 @@ pub fn inform<S: Sink>(
         (PutsPrintout (IsShownText (IsInfoOf file.now record_type.now form))) result }
     ensures refusals { IfErr result IsRefusal }
 {
-    let read = read_file(alloc, file)?;
-    write_info(
-        &read.database,
-        &read.schema,
-        slice_of(record_type),
-        form,
-        out,
-    )?;
+    let read = RecFile::read(alloc, file)?;
+    write_info(&read, slice_of(record_type), form, out)?;
     Ok(Reply::Shown)
 }
 
@@ -101,8 +93,8 @@ pub fn check<S: Sink>(alloc: Global, file: &[u8], out: &mut S) -> Result<Reply, 
         (PutsPrintout (IsReportText (AreViolationsOf file.now))) result }
     ensures refusals { IfErr result IsRefusal }
 {
-    let read = read_file(alloc, file)?;
-    let found = read.schema.violations(alloc, &read.database)?;
+    let read = RecFile::read(alloc, file)?;
+    let found = read.schema().violations(alloc, read.database())?;
     write_report(&found, out)?;
     Ok(verdict_on(&found))
 }

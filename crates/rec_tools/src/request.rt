@@ -1,5 +1,6 @@
 //! What a user asks for, and what is answered.
 use rec_edit::{Action, NewRecord};
+use rec_journal::Tool;
 use rec_select::InfoForm;
 use rec_text::Bytes;
 
@@ -14,6 +15,27 @@ pub enum Ask {
     Index(Bytes),
     /// Those with a value that contains these bytes.
     Quick(Bytes),
+}
+
+impl Ask {
+    ghost use Rattle.std.specs.Prelude.{◌≡◌, MatchOption};
+    ghost use Rattle.rec_tools.specs.declared.request.Ask.{Ask as AskOf};
+    ghost use Rattle.rec_tools.specs.Asking.{selection_for};
+
+    /// The records that are asked for by the texts of three options: all of them where none is given, and none where more than
+    /// one is.
+    pub fn of(expression: Option<Bytes>, number: Option<Bytes>, quick: Option<Bytes>) -> Option<Ask>
+        ensures { MatchOption result ((by : AskOf) → selection_for by ≡ (expression, number, quick) → ⊥)
+            (λ by. selection_for by ≡ (expression, number, quick)) }
+    {
+        match (expression, number, quick) {
+            (None, None, None) => Some(Ask::All),
+            (Some(text), None, None) => Some(Ask::Expr(text)),
+            (None, Some(list), None) => Some(Ask::Index(list)),
+            (None, None, Some(text)) => Some(Ask::Quick(text)),
+            _ => None,
+        }
+    }
 }
 
 /// Which records of which type. Without a type they are those of the untyped set where that has a record, and else of
@@ -39,6 +61,54 @@ pub enum Form {
     Count,
 }
 
+/// An edit as it is asked for, whose words aren't read yet. Without force the file may not break the rules of its record sets
+/// afterwards.
+#[derive(Drop)]
+pub enum EditRequest {
+    /// Puts a record in, as the last one of its set: that of a type, which is made where it isn't there, or else the untyped
+    /// one. With `auto` it gets the automatic fields that it lacks.
+    Insert {
+        kind: Option<Bytes>,
+        fresh: NewRecord,
+        auto: bool,
+    },
+    /// Puts a new record instead of each that is picked.
+    Replace {
+        pick: Pick,
+        fresh: NewRecord,
+    },
+    /// Deletes records. Only with force may all be picked (`Ask::All`).
+    Delete(Pick),
+    /// Makes comments of records, with force as for a deletion.
+    CommentOut(Pick),
+    /// Edits the fields that a list picks of records: a text such as `Name,Email[0-1]`.
+    Set {
+        pick: Pick,
+        list: Bytes,
+        action: Action,
+    },
+    /// Gives all records of typed sets the automatic fields that they lack.
+    AutoFill,
+}
+
+impl EditRequest {
+    ghost use Rattle.std.specs.Prelude.{◌≡◌, Ok};
+    ghost use Rattle.rec_edit.specs.Task.{Task, tool_of};
+    ghost use Rattle.rec_tools.specs.Requests.{IsTaskOf};
+
+    /// The tool that does it.
+    pub(crate) fn tool(&self) -> Tool
+        ensures { (task : Task) → IsTaskOf self.now (Ok task) → result ≡ tool_of task }
+    {
+        match self {
+            EditRequest::Insert { .. } | EditRequest::Replace { .. } => Tool::RecIns,
+            EditRequest::Delete(_) | EditRequest::CommentOut(_) => Tool::RecDel,
+            EditRequest::Set { .. } => Tool::RecSet,
+            EditRequest::AutoFill => Tool::RecFix,
+        }
+    }
+}
+
 /// A request on a file and its journal.
 #[derive(Drop)]
 pub enum Request {
@@ -55,42 +125,9 @@ pub enum Request {
     },
     /// Reports where the file breaks the rules of its record sets.
     Check,
-    /// Puts a record in, as the last one of its set: that of a type, which is made where it isn't there, or else the untyped
-    /// one. With `auto` it gets the automatic fields that it lacks. Only with `force` may the file break the rules of its
-    /// record sets afterwards.
-    Insert {
-        kind: Option<Bytes>,
-        fresh: NewRecord,
-        auto: bool,
-        force: bool,
-    },
-    /// Puts a new record instead of each that is picked, with `force` as for an insertion.
-    Replace {
-        pick: Pick,
-        fresh: NewRecord,
-        force: bool,
-    },
-    /// Deletes records. Only with `force` may all be picked (`Ask::All`), and may the file break the rules of its record sets
-    /// afterwards.
-    Delete {
-        pick: Pick,
-        force: bool,
-    },
-    /// Makes comments of records, with `force` as for a deletion.
-    CommentOut {
-        pick: Pick,
-        force: bool,
-    },
-    /// Edits the fields that a list picks of records: a text such as `Name,Email[0-1]`. Only with `force` may the file break
-    /// the rules of its record sets afterwards.
-    Set {
-        pick: Pick,
-        list: Bytes,
-        action: Action,
-        force: bool,
-    },
-    /// Gives all records of typed sets the automatic fields that they lack, with `force` as for an insertion.
-    AutoFill {
+    /// Makes an edit. Only with `force` may the file break the rules of its record sets afterwards.
+    Edit {
+        edit: EditRequest,
         force: bool,
     },
     /// Makes the edits that a rec text lists, one after another, as one edit. Only with `force` may one of them delete all

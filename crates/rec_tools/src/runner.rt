@@ -1,5 +1,5 @@
 //! Runs requests on a home.
-ghost use Rattle.std.specs.Prelude.{◌≡◌, ◌⊎◌, ◌≤◌, ℕ, List, Option, Some, IfOk, IfErr, IfSome, IsErrOf, IsOkUnless};
+ghost use Rattle.std.specs.Prelude.{◌≡◌, ◌⊎◌, ◌≤◌, ℕ, List, Option, Some, IfOk, IfErr, IfSome, IsErrOf, IsOkUnless, option_copied};
 ghost use Rattle.std.specs.List.{AllByRecursion};
 ghost use Rattle.rec_text.specs.Faults.{IsOkUnlessEither};
 ghost use Rattle.rec_journal.specs.History.{IsRegular};
@@ -7,8 +7,8 @@ ghost use Rattle.rec_tools.specs.Home.{Call, HasFailed, left_by_all, Rose};
 ghost use Rattle.rec_tools.specs.Steps.{IsRefusal};
 ghost use Rattle.rec_tools.specs.Printouts.{Printed, WentOut};
 ghost use Rattle.rec_tools.specs.Requests.{listing, asked_of, IsSilent, WritesNothing};
-ghost use Rattle.rec_tools.specs.Outcomes.{outcome_of, writes_of};
-ghost use Rattle.rec_tools.specs.Attempts.{AreRead, AreWritten, IsAnswered, IsCutShort, Attempts, AttemptsAll};
+ghost use Rattle.rec_tools.specs.Outcomes.{outcome_of};
+ghost use Rattle.rec_tools.specs.Attempts.{AreRead, IsAnswered, IsCutShort, Attempts, AttemptsAll};
 ghost use Rattle.rec_tools.specs.Machine.{State, Stands};
 ghost use Rattle.rec_tools.specs.Guarantee.{RunsAsMachine};
 ghost use Rattle.rec_tools.specs.proving.Silently.{ByCalls, DoesSilently};
@@ -18,7 +18,6 @@ use crate::history::print_history;
 use crate::home::{Home, Which};
 use crate::printing::{check, inform, show};
 use crate::request::{Reply, Request};
-use rec_journal::Plan;
 use rec_text::{Bytes, Fault, Sink};
 use std::alloc::Global;
 
@@ -32,14 +31,14 @@ fn read_both<H: Home>(alloc: Global, home: &mut H) -> Result<(Bytes, Bytes), Fau
     Ok((file, journal))
 }
 
-/// Puts a plan's contents in place, the journal first: where the second replace fails, the journal tells what became
-/// of the edit.
-fn put_in_place<H: Home>(home: &mut H, plan: &Plan) -> Result<(), Fault>
-    ensures calls { ByCalls H.goes home.old home.new (AreWritten (writes_of plan.now) result) }
-    ensures refusals { IsOkUnless result Fault.StoreFailed }
+/// The bytes of a new file, if there is one.
+fn slice_of(file: &Option<Bytes>) -> Option<&[u8]>
+    ensures { option_copied result ≡ file.now }
 {
-    home.replace(Which::Journal, plan.journal.as_slice())?;
-    home.replace(Which::Base, plan.file.as_slice())
+    match file {
+        Some(file) => Some(file.as_slice()),
+        None => None,
+    }
 }
 
 /// Carries a decision out.
@@ -49,12 +48,12 @@ fn carry_out<H: Home>(home: &mut H, decision: Decision) -> Result<Reply, Fault>
 {
     match decision {
         Decision::Stay(reply) => Ok(reply),
-        Decision::Put(plan, reply) => {
-            put_in_place(home, &plan)?;
-            Ok(reply)
-        }
-        Decision::Rewrite(journal, reply) => {
-            home.replace(Which::Journal, journal.as_slice())?;
+        Decision::Put {
+            journal,
+            file,
+            reply,
+        } => {
+            home.put(journal.as_slice(), slice_of(&file))?;
             Ok(reply)
         }
     }
@@ -113,12 +112,7 @@ fn attempt<H: Home, S: Sink>(
             check(alloc, file.as_slice(), out)
         }
         Request::History => tell_history(alloc, home, out),
-        Request::Insert { .. }
-        | Request::Replace { .. }
-        | Request::Delete { .. }
-        | Request::CommentOut { .. }
-        | Request::Set { .. }
-        | Request::AutoFill { .. }
+        Request::Edit { .. }
         | Request::Batch { .. }
         | Request::Undo
         | Request::Redo

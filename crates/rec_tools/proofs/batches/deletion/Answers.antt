@@ -11,4 +11,4 @@ returns-in_err-has_word c =
     let p = err_from_is_err_and c.from_residual-in_err-has_word.result c.from_residual-in_err-has_word.ensures.1 in
     let own = pieces_of c.args.own.now in
     rw (p.1, p.2) (refused_too (HasWord (codes "Comment") (codes "yes") own) (AsksTool RecDel own) _
-    (λ request asks. (deletion_parts own request asks).1) c.in_err-has_word.ensures)
+    (λ edit asks. (deletion_parts own edit asks).1) c.in_err-has_word.ensures)

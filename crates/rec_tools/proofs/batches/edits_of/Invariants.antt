@@ -7,4 +7,4 @@ use Rattle.rec_tools.proofs.batches.edits_of.Given as goal
 
 -- the edits of the records so far
 abbrev pub invariant-loop-record : goal.invariant-loop-record
-invariant-loop-record l = AllZip AsksFor (map (elements_in (pieces_of l.elements)) (take l.record-index l.records)) l.requests.items
+invariant-loop-record l = AllZip AsksFor (map (elements_in (pieces_of l.elements)) (take l.record-index l.records)) l.edits.items

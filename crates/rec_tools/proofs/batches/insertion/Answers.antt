@@ -10,4 +10,4 @@ returns-in_err-kind c =
     let p = err_from_is_err_and c.from_residual.result c.from_residual.ensures.1 in
     let own = pieces_of c.args.own.now in
     rw (p.1, p.2) (refused_too (IsPickOf own) (AsksTool RecIns own) _
-    (λ request asks. (insertion_parts own request asks).0) c.in_err-kind.ensures)
+    (λ edit asks. (insertion_parts own edit asks).0) c.in_err-kind.ensures)

@@ -11,4 +11,4 @@ returns-in_err-list c =
     let p = err_from_is_err_and c.from_residual.result c.from_residual.ensures.1 in
     let own = pieces_of c.args.own.now in
     rw (p.1, p.2) (refused_too (HasOnly (codes "Fields") own) (AsksTool RecSet own) _
-    (λ request asks. let list = (setting_parts own request asks).1 in (Some list.0, list.1)) c.in_err-list.ensures)
+    (λ edit asks. let list = (setting_parts own edit asks).1 in (Some list.0, list.1)) c.in_err-list.ensures)

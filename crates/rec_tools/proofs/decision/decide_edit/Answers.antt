@@ -1,10 +1,12 @@
 use Rattle.std.proofs.Common.{ℕ, List, subst}
 use Rattle.rec_text.specs.Faults.{UnlessMemory}
-use Rattle.rec_tools.specs.Requests.{asked_of}
+use Rattle.rec_tools.specs.Requests.{editing}
 use Rattle.rec_tools.specs.Outcomes.{Decides}
+use Rattle.rec_tools.specs.proving.Editing.{AreEditsFrom}
 use Rattle.rec_tools.proofs.decision.decide_edit.Goals as goal
 
 pub returns-clause-found : goal.returns-clause-found
 returns-clause-found c =
-    let P : List ℕ → Type 0 = λ file. UnlessMemory c.decide_on.result (Decides file c.args.journal.now (asked_of c.args.request.now)) in
+    let P : List ℕ → Type 0 =
+    λ file. UnlessMemory c.decide_on.result (Decides file c.args.journal.now (editing (AreEditsFrom c.args.source c.args.force))) in
     subst P c.in_ok-hashed.ensures c.decide_on.ensures.found

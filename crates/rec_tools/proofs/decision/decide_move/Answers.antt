@@ -1,5 +1,7 @@
+use Rattle.std.proofs.Common.{ap}
 use Rattle.std.proofs.lemmas.Result.{err_from_is_err_and}
-use Rattle.rec_tools.proofs.DecideLemmas.{move-no_opening, move-refused, move-answered, move-replied}
+use Rattle.rec_tools.specs.Outcomes.{outcome_of}
+use Rattle.rec_tools.proofs.DecideLemmas.{move-no_opening, move-refused, move-planned}
 use Rattle.rec_tools.proofs.decision.decide_move.Goals as goal
 
 pub returns-in_err-history-clause-found : goal.returns-in_err-history-clause-found
@@ -10,13 +12,9 @@ returns-in_err-history-clause-found c =
 pub returns-in_err-plan-clause-found : goal.returns-in_err-plan-clause-found
 returns-in_err-plan-clause-found c =
     let p = err_from_is_err_and c.from_residual-in_err-plan.result c.from_residual-in_err-plan.ensures.1 in
-    rw (p.1, p.2) (move-refused c.args.file.now c.args.journal.now c.args.direction _ c.in_ok-history.ensures _ c.in_err-plan.ensures.found)
-
-pub returns-in_err-reply-clause-found : goal.returns-in_err-reply-clause-found
-returns-in_err-reply-clause-found c =
-    move-answered c.args.direction _ c.args.file.now c.args.journal.now _ c.in_ok-plan.ensures.found _ c.nearest_number.ensures _ c.in_err-reply.ensures
+    rw (p.1, p.2) (move-refused c.args.file.now c.args.journal.now c.args.direction _ c.in_ok-history.ensures _ c.in_err-plan.ensures.plan.found)
 
 pub returns-clause-found : goal.returns-clause-found
 returns-clause-found c =
-    move-replied c.args.file.now c.args.journal.now c.args.direction _ c.in_ok-history.ensures _ c.in_ok-plan.ensures.found c.in_ok-plan.ensures.safe
-    _ c.nearest_number.ensures _ c.in_ok-reply.ensures
+    move-planned c.args.file.now c.args.journal.now c.args.direction _ c.in_ok-history.ensures _ c.in_ok-plan.ensures.plan.found
+    c.in_ok-plan.ensures.plan.safe _ c.in_ok-plan.ensures.number _ c.reply_of.ensures _ (ap outcome_of c.put_plan.ensures)

@@ -14,11 +14,11 @@ pub returns-in_err-write_report-clause-written : goal.returns-in_err-write_repor
 returns-in_err-write_report-clause-written g c =
     let p = err_from_is_err_and c.from_residual-in_err-write_report.result c.from_residual-in_err-write_report.ensures.1 in
     rw (p.1, p.2) (refused_within c.in_err-write_report.ensures.written
-    (check-cut_short c.args.file.now _ c.in_ok-read.ensures.found _ c.in_ok-found.ensures.violations
+    (check-cut_short c.args.file.now _ c.in_ok-read.ensures.found _ (rw (c.database.ensures.elements, c.schema.ensures.schema) at c.in_ok-found.ensures.violations)
     (Unit {0}) _ _ _ _ c.deref.ensures.value))
 
 pub returns-clause-written : goal.returns-clause-written
 returns-clause-written g c =
     printed_all c.in_ok-write_report.ensures.written
-    (check-printed c.args.file.now _ c.in_ok-read.ensures.found _ c.in_ok-found.ensures.violations
+    (check-printed c.args.file.now _ c.in_ok-read.ensures.found _ (rw (c.database.ensures.elements, c.schema.ensures.schema) at c.in_ok-found.ensures.violations)
     (Unit {0}) _ _ _ _ _ c.deref.ensures.value (c.verdict_on.ensures ∙ ap verdict c.deref-2.ensures.value))

@@ -40,5 +40,5 @@ returns-in-History-clause-attempts g c = rw c.in-History.is c.tell_history.ensur
 
 -- ---- an edit is made, taken back, or made again
 
-pub returns-in-Insert-clause-attempts : goal.returns-in-Insert-clause-attempts
-returns-in-Insert-clause-attempts g c = attempted-silently _ g.S.Sink.contents g.S.Sink.failure_count _ _ c.args.out.now _ _ c.make_change.ensures.attempts
+pub returns-in-Edit-clause-attempts : goal.returns-in-Edit-clause-attempts
+returns-in-Edit-clause-attempts g c = attempted-silently _ g.S.Sink.contents g.S.Sink.failure_count _ _ c.args.out.now _ _ c.make_change.ensures.attempts

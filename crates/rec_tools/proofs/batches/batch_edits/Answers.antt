@@ -4,13 +4,13 @@ use Rattle.rec_tools.specs.Batches.{AreEdits}
 use Rattle.rec_tools.specs.proving.Finding.{AreEditsIn}
 use Rattle.rec_text.proofs.lemmas.FaultLemmas.{memory_or_weaker}
 use Rattle.rec_tools.proofs.BatchLemmas.{one_answer, read_edits, IfOk-weaker, IfErr-weaker}
-use Rattle.rec_tools.proofs.batches.batch_requests.Goals as goal
+use Rattle.rec_tools.proofs.batches.batch_edits.Goals as goal
 
 pub returns-in-Ok-clause-found : goal.returns-in-Ok-clause-found
 returns-in-Ok-clause-found c =
     let pieces = c.in-Ok.database in
-    IfOk-weaker (λ requests. AreEditsIn pieces (Ok requests.items)) (λ requests. AreEdits c.args.text.now (Ok requests.items))
-    (λ requests edits. read_edits c.args.text.now pieces (Ok requests.items) c.in-Ok.ensures.found edits)
+    IfOk-weaker (λ edits. AreEditsIn pieces (Ok edits.items)) (λ edits. AreEdits c.args.text.now (Ok edits.items))
+    (λ edits found. read_edits c.args.text.now pieces (Ok edits.items) c.in-Ok.ensures.found found)
     c.edits_of.result c.edits_of.ensures.found
 
 pub returns-in-Ok-clause-refused : goal.returns-in-Ok-clause-refused

@@ -1,5 +1,5 @@
 //! Whether a request may write the file and its journal.
-ghost use Rattle.std.specs.Prelude.{◌≡◌, ◌≢◌, ◌↔◌, ℕ};
+ghost use Rattle.std.specs.Prelude.{◌≡◌, ◌≢◌};
 ghost use Rattle.rec_tools.specs.Requests.{asked_of, WritesNothing};
 
 use rec_tools::Request;
@@ -9,30 +9,22 @@ use rec_tools::Request;
 pub enum Access {
     /// It only reads.
     Look,
-    /// It reads, and may then replace both.
+    /// It reads, and may then replace the journal, or both.
     Change,
-    /// It reads, and may then replace the journal alone.
-    Rewrite,
 }
 
 pub fn access_of(request: &Request) -> Access
     ensures look { result ≡ Access.Look → WritesNothing (asked_of request.now) }
     ensures change { result ≢ Access.Look → ¬ WritesNothing (asked_of request.now) }
-    ensures rewrite { result ≡ Access.Rewrite ↔ ((n : ℕ) × (request.now ≡ Request.Forget n)) }
 {
     match request {
         Request::Show { .. } | Request::Info { .. } | Request::Check | Request::History => {
             Access::Look
         }
-        Request::Insert { .. }
-        | Request::Replace { .. }
-        | Request::Delete { .. }
-        | Request::CommentOut { .. }
-        | Request::Set { .. }
-        | Request::AutoFill { .. }
+        Request::Edit { .. }
         | Request::Batch { .. }
         | Request::Undo
-        | Request::Redo => Access::Change,
-        Request::Forget(_) => Access::Rewrite,
+        | Request::Redo
+        | Request::Forget(_) => Access::Change,
     }
 }

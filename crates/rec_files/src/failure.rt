@@ -1,5 +1,4 @@
 //! Why a file could not be read or written, in the program's own words where the system has none.
-ghost use Rattle.std.specs.Prelude.{◌≡◌, Err, IfErr, is_ok};
 
 use rec_tools::Which;
 use std::io::{Error, ErrorKind};
@@ -34,17 +33,6 @@ impl From<Error> for Cause {
 
     fn from(error: Error) -> Cause {
         Cause::Itself(error)
-    }
-}
-
-/// What an answer tells of the file or of the journal.
-pub fn told_of<T: Drop>(which: Which, answer: Result<T, Cause>) -> Result<T, Failure>
-    ensures well { is_ok result ≡ is_ok answer }
-    ensures failure { IfErr result (λ failure. (failure.which ≡ which) × (answer ≡ Err failure.cause)) }
-{
-    match answer {
-        Ok(value) => Ok(value),
-        Err(cause) => Err(Failure { which, cause }),
     }
 }
 

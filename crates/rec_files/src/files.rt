@@ -3,7 +3,7 @@
 ghost use Rattle.std.specs.Prelude.{◌≡◌, ◌≤◌, ◌↔◌, [], length, IsTrue, IsNone, None, Some, Ok, OnOk, IsSomeAnd, option_map, string_bytes, unwrap_or};
 ghost use Rattle.std.specs.IoError.{error_kind, raw_os_error};
 ghost use Rattle.rec_text.specs.Sink.{one_more};
-ghost use Rattle.rec_tools.specs.Home.{Counts};
+ghost use Rattle.rec_tools.specs.Home.{CountsFailure};
 ghost use Rattle.rec_files.specs.proving.Files.{path_of};
 
 use crate::access::Access;
@@ -20,9 +20,7 @@ use std::io::{Error, ErrorKind};
 use std::rt::Files;
 use std::{fs, io};
 
-/// A file and its journal on disk. A replace of the journal waits under its working name until the file's, by which both
-/// are put in place; where the journal alone may be replaced it is put in place at once. The last failure is kept, for
-/// `explain`.
+/// A file and its journal on disk. The last failure is kept, for `explain`.
 #[derive(Drop)]
 pub struct FileHome<'r, R> {
     rt: &'r R,
@@ -113,14 +111,6 @@ impl<'r, R: Files<File = File> + Input + AllocGlobal> FileHome<'r, R> {
         self.both.close();
     }
 
-    /// Removes what was made to be put in place and was not.
-    pub fn let_go(&mut self)
-        ensures kept { self.new.failed ≡ self.old.failed }
-        ensures noted { self.new.failure ≡ self.old.failure }
-    {
-        self.both.let_go(self.rt);
-    }
-
     /// The bytes of the file as they are now, read without a lock to explain a refusal. What is no regular file, as
     /// standard input, can't be read again.
     pub fn text_again(&self, alloc: Global) -> Option<Vec<u8>>
@@ -159,7 +149,7 @@ impl<'r, R: Files<File = File> + Input + AllocGlobal> FileHome<'r, R> {
         }
         match self.access {
             Access::Look => self.look_at(alloc, which),
-            Access::Change | Access::Rewrite => self.take(alloc, which),
+            Access::Change => self.take(alloc, which),
         }
     }
 
@@ -201,7 +191,7 @@ impl<'r, R: Files<File = File> + Input + AllocGlobal> Home for FileHome<'r, R> {
 
     ghost failure_count = { λ home. home.failed };
 
-    ghost goes = { λ old call new. Counts old.failed call new.failed };
+    ghost goes = { λ old call new. CountsFailure old.failed call new.failed };
 
     ghost follows = { λ old new call h. tt };
 
@@ -218,13 +208,10 @@ impl<'r, R: Files<File = File> + Input + AllocGlobal> Home for FileHome<'r, R> {
         }
     }
 
-    fn replace(&mut self, which: Which, bytes: &[u8]) -> Result<(), Fault> {
-        match self.both.replace(self.rt, self.access, which, bytes) {
+    fn put(&mut self, journal: &[u8], file: Option<&[u8]>) -> Result<(), Fault> {
+        match self.both.put(self.rt, journal, file) {
             Ok(()) => Ok(()),
-            Err(failure) => {
-                self.let_go();
-                Err(self.fail(failure))
-            }
+            Err(failure) => Err(self.fail(failure)),
         }
     }
 

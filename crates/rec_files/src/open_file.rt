@@ -1,6 +1,7 @@
 //! A file as it was read, locked to the end of the program's work, and whether it still stands at its path.
-ghost use Rattle.std.specs.Prelude.{◌≡◌, ◌≤◌, length, IsTrue, IfOk};
+ghost use Rattle.std.specs.Prelude.{◌≡◌, ◌≢◌, ◌≤◌, length, IsTrue, None, Some, Ok, Err, IfOk, IfErr};
 ghost use Rattle.std.specs.Fs.{metadata_len};
+ghost use Rattle.std.specs.IoError.{error_kind};
 
 use crate::failure::{changed, locked, one_file};
 use crate::reading::{LIMIT, read_whole};
@@ -76,10 +77,8 @@ fn try_to_lock<R: Files<File = File>>(
     if is_that(&file, other)? {
         return Err(one_file());
     }
-    match file.try_lock() {
-        Ok(()) => {}
-        Err(TryLockError::WouldBlock) => return Err(locked()),
-        Err(TryLockError::Error(error)) => return Err(error),
+    if !gets_locked(&file)? {
+        return Err(locked());
     }
     if leads_to(rt, path, &file)? {
         Ok(Some(OpenFile::new(file)?))
@@ -96,6 +95,15 @@ fn open_to_lock<R: Files<File = File>>(rt: &R, path: &str) -> io::Result<File> {
     }
 }
 
+/// Locks a file, and says whether that was possible: another program may have locked it.
+pub fn gets_locked(file: &File) -> io::Result<bool> {
+    match file.try_lock() {
+        Ok(()) => Ok(true),
+        Err(TryLockError::WouldBlock) => Ok(false),
+        Err(TryLockError::Error(error)) => Err(error),
+    }
+}
+
 fn is_that(file: &File, other: Option<&Metadata>) -> io::Result<bool> {
     match other {
         Some(other) => Ok(are_one(other, &file.metadata()?)),
@@ -106,9 +114,21 @@ fn is_that(file: &File, other: Option<&Metadata>) -> io::Result<bool> {
 /// Whether the name, which is no link then, leads to the open file.
 pub fn leads_to(rt: &impl Files, name: &str, file: &File) -> io::Result<bool> {
     let own = file.metadata()?;
-    match fs::symlink_metadata(rt, name) {
-        Ok(there) => Ok(are_one(&there, &own)),
-        Err(error) if error.kind() == ErrorKind::NotFound => Ok(false),
+    match if_there(fs::symlink_metadata(rt, name))? {
+        Some(there) => Ok(are_one(&there, &own)),
+        None => Ok(false),
+    }
+}
+
+/// What a look found, or that nothing is there.
+pub fn if_there(look: io::Result<Metadata>) -> io::Result<Option<Metadata>>
+    ensures found { IfOk look (λ there. result ≡ Ok (Some there)) }
+    ensures missing { IfErr look (λ error. error_kind error ≡ ErrorKind.NotFound → result ≡ Ok None) }
+    ensures failed { IfErr look (λ error. error_kind error ≢ ErrorKind.NotFound → result ≡ Err error) }
+{
+    match look {
+        Ok(there) => Ok(Some(there)),
+        Err(error) if error.kind() == ErrorKind::NotFound => Ok(None),
         Err(error) => Err(error),
     }
 }

@@ -20,7 +20,7 @@ pub fn room_for(access: Access) -> usize
 {
     match access {
         Access::Look => PIECE,
-        Access::Change | Access::Rewrite => 0,
+        Access::Change => 0,
     }
 }
 

@@ -49,8 +49,8 @@ pub fn give_rights(file: &File, old: &Metadata) -> io::Result<()> {
     file.set_permissions(Permissions::from_mode(mode))
 }
 
-/// Sees that the new file, which is still its maker's, may take the place of the old one at a path.
-pub fn see_replaceable<R: Files<File = File> + AllocGlobal>(
+/// Checks that the new file, which is still its maker's, may take the place of the old one at a path.
+pub fn check_replaceable<R: Files<File = File> + AllocGlobal>(
     rt: &R,
     path: &str,
     old: &File,

@@ -2,8 +2,8 @@
 ghost use Rattle.std.specs.Prelude.{◌≡◌};
 
 use crate::failure::{Cause, in_use, is_of_folder};
-use crate::open_file::leads_to;
-use std::fs::{File, OpenOptions, TryLockError};
+use crate::open_file::{gets_locked, leads_to};
+use std::fs::{File, OpenOptions};
 use std::io;
 use std::io::{Error, ErrorKind};
 use std::os::unix::fs::OpenOptionsExt;
@@ -31,9 +31,5 @@ fn of_making(error: Error) -> Cause {
 
 /// Locks a file, and says whether that was possible and the name leads to it. Who has such a file locked is its writer.
 pub fn lock_own(rt: &impl Files, name: &str, file: &File) -> io::Result<bool> {
-    match file.try_lock() {
-        Ok(()) => leads_to(rt, name, file),
-        Err(TryLockError::WouldBlock) => Ok(false),
-        Err(TryLockError::Error(error)) => Err(error),
-    }
+    Ok(gets_locked(file)? && leads_to(rt, name, file)?)
 }

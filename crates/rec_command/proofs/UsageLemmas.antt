@@ -1,14 +1,15 @@
--- The tool and the options that the getters of the matches read, as one pair, and what tools and options add to a command.
+-- The tool and the options that the getters of the matches read, as one pair, and what tools and arguments add to a command.
 use Rattle.std.proofs.Common.{◌≡◌, ◌∙◌, ℕ, ◌+◌, ◌<◌, List, length, take, sym, ap, ap₂, ◌||◌, false, Option, Some, None, option_map}
 use Rattle.std.specs.List.{fold, slice_index_or}
 use Rattle.std.proofs.lemmas.List.Sums.{fold_more}
-use Rattle.std.proofs.Math.Bool.{or-false}
-use Rattle.clap.specs.Words.{App, Rule, AddsArg, AddsSubcommand, app_of, rule_of, with_rule, with_subcommand}
+use Rattle.clap.specs.Words.{App, AddsArg, AddsSubcommand, app_of, rule_of, with_rule, with_subcommand}
 use Rattle.clap.specs.declared.builder.arg.Arg.{Arg}
 use Rattle.clap.specs.declared.builder.command.Command.{Command}
 use Rattle.clap.specs.declared.builder.command.Command.TheViews.{out-Command as fields_of}
-use Rattle.rec_command.specs.proving.Options.{rule_of_option, with_option}
-use Rattle.rec_command.specs.declared.options.ToolOption.{ToolOption}
+use Rattle.rec_command.specs.proving.Tools.{rule_of_argument, with_argument}
+use Rattle.rec_command.specs.Usage.{usage_of, with_tool}
+use Rattle.rec_command.specs.declared.options.Argument.{Argument}
+use Rattle.rec_command.specs.declared.tools.Tool.{Tool}
 
 module _ {X A B : Type 0} (name : X → A) (rows : X → B) where
   abbrev pub both : X → A × B
@@ -22,23 +23,20 @@ module _ {X A B : Type 0} (name : X → A) (rows : X → B) where
   pair-parts None a b name_is rows_are = cc
   pair-parts (Some x) a b name_is rows_are = cc
 
--- a command with one tool more
-pub tool_added : (old tool new : Command) (before added : App) → AddsSubcommand old tool new → app_of old ≡ before → app_of tool ≡ added
-    → (fields_of tool).has_globals ≡ false → app_of new ≡ with_subcommand before added.top
-tool_added old tool new before added adds old_is tool_is alone =
-    adds.shape alone ∙ ap₂ with_subcommand old_is (ap (λ (app : App). app.top) tool_is)
+-- a program with one tool of a table more
+pub tool_added : (old tool new : Command) (before : App) (table : List Tool) (i : ℕ) (d : Tool) → AddsSubcommand old tool new
+    → (fields_of tool).has_globals ≡ false → i < length table → app_of tool ≡ usage_of (slice_index_or table i d)
+    → app_of old ≡ fold with_tool before (take i table) → app_of new ≡ fold with_tool before (take (i + 1) table)
+tool_added old tool new before table i d adds alone lt tool_is old_is =
+    adds.shape alone ∙ ap₂ with_subcommand old_is (ap (λ (app : App). app.top) tool_is) ∙ sym (fold_more with_tool before table i d lt)
 
--- a command with one option of a table more
+-- a command with one argument of a table more
 module _ (old new : Command) (arg : Arg) (adds : AddsArg old arg new) (alone : arg.global ≡ false) where
-  pub option_added : (before : App) (table : List ToolOption) (i : ℕ) (d : ToolOption) → i < length table
-      → rule_of arg ≡ rule_of_option (slice_index_or table i d) → app_of old ≡ fold with_option before (take i table)
-      → app_of new ≡ fold with_option before (take (i + 1) table)
-  option_added before table i d lt rule_is old_is = adds.shape alone ∙ ap₂ with_rule old_is rule_is ∙ sym (fold_more with_option before table i d lt)
+  pub argument_added : (before : App) (table : List Argument) (i : ℕ) (d : Argument) → i < length table
+      → rule_of arg ≡ rule_of_argument (slice_index_or table i d) → app_of old ≡ fold with_argument before (take i table)
+      → app_of new ≡ fold with_argument before (take (i + 1) table)
+  argument_added before table i d lt rule_is old_is =
+      adds.shape alone ∙ ap₂ with_rule old_is rule_is ∙ sym (fold_more with_argument before table i d lt)
 
-  pub globals-added : (fields_of new).has_globals ≡ (fields_of old).has_globals
-  globals-added = adds.globals ∙ ap (λ b. (fields_of old).has_globals || b) alone ∙ or-false (fields_of old).has_globals
-
--- a command with one argument more
-pub arg_added : (old new : Command) (arg : Arg) (before : App) (rule : Rule) → AddsArg old arg new → arg.global ≡ false → rule_of arg ≡ rule → app_of old ≡ before
-    → app_of new ≡ with_rule before rule
-arg_added old new arg before rule adds alone rule_is old_is = adds.shape alone ∙ ap₂ with_rule old_is rule_is
+  pub globals-added : (fields_of old).has_globals ≡ false → (fields_of new).has_globals ≡ false
+  globals-added none = adds.globals ∙ ap₂ (λ a b. a || b) none alone

@@ -1,6 +1,9 @@
 -- The tools and their options, as clap is told of them. A word of the command line is its bytes.
 use Rattle.std.specs.Prelude.{true, List, [], ◌∷◌, ◌++◌, codes, Some, slice_get, fold}
 use Rattle.clap.specs.Words.{App, Rule, Text, new_app, new_rule, with_rule, with_subcommand}
+use Rattle.rec_command.specs.declared.tools.Tool.{Tool}
+use Rattle.rec_command.specs.declared.tools.Tool.TheVariants.{RecSel, RecInf, RecFix, RecIns, RecDel, RecSet}
+use Rattle.rec_command.specs.declared.tools.Tool.TheVariants.{Batch, Undo, Redo, History, Forget}
 use Rattle.clap.specs.declared.builder.action.ArgAction.TheVariants.{SetTrue, Append}
 
 -- `-x VALUE` or `--name VALUE`; without a letter the second alone
@@ -32,25 +35,15 @@ batch_option = record (new_rule (codes "batch")) {
 
 -- `--journal PATH`
 abbrev pub journal_option : Rule
-journal_option = record (new_rule (codes "journal")) {
-  long = Some (codes "journal");
-  value_names = 1;
-}
+journal_option = valued [] (codes "journal")
 
--- FILE
-abbrev pub file_word : Rule
-file_word = record (new_rule (codes "file")) { value_names = 1 }
+-- a word of this name, in its place
+abbrev pub word : Text → Rule
+word name = record (new_rule name) { value_names = 1 }
 
--- FILE, which has to be there
-abbrev pub needed_file : Rule
-needed_file = record file_word { required = true }
-
--- N, which has to be there
-abbrev pub needed_number : Rule
-needed_number = record (new_rule (codes "n")) {
-  value_names = 1;
-  required = true;
-}
+-- the same, which has to be there
+abbrev pub needed_word : Text → Rule
+needed_word name = record (word name) { required = true }
 
 -- a tool with these rules, in their order
 abbrev pub tool_with : Text → List Rule → App
@@ -65,56 +58,50 @@ selecting =
     ∷ valued (codes "q") (codes "quick")
     ∷ []
 
-abbrev pub recsel_usage : App
-recsel_usage = tool_with (codes "recsel") (
+-- the paths of a file that has to be there, and of its journal
+abbrev pub paths : List Rule
+paths = journal_option ∷ needed_word (codes "file") ∷ []
+
+-- a tool with what it takes
+abbrev pub usage_of : Tool → App
+usage_of RecSel = tool_with (codes "recsel") (
     selecting
     ++ valued (codes "p") (codes "print")
     ∷ valued (codes "P") (codes "print-values")
     ∷ valued (codes "R") (codes "print-row")
     ∷ flag (codes "c") (codes "count")
     ∷ flag (codes "C") (codes "collapse")
-    ∷ file_word
+    ∷ word (codes "file")
     ∷ [])
-
-abbrev pub recinf_usage : App
-recinf_usage = tool_with (codes "recinf") (
+usage_of RecInf = tool_with (codes "recinf") (
     valued (codes "t") (codes "type")
     ∷ flag (codes "d") (codes "descriptor")
     ∷ flag (codes "n") (codes "names-only")
-    ∷ file_word
+    ∷ word (codes "file")
     ∷ [])
-
-abbrev pub recfix_usage : App
-recfix_usage = tool_with (codes "recfix") (
+usage_of RecFix = tool_with (codes "recfix") (
     flag [] (codes "check")
     ∷ flag [] (codes "auto")
     ∷ flag [] (codes "force")
     ∷ journal_option
-    ∷ file_word
+    ∷ word (codes "file")
     ∷ [])
-
--- a tool that edits the records that are meant, with these options of its own
-abbrev pub editing_usage : Text → List Rule → App
-editing_usage name options = tool_with name (selecting ++ options ++ journal_option ∷ needed_file ∷ [])
-
-abbrev pub recins_usage : App
-recins_usage = editing_usage (codes "recins") (
-    repeated (codes "f") (codes "field")
+usage_of RecIns = tool_with (codes "recins") (
+    selecting
+    ++ repeated (codes "f") (codes "field")
     ∷ repeated (codes "v") (codes "value")
     ∷ valued (codes "r") (codes "record")
     ∷ flag [] (codes "no-auto")
     ∷ flag [] (codes "force")
-    ∷ [])
-
-abbrev pub recdel_usage : App
-recdel_usage = editing_usage (codes "recdel") (
-    flag (codes "c") (codes "comment")
+    ∷ paths)
+usage_of RecDel = tool_with (codes "recdel") (
+    selecting
+    ++ flag (codes "c") (codes "comment")
     ∷ flag [] (codes "force")
-    ∷ [])
-
-abbrev pub recset_usage : App
-recset_usage = editing_usage (codes "recset") (
-    valued (codes "f") (codes "fields")
+    ∷ paths)
+usage_of RecSet = tool_with (codes "recset") (
+    selecting
+    ++ valued (codes "f") (codes "fields")
     ∷ valued (codes "s") (codes "set")
     ∷ valued (codes "a") (codes "add")
     ∷ valued (codes "S") (codes "set-add")
@@ -122,22 +109,22 @@ recset_usage = editing_usage (codes "recset") (
     ∷ flag (codes "d") (codes "delete")
     ∷ flag (codes "c") (codes "comment")
     ∷ flag [] (codes "force")
-    ∷ [])
+    ∷ paths)
+usage_of Batch = tool_with (codes "batch") (batch_option ∷ flag [] (codes "force") ∷ paths)
+usage_of Undo = tool_with (codes "undo") paths
+usage_of Redo = tool_with (codes "redo") paths
+usage_of History = tool_with (codes "history") paths
+usage_of Forget = tool_with (codes "forget") (
+    journal_option ∷ needed_word (codes "n") ∷ needed_word (codes "file") ∷ [])
 
-abbrev pub batch_usage : App
-batch_usage = tool_with (codes "batch") (
-    batch_option
-    ∷ flag [] (codes "force")
-    ∷ journal_option
-    ∷ needed_file
-    ∷ [])
+-- its name
+abbrev pub name_of : Tool → Text
+name_of tool = (usage_of tool).top.name
 
--- a tool that only takes the paths of the file and its journal
-abbrev pub paths_usage : Text → App
-paths_usage name = tool_with name (journal_option ∷ needed_file ∷ [])
-
-abbrev pub forget_usage : App
-forget_usage = tool_with (codes "forget") (journal_option ∷ needed_number ∷ needed_file ∷ [])
+-- the tools, in the order in which help lists them
+abbrev pub tools : List Tool
+tools =
+    RecSel ∷ RecInf ∷ RecFix ∷ RecIns ∷ RecDel ∷ RecSet ∷ Batch ∷ Undo ∷ Redo ∷ History ∷ Forget ∷ []
 
 -- the words are those after the program's name, and the first of them is a tool
 abbrev pub plain_usage : App
@@ -152,21 +139,9 @@ plain_usage = record {
   subs = (new_app (codes "recu")).subs;
 }
 
--- the tools, in the order in which help lists them
-abbrev pub tools : List App
-tools =
-    recsel_usage
-    ∷ recinf_usage
-    ∷ recfix_usage
-    ∷ recins_usage
-    ∷ recdel_usage
-    ∷ recset_usage
-    ∷ batch_usage
-    ∷ paths_usage (codes "undo")
-    ∷ paths_usage (codes "redo")
-    ∷ paths_usage (codes "history")
-    ∷ forget_usage
-    ∷ []
+-- a program with one tool more
+abbrev pub with_tool : App → Tool → App
+with_tool app tool = with_subcommand app (usage_of tool).top
 
 abbrev pub usage : App
-usage = fold (λ app tool. with_subcommand app tool.top) plain_usage tools
+usage = fold with_tool plain_usage tools

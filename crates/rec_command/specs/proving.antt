@@ -1,2 +1,2 @@
 -- What serves proofs.
-pub mod Options
+pub mod Tools

@@ -2,39 +2,46 @@
 ghost use Rattle.std.specs.Prelude.{◌≡◌, map, IfOk};
 ghost use Rattle.clap.specs.Words.{found_of, rows_of};
 ghost use Rattle.rec_text.specs.Faults.{IsOkUnlessEither};
-ghost use Rattle.rec_command.specs.Words.{Asks, IsAsked, IsAskedBy, with_text};
+ghost use Rattle.rec_command.specs.Words.{IsAsked, IsAskedBy, Orders};
 
 mod editing;
 mod forgetting;
 mod found;
-mod help;
+pub mod help;
 mod paths;
 mod refusal;
 mod selecting;
 mod usage;
 
+use crate::tools::Tool;
 use clap::ArgMatches;
-use editing::{batch_request, recdel_request, recfix_request, recins_request, recset_request};
-use forgetting::forget_request;
+use editing::{batch_order, deletion, edit_order, insertion, recfix_order, setting};
+use forgetting::forget_order;
 use paths::{Paths, paths_of};
-use rec_tools::{Bytes, Fault, Request};
+use rec_tools::{Fault, Request};
 pub use refusal::Refusal;
-use selecting::{recinf_request, recsel_request};
+use selecting::{recinf_order, recsel_order};
 use std::alloc::Global;
 use std::convert::AsStr;
 use std::rt::Env;
 use std::{env, io};
 use usage::command;
 
-/// What the words ask for, and the two files that it is asked of. A batch has no text yet: `with_batch` gives it that of the
-/// file that the words name.
+/// What a command line asks for, and the two files that it is asked of.
 #[derive(Drop)]
-pub struct Asked {
-    pub request: Request,
-    /// The path of a batch.
-    pub batch: Option<String>,
+pub struct CommandLine {
+    pub order: Order,
     pub file: Option<String>,
     pub journal: Option<String>,
+}
+
+/// What is asked for.
+#[derive(Drop)]
+pub enum Order {
+    /// A request that the words give whole.
+    Whole(Request),
+    /// A batch, whose text is that of the file of this path.
+    BatchAt { path: String, force: bool },
 }
 
 /// The words after the program's name.
@@ -51,72 +58,59 @@ pub fn words<R: Env + Eprint + AllocGlobal>(rt: &R) -> Result<Vec<String>, Fault
     }
 }
 
-/// Reads the words after the program's name. Words that ask for help give no request either.
-pub fn parse<S: AsStr>(alloc: Global, words: &[S]) -> Result<Asked, Refusal>
+/// Reads the words after the program's name. Words that ask for help are no command line either.
+pub fn parse<S: AsStr>(alloc: Global, words: &[S]) -> Result<CommandLine, Refusal>
     ensures asked { IfOk result (IsAsked (map S.text words.now)) }
 {
     let matches = command(alloc)?.try_get_matches_from(words)?;
-    match matches.subcommand() {
-        Some((tool, options)) => asked_by(alloc, tool, options),
-        None => Err(Refusal::Rule("a tool is needed")),
+    let Some((name, options)) = matches.subcommand() else {
+        return Err(Refusal::Rule("a tool is needed"));
+    };
+    match Tool::named(name) {
+        Some(tool) => asked_by(alloc, tool, options),
+        None => Err(Refusal::Rule("no such tool")),
     }
 }
 
 /// What a tool and its options ask for.
-fn asked_by(alloc: Global, tool: &str, options: &ArgMatches) -> Result<Asked, Refusal>
-    ensures { IfOk result (IsAskedBy tool.now (rows_of (found_of options.now))) }
+fn asked_by(alloc: Global, tool: Tool, options: &ArgMatches) -> Result<CommandLine, Refusal>
+    ensures { IfOk result (IsAskedBy tool (rows_of (found_of options.now))) }
 {
-    let request = request(alloc, tool, options)?;
-    let Paths {
-        batch,
-        file,
-        journal,
-    } = paths_of(alloc, &request, options)?;
-    Ok(Asked {
-        request,
-        batch,
+    let order = order_of(alloc, tool, options)?;
+    let Paths { file, journal } = paths_of(alloc, &order, options)?;
+    Ok(CommandLine {
+        order,
         file,
         journal,
     })
 }
 
 /// What `parse` reads, and of a refusal its fault alone.
-pub fn request_of<S: AsStr>(alloc: Global, words: &[S]) -> Result<Asked, Fault>
+pub fn request_of<S: AsStr>(alloc: Global, words: &[S]) -> Result<CommandLine, Fault>
     ensures refusals { IsOkUnlessEither result Fault.OutOfMemory Fault.BadUsage }
     ensures asked { IfOk result (IsAsked (map S.text words.now)) }
 {
     match parse(alloc, words) {
-        Ok(asked) => Ok(asked),
+        Ok(line) => Ok(line),
         Err(refusal) => Err(refusal.fault()),
     }
 }
 
-/// The request, with this text as that of its batch.
-pub fn with_batch(request: Request, text: Bytes) -> Request
-    ensures { result ≡ with_text text request }
-{
-    match request {
-        Request::Batch { force, .. } => Request::Batch { text, force },
-        request => request,
-    }
-}
-
-/// The request of a tool, from the options that were found.
-fn request(alloc: Global, tool: &str, options: &ArgMatches) -> Result<Request, Refusal>
-    ensures { IfOk result (Asks tool.now (rows_of (found_of options.now))) }
+/// What a tool is asked for, by the options that were found.
+fn order_of(alloc: Global, tool: Tool, options: &ArgMatches) -> Result<Order, Refusal>
+    ensures { IfOk result (Orders tool (rows_of (found_of options.now))) }
 {
     match tool {
-        "recsel" => recsel_request(alloc, options),
-        "recinf" => recinf_request(alloc, options),
-        "recfix" => recfix_request(options),
-        "recins" => recins_request(alloc, options),
-        "recdel" => recdel_request(alloc, options),
-        "recset" => recset_request(alloc, options),
-        "batch" => batch_request(alloc, options),
-        "undo" => Ok(Request::Undo),
-        "redo" => Ok(Request::Redo),
-        "history" => Ok(Request::History),
-        "forget" => forget_request(options),
-        _ => Err(Refusal::Rule("no such tool")),
+        Tool::RecSel => recsel_order(alloc, options),
+        Tool::RecInf => recinf_order(alloc, options),
+        Tool::RecFix => recfix_order(options),
+        Tool::RecIns => Ok(edit_order(insertion(alloc, options)?, options)),
+        Tool::RecDel => Ok(edit_order(deletion(alloc, options)?, options)),
+        Tool::RecSet => Ok(edit_order(setting(alloc, options)?, options)),
+        Tool::Batch => batch_order(alloc, options),
+        Tool::Undo => Ok(Order::Whole(Request::Undo)),
+        Tool::Redo => Ok(Order::Whole(Request::Redo)),
+        Tool::History => Ok(Order::Whole(Request::History)),
+        Tool::Forget => forget_order(options),
     }
 }

@@ -1,6 +1,21 @@
-//! The options of the tools, in tables.
+//! What the tools take, in tables: their options, and the words that stand in their places.
 
-/// What an option takes, under the name that help gives it.
+/// How an argument is written.
+#[derive(Clone, Copy)]
+pub enum Written {
+    /// As `--name`.
+    Name,
+    /// As `-x`.
+    Letter(char),
+    /// As `-x` or `--name`.
+    Both(char),
+    /// A word in its place.
+    Word,
+    /// A word that has to be there.
+    NeededWord,
+}
+
+/// What an argument takes, under the name that help gives it.
 #[derive(Clone, Copy)]
 pub enum Takes {
     /// It is a flag.
@@ -10,233 +25,287 @@ pub enum Takes {
     Values(&'static str),
 }
 
-/// An option of a tool.
-pub struct ToolOption {
-    pub letter: Option<char>,
+/// An argument of a tool: an option, or a word in its place.
+pub struct Argument {
+    pub written: Written,
     pub name: &'static str,
     pub takes: Takes,
     pub help: &'static str,
 }
 
-const TYPE: ToolOption = ToolOption {
-    letter: Some('t'),
+const TYPE: Argument = Argument {
+    written: Written::Both('t'),
     name: "type",
     takes: Takes::Value("TYPE"),
     help: "The records of this type [default: see below]",
 };
 
-const NEW_TYPE: ToolOption = ToolOption {
-    letter: Some('t'),
-    name: "type",
-    takes: Takes::Value("TYPE"),
-    help: "The type of the new record [default: see below]",
-};
-
-const EXPRESSION: ToolOption = ToolOption {
-    letter: Some('e'),
+const EXPRESSION: Argument = Argument {
+    written: Written::Both('e'),
     name: "expression",
     takes: Takes::Value("EXPR"),
     help: "The records for which EXPR is true, as 'Age > 17'",
 };
 
-const NUMBER: ToolOption = ToolOption {
-    letter: Some('n'),
+const NUMBER: Argument = Argument {
+    written: Written::Both('n'),
     name: "number",
     takes: Takes::Value("LIST"),
     help: "The records with these numbers, from 0, as 0,4-7",
 };
 
-const QUICK: ToolOption = ToolOption {
-    letter: Some('q'),
+const QUICK: Argument = Argument {
+    written: Written::Both('q'),
     name: "quick",
     takes: Takes::Value("TEXT"),
     help: "The records with a value that contains TEXT",
 };
 
-/// Which records are meant.
-pub static SELECTION: [ToolOption; 4] = [TYPE, EXPRESSION, NUMBER, QUICK];
+const FORCE: Argument = Argument {
+    written: Written::Name,
+    name: "force",
+    takes: Takes::Nothing,
+    help: "Make the edit even if the file then breaks its rules",
+};
 
-/// The type of a new record, or the records that it replaces.
-pub static REPLACEMENT: [ToolOption; 4] = [NEW_TYPE, EXPRESSION, NUMBER, QUICK];
+const JOURNAL: Argument = Argument {
+    written: Written::Name,
+    name: "journal",
+    takes: Takes::Value("PATH"),
+    help: "The journal of FILE's edits [default: FILE.journal]",
+};
 
-/// What is printed of records.
-pub static PRINTING: [ToolOption; 5] = [
-    ToolOption {
-        letter: Some('p'),
+const FILE: Argument = Argument {
+    written: Written::NeededWord,
+    name: "file",
+    takes: Takes::Value("FILE"),
+    help: "The rec file; FILE.new is its working name",
+};
+
+const INPUT: Argument = Argument {
+    written: Written::Word,
+    name: "file",
+    takes: Takes::Value("FILE"),
+    help: "The rec file [default: standard input]",
+};
+
+pub static RECSEL: [Argument; 10] = [
+    TYPE,
+    EXPRESSION,
+    NUMBER,
+    QUICK,
+    Argument {
+        written: Written::Both('p'),
         name: "print",
         takes: Takes::Value("FIELDS"),
         help: "Print only FIELDS, as Name,Email[0-1]",
     },
-    ToolOption {
-        letter: Some('P'),
+    Argument {
+        written: Written::Both('P'),
         name: "print-values",
         takes: Takes::Value("FIELDS"),
         help: "Print the values of FIELDS, one per line",
     },
-    ToolOption {
-        letter: Some('R'),
+    Argument {
+        written: Written::Both('R'),
         name: "print-row",
         takes: Takes::Value("FIELDS"),
         help: "Print the values of FIELDS, one record per line",
     },
-    ToolOption {
-        letter: Some('c'),
+    Argument {
+        written: Written::Both('c'),
         name: "count",
         takes: Takes::Nothing,
         help: "Print the number of the records",
     },
-    ToolOption {
-        letter: Some('C'),
+    Argument {
+        written: Written::Both('C'),
         name: "collapse",
         takes: Takes::Nothing,
         help: "Print no empty line between records",
     },
+    INPUT,
 ];
 
-pub static RECINF: [ToolOption; 3] = [
-    ToolOption {
-        letter: Some('t'),
+pub static RECINF: [Argument; 4] = [
+    Argument {
+        written: Written::Both('t'),
         name: "type",
         takes: Takes::Value("TYPE"),
         help: "Only the record set of this type",
     },
-    ToolOption {
-        letter: Some('d'),
+    Argument {
+        written: Written::Both('d'),
         name: "descriptor",
         takes: Takes::Nothing,
         help: "Print the descriptor of each set",
     },
-    ToolOption {
-        letter: Some('n'),
+    Argument {
+        written: Written::Both('n'),
         name: "names-only",
         takes: Takes::Nothing,
         help: "Print the type of each set",
     },
+    INPUT,
 ];
 
-pub static RECFIX: [ToolOption; 3] = [
-    ToolOption {
-        letter: None,
+pub static RECFIX: [Argument; 5] = [
+    Argument {
+        written: Written::Name,
         name: "check",
         takes: Takes::Nothing,
         help: "Report violations, and change nothing [default]",
     },
-    ToolOption {
-        letter: None,
+    Argument {
+        written: Written::Name,
         name: "auto",
         takes: Takes::Nothing,
         help: "Give all records the automatic fields that they lack",
     },
-    ToolOption {
-        letter: None,
-        name: "force",
-        takes: Takes::Nothing,
-        help: "Make the edit even if the file then breaks its rules",
-    },
+    FORCE,
+    JOURNAL,
+    INPUT,
 ];
 
-pub static RECINS: [ToolOption; 5] = [
-    ToolOption {
-        letter: Some('f'),
+pub static RECINS: [Argument; 11] = [
+    Argument {
+        written: Written::Both('t'),
+        name: "type",
+        takes: Takes::Value("TYPE"),
+        help: "The type of the new record [default: see below]",
+    },
+    EXPRESSION,
+    NUMBER,
+    QUICK,
+    Argument {
+        written: Written::Both('f'),
         name: "field",
         takes: Takes::Values("NAME"),
         help: "A field of the new record, each with its --value",
     },
-    ToolOption {
-        letter: Some('v'),
+    Argument {
+        written: Written::Both('v'),
         name: "value",
         takes: Takes::Values("VALUE"),
         help: "The value of a field",
     },
-    ToolOption {
-        letter: Some('r'),
+    Argument {
+        written: Written::Both('r'),
         name: "record",
         takes: Takes::Value("TEXT"),
         help: "The new record, as it could stand in a file",
     },
-    ToolOption {
-        letter: None,
+    Argument {
+        written: Written::Name,
         name: "no-auto",
         takes: Takes::Nothing,
         help: "Add no automatic fields",
     },
-    ToolOption {
-        letter: None,
-        name: "force",
-        takes: Takes::Nothing,
-        help: "Make the edit even if the file then breaks its rules",
-    },
+    FORCE,
+    JOURNAL,
+    FILE,
 ];
 
-pub static RECDEL: [ToolOption; 2] = [
-    ToolOption {
-        letter: Some('c'),
+pub static RECDEL: [Argument; 8] = [
+    TYPE,
+    EXPRESSION,
+    NUMBER,
+    QUICK,
+    Argument {
+        written: Written::Both('c'),
         name: "comment",
         takes: Takes::Nothing,
         help: "Comment the records out instead of deleting them",
     },
-    ToolOption {
-        letter: None,
+    Argument {
+        written: Written::Name,
         name: "force",
         takes: Takes::Nothing,
         help: "Delete even without a selection, or if rules break",
     },
+    JOURNAL,
+    FILE,
 ];
 
-pub static RECSET: [ToolOption; 8] = [
-    ToolOption {
-        letter: Some('f'),
+pub static RECSET: [Argument; 14] = [
+    TYPE,
+    EXPRESSION,
+    NUMBER,
+    QUICK,
+    Argument {
+        written: Written::Both('f'),
         name: "fields",
         takes: Takes::Value("FIELDS"),
         help: "The fields, as Name,Email[0-1]",
     },
-    ToolOption {
-        letter: Some('s'),
+    Argument {
+        written: Written::Both('s'),
         name: "set",
         takes: Takes::Value("VALUE"),
         help: "Set the fields to VALUE",
     },
-    ToolOption {
-        letter: Some('a'),
+    Argument {
+        written: Written::Both('a'),
         name: "add",
         takes: Takes::Value("VALUE"),
         help: "Add a field with VALUE for each of FIELDS, at the end",
     },
-    ToolOption {
-        letter: Some('S'),
+    Argument {
+        written: Written::Both('S'),
         name: "set-add",
         takes: Takes::Value("VALUE"),
         help: "Set the fields that are there, and add the others",
     },
-    ToolOption {
-        letter: Some('r'),
+    Argument {
+        written: Written::Both('r'),
         name: "rename",
         takes: Takes::Value("NAME"),
         help: "Rename the fields",
     },
-    ToolOption {
-        letter: Some('d'),
+    Argument {
+        written: Written::Both('d'),
         name: "delete",
         takes: Takes::Nothing,
         help: "Delete the fields",
     },
-    ToolOption {
-        letter: Some('c'),
+    Argument {
+        written: Written::Both('c'),
         name: "comment",
         takes: Takes::Nothing,
         help: "Comment the fields out",
     },
-    ToolOption {
-        letter: None,
-        name: "force",
-        takes: Takes::Nothing,
-        help: "Make the edit even if the file then breaks its rules",
-    },
+    FORCE,
+    JOURNAL,
+    FILE,
 ];
 
-pub static BATCH: [ToolOption; 1] = [ToolOption {
-    letter: None,
-    name: "force",
-    takes: Takes::Nothing,
-    help: "Make them even without a selection, or if rules break",
-}];
+pub static BATCH: [Argument; 4] = [
+    Argument {
+        written: Written::Letter('b'),
+        name: "batch",
+        takes: Takes::Value("PATH"),
+        help: "The edits, each a record; PATH is read before FILE is",
+    },
+    Argument {
+        written: Written::Name,
+        name: "force",
+        takes: Takes::Nothing,
+        help: "Make them even without a selection, or if rules break",
+    },
+    JOURNAL,
+    FILE,
+];
+
+/// What undo, redo and history take.
+pub static PATHS: [Argument; 2] = [JOURNAL, FILE];
+
+pub static FORGET: [Argument; 3] = [
+    JOURNAL,
+    Argument {
+        written: Written::NeededWord,
+        name: "n",
+        takes: Takes::Value("N"),
+        help: "How many of the edits that can be undone are kept, up to 4294967295",
+    },
+    FILE,
+];

@@ -1,1 +1,2 @@
+mod LineExamples
 mod LineLemmas

@@ -1,211 +1,233 @@
 //! Automatic fields that have no next number.
 use crate::about::About;
+use crate::descriptors::kinds::{last_said, meaning_of};
+use crate::descriptors::words::first_word;
 use crate::explanation::Explanation;
-use crate::kinds::{first_word, last_said, meaning_of};
-use crate::request_words::names_in;
-use crate::shown::{plain, unless_memory};
-use crate::types::is_of_type;
-use crate::wanted::Wanted;
-use rec_check::Counter;
-use rec_select::Schema;
+use crate::lines::places::{elements_of, field_of, within};
+use crate::lines::shown::plain;
+use rec_check::{Counter, RecFile, Set_};
 use rec_text::{Database, Element, read};
-use rec_tools::{Bytes, Fault, NewRecord, Request};
-use std::alloc::{AllocError, Global};
+use rec_tools::{EditRequest, NewRecord};
+use std::alloc::Global;
 
 /// Names the automatic field that has no next number, says why, and how it can be done without.
 pub fn explain_counter(
     alloc: Global,
     about: &About<'_>,
-    request: &Request,
+    edit: &EditRequest,
     said: &mut Explanation,
-) -> Result<(), AllocError> {
-    let Some(text) = about.text else {
-        return Ok(());
-    };
-    unless_memory(match request {
-        Request::Insert {
-            kind: Some(kind),
-            ..
-        } => explain_insertion(alloc, text, kind, request, about, said),
-        _ => explain_filling(alloc, text, request, about, said),
-    })
+) {
+    if let Some(text) = about.text
+        && let Ok(file) = RecFile::read(alloc, text)
+    {
+        explain_in(alloc, &file, edit, about.batch.is_some(), said);
+    }
 }
 
-/// Explains the first field of a new record that needs a number and gets none.
-fn explain_insertion(
+/// Explains the first automatic field of a file that has too few numbers.
+fn explain_in(
     alloc: Global,
-    text: &[u8],
-    kind: &Bytes,
-    request: &Request,
-    about: &About<'_>,
+    file: &RecFile<'_>,
+    edit: &EditRequest,
+    in_batch: bool,
     said: &mut Explanation,
-) -> Result<(), Fault> {
-    let names = names_in(alloc, request)?;
-    // the first name is the type
-    let wanted = Wanted::by_record(alloc, names.get(1..).unwrap_or(&[]))?;
-    let database = read(alloc, text)?;
-    let schema = Schema::read(alloc, &database)?;
+) {
+    let (database, schema) = (file.database(), file.schema());
     for (index, set) in schema.sets().iter().enumerate() {
-        if is_of_type(set, kind) {
-            let mut counters = schema.counters(alloc, &database, index)?;
-            let name = first_without(&mut counters, &wanted);
-            return explain_name(alloc, &database, set.head, name, request, about, said);
+        if is_filled(set, edit)
+            && let Ok(mut counters) = schema.counters(alloc, database, index)
+            && let Some(name) = first_without(alloc, &mut counters, database, set, edit)
+        {
+            return explain_name(alloc, database, set, name, edit, in_batch, said);
         }
     }
-    Ok(())
 }
 
-/// Explains the first field of all records that needs numbers and has too few.
-fn explain_filling(
-    alloc: Global,
-    text: &[u8],
-    request: &Request,
-    about: &About<'_>,
-    said: &mut Explanation,
-) -> Result<(), Fault> {
-    let database = read(alloc, text)?;
-    let schema = Schema::read(alloc, &database)?;
-    for (index, set) in schema.sets().iter().enumerate() {
-        let mut counters = schema.counters(alloc, &database, index)?;
-        let wanted = Wanted::by_set(alloc, &database, set)?;
-        let name = first_without(&mut counters, &wanted);
-        if name.is_some() {
-            return explain_name(alloc, &database, set.head, name, request, about, said);
-        }
+/// Whether an edit gives automatic fields to records of a set: a new record is in that of its type.
+fn is_filled(set: &Set_, edit: &EditRequest) -> bool {
+    match (edit, &set.kind) {
+        (
+            EditRequest::Insert {
+                kind: Some(kind),
+                ..
+            },
+            Some(own),
+        ) => own.as_slice() == kind.as_slice(),
+        (EditRequest::Insert { kind: Some(_), .. }, None) => false,
+        _ => true,
     }
-    Ok(())
 }
 
-/// The name of the first counter that has fewer numbers than are wanted.
-fn first_without<'r>(counters: &mut [Counter<'r>], wanted: &Wanted<'_>) -> Option<&'r [u8]> {
+/// The name of the first counter that has fewer numbers than an edit needs.
+fn first_without<'r>(
+    alloc: Global,
+    counters: &mut [Counter<'r>],
+    database: &Database<'_>,
+    set: &Set_,
+    edit: &EditRequest,
+) -> Option<&'r [u8]> {
     for index in 0..counters.len() {
         let name = counters[index].name();
-        for _ in 0..wanted.count_of(name) {
-            if counters[index].next_number().is_err() {
-                return Some(name);
-            }
+        let needed = needed_in(alloc, database, set, edit, name)?;
+        if runs_out(&mut counters[index], needed) {
+            return Some(name);
         }
     }
     None
 }
 
-/// Explains a field that a descriptor counts, if there is one.
+/// How many numbers an edit needs in a set for the fields of a name, if that can be told.
+fn needed_in(
+    alloc: Global,
+    database: &Database<'_>,
+    set: &Set_,
+    edit: &EditRequest,
+    name: &[u8],
+) -> Option<usize> {
+    match edit {
+        EditRequest::Insert {
+            kind: Some(_),
+            fresh,
+            ..
+        } => needed_by(alloc, fresh, name),
+        _ => Some(records_without(database, set, name)),
+    }
+}
+
+/// Whether a counter has fewer numbers than this.
+fn runs_out(counter: &mut Counter<'_>, needed: usize) -> bool {
+    for _ in 0..needed {
+        if counter.next_number().is_err() {
+            return true;
+        }
+    }
+    false
+}
+
+/// How many numbers a new record needs for the fields of a name, if that can be told.
+fn needed_by(alloc: Global, fresh: &NewRecord, name: &[u8]) -> Option<usize> {
+    let has_field = match fresh {
+        NewRecord::Pairs(pairs) => pairs.iter().any(|pair| pair.name.as_slice() == name),
+        NewRecord::Text(text) => {
+            let database = read(alloc, text.as_slice()).ok()?;
+            field_of(database.elements(), name).is_some()
+        }
+    };
+    Some(if has_field { 0 } else { 1 })
+}
+
+/// How many records of a set lack a field of a name.
+fn records_without(database: &Database<'_>, set: &Set_, name: &[u8]) -> usize {
+    let records = database.records();
+    let members = records.as_slice().get(set.members.start..set.members.end);
+    let mut count: usize = 0;
+    for range in members.unwrap_or(&[]) {
+        if field_of(within(database.elements(), range), name).is_none() {
+            count = count.saturating_add(1);
+        }
+    }
+    count
+}
+
+/// Explains a field of a set that a descriptor counts.
 fn explain_name(
     alloc: Global,
     database: &Database<'_>,
-    head: Option<usize>,
-    name: Option<&[u8]>,
-    request: &Request,
-    about: &About<'_>,
+    set: &Set_,
+    name: &[u8],
+    edit: &EditRequest,
+    in_batch: bool,
     said: &mut Explanation,
-) -> Result<(), Fault> {
-    let Some(name) = name else {
-        return Ok(());
-    };
-    let (start, end) = elements_at(database, head);
-    let descriptor = database.elements().get(start..end).unwrap_or(&[]);
-    explain_field(alloc, descriptor, name, said)?;
-    Ok(explain_ways(alloc, name, request, about, said)?)
-}
-
-/// From where to where the elements of a record stand.
-pub fn elements_at(database: &Database<'_>, record: Option<usize>) -> (usize, usize) {
-    let Some(index) = record else {
-        return (0, 0);
-    };
-    match database.records().as_slice().get(index) {
-        Some(range) => (range.start, range.end),
-        None => (0, 0),
+) {
+    if let (Some(head), Some(name)) = (set.head, plain(name)) {
+        explain_field(alloc, elements_of(database, head), name, said);
+        explain_ways(name, edit, in_batch, said);
     }
 }
 
 /// Says why a field has no next number.
-fn explain_field(
-    alloc: Global,
-    descriptor: &[Element<'_>],
-    name: &[u8],
-    said: &mut Explanation,
-) -> Result<(), Fault> {
-    let Some(shown) = plain(name) else {
-        return Ok(());
-    };
-    if shown.starts_with('%') {
-        let line = format!(in alloc; "{shown}: %auto gives no fields whose names begin with %")?;
-        return Ok(said.add(line.as_str())?);
+fn explain_field(alloc: Global, descriptor: &[Element<'_>], name: &str, said: &mut Explanation) {
+    if name.starts_with('%') {
+        return said.add(&[name, ": %auto gives no fields whose names begin with %"]);
     }
-    match last_said(alloc, descriptor, b"%type", name)? {
-        Some(kind) => explain_type(alloc, descriptor, shown, kind, said),
-        None => Ok(explain_end(alloc, shown, said)?),
+    match last_said(alloc, descriptor, b"%type", name.as_bytes()) {
+        Ok(Some(kind)) => match meaning_of(alloc, descriptor, kind) {
+            Ok(Some(meaning)) => explain_type(name, meaning.as_slice(), said),
+            Ok(None) => explain_undefined(name, said),
+            Err(_) => {}
+        },
+        Ok(None) => explain_end(name, said),
+        Err(_) => {}
     }
 }
 
 /// Says of a field that its type is none of numbers, or else that its numbers have come to their end.
-fn explain_type(
-    alloc: Global,
-    descriptor: &[Element<'_>],
-    name: &str,
-    kind: Bytes,
-    said: &mut Explanation,
-) -> Result<(), Fault> {
-    let meaning = meaning_of(alloc, descriptor, kind)?;
-    let Some(meaning) = &meaning else {
-        let line = format!(in alloc;
-            "{name}: %auto counts, and the type of {name} is not defined"
-        )?;
-        return Ok(said.add(line.as_str())?);
-    };
-    let (word, _) = first_word(meaning.as_slice());
-    if word == b"int".as_slice() || word == b"range".as_slice() {
-        return Ok(explain_end(alloc, name, said)?);
+fn explain_type<'x>(name: &'x str, meaning: &'x [u8], said: &mut Explanation) {
+    let kind = first_word(meaning);
+    if kind == b"int".as_slice() || kind == b"range".as_slice() {
+        return explain_end(name, said);
     }
-    let type_ = plain(meaning.as_slice()).unwrap_or("another");
-    let line = format!(in alloc;
-        "{name}: %auto counts, so its type has to be int or range, and is {type_}"
-    )?;
-    Ok(said.add(line.as_str())?)
+    let meant = plain(meaning).unwrap_or("another");
+    let rule = ": %auto counts, so its type has to be int or range, and is ";
+    said.add(&[name, rule, meant]);
 }
 
-fn explain_end(alloc: Global, name: &str, said: &mut Explanation) -> Result<(), AllocError> {
-    let greatest = i64::MAX;
-    said.add(format!(in alloc; "{name}: there is no number after {greatest}")?.as_str())
+fn explain_undefined(name: &str, said: &mut Explanation) {
+    said.add(&[
+        name,
+        ": %auto counts, and the type of ",
+        name,
+        " is not defined",
+    ]);
+}
+
+fn explain_end(name: &str, said: &mut Explanation) {
+    said.add(&[name, ": there is no number after 9223372036854775807"]);
 }
 
 /// Says how a field can be given, or left out.
-fn explain_ways(
-    alloc: Global,
-    name: &[u8],
-    request: &Request,
-    about: &About<'_>,
+fn explain_ways(name: &str, edit: &EditRequest, in_batch: bool, said: &mut Explanation) {
+    let is_special = name.starts_with('%');
+    match edit {
+        EditRequest::Insert { .. } if is_special => {
+            said.add(&[no_auto(in_batch), " leaves it out"]);
+        }
+        EditRequest::Insert { fresh, .. } => {
+            explain_insertion(name, fresh, in_batch, no_auto(in_batch), said);
+        }
+        _ if is_special => said.add(&["mend %auto"]),
+        _ => {
+            let mend = " -a VALUE gives it to a record; or mend %auto or %type";
+            said.add(&["recset -f ", name, mend]);
+        }
+    }
+}
+
+/// Says how a new record can have a field, or lack it.
+fn explain_insertion<'x>(
+    name: &'x str,
+    fresh: &NewRecord,
+    in_batch: bool,
+    no_auto: &'x str,
     said: &mut Explanation,
-) -> Result<(), AllocError> {
-    let Some(name) = plain(name) else {
-        return Ok(());
-    };
-    let no_auto = match about.batch {
-        Some(_) => "Auto: no",
-        None => "--no-auto",
-    };
-    let line = match (request, about.batch) {
-        (Request::Insert { .. }, _) if name.starts_with('%') => format!(in alloc;
-            "{no_auto} leaves it out"
-        )?,
-        (
-            Request::Insert {
-                fresh: NewRecord::Text(_),
-                ..
-            },
-            _,
-        ) => format!(in alloc; "{name}: VALUE in the text gives it, and {no_auto} leaves it out")?,
-        (Request::Insert { .. }, Some(_)) => format!(in alloc;
-            "Field: {name} and a Value give it, and {no_auto} leaves it out"
-        )?,
-        (Request::Insert { .. }, None) => format!(in alloc;
-            "-f {name} -v VALUE gives it, and {no_auto} leaves it out"
-        )?,
-        _ if name.starts_with('%') => format!(in alloc; "mend %auto")?,
-        _ => format!(in alloc;
-            "recset -f {name} -a VALUE gives it to a record; or mend %auto or %type"
-        )?,
-    };
-    said.add(line.as_str())
+) {
+    match fresh {
+        NewRecord::Text(_) => {
+            let text = ": VALUE in the text gives it, and ";
+            said.add(&[name, text, no_auto, " leaves it out"]);
+        }
+        NewRecord::Pairs(_) if in_batch => {
+            let value = " and a Value give it, and ";
+            said.add(&["Field: ", name, value, no_auto, " leaves it out"]);
+        }
+        NewRecord::Pairs(_) => {
+            let value = " -v VALUE gives it, and ";
+            said.add(&["-f ", name, value, no_auto, " leaves it out"]);
+        }
+    }
+}
+
+/// What leaves automatic fields out.
+fn no_auto(in_batch: bool) -> &'static str {
+    if in_batch { "Auto: no" } else { "--no-auto" }
 }

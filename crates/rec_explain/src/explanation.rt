@@ -1,15 +1,18 @@
 //! The lines of an explanation.
-ghost use Rattle.std.specs.Prelude.{◌≡◌, [], All, OnOk, OnErr};
+ghost use Rattle.std.specs.Prelude.{◌≡◌, ◌⊎◌, [], All, OnOk, OnErr, flat_map};
 ghost use Rattle.std.specs.List.{list_all};
 ghost use Rattle.rec_explain.specs.Lines.{IsShown, is_shown as may_be_shown, with_line};
 
+use itoa::Buffer;
 use std::alloc::{AllocError, Global};
 use std::marker::Model;
 
-/// Lines that can be shown on a terminal, each with its newline.
+/// Lines that can be shown on a terminal, each with its newline. Once memory runs out, no line is added any more.
 #[derive(Drop)]
 pub struct Explanation {
+    alloc: Global,
     lines: Vec<u8>,
+    is_over: bool,
 }
 
 impl Model for Explanation {
@@ -29,12 +32,39 @@ impl Explanation {
         ensures { result ≡ [] }
     {
         Explanation {
+            alloc,
             lines: Vec::new(alloc),
+            is_over: false,
         }
     }
 
-    /// Adds a line. One with a byte that can't be shown is left out.
-    pub fn add(&mut self, line: &str) -> Result<(), AllocError>
+    /// Adds a line of some parts. One with a byte that can't be shown is left out.
+    pub fn add(&mut self, parts: &[&str])
+        ensures line { (self.new ≡ with_line self.old (flat_map (λ part. part.now) parts.now)) ⊎ (self.new ≡ self.old) }
+    {
+        if !self.is_over {
+            self.is_over = self.add_joined(parts).is_err();
+        }
+    }
+
+    /// Adds what is said of a line of a file.
+    pub fn add_at(&mut self, path: &str, line: usize, parts: &[&str]) {
+        let mut digits = Buffer::new();
+        match parts.concat(self.alloc) {
+            Ok(words) => self.add(&[path, ":", digits.format(line), ": ", words.as_str()]),
+            Err(_) => self.is_over = true,
+        }
+    }
+
+    fn add_joined(&mut self, parts: &[&str]) -> Result<(), AllocError>
+        ensures line { OnOk result (self.new ≡ with_line self.old (flat_map (λ part. part.now) parts.now)) }
+        ensures unchanged { OnErr result (self.new ≡ self.old) }
+    {
+        let line = parts.concat(self.alloc)?;
+        self.add_line(line.as_str())
+    }
+
+    fn add_line(&mut self, line: &str) -> Result<(), AllocError>
         ensures line { OnOk result (self.new ≡ with_line self.old line.now) }
         ensures unchanged { OnErr result (self.new ≡ self.old) }
     {

@@ -3,40 +3,19 @@
 #![tactic(auto)]
 
 mod about;
-mod bad_edits;
-mod bad_lines;
 mod batches;
-mod broken;
-mod constraints;
 mod counters;
-mod deletions;
 mod descriptors;
-mod enums;
 mod explanation;
-mod histories;
-mod kind_words;
-mod kinds;
-mod line_endings;
-mod missing;
-mod names;
-mod numbers;
-mod places;
-mod reasons;
-mod record_numbers;
-mod record_places;
+mod files;
+mod lines;
 mod refusal;
-mod reported;
-mod request_words;
-mod shared_values;
-mod shown;
-mod standing;
-mod types;
-mod violations;
+mod reports;
+mod requests;
 mod waiting;
-mod wanted;
 
 pub use about::About;
-pub use line_endings::explain_endings;
+pub use lines::line_endings::explain_endings;
 pub use refusal::explain;
-pub use reported::explain_report;
+pub use reports::reported::explain_report;
 pub use waiting::explain_waiting;

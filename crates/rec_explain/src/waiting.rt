@@ -4,26 +4,26 @@ ghost use Rattle.rec_explain.specs.Lines.{IsShown};
 
 use crate::explanation::Explanation;
 use rec_tools::Request;
-use std::alloc::{AllocError, Global};
+use std::alloc::Global;
 
 /// A line that says that a tool that was given no file reads standard input.
 pub fn explain_waiting(alloc: Global, request: &Request) -> Vec<u8>
     ensures shown { All IsShown result.items }
 {
     let mut said = Explanation::new(alloc);
-    let _ = say_waiting(alloc, request, &mut said);
+    if let Some(tool) = reading_tool(request) {
+        let end = " reads standard input: end it by Ctrl-D, or end ";
+        said.add(&[tool, end, tool, " by Ctrl-C and name a FILE"]);
+    }
     said.into_lines()
 }
 
-fn say_waiting(alloc: Global, request: &Request, said: &mut Explanation) -> Result<(), AllocError> {
-    let tool = match request {
-        Request::Show { .. } => "recsel",
-        Request::Info { .. } => "recinf",
-        Request::Check => "recfix",
-        _ => return Ok(()),
-    };
-    let line = format!(in alloc;
-        "{tool} reads standard input: end it by Ctrl-D, or end {tool} by Ctrl-C and name a FILE"
-    )?;
-    said.add(line.as_str())
+/// The tool of a request that needs no file.
+fn reading_tool(request: &Request) -> Option<&'static str> {
+    match request {
+        Request::Show { .. } => Some("recsel"),
+        Request::Info { .. } => Some("recinf"),
+        Request::Check => Some("recfix"),
+        _ => None,
+    }
 }

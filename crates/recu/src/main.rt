@@ -1,7 +1,7 @@
 //! The program. It runs the request of the command line on a file and its journal, and says what was refused.
 #![tactic(auto)]
 
-use rec_command::{Asked, Refusal, finish, parse, with_batch, words};
+use rec_command::{CommandLine, Order, Refusal, finish, parse, words};
 use rec_explain::{About, explain, explain_endings, explain_report, explain_waiting};
 use rec_files::{FileHome, StandardOutput, access_of, batch_text, explain_output, room_for};
 use rec_select::write_report;
@@ -24,7 +24,7 @@ fn main(rt: HostRuntime) -> ExitCode {
 fn answer(rt: &HostRuntime) -> Result<Option<Reply>, Fault> {
     let words = words(rt)?;
     match parse(rt.alloc(), words.as_slice()) {
-        Ok(asked) => Ok(Some(run(rt, asked)?)),
+        Ok(line) => Ok(Some(run(rt, line)?)),
         Err(refusal) => {
             explain_words(rt, &refusal, words.as_slice())?;
             Ok(None)
@@ -45,17 +45,13 @@ fn explain_words(rt: &HostRuntime, refusal: &Refusal, words: &[String]) -> Resul
     }
 }
 
-fn run(rt: &HostRuntime, asked: Asked) -> Result<Reply, Fault> {
-    let Asked {
-        request,
-        batch,
+fn run(rt: &HostRuntime, line: CommandLine) -> Result<Reply, Fault> {
+    let CommandLine {
+        order,
         file,
         journal,
-    } = asked;
-    let mut request = match &batch {
-        Some(path) => with_batch(request, batch_text(rt, path.as_str())?),
-        None => request,
-    };
+    } = line;
+    let (request, batch) = request_of(rt, order)?;
     let access = access_of(&request);
     if file.is_none() {
         say_waiting(rt, &request);
@@ -68,12 +64,22 @@ fn run(rt: &HostRuntime, asked: Asked) -> Result<Reply, Fault> {
         Ok(reply) => out.finish().map(|()| reply),
         Err(fault) => Err(fault),
     };
-    home.let_go();
     home.close();
     let _ = home.explain(rt);
     let _ = out.explain(rt);
-    say_more(rt, &home, &mut request, &batch, &answer);
+    say_more(rt, &home, &request, &batch, &answer);
     answer
+}
+
+/// The request of an order, and the path of its text where it is a batch.
+fn request_of(rt: &HostRuntime, order: Order) -> Result<(Request, Option<String>), Fault> {
+    match order {
+        Order::Whole(request) => Ok((request, None)),
+        Order::BatchAt { path, force } => {
+            let text = batch_text(rt, path.as_str())?;
+            Ok((Request::Batch { text, force }, Some(path)))
+        }
+    }
 }
 
 /// Says on standard error that standard input is read, where both are a terminal.
@@ -87,7 +93,7 @@ fn say_waiting(rt: &HostRuntime, request: &Request) {
 fn say_more(
     rt: &HostRuntime,
     home: &FileHome<'_, HostRuntime>,
-    request: &mut Request,
+    request: &Request,
     batch: &Option<String>,
     answer: &Result<Reply, Fault>,
 ) {

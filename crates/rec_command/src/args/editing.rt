@@ -1,115 +1,99 @@
 //! What recfix, recins, recdel, recset and batch are asked for.
-ghost use Rattle.std.specs.Prelude.{◌≡◌, map, length, IfOk, codes};
+ghost use Rattle.std.specs.Prelude.{◌≡◌, IfOk};
 ghost use Rattle.clap.specs.Words.{found_of, rows_of};
-ghost use Rattle.rec_command.specs.Words.{action_given, action_for, IsFresh, Asks};
+ghost use Rattle.rec_edit.specs.Options.{action_for, new_record_for};
+ghost use Rattle.rec_command.specs.declared.tools.Tool.{Tool as ToolOf};
+ghost use Rattle.rec_command.specs.declared.tools.Tool.TheVariants.{RecFix, RecIns, RecDel, RecSet, Batch};
+ghost use Rattle.rec_command.specs.Words.{action_given, new_record_given, AsksEdit, Orders};
 
+use super::Order;
 use super::found::{given, is_given, text, texts};
 use super::refusal::Refusal;
 use super::selecting::pick;
 use clap::ArgMatches;
-use rec_tools::{Action, Ask, Bytes, NewRecord, Pair, Pick, Request};
-use std::alloc::{AllocError, Global};
+use rec_tools::{Action, Ask, EditRequest, NewRecord, Pick, Request};
+use std::alloc::Global;
+
+/// An edit, with force where that is given.
+pub fn edit_order(edit: EditRequest, options: &ArgMatches) -> Order
+    ensures { (tool : ToolOf) → AsksEdit tool (rows_of (found_of options.now)) edit
+        → Orders tool (rows_of (found_of options.now)) result }
+{
+    let force = is_given(options, "force");
+    Order::Whole(Request::Edit { edit, force })
+}
 
 /// What recfix is asked for: to check, or to give records their automatic fields.
-pub fn recfix_request(options: &ArgMatches) -> Result<Request, Refusal>
-    ensures { IfOk result (Asks (codes "recfix") (rows_of (found_of options.now))) }
+pub fn recfix_order(options: &ArgMatches) -> Result<Order, Refusal>
+    ensures { IfOk result (Orders RecFix (rows_of (found_of options.now))) }
 {
     if !is_given(options, "auto") {
-        return Ok(Request::Check);
+        return Ok(Order::Whole(Request::Check));
     }
     if is_given(options, "check") {
         return Err(Refusal::Rule("only one of --check and --auto can be given"));
     }
-    Ok(Request::AutoFill {
-        force: is_given(options, "force"),
-    })
+    Ok(edit_order(EditRequest::AutoFill, options))
 }
 
 /// What recins is asked for: to put a record in, or instead of each that is selected.
-pub fn recins_request(alloc: Global, options: &ArgMatches) -> Result<Request, Refusal>
-    ensures { IfOk result (Asks (codes "recins") (rows_of (found_of options.now))) }
+pub fn insertion(alloc: Global, options: &ArgMatches) -> Result<EditRequest, Refusal>
+    ensures { IfOk result (AsksEdit RecIns (rows_of (found_of options.now))) }
 {
     let Pick { kind, by } = pick(alloc, options)?;
     let fresh = fresh(alloc, options)?;
-    let force = is_given(options, "force");
     match by {
-        Ask::All => Ok(Request::Insert {
+        Ask::All => Ok(EditRequest::Insert {
             kind,
             fresh,
             auto: !is_given(options, "no-auto"),
-            force,
         }),
-        by => Ok(Request::Replace {
+        by => Ok(EditRequest::Replace {
             pick: Pick { kind, by },
             fresh,
-            force,
         }),
     }
 }
 
 /// The options that give a new record.
 fn fresh(alloc: Global, options: &ArgMatches) -> Result<NewRecord, Refusal>
-    ensures { IfOk result (IsFresh (rows_of (found_of options.now))) }
+    ensures { IfOk result (λ fresh. new_record_for fresh ≡ new_record_given (rows_of (found_of options.now))) }
 {
-    let names = texts(options, "field");
-    let values = texts(options, "value");
+    let names = texts(alloc, options, "field")?;
+    let values = texts(alloc, options, "value")?;
     if names.len() != values.len() {
         return Err(Refusal::Rule("as many --field as --value are needed"));
     }
-    match text(alloc, options, "record")? {
-        None => Ok(NewRecord::Pairs(pairs(alloc, names, values)?)),
-        Some(text) if names.is_empty() => Ok(NewRecord::Text(text)),
-        Some(_) => Err(Refusal::Rule("only one of --record and --field can be given")),
+    let text = text(alloc, options, "record")?;
+    match NewRecord::of(alloc, names, values, text)? {
+        Some(fresh) => Ok(fresh),
+        None => Err(Refusal::Rule("only one of --record and --field can be given")),
     }
-}
-
-/// The names and values of a new record's fields.
-fn pairs(alloc: Global, names: &[&str], values: &[&str]) -> Result<Vec<Pair>, AllocError>
-    requires { length names.now ≡ length values.now }
-    ensures names { IfOk result (λ pairs. map (λ pair. pair.name) pairs.items ≡ map (λ name. name.now) names.now) }
-    ensures values { IfOk result (λ pairs. map (λ pair. pair.value) pairs.items ≡ map (λ value. value.now) values.now) }
-{
-    let mut pairs = Vec::with_capacity(alloc, names.len())?;
-    for (index, name) in names.iter().enumerate() {
-        pairs.push(pair(alloc, name, values[index])?)?;
-    }
-    Ok(pairs)
-}
-
-fn pair(alloc: Global, name: &str, value: &str) -> Result<Pair, AllocError>
-    ensures { IfOk result (λ pair. (pair.name ≡ name.now) × (pair.value ≡ value.now)) }
-{
-    Ok(Pair {
-        name: Bytes::copy_of(alloc, name.as_bytes())?,
-        value: Bytes::copy_of(alloc, value.as_bytes())?,
-    })
 }
 
 /// What recdel is asked for: to delete records, or to make comments of them.
-pub fn recdel_request(alloc: Global, options: &ArgMatches) -> Result<Request, Refusal>
-    ensures { IfOk result (Asks (codes "recdel") (rows_of (found_of options.now))) }
+pub fn deletion(alloc: Global, options: &ArgMatches) -> Result<EditRequest, Refusal>
+    ensures { IfOk result (AsksEdit RecDel (rows_of (found_of options.now))) }
 {
     let pick = pick(alloc, options)?;
-    let force = is_given(options, "force");
     if is_given(options, "comment") {
-        Ok(Request::CommentOut { pick, force })
+        Ok(EditRequest::CommentOut(pick))
     } else {
-        Ok(Request::Delete { pick, force })
+        Ok(EditRequest::Delete(pick))
     }
 }
 
 /// What recset is asked for.
-pub fn recset_request(alloc: Global, options: &ArgMatches) -> Result<Request, Refusal>
-    ensures { IfOk result (Asks (codes "recset") (rows_of (found_of options.now))) }
+pub fn setting(alloc: Global, options: &ArgMatches) -> Result<EditRequest, Refusal>
+    ensures { IfOk result (AsksEdit RecSet (rows_of (found_of options.now))) }
 {
     let Some(list) = text(alloc, options, "fields")? else {
         return Err(Refusal::Rule("recset: --fields is needed"));
     };
-    Ok(Request::Set {
+    Ok(EditRequest::Set {
         pick: pick(alloc, options)?,
         list,
         action: action(alloc, options)?,
-        force: is_given(options, "force"),
     })
 }
 
@@ -121,28 +105,23 @@ fn action(alloc: Global, options: &ArgMatches) -> Result<Action, Refusal>
     let add = text(alloc, options, "add")?;
     let set_add = text(alloc, options, "set-add")?;
     let rename = text(alloc, options, "rename")?;
-    let is_delete = is_given(options, "delete");
-    let is_comment = is_given(options, "comment");
-    match (set, add, set_add, rename, is_delete, is_comment) {
-        (Some(value), None, None, None, false, false) => Ok(Action::Set(value)),
-        (None, Some(value), None, None, false, false) => Ok(Action::Add(value)),
-        (None, None, Some(value), None, false, false) => Ok(Action::SetAdd(value)),
-        (None, None, None, Some(name), false, false) => Ok(Action::Rename(name)),
-        (None, None, None, None, true, false) => Ok(Action::Delete),
-        (None, None, None, None, false, true) => Ok(Action::Comment),
-        _ => Err(Refusal::Rule(
+    let deletes = is_given(options, "delete");
+    let comments = is_given(options, "comment");
+    match Action::of(set, add, set_add, rename, deletes, comments) {
+        Some(action) => Ok(action),
+        None => Err(Refusal::Rule(
             "recset: exactly one of --set, --add, --set-add, --rename, --delete and --comment is needed",
         )),
     }
 }
 
-/// What batch is asked for. Its text is that of a file, so it isn't here.
-pub fn batch_request(alloc: Global, options: &ArgMatches) -> Result<Request, Refusal>
-    ensures { IfOk result (Asks (codes "batch") (rows_of (found_of options.now))) }
+/// What batch is asked for.
+pub fn batch_order(alloc: Global, options: &ArgMatches) -> Result<Order, Refusal>
+    ensures { IfOk result (Orders Batch (rows_of (found_of options.now))) }
 {
     match given(options, "batch") {
-        Some(_) => Ok(Request::Batch {
-            text: Bytes::from_vec(Vec::new(alloc)),
+        Some(path) => Ok(Order::BatchAt {
+            path: String::from_str(alloc, path)?,
             force: is_given(options, "force"),
         }),
         None => Err(Refusal::Rule("batch: -b is needed")),

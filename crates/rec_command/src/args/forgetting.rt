@@ -1,22 +1,24 @@
 //! What forget is asked for.
-ghost use Rattle.std.specs.Prelude.{ℕ, IfOk, MatchOption, codes};
+ghost use Rattle.std.specs.Prelude.{ℕ, IfOk, MatchOption};
 ghost use Rattle.clap.specs.Words.{found_of, rows_of};
-ghost use Rattle.rec_command.specs.Words.{Asks, IsNumber};
+ghost use Rattle.rec_command.specs.declared.tools.Tool.TheVariants.{Forget};
+ghost use Rattle.rec_command.specs.Words.{IsNumber, Orders};
 
+use super::Order;
 use super::found::given;
 use super::refusal::Refusal;
 use clap::ArgMatches;
 use rec_tools::Request;
 
 /// What forget is asked for: how many of the edits that can be undone it keeps.
-pub fn forget_request(options: &ArgMatches) -> Result<Request, Refusal>
-    ensures { IfOk result (Asks (codes "forget") (rows_of (found_of options.now))) }
+pub fn forget_order(options: &ArgMatches) -> Result<Order, Refusal>
+    ensures { IfOk result (Orders Forget (rows_of (found_of options.now))) }
 {
     let Some(digits) = given(options, "n") else {
         return Err(Refusal::Rule("forget: N is needed"));
     };
     match number_of(digits) {
-        Some(n) => Ok(Request::Forget(n)),
+        Some(n) => Ok(Order::Whole(Request::Forget(n))),
         None => Err(Refusal::Rule(
             "forget: N must be a number from 0 to 4294967295, in digits alone",
         )),

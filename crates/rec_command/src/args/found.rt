@@ -24,11 +24,22 @@ pub fn text(alloc: Global, options: &ArgMatches, name: &str) -> Result<Option<By
     }
 }
 
-/// The texts of an option that can be given several times.
-pub fn texts<'m>(options: &'m ArgMatches, name: &str) -> &'m [&'m str]
-    ensures { map (λ text. text.now) result.now ≡ texts_given name.now (rows_of (found_of options.now)) }
+/// Copies of the texts of an option that can be given several times.
+pub fn texts(alloc: Global, options: &ArgMatches, name: &str) -> Result<Vec<Bytes>, AllocError>
+    ensures { IfOk result (λ texts. texts.items ≡ texts_given name.now (rows_of (found_of options.now))) }
 {
-    options.get_strs(name).unwrap_or(&[])
+    copies(alloc, options.get_strs(name).unwrap_or(&[]))
+}
+
+/// Copies of these texts.
+fn copies(alloc: Global, texts: &[&str]) -> Result<Vec<Bytes>, AllocError>
+    ensures { IfOk result (λ copies. copies.items ≡ map (λ text. text.now) texts.now) }
+{
+    let mut copies = Vec::with_capacity(alloc, texts.len())?;
+    for text in texts {
+        copies.push(Bytes::copy_of(alloc, text.as_bytes())?)?;
+    }
+    Ok(copies)
 }
 
 /// Whether a flag is given.

@@ -4,6 +4,7 @@ ghost use Rattle.clap.specs.Words.{first_of, found_of, rows_of};
 ghost use Rattle.rec_files.specs.Paths.{AreApart};
 ghost use Rattle.rec_command.specs.Words.{IsJournal};
 
+use super::Order;
 use super::found::given;
 use super::refusal::Refusal;
 use clap::ArgMatches;
@@ -13,30 +14,24 @@ use std::alloc::{AllocError, Global};
 
 const CLASH: &str = "--journal: FILE and PATH are one path, or one is the other with .new appended";
 
-/// The paths of a request.
+/// The paths of the file and its journal.
 #[derive(Drop)]
 pub struct Paths {
-    pub batch: Option<String>,
     pub file: Option<String>,
     pub journal: Option<String>,
 }
 
-/// The paths that the options give a request.
-pub fn paths_of(alloc: Global, request: &Request, options: &ArgMatches) -> Result<Paths, Refusal>
-    ensures batch { IfOk result (λ paths. option_map string_bytes paths.batch ≡ first_of (codes "batch") (rows_of (found_of options.now))) }
-    ensures file { IfOk result (λ paths. option_map string_bytes paths.file ≡ first_of (codes "file") (rows_of (found_of options.now))) }
-    ensures journal { IfOk result (λ paths. IsJournal request.now (first_of (codes "file") (rows_of (found_of options.now)))
+/// The paths that the options give an order.
+pub fn paths_of(alloc: Global, order: &Order, options: &ArgMatches) -> Result<Paths, Refusal>
+    ensures file { IfOk result (λ paths. option_map string_bytes paths.file
+        ≡ first_of (codes "file") (rows_of (found_of options.now))) }
+    ensures journal { IfOk result (λ paths. IsJournal order.now (first_of (codes "file") (rows_of (found_of options.now)))
         (first_of (codes "journal") (rows_of (found_of options.now))) (option_map string_bytes paths.journal)) }
 {
     let file = given(options, "file");
-    let journal = journal(alloc, request, file, given(options, "journal"))?;
-    let batch = copied(alloc, given(options, "batch"))?;
+    let journal = journal(alloc, order, file, given(options, "journal"))?;
     let file = copied(alloc, file)?;
-    Ok(Paths {
-        batch,
-        file,
-        journal,
-    })
+    Ok(Paths { file, journal })
 }
 
 /// A copy of a path.
@@ -49,17 +44,17 @@ fn copied(alloc: Global, path: Option<&str>) -> Result<Option<String>, AllocErro
     }
 }
 
-/// The journal of a request. One that prints of the file alone has none; every other needs a file.
+/// The journal of an order. One that prints of the file alone has none; every other needs a file.
 fn journal(
     alloc: Global,
-    request: &Request,
+    order: &Order,
     file: Option<&str>,
     given: Option<&str>,
 ) -> Result<Option<String>, Refusal>
-    ensures { IfOk result (λ journal. IsJournal request.now (option_map (λ path. path.now) file.entry)
+    ensures { IfOk result (λ journal. IsJournal order.now (option_map (λ path. path.now) file.entry)
         (option_map (λ path. path.now) given.entry) (option_map string_bytes journal)) }
 {
-    if let Request::Show { .. } | Request::Info { .. } | Request::Check = request {
+    if let Order::Whole(Request::Show { .. } | Request::Info { .. } | Request::Check) = order {
         if let (Some(file), Some(given)) = (file, given) {
             require_apart(alloc, file, given)?;
         }

@@ -1,8 +1,12 @@
 //! What recsel and recinf are asked for, and which records any tool takes.
-ghost use Rattle.std.specs.Prelude.{◌≡◌, IfOk, codes};
+ghost use Rattle.std.specs.Prelude.{◌≡◌, IfOk};
 ghost use Rattle.clap.specs.Words.{found_of, rows_of};
-ghost use Rattle.rec_command.specs.Words.{selection_given, selection_for, form_given, form_for, info_form_given, info_form_for, IsPick, Asks};
+ghost use Rattle.rec_tools.specs.Asking.{selection_for};
+ghost use Rattle.rec_command.specs.declared.tools.Tool.TheVariants.{RecSel, RecInf};
+ghost use Rattle.rec_command.specs.Words.{selection_given, form_given, form_for, info_form_given, info_form_for};
+ghost use Rattle.rec_command.specs.Words.{IsPick, Orders};
 
+use super::Order;
 use super::found::{is_given, text};
 use super::refusal::Refusal;
 use clap::ArgMatches;
@@ -10,24 +14,24 @@ use rec_tools::{Ask, Form, InfoForm, Pick, Request};
 use std::alloc::Global;
 
 /// What recsel is asked for.
-pub fn recsel_request(alloc: Global, options: &ArgMatches) -> Result<Request, Refusal>
-    ensures { IfOk result (Asks (codes "recsel") (rows_of (found_of options.now))) }
+pub fn recsel_order(alloc: Global, options: &ArgMatches) -> Result<Order, Refusal>
+    ensures { IfOk result (Orders RecSel (rows_of (found_of options.now))) }
 {
-    Ok(Request::Show {
+    Ok(Order::Whole(Request::Show {
         pick: pick(alloc, options)?,
         form: form(alloc, options)?,
         collapse: is_given(options, "collapse"),
-    })
+    }))
 }
 
 /// What recinf is asked for.
-pub fn recinf_request(alloc: Global, options: &ArgMatches) -> Result<Request, Refusal>
-    ensures { IfOk result (Asks (codes "recinf") (rows_of (found_of options.now))) }
+pub fn recinf_order(alloc: Global, options: &ArgMatches) -> Result<Order, Refusal>
+    ensures { IfOk result (Orders RecInf (rows_of (found_of options.now))) }
 {
-    Ok(Request::Info {
+    Ok(Order::Whole(Request::Info {
         kind: text(alloc, options, "type")?,
         form: info_form(options)?,
-    })
+    }))
 }
 
 /// The options that say which records are meant.
@@ -46,12 +50,9 @@ fn ask(alloc: Global, options: &ArgMatches) -> Result<Ask, Refusal>
     let expression = text(alloc, options, "expression")?;
     let number = text(alloc, options, "number")?;
     let quick = text(alloc, options, "quick")?;
-    match (expression, number, quick) {
-        (None, None, None) => Ok(Ask::All),
-        (Some(text), None, None) => Ok(Ask::Expr(text)),
-        (None, Some(list), None) => Ok(Ask::Index(list)),
-        (None, None, Some(text)) => Ok(Ask::Quick(text)),
-        _ => Err(Refusal::Rule("only one of --expression, --number and --quick can be given")),
+    match Ask::of(expression, number, quick) {
+        Some(by) => Ok(by),
+        None => Err(Refusal::Rule("only one of --expression, --number and --quick can be given")),
     }
 }
 

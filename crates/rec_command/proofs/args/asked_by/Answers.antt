@@ -3,8 +3,7 @@ use Rattle.rec_command.proofs.args.asked_by.Goals as goal
 pub returns : goal.returns
 returns c =
     record {
-      request = c.in_ok-request.ensures;
-      batch = c.in_ok-batch.ensures.batch;
-      file = c.in_ok-batch.ensures.file;
-      journal = c.in_ok-batch.ensures.journal;
+      order = c.in_ok-order.ensures;
+      file = c.in_ok-file.ensures.file;
+      journal = c.in_ok-file.ensures.journal;
     }

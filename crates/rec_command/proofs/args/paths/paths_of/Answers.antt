@@ -2,11 +2,8 @@ use Rattle.std.proofs.Common.{◌∙◌}
 use Rattle.rec_command.proofs.WordsLemmas.{journal_of_same}
 use Rattle.rec_command.proofs.args.paths.paths_of.Goals as goal
 
-pub returns-clause-batch : goal.returns-clause-batch
-returns-clause-batch c = c.in_ok-batch.ensures ∙ c.given-2.ensures
-
 pub returns-clause-file : goal.returns-clause-file
 returns-clause-file c = c.in_ok-file.ensures ∙ c.given-file.ensures
 
 pub returns-clause-journal : goal.returns-clause-journal
-returns-clause-journal c = journal_of_same c.args.request.now _ _ _ _ _ c.given-file.ensures c.given.ensures c.in_ok-journal.ensures
+returns-clause-journal c = journal_of_same c.args.order.now _ _ _ _ _ c.given-file.ensures c.given.ensures c.in_ok-journal.ensures

@@ -1,0 +1,171 @@
+//! The tools, as clap is told of them.
+ghost use Rattle.std.specs.Prelude.{◌≡◌, IfSome};
+ghost use Rattle.rec_command.specs.Usage.{name_of, usage_of};
+ghost use Rattle.rec_command.specs.proving.Tools.{usage_in};
+
+use crate::args::help::{
+    BATCH_ABOUT, BATCH_HELP, BATCH_USAGE, FORGET_ABOUT, FORGET_HELP, HISTORY_HELP, RECDEL_ABOUT,
+    RECDEL_HELP, RECFIX_ABOUT, RECFIX_HELP, RECINF_HELP, RECINS_ABOUT, RECINS_HELP, RECINS_USAGE,
+    RECSEL_HELP, RECSET_ABOUT, RECSET_HELP, RECSET_USAGE, REDO_HELP, UNDO_HELP,
+};
+use crate::options::{
+    Argument, BATCH, FORGET, PATHS, RECDEL, RECFIX, RECINF, RECINS, RECSEL, RECSET,
+};
+
+/// A tool.
+#[derive(Clone, Copy)]
+pub enum Tool {
+    RecSel,
+    RecInf,
+    RecFix,
+    RecIns,
+    RecDel,
+    RecSet,
+    Batch,
+    Undo,
+    Redo,
+    History,
+    Forget,
+}
+
+/// All tools, in the order of help.
+pub static TOOLS: [Tool; 11] = [
+    Tool::RecSel,
+    Tool::RecInf,
+    Tool::RecFix,
+    Tool::RecIns,
+    Tool::RecDel,
+    Tool::RecSet,
+    Tool::Batch,
+    Tool::Undo,
+    Tool::Redo,
+    Tool::History,
+    Tool::Forget,
+];
+
+/// What a tool takes, and what help says of it.
+#[derive(Clone, Copy)]
+pub struct Usage {
+    pub name: &'static str,
+    /// In the order of help.
+    pub arguments: &'static [Argument],
+    /// In a line.
+    pub about: &'static str,
+    /// What its own help says instead.
+    pub long_about: Option<&'static str>,
+    /// How its own help says that it is called, instead of what clap says.
+    pub usage: Option<&'static str>,
+    /// What its own help says at the end.
+    pub after_help: &'static str,
+}
+
+impl Tool {
+    /// What clap is told of it.
+    pub fn usage(self) -> Usage
+        ensures usage { usage_in result ≡ usage_of self }
+        ensures name { result.name.now ≡ name_of self }
+    {
+        match self {
+            Tool::RecSel => Usage {
+                name: "recsel",
+                arguments: RECSEL.as_slice(),
+                about: "Prints records",
+                long_about: None,
+                usage: None,
+                after_help: RECSEL_HELP,
+            },
+            Tool::RecInf => Usage {
+                name: "recinf",
+                arguments: RECINF.as_slice(),
+                about: "Prints which record sets there are",
+                long_about: None,
+                usage: None,
+                after_help: RECINF_HELP,
+            },
+            Tool::RecFix => Usage {
+                name: "recfix",
+                arguments: RECFIX.as_slice(),
+                about: "Checks the rules of record sets, or gives automatic fields",
+                long_about: Some(RECFIX_ABOUT),
+                usage: None,
+                after_help: RECFIX_HELP,
+            },
+            Tool::RecIns => Usage {
+                name: "recins",
+                arguments: RECINS.as_slice(),
+                about: "Inserts a record, or replaces records with it",
+                long_about: Some(RECINS_ABOUT),
+                usage: Some(RECINS_USAGE),
+                after_help: RECINS_HELP,
+            },
+            Tool::RecDel => Usage {
+                name: "recdel",
+                arguments: RECDEL.as_slice(),
+                about: "Deletes records, or comments them out",
+                long_about: Some(RECDEL_ABOUT),
+                usage: None,
+                after_help: RECDEL_HELP,
+            },
+            Tool::RecSet => Usage {
+                name: "recset",
+                arguments: RECSET.as_slice(),
+                about: "Edits fields of records",
+                long_about: Some(RECSET_ABOUT),
+                usage: Some(RECSET_USAGE),
+                after_help: RECSET_HELP,
+            },
+            Tool::Batch => Usage {
+                name: "batch",
+                arguments: BATCH.as_slice(),
+                about: "Makes several edits as one",
+                long_about: Some(BATCH_ABOUT),
+                usage: Some(BATCH_USAGE),
+                after_help: BATCH_HELP,
+            },
+            Tool::Undo => Usage {
+                name: "undo",
+                arguments: PATHS.as_slice(),
+                about: "Undoes the newest edit",
+                long_about: None,
+                usage: None,
+                after_help: UNDO_HELP,
+            },
+            Tool::Redo => Usage {
+                name: "redo",
+                arguments: PATHS.as_slice(),
+                about: "Redoes the edit that was undone last",
+                long_about: None,
+                usage: None,
+                after_help: REDO_HELP,
+            },
+            Tool::History => Usage {
+                name: "history",
+                arguments: PATHS.as_slice(),
+                about: "Prints the edits that can be undone and redone",
+                long_about: None,
+                usage: None,
+                after_help: HISTORY_HELP,
+            },
+            Tool::Forget => Usage {
+                name: "forget",
+                arguments: FORGET.as_slice(),
+                about: "Forgets the oldest edits that can be undone",
+                long_about: Some(FORGET_ABOUT),
+                usage: None,
+                after_help: FORGET_HELP,
+            },
+        }
+    }
+
+    /// The tool of this name.
+    pub fn named(name: &str) -> Option<Tool>
+        ensures { IfSome result (λ tool. name_of tool ≡ name.now) }
+    {
+        for tool in TOOLS {
+            if tool.usage().name == name {
+                return Some(tool);
+            }
+        }
+        None
+    }
+}

@@ -1,0 +1,79 @@
+//! Constraints that are no expressions.
+use crate::explanation::Explanation;
+use crate::lines::shown::{plain, show_place};
+use itoa::Buffer;
+use rec_select::Expr;
+use rec_text::Fault;
+use rec_text::Space::BlankOrNewline;
+use std::alloc::Global;
+
+/// Shows where a constraint has a fault, and says what may be meant.
+pub fn explain_constraint(alloc: Global, value: &[u8], said: &mut Explanation) {
+    if BlankOrNewline.trim_start(value).is_empty() {
+        return said.add(&["%constraint needs an expression, such as Age > 0"]);
+    }
+    let Some(at) = fault_in(alloc, value) else {
+        return;
+    };
+    let (line, place) = line_around(value, at);
+    if plain(line).is_some() {
+        show_place(alloc, line, place, said);
+    } else {
+        let mut digits = Buffer::new();
+        said.add(&["the expression has an error at byte ", digits.format(at)]);
+    }
+    if let Some(hint) = meant_at(value, at) {
+        said.add(&[hint]);
+    }
+}
+
+/// The place of the fault in an expression.
+fn fault_in(alloc: Global, text: &[u8]) -> Option<usize> {
+    match Expr::parse(alloc, text) {
+        Err(Fault::BadExpression { at }) => Some(at),
+        _ => None,
+    }
+}
+
+/// The line of a text in which a place is, and the place in it.
+fn line_around(text: &[u8], at: usize) -> (&[u8], usize) {
+    let mut start: usize = 0;
+    for line in text.split(|byte| *byte == b'\n') {
+        let end = start.saturating_add(line.len());
+        if at <= end {
+            return (line, at.saturating_sub(start));
+        }
+        start = end.saturating_add(1);
+    }
+    (&[], 0)
+}
+
+/// What may be meant where an expression has its fault.
+fn meant_at(text: &[u8], at: usize) -> Option<&'static str> {
+    let rest = text.get(at..).unwrap_or(&[]);
+    if rest.is_empty() {
+        Some("the expression isn't complete")
+    } else if rest.starts_with(b"==") {
+        Some("two values are compared by one =; there are no dates")
+    } else if rest.starts_with(b"<<") || rest.starts_with(b">>") {
+        Some("there are no dates, so neither << nor >>")
+    } else if rest.starts_with(b".") && is_among_digits(text, at) {
+        Some("numbers have no decimals")
+    } else if rest.starts_with(b"0") && is_digit(rest, 1) {
+        Some("a number that begins with 0 is octal, of the digits 0 to 7")
+    } else {
+        None
+    }
+}
+
+/// Whether a digit stands before a place, or directly after the byte there.
+fn is_among_digits(text: &[u8], at: usize) -> bool {
+    (at > 0 && is_digit(text, at.saturating_sub(1))) || is_digit(text, at.saturating_add(1))
+}
+
+fn is_digit(text: &[u8], place: usize) -> bool {
+    match text.get(place) {
+        Some(byte) => byte.is_ascii_digit(),
+        None => false,
+    }
+}

@@ -1,0 +1,78 @@
+//! What a descriptor says of the types of fields.
+use crate::descriptors::kind_words::is_known;
+use crate::descriptors::words::{first_word, split_word};
+use crate::lines::places::value_of;
+use rec_text::Element;
+use rec_tools::Bytes;
+use std::alloc::{AllocError, Global};
+
+/// How many definitions are followed from one to the next.
+const FOLLOWED: usize = 100;
+
+/// The kind and its words that a `%type` says of a field, or a `%typedef` of a name, in one line: the last of them.
+pub fn last_said(
+    alloc: Global,
+    descriptor: &[Element<'_>],
+    special: &[u8],
+    name: &[u8],
+) -> Result<Option<Bytes>, AllocError> {
+    for field in descriptor.iter().rev() {
+        if field.has_name(special)
+            && let Some(said) = said_of(alloc, field, name)?
+        {
+            return Ok(Some(said));
+        }
+    }
+    Ok(None)
+}
+
+/// What a field of a descriptor says of a name, if it is about it.
+fn said_of(alloc: Global, field: &Element<'_>, name: &[u8]) -> Result<Option<Bytes>, AllocError> {
+    let value = value_of(alloc, field)?;
+    match after_name(value.bytes().trim_ascii(), name) {
+        Some(said) => Ok(Some(in_one_line(alloc, said)?)),
+        None => Ok(None),
+    }
+}
+
+/// What follows the names that begin a text, which are joined by commas, if this is one of them.
+fn after_name<'a>(text: &'a [u8], name: &[u8]) -> Option<&'a [u8]> {
+    let (names, following) = split_word(text)?;
+    for one in names.split(|byte| *byte == b',') {
+        if one == name {
+            return Some(following.trim_ascii());
+        }
+    }
+    None
+}
+
+/// What a kind with its words comes to by the definitions of a descriptor; none where it isn't found.
+pub fn meaning_of(
+    alloc: Global,
+    descriptor: &[Element<'_>],
+    kind: Bytes,
+) -> Result<Option<Bytes>, AllocError> {
+    let mut kind = kind;
+    for _ in 0..FOLLOWED {
+        let word = first_word(kind.as_slice());
+        if is_known(word) {
+            return Ok(Some(kind));
+        }
+        match last_said(alloc, descriptor, b"%typedef", word)? {
+            Some(next) => kind = next,
+            None => return Ok(None),
+        }
+    }
+    Ok(None)
+}
+
+/// A text with a space for each newline.
+pub fn in_one_line(alloc: Global, text: &[u8]) -> Result<Bytes, AllocError> {
+    let mut line = Vec::from_slice(alloc, text)?;
+    for byte in line.iter_mut() {
+        if *byte == b'\n' {
+            *byte = b' ';
+        }
+    }
+    Ok(Bytes::from_vec(line))
+}

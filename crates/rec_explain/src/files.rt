@@ -1,0 +1,80 @@
+//! The file and its journal: one that isn't there or is none, and a history that has no such edit.
+use crate::about::About;
+use crate::explanation::Explanation;
+use rec_tools::{EditRequest, Fault, Request};
+
+/// Says how a file begins, where one that is missing was to get a record.
+pub fn explain_missing(about: &About<'_>, request: &Request, said: &mut Explanation) {
+    let begins = matches!(
+        request,
+        Request::Batch { .. }
+            | Request::Edit {
+                edit: EditRequest::Insert { .. },
+                ..
+            }
+    );
+    if !begins || !about.is_missing {
+        return;
+    }
+    if is_word(about.file) {
+        said.add(&[
+            "recu makes no file: touch ",
+            about.file,
+            " makes an empty one",
+        ]);
+    } else {
+        said.add(&["recu makes no file: touch makes an empty one"]);
+    }
+}
+
+/// Whether a path is one word of a shell as it stands, and no option.
+fn is_word(path: &str) -> bool {
+    !path.starts_with('-')
+        && path.bytes().all(|byte| byte.is_ascii_alphanumeric() || b"._-/+@,:".contains(&byte))
+}
+
+/// Says what of the journal a refusal is about.
+pub fn explain_history(about: &About<'_>, fault: &Fault, said: &mut Explanation) {
+    let journal = about.journal;
+    match fault {
+        Fault::BadJournal { line } => explain_journal(about, *line, said),
+        Fault::NothingToUndo => said.add(&[journal, ": no edit is left to undo"]),
+        Fault::NothingToRedo => said.add(&[
+            journal,
+            ": no edit is left to redo: an edit after an undo drops those that were undone",
+        ]),
+        _ => {}
+    }
+}
+
+/// Says what can be done with a journal that is none. One that doesn't even begin as a journal is left where it is, if
+/// `--journal` names it: it may be any file.
+fn explain_journal(about: &About<'_>, line: usize, said: &mut Explanation) {
+    let journal = about.journal;
+    if journal.strip_suffix(".journal") == Some(about.file) || line > 1 {
+        return said.add(&[
+            journal,
+            ": move it away, and the next edit begins a new journal",
+        ]);
+    }
+    said.add(&[
+        journal,
+        ": this is no journal that recu reads: --journal is to name the journal of ",
+        about.file,
+        ", or a path where nothing stands yet",
+    ]);
+}
+
+/// Says what can be done where the file is no longer the text of the last edit.
+pub fn explain_drift(about: &About<'_>, request: &Request, said: &mut Explanation) {
+    said.add(&[
+        about.file,
+        ": if the text of the last edit is brought back to the byte, it can be undone; the next edit begins a new history",
+    ]);
+    if matches!(request, Request::Forget(_)) {
+        said.add(&[
+            about.journal,
+            ": deleting this file removes all texts that it holds",
+        ]);
+    }
+}

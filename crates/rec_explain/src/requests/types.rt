@@ -1,0 +1,100 @@
+//! The record types of a file, and their records.
+use crate::about::About;
+use crate::explanation::Explanation;
+use itoa::Buffer;
+use rec_check::RecFile;
+use rec_tools::{EditRequest, Pick};
+use std::alloc::{AllocError, Global};
+use std::str;
+
+/// Names the record types of the file.
+pub fn explain_types(alloc: Global, about: &About<'_>, said: &mut Explanation) {
+    if let Some(text) = about.text
+        && let Some(types) = types_in(alloc, text)
+    {
+        if types.is_empty() {
+            said.add(&["there is no record type"]);
+        } else {
+            said.add(&["record types: ", types.as_str()]);
+        }
+    }
+}
+
+fn types_in(alloc: Global, text: &[u8]) -> Option<String> {
+    let file = RecFile::read(alloc, text).ok()?;
+    types_of(alloc, &file).ok()
+}
+
+/// The record types of a file, in one line.
+fn types_of(alloc: Global, file: &RecFile<'_>) -> Result<String, AllocError> {
+    let mut types = String::new(alloc);
+    for set in file.schema().sets() {
+        if let Some(kind) = &set.kind {
+            if !types.is_empty() {
+                types.push_str(", ")?;
+            }
+            types.push_str(str::from_utf8(kind.as_slice()).unwrap_or("?"))?;
+        }
+    }
+    Ok(types)
+}
+
+/// Says how many records a deletion of all would take.
+pub fn explain_deletion(
+    alloc: Global,
+    about: &About<'_>,
+    edit: &EditRequest,
+    said: &mut Explanation,
+) {
+    let Some(pick) = taken_by(edit) else {
+        return;
+    };
+    if let Some(text) = about.text
+        && let Ok(file) = RecFile::read(alloc, text)
+    {
+        let count = count_of_all(&file, pick);
+        let mut digits = Buffer::new();
+        said.add(&[
+            "--force would ",
+            verb_of(edit),
+            digits.format(count),
+            records_for(count),
+        ]);
+    }
+}
+
+/// The records that an edit deletes or comments out.
+fn taken_by(edit: &EditRequest) -> Option<&Pick> {
+    match edit {
+        EditRequest::Delete(pick) | EditRequest::CommentOut(pick) => Some(pick),
+        _ => None,
+    }
+}
+
+/// What an edit does to records.
+fn verb_of(edit: &EditRequest) -> &'static str {
+    match edit {
+        EditRequest::CommentOut(_) => "comment out ",
+        _ => "delete ",
+    }
+}
+
+fn records_for(count: usize) -> &'static str {
+    if count == 1 { " record" } else { " records" }
+}
+
+/// How many records the set has that is meant: that of a type, or the first that isn't empty.
+fn count_of_all(file: &RecFile<'_>, pick: &Pick) -> usize {
+    for set in file.schema().sets() {
+        let count = set.members.end.saturating_sub(set.members.start);
+        let is_meant = match (&pick.kind, &set.kind) {
+            (None, _) => count > 0,
+            (Some(kind), Some(own)) => own.as_slice() == kind.as_slice(),
+            (Some(_), None) => false,
+        };
+        if is_meant {
+            return count;
+        }
+    }
+    0
+}

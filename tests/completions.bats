@@ -69,34 +69,32 @@ tools=(recsel recinf recfix recins recdel recset batch undo redo history forget)
 
 # in_table TOOL: letters, names and values of a tool's options, as the tables of rec_command give them: a line for each
 in_table() {
-    local tables
-    case $1 in
-        recsel) tables='SELECTION PRINTING' ;;
-        recins | recdel | recset) tables="SELECTION ${1^^}" ;;
-        recinf | recfix | batch) tables=${1^^} ;;
-        *) tables= ;;
-    esac
-    awk -v tables="$tables" '
+    local table=${1^^}
+    case $1 in undo | redo | history) table=PATHS ;; esac
+    awk -v wanted="$table" '
         # (an option stands in a table, or under a name of its own that tables list)
         /^(pub )?(static|const) [A-Z_]+:/ {
             table = $0
             sub(/:.*/, "", table)
             sub(/.* /, "", table)
-            if (match($0, /= \[[A-Z_, ]+\];/)) {
-                count = split(substr($0, RSTART + 3, RLENGTH - 5), names, ", ")
-                for (i = 1; i <= count; i++) options[table] = options[table] options[names[i]]
-            }
         }
-        / letter:/ { letter = /Some/ ? "-" substr($0, index($0, "\047") + 1, 1) : "-" }
-        / name:/ { split($0, parts, "\""); name = "--" parts[2] }
-        / takes:/ {
+        /^    [A-Z_]+,$/ || /= \[[A-Z_, ]+\];$/ {
+            sub(/.*= /, "")
+            count = split($0, names, /[^A-Z_]+/)
+            for (i = 1; i <= count; i++) options[table] = options[table] options[names[i]]
+        }
+        / written: Written::/ {
+            letter = /\(/ ? "-" substr($0, index($0, "\047") + 1, 1) : "-"
+            is_named = /::(Name|Both)/
+            is_word = /Word/
+        }
+        / name: "/ { split($0, parts, "\""); name = is_named ? "--" parts[2] : "-" }
+        / takes: Takes::/ && !is_word {
             value = split($0, parts, "\"") > 1 ? parts[2] : "-"
             options[table] = options[table] letter " " name " " value "\n"
         }
-        END { count = split(tables, names, " "); for (i = 1; i <= count; i++) printf "%s", options[names[i]] }
+        END { printf "%s", options[wanted] }
     ' "$top/crates/rec_command/src/options.rt"
-    [ "$1" != batch ] || echo '-b - PATH'
-    case $1 in recsel | recinf) ;; *) echo '- --journal PATH' ;; esac
 }
 
 # in_help TOOL: the same, as the tool's help gives them

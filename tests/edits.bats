@@ -182,35 +182,27 @@ people='# P¶Name:  Ada¶# c¶Mail: a\¶b¶Mail: c¶¶Name: Bo'
     only before db.rec db.rec.journal
 }
 
-# layout LIST TEXT AFTER: the deletion gives the text after, and undo brings all bytes back
-layout() {
-    put db.rec "$2"
-    does recdel -n "$1" db.rec
-    has db.rec "$3"
-    does undo db.rec
-    has db.rec "$2"
-    only db.rec db.rec.journal
-}
-
-@test "layouts of a file" {
-    each layout untidy_files.rows
-}
-
-# inserts TEXT WORDS AFTER: recins gives the text after; undo brings all bytes back, and redo again those after
-inserts() {
+# leads_to TEXT AFTER WORD..: the words give the text after; undo brings all bytes back, and redo again those after
+leads_to() {
     put db.rec "$1"
-    eval "does recins $2 db.rec"
-    has db.rec "$3"
+    does "${@:3}" db.rec
+    has db.rec "$2"
     does undo db.rec
     has db.rec "$1"
     does redo db.rec
-    has db.rec "$3"
+    has db.rec "$2"
     only db.rec db.rec.journal
     rm db.rec.journal
 }
 
+@test "an untidy file" {
+    leads_to '# \xFF\x00\x09¶ \x09 ¶A:\x091 ¶B:¶+\x09x¶# \¶C: \¶¶+  y\x0D¶#¶¶\x09¶# z¶D: 1¶E: 2' \
+        '# \xFF\x00\x09¶ \x09 ¶#¶¶\x09¶# z¶D: 1¶E: 2' recdel -n 0
+}
+
 @test "records are put in" {
-    each inserts inserted_records.rows
+    leads_to '# top' '# top¶¶A: a¶+ b¶A: ¶' recins -f A -v $'a\nb' -f A -v ''
+    leads_to 'A: 1¶¶A: 2¶¶B: 3' 'C: 1¶D: 2¶¶C: 1¶D: 2¶¶B: 3' recins -e '#B = 0' -f C -v 1 -f D -v 2
 }
 
 @test "a record that breaks a rule is put in with --force alone" {

@@ -90,16 +90,21 @@ broken_descriptor() {
     each broken_descriptor broken_descriptors.rows
 }
 
-# descriptor_told REFUSAL FIELD: more than the line of the field is said where it is refused as a bad one
+# descriptor_told FILE REFUSAL: more than the line of the field is said
 descriptor_told() {
-    case $1 in *': bad descriptor field') ;; *) return 0 ;; esac
-    put f "%doc: d¶%rec: P¶$2¶¶N: 1¶"
-    refuses "$1" recsel f
+    put f "$1"
+    refuses "$2" recsel f
     grep -qv '^f:[0-9]*: \|^recu: ' "$BATS_TEST_TMPDIR/err" || fail 'no rule is said'
 }
 
+# descriptors_refused: the rows of crates/rec_rows that say which field of a descriptor is a bad one
+descriptors_refused() {
+    sed -n 's/^Row: \(.*\) | 4 \(line [0-9]*: bad descriptor field\)\( | .*\)\{0,1\}$/\1 | \2/p' \
+        "$top"/crates/rec_rows/data/{descriptors,types}.rec
+}
+
 @test "no field of a descriptor is refused without a rule" {
-    each descriptor_told descriptor_fields.rows
+    each descriptor_told <(descriptors_refused)
 }
 
 # broken_batch BATCH LINE EXPLANATION

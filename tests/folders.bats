@@ -194,6 +194,22 @@ failed_in_order() {
     [ -z "$(find . -name '*.new')" ] || fail 'left over'
 }
 
+# The second sync is that between the two removals.
+@test "a refusal after which the file's folder cannot be synced" {
+    local status=0
+    can_trace
+    mkdir d e
+    put d/db.rec "$three"
+    ONLY=write AT=1 DO=28 strace -qq -o /dev/null -E "LD_PRELOAD=$BATS_FILE_TMPDIR/calls.so" -e inject=fsync:error=EIO:when=2 \
+        "$program" recset -n 0 -f A -s 8 --journal e/j d/db.rec > out 2> err 3>&- || status=$?
+    [ "$status" = 1 ] || fail "status $status"
+    has err "e/j: No space left on device (os error 28)¶$store_failed"
+    [ ! -e d/db.rec.new ] || fail 'it is left'
+    has e/j.new ''
+    does recset -n 0 -f A -s 8 --journal e/j d/db.rec
+    [ -z "$(find . -name '*.new')" ] || fail 'left over'
+}
+
 # The sync of the file's folder is the sixth.
 @test "a command that was ended before its last sync" {
     local number=6

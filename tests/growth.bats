@@ -1,6 +1,8 @@
-# Each allocation fails in turn in each case of crates/rec_calls whose name begins with `growth_of_`.
-# Such a case makes public calls of the crates below on one row, and a call that answers `out of memory` once more: it
-# passes, whichever allocation fails. crates/rec_rows says what one list of requests comes to with each of them.
+# Each allocation fails in turn in each case of crates/rec_calls whose name begins with `growth_of_`, and in each case of
+# crates/rec_rows/data/growth.rec.
+# A case of rec_calls makes public calls of the crates below on one row, and a call that answers `out of memory` once more:
+# it passes, whichever allocation fails. So does rec_rows, after the word `again`, with the requests of a case. And it says what
+# one list of requests comes to with each of them.
 
 load helpers
 load allocator
@@ -52,9 +54,64 @@ grow() {
 }
 
 rows=$top/crates/rec_rows/out/rec_rows
+requests=$top/crates/rec_rows/data/growth.rec
+
+need_rows() {
+    [ -x "$rows" ] || fail "there is no $rows: bash test.sh proofs makes it"
+}
+
+# passes_again STATUS: whether nothing was found otherwise; what could not be run, since an allocation of the runner's own failed,
+# is told so
+passes_again() {
+    local last line text
+    text=$(< out)
+    last=${text##*$'\n'}
+    case $1/$last in
+        0/*' cases, '*' requests, '*' again') text=${text%"$last"} ;;
+        1/*) ;;
+        *) return 1 ;;
+    esac
+    [ -n "$text" ] || return 0
+    while IFS= read -r line; do
+        [[ $line = *': out of memory' ]] || return 1
+    done <<< "${text%$'\n'}"
+}
+
+# each_again CASE: it passes with each failing allocation, up to a run in which none fails, and in some run a request is run
+# again
+each_again() {
+    local number status again=0
+    awk -v RS= -v case="Case: $1" '{ split($0, lines, "\n") } lines[1] == case' "$requests" > case.rec
+    for ((number = 1; number <= 100000; number++)); do
+        : > hit
+        status=0
+        { failing "$number" "$rows" again case.rec > out 2> err; } 2> /dev/null || status=$?
+        passes_again "$status" || fail "$1, allocation $number: status $status: $(tr -s '\n' ' ' < out)"
+        case $(< out) in *', 1 again') again=$((again + 1)) ;; esac
+        if [ ! -s hit ]; then
+            [ "$again" -gt 0 ] || fail "$1: no request was refused"
+            return 0
+        fi
+    done
+    fail "$1: no end"
+}
+
+grow_rows() {
+    local cases case
+    mapfile -t cases < <(sed -n 's/^Case: //p' "$requests")
+    [ "${#cases[@]}" -gt 0 ] || fail "$requests has no case"
+    for case in "${cases[@]}"; do
+        each_again "$case"
+    done
+}
+
+@test "rec_rows: requests whose allocations fail" {
+    need_rows
+    fast grow_rows
+}
 
 # What run_all may answer to two edits and an undo where a growth is refused within one of them, and the file that it leaves:
-# memory ran out before the first replace, or the home had no room for what it was to keep.
+# memory ran out before the put, or the home had no room for what it was to keep.
 refused_within() {
     local word
     for word in '1 out of memory' '23 a file could not be read or written'; do
@@ -80,7 +137,7 @@ each_refusal() {
 }
 
 @test "a growth is refused within one of three requests" {
-    [ -x "$rows" ] || fail "there is no $rows: bash test.sh proofs makes it"
+    need_rows
     put three.rec <<'REC'
 Case: two edits and an undo
 File: A: 1¶

@@ -115,10 +115,12 @@ fast() {
     (trap - DEBUG ERR && "$@")
 }
 
-# each FUNCTION FILE: calls the function with the cells of each row of tests/data/FILE, in an empty folder
+# each FUNCTION FILE: calls the function with the cells of each row of tests/data/FILE, or of a file with a whole path, in
+# an empty folder
 each() {
-    local lines row rest cells rows=0 wrong=0
-    mapfile -t lines < "$top/tests/data/$2"
+    local file=$2 lines row rest cells rows=0 wrong=0
+    [[ $file = /* ]] || file=$top/tests/data/$file
+    mapfile -t lines < "$file"
     for row in "${lines[@]}"; do
         case $row in '' | '#' | '# '*) continue ;; esac
         cells=()
@@ -136,8 +138,8 @@ each() {
         fi
         rm -r "${BATS_TEST_TMPDIR:?}/$rows"
     done
-    [ "$rows" -gt 0 ] || fail "tests/data/$2 has no row"
-    [ "$wrong" = 0 ] || fail "$wrong of $rows rows of tests/data/$2 differ"
+    [ "$rows" -gt 0 ] || fail "$file has no row"
+    [ "$wrong" = 0 ] || fail "$wrong of $rows rows of $file differ"
 }
 
 # gives STATUS OUT WORD..: with the file db.rec, and with the same on standard input, recu ends so, prints this and nothing

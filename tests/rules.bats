@@ -1,4 +1,4 @@
-# Descriptors, the types of fields, and where a file breaks its rules.
+# Descriptors, the types of fields, and where a file breaks its rules, as the program tells it: crates/rec_rows has the rows.
 
 load helpers
 
@@ -17,37 +17,17 @@ descriptor() {
 }
 
 @test "fields of descriptors" {
-    each descriptor descriptor_fields.rows
+    descriptor accepted '%key:¶+ %Id_1'
+    descriptor 'line 4: bad descriptor field' '%key: A¶%key: A'
+    descriptor 'line 3: not supported' '%confidential: K'
+    descriptor 'pattern not accepted' '%type: N regexp /(/'
 }
 
-# values_of WORDS fits|unfits VALUE..: each value stands in two fields of the type and in one of none
-values_of() {
-    local value newlines report
-    for value in "${@:3}"; do
-        [ "$value" != "''" ] || value=
-        newlines=${value//[^¶]/}
-        case $2 in
-            fits) report= ;;
-            unfits) report="4: type N¶$((5 + ${#newlines})): type %M¶" ;;
-            *) fail "$2 is neither fits nor unfits" ;;
-        esac
-        put db.rec "%rec: P¶%type: N,%M $1¶¶N: $value¶%M: $value¶O: $value¶"
-        reports "$report"
-    done
-}
-
-@test "which values fit a type" {
-    each values_of fitting_values.rows
-}
-
-# rules TEXT REPORT
-rules() {
-    put db.rec "$1"
-    reports "$2"
-}
-
-@test "where a file breaks its rules" {
-    each rules rules.rows
+@test "values that fit a type, and values that don't" {
+    put db.rec '%rec: P¶%type: N,%M int¶¶N:  12 \x09¶%M: 017¶O: x¶'
+    reports ''
+    put db.rec '%rec: P¶%type: N,%M int¶¶N: 1¶+¶%M: 08¶O: x¶'
+    reports '4: type N¶6: type %M¶'
 }
 
 @test "the manual's book breaks no rule" {

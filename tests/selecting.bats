@@ -1,40 +1,32 @@
-# What recsel and recinf print: which records, which fields, which sets.
+# What recsel and recinf print: which records, which fields, which sets, as the program prints it: crates/rec_rows has the
+# rows.
 
 load helpers
 
-# printing WORDS TEXT OUT
-printing() {
-    put db.rec "$2"
-    eval "shows \"\$3\" $(bytes "$1")"
-}
-
 @test "what is printed" {
-    each printing printed_texts.rows
-}
-
-# refusal WORDS TEXT REFUSAL
-refusal() {
-    put db.rec "$2"
-    eval "rejects \"\$3\" $(bytes "$1")"
+    put db.rec 'X: 1¶¶%rec: P¶¶N: 1¶¶N: 2¶'
+    shows 'N: 1¶N: 2¶' recsel -t P -C
+    shows '1¶2 P¶' recinf
+    shows '%rec: P¶' recinf -d
+    put db.rec ''
+    shows '' recsel
+    shows '0¶' recsel -c
 }
 
 @test "what is refused" {
-    each refusal refused_commands.rows
-}
-
-# selects EXPRESSION TEXT ANSWER: the number of records that it selects, or the refusal
-selects() {
-    local expression
-    expression=$(bytes "$1")
-    put db.rec "$2"
-    case $3 in
-        *[!0-9]*) rejects "$3" recsel -c -e "$expression" ;;
-        *) shows "$3¶" recsel -c -e "$expression" ;;
-    esac
+    put db.rec 'X: 1¶¶%rec: P¶¶N: 1¶'
+    rejects 'no such record type' recsel -t Q
+    rejects 'field list: error at byte 3' recsel -p 'A[1'
+    put db.rec 'A: 1¶B: x\'
+    rejects 'line 2: nothing follows the backslash' recsel
 }
 
 @test "what an expression selects" {
-    each selects selected_records.rows
+    put db.rec "A: é¶¶A: e¶¶A: b'a¶"
+    shows '2¶' recsel -c -e "A ~ '[[:alpha:]]'"
+    shows '1¶' recsel -c -e "A = 'b\\'a'"
+    rejects 'pattern not accepted' recsel -c -e "A ~ '[[]'"
+    rejects 'expression: error at byte 4' recsel -c -e 'A ~ B'
 }
 
 @test "patterns of thousands of bytes, and patterns that are nested deeply" {

@@ -3,9 +3,11 @@
 public calls, docs/calls.md, in seconds.
     python3 tests/wrong-bodies.py applied     says which wrong body can't be tried any more
     python3 tests/wrong-bodies.py covered     says which public function has none
-    python3 tests/wrong-bodies.py listed      says which public function the list lacks, and what it has that isn't there
+    python3 tests/wrong-bodies.py listed      says where the list isn't that of the sources, or what has to be said of a call
     python3 tests/wrong-bodies.py grown       says which call that needs memory has no test in which that is refused
-Where it says something it ends with 1. tests/README.md says how a wrong body is written."""
+    python3 tests/wrong-bodies.py list        writes the list anew
+Where it says something it ends with 1. tests/README.md says how a wrong body is written. The list has the public functions of
+the sources, with the names of their clauses; what else it says of them stands in tests/data/calls.rows."""
 import collections
 import glob
 import os
@@ -14,9 +16,13 @@ import sys
 
 MOST_IN_THE_GATE = 14
 LIST = "docs/calls.md"
+SAID = "tests/data/calls.rows"
+HEAD = ["| Call | Clauses | Refusals | After a refusal | Memory |", "|---|---|---|---|---|"]
 # A public function of which a body can be wrong needs a wrong body.
 Function = collections.namedtuple("Function", "path name first last is_public may_be_wrong")
-Row = collections.namedtuple("Row", "names clauses memory")
+# What is said of a call; where it is empty, what is said of most.
+Said = collections.namedtuple("Said", "refusals after memory note")
+MOST = Said("", "", "", "")
 
 
 def read(path):
@@ -147,50 +153,142 @@ def text_of(one):
     return "\n".join(read(one.path).split("\n")[one.first : one.last + 1])
 
 
-def rows_of(crate):
-    """The rows of the list on the crate: the functions, the clauses that are named, and what is said of memory."""
-    part = re.search(rf"^## {crate}\n(.*?)(?=^## |\Z)", read(LIST), re.M | re.S)
-    for line in part.group(1).split("\n") if part else []:
-        if line.startswith("| `"):
-            call, *promises, memory = line.strip("| ").split(" | ")
-            names = re.findall(r"`([\w:]+)`", call)
-            yield Row(names, set(re.findall(r"`(\w+)`", " ".join(promises))), memory)
+def said_of(crate):
+    """What the rows say of the crate's calls, by their names."""
+    said = {}
+    for line in read(SAID).split("\n"):
+        if line and line != "#" and not line.startswith("# "):
+            of, names, *cells = line.split(" | ")
+            if of == crate:
+                said.update((name, Said(*("" if cell == "''" else cell for cell in cells))) for name in names.split(", "))
+    return said
+
+
+def public_of(crate):
+    """The public functions by their names, each with its texts: a type may have several of one name."""
+    texts = {}
+    for one in all_functions_of(crate):
+        if one.is_public:
+            texts.setdefault(one.name, []).append(text_of(one))
+    return texts
+
+
+def head_of(text):
+    """The name, the parameters and the result."""
+    return re.split(r"^ *(?:requires|ensures)\b|{|//", text, maxsplit=1, flags=re.M)[0]
+
+
+def is_law(text):
+    return re.search(r"^{}$", text, re.M) is not None
+
+
+def clauses_of(texts):
+    """The names of the clauses, in their order."""
+    return list(dict.fromkeys(re.findall(r"^ *ensures (\w+) {", "\n".join(texts), re.M)))
+
+
+def promises_of(texts, said):
+    """The clauses, and what is said beside them."""
+    has_plain = any(re.search(r"^ *ensures {", text, re.M) for text in texts)
+    names = ", ".join(f"`{name}`" for name in clauses_of(texts)) or ("its clause" if has_plain else "")
+    return "; ".join(part for part in (names, said.note) if part)
+
+
+def cells_of(texts, said):
+    if is_law(texts[0]):
+        return ("law", "none", "none", "none")
+    return (promises_of(texts, said), said.refusals or "none", said.after or "reads only", said.memory or "none")
+
+
+def table_of(crate):
+    """The rows of the list on the crate: calls next to each other of which the same is said stand in one, laws in the last."""
+    said = said_of(crate)
+    rows = [([name], cells_of(texts, said.get(name, MOST))) for name, texts in public_of(crate).items()]
+    laws = sorted(name for names, cells in rows if cells[0] == "law" for name in names)
+    merged = []
+    for names, cells in rows:
+        if cells[0] == "law":
+            continue
+        if merged and merged[-1][1] == cells:
+            merged[-1][0].extend(names)
+        else:
+            merged.append((names, cells))
+    if laws:
+        merged.append((laws, ("laws" if len(laws) > 1 else "law", "none", "none", "none")))
+    return HEAD + [f"| {', '.join(f'`{name}`' for name in names)} | {' | '.join(cells)} |" for names, cells in merged]
+
+
+def written(crate, text):
+    """The list with the crate's table written anew."""
+    table = "\n".join(table_of(crate))
+    return re.sub(rf"(^## {crate}\n(?:(?!\|).*\n)*)(?:\|.*\n)*", lambda part: part.group(1) + table + "\n", text, flags=re.M)
+
+
+def lacking(crate):
+    """What has to be said of a call, and isn't."""
+    public, said = public_of(crate), said_of(crate)
+    yield from (f"{SAID}: {crate} has no public function {name}" for name in said if name not in public)
+    for name, texts in public.items():
+        told = said.get(name, MOST)
+        heads = "".join(map(head_of, texts))
+        if "-> Result<" in heads and not told.refusals:
+            yield f"{SAID}: what {name} of {crate} refuses isn't said"
+        if re.search("alloc: Global|AllocGlobal", heads) and not told.memory:
+            yield f"{SAID}: {name} of {crate} is given memory, and no test is named in which it is refused"
+        if not is_law(texts[0]) and not promises_of(texts, told):
+            yield f"{SAID}: what {name} of {crate} gives isn't said, and it has no clause"
+        cited = re.findall(r"`(\w+)`", told.refusals + told.after)
+        yield from (f"{SAID}: {name} of {crate} has no clause {clause}" for clause in cited if clause not in clauses_of(texts))
 
 
 def listed(crate):
-    public = {one.name: [] for one in all_functions_of(crate) if one.is_public}
-    for one in all_functions_of(crate):
-        if one.is_public:
-            public[one.name].append(text_of(one))
-    names = [name for row in rows_of(crate) for name in row.names]
-    yield from (f"{LIST}: {crate} has no public function {name}" for name in names if name not in public)
-    yield from (f"{LIST}: {name} of {crate} is missing" for name in public if name not in names)
-    for row in rows_of(crate):
-        text = "\n".join(text for name in row.names for text in public.get(name, []))
-        clauses = set(re.findall(r"^ *ensures (\w+) {", text, re.M))
-        yield from (f"{LIST}: {row.names[0]} has no clause {name}" for name in sorted(row.clauses - clauses))
+    if not exports_of(crate):
+        return
+    yield from lacking(crate)
+    if f"\n## {crate}\n" not in read(LIST):
+        yield f"{LIST}: there is no part on {crate}"
+    elif written(crate, read(LIST)) != read(LIST):
+        yield f"{LIST}: the part on {crate} isn't that of the sources: python3 tests/wrong-bodies.py list"
+
+
+def write_list():
+    text = read(LIST)
+    for crate in sorted(os.listdir("crates")):
+        if exports_of(crate):
+            text = written(crate, text)
+    with open(LIST, "w", encoding="utf-8") as file:
+        file.write(text)
+
+
+def tests_of_growth():
+    """The tests in which growths are refused: cases `growth_of_..` of rec_calls, and by their names those of growth.rec and of
+    two .bats files."""
+    sources = "\n".join(read(path) for path in sources_of("rec_calls"))
+    bats = read("tests/memory.bats") + read("tests/growth.bats")
+    return (
+        re.findall(r"^fn (growth_of_\w+)", sources, re.M),
+        re.findall(r"^Case: (.*)", read("crates/rec_rows/data/growth.rec"), re.M),
+        re.findall(r'^@test "(.*)"', bats, re.M),
+    )
 
 
 def grown(crate):
-    """A test is a case `growth_of_..` of crates/rec_calls, or one of tests/memory.bats, whose name stands in quotes."""
-    sources = "\n".join(read(path) for path in sources_of("rec_calls"))
-    tests = re.findall(r"^fn (growth_of_\w+)", sources, re.M) + re.findall(r'^@test "(.*)"', read("tests/memory.bats"), re.M)
-    signatures = {one.name: text_of(one).partition("{")[0] for one in all_functions_of(crate)}
-    for row in rows_of(crate):
-        named = re.findall(r"`(growth_of_\w+)`|\"(.*?)\"", row.memory)
-        named = [case or command for case, command in named]
-        yield from (f"{LIST}: {row.names[0]}: there is no test {name}" for name in named if name not in tests)
-        if row.memory != "none" and not named:
-            yield f"{LIST}: {row.names[0]} needs memory, and no test is named in which it is refused"
-        if row.memory == "none" and any(re.search(r"alloc: Global|AllocGlobal", signatures.get(name, "")) for name in row.names):
-            yield f"{LIST}: {row.names[0]} is given memory, and the list says that it needs none"
+    calls, rows, runs = tests_of_growth()
+    for name, said in said_of(crate).items():
+        named = [case or command for case, command in re.findall(r"`(growth_of_\w+)`|\"(.*?)\"", said.memory)]
+        yield from (f"{SAID}: {name}: there is no test {test}" for test in named if test not in calls + rows + runs)
+        if said.memory not in ("", "none") and not named:
+            yield f"{SAID}: {name} needs memory, and no test is named in which it is refused"
     if crate == "rec_calls":
-        cases = [name for name in tests if name.startswith("growth_of_")]
-        yield from (f"{LIST}: {name} is no test of a call" for name in cases if f"`{name}`" not in read(LIST))
+        yield from (f"{SAID}: {name} is no test of a call" for name in calls if f"`{name}`" not in read(SAID))
+    if crate == "rec_rows":
+        yield from (f"{SAID}: {name} is no test of a call" for name in rows if f'"{name}"' not in read(SAID))
 
 
 def main(words):
     looks = {"applied": applied, "covered": covered, "listed": listed, "grown": grown}
+    if words == ["list"]:
+        return write_list()
     if len(words) != 1 or words[0] not in looks:
         sys.exit(__doc__)
     said = [line for crate in sorted(os.listdir("crates")) for line in looks[words[0]](crate)]

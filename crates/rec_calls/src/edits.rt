@@ -1,16 +1,12 @@
-//! The edits of the plain program and of `edit`, on the same made texts; and edits that are made again where memory ran
-//! out.
-ghost use Rattle.std.specs.Prelude.{Ok};
-ghost use Rattle.rec_check.specs.Schemas.{IsSchema};
-ghost use Rattle.rec_check.specs.Stored.{described};
-
+//! The edits of the plain program and of `edit`, on the same made texts; and calls that are made again where a growth was
+//! refused, as `tests/growth.bats` has it of each growth in turn.
 pub mod batches;
+pub mod options;
 pub mod plain_edit;
 
 use crate::edits::plain_edit::{Change, Item, Run, plain_parts, plain_runs, plain_text};
 use crate::log::Log;
-use rec_check::Schema;
-use rec_edit::{Action, Edit, Edited, NewRecord, Pair, edit};
+use rec_edit::{Action, Edit, Edited, RecFile, edit};
 use rec_journal::Hunk;
 use rec_select::{By, Selection};
 use rec_sex::IndexList;
@@ -21,12 +17,7 @@ pub fn run(alloc: Global, log: &mut Log) {
     cases!(alloc, log:
         both_make_the_same_of_records,
         both_make_the_same_of_fields,
-        growth_of_delete,
-        growth_of_comment_out,
-        growth_of_set,
-        growth_of_insert,
-        growth_of_replace,
-        growth_of_auto_fill);
+        growth_of_edit);
 }
 
 /// What the made texts consist of.
@@ -65,19 +56,6 @@ const LISTS: [(&str, &[(&str, usize, usize)]); 5] = [
     ("E,B", &[("E", 0, usize::MAX), ("B", 0, usize::MAX)]),
 ];
 
-/// A set with rules, and with a field that is given.
-const RULED: &[u8] = b"%rec: P
-%key: Id
-%auto: No
-
-Id: 1
-# c
-N: a
-
-Id: 2
-No: 4
-";
-
 /// The text of a number. Every third lacks its last newline.
 pub fn made(alloc: Global, number: u64) -> Result<Vec<u8>, AllocError> {
     let mut text = Vec::new(alloc);
@@ -103,7 +81,7 @@ pub fn selection(alloc: Global, list: &str) -> Result<Selection, Fault> {
     Ok(Selection { kind: None, by })
 }
 
-fn bytes(alloc: Global, text: &str) -> Result<Bytes, AllocError> {
+pub fn bytes(alloc: Global, text: &str) -> Result<Bytes, AllocError> {
     Bytes::copy_of(alloc, text.as_bytes())
 }
 
@@ -136,9 +114,16 @@ pub fn are_runs(hunks: &[Hunk], runs: &[Run]) -> bool {
 }
 
 /// What an edit makes of a text.
-fn edited(alloc: Global, database: &Database, request: &Edit) -> Result<Edited, Fault> {
-    let schema = Schema::read(alloc, database)?;
-    edit(alloc, database, &schema, request, false)
+fn made_by(alloc: Global, text: &[u8], request: &Edit) -> Result<Edited, Fault> {
+    edit(alloc, RecFile::read(alloc, text)?, request, false)
+}
+
+/// The hunks of an edit: those of its one step, and none where it changes nothing.
+fn hunks_of(edited: &Edited) -> &[Hunk] {
+    match edited.steps.as_slice() {
+        [step] => step.patch.hunks(),
+        _ => &[],
+    }
 }
 
 /// Both programs make the same of a text.
@@ -150,48 +135,13 @@ fn try_both(
     chosen: &[usize],
     change: &Change,
 ) -> Result<(), Fault> {
-    let edited = edited(alloc, database, request)?;
+    let edited = made_by(alloc, database.text(), request)?;
     let parts = plain_parts(alloc, database, chosen, change)?;
     let text = plain_text(alloc, &parts)?;
     log.at_bytes(database.text());
     log.same("the text", edited.text.as_slice(), &text);
     let runs = plain_runs(alloc, &parts)?;
-    log.holds("the hunks", are_runs(edited.patch.hunks(), &runs));
-    Ok(())
-}
-
-fn edit_again(
-    alloc: Global,
-    database: &Database,
-    schema: &Schema,
-    request: &Edit,
-) -> Result<Edited, Fault>
-    requires { IsSchema database.now (Ok (described schema.now)) }
-{
-    match edit(alloc, database, schema, request, false) {
-        Err(Fault::OutOfMemory) => edit(alloc, database, schema, request, false),
-        answer => answer,
-    }
-}
-
-/// The tool of an edit, and the text after it, which is asked for again where memory ran out.
-fn check_edit(
-    alloc: Global,
-    log: &mut Log,
-    request: &Edit,
-    tool: &str,
-    wanted: &str,
-) -> Result<(), Fault> {
-    log.same("the tool", request.tool().name(), tool.as_bytes());
-    let Ok(database) = read(alloc, RULED) else {
-        return Ok(());
-    };
-    let Ok(schema) = Schema::read(alloc, &database) else {
-        return Ok(());
-    };
-    let edited = edit_again(alloc, &database, &schema, request)?;
-    log.same("the text", edited.text.as_slice(), wanted.as_bytes());
-    log.holds("one record changed", edited.changed == 1);
+    log.holds("the hunks", are_runs(hunks_of(&edited), &runs));
     Ok(())
 }
 
@@ -294,95 +244,11 @@ fn both_make_the_same_of_fields(alloc: Global, log: &mut Log) -> Result<(), Faul
     Ok(())
 }
 
-fn growth_of_delete(alloc: Global, log: &mut Log) -> Result<(), Fault> {
-    let Ok(selection) = selection(alloc, "0") else {
-        return Ok(());
-    };
-    let request = Edit::Delete(selection);
-    let wanted = "%rec: P\n%key: Id\n%auto: No\n\nId: 2\nNo: 4\n";
-    check_edit(alloc, log, &request, "recdel", wanted)
-}
-
-fn growth_of_comment_out(alloc: Global, log: &mut Log) -> Result<(), Fault> {
-    let Ok(selection) = selection(alloc, "1") else {
-        return Ok(());
-    };
-    let request = Edit::CommentOut(selection);
-    let wanted = "%rec: P\n%key: Id\n%auto: No\n\nId: 1\n# c\nN: a\n\n#Id: 2\n#No: 4\n";
-    check_edit(alloc, log, &request, "recdel", wanted)
-}
-
-/// The first record, and an action that sets its fields or adds them.
-fn set_or_add(alloc: Global) -> Result<(Selection, Action), Fault> {
-    let selection = selection(alloc, "0")?;
-    let action = Action::SetAdd(bytes(alloc, "b")?);
-    Ok((selection, action))
-}
-
-fn growth_of_set(alloc: Global, log: &mut Log) -> Result<(), Fault> {
-    let Ok((selection, action)) = set_or_add(alloc) else {
-        return Ok(());
-    };
-    let request = Edit::Set {
-        selection,
-        list: "N,M".as_bytes(),
-        action: &action,
-    };
-    let wanted = "%rec: P\n%key: Id\n%auto: No\n\nId: 1\n# c\nN: b\nM: b\n\nId: 2\nNo: 4\n";
-    check_edit(alloc, log, &request, "recset", wanted)
-}
-
-/// A new record of one field.
-fn one_field(alloc: Global, name: &str, value: &str) -> Result<NewRecord, AllocError> {
-    let mut pairs = Vec::new(alloc);
-    pairs.push(Pair {
-        name: bytes(alloc, name)?,
-        value: bytes(alloc, value)?,
-    })?;
-    Ok(NewRecord::Pairs(pairs))
-}
-
-/// A type, and a new record of it.
-fn insertion(alloc: Global) -> Result<(Option<Bytes>, NewRecord), AllocError> {
-    let fresh = one_field(alloc, "Id", "3")?;
-    let kind = Some(bytes(alloc, "P")?);
-    Ok((kind, fresh))
-}
-
-fn growth_of_insert(alloc: Global, log: &mut Log) -> Result<(), Fault> {
-    let Ok((kind, fresh)) = insertion(alloc) else {
-        return Ok(());
-    };
-    let request = Edit::Insert {
-        kind: &kind,
-        fresh: &fresh,
-        auto: true,
-    };
-    let wanted =
-        "%rec: P\n%key: Id\n%auto: No\n\nId: 1\n# c\nN: a\n\nId: 2\nNo: 4\n\nNo: 5\nId: 3\n";
-    check_edit(alloc, log, &request, "recins", wanted)
-}
-
-/// The first record, and a new one.
-fn replacement(alloc: Global) -> Result<(Selection, NewRecord), Fault> {
-    let selection = selection(alloc, "0")?;
-    let fresh = NewRecord::Text(bytes(alloc, "Id: 3\n# d\nN:x")?);
-    Ok((selection, fresh))
-}
-
-fn growth_of_replace(alloc: Global, log: &mut Log) -> Result<(), Fault> {
-    let Ok((selection, fresh)) = replacement(alloc) else {
-        return Ok(());
-    };
-    let request = Edit::Replace {
-        selection,
-        fresh: &fresh,
-    };
-    let wanted = "%rec: P\n%key: Id\n%auto: No\n\nId: 3\nN: x\n\nId: 2\nNo: 4\n";
-    check_edit(alloc, log, &request, "recins", wanted)
-}
-
-fn growth_of_auto_fill(alloc: Global, log: &mut Log) -> Result<(), Fault> {
-    let wanted = "%rec: P\n%key: Id\n%auto: No\n\nNo: 5\nId: 1\n# c\nN: a\n\nId: 2\nNo: 4\n";
-    check_edit(alloc, log, &Edit::AutoFill, "recfix", wanted)
+fn growth_of_edit(alloc: Global, log: &mut Log) -> Result<(), Fault> {
+    let request = Edit::Delete(again!(selection(alloc, "0"))?);
+    let edited = again!(made_by(alloc, b"A: 1\n\nB: 2\n", &request))?;
+    log.same("the tool", request.tool().name(), b"recdel");
+    log.same("the text", edited.text.as_slice(), b"B: 2\n");
+    log.equal("the records changed", edited.changed, 1);
+    Ok(())
 }

@@ -1,29 +1,22 @@
-//! Calls that are made again where a growth was refused, as `tests/growth.bats` has it of each growth in turn: the first
-//! answer is the row's or that memory ran out, and the second is the row's.
-ghost use Rattle.std.specs.Prelude.{◌≢◌, [], Ok, IfOk};
+//! Calls of `rec_journal` that no request makes, on journals that were written by hand. One that asks for memory is made again
+//! where a growth was refused, as `tests/growth.bats` has it of each growth in turn. `crates/rec_rows` has the journals that
+//! requests read and write.
+ghost use Rattle.std.specs.Prelude.{Ok, IfOk};
 ghost use Rattle.rec_journal.specs.History.{IsOpening};
-ghost use Rattle.rec_journal.specs.Patch.{Splices};
 
-pub mod forgetting;
 pub mod hashes;
-pub mod histories;
 pub mod patches;
-pub mod spelling;
 
 use crate::journals::patches::patch_at;
 use crate::log::Log;
-use rec_journal::{
-    Direction, Hashed, History, Hunk, Patch, Plan, Tool, plan_edit, plan_move, plan_redo, plan_undo,
-};
-use rec_text::{Bytes, Fault};
-use std::alloc::{AllocError, Global};
+use rec_journal::{Hashed, History, Plan, Tool, plan_edit, plan_redo, plan_undo};
+use rec_text::Fault;
+use std::alloc::Global;
 
 pub fn run(alloc: Global, log: &mut Log) {
     cases!(alloc, log:
-        growth_of_apply,
-        growth_of_load,
+        a_history_is_told,
         growth_of_plan_edit,
-        growth_of_plan_move,
         growth_of_plan_undo,
         growth_of_plan_redo);
 }
@@ -34,11 +27,8 @@ const ALL: &[u8] = b"A: 1\n\nB: 2\n\nC: 3\n";
 /// The second of them is deleted.
 const WITHOUT_B: &[u8] = b"A: 1\n\nC: 3\n";
 
-/// The first and the last are deleted.
-const B_ALONE: &[u8] = b"B: 2\n\n";
-
-/// The journal of the deletion of the second, with the digests that `sha256sum` prints.
-const B_DELETED: &[u8] = b"%rec: RecEdit
+/// The journal of that and of its undo, with the digests that `sha256sum` prints.
+const JOURNAL: &[u8] = b"%rec: RecEdit
 %doc: recu journal, format 2
 %key: Number
 
@@ -53,16 +43,16 @@ Old: B: 2$
 + $
 New: $
 
-";
-
-/// What its undo appends.
-const UNDO: &[u8] = b"Number: 2
+Number: 2
 Kind: undo
 Of: 1
 Before: 679372bfd76bf8ed68f70ec527ce4595f05df91c5cab277a112ace73db6cbb3b
 After: f95e734b3da4c8cf8de0ce7f1a4b5b8b9e41fd295544c7cdc62300f6cf89ea38
 
 ";
+
+/// How many bytes of it the deletion has.
+const DELETED: usize = 269;
 
 /// What a redo after the undo appends.
 const REDO: &[u8] = b"Number: 3
@@ -73,20 +63,42 @@ After: 679372bfd76bf8ed68f70ec527ce4595f05df91c5cab277a112ace73db6cbb3b
 
 ";
 
-fn deleted(alloc: Global, at: usize, old: &[u8]) -> Result<Hunk, AllocError> {
-    Ok(Hunk {
-        at,
-        old: Bytes::copy_of(alloc, old)?,
-        new: Bytes::copy_of(alloc, b"")?,
-    })
+/// The journal of the deletion, and what its undo appends.
+fn parts() -> (&'static [u8], &'static [u8]) {
+    JOURNAL.split_at_checked(DELETED).unwrap_or((&[], &[]))
 }
 
-/// The deletion of the first record and of the last one.
-fn a_and_c_deleted(alloc: Global) -> Result<Vec<Hunk>, AllocError> {
-    let mut hunks = Vec::new(alloc);
-    hunks.push(deleted(alloc, 0, b"A: 1\n\n")?)?;
-    hunks.push(deleted(alloc, 12, b"C: 3\n")?)?;
-    Ok(hunks)
+/// The history of a file, which is hashed first.
+fn loaded(alloc: Global, file: &[u8], journal: &[u8]) -> Result<History, Fault>
+    ensures { IfOk result (λ history. IsOpening file.now journal.now (Ok history)) }
+{
+    History::load(alloc, &Hashed::of(alloc, file)?, journal)
+}
+
+/// A history has these numbers of edits to undo and to redo; its only edit is the deletion.
+fn check_history(log: &mut Log, history: &History, undos: usize, redos: usize, keep: usize) {
+    log.equal("edits to undo", history.undos(), undos);
+    log.equal("edits to redo", history.redos(), redos);
+    log.equal("what counts", history.keep(), keep);
+    log.holds("the file is as it was left", !history.is_drifted());
+    let mut steps = history.steps();
+    match steps.next() {
+        Some(step) => log.holds(
+            "the deletion",
+            step.number == 1 && step.tool == Tool::RecDel && step.done == (undos == 1),
+        ),
+        None => log.holds("there is an edit", false),
+    }
+    log.holds("there is no other", steps.next().is_none());
+}
+
+fn a_history_is_told(alloc: Global, log: &mut Log) -> Result<(), Fault> {
+    let (deleted, _) = parts();
+    check_history(log, &loaded(alloc, WITHOUT_B, deleted)?, 1, 0, DELETED);
+    check_history(log, &loaded(alloc, ALL, JOURNAL)?, 0, 1, JOURNAL.len());
+    let drifted = loaded(alloc, b"A: 7\n", JOURNAL)?;
+    log.holds("the file was changed", drifted.is_drifted());
+    Ok(())
 }
 
 /// A plan appends this to a journal, and leads to a file.
@@ -98,192 +110,41 @@ pub fn check_plan(log: &mut Log, plan: &Plan, journal: &[u8], appended: &[u8], f
     log.same("the file", plan.file.as_slice(), file);
 }
 
-fn apply_again(alloc: Global, patch: &Patch, text: &[u8]) -> Result<Bytes, Fault> {
-    match patch.apply(alloc, text) {
-        Err(Fault::OutOfMemory) => patch.apply(alloc, text),
-        answer => answer,
-    }
-}
-
-fn unapply_again(alloc: Global, patch: &Patch, text: &[u8]) -> Result<Bytes, Fault> {
-    match patch.unapply(alloc, text) {
-        Err(Fault::OutOfMemory) => patch.unapply(alloc, text),
-        answer => answer,
-    }
-}
-
-fn growth_of_apply(alloc: Global, log: &mut Log) -> Result<(), Fault> {
-    let Ok(hunks) = a_and_c_deleted(alloc) else {
-        return Ok(());
-    };
-    let Some(patch) = Patch::new(hunks) else {
-        return Ok(log.holds("it is a patch", false));
-    };
-    let after = apply_again(alloc, &patch, ALL)?;
-    log.same("the text after", after.as_slice(), B_ALONE);
-    let before = unapply_again(alloc, &patch, B_ALONE)?;
-    log.same("the text before", before.as_slice(), ALL);
-    Ok(())
-}
-
-/// The journal of the deletion and its undo.
-fn undone(alloc: Global) -> Result<Vec<u8>, AllocError> {
-    let mut journal = Vec::from_slice(alloc, B_DELETED)?;
-    journal.extend_from_slice(UNDO)?;
-    Ok(journal)
-}
-
-/// The history of a file, which is hashed first.
-pub fn loaded(alloc: Global, file: &[u8], journal: &[u8]) -> Result<History, Fault>
-    ensures { IfOk result (λ history. IsOpening file.now journal.now (Ok history)) }
-{
-    History::load(alloc, &Hashed::of(alloc, file)?, journal)
-}
-
-fn load_again(alloc: Global, file: &[u8], journal: &[u8]) -> Result<History, Fault> {
-    let hashed = Hashed::of(alloc, file)?;
-    match History::load(alloc, &hashed, journal) {
-        Err(Fault::OutOfMemory) => History::load(alloc, &hashed, journal),
-        answer => answer,
-    }
-}
-
-fn check_deleted(alloc: Global, log: &mut Log) -> Result<(), Fault> {
-    let deleted = load_again(alloc, WITHOUT_B, B_DELETED)?;
-    let before = deleted.nearest_number(Direction::Backward);
-    log.holds("the edit before", before == Some(1));
-    log.equal("what counts", deleted.keep(), B_DELETED.len());
-    Ok(())
-}
-
-fn check_undone(alloc: Global, log: &mut Log, journal: &[u8]) -> Result<(), Fault> {
-    let undone = load_again(alloc, ALL, journal)?;
-    log.holds("nothing to undo", undone.undos() == 0);
-    log.holds("one edit to redo", undone.redos() == 1);
-    log.equal("what counts", undone.keep(), journal.len());
-    log.holds("the file is as it was left", !undone.is_drifted());
-    Ok(())
-}
-
-fn growth_of_load(alloc: Global, log: &mut Log) -> Result<(), Fault> {
-    check_deleted(alloc, log)?;
-    match undone(alloc) {
-        Ok(journal) => check_undone(alloc, log, &journal),
-        Err(_) => Ok(()),
-    }
-}
-
-/// The plan of the deletion, which is asked for again where memory ran out.
-fn plan_again(
-    alloc: Global,
-    history: &History,
-    file: &Hashed,
-    patch: &Patch,
-    text: Bytes,
-    again: Bytes,
-) -> Result<Plan, Fault>
-    requires opened { IsOpening file.now [] (Ok history.now) }
-    requires changes { patch.now ≢ [] }
-    requires leads { Splices patch.now file.now text }
-    requires leads_again { Splices patch.now file.now again }
-{
-    match plan_edit(alloc, history, file, b"", Tool::RecDel, patch, text) {
-        Err(Fault::OutOfMemory) => plan_edit(alloc, history, file, b"", Tool::RecDel, patch, again),
-        answer => answer,
-    }
-}
-
-fn check_plan_edit(
-    alloc: Global,
-    log: &mut Log,
-    history: &History,
-    file: &Hashed,
-    patch: &Patch,
-) -> Result<(), Fault>
-    requires opened { IsOpening file.now [] (Ok history.now) }
-    requires changes { patch.now ≢ [] }
-{
-    let Ok(text) = patch.apply(alloc, file.text()) else {
-        return Ok(());
-    };
-    let Ok(again) = patch.apply(alloc, file.text()) else {
-        return Ok(());
-    };
-    let plan = plan_again(alloc, history, file, patch, text, again)?;
-    check_plan(log, &plan, b"", B_DELETED, WITHOUT_B);
-    Ok(())
+/// The plan of the deletion.
+fn deletion(alloc: Global) -> Result<Plan, Fault> {
+    let file = Hashed::of(alloc, ALL)?;
+    let history = History::load(alloc, &file, b"")?;
+    let patch = patch_at(alloc, 6, b"B: 2\n\n", b"")?;
+    let text = patch.apply(alloc, ALL)?;
+    plan_edit(alloc, &history, &file, b"", Tool::RecDel, patch, text)
 }
 
 fn growth_of_plan_edit(alloc: Global, log: &mut Log) -> Result<(), Fault> {
-    let Ok(file) = Hashed::of(alloc, ALL) else {
-        return Ok(());
-    };
-    let Ok(history) = History::load(alloc, &file, b"") else {
-        return Ok(());
-    };
-    match patch_at(alloc, 6, b"B: 2\n\n", b"") {
-        Ok(patch) => check_plan_edit(alloc, log, &history, &file, &patch),
-        Err(_) => Ok(()),
-    }
-}
-
-fn move_again(alloc: Global, history: &History, file: &[u8], journal: &[u8]) -> Result<Plan, Fault>
-    requires { IsOpening file.now journal.now (Ok history.now) }
-{
-    match plan_move(alloc, Direction::Backward, history, file, journal) {
-        Err(Fault::OutOfMemory) => plan_move(alloc, Direction::Backward, history, file, journal),
-        answer => answer,
-    }
-}
-
-fn growth_of_plan_move(alloc: Global, log: &mut Log) -> Result<(), Fault> {
-    let Ok(history) = loaded(alloc, WITHOUT_B, B_DELETED) else {
-        return Ok(());
-    };
-    let plan = move_again(alloc, &history, WITHOUT_B, B_DELETED)?;
-    check_plan(log, &plan, B_DELETED, UNDO, ALL);
+    let (deleted, _) = parts();
+    let plan = again!(deletion(alloc))?;
+    check_plan(log, &plan, b"", deleted, WITHOUT_B);
     Ok(())
 }
 
-fn undo_again(alloc: Global, history: &History, file: &[u8], journal: &[u8]) -> Result<Plan, Fault>
-    requires { IsOpening file.now journal.now (Ok history.now) }
-{
-    match plan_undo(alloc, history, file, journal) {
-        Err(Fault::OutOfMemory) => plan_undo(alloc, history, file, journal),
-        answer => answer,
-    }
+fn undone(alloc: Global, file: &[u8], journal: &[u8]) -> Result<Plan, Fault> {
+    let history = loaded(alloc, file, journal)?;
+    plan_undo(alloc, &history, file, journal)
 }
 
 fn growth_of_plan_undo(alloc: Global, log: &mut Log) -> Result<(), Fault> {
-    let Ok(history) = loaded(alloc, WITHOUT_B, B_DELETED) else {
-        return Ok(());
-    };
-    let plan = undo_again(alloc, &history, WITHOUT_B, B_DELETED)?;
-    check_plan(log, &plan, B_DELETED, UNDO, ALL);
+    let (deleted, undo) = parts();
+    let plan = again!(undone(alloc, WITHOUT_B, deleted))?;
+    check_plan(log, &plan, deleted, undo, ALL);
     Ok(())
 }
 
-fn redo_again(alloc: Global, history: &History, file: &[u8], journal: &[u8]) -> Result<Plan, Fault>
-    requires { IsOpening file.now journal.now (Ok history.now) }
-{
-    match plan_redo(alloc, history, file, journal) {
-        Err(Fault::OutOfMemory) => plan_redo(alloc, history, file, journal),
-        answer => answer,
-    }
-}
-
-fn check_redo(alloc: Global, log: &mut Log, journal: &[u8]) -> Result<(), Fault> {
-    let Ok(history) = loaded(alloc, ALL, journal) else {
-        return Ok(());
-    };
-    let plan = redo_again(alloc, &history, ALL, journal)?;
-    check_plan(log, &plan, journal, REDO, WITHOUT_B);
-    Ok(())
+fn redone(alloc: Global, file: &[u8], journal: &[u8]) -> Result<Plan, Fault> {
+    let history = loaded(alloc, file, journal)?;
+    plan_redo(alloc, &history, file, journal)
 }
 
 fn growth_of_plan_redo(alloc: Global, log: &mut Log) -> Result<(), Fault> {
-    match undone(alloc) {
-        Ok(journal) => check_redo(alloc, log, &journal),
-        Err(_) => Ok(()),
-    }
+    let plan = again!(redone(alloc, ALL, JOURNAL))?;
+    check_plan(log, &plan, JOURNAL, REDO, WITHOUT_B);
+    Ok(())
 }

@@ -13,6 +13,16 @@ macro_rules! cases {
     };
 }
 
+/// The answer of a call, which is made again where memory ran out.
+macro_rules! again {
+    ($call:expr) => {
+        match $call {
+            Err(Fault::OutOfMemory) => $call,
+            answer => answer,
+        }
+    };
+}
+
 mod checks;
 mod edits;
 mod expressions;
@@ -35,26 +45,20 @@ fn run(alloc: Global, log: &mut Log) {
     texts::values::run(alloc, log);
     texts::records::run(alloc, log);
     texts::parts::run(alloc, log);
-    expressions::integers::run(alloc, log);
-    expressions::patterns::run(alloc, log);
     expressions::run(alloc, log);
-    expressions::field_lists::run(alloc, log);
-    expressions::index_lists::run(alloc, log);
-    checks::run(alloc, log);
+    expressions::integers::run(alloc, log);
+    expressions::lists::run(alloc, log);
+    expressions::patterns::run(alloc, log);
     checks::counters::run(alloc, log);
     checks::reports::run(alloc, log);
     selections::run(alloc, log);
-    selections::order::run(alloc, log);
+    journals::run(alloc, log);
     journals::patches::run(alloc, log);
     journals::hashes::run(alloc, log);
-    journals::histories::run(alloc, log);
-    journals::run(alloc, log);
-    journals::forgetting::run(alloc, log);
     edits::run(alloc, log);
     edits::batches::run(alloc, log);
-    requests::batch_texts::run(alloc, log);
+    edits::options::run(alloc, log);
     requests::run(alloc, log);
-    requests::paths::run(alloc, log);
     log.close();
 }
 

@@ -1,6 +1,6 @@
 //! The edits of a batch, made one by one: where none is refused, they and the batch make the same of a file.
 use crate::tester::Tester;
-use rec_tools::{Fault, Home, Reply, Request, batch_requests};
+use rec_tools::{EditRequest, Fault, Home, Reply, Request, batch_edits};
 use std::alloc::{AllocError, Global};
 
 /// The number of the refusal for broken rules, which a batch tests on its last text alone.
@@ -25,32 +25,11 @@ enum End {
     Refused(u8),
 }
 
-/// Makes the edit a forced one, or not.
-fn set_force(edit: &mut Request, forced: bool) {
-    match edit {
-        Request::Insert { force, .. } => *force = forced,
-        Request::Replace { force, .. } => *force = forced,
-        Request::Delete { force, .. } => *force = forced,
-        Request::CommentOut { force, .. } => *force = forced,
-        Request::Set { force, .. } => *force = forced,
-        Request::AutoFill { force } => *force = forced,
-        Request::Batch { force, .. } => *force = forced,
-        Request::Show { .. }
-        | Request::Info { .. }
-        | Request::Check
-        | Request::Undo
-        | Request::Redo
-        | Request::Forget(_)
-        | Request::History => {}
-    }
-}
-
 /// Makes edits one by one, up to the first that is refused.
-fn run_each(home: &mut Tester, edits: &mut [Request], force: bool) -> End {
+fn run_each(home: &mut Tester, edits: Vec<EditRequest>, force: bool) -> End {
     let mut changed: usize = 0;
-    for edit in edits.iter_mut() {
-        set_force(edit, force);
-        match home.reply(edit) {
+    for edit in edits {
+        match home.reply(&Request::Edit { edit, force }) {
             Ok(Reply::Edited(count)) => changed = changed.saturating_add(count),
             Ok(_) => {}
             Err(fault) => return End::Refused(fault.number()),
@@ -75,14 +54,14 @@ impl<'b> Batch<'b> {
     /// Whether the batch is as its edits have it, which are made one by one in this home. Where one of them is refused, so is
     /// the batch, save that it may break the rules of the file for a while.
     pub fn is_as_its_edits(&self, alloc: Global, home: &mut Tester) -> Result<bool, Fault> {
-        let mut edits = match batch_requests(alloc, self.text) {
+        let edits = match batch_edits(alloc, self.text) {
             Ok(edits) => edits,
             Err(_) => return Ok(self.answer.starts_with("25 ") && self.after == self.before),
         };
         if edits.is_empty() {
             return Ok(self.after == self.before);
         }
-        match run_each(home, &mut edits, self.force) {
+        match run_each(home, edits, self.force) {
             End::Changed(changed) => {
                 let file = home.home.file();
                 let wanted = wanted(alloc, changed, file == self.before)?;

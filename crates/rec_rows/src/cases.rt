@@ -72,6 +72,14 @@ fn take_row(trial: &mut Trial, row: Row<'_>, log: &mut Log) -> Result<(), Fault>
     Ok(())
 }
 
+/// How the requests of each case are run: both ways, or again where a growth was refused.
+fn ways(log: &Log) -> &'static [Way] {
+    match log.again {
+        None => &[Way::OneByOne, Way::Together],
+        Some(_) => &[Way::Again],
+    }
+}
+
 /// Runs a case once each way, with this row and so much of its journal.
 fn run_trials(
     alloc: Global,
@@ -80,8 +88,8 @@ fn run_trials(
     cut: usize,
     log: &mut Log,
 ) -> Result<(), Fault> {
-    for way in [Way::OneByOne, Way::Together] {
-        let mut trial = Trial::new(alloc, way, cut);
+    for way in ways(log) {
+        let mut trial = Trial::new(alloc, *way, cut);
         take_fields(alloc, &mut trial, case, log)?;
         take_row(&mut trial, row, log)?;
         trial.finish(log)?;

@@ -1,8 +1,8 @@
 //! The requests of lines such as `recdel -t P -n 0 --force`: the words of the command line without a path, each of which is
 //! a cell.
 use crate::cells::bytes_in;
-use rec_command::{Asked, request_of as request_of_words, with_batch};
-use rec_tools::{Action, Ask, Bytes, Fault, Form, NewRecord, Pick, Request};
+use rec_command::{CommandLine, Order, request_of as request_of_words};
+use rec_tools::{Action, Ask, Bytes, EditRequest, Fault, Form, NewRecord, Pick, Request};
 use std::alloc::{AllocError, Global};
 use std::str;
 
@@ -96,6 +96,26 @@ impl<'w> Cells<'w> {
         Ok(())
     }
 
+    fn read_edit(&self, edit: &mut EditRequest) -> Result<(), AllocError> {
+        match edit {
+            EditRequest::Insert { kind, fresh, .. } => {
+                self.read_kind(kind)?;
+                self.read_pairs(fresh)
+            }
+            EditRequest::Replace { pick, fresh } => {
+                self.read_pick(pick)?;
+                self.read_pairs(fresh)
+            }
+            EditRequest::Delete(pick) | EditRequest::CommentOut(pick) => self.read_pick(pick),
+            EditRequest::Set { pick, list, action } => {
+                self.read_pick(pick)?;
+                self.read(list)?;
+                self.read_action(action)
+            }
+            EditRequest::AutoFill => Ok(()),
+        }
+    }
+
     /// The cells of a request become what they stand for.
     fn read_request(&self, request: &mut Request) -> Result<(), AllocError> {
         match request {
@@ -104,28 +124,9 @@ impl<'w> Cells<'w> {
                 self.read_form(form)
             }
             Request::Info { kind, .. } => self.read_kind(kind),
-            Request::Insert { kind, fresh, .. } => {
-                self.read_kind(kind)?;
-                self.read_pairs(fresh)
-            }
-            Request::Replace { pick, fresh, .. } => {
-                self.read_pick(pick)?;
-                self.read_pairs(fresh)
-            }
-            Request::Delete { pick, .. } | Request::CommentOut { pick, .. } => self.read_pick(pick),
-            Request::Set {
-                pick,
-                list,
-                action,
-                ..
-            } => {
-                self.read_pick(pick)?;
-                self.read(list)?;
-                self.read_action(action)
-            }
+            Request::Edit { edit, .. } => self.read_edit(edit),
             Request::Batch { text, .. } => self.read(text),
             Request::Check
-            | Request::AutoFill { .. }
             | Request::Undo
             | Request::Redo
             | Request::Forget(_)
@@ -136,10 +137,13 @@ impl<'w> Cells<'w> {
 
 /// The request of these words, whose cells are as they stand. A batch has the word that names its path as its text.
 fn request_in(alloc: Global, words: &[&str]) -> Result<Request, Fault> {
-    let Asked { request, batch, .. } = request_of_words(alloc, words)?;
-    match batch {
-        Some(path) => Ok(with_batch(request, Bytes::copy_of(alloc, path.as_bytes())?)),
-        None => Ok(request),
+    let CommandLine { order, .. } = request_of_words(alloc, words)?;
+    match order {
+        Order::Whole(request) => Ok(request),
+        Order::BatchAt { path, force } => Ok(Request::Batch {
+            text: Bytes::copy_of(alloc, path.as_bytes())?,
+            force,
+        }),
     }
 }
 

@@ -52,12 +52,13 @@ impl Move {
 
 /// What the plain machine has answered and printed, and its text.
 fn wanted_of(alloc: Global, plain: &Plain) -> Result<Wanted, AllocError> {
-    Ok(Wanted {
-        answer: String::from_str(alloc, plain.answers.as_str())?,
-        print: Bytes::copy_of(alloc, plain.prints.as_slice())?,
-        file: Bytes::copy_of(alloc, plain.text.as_slice())?,
-        journal: None,
-    })
+    let answers = plain.answers.as_str();
+    Wanted::of(
+        alloc,
+        answers,
+        plain.prints.as_slice(),
+        plain.text.as_slice(),
+    )
 }
 
 /// A home on which requests are run, and the plain machine beside it.

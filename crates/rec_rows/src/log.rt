@@ -13,8 +13,10 @@ pub struct Log {
     pub cut: usize,
     /// How many requests of the case were run.
     place: usize,
-    pub cases: usize,
-    pub requests: usize,
+    cases: usize,
+    requests: usize,
+    /// Where requests are run again when a growth was refused: how many were.
+    pub again: Option<usize>,
 }
 
 impl Log {
@@ -27,6 +29,7 @@ impl Log {
             place: 0,
             cases: 0,
             requests: 0,
+            again: None,
         }
     }
 
@@ -43,6 +46,26 @@ impl Log {
     pub fn count(&mut self) {
         self.place = self.place.saturating_add(1);
         self.requests = self.requests.saturating_add(1);
+    }
+
+    /// Counts a request that is run again.
+    pub fn count_again(&mut self) {
+        if let Some(again) = &mut self.again {
+            *again = again.saturating_add(1);
+        }
+    }
+
+    /// The last line: how much was run.
+    pub fn end(&mut self) -> Result<(), AllocError> {
+        write!(
+            self.text,
+            "{} cases, {} requests",
+            self.cases, self.requests
+        )?;
+        if let Some(again) = self.again {
+            write!(self.text, ", {again} again")?;
+        }
+        self.text.push('\n')
     }
 
     fn put_place(&mut self) -> Result<(), AllocError> {

@@ -1,5 +1,6 @@
 //! Runs the cases of the files that its arguments name on homes in memory, and prints a line for all that is found
-//! otherwise than it is written. `README.md` beside `src/` says how a case is written.
+//! otherwise than it is written. `README.md` beside `src/` says how a case is written. After the word `again` a request of
+//! which a growth was refused is run again.
 #![tactic(auto)]
 
 mod batches;
@@ -30,9 +31,12 @@ fn run_file(rt: &HostRuntime, path: &str, log: &mut Log) -> io::Result<()> {
 
 fn main(rt: HostRuntime) -> io::Result<()> {
     let mut log = Log::new(rt.alloc());
-    for path in env::args(&rt)?.skip(1) {
-        run_file(&rt, path.as_str(), &mut log)?;
+    for word in env::args(&rt)?.skip(1) {
+        match word.as_str() {
+            "again" => log.again = Some(0),
+            path => run_file(&rt, path, &mut log)?,
+        }
     }
-    print!(rt; "{}", log.text)?;
-    println!(rt; "{} cases, {} requests", log.cases, log.requests)
+    log.end()?;
+    print!(rt; "{}", log.text)
 }

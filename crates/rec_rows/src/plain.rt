@@ -2,7 +2,7 @@
 use crate::batches::Batch;
 use crate::log::Log;
 use crate::tester::Tester;
-use rec_tools::{Bytes, Fault, Request};
+use rec_tools::{Bytes, EditRequest, Fault, Request};
 use std::alloc::{AllocError, Global};
 use std::mem;
 
@@ -17,10 +17,12 @@ struct Step {
 /// The tool of an edit, as the history names it.
 fn tool_of(request: &Request) -> &'static str {
     match request {
-        Request::Insert { .. } | Request::Replace { .. } => "recins",
-        Request::Delete { .. } | Request::CommentOut { .. } => "recdel",
-        Request::Set { .. } => "recset",
-        Request::AutoFill { .. } => "recfix",
+        Request::Edit { edit, .. } => match edit {
+            EditRequest::Insert { .. } | EditRequest::Replace { .. } => "recins",
+            EditRequest::Delete(_) | EditRequest::CommentOut(_) => "recdel",
+            EditRequest::Set { .. } => "recset",
+            EditRequest::AutoFill => "recfix",
+        },
         Request::Batch { .. } => "batch",
         Request::Show { .. }
         | Request::Info { .. }
@@ -263,12 +265,7 @@ impl Plain {
             Request::Show { .. }
             | Request::Info { .. }
             | Request::Check
-            | Request::Insert { .. }
-            | Request::Replace { .. }
-            | Request::Delete { .. }
-            | Request::CommentOut { .. }
-            | Request::Set { .. }
-            | Request::AutoFill { .. }
+            | Request::Edit { .. }
             | Request::Batch { .. } => self.run(request, log),
         }
     }

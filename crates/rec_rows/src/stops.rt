@@ -4,7 +4,7 @@ use crate::command::request_of;
 use crate::log::Log;
 use crate::plain::Plain;
 use crate::tester::{STORE_FAILED, Tester, Wanted};
-use rec_tools::{Bytes, Fault, Home, Request, StoreFault};
+use rec_tools::{Bytes, Fault, Home, Request};
 use std::alloc::{AllocError, Global};
 
 /// A file, and requests that are run on it and an empty journal.
@@ -19,27 +19,16 @@ struct Case<'c> {
 #[derive(Clone, Copy)]
 struct Failing {
     call: u64,
-    fault: StoreFault,
+    /// How many of its writes are made all the same.
+    left: usize,
 }
 
 impl Failing {
-    /// Two for each call: it leaves the old content, and the new one.
+    /// Three for each call: it leaves none of two writes, the first, and both.
     fn of(number: usize) -> Failing {
-        let fault = if number % 2 == 0 {
-            StoreFault::LeavesOld
-        } else {
-            StoreFault::LeavesNew
-        };
         Failing {
-            call: number as u64 / 2,
-            fault,
-        }
-    }
-
-    fn word(&self) -> &'static str {
-        match self.fault {
-            StoreFault::LeavesOld => "old",
-            StoreFault::LeavesNew => "new",
+            call: number as u64 / 3,
+            left: number % 3,
         }
     }
 }
@@ -75,7 +64,7 @@ impl Run {
         }
     }
 
-    /// The same contents, of which no call fails, and the same machine.
+    /// The same contents and the same machine; no call fails.
     fn copy(&self) -> Result<Run, AllocError> {
         let tester = self.tester.copy_of_home()?;
         Ok(Run::new(self.alloc, tester, self.plain.copy()?))
@@ -93,23 +82,38 @@ impl Run {
         )
     }
 
-    /// Runs a request, some of whose calls may fail. It goes as the plain machine says, or answers that a file could not
+    /// Runs a request, some of whose calls may fail, and has its answer for the list.
+    fn answer(&mut self, request: &Request) -> Result<String, AllocError> {
+        let answer = self.tester.answer(request, usize::MAX)?;
+        write!(self.answers, "{answer}\n")?;
+        Ok(answer)
+    }
+
+    /// Whether the contents stand for the next state. A request goes as the plain machine says, or answers that a file could not
     /// be read or written, and leaves the state before or the one after.
+    fn is_done(
+        &self,
+        before: &Tester,
+        request: &Request,
+        answer: &String,
+        next: &Plain,
+        log: &mut Log,
+    ) -> Result<bool, AllocError> {
+        if self.tester.home.failures() == before.home.failures() {
+            compare_answer(self.alloc, answer, next, log)?;
+            return Ok(true);
+        }
+        log.compare("answers", answer.as_bytes(), STORE_FAILED.as_bytes())?;
+        self.is_left_of(before, request, log)?;
+        self.stands_for(next)
+    }
+
     fn step(&mut self, request: &Request, log: &mut Log) -> Result<(), Fault> {
         let mut next = self.plain.copy()?;
         next.take(request, log)?;
         let before = self.tester.copy_of_home()?;
-        let failures = self.tester.home.failures();
-        let answer = self.tester.answer(request, usize::MAX)?;
-        write!(self.answers, "{answer}\n")?;
-        if self.tester.home.failures() == failures {
-            compare_answer(self.alloc, &answer, &next, log)?;
-            self.plain = next;
-            return Ok(());
-        }
-        log.compare("answers", answer.as_bytes(), STORE_FAILED.as_bytes())?;
-        self.is_left_of(before, request, log)?;
-        if self.stands_for(&next)? {
+        let answer = self.answer(request)?;
+        if self.is_done(&before, request, &answer, &next, log)? {
             self.plain = next;
         }
         Ok(self.is_as_told("the history before or after", log)?)
@@ -124,7 +128,7 @@ impl Run {
     /// A failed request leaves both contents as they were, the new journal beside the old file, or both new.
     fn is_left_of(
         &self,
-        before: Tester,
+        before: &Tester,
         request: &Request,
         log: &mut Log,
     ) -> Result<(), AllocError> {
@@ -163,7 +167,7 @@ impl<'c> Case<'c> {
     fn begin(&self, fails: &[Failing]) -> Result<Run, AllocError> {
         let mut tester = Tester::with(self.alloc, self.file, &[])?;
         for failing in fails {
-            tester.home.fail(failing.call, failing.fault)?;
+            tester.home.fail(failing.call, failing.left)?;
         }
         let plain = Plain::new(self.alloc, Bytes::copy_of(self.alloc, self.file)?);
         Ok(Run::new(self.alloc, tester, plain))
@@ -173,7 +177,7 @@ impl<'c> Case<'c> {
     fn run_with(&self, fails: &[Failing], log: &mut Log) -> Result<(), Fault> {
         log.row = String::from_str(self.alloc, "failing")?;
         for failing in fails {
-            write!(log.row, " {} {}", failing.call, failing.word())?;
+            write!(log.row, " {} {}", failing.call, failing.left)?;
         }
         let mut run = self.begin(fails)?;
         for request in self.requests {
@@ -187,22 +191,18 @@ impl<'c> Case<'c> {
     /// All requests in one call give the same.
     fn run_together(&self, fails: &[Failing], run: &Run, log: &mut Log) -> Result<(), Fault> {
         let home = &run.tester.home;
-        let wanted = Wanted {
-            answer: String::from_str(self.alloc, run.answers.as_str())?,
-            print: Bytes::copy_of(self.alloc, &[])?,
-            file: Bytes::copy_of(self.alloc, home.file())?,
-            journal: Some(Bytes::copy_of(self.alloc, home.journal())?),
-        };
+        let mut wanted = Wanted::of(self.alloc, run.answers.as_str(), &[], home.file())?;
+        wanted.journal = Some(Bytes::copy_of(self.alloc, home.journal())?);
         let mut other = self.begin(fails)?;
         other.tester.run_all(self.requests, &wanted, log)
     }
 
     /// Every list of one or two failing calls among the first ones.
     fn run_failing(&self, calls: usize, log: &mut Log) -> Result<(), Fault> {
-        let end = calls.saturating_mul(2);
+        let end = calls.saturating_mul(3);
         for one in 0..end {
             self.run_with(&[Failing::of(one)], log)?;
-            let next = (one / 2).saturating_add(1).saturating_mul(2);
+            let next = (one / 3).saturating_add(1).saturating_mul(3);
             for two in next..end {
                 self.run_with(&[Failing::of(one), Failing::of(two)], log)?;
             }

@@ -1,12 +1,12 @@
 //! A home on which requests are run, and what is found there.
 use crate::log::Log;
 use crate::narrow::Narrow;
-use rec_tools::{
-    Bytes, Fault, Home, MemoryHome, Output, Reply, Request, Sink, StoreFault, run, run_all,
-};
+use rec_tools::{Bytes, Fault, Home, MemoryHome, Output, Reply, Request, Sink, run, run_all};
 use std::alloc::{AllocError, Global};
 
 pub const STORE_FAILED: &str = "23 a file could not be read or written";
+
+const OUT_OF_MEMORY: &str = "1 out of memory";
 
 /// What is wanted of a request.
 #[derive(Drop)]
@@ -16,6 +16,23 @@ pub struct Wanted {
     pub file: Bytes,
     /// None where any journal is right.
     pub journal: Option<Bytes>,
+}
+
+impl Wanted {
+    /// This, and any journal.
+    pub fn of(
+        alloc: Global,
+        answer: &str,
+        print: &[u8],
+        file: &[u8],
+    ) -> Result<Wanted, AllocError> {
+        Ok(Wanted {
+            answer: String::from_str(alloc, answer)?,
+            print: Bytes::copy_of(alloc, print)?,
+            file: Bytes::copy_of(alloc, file)?,
+            journal: None,
+        })
+    }
 }
 
 /// A home in memory, and what is printed.
@@ -78,9 +95,11 @@ impl Tester {
         Ok(tester)
     }
 
-    /// The same contents, of which no call fails.
+    /// The same contents and the same count of failures; no call fails.
     pub fn copy_of_home(&self) -> Result<Tester, AllocError> {
-        Tester::with(self.alloc, self.home.file(), self.home.journal())
+        let mut copy = Tester::with(self.alloc, self.home.file(), self.home.journal())?;
+        copy.home.failed = self.home.failed;
+        Ok(copy)
     }
 
     /// Empties the output, and leaves it so much room.
@@ -140,6 +159,51 @@ impl Tester {
         log.expect("the failures of the output", self.out.failures() == 0)?;
         self.compare(wanted, log)?;
         self.narrow(request, wanted, log)
+    }
+
+    /// Whether a growth was refused: memory ran out, and both contents are as before, or the home or the output had no room.
+    fn is_refused(
+        &self,
+        before: &Tester,
+        answer: &str,
+        wanted: &Wanted,
+        log: &mut Log,
+    ) -> Result<bool, AllocError> {
+        let has_failed = self.home.failures() != before.home.failures();
+        if has_failed || self.out.failures() > 0 {
+            log.compare("answers", answer.as_bytes(), STORE_FAILED.as_bytes())?;
+        } else if answer != OUT_OF_MEMORY {
+            return Ok(false);
+        }
+        log.compare("the old file", self.home.file(), before.home.file())?;
+        if !has_failed {
+            log.compare(
+                "the old journal",
+                self.home.journal(),
+                before.home.journal(),
+            )?;
+        }
+        let is_prefix = wanted.print.as_slice().starts_with(self.printed());
+        log.expect("a prefix of what is printed", is_prefix)?;
+        Ok(true)
+    }
+
+    /// Runs a request, and again where a growth was refused.
+    pub fn run_again(
+        &mut self,
+        request: &Request,
+        wanted: &Wanted,
+        log: &mut Log,
+    ) -> Result<(), AllocError> {
+        log.count();
+        let before = self.copy_of_home()?;
+        let mut answer = self.answer(request, usize::MAX)?;
+        if self.is_refused(&before, answer.as_str(), wanted, log)? {
+            log.count_again();
+            answer = self.answer(request, usize::MAX)?;
+        }
+        log.compare("answers", answer.as_bytes(), wanted.answer.as_bytes())?;
+        self.compare(wanted, log)
     }
 
     /// Compares what was printed, and both contents.

@@ -3,7 +3,7 @@ use crate::cells::bytes_in;
 use crate::command::request_of;
 use crate::log::Log;
 use crate::tester::{Tester, Wanted};
-use rec_tools::{Bytes, Fault, MemoryHome, Request, StoreFault};
+use rec_tools::{Bytes, Fault, MemoryHome, Request};
 use std::alloc::{AllocError, Global};
 
 /// How the requests of a case are run.
@@ -13,6 +13,8 @@ pub enum Way {
     OneByOne,
     /// All in one call.
     Together,
+    /// Each by itself, and again where a growth was refused.
+    Again,
 }
 
 /// The requests that were taken, to be run in one call, with what is wanted of them.
@@ -143,16 +145,12 @@ impl Trial {
         Ok(self.put_file(cell)?)
     }
 
-    /// Lets a call of the home fail: its number, and which content is left.
+    /// Lets a call of the home fail: its number, and how many of its writes are made all the same.
     fn fail(&mut self, cell: &str) -> Result<(), Fault> {
-        let fault = match cell.split_once(' ') {
-            Some((_, "old")) => StoreFault::LeavesOld,
-            Some((_, "new")) => StoreFault::LeavesNew,
-            _ => return Err(Fault::BadUsage),
-        };
-        let (call, _) = cell.split_once(' ').unwrap_or((cell, ""));
+        let (call, left) = cell.split_once(' ').unwrap_or((cell, ""));
         self.tester.fails = true;
-        Ok(self.tester.home.fail(number_in(call)?, fault)?)
+        let left = number_in(left)? as usize;
+        Ok(self.tester.home.fail(number_in(call)?, left)?)
     }
 
     /// Begins a request, of which nothing else is wanted until a field says so than that it shows nothing.
@@ -179,13 +177,17 @@ impl Trial {
         }
         let request = request_of(self.alloc, self.line.as_str(), self.word.as_slice())?;
         match self.way {
-            Way::OneByOne => self.run(&request, log),
+            Way::OneByOne | Way::Again => self.run(&request, log),
             Way::Together => self.taken.add(request, &self.wanted),
         }
     }
 
     fn run(&mut self, request: &Request, log: &mut Log) -> Result<(), Fault> {
-        self.tester.run(request, &self.wanted, log)?;
+        if self.way == Way::Again {
+            self.tester.run_again(request, &self.wanted, log)?;
+        } else {
+            self.tester.run(request, &self.wanted, log)?;
+        }
         if self.wanted.journal.is_none() {
             let journal = Bytes::copy_of(self.alloc, self.tester.home.journal())?;
             self.wanted.journal = Some(journal);

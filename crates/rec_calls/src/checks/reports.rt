@@ -1,5 +1,4 @@
-//! The reports of the plain program and of a schema, on the same texts: some that are told by hand, and longer ones.
-//! `crates/rec_rows` has more reports that are told by hand.
+//! The reports of the plain program and of a schema, on the same texts. `crates/rec_rows` has reports that are told by hand.
 use crate::checks::plain::plain_report;
 use crate::log::Log;
 use rec_check::Schema;
@@ -8,34 +7,9 @@ use std::alloc::{AllocError, Global};
 
 pub fn run(alloc: Global, log: &mut Log) {
     cases!(alloc, log:
-        both_find_what_is_told,
         both_find_the_same_by_each_rule,
         both_find_the_same_by_all_rules);
 }
-
-/// A text, and its report.
-const TOGETHER: [(&[u8], &[u8]); 5] = [
-    (
-        b"%rec: Book\n%key: Id\n%type: Year range 1900 2100\n%mandatory: Title\n\nId: 1\nTitle: A\nYear: 1899\n\nId: 1\n",
-        b"8: type Year\n10: key Id\n10: mandatory Title\n",
-    ),
-    (
-        b"%constraint: A = 1\n%type: A int\n%allowed: A\n%unique: A\n%prohibit: X\n%mandatory: M\n%key: K\n%size: 3\n%rec: P\n\nA: x\nX: 1\nA: y\n\nA: 1\nM: 1\nK: 1\n",
-        b"1: size P\n11: key K\n11: mandatory M\n11: prohibit X\n11: unique A\n11: allowed X\n11: type A\n13: type A\n11: constraint 1\n",
-    ),
-    (
-        b"%rec: P\n%mandatory: M\n%type: A int\n\nA: x\n\nA: y\n",
-        b"5: mandatory M\n5: type A\n7: mandatory M\n7: type A\n",
-    ),
-    (
-        b"# -*- mode: rec -*-\n\n%rec: Book\n%mandatory: Title\n%type: Location enum loaned home unknown\n%sort: Title\n%doc:\n+ My books.\n\nTitle: GNU Emacs Manual\nAuthor: Richard M. Stallman\nLocation: home\n",
-        b"",
-    ),
-    (
-        b"# -*- mode: rec -*-\n\n%rec: Book\n%mandatory: Title\n%type: Location enum loaned home unknown\n%sort: Title\n%doc:\n+ My books.\n\nAuthor: Richard M. Stallman\nLocation: Home\n",
-        b"10: mandatory Title\n11: type Location\n",
-    ),
-];
 
 /// What a made descriptor may ask.
 const ASKED: [&str; 12] = [
@@ -155,14 +129,6 @@ fn try_both(alloc: Global, log: &mut Log, text: &[u8]) -> Result<String, Fault> 
         plain.as_str().as_bytes(),
     );
     Ok(report)
-}
-
-fn both_find_what_is_told(alloc: Global, log: &mut Log) -> Result<(), Fault> {
-    for (text, wanted) in &TOGETHER {
-        let report = try_both(alloc, log, text)?;
-        log.same("the report", report.as_bytes(), wanted);
-    }
-    Ok(())
 }
 
 /// Both programs find the same in a set with one rule, and in one with all the others.

@@ -1,28 +1,24 @@
-//! Batches: what they make of a text, beside the plain program and beside what was written by hand; their plans and their
-//! histories; and calls that are made again where memory ran out.
-ghost use Rattle.std.specs.Prelude.{◌≡◌, ◌≢◌, [], Ok, IfOk};
-ghost use Rattle.rec_check.specs.Schemas.{IsSchema};
-ghost use Rattle.rec_check.specs.Stored.{described};
-ghost use Rattle.rec_journal.specs.History.{IsOpening};
+//! Batches: what they make of a text, beside the plain program and beside what was written by hand, and their plans. They are
+//! made again where a growth was refused.
+ghost use Rattle.std.specs.Prelude.{IfOk};
 ghost use Rattle.rec_journal.specs.Revisions.{LeadsBy, AreDone};
 
 use crate::edits::plain_edit::{Change, Item, Run, plain_parts, plain_runs, plain_text};
-use crate::edits::{are_runs, made, selection};
-use crate::journals::{check_plan, loaded};
+use crate::edits::{are_runs, bytes, made, selection};
+use crate::journals::check_plan;
 use crate::log::Log;
-use rec_check::Schema;
-use rec_edit::{Action, BatchEdited, Edit, batch};
-use rec_journal::{EditStep, Hashed, History, Plan, Step, Tool, plan_batch, plan_undo};
-use rec_text::{Bytes, Database, Fault, read};
+use rec_edit::{Action, Edit, Edited, RecFile, RefusedEdit, batch, edited};
+use rec_journal::{EditStep, Hashed, History, Plan, Tool, plan_batch};
+use rec_select::{By, Selection};
+use rec_text::{Fault, read};
 use std::alloc::Global;
 
 pub fn run(alloc: Global, log: &mut Log) {
     cases!(alloc, log:
         both_make_the_same_of_batches,
-        a_batch_is_one_step_of_a_history,
-        a_batch_is_taken_back_as_one,
         growth_of_batch,
-        growth_of_plan_batch);
+        growth_of_plan_batch,
+        a_refused_edit_is_told_by_its_place);
 }
 
 /// Two records.
@@ -54,15 +50,6 @@ New: $
 
 ";
 
-/// What its undo appends.
-const UNDO: &[u8] = b"Number: 2
-Kind: undo
-Of: 1
-Before: 582619739ea809cf7a596ab5a30f35e3a89a311f401b95e97e279b8b6ccab903
-After: 630061d5901b9341b6e7f735c235c4a777aee0ecd43e0b79122e7f42640bb1c1
-
-";
-
 /// All fields of a name.
 fn item(name: &[u8]) -> Item<'_> {
     Item {
@@ -91,14 +78,12 @@ fn three_edits(alloc: Global, action: &Action) -> Result<Vec<Edit<'_>>, Fault> {
     Ok(edits)
 }
 
-/// What a batch makes of a text.
-fn made_of(alloc: Global, text: &[u8], edits: &[Edit]) -> Result<BatchEdited, Fault>
+/// What edits make of a text.
+fn made_of(alloc: Global, text: &[u8], edits: &[Edit]) -> Result<Edited, Fault>
     ensures leads { IfOk result (λ made. LeadsBy made.steps text.now made.text) }
     ensures changes { IfOk result (λ made. AreDone made.steps) }
 {
-    let database = read(alloc, text)?;
-    let schema = Schema::read(alloc, &database)?;
-    batch(alloc, &database, &schema, edits, false)
+    Ok(edited(alloc, RecFile::read(alloc, text)?, edits, false)?)
 }
 
 /// The first of these steps has the runs of the plain program, where there are any. What is left are the steps after it.
@@ -148,7 +133,7 @@ fn try_both(alloc: Global, log: &mut Log, text: &[u8], action: &Action) -> Resul
 
 /// The value that the fields are set to.
 fn five(alloc: Global) -> Result<Action, Fault> {
-    Ok(Action::Set(Bytes::copy_of(alloc, b"5")?))
+    Ok(Action::Set(bytes(alloc, "5")?))
 }
 
 fn both_make_the_same_of_batches(alloc: Global, log: &mut Log) -> Result<(), Fault> {
@@ -159,31 +144,6 @@ fn both_make_the_same_of_batches(alloc: Global, log: &mut Log) -> Result<(), Fau
             try_both(alloc, log, &text, &action)?;
         }
     }
-    Ok(())
-}
-
-/// Whether it is the batch, done or not.
-fn is_batch(step: Option<Step>, done: bool) -> bool {
-    match step {
-        Some(step) => step.number == 1 && step.tool == Tool::Batch && step.done == done,
-        None => false,
-    }
-}
-
-fn a_batch_is_one_step_of_a_history(alloc: Global, log: &mut Log) -> Result<(), Fault> {
-    let history = loaded(alloc, ONE, JOURNAL)?;
-    let mut steps = history.steps();
-    log.holds("the batch", is_batch(steps.next(), true));
-    log.holds("nothing else", steps.next().is_none());
-    log.equal("what counts", history.keep(), JOURNAL.len());
-    log.same("the tool's name", Tool::Batch.name(), b"batch");
-    Ok(())
-}
-
-fn a_batch_is_taken_back_as_one(alloc: Global, log: &mut Log) -> Result<(), Fault> {
-    let history = loaded(alloc, ONE, JOURNAL)?;
-    let plan = plan_undo(alloc, &history, ONE, JOURNAL)?;
-    check_plan(log, &plan, JOURNAL, UNDO, BOTH);
     Ok(())
 }
 
@@ -198,7 +158,7 @@ fn check_step(log: &mut Log, step: &EditStep, tool: Tool, at: usize, old: &[u8],
     log.same("the new text", hunk.new.as_slice(), new);
 }
 
-fn check_made(log: &mut Log, made: &BatchEdited) {
+fn check_made(log: &mut Log, made: &Edited) {
     log.same("the text", made.text.as_slice(), ONE);
     log.equal("the records changed", made.changed, 2);
     let [first, second] = made.steps.as_slice() else {
@@ -208,97 +168,71 @@ fn check_made(log: &mut Log, made: &BatchEdited) {
     check_step(log, second, Tool::RecDel, 6, b"B: 2\n", b"");
 }
 
-fn batch_again(
-    alloc: Global,
-    database: &Database,
-    schema: &Schema,
-    edits: &[Edit],
-) -> Result<BatchEdited, Fault>
-    requires { IsSchema database.now (Ok (described schema.now)) }
-{
-    match batch(alloc, database, schema, edits, false) {
-        Err(Fault::OutOfMemory) => batch(alloc, database, schema, edits, false),
-        answer => answer,
-    }
+/// The two edits, of the two records.
+fn made_of_both(alloc: Global) -> Result<Edited, Fault> {
+    let action = five(alloc)?;
+    let edits = two_edits(alloc, &action)?;
+    batch(alloc, RecFile::read(alloc, BOTH)?, &edits, false)
 }
 
-fn check_batch(alloc: Global, log: &mut Log, edits: &[Edit]) -> Result<(), Fault> {
-    let Ok(database) = read(alloc, BOTH) else {
-        return Ok(());
-    };
-    let Ok(schema) = Schema::read(alloc, &database) else {
-        return Ok(());
-    };
-    let made = batch_again(alloc, &database, &schema, edits)?;
+fn growth_of_batch(alloc: Global, log: &mut Log) -> Result<(), Fault> {
+    let made = again!(made_of_both(alloc))?;
     check_made(log, &made);
     Ok(())
 }
 
-fn growth_of_batch(alloc: Global, log: &mut Log) -> Result<(), Fault> {
-    let Ok(action) = five(alloc) else {
-        return Ok(());
-    };
-    match two_edits(alloc, &action) {
-        Ok(edits) => check_batch(alloc, log, &edits),
-        Err(_) => Ok(()),
-    }
-}
-
-/// The plan of a batch, which is asked for again where memory ran out.
-fn plan_again(
-    alloc: Global,
-    history: &History,
-    file: &Hashed,
-    made: BatchEdited,
-    again: Bytes,
-) -> Result<Plan, Fault>
-    requires opened { IsOpening file.now [] (Ok history.now) }
-    requires changes { AreDone made.steps }
-    requires leads { LeadsBy made.steps file.now made.text }
-    requires leads_again { LeadsBy made.steps file.now again }
-{
-    let BatchEdited { steps, text, .. } = made;
+/// The plan of edits.
+fn plan_of(alloc: Global, text: &[u8], edits: &[Edit]) -> Result<Plan, Fault> {
+    let file = Hashed::of(alloc, text)?;
+    let history = History::load(alloc, &file, b"")?;
+    let Edited { steps, text, .. } = made_of(alloc, text, edits)?;
     if steps.as_slice().is_empty() {
         return Err(Fault::BadUsage);
     }
-    match plan_batch(alloc, history, file, b"", &steps, text) {
-        Err(Fault::OutOfMemory) => plan_batch(alloc, history, file, b"", &steps, again),
-        answer => answer,
-    }
+    plan_batch(alloc, &history, &file, b"", &steps, text)
 }
 
-/// Plans what edits make of a file.
-fn check_planned(alloc: Global, log: &mut Log, file: &[u8], made: BatchEdited) -> Result<(), Fault>
-    requires changes { AreDone made.steps }
-    requires leads { LeadsBy made.steps file.now made.text }
-{
-    let Ok(again) = Bytes::copy_of(alloc, made.text.as_slice()) else {
-        return Ok(());
-    };
-    let Ok(hashed) = Hashed::of(alloc, file) else {
-        return Ok(());
-    };
-    let Ok(history) = History::load(alloc, &hashed, b"") else {
-        return Ok(());
-    };
-    let plan = plan_again(alloc, &history, &hashed, made, again)?;
+fn plan_of_both(alloc: Global) -> Result<Plan, Fault> {
+    let action = five(alloc)?;
+    let edits = two_edits(alloc, &action)?;
+    plan_of(alloc, BOTH, &edits)
+}
+
+fn growth_of_plan_batch(alloc: Global, log: &mut Log) -> Result<(), Fault> {
+    let plan = again!(plan_of_both(alloc))?;
     check_plan(log, &plan, b"", JOURNAL, ONE);
     Ok(())
 }
 
-fn plan_edits(alloc: Global, log: &mut Log, file: &[u8], edits: &[Edit]) -> Result<(), Fault> {
-    match made_of(alloc, file, edits) {
-        Ok(made) => check_planned(alloc, log, file, made),
-        Err(_) => Ok(()),
+/// All records.
+const ALL: Selection = Selection {
+    kind: None,
+    by: By::All,
+};
+
+/// Edits of a text are refused so: by a number, at a place.
+fn check_refused(
+    log: &mut Log,
+    answer: &Result<Edited, RefusedEdit>,
+    number: u8,
+    place: Option<usize>,
+) {
+    match answer {
+        Ok(_) => log.holds("it is refused", false),
+        Err(refused) => {
+            log.holds("the refusal", refused.fault.number() == number);
+            log.holds("the place", refused.index == place);
+        }
     }
 }
 
-fn growth_of_plan_batch(alloc: Global, log: &mut Log) -> Result<(), Fault> {
-    let Ok(action) = five(alloc) else {
-        return Ok(());
-    };
-    match two_edits(alloc, &action) {
-        Ok(edits) => plan_edits(alloc, log, BOTH, &edits),
-        Err(_) => Ok(()),
-    }
+/// The second edit takes all records, which wants force; and the text after both breaks a rule.
+fn a_refused_edit_is_told_by_its_place(alloc: Global, log: &mut Log) -> Result<(), Fault> {
+    let edits = [Edit::AutoFill, Edit::Delete(ALL)];
+    let file = RecFile::read(alloc, BOTH)?;
+    check_refused(log, &edited(alloc, file, &edits, false), 10, Some(1));
+    let file = RecFile::read(alloc, b"%rec: P\n%size: 2\n\nA: 1\n\nA: 2\n")?;
+    let edits = [Edit::AutoFill, Edit::Delete(selection(alloc, "0")?)];
+    check_refused(log, &edited(alloc, file, &edits, false), 16, None);
+    Ok(())
 }

@@ -1,4 +1,4 @@
-//! Patches on small texts, with expected texts written by hand.
+//! Patches on small texts, with expected texts written by hand. They are applied again where a growth was refused.
 ghost use Rattle.std.specs.Prelude.{◌≢◌, [], IfOk};
 
 use crate::log::Log;
@@ -9,7 +9,7 @@ use std::alloc::{AllocError, Global};
 pub fn run(alloc: Global, log: &mut Log) {
     cases!(alloc, log:
         hunks_of_a_patch_are_apart_and_change_something,
-        patches_lead_to_texts_and_back,
+        growth_of_apply,
         patches_that_do_not_fit_lead_nowhere);
 }
 
@@ -89,28 +89,24 @@ const LEADS: [(&[Row], &[u8], &[u8]); 2] = [
     (INSERTION, b"abcde", b"axyzbcDe"),
 ];
 
-/// A patch leads from the one text to the other, and back.
-fn check_leads(
-    alloc: Global,
-    log: &mut Log,
-    rows: &[Row],
-    before: &[u8],
-    after: &[u8],
-) -> Result<(), Fault> {
+/// The text to which a patch of these hunks leads, that way.
+fn led(alloc: Global, rows: &[Row], text: &[u8], way: Direction) -> Result<Bytes, Fault> {
     let Some(patch) = patch_of(alloc, rows)? else {
-        return Ok(log.holds("it is a patch", false));
+        return Err(Fault::BadUsage);
     };
-    let applied = patch.apply(alloc, before)?;
-    log.same("the text after", applied.as_slice(), after);
-    let unapplied = patch.unapply(alloc, after)?;
-    log.same("the text before", unapplied.as_slice(), before);
-    Ok(())
+    match way {
+        Direction::Forward => patch.apply(alloc, text),
+        Direction::Backward => patch.unapply(alloc, text),
+    }
 }
 
-fn patches_lead_to_texts_and_back(alloc: Global, log: &mut Log) -> Result<(), Fault> {
+fn growth_of_apply(alloc: Global, log: &mut Log) -> Result<(), Fault> {
     for (rows, before, after) in &LEADS {
         log.at_bytes(before);
-        check_leads(alloc, log, rows, before, after)?;
+        let applied = again!(led(alloc, rows, before, Direction::Forward))?;
+        log.same("the text after", applied.as_slice(), after);
+        let unapplied = again!(led(alloc, rows, after, Direction::Backward))?;
+        log.same("the text before", unapplied.as_slice(), before);
     }
     Ok(())
 }
@@ -126,16 +122,10 @@ const UNFIT_BEFORE: [(&[Row], &[u8]); 4] = [
 /// Hunks, and a text to which the patch doesn't fit as the one after it.
 const UNFIT_AFTER: [(&[Row], &[u8]); 2] = [(INSERTION, b"axyzbcde"), (PAST, b"c")];
 
-/// Whether a patch fits no text so, applied or taken back.
-fn is_unfit(alloc: Global, rows: &[Row], text: &[u8], way: Direction) -> Result<bool, AllocError> {
-    let Some(patch) = patch_of(alloc, rows)? else {
-        return Ok(false);
-    };
-    let answer = match way {
-        Direction::Forward => patch.apply(alloc, text),
-        Direction::Backward => patch.unapply(alloc, text),
-    };
-    Ok(matches!(answer, Err(Fault::Drifted)))
+/// Whether a patch leads nowhere that way.
+fn is_unfit(alloc: Global, rows: &[Row], text: &[u8], way: Direction) -> bool {
+    let answer = led(alloc, rows, text, way);
+    matches!(answer, Err(Fault::Drifted))
 }
 
 fn patches_that_do_not_fit_lead_nowhere(alloc: Global, log: &mut Log) -> Result<(), Fault> {
@@ -143,14 +133,14 @@ fn patches_that_do_not_fit_lead_nowhere(alloc: Global, log: &mut Log) -> Result<
         log.at_bytes(text);
         log.holds(
             "it drifted",
-            is_unfit(alloc, rows, text, Direction::Forward)?,
+            is_unfit(alloc, rows, text, Direction::Forward),
         );
     }
     for (rows, text) in &UNFIT_AFTER {
         log.at_bytes(text);
         log.holds(
             "it drifted",
-            is_unfit(alloc, rows, text, Direction::Backward)?,
+            is_unfit(alloc, rows, text, Direction::Backward),
         );
     }
     Ok(())

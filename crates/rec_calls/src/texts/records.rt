@@ -1,15 +1,11 @@
-//! Faults, outputs, paragraphs, records, names and lines.
+//! Faults and rules, bytes, paragraphs, records, names and lines.
 use crate::log::Log;
-use rec_text::{Bytes, Database, Fault, Output, Rule, Sink, Violation, Violations, put_all, read};
-use std::alloc::{AllocError, Global};
-use std::io::Write;
+use rec_text::{Bytes, Database, Fault, Rule, Violation, Violations, read};
+use std::alloc::Global;
 
 pub fn run(alloc: Global, log: &mut Log) {
     cases!(alloc, log:
         faults_have_numbers_and_texts,
-        output_takes_what_its_writer_takes,
-        full_writer_is_a_failure,
-        paragraphs_end_at_blanks_and_records_at_fields,
         a_text_has_names_records_and_lines,
         bytes_are_taken_over,
         words_of_rules);
@@ -113,114 +109,6 @@ fn faults_have_numbers_and_texts(alloc: Global, log: &mut Log) -> Result<(), Fau
         number = number.saturating_add(1);
     }
     log.holds("there are no more faults", is_told(alloc, number, None)?);
-    Ok(())
-}
-
-/// Whether an output takes all of these bytes.
-fn takes<W: Write>(output: &mut Output<W>, bytes: &[u8]) -> bool {
-    put_all(output, bytes).is_ok()
-}
-
-/// How many of these bytes an output takes in one call.
-fn taken<W: Write>(output: &mut Output<W>, bytes: &[u8]) -> Option<usize> {
-    output.write(bytes).ok()
-}
-
-fn output_takes_what_its_writer_takes(alloc: Global, log: &mut Log) -> Result<(), Fault> {
-    let mut output = Output {
-        writer: Vec::new(alloc),
-        failed: 0,
-    };
-    log.holds("it takes a field", takes(&mut output, b"A: 1\n"));
-    log.holds("it takes nothing", takes(&mut output, b""));
-    log.holds("it takes another field", takes(&mut output, b"B: 2\n"));
-    log.same("the output", output.writer.as_slice(), b"A: 1\nB: 2\n");
-    log.holds("the failures", output.failures() == 0);
-    Ok(())
-}
-
-fn full_writer_is_a_failure(_: Global, log: &mut Log) -> Result<(), Fault> {
-    let mut room = [0; 4];
-    let mut output = Output {
-        writer: room.as_mut_slice(),
-        failed: 0,
-    };
-    log.holds("it doesn't take a field", !takes(&mut output, b"A: 1\n"));
-    log.holds("that is a failure", output.failures() == 1);
-    log.holds(
-        "nothing to take is no failure",
-        taken(&mut output, b"") == Some(0),
-    );
-    log.holds("it takes no more", taken(&mut output, b"B").is_none());
-    log.holds("that is one too", output.failures() == 2);
-    log.same("a prefix that went out", room.as_slice(), b"A: 1");
-    Ok(())
-}
-
-/// A text of an element for each letter: b blank, c comment, f field.
-fn text_of(alloc: Global, letters: &str) -> Result<Vec<u8>, AllocError> {
-    let mut text = Vec::new(alloc);
-    for letter in letters.bytes() {
-        text.extend_from_slice(match letter {
-            b'b' => b"\n".as_slice(),
-            b'c' => b"#\n",
-            _ => b"A:1\n",
-        })?;
-    }
-    Ok(text)
-}
-
-/// Whether these are the paragraphs and the records.
-fn has_ranges(
-    database: &Database,
-    paragraphs: &[(usize, usize)],
-    records: &[(usize, usize)],
-) -> bool {
-    let mut found = database.paragraphs();
-    for (start, end) in paragraphs {
-        if found.next() != Some(*start..*end) {
-            return false;
-        }
-    }
-    let mut listed = database.records();
-    for (start, end) in records {
-        if listed.next() != Some(*start..*end) {
-            return false;
-        }
-    }
-    found.next().is_none() && listed.next().is_none()
-}
-
-fn paragraphs_end_at_blanks_and_records_at_fields(
-    alloc: Global,
-    log: &mut Log,
-) -> Result<(), Fault> {
-    let cases: [(&str, &[(usize, usize)], &[(usize, usize)]); 7] = [
-        ("", &[], &[]),
-        ("bbb", &[], &[]),
-        ("f", &[(0, 1)], &[(0, 1)]),
-        ("cc", &[(0, 2)], &[]),
-        ("bcfcb", &[(1, 4)], &[(2, 3)]),
-        (
-            "cffcfcbbcbf",
-            &[(0, 6), (8, 9), (10, 11)],
-            &[(1, 5), (10, 11)],
-        ),
-        (
-            "fbfbbcf",
-            &[(0, 1), (2, 3), (5, 7)],
-            &[(0, 1), (2, 3), (6, 7)],
-        ),
-    ];
-    for (letters, paragraphs, records) in cases {
-        let text = text_of(alloc, letters)?;
-        let database = read(alloc, &text)?;
-        log.at(letters);
-        log.holds(
-            "the paragraphs and records",
-            has_ranges(&database, paragraphs, records),
-        );
-    }
     Ok(())
 }
 

@@ -92,15 +92,15 @@ build() {
 # Some crates are built beside others, by what these leave of the processors: that of the journal, which stands on rec_text
 # alone, and that of the explanations, on which the program alone stands. rt lets one run at a time into a crate and those
 # below it, so each works in a copy, and what it made is brought back.
-# beside CRATE BELOW..: begins to build a crate that stands on these
+# beside CRATE JOBS BELOW..: begins to build a crate that stands on these
 beside() {
     local below copy=$folder/copy_of_$1
     mkdir "$copy"
     tar -c --exclude=out crates.txt HANDLES crates | tar -x -C "$copy"
-    for below in "${@:2}"; do
+    for below in "${@:3}"; do
         tar -c --exclude=incremental "crates/$below/out" | tar -x -C "$copy"
     done
-    start "$1" "$copy" nice rt lib --jobs 1
+    start "$1" "$copy" nice rt lib --jobs "$2"
 }
 bring_back() {
     local copy crate
@@ -113,19 +113,21 @@ bring_back() {
 }
 
 most=$(($(nproc) > 3 ? 4 : $(nproc) > 1 ? 2 : 1))
-# A job takes 3 GB of memory at most, and a crate that is built beside others has one of its own.
+# A job takes 3 GB of memory at most, and the journal, which is built beside others, has one of its own.
 fit=$(awk '/^MemAvailable/ { print int($2 / 3000000) - 1 }' /proc/meminfo)
 jobs=${JOBS:-$((fit < 1 ? 1 : fit > most ? most : fit))}
 if [ ! -x "$recu" ]; then
     echo "Building recu. From nothing, all of it proved, it takes ${minutes[most]} minutes on $most processors."
     build rec_text
-    beside rec_journal rec_text
+    beside rec_journal 1 rec_text
     build rec_sex rec_check rec_select
     finish rec_journal
     bring_back
     build rec_edit rec_tools
-    beside rec_explain rec_text rec_sex rec_check rec_select rec_journal rec_edit rec_tools
-    build rec_files rec_command
+    # The explanations take longer than both crates beside them.
+    half=$((jobs > 1 ? jobs / 2 : 1))
+    beside rec_explain "$half" rec_text rec_sex rec_check rec_select rec_journal rec_edit rec_tools
+    jobs=$((jobs > half ? jobs - half : 1)) build rec_files rec_command
     finish rec_explain
     bring_back
 fi

@@ -196,6 +196,17 @@ batch_told() {
     has seen ''
 }
 
+@test "a CR or a form feed belongs to the word of a type" {
+    local undefined='Id: %auto counts, and the type of Id is not defined¶-f Id -v VALUE gives it, and --no-auto leaves it out'
+    local kind
+    for kind in 'int\x0D' 'int\x0Dx' '\x0Dint' 'int\x0C' 'int\x0Cx' 'range\x0D0 9'; do
+        put f "%rec: P¶%auto: Id¶%type: Id $kind¶"
+        explains "$undefined" 'no automatic value' recins -t P -f N -v x f
+        put f "%rec: P¶%auto: Id¶%typedef: T $kind¶%type: Id T¶"
+        explains "$undefined" 'no automatic value' recins -t P -f N -v x f
+    done
+}
+
 @test "standard input that is a terminal" {
     local tool
     for tool in recsel recinf recfix; do

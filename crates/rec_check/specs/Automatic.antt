@@ -1,10 +1,12 @@
 -- Automatic values: the next number of a counter.
-use Rattle.std.specs.Prelude.{◌≡◌, ◌⊎◌, ℕ, ℤ, pos, ◌-◌, ◌^◌, ◌==◌, ◌+ℤ◌, int_lt, Bool, true, false, ◌&&◌, not, List, [], ◌∷◌, All, Contains, flat_map, filter_map, slice_get, Option, Some, None, Result, Ok, Err}
+use Rattle.std.specs.Prelude.{◌≡◌, ◌⊎◌, ℕ, ℤ, pos, ◌-◌, ◌^◌, ◌==◌, ◌+ℤ◌, int_lt, Bool, true, false, ◌&&◌, not, List, [],
+    ◌∷◌, All, Contains, flat_map, filter_map, slice_get, Option, Some, None, Result, Ok, Err}
 use Rattle.std.specs.Option.{option_map_or}
 use Rattle.std.specs.declared.ops.Range.{Range}
 use Rattle.regex.specs.Patterns.{Re}
 use Rattle.rec_text.specs.declared.fault.Fault.{Fault}
 use Rattle.rec_text.specs.declared.fault.Fault.TheVariants.{AutoImpossible}
+use Rattle.rec_text.specs.Ascii.{percent_sign}
 use Rattle.rec_text.specs.Elements.{Piece}
 use Rattle.rec_text.specs.Records.{AreRecords}
 use Rattle.rec_sex.specs.Integers.{int_of}
@@ -35,7 +37,7 @@ may_count (Some _) = false
 -- a `%` comes first
 abbrev pub begins_special : List ℕ → Bool
 begins_special [] = false
-begins_special (b ∷ bs) = b == 37
+begins_special (b ∷ bs) = b == percent_sign
 
 abbrev pub is_counter : Rules → List ℕ → Bool
 is_counter rules name = not (begins_special name) && may_count (field_type rules name)

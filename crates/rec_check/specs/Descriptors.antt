@@ -1,15 +1,19 @@
 -- Descriptors: the records with a `%rec` field, what their fields mean, and what may be wrong with one of these.
-use Rattle.std.specs.Prelude.{◌≡◌, ℕ, ◌+◌, Bool, true, false, ◌==◌, ◌||◌, ◌&&◌, not, nat_le, nat_lt, is_some, List, [], ◌∷◌, ◌++◌, length, map, drop, find, filter_map, codes, Option, Some, None, option_map, option_and_then, if◌then◌else◌}
+use Rattle.std.specs.Prelude.{◌≡◌, ℕ, ◌+◌, Bool, true, false, ◌==◌, ◌||◌, ◌&&◌, not, nat_le, nat_lt, is_some, List, [],
+    ◌∷◌, ◌++◌, length, map, drop, find, filter_map, codes, Option, Some, None, option_map, option_and_then,
+    if◌then◌else◌}
 use Rattle.std.specs.List.{list_any, list_all}
 use Rattle.std.specs.Str.{bytes_eq}
 use Rattle.std.specs.declared.ops.Range.{Range}
+use Rattle.rec_text.specs.Ascii.{less_sign, equals_sign, greater_sign}
 use Rattle.rec_text.specs.Canonical.{is_plain_name, is_field_name}
 use Rattle.rec_text.specs.Elements.{Piece, name_of, has_name}
 pub use Rattle.rec_text.specs.Records.{elements_in}
 use Rattle.rec_text.specs.Values.{value_of}
 use Rattle.rec_sex.specs.Grammar.{fault_of}
 use Rattle.rec_check.specs.declared.descriptors.special.Special.{Special}
-use Rattle.rec_check.specs.declared.descriptors.special.Special.TheVariants.{Rec, Key, Mandatory, Prohibit, Unique, Singular, Allowed, Auto, Typed, Typedef, Size, Constraint, Confidential}
+use Rattle.rec_check.specs.declared.descriptors.special.Special.TheVariants.{Rec, Key, Mandatory, Prohibit, Unique,
+    Singular, Allowed, Auto, Typed, Typedef, Size, Constraint, Confidential}
 use Rattle.rec_check.specs.declared.descriptors.special.Bound.{Bound}
 use Rattle.rec_check.specs.declared.descriptors.special.Comparison.{Comparison}
 use Rattle.rec_check.specs.declared.descriptors.special.Comparison.TheVariants.{Exactly, Less, AtMost, Greater, AtLeast}
@@ -59,10 +63,10 @@ types_of pieces records = map (λ own_range. type_of (elements_in pieces own_ran
 -- the operator that comes first, the longest one, and what follows it
 abbrev pub comparison_in : List ℕ → Comparison
 comparison_in [] = Exactly
-comparison_in (b ∷ []) = if b == 60 then Less else if b == 62 then Greater else Exactly
+comparison_in (b ∷ []) = if b == less_sign then Less else if b == greater_sign then Greater else Exactly
 comparison_in (b ∷ c ∷ bs) =
-    if b == 60 then (if c == 61 then AtMost else Less)
-    else if b == 62 then (if c == 61 then AtLeast else Greater)
+    if b == less_sign then (if c == equals_sign then AtMost else Less)
+    else if b == greater_sign then (if c == equals_sign then AtLeast else Greater)
     else Exactly
 
 -- how many bytes the operator has

@@ -1,5 +1,6 @@
 -- What a descriptor asks of the records of its set.
-use Rattle.std.specs.Prelude.{◌≡◌, ℕ, List, [], codes, flat_map, slice_get, Option, Some, None, option_and_then, option_map, unwrap_or, if◌then◌else◌}
+use Rattle.std.specs.Prelude.{◌≡◌, ℕ, List, [], codes, flat_map, slice_get, Option, Some, None, option_and_then,
+    option_map, unwrap_or, if◌then◌else◌}
 use Rattle.std.specs.List.{AllZip, list_any}
 use Rattle.regex.specs.Patterns.{Re, SameCaptures}
 use Rattle.rec_text.specs.Elements.{Piece, has_name}
@@ -8,7 +9,7 @@ use Rattle.rec_sex.specs.Grammar.{Term}
 use Rattle.rec_sex.specs.Meaning.{values_of}
 use Rattle.rec_check.specs.declared.descriptors.special.Bound.{Bound}
 use Rattle.rec_check.specs.Descriptors.{bound_in}
-use Rattle.rec_check.specs.proving.Meanings.{meaning_in}
+use Rattle.rec_check.specs.Meanings.{meaning_in}
 use Rattle.rec_check.specs.Types.{FieldType, matching, unchecked, Definition, Typing, IsDefinition, IsTyping}
 use Rattle.rec_check.specs.Words.{words, last_that}
 use Rattle.rec_text.specs.Bytes.{is_among}

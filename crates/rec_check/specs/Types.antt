@@ -1,9 +1,12 @@
 -- Types of fields: how a descriptor writes them, and which values fit them.
-use Rattle.std.specs.Prelude.{◌≡◌, ℕ, ℤ, pos, negsuc, ◌-◌, ◌^◌, Bool, true, false, ◌==◌, ◌||◌, ◌&&◌, not, nat_le, int_lt, List, [], ◌∷◌, count_by, codes, Option, Some, None, is_some, option_map, option_and_then, if◌then◌else◌}
+use Rattle.std.specs.Prelude.{◌≡◌, ℕ, ℤ, pos, negsuc, ◌-◌, ◌^◌, Bool, true, false, ◌==◌, ◌||◌, ◌&&◌, not, nat_le,
+    int_lt, List, [], ◌∷◌, count_by, codes, Option, Some, None, is_some, option_map, option_and_then, if◌then◌else◌}
 use Rattle.std.specs.List.{list_all, list_any, slice_split}
 use Rattle.std.specs.Option.{option_map_or}
 use Rattle.std.specs.Str.{bytes_eq, is_utf8}
 use Rattle.regex.specs.Patterns.{Re}
+use Rattle.rec_text.specs.Ascii.{newline, space, left_parenthesis, right_parenthesis, comma, hyphen, digit_0, digit_9,
+    underscore}
 use Rattle.rec_text.specs.Bytes.{is_letter, is_among}
 use Rattle.rec_text.specs.Canonical.{is_field_name, is_plain_name}
 use Rattle.rec_sex.specs.Grammar.{IsPatternOf}
@@ -11,7 +14,8 @@ use Rattle.rec_sex.specs.Integers.{int_of, trimmed}
 use Rattle.rec_sex.specs.Meaning.{is_found}
 use Rattle.rec_sex.specs.Patterns.{PatternMayBeRefused}
 use Rattle.rec_check.specs.declared.field_types.known_kind.KnownKind.{KnownKind}
-use Rattle.rec_check.specs.declared.field_types.known_kind.KnownKind.TheVariants.{Integer, Range, Line, Size, Truth, Enum, Regexp, Unchecked}
+use Rattle.rec_check.specs.declared.field_types.known_kind.KnownKind.TheVariants.{Integer, Range, Line, Size, Truth,
+    Enum, Regexp, Unchecked}
 use Rattle.rec_check.specs.Words.{words, stripped, after_first_word}
 
 -- ---- types
@@ -47,7 +51,7 @@ lies_between least greatest z = not (int_lt z least) && not (int_lt greatest z)
 abbrev pub fits : FieldType Re → List ℕ → Bool
 fits integer value = is_some (int_of value)
 fits (range least greatest) value = option_map_or (lies_between least greatest) (int_of value) false
-fits line value = not (list_any (λ b. b == 10) value)
+fits line value = not (list_any (λ b. b == newline) value)
 fits (size most) value = nat_le (characters value) most
 fits truth value = is_among truths (trimmed value)
 fits (one_of items) value = is_among items (trimmed value)
@@ -84,10 +88,10 @@ size_type_of _ = None
 
 -- a letter or a digit; and with `_` or `-` too
 abbrev pub is_alphanumeric : ℕ → Bool
-is_alphanumeric b = is_letter b || (nat_le 48 b && nat_le b 57)
+is_alphanumeric b = is_letter b || (nat_le digit_0 b && nat_le b digit_9)
 
 abbrev pub continues_item : ℕ → Bool
-continues_item b = is_alphanumeric b || b == 95 || b == 45
+continues_item b = is_alphanumeric b || b == underscore || b == hyphen
 
 -- a word of an `enum`
 abbrev pub is_item : List ℕ → Bool
@@ -98,11 +102,13 @@ is_item (b ∷ bs) = is_alphanumeric b && list_all continues_item bs
 abbrev mutual
   pub without_comments : List ℕ → Option (List ℕ)
   without_comments [] = Some []
-  without_comments (b ∷ bs) = if b == 40 then after_comment bs else option_map (λ rest. b ∷ rest) (without_comments bs)
+  without_comments (b ∷ bs) =
+      if b == left_parenthesis then after_comment bs else option_map (λ rest. b ∷ rest) (without_comments bs)
 
   pub after_comment : List ℕ → Option (List ℕ)
   after_comment [] = None
-  after_comment (b ∷ bs) = if b == 41 then option_map (λ rest. 32 ∷ rest) (without_comments bs) else after_comment bs
+  after_comment (b ∷ bs) =
+      if b == right_parenthesis then option_map (λ rest. space ∷ rest) (without_comments bs) else after_comment bs
 
 -- one or more words
 abbrev pub enum_of : List (List ℕ) → Option (FieldType (List ℕ))
@@ -184,7 +190,7 @@ pub record Definition : Type 0 where
 -- the names, joined by commas
 abbrev pub names_of : List ℕ → Option (List (List ℕ))
 names_of word =
-    let names : List (List ℕ) = slice_split (λ b. b == 44) word in
+    let names : List (List ℕ) = slice_split (λ b. b == comma) word in
     if list_all is_field_name names then Some names else None
 
 -- what a `%type` field says: names, a kind, and the words of the kind; nothing where it doesn't say so

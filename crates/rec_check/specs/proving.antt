@@ -1,7 +1,6 @@
 -- What serves proofs.
 pub mod Steps
 pub mod Flaws
-pub mod Meanings
 pub mod Reading
 pub mod Patterns
 pub mod Kinds

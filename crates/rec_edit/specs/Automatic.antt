@@ -1,5 +1,6 @@
 -- Automatic fields: those that a new record lacks, and those that the records of a text lack.
-use Rattle.std.specs.Prelude.{◌≡◌, ℕ, ℤ, Bool, true, not, List, [], ◌∷◌, ◌++◌, map, filter, position, Option, Some, None, Result, Ok}
+use Rattle.std.specs.Prelude.{◌≡◌, ℕ, ℤ, Bool, true, not, List, [], ◌∷◌, ◌++◌, map, filter, position, Option, Some,
+    None, Result, Ok}
 use Rattle.std.specs.Str.{bytes_eq}
 use Rattle.std.specs.declared.ops.Range.{Range}
 use Rattle.rec_text.specs.declared.fault.Fault.{Fault}
@@ -30,7 +31,8 @@ AreNumbered next (name ∷ names) answer =
 -- ---- a new record
 
 -- what stands first in a new record of a type, which has fields of these names; nothing where that isn't asked for
-abbrev pub AreAutomatic : List Piece → Described → Option (List ℕ) → Bool → List (List ℕ) → Result (List Numbered) Fault → Type 0
+abbrev pub AreAutomatic : List Piece → Described → Option (List ℕ) → Bool → List (List ℕ) → Result (List Numbered) Fault
+    → Type 0
 AreAutomatic pieces schema (Some record_type) true names answer = elim (position (is_of_type record_type) schema.sets) [
   | None ↦ answer ≡ Ok []
   | Some place ↦ AreNumbered (IsAutomatic pieces schema place) (lacking (automatic_of schema place) names) answer
@@ -47,13 +49,15 @@ numbers_in given name = map (λ one. one.number) (filter (λ one. bytes_eq one.n
 abbrev pub AreFilled : List Piece → Rules → (List ℕ → List ℤ) → List (Range ℕ) → Result (List Filled) Fault → Type 0
 AreFilled pieces rules numbers [] answer = answer ≡ Ok []
 AreFilled pieces rules numbers (own_range ∷ records) answer =
-    Then (AreNumbered (λ name. IsNext rules name (numbers name)) (lacking (automatic_names rules) (names_of (elements_in pieces own_range)))) (λ given.
+    Then (AreNumbered (λ name. IsNext rules name (numbers name))
+        (lacking (automatic_names rules) (names_of (elements_in pieces own_range)))) (λ given.
     Then (AreFilled pieces rules (λ name. numbers_in given name ++ numbers name) records) (λ filled answer.
     answer ≡ Ok (record { range = own_range; given = given } ∷ filled))) answer
 
 -- the records of a set
 abbrev pub AreFilledMembers : List Piece → List (Range ℕ) → Set_ → Rules → Result (List Filled) Fault → Type 0
-AreFilledMembers pieces records s rules = AreFilled pieces rules (readings pieces (members records s)) (members records s)
+AreFilledMembers pieces records s rules =
+    AreFilled pieces rules (readings pieces (members records s)) (members records s)
 
 -- set by set; the untyped set has no automatic field
 abbrev pub AreFilledSets : List Piece → List (Range ℕ) → List Set_ → List Rules → Result (List Filled) Fault → Type 0

@@ -1,5 +1,6 @@
 -- Edits in turn, each of the text that the one before it gave; one edit is a batch of one.
-use Rattle.std.specs.Prelude.{◌≡◌, ◌≢◌, ℕ, zero, suc, ◌+◌, Bool, List, [], ◌∷◌, ◌++◌, Option, Some, None, Result, Ok, Err, min}
+use Rattle.std.specs.Prelude.{◌≡◌, ◌≢◌, ℕ, zero, suc, ◌+◌, Bool, List, [], ◌∷◌, ◌++◌, Option, Some, None, Result, Ok,
+    Err, min}
 use Rattle.std.specs.List.{AllByRecursion}
 use Rattle.rec_text.specs.declared.fault.Fault.{Fault}
 use Rattle.rec_text.specs.declared.fault.Fault.TheVariants.{BadPattern}
@@ -21,7 +22,8 @@ use Rattle.rec_edit.specs.Effect.{HasEffect}
 
 -- what an edit makes of a text, violations aside
 abbrev pub IsEditOn : Bool → Task → List ℕ → Result Patched Fault → Type 0
-IsEditOn force task text = Then (IsDescribedText text) (λ described. IsEditOf described.pieces described.schema force task)
+IsEditOn force task text = Then (IsDescribedText text)
+    (λ described. IsEditOf described.pieces described.schema force task)
 
 -- an edit as a step of a batch; one that changes nothing is none
 abbrev pub step_with : Tool → List Hunk → List EditStep
@@ -98,8 +100,8 @@ HaveEffects (task ∷ tasks) text last = (described : DescribedText) × (next : 
     × HasEffect described.pieces described.schema task next
     × HaveEffects tasks next last
 
--- Edits have one outcome, whichever way the patterns of their texts were built; only where `regex` may refuse a pattern of one
--- of the texts, that refusal may stand instead of the other answer.
+-- Edits have one outcome, whichever way the patterns of their texts were built; only where `regex` may refuse a pattern
+-- of one of the texts, that refusal may stand instead of the other answer.
 abbrev pub EditsHaveOneOutcome : Type 0
 EditsHaveOneOutcome = (force : Bool) (tasks : List Task) (text : List ℕ) (one other : Result Edited Fault)
     → IsBatchOutcome force tasks text one → IsBatchOutcome force tasks text other

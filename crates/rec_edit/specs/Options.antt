@@ -5,8 +5,8 @@ use Rattle.rec_edit.specs.declared.request.Action.TheVariants.{Set, Add, SetAdd,
 use Rattle.rec_edit.specs.declared.request.NewRecord.{NewRecord}
 use Rattle.rec_edit.specs.declared.request.NewRecord.TheVariants.{Pairs, Text}
 
--- the values to set, to add, and to set or else add, the new name, and whether fields are deleted or become comments: one of
--- them is given
+-- the values to set, to add, and to set or else add, the new name, and whether fields are deleted or become comments:
+-- one of them is given
 abbrev pub action_for : Action → Option (List ℕ) × Option (List ℕ) × Option (List ℕ) × Option (List ℕ) × Bool × Bool
 action_for (Set value) = (Some value, None, None, None, false, false)
 action_for (Add value) = (None, Some value, None, None, false, false)

@@ -1,9 +1,12 @@
--- What one edit makes of the elements of a text: its first refusal in their order, or its script and how many records it changes.
-use Rattle.std.specs.Prelude.{◌≡◌, ◌≤◌, ℕ, Bool, true, false, not, List, [], ◌∷◌, ◌++◌, length, map, filter_map, count_by, slice_get, Option, None, Result, Ok, Err, if◌then◌else◌}
+-- What one edit makes of the elements of a text: its first refusal in their order, or its script and how many records
+-- it changes.
+use Rattle.std.specs.Prelude.{◌≡◌, ◌≤◌, ℕ, Bool, true, false, not, List, [], ◌∷◌, ◌++◌, length, map, filter_map,
+    count_by, slice_get, Option, None, Result, Ok, Err, if◌then◌else◌}
 use Rattle.std.specs.Str.{bytes_eq}
 use Rattle.std.specs.declared.ops.Range.{Range}
 use Rattle.rec_text.specs.declared.fault.Fault.{Fault}
-use Rattle.rec_text.specs.declared.fault.Fault.TheVariants.{OutOfMemory, BadPattern, BadFieldList, NoSelection, TypeNeeded, NoSuchType, BadName, BadValue, BadRecord, Integrity, AutoImpossible}
+use Rattle.rec_text.specs.declared.fault.Fault.TheVariants.{OutOfMemory, BadPattern, BadFieldList, NoSelection,
+    TypeNeeded, NoSuchType, BadName, BadValue, BadRecord, Integrity, AutoImpossible}
 use Rattle.rec_text.specs.declared.violations.Violation.{Violation}
 use Rattle.rec_text.specs.Elements.{Piece, AreElementsOf, text_of}
 use Rattle.rec_text.specs.Records.{AreRecords}
@@ -20,7 +23,8 @@ use Rattle.rec_journal.specs.Revisions.{all_hunks, is_batch}
 use Rattle.rec_select.specs.Selection.{Filter, all, by_expression, at_places, with_text, IsSelection}
 use Rattle.rec_edit.specs.declared.outcome.Patched.{Patched}
 use Rattle.rec_edit.specs.Task.{Wanted, Task, insert, replace, delete, comment_out, set, auto_fill}
-use Rattle.rec_edit.specs.Script.{Part, Layout, closed, IsScriptOf, old_pieces, new_pieces, edited_text, parts_in, AreChangesOf}
+use Rattle.rec_edit.specs.Script.{Part, Layout, closed, IsScriptOf, old_pieces, new_pieces, edited_text, parts_in,
+    AreChangesOf}
 use Rattle.rec_edit.specs.Rules.{fields_of, deletion, commenting, replacement, setting}
 use Rattle.rec_edit.specs.Insertions.{inserting, insertion_for, numbered_fields, filling}
 use Rattle.rec_edit.specs.Wording.{AreItemsFor, IsNewRecord}
@@ -66,7 +70,8 @@ IsLaidOut pieces chosen layout answer = (script : List Part) × IsScriptOf layou
     × (answer ≡ Ok (record { script = script; changed = count_by (is_changed_by script) chosen }))
 
 -- a new record is put in
-abbrev pub IsPutIn : List Piece → List (Range ℕ) → List Set_ → Option (List ℕ) → List Piece → Result EditScript Fault → Type 0
+abbrev pub IsPutIn : List Piece → List (Range ℕ) → List Set_ → Option (List ℕ) → List Piece → Result EditScript Fault
+    → Type 0
 IsPutIn pieces records sets record_type fields answer =
     (script : List Part) × IsScriptOf (inserting (insertion_for pieces records sets record_type fields)) pieces script
     × (answer ≡ Ok (record { script = script; changed = 1 }))
@@ -146,11 +151,14 @@ PutsNoDescriptorIn _ = Unit {0}
 
 -- What such an edit makes of a text without a descriptor breaks no rule.
 abbrev pub UnruledEditsAreSound : Type 0
-UnruledEditsAreSound = (pieces : List Piece) (schema : Described) (force : Bool) (task : Task) (edit : EditScript) → AreElementsOf pieces (text_of pieces) → PutsNoDescriptorIn task
-    → IsSchema pieces (Ok schema) → length schema.sets ≡ 1 → IsEditScript pieces schema force task (Ok edit) → IsSound (edited_text edit.script) (Ok tt)
+UnruledEditsAreSound = (pieces : List Piece) (schema : Described) (force : Bool) (task : Task) (edit : EditScript)
+    → AreElementsOf pieces (text_of pieces) → PutsNoDescriptorIn task
+    → IsSchema pieces (Ok schema) → length schema.sets ≡ 1 → IsEditScript pieces schema force task (Ok edit)
+    → IsSound (edited_text edit.script) (Ok tt)
 
--- The script has the elements of the text and those of the edited one, and its changes are one list of hunks; an event of an
--- edit by one tool with these hunks has at most 512 bytes, 64 for each hunk, and 4 for each byte that they take out or put in.
+-- The script has the elements of the text and those of the edited one, and its changes are one list of hunks; an event
+-- of an edit by one tool with these hunks has at most 512 bytes, 64 for each hunk, and 4 for each byte that they take
+-- out or put in.
 pub record IsToldByHunks (pieces : List Piece) (script : List Part) : Type 0 where
   pub old : old_pieces script ≡ pieces
   pub new : AreElementsOf (new_pieces script) (edited_text script)
@@ -163,5 +171,6 @@ pub record IsToldByHunks (pieces : List Piece) (script : List Part) : Type 0 whe
 -- the script of each edit is told so
 abbrev pub HunksAreChanges : Type 0
 HunksAreChanges = (pieces : List Piece) (schema : Described) (force : Bool) (task : Task) (edit : EditScript)
-    → AreElementsOf pieces (text_of pieces) → IsSchema pieces (Ok schema) → IsEditScript pieces schema force task (Ok edit)
+    → AreElementsOf pieces (text_of pieces) → IsSchema pieces (Ok schema)
+    → IsEditScript pieces schema force task (Ok edit)
     → IsToldByHunks pieces edit.script

@@ -1,9 +1,11 @@
--- The script of an edit: parts in order, in each of which some elements are replaced by others. Joined, the old ones are the
--- elements of the text, and the new ones those of the edited text.
-use Rattle.std.specs.Prelude.{◌≡◌, ◌≢◌, ℕ, ◌+◌, ◌==◌, ◌⊎◌, Bool, true, false, leb, ◌&&◌, not, List, [], ◌∷◌, ◌++◌, length, map, flat_map, if◌then◌else◌}
+-- The script of an edit: parts in order, in each of which some elements are replaced by others. Joined, the old ones
+-- are the elements of the text, and the new ones those of the edited text.
+use Rattle.std.specs.Prelude.{◌≡◌, ◌≢◌, ℕ, ◌+◌, ◌==◌, ◌⊎◌, Bool, true, false, leb, ◌&&◌, not, List, [], ◌∷◌, ◌++◌,
+    length, map, flat_map, if◌then◌else◌}
 use Rattle.std.specs.List.{AllByRecursion, enumerate_from}
 use Rattle.std.specs.Str.{bytes_eq}
 use Rattle.std.specs.declared.ops.Range.{Range}
+use Rattle.rec_text.specs.Ascii.{newline}
 use Rattle.rec_text.specs.Bytes.{is_nil, ends_newline, closed_text}
 use Rattle.rec_text.specs.Elements.{Piece, text_of}
 use Rattle.rec_journal.specs.declared.patch.Hunk.{Hunk}
@@ -39,7 +41,7 @@ closed piece = record piece { bytes = closed_text piece.bytes }
 -- without the newline at its end
 abbrev pub without_newline : List ℕ → List ℕ
 without_newline [] = []
-without_newline (b ∷ []) = if b == 10 then [] else b ∷ []
+without_newline (b ∷ []) = if b == newline then [] else b ∷ []
 without_newline (b ∷ c ∷ bs) = b ∷ without_newline (c ∷ bs)
 
 -- the last one is made another, and those before it stay
@@ -59,7 +61,8 @@ lacks_newline text = not (is_nil text) && not (ends_newline text)
 -- A layout works on elements with newlines. What stands instead of the last element lacks the newline that it lacked,
 -- unless something is put after it.
 abbrev pub settled : List Part → List Part
-settled parts = on_last (λ part. if lacks_newline (text_of part.old) then record part { new = opened part.new } else part) parts
+settled parts = on_last (λ part. if lacks_newline (text_of part.old) then record part { new = opened part.new }
+    else part) parts
 
 -- ---- the two texts
 
@@ -91,7 +94,8 @@ put_alone (piece ∷ pieces) = record { part = record { old = []; new = piece �
 
 -- an element, with what stands instead of it
 abbrev pub changed_alone : Layout → ℕ → Piece → Single
-changed_alone layout i piece = record { part = record { old = piece ∷ []; new = layout.becomes i (closed piece) }; tied = layout.tied i }
+changed_alone layout i piece = record { part = record { old = piece ∷ []; new = layout.becomes i (closed piece) };
+    tied = layout.tied i }
 
 -- each element after what is put before it, and at the end what is put after them all
 abbrev pub singles_of : Layout → List Piece → List Single
@@ -130,10 +134,11 @@ changes_from at [] = []
 changes_from at (part ∷ parts) =
     if is_kept part
     then changes_from (at + length (text_of part.old)) parts
-    else record { at = at; old = text_of part.old; new = text_of part.new } ∷ changes_from (at + length (text_of part.old)) parts
+    else record { at = at; old = text_of part.old; new = text_of part.new }
+        ∷ changes_from (at + length (text_of part.old)) parts
 
--- the parts whose old elements lie in a range of indexes, those without old elements at its ends too; the first part begins at
--- this index
+-- the parts whose old elements lie in a range of indexes, those without old elements at its ends too; the first part
+-- begins at this index
 abbrev pub parts_in : Range ℕ → ℕ → List Part → List Part
 parts_in range i [] = []
 parts_in range i (part ∷ parts) =
@@ -141,7 +146,8 @@ parts_in range i (part ∷ parts) =
     then part ∷ parts_in range (i + length part.old) parts
     else parts_in range (i + length part.old) parts
 
--- runs of kept parts and of changed ones in turn, each as long as it can be; the first is of kept parts, or of changed ones
+-- runs of kept parts and of changed ones in turn, each as long as it can be; the first is of kept parts, or of changed
+-- ones
 abbrev pub AreInTurn : Bool → List (List Part) → Type 0
 AreInTurn kept [] = Unit {0}
 AreInTurn kept (run ∷ runs) = (run ≢ []) × AllByRecursion (λ part. is_kept part ≡ kept) run × AreInTurn (not kept) runs

@@ -3,7 +3,7 @@ ghost use Rattle.std.specs.Prelude.{◌≡◌, length, Bool, IfOk};
 ghost use Rattle.rec_text.specs.Faults.{UnlessMemory};
 ghost use Rattle.rec_edit.specs.proving.Drafts.{AreRanges};
 ghost use Rattle.rec_edit.specs.proving.Edits.{laid_script, edited_by};
-ghost use Rattle.rec_edit.specs.proving.Files.{IsCarriedOutIn, IsEditIn};
+ghost use Rattle.rec_edit.specs.proving.Files.{IsCarriedOutIn};
 ghost use Rattle.rec_edit.specs.proving.Filling.{filled_of, ranges_of};
 ghost use Rattle.rec_edit.specs.Insertions.{filling};
 ghost use Rattle.rec_edit.specs.Task.{task_of, wanted_by, fresh_by, insert as inserting_one, replace as replacing, delete as deleting, comment_out as commenting_out, set as setting_fields, auto_fill as filling_all};
@@ -84,8 +84,6 @@ fn filled_up(alloc: Global, file: &RecFile, filled: &[FilledRecord]) -> Result<P
 fn auto_fill(alloc: Global, file: &RecFile) -> Result<Patched, Fault>
     ensures { (force : Bool) → UnlessMemory result (IsCarriedOutIn file.now force filling_all) }
 {
-    // These are the elements of a text.
-    let _text = file.database().text();
     let filled = filled_records(alloc, file)?;
     Ok(filled_up(alloc, file, &filled)?)
 }
@@ -142,10 +140,8 @@ pub(crate) fn made(
     edit: &Edit,
     force: bool,
 ) -> Result<Patched, Fault>
-    ensures { UnlessMemory result (IsEditIn file.now force (task_of edit.now)) }
+    ensures { UnlessMemory result (IsCarriedOutIn file.now force (task_of edit.now)) }
 {
-    // These are the elements of a text.
-    let _text = file.database().text();
     match edit {
         Edit::Insert { kind, fresh, auto } => insert(alloc, file, kind, fresh, *auto),
         Edit::Replace { selection, fresh } => replace(alloc, file, selection, fresh),

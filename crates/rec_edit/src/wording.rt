@@ -1,10 +1,11 @@
 //! What the list of an edit of fields means, and its names and values.
 ghost use Rattle.std.specs.Prelude.{◌≡◌, ℕ, List, Ok, Err, map, MatchResult};
 ghost use Rattle.std.specs.List.{list_all};
+ghost use Rattle.rec_text.specs.Ascii.{space};
 ghost use Rattle.rec_text.specs.Canonical.{is_plain_name as may_be_written, is_foldable as can_be_folded};
 ghost use Rattle.rec_text.specs.Faults.{UnlessMemory};
 ghost use Rattle.rec_sex.specs.declared.lists.field_list.Item.{Item as ItemOf};
-ghost use Rattle.rec_edit.specs.Wording.{written, unnumbered, names_of_action, values_of_action, AreItemsFor};
+ghost use Rattle.rec_edit.specs.Wording.{if_writable, unnumbered, names_of_action, values_of_action, AreItemsFor};
 
 use crate::request::Action;
 use rec_sex::{FieldList, Item};
@@ -45,7 +46,7 @@ fn gives_plain_name(action: &Action) -> bool
 
 /// Whether the value that an action gives is one that recu writes; it may give none.
 fn gives_foldable_value(action: &Action) -> bool
-    ensures { result ≡ list_all (can_be_folded 32) (values_of_action action.now) }
+    ensures { result ≡ list_all (can_be_folded space) (values_of_action action.now) }
 {
     match action {
         Action::Set(value) | Action::Add(value) | Action::SetAdd(value) => {
@@ -58,7 +59,7 @@ fn gives_foldable_value(action: &Action) -> bool
 /// Refuses names of which recu doesn't write one, and then values.
 pub(crate) fn require_written(names_are_plain: bool, values_are_foldable: bool) -> Result<(), Fault>
     ensures { (names values : List (List ℕ)) → names_are_plain ≡ list_all may_be_written names
-        → values_are_foldable ≡ list_all (can_be_folded 32) values → result ≡ written names values tt }
+        → values_are_foldable ≡ list_all (can_be_folded space) values → result ≡ if_writable names values tt }
 {
     if !names_are_plain {
         return Err(Fault::BadName);

@@ -1,5 +1,7 @@
 -- The paths of a file and its journal, and the names under which they are written. A path is its bytes.
-use Rattle.std.specs.Prelude.{◌≢◌, ℕ, List, ◌++◌, codes, Option, Some, None}
+use Rattle.std.specs.Prelude.{◌≢◌, ℕ, List, [], ◌++◌, codes, Option, Some, None}
+use Rattle.rec_tools.specs.declared.home.Which.{Which}
+use Rattle.rec_tools.specs.declared.home.Which.TheVariants.{Base, Journal}
 
 -- the name under which a file is written before it takes its place
 abbrev pub working_name : List ℕ → List ℕ
@@ -9,6 +11,12 @@ working_name path = path ++ codes ".new"
 abbrev pub journal_of : List ℕ → Option (List ℕ) → List ℕ
 journal_of file (Some given) = given
 journal_of file None = file ++ codes ".journal"
+
+-- the path of a content, by those of the file and of the journal; standard input has none
+abbrev pub path_of : Option (List ℕ) → List ℕ → Which → List ℕ
+path_of (Some file) journal Base = file
+path_of None journal Base = []
+path_of file journal Journal = journal
 
 -- the two paths differ, and neither is the other's working name
 pub record AreApart (file journal : List ℕ) : Type 0 where

@@ -30,4 +30,5 @@ most mode owner_kept group_kept = bit_and (most_by_group mode group_kept) (most_
 
 -- of the special bits, to run as the owner (4) goes with the owner, to run as the group (2) with the group
 abbrev pub special_left : ℕ → Bool → Bool → ℕ
-special_left bits owner_kept group_kept = (if owner_kept then bits / 4 else 0) * 4 + (if group_kept then bits / 2 % 2 else 0) * 2 + bits % 2
+special_left bits owner_kept group_kept = (if owner_kept then bits / 4 else 0) * 4 + (if group_kept then bits / 2 % 2
+    else 0) * 2 + bits % 2

@@ -1,2 +1,2 @@
 -- What serves proofs.
-pub mod Files
+pub mod Folders

@@ -4,7 +4,7 @@ ghost use Rattle.std.specs.Prelude.{◌≡◌, ◌≤◌, ◌↔◌, [], length,
 ghost use Rattle.std.specs.IoError.{error_kind, raw_os_error};
 ghost use Rattle.rec_text.specs.Sink.{one_more};
 ghost use Rattle.rec_tools.specs.Home.{CountsFailure};
-ghost use Rattle.rec_files.specs.proving.Files.{path_of};
+ghost use Rattle.rec_files.specs.Paths.{path_of};
 
 use crate::access::Access;
 use crate::both::Both;

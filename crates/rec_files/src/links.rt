@@ -1,7 +1,7 @@
 //! Symbolic links, and the folder in which a path stands.
 ghost use Rattle.std.specs.Prelude.{◌≡◌, IfOk, string_bytes};
 ghost use Rattle.std.specs.Path.{path_parent, path_with_file_name};
-ghost use Rattle.rec_files.specs.proving.Files.{folder_in};
+ghost use Rattle.rec_files.specs.proving.Folders.{folder_in};
 
 use crate::failure::{of_link, too_many_links};
 use crate::open_file::are_one;

@@ -1,7 +1,9 @@
 -- What is printed of record sets: how many records each holds, the types, or the descriptors.
-use Rattle.std.specs.Prelude.{◌≡◌, ℕ, ◌-◌, false, List, [], ◌∷◌, ◌++◌, map, filter_map, flat_map, decimal, Option, Some, None, Result, Ok, Err, if◌then◌else◌}
+use Rattle.std.specs.Prelude.{◌≡◌, ℕ, ◌-◌, false, List, [], ◌∷◌, ◌++◌, map, filter_map, flat_map, decimal, Option, Some,
+    None, Result, Ok, Err, if◌then◌else◌}
 use Rattle.std.specs.declared.ops.Range.{Range}
 use Rattle.rec_text.specs.declared.fault.Fault.{Fault}
+use Rattle.rec_text.specs.Ascii.{newline, space}
 use Rattle.rec_text.specs.Elements.{Piece}
 use Rattle.rec_text.specs.Records.{AreRecords}
 use Rattle.rec_check.specs.declared.set.Set_.{Set_}
@@ -19,12 +21,12 @@ size_of s = s.members.end - s.members.start
 abbrev pub count_line : Set_ → List ℕ
 count_line s = elim s.kind [
   | None ↦ if has_members s then number_line (size_of s) else []
-  | Some record_type ↦ decimal (size_of s) ++ 32 ∷ (record_type ++ 10 ∷ [])
+  | Some record_type ↦ decimal (size_of s) ++ space ∷ (record_type ++ newline ∷ [])
 ]
 
 -- the type of a set
 abbrev pub name_line : Set_ → List ℕ
-name_line s = elim s.kind [ None ↦ [] | Some record_type ↦ record_type ++ 10 ∷ [] ]
+name_line s = elim s.kind [ None ↦ [] | Some record_type ↦ record_type ++ newline ∷ [] ]
 
 -- what is printed of these sets
 abbrev pub info : InfoForm → List Piece → List (Range ℕ) → List Set_ → List ℕ

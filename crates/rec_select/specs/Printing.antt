@@ -1,8 +1,10 @@
 -- What is printed of records.
-use Rattle.std.specs.Prelude.{◌≡◌, ℕ, ◌<◌, Bool, not, List, [], ◌∷◌, ◌++◌, length, map, filter, filter_map, flat_map, slice_get, decimal, Result, Ok, Err, if◌then◌else◌}
+use Rattle.std.specs.Prelude.{◌≡◌, ℕ, ◌<◌, Bool, not, List, [], ◌∷◌, ◌++◌, length, map, filter, filter_map, flat_map,
+    slice_get, decimal, Result, Ok, Err, if◌then◌else◌}
 use Rattle.std.specs.List.{concat, join_with_byte, AllByRecursion}
 use Rattle.std.specs.declared.ops.Range.{Range}
 use Rattle.rec_text.specs.declared.fault.Fault.{Fault}
+use Rattle.rec_text.specs.Ascii.{newline, space}
 use Rattle.rec_text.specs.Bytes.{is_nil, closed_text}
 use Rattle.rec_text.specs.Elements.{Piece}
 use Rattle.rec_text.specs.Records.{AreRecords, is_field_piece}
@@ -21,12 +23,12 @@ printed_element piece = closed_text piece.bytes
 
 -- a value, and a newline
 abbrev pub value_line : Piece → List ℕ
-value_line piece = value_of piece ++ 10 ∷ []
+value_line piece = value_of piece ++ newline ∷ []
 
 -- the values with a space between each two, and a newline; nothing where there is none
 abbrev pub row_of : List (List ℕ) → List ℕ
 row_of [] = []
-row_of (value ∷ values) = join_with_byte 32 (value ∷ values) ++ 10 ∷ []
+row_of (value ∷ values) = join_with_byte space (value ∷ values) ++ newline ∷ []
 
 -- the elements of a record that a list picks, in the list's order
 abbrev pub picked : List Item → List Piece → List Piece
@@ -46,11 +48,11 @@ block_of Count pieces = []
 abbrev pub joined_blocks : Bool → List (List ℕ) → List ℕ
 joined_blocks collapse blocks =
     let full : List (List ℕ) = filter (λ block. not (is_nil block)) blocks in
-    if collapse then concat full else join_with_byte 10 full
+    if collapse then concat full else join_with_byte newline full
 
 -- a number, and a newline
 abbrev pub number_line : ℕ → List ℕ
-number_line n = decimal n ++ 10 ∷ []
+number_line n = decimal n ++ newline ∷ []
 
 -- what is printed of the records of these indexes
 abbrev pub printed : List Piece → List (Range ℕ) → List ℕ → Shape → Bool → List ℕ

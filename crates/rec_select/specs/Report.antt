@@ -2,11 +2,12 @@
 use Rattle.std.specs.Prelude.{◌≡◌, ℕ, List, ◌∷◌, [], ◌++◌, flat_map, decimal, codes, Result, Ok}
 use Rattle.rec_text.specs.declared.fault.Fault.{Fault}
 use Rattle.rec_text.specs.declared.violations.Violation.{Violation}
+use Rattle.rec_text.specs.Ascii.{newline, space}
 use Rattle.rec_text.specs.Rules.{word_of}
 
 -- LINE: RULE NAME
 abbrev pub line_with : List ℕ → List ℕ → List ℕ → List ℕ
-line_with line rule name = line ++ (codes ": " ++ (rule ++ 32 ∷ (name ++ 10 ∷ [])))
+line_with line rule name = line ++ (codes ": " ++ (rule ++ space ∷ (name ++ newline ∷ [])))
 
 -- the line of a violation
 abbrev pub report_line : Violation → List ℕ

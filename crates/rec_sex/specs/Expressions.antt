@@ -1,5 +1,6 @@
 -- The expression of a tree, and the texts that expressions are read from.
-use Rattle.std.specs.Prelude.{◌≡◌, ◌≤◌, ℕ, List, ◌∷◌, ◌++◌, length, map, Some, None, Result, IsErrOf, slice_get, unwrap_or}
+use Rattle.std.specs.Prelude.{◌≡◌, ◌≤◌, ℕ, List, ◌∷◌, ◌++◌, length, map, Some, None, Result, IsErrOf, slice_get,
+    unwrap_or}
 use Rattle.regex.specs.Patterns.{Re, SameCaptures, empty}
 use Rattle.regex.specs.Strings.{regex_pattern}
 use Rattle.regex.specs.declared.string.regex.Regex.{Regex}
@@ -8,12 +9,14 @@ use Rattle.rec_text.specs.declared.fault.Fault.{Fault}
 use Rattle.rec_text.specs.declared.fault.Fault.TheVariants.{BadExpression}
 use Rattle.rec_sex.specs.declared.syntax.token.Token.{Token}
 use Rattle.rec_sex.specs.declared.syntax.token.Token.TheVariants.{Literal, Found}
-use Rattle.rec_sex.specs.declared.syntax.tree.Tree.{Tree, Integer, Literal as LiteralTree, Name, Occurrence, Count, Not', Negate', Binary', Found', Conditional'}
+use Rattle.rec_sex.specs.declared.syntax.tree.Tree.{Tree, Integer, Literal as LiteralTree, Name, Occurrence, Count,
+    Not', Negate', Binary', Found', Conditional'}
 use Rattle.rec_sex.specs.declared.expr.Expr.{Expr}
 use Rattle.rec_sex.specs.Tokens.{lexemes}
 use Rattle.rec_sex.specs.Patterns.{PatternMayBeRefused}
 use Rattle.rec_sex.specs.Meaning.{Selects}
-use Rattle.rec_sex.specs.Grammar.{Term, Derives, AreTokens, fault_of, number, literal, field, occurrence, count, inverse, negated, binary, found, conditional}
+use Rattle.rec_sex.specs.Grammar.{Term, Derives, AreTokens, fault_of, number, literal, field, occurrence, count,
+    inverse, negated, binary, found, conditional}
 
 -- the pattern of this index; the empty one where there is none
 abbrev pub pattern_at : List Re → ℕ → Re

@@ -1,13 +1,16 @@
 -- The grammar of expressions, and the place of the leftmost fault of a text that it doesn't derive.
-use Rattle.std.specs.Prelude.{◌≡◌, ℕ, ℤ, zero, suc, ◌+◌, ◌≤◌, Bool, true, false, List, [], ◌∷◌, ◌++◌, length, Option, Some, None, if◌then◌else◌, nat_le}
+use Rattle.std.specs.Prelude.{◌≡◌, ℕ, ℤ, zero, suc, ◌+◌, ◌≤◌, Bool, true, false, List, [], ◌∷◌, ◌++◌, length, Option,
+    Some, None, if◌then◌else◌, nat_le}
 use Rattle.std.specs.Str.{is_utf8}
 use Rattle.regex.specs.Patterns.{Re, default_config}
 use Rattle.regex.specs.Strings.{regex_pattern, regex_source, regex_config, IsReadFromSource}
 use Rattle.regex.specs.declared.string.regex.Regex.{Regex}
 use Rattle.rec_sex.specs.declared.syntax.token.Operator.{Operator}
-use Rattle.rec_sex.specs.declared.syntax.token.Operator.TheVariants.{Equal, NotEqual, Less, Greater, LessOrEqual, GreaterOrEqual, Join, Add, Subtract, Multiply, Divide, Remainder, And, Or, Implies}
+use Rattle.rec_sex.specs.declared.syntax.token.Operator.TheVariants.{Equal, NotEqual, Less, Greater, LessOrEqual,
+    GreaterOrEqual, Join, Add, Subtract, Multiply, Divide, Remainder, And, Or, Implies}
 use Rattle.rec_sex.specs.declared.syntax.token.Token.{Token}
-use Rattle.rec_sex.specs.declared.syntax.token.Token.TheVariants.{Integer, Literal, Name, Occurrence, Count, Not, Binary, Found, Open, Close, Then, Else}
+use Rattle.rec_sex.specs.declared.syntax.token.Token.TheVariants.{Integer, Literal, Name, Occurrence, Count, Not,
+    Binary, Found, Open, Close, Then, Else}
 -- what comes next: an operand; a binary operator or an end; the same without those that bind more strongly than a
 -- comparison; a pattern
 pub use Rattle.rec_sex.specs.declared.syntax.walk.Want.{Want}

@@ -1,16 +1,18 @@
 -- Lists of indexes: items joined by commas, each `i` or `i-j` with i at most j.
-use Rattle.std.specs.Prelude.{◌≡◌, ◌≢◌, ◌⊎◌, ℕ, ◌+◌, ◌-◌, ◌*◌, ◌^◌, ◌<◌, ◌≤◌, Bool, true, false, ◌==◌, ◌&&◌, nat_le, List, [], ◌∷◌, ◌++◌, length, fold, Result, Ok, Err}
+use Rattle.std.specs.Prelude.{◌≡◌, ◌≢◌, ◌⊎◌, ℕ, ◌+◌, ◌-◌, ◌*◌, ◌^◌, ◌<◌, ◌≤◌, Bool, true, false, ◌==◌, ◌&&◌, nat_le,
+    List, [], ◌∷◌, ◌++◌, length, fold, Result, Ok, Err}
 use Rattle.std.specs.Char.{is_ascii_digit}
 use Rattle.std.specs.List.{list_all, list_any}
 use Rattle.rec_text.specs.declared.fault.Fault.{Fault}
 use Rattle.rec_text.specs.declared.fault.Fault.TheVariants.{BadIndexList}
+use Rattle.rec_text.specs.Ascii.{hyphen, digit_0}
 pub use Rattle.rec_text.specs.Bytes.{begins}
 use Rattle.rec_sex.specs.declared.lists.index_list.Span.{Span}
 use Rattle.rec_sex.specs.Joined.{AreJoined, HasFaultyItem, ends_item}
 
 -- the number that decimal digits write, leading zeros included
 abbrev pub decimal_number : List ℕ → ℕ
-decimal_number digits = fold (λ n digit. n * 10 + (digit - 48)) 0 digits
+decimal_number digits = fold (λ n digit. n * 10 + (digit - digit_0)) 0 digits
 
 -- a digit comes first
 abbrev pub begins_digit : List ℕ → Bool
@@ -37,8 +39,8 @@ IsIndex digits index rest = AreDigits digits rest × (decimal_number digits ≡ 
 -- a span, as far as it goes on: one index with no hyphen after it, or a pair `i-j` with i at most j
 abbrev pub IsSpan : List ℕ → Span → List ℕ → Type 0
 IsSpan text span rest =
-    (IsIndex text span.first rest × (span.last ≡ span.first) × (begins_with 45 rest ≡ false))
-    ⊎ ((a b : List ℕ) × (text ≡ a ++ 45 ∷ b) × IsIndex a span.first [] × IsIndex b span.last rest
+    (IsIndex text span.first rest × (span.last ≡ span.first) × (begins_with hyphen rest ≡ false))
+    ⊎ ((a b : List ℕ) × (text ≡ a ++ hyphen ∷ b) × IsIndex a span.first [] × IsIndex b span.last rest
     × (span.first ≤ span.last))
 
 -- no index that is at least this comes first:
@@ -53,7 +55,7 @@ LacksIndex least text =
 abbrev pub IsSpanFault : List ℕ → ℕ → Type 0
 IsSpanFault text place =
     (LacksIndex 0 text × (place ≡ 0))
-    ⊎ ((a second : List ℕ) × (first : ℕ) × (text ≡ a ++ 45 ∷ second) × IsIndex a first [] × LacksIndex first second
+    ⊎ ((a second : List ℕ) × (first : ℕ) × (text ≡ a ++ hyphen ∷ second) × IsIndex a first [] × LacksIndex first second
     × (place ≡ length a + 1))
 
 -- an item: a span, and nothing more

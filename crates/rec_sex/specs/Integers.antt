@@ -1,6 +1,8 @@
 -- The integers of values and expressions: 64 bits, decimal, octal after a leading zero, hexadecimal after 0x.
-use Rattle.std.specs.Prelude.{ℕ, zero, suc, ℤ, pos, negsuc, ◌+◌, ◌-◌, ◌*◌, ◌^◌, ◌==◌, ◌||◌, ◌&&◌, nat_le, nat_lt, List, [], ◌∷◌, Option, Some, None, if◌then◌else◌}
+use Rattle.std.specs.Prelude.{ℕ, zero, suc, ℤ, pos, negsuc, ◌+◌, ◌-◌, ◌*◌, ◌^◌, ◌==◌, ◌||◌, ◌&&◌, nat_le, nat_lt, List,
+    [], ◌∷◌, Option, Some, None, if◌then◌else◌}
 use Rattle.std.specs.Option.{option_and_then}
+use Rattle.rec_text.specs.Ascii.{hyphen, digit_0, digit_9, capital_a, capital_f, capital_x, small_a, small_f, small_x}
 use Rattle.rec_text.specs.Bytes.{is_blank, is_nil}
 use Rattle.rec_text.specs.Spaces.{without_ends}
 
@@ -10,9 +12,9 @@ trimmed text = without_ends is_blank text
 
 -- the value of a hexadecimal digit
 abbrev pub digit_of : ℕ → Option ℕ
-digit_of b = if nat_le 48 b && nat_le b 57 then Some (b - 48)
-    else if nat_le 97 b && nat_le b 102 then Some (b - 87)
-    else if nat_le 65 b && nat_le b 70 then Some (b - 55)
+digit_of b = if nat_le digit_0 b && nat_le b digit_9 then Some (b - digit_0)
+    else if nat_le small_a b && nat_le b small_f then Some (b - (small_a - 10))
+    else if nat_le capital_a b && nat_le b capital_f then Some (b - (capital_a - 10))
     else None
 
 -- the number that digits of this base write, after the number so far
@@ -25,12 +27,13 @@ number_from base n (b ∷ bs) =
 abbrev pub after_zero : List ℕ → Option ℕ
 after_zero [] = Some 0
 after_zero (b ∷ bs) =
-    if b == 120 || b == 88 then (if is_nil bs then None else number_from 16 0 bs) else number_from 8 0 (b ∷ bs)
+    if b == small_x || b == capital_x then (if is_nil bs then None else number_from 16 0 bs)
+    else number_from 8 0 (b ∷ bs)
 
 -- a number without a sign
 abbrev pub magnitude_of : List ℕ → Option ℕ
 magnitude_of [] = None
-magnitude_of (b ∷ bs) = if b == 48 then after_zero bs else number_from 10 0 (b ∷ bs)
+magnitude_of (b ∷ bs) = if b == digit_0 then after_zero bs else number_from 10 0 (b ∷ bs)
 
 abbrev pub negative : ℕ → ℤ
 negative zero = pos 0
@@ -40,7 +43,7 @@ negative (suc n) = negsuc n
 abbrev pub signed_of : List ℕ → Option ℤ
 signed_of [] = None
 signed_of (b ∷ bs) =
-    if b == 45
+    if b == hyphen
     then option_and_then (λ n. if nat_le n (2 ^ 63) then Some (negative n) else None) (magnitude_of bs)
     else option_and_then (λ n. if nat_lt n (2 ^ 63) then Some (pos n) else None) (magnitude_of (b ∷ bs))
 

@@ -1,9 +1,11 @@
 -- Lists of fields, and what they pick of a record. (Lists of indexes stand in `IndexList`.)
-use Rattle.std.specs.Prelude.{◌≡◌, ◌⊎◌, ℕ, ◌+◌, Bool, true, false, List, [], ◌∷◌, ◌++◌, length, take, drop, Option, Some, None, Result, Ok, Err, if◌then◌else◌}
+use Rattle.std.specs.Prelude.{◌≡◌, ◌⊎◌, ℕ, ◌+◌, Bool, true, false, List, [], ◌∷◌, ◌++◌, length, take, drop, Option,
+    Some, None, Result, Ok, Err, if◌then◌else◌}
 use Rattle.std.specs.List.{flat_map}
 use Rattle.std.specs.Str.{bytes_eq}
 use Rattle.rec_text.specs.declared.fault.Fault.{Fault}
 use Rattle.rec_text.specs.declared.fault.Fault.TheVariants.{BadFieldList}
+use Rattle.rec_text.specs.Ascii.{left_bracket, right_bracket}
 use Rattle.rec_text.specs.Bytes.{begins_name, continues_name}
 pub use Rattle.rec_text.specs.Canonical.{is_field_name}
 use Rattle.rec_text.specs.Elements.{Piece, name_of}
@@ -24,7 +26,8 @@ pub record IsName (name rest : List ℕ) : Type 0 where
 -- no subscript, which means all occurrences, or a span in brackets, which means those from its first to its last
 abbrev pub IsSubscript : List ℕ → Option Span → Type 0
 IsSubscript text None = text ≡ []
-IsSubscript text (Some span) = (inside : List ℕ) × (text ≡ 91 ∷ (inside ++ 93 ∷ [])) × IsSpan inside span []
+IsSubscript text (Some span) =
+    (inside : List ℕ) × (text ≡ left_bracket ∷ (inside ++ right_bracket ∷ [])) × IsSpan inside span []
 
 -- an item: FIELD, FIELD[i] or FIELD[i-j]
 abbrev pub IsItem : List ℕ → Item → Type 0
@@ -39,8 +42,8 @@ AreItems text items = AreJoined IsItem text items
 -- after the span of a subscript the closing bracket is missing, or something else than the end or a comma follows it
 abbrev pub IsClosingFault : List ℕ → ℕ → Type 0
 IsClosingFault text place =
-    ((begins_with 93 text ≡ false) × (place ≡ 0))
-    ⊎ ((rest : List ℕ) × (text ≡ 93 ∷ rest) × (ends_item rest ≡ false) × (place ≡ 1))
+    ((begins_with right_bracket text ≡ false) × (place ≡ 0))
+    ⊎ ((rest : List ℕ) × (text ≡ right_bracket ∷ rest) × (ends_item rest ≡ false) × (place ≡ 1))
 
 -- a subscript has a fault at this place, counted after its opening bracket
 abbrev pub IsSubscriptFault : List ℕ → ℕ → Type 0
@@ -55,8 +58,8 @@ abbrev pub IsItemFault : List ℕ → ℕ → Type 0
 IsItemFault text place =
     ((begins_field text ≡ false) × (place ≡ 0))
     ⊎ ((name rest : List ℕ) × (text ≡ name ++ rest) × IsName name rest
-    × (((begins_with 91 rest ≡ false) × (ends_item rest ≡ false) × (place ≡ length name))
-    ⊎ ((subscript : List ℕ) × (at : ℕ) × (rest ≡ 91 ∷ subscript) × IsSubscriptFault subscript at
+    × (((begins_with left_bracket rest ≡ false) × (ends_item rest ≡ false) × (place ≡ length name))
+    ⊎ ((subscript : List ℕ) × (at : ℕ) × (rest ≡ left_bracket ∷ subscript) × IsSubscriptFault subscript at
     × (place ≡ length name + 1 + at))))
 
 -- an item of the list has a fault at this place, and those before it have none

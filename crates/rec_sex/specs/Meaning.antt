@@ -1,5 +1,7 @@
 -- The meaning of an expression for a record, and the records that it selects. It knows nothing of how it is computed.
-use Rattle.std.specs.Prelude.{◌≡◌, ◌⊎◌, ℕ, ℤ, pos, negsuc, ◌-◌, ◌^◌, ◌<◌, ◌+ℤ◌, ◌-ℤ◌, ◌*ℤ◌, Bool, true, false, ◌||◌, ◌&&◌, not, List, [], ◌∷◌, ◌++◌, length, Option, Some, None, is_some, if◌then◌else◌, slice_get, unwrap_or, int_lt, int_div, int_rem, neg_ℤ}
+use Rattle.std.specs.Prelude.{◌≡◌, ◌⊎◌, ℕ, ℤ, pos, negsuc, ◌-◌, ◌^◌, ◌<◌, ◌+ℤ◌, ◌-ℤ◌, ◌*ℤ◌, Bool, true, false, ◌||◌,
+    ◌&&◌, not, List, [], ◌∷◌, ◌++◌, length, Option, Some, None, is_some, if◌then◌else◌, slice_get, unwrap_or, int_lt,
+    int_div, int_rem, neg_ℤ}
 use Rattle.std.specs.Fmt.{signed_decimal}
 use Rattle.std.specs.Option.{option_map, option_map_or, option_and_then}
 use Rattle.std.specs.Ordering.{int_eq}
@@ -8,8 +10,10 @@ use Rattle.regex.specs.Patterns.{Re, find_str}
 use Rattle.rec_text.specs.Elements.{Piece, name_of}
 use Rattle.rec_text.specs.Values.{value_of}
 use Rattle.rec_sex.specs.declared.syntax.token.Operator.{Operator}
-use Rattle.rec_sex.specs.declared.syntax.token.Operator.TheVariants.{Equal, NotEqual, Less, Greater, LessOrEqual, GreaterOrEqual, Join, Add, Subtract, Multiply, Divide, Remainder, And, Or, Implies}
-use Rattle.rec_sex.specs.Grammar.{Term, number, literal, field, occurrence, count, inverse, negated, binary, found, conditional}
+use Rattle.rec_sex.specs.declared.syntax.token.Operator.TheVariants.{Equal, NotEqual, Less, Greater, LessOrEqual,
+    GreaterOrEqual, Join, Add, Subtract, Multiply, Divide, Remainder, And, Or, Implies}
+use Rattle.rec_sex.specs.Grammar.{Term, number, literal, field, occurrence, count, inverse, negated, binary, found,
+    conditional}
 use Rattle.rec_sex.specs.Integers.{int_of}
 
 -- ---- fields of a record

@@ -1,6 +1,8 @@
 -- How tokens are written, and a text as blanks and the longest tokens in turn.
-use Rattle.std.specs.Prelude.{◌≡◌, ◌≢◌, ◌⊎◌, ℕ, pos, ◌+◌, ◌^◌, ◌<◌, ◌≤◌, ◌==◌, ◌||◌, ◌&&◌, Bool, true, false, List, [], ◌∷◌, ◌++◌, length, Option, Some, None}
+use Rattle.std.specs.Prelude.{◌≡◌, ◌≢◌, ◌⊎◌, ℕ, pos, ◌+◌, ◌^◌, ◌<◌, ◌≤◌, ◌==◌, ◌||◌, ◌&&◌, Bool, true, false, List, [],
+    ◌∷◌, ◌++◌, length, Option, Some, None}
 use Rattle.std.specs.List.{list_all}
+use Rattle.rec_text.specs.Ascii.{double_quote, hash, apostrophe, left_bracket, backslash, right_bracket}
 use Rattle.rec_text.specs.Bytes.{is_space, continues_name}
 use Rattle.rec_text.specs.Canonical.{is_plain_name}
 use Rattle.rec_sex.specs.declared.syntax.token.Token.{Token}
@@ -13,13 +15,13 @@ use Rattle.rec_sex.specs.Tokens.{Whole, Broken, Placed, token_of_one, token_of_t
 
 -- `'` or `"`
 abbrev pub is_quote : ℕ → Bool
-is_quote b = b == 39 || b == 34
+is_quote b = b == apostrophe || b == double_quote
 
 -- a backslash directly before a quote comes first
 abbrev pub begins_escape : List ℕ → Bool
 begins_escape [] = false
 begins_escape (b ∷ []) = false
-begins_escape (b ∷ c ∷ bs) = b == 92 && is_quote c
+begins_escape (b ∷ c ∷ bs) = b == backslash && is_quote c
 
 -- These bytes write the text, after its opening quote and with the closing one: each byte itself, where it isn't that
 -- quote or a backslash before a quote, and each quote also after a backslash.
@@ -27,7 +29,7 @@ abbrev pub Closes : ℕ → List ℕ → List ℕ → Type 0
 Closes quote bytes [] = bytes ≡ quote ∷ []
 Closes quote bytes (c ∷ text) = (rest : List ℕ) × Closes quote rest text
     × (((bytes ≡ c ∷ rest) × (c ≢ quote) × (begins_escape bytes ≡ false))
-    ⊎ ((bytes ≡ 92 ∷ c ∷ rest) × (is_quote c ≡ true)))
+    ⊎ ((bytes ≡ backslash ∷ c ∷ rest) × (is_quote c ≡ true)))
 
 -- the operator or parenthesis that all these bytes are
 abbrev pub operator_of : List ℕ → Option Token
@@ -42,10 +44,10 @@ pub data Spells : List ℕ → Token → Type 0 where
   by_literal : (bytes following text : List ℕ) (quote : ℕ) → bytes ≡ quote ∷ following → is_quote quote ≡ true
       → Closes quote following text → Spells bytes (Literal text)
   by_name : (name : List ℕ) → is_plain_name name ≡ true → Spells name (Name name)
-  by_occurrence : (bytes name digits : List ℕ) → bytes ≡ name ++ 91 ∷ (digits ++ 93 ∷ []) → is_plain_name name ≡ true
-      → AreDigits digits [] → decimal_number digits ≤ greatest
+  by_occurrence : (bytes name digits : List ℕ) → bytes ≡ name ++ left_bracket ∷ (digits ++ right_bracket ∷ [])
+      → is_plain_name name ≡ true → AreDigits digits [] → decimal_number digits ≤ greatest
       → Spells bytes (Occurrence name (decimal_number digits))
-  by_count : (bytes name : List ℕ) → bytes ≡ 35 ∷ name → is_plain_name name ≡ true → Spells bytes (Count name)
+  by_count : (bytes name : List ℕ) → bytes ≡ hash ∷ name → is_plain_name name ≡ true → Spells bytes (Count name)
   by_operator : (bytes : List ℕ) (token : Token) → operator_of bytes ≡ Some token → Spells bytes token
 
 -- A number, a name or a count isn't complete while a letter, a digit or _ follows directly;
@@ -53,7 +55,7 @@ pub data Spells : List ℕ → Token → Type 0 where
 abbrev pub is_continued : Token → List ℕ → Bool
 is_continued token [] = false
 is_continued (Integer n) (b ∷ bs) = continues_name b
-is_continued (Name name) (b ∷ bs) = continues_name b || b == 91
+is_continued (Name name) (b ∷ bs) = continues_name b || b == left_bracket
 is_continued (Count name) (b ∷ bs) = continues_name b
 is_continued token (b ∷ bs) = false
 
@@ -78,9 +80,9 @@ IsSubscriptFault text at =
 -- all else it is the first byte.
 abbrev pub IsFaultInside : List ℕ → ℕ → Type 0
 IsFaultInside text at =
-    ((name rest : List ℕ) × (inside : ℕ) × (text ≡ name ++ 91 ∷ rest) × (is_plain_name name ≡ true)
+    ((name rest : List ℕ) × (inside : ℕ) × (text ≡ name ++ left_bracket ∷ rest) × (is_plain_name name ≡ true)
     × IsSubscriptFault rest inside × (at ≡ length name + 1 + inside))
-    ⊎ (((name rest : List ℕ) → text ≡ name ++ 91 ∷ rest → is_plain_name name ≡ true → ⊥) × (at ≡ 0))
+    ⊎ (((name rest : List ℕ) → text ≡ name ++ left_bracket ∷ rest → is_plain_name name ≡ true → ⊥) × (at ≡ 0))
 
 -- something that is no blank stands here, and no token; its fault lies so far inside
 pub record IsNoToken (text : List ℕ) (at : ℕ) : Type 0 where

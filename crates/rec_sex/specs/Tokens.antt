@@ -1,12 +1,18 @@
 -- The tokens of an expression, as they are found from its start on.
-use Rattle.std.specs.Prelude.{ℕ, pos, zero, suc, ◌+◌, ◌-◌, ◌^◌, ◌==◌, ◌||◌, ◌&&◌, nat_lt, List, [], ◌∷◌, length, drop, codes, Option, Some, None, if◌then◌else◌, take_while}
+use Rattle.std.specs.Prelude.{ℕ, pos, zero, suc, ◌+◌, ◌-◌, ◌^◌, ◌==◌, ◌||◌, ◌&&◌, nat_lt, List, [], ◌∷◌, length, drop,
+    codes, Option, Some, None, if◌then◌else◌, take_while}
 use Rattle.std.specs.Char.{is_ascii_digit}
 use Rattle.std.specs.Option.{option_map}
 use Rattle.std.specs.Str.{bytes_eq}
+use Rattle.rec_text.specs.Ascii.{exclamation_mark, double_quote, hash, percent_sign, ampersand, apostrophe,
+    left_parenthesis, right_parenthesis, asterisk, plus_sign, hyphen, slash, colon, less_sign, equals_sign,
+    greater_sign, question_mark, left_bracket, backslash, right_bracket, tilde}
 use Rattle.rec_text.specs.Bytes.{is_space, is_letter, continues_name}
-use Rattle.rec_sex.specs.declared.syntax.token.Operator.TheVariants.{Equal, NotEqual, Less, Greater, LessOrEqual, GreaterOrEqual, Join, Add, Subtract, Multiply, Divide, Remainder, And, Or, Implies}
+use Rattle.rec_sex.specs.declared.syntax.token.Operator.TheVariants.{Equal, NotEqual, Less, Greater, LessOrEqual,
+    GreaterOrEqual, Join, Add, Subtract, Multiply, Divide, Remainder, And, Or, Implies}
 use Rattle.rec_sex.specs.declared.syntax.token.Token.{Token}
-use Rattle.rec_sex.specs.declared.syntax.token.Token.TheVariants.{Integer, Literal, Name, Occurrence, Count, Not, Binary, Found, Open, Close, Then, Else, Unused}
+use Rattle.rec_sex.specs.declared.syntax.token.Token.TheVariants.{Integer, Literal, Name, Occurrence, Count, Not,
+    Binary, Found, Open, Close, Then, Else, Unused}
 -- a token and its length in bytes; or a fault,
 -- at this offset where an operand is wanted, and at the first byte elsewhere
 pub use Rattle.rec_sex.specs.declared.syntax.lexeme.Lexeme.{Lexeme}
@@ -27,7 +33,8 @@ literal_from quote [] = None
 literal_from quote (b ∷ []) = if b == quote then Some ([], 1) else None
 literal_from quote (b ∷ c ∷ bs) =
     if b == quote then Some ([], 1)
-    else if b == 92 && (c == 39 || c == 34) then option_map (λ x. (c ∷ x.0, x.1 + 2)) (literal_from quote bs)
+    else if b == backslash && (c == apostrophe || c == double_quote)
+    then option_map (λ x. (c ∷ x.0, x.1 + 2)) (literal_from quote bs)
     else with_byte b (literal_from quote (c ∷ bs))
 
 abbrev pub literal_at : List ℕ → Lexeme
@@ -44,7 +51,7 @@ integer_at text = elim (magnitude_of (take_while continues_name text)) [
 -- the closing bracket of the subscript n, before which `len` bytes of the token stand
 abbrev pub closing_at : List ℕ → ℕ → List ℕ → ℕ → Lexeme
 closing_at name n [] len = Broken len
-closing_at name n (b ∷ bs) len = if b == 93 then Whole (Occurrence name n) (len + 1) else Broken len
+closing_at name n (b ∷ bs) len = if b == right_bracket then Whole (Occurrence name n) (len + 1) else Broken len
 
 -- a subscript after a name and its opening bracket, which have `len` bytes
 abbrev pub subscript_at : List ℕ → List ℕ → ℕ → Lexeme
@@ -57,7 +64,7 @@ subscript_at name text len =
 abbrev pub token_after_name : List ℕ → List ℕ → Lexeme
 token_after_name name [] = Whole (Name name) (length name)
 token_after_name name (b ∷ bs) =
-    if b == 91 then subscript_at name bs (length name + 1) else Whole (Name name) (length name)
+    if b == left_bracket then subscript_at name bs (length name + 1) else Whole (Name name) (length name)
 
 abbrev pub name_at : List ℕ → Lexeme
 name_at text = let name = take_while continues_name text in token_after_name name (drop (length name) text)
@@ -84,14 +91,14 @@ token_of_two b c =
 
 abbrev pub token_of_one : ℕ → Option Token
 token_of_one b =
-    if b == 61 then Some (Binary Equal) else if b == 60 then Some (Binary Less)
-    else if b == 62 then Some (Binary Greater) else if b == 38 then Some (Binary Join)
-    else if b == 43 then Some (Binary Add) else if b == 45 then Some (Binary Subtract)
-    else if b == 42 then Some (Binary Multiply) else if b == 47 then Some (Binary Divide)
-    else if b == 37 then Some (Binary Remainder) else if b == 33 then Some Not
-    else if b == 126 then Some Found else if b == 40 then Some Open
-    else if b == 41 then Some Close else if b == 63 then Some Then
-    else if b == 58 then Some Else else None
+    if b == equals_sign then Some (Binary Equal) else if b == less_sign then Some (Binary Less)
+    else if b == greater_sign then Some (Binary Greater) else if b == ampersand then Some (Binary Join)
+    else if b == plus_sign then Some (Binary Add) else if b == hyphen then Some (Binary Subtract)
+    else if b == asterisk then Some (Binary Multiply) else if b == slash then Some (Binary Divide)
+    else if b == percent_sign then Some (Binary Remainder) else if b == exclamation_mark then Some Not
+    else if b == tilde then Some Found else if b == left_parenthesis then Some Open
+    else if b == right_parenthesis then Some Close else if b == question_mark then Some Then
+    else if b == colon then Some Else else None
 
 abbrev pub of_one : ℕ → Lexeme
 of_one b = elim (token_of_one b) [ None ↦ Broken 0 | Some token ↦ Whole token 1 ]
@@ -107,8 +114,8 @@ lexeme_at [] = Broken 0
 lexeme_at (b ∷ bs) =
     if is_ascii_digit b then integer_at (b ∷ bs)
     else if is_letter b then name_at (b ∷ bs)
-    else if b == 35 then count_at bs
-    else if b == 39 || b == 34 then literal_at (b ∷ bs)
+    else if b == hash then count_at bs
+    else if b == apostrophe || b == double_quote then literal_at (b ∷ bs)
     else operator_at (b ∷ bs)
 
 -- ---- all tokens

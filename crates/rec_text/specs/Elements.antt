@@ -1,16 +1,18 @@
 -- A text that is one element, a blank line, a comment line or a field; and the elements of a text.
-use Rattle.std.specs.Prelude.{◌≡◌, ℕ, ◌+◌, Bool, true, false, IsTrue, List, [], ◌∷◌, ◌++◌, ◌==◌, ◌||◌, ◌&&◌, not, if◌then◌else◌, Option, Some, None, suc, drop, take}
+use Rattle.std.specs.Prelude.{◌≡◌, ℕ, ◌+◌, Bool, true, false, IsTrue, List, [], ◌∷◌, ◌++◌, ◌==◌, ◌||◌, ◌&&◌, not,
+    if◌then◌else◌, Option, Some, None, suc, drop, take}
 use Rattle.std.specs.Option.{option_map, option_map_or}
 use Rattle.std.specs.List.{AllByRecursion}
 use Rattle.std.specs.Str.{bytes_eq}
 use Rattle.rec_text.specs.declared.element.Kind.{Kind}
 use Rattle.rec_text.specs.declared.element.Kind.TheVariants.{Blank, Comment, Field}
+use Rattle.rec_text.specs.Ascii.{newline, hash, colon, backslash}
 use Rattle.rec_text.specs.Bytes.{is_blank, begins_name, continues_name, is_nil, begins_plus, ends_newline}
 
 -- one physical line: bytes that pass the test, and then a newline or nothing
 abbrev pub is_line : (ℕ → Bool) → List ℕ → Bool
 is_line test [] = true
-is_line test (b ∷ bs) = if b == 10 then is_nil bs else test b && is_line test bs
+is_line test (b ∷ bs) = if b == newline then is_nil bs else test b && is_line test bs
 
 -- a line of blanks alone, or an empty one
 abbrev pub is_blank_line : List ℕ → Bool
@@ -20,23 +22,23 @@ is_blank_line (b ∷ bs) = is_line is_blank (b ∷ bs)
 -- a line with `#` in the first column
 abbrev pub is_comment : List ℕ → Bool
 is_comment [] = false
-is_comment (b ∷ bs) = b == 35 && is_line (λ _. true) bs
+is_comment (b ∷ bs) = b == hash && is_line (λ _. true) bs
 
 -- After a field's colon: each newline stands after a backslash, at the end, or before the `+` of a plus line.
 -- `before` is the byte before the text.
 abbrev pub is_joined : ℕ → List ℕ → Bool
 is_joined before [] = true
-is_joined before (b ∷ bs) = (not (b == 10) || before == 92 || is_nil bs || begins_plus bs) && is_joined b bs
+is_joined before (b ∷ bs) = (not (b == newline) || before == backslash || is_nil bs || begins_plus bs) && is_joined b bs
 
 -- the text ends in a backslash, or in a backslash and a newline
 abbrev pub is_dangling : ℕ → List ℕ → Bool
-is_dangling before [] = before == 92
-is_dangling before (b ∷ bs) = (before == 92 && b == 10 && is_nil bs) || is_dangling b bs
+is_dangling before [] = before == backslash
+is_dangling before (b ∷ bs) = (before == backslash && b == newline && is_nil bs) || is_dangling b bs
 
 -- the place of the colon after what goes on with a name
 abbrev pub name_end : List ℕ → Option ℕ
 name_end [] = None
-name_end (b ∷ bs) = if b == 58 then Some 0 else if continues_name b then option_map suc (name_end bs) else None
+name_end (b ∷ bs) = if b == colon then Some 0 else if continues_name b then option_map suc (name_end bs) else None
 
 -- the place of the colon, where a name and a colon come first
 abbrev pub colon_of : List ℕ → Option ℕ
@@ -49,10 +51,10 @@ is_named test bs = option_map_or (λ c. test (drop (c + 1) bs)) (colon_of bs) fa
 
 -- what stands after the colon of a whole field, and of one that a backslash leaves open
 abbrev pub is_body : List ℕ → Bool
-is_body bs = is_joined 58 bs && not (is_dangling 58 bs)
+is_body bs = is_joined colon bs && not (is_dangling colon bs)
 
 abbrev pub is_open_body : List ℕ → Bool
-is_open_body bs = is_joined 58 bs && is_dangling 58 bs
+is_open_body bs = is_joined colon bs && is_dangling colon bs
 
 abbrev pub is_field : List ℕ → Bool
 is_field = is_named is_body

@@ -1,7 +1,10 @@
 -- The numbers of the refusals, and answers that memory may cut short.
 use Rattle.std.specs.Prelude.{◌≡◌, ◌⊎◌, ℕ, Result, Ok, Err, IfErr}
 use Rattle.rec_text.specs.declared.fault.Fault.{Fault}
-use Rattle.rec_text.specs.declared.fault.Fault.TheVariants.{OutOfMemory, BadLine, OpenLine, BadDescriptor, Unsupported, BadExpression, BadPattern, BadFieldList, BadIndexList, NoSelection, TypeNeeded, NoSuchType, BadName, BadValue, BadRecord, Integrity, AutoImpossible, DigestClash, BadJournal, NothingToUndo, NothingToRedo, Drifted, StoreFailed, BadUsage, BadBatch}
+use Rattle.rec_text.specs.declared.fault.Fault.TheVariants.{OutOfMemory, BadLine, OpenLine, BadDescriptor, Unsupported,
+    BadExpression, BadPattern, BadFieldList, BadIndexList, NoSelection, TypeNeeded, NoSuchType, BadName, BadValue,
+    BadRecord, Integrity, AutoImpossible, DigestClash, BadJournal, NothingToUndo, NothingToRedo, Drifted, StoreFailed,
+    BadUsage, BadBatch, NoSuchEdit}
 
 abbrev pub number_of : Fault → ℕ
 number_of OutOfMemory = 1
@@ -29,6 +32,7 @@ number_of Drifted = 22
 number_of StoreFailed = 23
 number_of BadUsage = 24
 number_of (BadBatch line) = 25
+number_of NoSuchEdit = 26
 
 -- a fact of a fault, unless it is that memory ran out
 abbrev pub IsMemoryOr : Fault → Type 0 → Type 0

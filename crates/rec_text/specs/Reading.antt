@@ -1,24 +1,26 @@
 -- What the reader answers of a text: its elements, or the fault of its first faulty line.
-use Rattle.std.specs.Prelude.{◌≡◌, ◌≢◌, ℕ, ◌+◌, Bool, true, false, IsTrue, List, [], ◌∷◌, ◌++◌, ◌==◌, ◌||◌, ◌&&◌, count_by, Result, Ok, Err}
+use Rattle.std.specs.Prelude.{◌≡◌, ◌≢◌, ℕ, ◌+◌, Bool, true, false, IsTrue, List, [], ◌∷◌, ◌++◌, ◌==◌, ◌||◌, ◌&&◌,
+    count_by, Result, Ok, Err}
 use Rattle.rec_text.specs.declared.element.Kind.TheVariants.{Field}
 use Rattle.rec_text.specs.declared.fault.Fault.{Fault}
 use Rattle.rec_text.specs.declared.fault.Fault.TheVariants.{BadLine, OpenLine}
+use Rattle.rec_text.specs.Ascii.{newline, hash}
 use Rattle.rec_text.specs.Bytes.{is_blank, begins_plus, ends_newline}
 use Rattle.rec_text.specs.Elements.{Piece, IsElement, AreElementsOf, text_of, is_named, is_open_field}
 
 -- the first physical line is blank
 abbrev pub begins_blank_line : List ℕ → Bool
 begins_blank_line [] = true
-begins_blank_line (b ∷ bs) = b == 10 || (is_blank b && begins_blank_line bs)
+begins_blank_line (b ∷ bs) = b == newline || (is_blank b && begins_blank_line bs)
 
 -- the first physical line begins an element: it is blank, is a comment, or has a name and a colon first
 abbrev pub begins_element : List ℕ → Bool
 begins_element [] = false
-begins_element (b ∷ bs) = begins_blank_line (b ∷ bs) || b == 35 || is_named (λ _. true) (b ∷ bs)
+begins_element (b ∷ bs) = begins_blank_line (b ∷ bs) || b == hash || is_named (λ _. true) (b ∷ bs)
 
 -- the number of the physical line at which the bytes after these begin, counted from 1
 abbrev pub line_after : List ℕ → ℕ
-line_after bytes = count_by (λ b. b == 10) bytes + 1
+line_after bytes = count_by (λ b. b == newline) bytes + 1
 
 -- elements that stand before more text: each ends in a newline,
 -- and no field is directly followed by a `+`, which would be its own

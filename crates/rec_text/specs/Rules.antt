@@ -1,7 +1,8 @@
 -- The words by which a report names the rules of record sets.
 use Rattle.std.specs.Prelude.{ℕ, List, codes}
 use Rattle.rec_text.specs.declared.violations.Rule.{Rule}
-use Rattle.rec_text.specs.declared.violations.Rule.TheVariants.{Size, Typedef, Key, Mandatory, Prohibit, Unique, Singular, Allowed, Fit, Constraint}
+use Rattle.rec_text.specs.declared.violations.Rule.TheVariants.{Size, Typedef, Key, Mandatory, Prohibit, Unique,
+    Singular, Allowed, Fit, Constraint}
 
 abbrev pub word_of : Rule → List ℕ
 word_of Size = codes "size"

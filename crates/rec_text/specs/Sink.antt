@@ -1,5 +1,6 @@
 -- What a sink takes.
-use Rattle.std.specs.Prelude.{◌≡◌, ◌⊎◌, ℕ, ◌+◌, ◌-◌, ◌^◌, ◌<◌, ◌≤◌, ◌||◌, nat_lt, min, if◌then◌else◌, List, length, take, Option, Result, Ok, Err, MatchResult, OnOk, IsErrOf}
+use Rattle.std.specs.Prelude.{◌≡◌, ◌⊎◌, ℕ, ◌+◌, ◌-◌, ◌^◌, ◌<◌, ◌≤◌, ◌||◌, nat_lt, min, if◌then◌else◌, List, length,
+    take, Option, Result, Ok, Err, MatchResult, OnOk, IsErrOf}
 use Rattle.std.specs.Io.KnownBytes.{Appends, Keeps}
 use Rattle.rec_text.specs.Bytes.{is_nil}
 use Rattle.rec_text.specs.declared.fault.Fault.{Fault}

@@ -59,10 +59,12 @@ pub enum Fault {
     BadUsage,
     #[error("batch line {line}: not an edit")]
     BadBatch { line: usize },
+    #[error("no such edit")]
+    NoSuchEdit,
 }
 
 impl Fault {
-    /// The number of the refusal, from 1 to 25.
+    /// The number of the refusal, from 1 to 26.
     pub fn number(&self) -> u8
         ensures { result ≡ number_of self.now }
     {
@@ -92,6 +94,7 @@ impl Fault {
             Fault::StoreFailed => 23,
             Fault::BadUsage => 24,
             Fault::BadBatch { .. } => 25,
+            Fault::NoSuchEdit => 26,
         }
     }
 }

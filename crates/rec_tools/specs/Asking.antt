@@ -9,7 +9,8 @@ use Rattle.rec_sex.specs.Grammar.{Term, fault_of}
 use Rattle.rec_sex.specs.IndexList.{IsIndexList}
 use Rattle.rec_sex.specs.Lists.{IsFieldList}
 use Rattle.rec_select.specs.declared.records.Shape.{Shape}
-use Rattle.rec_select.specs.declared.records.Shape.TheVariants.{Blocks as AllFields, Print as PrintedFields, Values as PickedValues, Row as PickedRow, Count as NumberAlone}
+use Rattle.rec_select.specs.declared.records.Shape.TheVariants.{Blocks as AllFields, Print as PrintedFields,
+    Values as PickedValues, Row as PickedRow, Count as NumberAlone}
 use Rattle.rec_select.specs.Selection.{Filter, all, by_expression, at_places, with_text}
 use Rattle.rec_tools.specs.declared.request.Ask.{Ask}
 use Rattle.rec_tools.specs.declared.request.Ask.TheVariants.{All, Expr, Index, Quick}
@@ -18,8 +19,8 @@ use Rattle.rec_tools.specs.declared.request.Form.TheVariants.{Blocks, Print, Val
 
 -- ---- the options that select records
 
--- the texts of an expression, of a list of numbers, and of a text to find quickly, where these records are asked for: one
--- of them is given, or none
+-- the texts of an expression, of a list of numbers, and of a text to find quickly, where these records are asked for:
+-- one of them is given, or none
 abbrev pub selection_for : Ask → Option (List ℕ) × Option (List ℕ) × Option (List ℕ)
 selection_for All = (None, None, None)
 selection_for (Expr text) = (Some text, None, None)

@@ -7,7 +7,8 @@ use Rattle.rec_tools.specs.declared.home.Which.{Which}
 use Rattle.rec_tools.specs.declared.home.Which.TheVariants.{Base as TheFile, Journal as TheJournal}
 use Rattle.rec_tools.specs.declared.request.Request.{Request}
 use Rattle.rec_tools.specs.declared.request.Reply.{Reply}
-use Rattle.rec_tools.specs.Home.{Contents, content_of, Write, written, Call, got, lacked, unread, put_all, put_some, TellAll, Went}
+use Rattle.rec_tools.specs.Home.{Contents, content_of, Write, written, Call, got, lacked, unread, put_all, put_some,
+    TellAll, Went}
 use Rattle.rec_tools.specs.Printouts.{Printed, IsBoth, IsSilence}
 use Rattle.rec_tools.specs.Requests.{Asked, asked_of, reads_of}
 use Rattle.rec_tools.specs.Outcomes.{Outcome, IsRequestOutcome}
@@ -106,18 +107,21 @@ module _ (c : Contents) (asked : Asked) (answer : Answer) (calls : List Call) (p
 
 -- of the outcome's writes the first k are there, and the others are not
 abbrev pub IsCutShort : Contents → Asked → Option Contents → Type 0
-IsCutShort c asked new = (o : Outcome) × (k : ℕ) × IsRequestOutcome c asked (Ok o) × (new ≡ Some (written c (take k o.writes)))
+IsCutShort c asked new = (o : Outcome) × (k : ℕ) × IsRequestOutcome c asked (Ok o)
+    × (new ≡ Some (written c (take k o.writes)))
 
 -- ---- on a home
 
--- By these calls the one home became the other. They tell of some contents, and whatever contents they tell of, this was done.
+-- By these calls the one home became the other. They tell of some contents, and whatever contents they tell of, this
+-- was done.
 abbrev pub Attempts : {H : Type 0} → (H → Call → H → Type 0) → H → H → Asked → Answer → List Call → Printed → Type 0
 Attempts goes old new asked answer calls p = Went goes old calls new
     × ((c : Contents) × TellAll c calls) × ((c : Contents) → TellAll c calls → Does c asked answer calls p)
 
--- One answer for each request, by calls of its own on the home that the request before it left; what is printed is what each
--- of them prints, one after another.
-abbrev pub AttemptsAll : {H : Type 0} → (H → Call → H → Type 0) → H → H → List Request → List Answer → List Call → Printed → Type 0
+-- One answer for each request, by calls of its own on the home that the request before it left; what is printed is what
+-- each of them prints, one after another.
+abbrev pub AttemptsAll : {H : Type 0} → (H → Call → H → Type 0) → H → H → List Request → List Answer → List Call
+    → Printed → Type 0
 AttemptsAll goes old new [] [] calls p = (new ≡ old) × (calls ≡ []) × IsSilence p
 AttemptsAll goes old new [] (answer ∷ answers) calls p = ⊥
 AttemptsAll goes old new (request ∷ requests) [] calls p = ⊥

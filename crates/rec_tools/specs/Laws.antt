@@ -13,8 +13,8 @@ use Rattle.rec_tools.specs.Outcomes.{Outcome, IsRequestOutcome, printing}
 use Rattle.rec_tools.specs.Attempts.{Answer}
 use Rattle.rec_tools.specs.Machine.{State, IsMachineStep, Stands, first_state}
 
--- The machine's step is a function of the state and the request; only where `regex` may refuse a pattern, that refusal may
--- stand instead of the other answer.
+-- The machine's step is a function of the state and the request; only where `regex` may refuse a pattern, that refusal
+-- may stand instead of the other answer.
 abbrev pub OneStep : Type 0
 OneStep = (s : State) (request : Request) (one other : Answer) (text printed : List ℕ) (t u : State)
     → IsMachineStep s (asked_of request) one text t → IsMachineStep s (asked_of request) other printed u
@@ -34,14 +34,16 @@ FirstStands = (file : List ℕ) → Stands (record { file = file; journal = [] }
 -- an edit begins the history anew, with the outside text as the one before it
 abbrev pub outside_state : Contents → Opened → Tool → List ℕ → State
 outside_state c o tool text =
-    record { past = record { number = o.next; tool = tool; text = c.file } ∷ []; present = text; future = []; next = o.next + 1 }
+    record { past = record { number = o.next; tool = tool; text = c.file } ∷ []; present = text; future = [];
+        next = o.next + 1 }
 
 -- nothing is taken back, made again or forgotten, and the history says so; an edit that changes the text begins it anew
 pub record IsNoticed (c : Contents) (o : Opened) : Type 0 where
   pub undo : (r : Result Outcome Fault) → IsRequestOutcome c (asked_of Undo) r → r ≡ Err Drifted
   pub redo : (r : Result Outcome Fault) → IsRequestOutcome c (asked_of Redo) r → r ≡ Err Drifted
   pub forgetting : (n : ℕ) (r : Result Outcome Fault) → IsRequestOutcome c (asked_of (Forget n)) r → r ≡ Err Drifted
-  pub history : (r : Result Outcome Fault) → IsRequestOutcome c (asked_of History) r → r ≡ Ok (printing (codes "drifted\n") Shown)
+  pub history : (r : Result Outcome Fault) → IsRequestOutcome c (asked_of History) r
+      → r ≡ Ok (printing (codes "drifted\n") Shown)
   pub edits : (request : Request) (outcome : Outcome) → IsRequestOutcome c (asked_of request) (Ok outcome)
       → (outcome.writes ≡ [])
       ⊎ ((tool : Tool) × Stands (written c outcome.writes) (outside_state c o tool (written c outcome.writes).file))

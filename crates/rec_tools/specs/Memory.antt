@@ -1,5 +1,6 @@
 -- A home in memory: what it holds, and which of its calls fail.
-use Rattle.std.specs.Prelude.{◌≡◌, ℕ, ◌+◌, ◌-◌, ◌^◌, ◌≤◌, ◌<◌, min, List, [], ◌∷◌, length, take, Option, Some, None, ◌==◌, if◌then◌else◌}
+use Rattle.std.specs.Prelude.{◌≡◌, ℕ, ◌+◌, ◌-◌, ◌^◌, ◌≤◌, ◌<◌, min, List, [], ◌∷◌, length, take, Option, Some, None,
+    ◌==◌, if◌then◌else◌}
 use Rattle.rec_tools.specs.declared.memory.Failing.{Failing}
 use Rattle.rec_tools.specs.declared.memory.MemoryHome.{MemoryHome}
 use Rattle.rec_tools.specs.Home.{Contents, Write, written, Call, got, lacked, unread, put_all, put_some, left_by}
@@ -18,9 +19,9 @@ held home = record { file = home.file; journal = home.journal }
 abbrev pub IsCut : Contents → ℕ → List Write → Contents → Type 0
 IsCut old most writes new = (k : ℕ) × (k < min most (length writes)) × (new ≡ written old (take k writes))
 
--- Where the list gives a fault, the call fails, and a put leaves as many of its writes as the fault says, or fewer where a
--- copy finds no memory. Where it gives none, only a put may fail, as it does where a copy finds no memory, and then it
--- doesn't leave all.
+-- Where the list gives a fault, the call fails, and a put leaves as many of its writes as the fault says, or fewer
+-- where a copy finds no memory. Where it gives none, only a put may fail, as it does where a copy finds no memory, and
+-- then it doesn't leave all.
 abbrev pub IsScripted : Option ℕ → Call → Type 0
 IsScripted None (got which bytes) = Unit {0}
 IsScripted None (lacked which) = Unit {0}

@@ -1,6 +1,7 @@
 -- What a request comes to on any two contents: its refusals in their order, or what it prints, what it writes, and its
 -- reply.
-use Rattle.std.specs.Prelude.{◌≡◌, ◌≢◌, ◌⊎◌, ℕ, ◌-◌, ◌≤◌, ◌<◌, true, false, List, [], length, Some, None, Result, Ok, Err}
+use Rattle.std.specs.Prelude.{◌≡◌, ◌≢◌, ◌⊎◌, ℕ, ◌-◌, ◌≤◌, ◌<◌, true, false, List, [], length, Some, None, Result, Ok,
+    Err}
 use Rattle.rec_text.specs.declared.fault.Fault.{Fault}
 use Rattle.rec_text.specs.declared.fault.Fault.TheVariants.{BadPattern, DigestClash, Drifted}
 use Rattle.rec_journal.specs.declared.patch.Direction.{Direction}
@@ -19,7 +20,8 @@ use Rattle.rec_edit.specs.Batch.{IsBatchOutcome}
 use Rattle.rec_check.specs.DescribedTexts.{IsDescribedText}
 use Rattle.rec_tools.specs.declared.request.Request.{Request}
 use Rattle.rec_tools.specs.declared.request.Reply.{Reply}
-use Rattle.rec_tools.specs.declared.request.Reply.TheVariants.{Shown, Edited as EditedReply, Unchanged, Undone, Redone, Forgotten}
+use Rattle.rec_tools.specs.declared.request.Reply.TheVariants.{Shown, Edited as EditedReply, Unchanged, Undone, Redone,
+    Forgotten}
 use Rattle.rec_tools.specs.Home.{Contents, Write, writes_by}
 use Rattle.rec_tools.specs.Steps.{Then}
 use Rattle.rec_tools.specs.Printouts.{Printout, printed_history}
@@ -60,8 +62,8 @@ Makes text edits = Then (IsBatchOutcome edits.force edits.tasks text) (λ made a
 abbrev pub IsMade : (Result Edits Fault → Type 0) → List ℕ → Result (Tool × Edited) Fault → Type 0
 IsMade IsEdit text = Then IsEdit (Makes text)
 
--- the plan of an edit: its steps lead from the file to the text, and a stop leaves the history before or the one with the
--- edit
+-- the plan of an edit: its steps lead from the file to the text, and a stop leaves the history before or the one with
+-- the edit
 pub record IsPlanned (o : Opened) (c : Contents) (tool : Tool) (made : Edited) (plan : Plan) : Type 0 where
   pub leads : LeadsBy made.steps c.file made.text
   pub planned : IsEditPlan o c.journal tool made.steps made.text (Ok plan)
@@ -92,8 +94,8 @@ pub record IsMoveOutcome (direction : Direction) (o : Opened) (c : Contents) (ou
   pub safe : IsSafe c.file c.journal o (after_move direction o c.journal moves.nearest moves.others) plan
   pub is : outcome ≡ putting plan (reply_of direction moves.nearest.number)
 
--- refused as its plan is: where the file has drifted, else where there is no edit that way, else where the nearest leads
--- nowhere
+-- refused as its plan is: where the file has drifted, else where there is no edit that way, else where the nearest
+-- leads nowhere
 abbrev pub IsMove : Direction → Opened → Contents → Result Outcome Fault → Type 0
 IsMove direction o c (Ok outcome) = (o.drifted ≡ false) × IsMoveOutcome direction o c outcome
 IsMove direction o c (Err fault) = IsMovePlan direction o c.file c.journal (Err fault)

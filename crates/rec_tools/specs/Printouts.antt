@@ -1,10 +1,12 @@
 -- What a request prints of a file, with its reply, or why it is refused.
-use Rattle.std.specs.Prelude.{◌≡◌, ◌⊎◌, ℕ, ◌≤◌, Bool, List, [], ◌∷◌, ◌++◌, length, map, reverse, codes, decimal, Option, Result, Ok, Err, if◌then◌else◌}
+use Rattle.std.specs.Prelude.{◌≡◌, ◌⊎◌, ℕ, ◌≤◌, Bool, List, [], ◌∷◌, ◌++◌, length, map, reverse, codes, decimal, Option,
+    Result, Ok, Err, if◌then◌else◌}
 use Rattle.std.specs.List.{flat_map}
 use Rattle.std.specs.Io.KnownBytes.{Appends, Keeps}
 use Rattle.rec_text.specs.declared.fault.Fault.{Fault}
 use Rattle.rec_text.specs.declared.fault.Fault.TheVariants.{OutOfMemory, StoreFailed}
 use Rattle.rec_text.specs.declared.violations.Violation.{Violation}
+use Rattle.rec_text.specs.Ascii.{newline, space}
 use Rattle.rec_text.specs.Sink.{AppendsPrefix}
 use Rattle.rec_journal.specs.declared.event.Tool.{Tool}
 use Rattle.rec_journal.specs.Event.{tool_name}
@@ -68,15 +70,15 @@ IsReportText IsFound (Ok p) =
 IsReportText IsFound (Err fault) = IsFound (Err fault)
 
 -- the reply to a request that prints, and what it prints
-abbrev pub IsShown : Result Printout Fault → Result Reply Fault → List ℕ → Type 0
-IsShown (Ok p) answer printed = (answer ≡ Ok p.reply) × (printed ≡ p.text)
-IsShown (Err fault) answer printed = (answer ≡ Err fault) × (printed ≡ [])
+abbrev pub ComesOut : Result Printout Fault → Result Reply Fault → List ℕ → Type 0
+ComesOut (Ok p) answer printed = (answer ≡ Ok p.reply) × (printed ≡ p.text)
+ComesOut (Err fault) answer printed = (answer ≡ Err fault) × (printed ≡ [])
 
 -- ---- the history
 
 -- a line of a history: its word, and an edit's number and tool
 abbrev pub step_line : List ℕ → ℕ × Tool → List ℕ
-step_line word (number, tool) = word ++ 32 ∷ (decimal number ++ 32 ∷ (tool_name tool ++ 10 ∷ []))
+step_line word (number, tool) = word ++ space ∷ (decimal number ++ space ∷ (tool_name tool ++ newline ∷ []))
 
 -- the edits that were made, the newest given first and printed last, and those to be made again
 abbrev pub history_text : List (ℕ × Tool) → List (ℕ × Tool) → List ℕ

@@ -167,8 +167,8 @@ fn setting(alloc: Global, own: &[Element<'_>]) -> Result<EditRequest, Refusal>
     })
 }
 
-/// The tool that a word names.
-fn tool_by(word: &[u8]) -> Option<Tool>
+/// The tool of an edit that a word names, if it names one; a batch is no edit.
+pub fn tool_by(word: &[u8]) -> Option<Tool>
     ensures { MatchOption result ((tool : ToolOf) → tool ≢ BatchTool → word.now ≡ tool_name tool → ⊥)
         (λ tool. (word.now ≡ tool_name tool) × (tool ≢ BatchTool)) }
 {
@@ -186,7 +186,7 @@ fn tool_by(word: &[u8]) -> Option<Tool>
 }
 
 /// The names of the fields that an edit by a tool may have.
-fn names_for(tool: Tool) -> &'static [&'static [u8]]
+pub fn names_for(tool: Tool) -> &'static [&'static [u8]]
     ensures { map (λ name. name.now) result.now ≡ names_of_tool tool }
 {
     match tool {

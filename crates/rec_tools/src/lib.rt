@@ -14,7 +14,7 @@ mod request;
 mod runner;
 mod selecting;
 
-pub use batches::batch_edits;
+pub use batches::{batch_edits, names_for, tool_by};
 pub use editing::make;
 pub use home::{Home, Which};
 pub use laws::{
@@ -24,6 +24,7 @@ pub use laws::{
 pub use memory::MemoryHome;
 pub use rec_check::RecFile;
 pub use rec_edit::{Action, Edited, NewRecord, Pair, RefusedEdit};
+pub use rec_journal::Tool;
 pub use rec_select::InfoForm;
 pub use rec_text::{Bytes, Fault, Output, Rule, Sink, Violation, Violations};
 pub use request::{Ask, EditRequest, Form, Pick, Reply, Request};

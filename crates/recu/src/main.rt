@@ -3,7 +3,9 @@
 
 use rec_command::{CommandLine, Order, Refusal, finish, parse, words};
 use rec_explain::{About, explain, explain_endings, explain_report, explain_waiting};
-use rec_files::{FileHome, StandardOutput, access_of, batch_text, explain_output, room_for};
+use rec_files::{
+    Access, FileHome, StandardOutput, access_of, batch_text, explain_output, room_for,
+};
 use rec_select::write_report;
 use rec_tools::{Fault, Output, Reply, Request, Which};
 use std::io;
@@ -52,22 +54,44 @@ fn run(rt: &HostRuntime, line: CommandLine) -> Result<Reply, Fault> {
         journal,
     } = line;
     let (request, batch) = request_of(rt, order)?;
-    let access = access_of(&request);
+    carry_out(rt, file, journal, &request, &batch)
+}
+
+/// The answer to a request on a file and its journal, with what is said of it.
+fn carry_out(
+    rt: &HostRuntime,
+    file: Option<String>,
+    journal: String,
+    request: &Request,
+    batch: &Option<String>,
+) -> Result<Reply, Fault> {
+    let access = access_of(request);
     if file.is_none() {
-        say_waiting(rt, &request);
+        say_waiting(rt, request);
     }
     let mut home = FileHome::new(rt, file, journal, access);
+    let answer = run_with(rt, &mut home, request, access);
+    say_more(rt, &home, request, batch, &answer);
+    answer
+}
+
+/// The answer to a request, once what it prints is out and the files are closed.
+fn run_with(
+    rt: &HostRuntime,
+    home: &mut FileHome<'_, HostRuntime>,
+    request: &Request,
+    access: Access,
+) -> Result<Reply, Fault> {
     let Ok(mut out) = StandardOutput::new(rt.alloc(), room_for(access), rt.stdout()) else {
         return Err(Fault::OutOfMemory);
     };
-    let answer = match rec_tools::run(rt.alloc(), &mut home, &mut out, &request) {
+    let answer = match rec_tools::run(rt.alloc(), home, &mut out, request) {
         Ok(reply) => out.finish().map(|()| reply),
         Err(fault) => Err(fault),
     };
     home.close();
     let _ = home.explain(rt);
     let _ = out.explain(rt);
-    say_more(rt, &home, &request, &batch, &answer);
     answer
 }
 

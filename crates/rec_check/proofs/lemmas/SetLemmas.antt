@@ -120,16 +120,19 @@ AreSets-with_member types (s ∷ sets) index size are =
       places = with_member-from index 0 s sets are.places ends;
     }
 
-AreSets-begun : (types : List Named) (sets : List Set_) (index : ℕ) (record_type : List ℕ) → index ≡ length types → AreSets types sets → AreSets (types ++ Some record_type ∷ []) (sets ++ begun index record_type ∷ [])
+AreSets-begun : (types : List Named) (sets : List Set_) (index : ℕ) (record_type : List ℕ) → index ≡ length types → AreSets types sets
+    → AreSets (types ++ Some record_type ∷ []) (sets ++ begun index record_type ∷ [])
 AreSets-begun types sets index record_type size are =
     let ends : end_from 0 sets ≡ index = omega (arith, end_from-length 0 sets are.places, ap length are.joined) in
     record {
-      joined = flat_map-append named_in sets (begun index record_type ∷ []) ∙ ap (λ r. flat_map named_in sets ++ r) (append-nil (named_in (begun index record_type)) ∙ begun-named index record_type) ∙ ap (λ ts. ts ++ Some record_type ∷ []) are.joined;
+      joined = flat_map-append named_in sets (begun index record_type ∷ []) ∙ ap (λ r. flat_map named_in sets ++ r) (append-nil (named_in (begun index record_type)) ∙ begun-named index record_type)
+          ∙ ap (λ ts. ts ++ Some record_type ∷ []) are.joined;
       untyped_first = begun-first index record_type sets are.untyped_first;
       places = begun-from index record_type 0 sets are.places ends;
     }
 
-pub AreSets-with_record : (types : List Named) (sets : List Set_) (index : ℕ) (record_type : Named) → index ≡ length types → AreSets types sets → AreSets (types ++ record_type ∷ []) (with_record sets index record_type)
+pub AreSets-with_record : (types : List Named) (sets : List Set_) (index : ℕ) (record_type : Named) → index ≡ length types → AreSets types sets
+    → AreSets (types ++ record_type ∷ []) (with_record sets index record_type)
 unfolding begun
 AreSets-with_record types sets index None size are = AreSets-with_member types sets index size are
 AreSets-with_record types sets index (Some record_type) size are = AreSets-begun types sets index record_type size are
@@ -205,14 +208,16 @@ same_parts at (Some record_type) (Some other) head top start end from to some mo
     let heads : head ≡ top = begins.1.0 ∙ sym starts.1.0 in
     let start_is : start ≡ from = omega (arith, begins.1.1, starts.1.1) in
     let end_is : end ≡ to = omega (arith, begins.0, starts.0, same.0) in
-    (ap (λ t. set_of (Some t) head start end) type_is ∙ ap (λ p. set_of (Some other) p start end) heads ∙ ap (λ n. set_of (Some other) top n end) start_is ∙ ap (set_of (Some other) top from) end_is, same.1)
+    (ap (λ t. set_of (Some t) head start end) type_is ∙ ap (λ p. set_of (Some other) p start end) heads ∙ ap (λ n. set_of (Some other) top n end) start_is
+        ∙ ap (set_of (Some other) top from) end_is, same.1)
 
 same_first : (at : ℕ) (s t : Set_) (some more : List Named) → is_some s.kind ≡ is_some t.kind → BeginsAt at s → BeginsAt at t → BeginsTyped some → BeginsTyped more
     → named_in s ++ some ≡ named_in t ++ more → (s ≡ t) × (some ≡ more)
 same_first at s t some more alike begins starts h k e =
     same_parts at s.kind t.kind s.head t.head s.members.start s.members.end t.members.start t.members.end some more alike begins starts h k e
 
-BeginsTyped-parts : (record_type : Named) (rest more : List Named) → is_some record_type ≡ true → BeginsTyped (((elim record_type [ None ↦ [] | Some record_type ↦ Some record_type ∷ [] ]) ++ rest) ++ more)
+BeginsTyped-parts : (record_type : Named) (rest more : List Named) → is_some record_type ≡ true
+    → BeginsTyped (((elim record_type [ None ↦ [] | Some record_type ↦ Some record_type ∷ [] ]) ++ rest) ++ more)
 BeginsTyped-parts None rest more typed = absurd (false≢true typed)
 BeginsTyped-parts (Some record_type) rest more typed = tt
 
@@ -231,7 +236,8 @@ same_typed at [] (t ∷ others) typed typed_too from starts e =
 same_typed at (s ∷ sets) [] typed typed_too from starts e =
     absurd (some_named s.kind (replicate (s.members.end - s.members.start) nothing) (flat_map named_in sets) typed.0 (sym e))
 same_typed at (s ∷ sets) (t ∷ others) typed typed_too from starts e =
-    let first = same_first at s t (flat_map named_in sets) (flat_map named_in others) (typed.0 ∙ sym typed_too.0) from.0 starts.0 (BeginsTyped-named sets typed.1) (BeginsTyped-named others typed_too.1) e in
+    let first = same_first at s t (flat_map named_in sets) (flat_map named_in others) (typed.0
+        ∙ sym typed_too.0) from.0 starts.0 (BeginsTyped-named sets typed.1) (BeginsTyped-named others typed_too.1) e in
     let begins : AreFrom s.members.end others = subst (λ n. AreFrom n others) (sym (ap (λ u. u.members.end) first.0)) starts.1 in
     ap (λ u. u ∷ sets) first.0 ∙ ap (λ us. t ∷ us) (same_typed s.members.end sets others typed.1 typed_too.1 from.1 begins first.1)
 

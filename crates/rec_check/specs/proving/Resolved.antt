@@ -1,5 +1,6 @@
 -- How the definitions of a descriptor are resolved in memory: what is known of each of them, and where it stands.
-use Rattle.std.specs.Prelude.{◌≡◌, ◌⊎◌, ◌<◌, ◌==◌, ℕ, Bool, true, false, List, length, is_some, slice_get, Option, Some, None, option_map, option_and_then, if◌then◌else◌}
+use Rattle.std.specs.Prelude.{◌≡◌, ◌⊎◌, ◌<◌, ◌==◌, ℕ, Bool, true, false, List, length, is_some, slice_get, Option, Some,
+    None, option_map, option_and_then, if◌then◌else◌}
 use Rattle.std.specs.Borrow.{Bor}
 use Rattle.std.specs.List.{list_any}
 use Rattle.std.specs.Str.{bytes_eq}
@@ -9,7 +10,7 @@ use Rattle.rec_check.specs.declared.field_types.resolution.Meaning.{Meaning}
 use Rattle.rec_check.specs.declared.field_types.resolution.Meaning.TheVariants.{SameAs, Settled}
 use Rattle.rec_check.specs.declared.field_types.resolution.Resolver.{Resolver}
 use Rattle.rec_check.specs.proving.Fitting.{FindLast, place_of}
-use Rattle.rec_check.specs.proving.Meanings.{meaning_in}
+use Rattle.rec_check.specs.Meanings.{meaning_in}
 use Rattle.rec_check.specs.Resolving.{is_known_kind, last_definition, LeadsTo}
 use Rattle.rec_check.specs.Stored.{type_stored}
 use Rattle.rec_check.specs.Types.{FieldType, Definition, unchecked}

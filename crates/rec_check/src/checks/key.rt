@@ -1,8 +1,7 @@
 //! The key of a set.
 ghost use Rattle.std.specs.Prelude.{◌≡◌, option_map};
-ghost use Rattle.std.specs.Cow.{cow_slice_items};
 ghost use Rattle.rec_text.specs.Places.{piece_of, pieces_of};
-ghost use Rattle.rec_text.specs.Values.{bytes_of, value_of};
+ghost use Rattle.rec_text.specs.Values.{value_of};
 ghost use Rattle.rec_check.specs.Violations.{key_of};
 
 use crate::checks::found::add_violation;
@@ -26,16 +25,6 @@ fn only_field<'f, 't>(fields: &'f [Element<'t>], name: &[u8]) -> Option<&'f Elem
         only = Some(field);
     }
     only
-}
-
-/// The bytes of a value.
-pub(crate) fn bytes_in(value: Value<'_>) -> CowSlice<'_, u8>
-    ensures { cow_slice_items result ≡ bytes_of value.entry }
-{
-    match value {
-        Value::Part(part) => CowSlice::Borrowed(part),
-        Value::Made(made) => CowSlice::Owned(made.into_vec()),
-    }
 }
 
 /// The key of a set, if it has one, and the keys of its records so far.
@@ -73,7 +62,7 @@ impl<'r, 't> Key<'r, 't> {
         ensures name { self.new.name ≡ self.old.name }
         ensures refusals { IsOkUnless result Fault.OutOfMemory }
     {
-        let is_new = self.taken.insert(bytes_in(value))?;
+        let is_new = self.taken.insert(value.into_cow())?;
         Ok(!is_new)
     }
 

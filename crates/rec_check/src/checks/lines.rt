@@ -1,5 +1,6 @@
 //! The lines at which elements begin.
 ghost use Rattle.std.specs.Prelude.{◌≡◌, ◌<◌, ◌≤◌, ◌-◌, ◌==◌, count_by, drop, length, take};
+ghost use Rattle.rec_text.specs.Ascii.{newline};
 ghost use Rattle.rec_text.specs.Elements.{text_of};
 ghost use Rattle.rec_text.specs.Places.{pieces_of};
 ghost use Rattle.rec_check.specs.Violations.{line_at};
@@ -11,7 +12,7 @@ use rec_text::{Database, Element};
 fn newlines(text: &[u8], from: usize, to: usize) -> usize
     requires ordered { from ≤ to }
     requires within { to ≤ length text.now }
-    ensures count { result ≡ count_by (λ b. b == 10) (take (to - from) (drop from text.now)) }
+    ensures count { result ≡ count_by (λ b. b == newline) (take (to - from) (drop from text.now)) }
 {
     memchr_iter(b'\n', &text[from..to]).count()
 }

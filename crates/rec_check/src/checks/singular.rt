@@ -1,7 +1,6 @@
 //! The fields of which a value stands in one record of a set alone.
 
 use crate::checks::found::add_violations;
-use crate::checks::key::bytes_in;
 use crate::checks::names::Names;
 use rec_text::{Bytes, Element, Fault, Rule, Violation};
 use std::alloc::Global;
@@ -56,7 +55,7 @@ impl<'r, 't> Singular<'r, 't> {
         let Some(place) = self.names.place_of(field.name()) else {
             return Ok(None);
         };
-        let value = bytes_in(field.value(alloc)?);
+        let value = field.value(alloc)?.into_cow();
         Ok(Some((place, value)))
     }
 

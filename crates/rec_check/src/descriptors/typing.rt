@@ -1,6 +1,7 @@
 //! Reads the type of some fields, and what a kind means.
 ghost use Rattle.std.specs.Prelude.{◌≡◌, ◌⊎◌, ◌==◌, None, IfOk, IfErr, IsErrOf};
 ghost use Rattle.std.specs.List.{list_all, slice_split};
+ghost use Rattle.rec_text.specs.Ascii.{comma};
 ghost use Rattle.rec_text.specs.Canonical.{is_field_name as may_name_a_field};
 ghost use Rattle.rec_check.specs.proving.Kinds.{IsKindIn};
 ghost use Rattle.rec_check.specs.Stored.{definition_stored, typing_stored};
@@ -17,7 +18,7 @@ use std::alloc::{AllocError, Global};
 
 /// Copies of what stands between commas.
 fn split_names(alloc: Global, word: &[u8]) -> Result<Vec<Bytes>, AllocError>
-    ensures { IfOk result (λ names. names.items ≡ slice_split (λ b. b == 44) word.now) }
+    ensures { IfOk result (λ names. names.items ≡ slice_split (λ b. b == comma) word.now) }
 {
     let mut names = Vec::new(alloc);
     for name in word.split(|byte| *byte == b',') {

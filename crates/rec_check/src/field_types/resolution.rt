@@ -165,7 +165,7 @@ pub(crate) struct Resolver<'r> {
 impl<'r> Resolver<'r> {
     ghost use Rattle.std.specs.Prelude.{◌≡◌, ℕ, List, map, option_map, IfOk};
     ghost use Rattle.regex.specs.Patterns.{Re};
-    ghost use Rattle.rec_check.specs.proving.Meanings.{meaning_in};
+    ghost use Rattle.rec_check.specs.Meanings.{meaning_in};
     ghost use Rattle.rec_check.specs.proving.Resolved.{meaning_by, resolved_by};
     ghost use Rattle.rec_check.specs.Stored.{definition_stored, type_stored};
     ghost use Rattle.rec_check.specs.Types.{FieldType as OneType};

@@ -1,5 +1,6 @@
 -- How a script is carried out, part by part: what is done of it and what is left.
-use Rattle.std.specs.Prelude.{◌≡◌, ℕ, ◌+◌, ◌<◌, ◌≤◌, ◌⊎◌, Bool, true, false, not, IsTrue, List, [], ◌∷◌, ◌++◌, length, drop, map, flat_map, Option, Some, None, if◌then◌else◌}
+use Rattle.std.specs.Prelude.{◌≡◌, ℕ, ◌+◌, ◌<◌, ◌≤◌, ◌⊎◌, Bool, true, false, not, IsTrue, List, [], ◌∷◌, ◌++◌, length,
+    drop, map, flat_map, Option, Some, None, if◌then◌else◌}
 use Rattle.std.specs.List.{AllByRecursion, enumerate_from}
 use Rattle.std.specs.Str.{bytes_eq}
 use Rattle.std.specs.declared.ops.Range.{Range}
@@ -23,9 +24,11 @@ pub record Keeps (layout : Layout) (i : ℕ) : Type 0 where
   pub stays : (piece : Piece) → layout.becomes i piece ≡ piece ∷ []
   pub alone : layout.put i ≡ []
 
--- elements that end in newlines are replaced by elements that end in newlines, and so are those that are put between them
+-- elements that end in newlines are replaced by elements that end in newlines, and so are those that are put between
+-- them
 pub record LaysLines (layout : Layout) : Type 0 where
-  pub becomes : (i : ℕ) (piece : Piece) → IsTrue (ends_newline piece.bytes) → AllByRecursion (λ new. IsTrue (ends_newline new.bytes)) (layout.becomes i piece)
+  pub becomes : (i : ℕ) (piece : Piece) → IsTrue (ends_newline piece.bytes)
+      → AllByRecursion (λ new. IsTrue (ends_newline new.bytes)) (layout.becomes i piece)
   pub put : (i : ℕ) → AllByRecursion (λ new. IsTrue (ends_newline new.bytes)) (layout.put i)
 
 -- Of n elements, those from an index on are changed as one, up to an end: nothing is put between them, and they aren't
@@ -52,7 +55,8 @@ EndsBy (Some run) at = run.at + length run.old.items ≤ at
 
 -- of these parts, the last ones are left to do
 pub record IsDraft (draft : Draft) (left whole : List Part) : Type 0 where
-  pub hunks : hunks_of whole ≡ draft.hunks.items ++ real_changes (opening draft.run (merged (changes_from draft.at left)))
+  pub hunks : hunks_of whole ≡ draft.hunks.items
+      ++ real_changes (opening draft.run (merged (changes_from draft.at left)))
   pub text : edited_text whole ≡ draft.text.items ++ edited_text left
   pub at : length (text_of (old_pieces whole)) ≡ draft.at + length (text_of (old_pieces left))
   pub run_ends : EndsBy draft.run draft.at
@@ -60,12 +64,14 @@ pub record IsDraft (draft : Draft) (left whole : List Part) : Type 0 where
 -- the run that a change goes on with: changes after the open run and changes after this one are the same hunks
 pub record IsRunHere (draft : Draft) (run : Run) (new : Draft) : Type 0 where
   pub hunks : (next : Hunk) (hunks : List Hunk) → next.at ≡ draft.at
-      → draft.hunks.items ++ real_changes (opening draft.run (joining next hunks)) ≡ new.hunks.items ++ real_changes (joining (hunk_of run) (joining next hunks))
+      → draft.hunks.items ++ real_changes (opening draft.run (joining next hunks))
+      ≡ new.hunks.items ++ real_changes (joining (hunk_of run) (joining next hunks))
   pub ends : run.at + length run.old.items ≡ draft.at
   pub text : new.text.items ≡ draft.text.items
   pub at : new.at ≡ draft.at
 
--- what stands instead of a last element that lacks a newline at its end: it lacks one too, unless something is put after it
+-- what stands instead of a last element that lacks a newline at its end: it lacks one too, unless something is put
+-- after it
 abbrev pub settling : List Piece → List Piece → List Piece
 settling [] new = opened new
 settling (piece ∷ following) new = new
@@ -81,11 +87,13 @@ laying layout first pieces = flat_map (λ (i, piece). layout.becomes i (closed p
 -- what stands instead of a record
 abbrev pub laid : Layout → List Piece → Range ℕ → List Piece
 laid layout pieces own_range =
-    layout.put own_range.start ++ (laying layout own_range.start (elements_in pieces own_range) ++ layout.put own_range.end)
+    layout.put own_range.start ++ (laying layout own_range.start (elements_in pieces own_range)
+        ++ layout.put own_range.end)
 
 -- that is something else than the record, the newline at the end of the text aside
 abbrev pub is_changed : Layout → List Piece → Range ℕ → Bool
-is_changed layout pieces own_range = not (bytes_eq (text_of (laid layout pieces own_range)) (text_of (map closed (elements_in pieces own_range))))
+is_changed layout pieces own_range = not (bytes_eq (text_of (laid layout pieces own_range))
+    (text_of (map closed (elements_in pieces own_range))))
 
 -- what replaces the last elements before an index, of which the first has this index, where no newline ends them
 abbrev pub laying_last : Layout → ℕ → ℕ → List Piece → List Piece

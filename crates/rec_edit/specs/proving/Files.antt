@@ -14,7 +14,7 @@ use Rattle.rec_edit.specs.proving.Edits.{IsCarriedOut}
 use Rattle.rec_edit.specs.proving.Filling.{AreAllFilled, AreLacking}
 use Rattle.rec_edit.specs.proving.Given.{IsAutomaticText}
 use Rattle.rec_edit.specs.Insertions.{Numbered, Filled}
-use Rattle.rec_edit.specs.Outcome.{AreChosen, AreRemovable, IsEditOf}
+use Rattle.rec_edit.specs.Outcome.{AreChosen, AreRemovable}
 use Rattle.rec_edit.specs.proving.Sites.{IsRecordPut}
 use Rattle.rec_edit.specs.Task.{Pair, Task, wanted_by}
 use Rattle.rec_edit.specs.Wording.{names_in}
@@ -34,10 +34,12 @@ abbrev pub AreLackingIn : ReadText → ℕ → List Pair → Result (List Number
 AreLackingIn file place pairs = AreLacking file.pieces (described file.schema) place (names_in pairs)
 
 abbrev pub AreAutomaticIn : ReadText → Option (List ℕ) → Bool → List Pair → Result (List Numbered) Fault → Type 0
-AreAutomaticIn file record_type auto pairs = AreAutomatic file.pieces (described file.schema) record_type auto (names_in pairs)
+AreAutomaticIn file record_type auto pairs =
+    AreAutomatic file.pieces (described file.schema) record_type auto (names_in pairs)
 
 abbrev pub IsAutomaticTextIn : ReadText → Option (List ℕ) → Bool → List Pair → List ℕ → Type 0
-IsAutomaticTextIn file record_type auto pairs = IsAutomaticText file.pieces (described file.schema) record_type auto (names_in pairs)
+IsAutomaticTextIn file record_type auto pairs =
+    IsAutomaticText file.pieces (described file.schema) record_type auto (names_in pairs)
 
 abbrev pub IsRecordPutIn : ReadText → Option (List ℕ) → List ℕ → List Pair → ℕ → List ℕ → Type 0
 IsRecordPutIn file record_type automatic pairs place text =
@@ -48,7 +50,8 @@ IsRecordPutIn file record_type automatic pairs place text =
 -- the set at a place, with its rules, where these are the records
 abbrev pub IsSetIn : ReadText → ℕ → List (Range ℕ) → Set_ → Rules → Type 0
 IsSetIn file place records s rules = AreRecords file.pieces records
-    × (slice_get (described file.schema).sets place ≡ Some s) × (slice_get (described file.schema).rules place ≡ Some rules)
+    × (slice_get (described file.schema).sets place ≡ Some s)
+    × (slice_get (described file.schema).rules place ≡ Some rules)
 
 -- the records of such a set
 abbrev pub AreFilledMembersIn : ReadText → List (Range ℕ) → Set_ → Rules → Result (List Filled) Fault → Type 0
@@ -61,6 +64,3 @@ AreFilledIn file = AreAllFilled file.pieces (described file.schema)
 
 abbrev pub IsCarriedOutIn : ReadText → Bool → Task → Result Patched Fault → Type 0
 IsCarriedOutIn file = IsCarriedOut file.pieces (described file.schema)
-
-abbrev pub IsEditIn : ReadText → Bool → Task → Result Patched Fault → Type 0
-IsEditIn file = IsEditOf file.pieces (described file.schema)

@@ -1,5 +1,6 @@
 -- Automatic fields as they are given: counter by counter, record by record, and set by set.
-use Rattle.std.specs.Prelude.{◌≡◌, ◌==◌, ◌<◌, ℕ, ℤ, Bool, List, [], ◌++◌, length, map, Option, Some, None, Result, Ok, Err, if◌then◌else◌}
+use Rattle.std.specs.Prelude.{◌≡◌, ◌==◌, ◌<◌, ℕ, ℤ, Bool, List, [], ◌++◌, length, map, Option, Some, None, Result, Ok,
+    Err, if◌then◌else◌}
 use Rattle.std.specs.Borrow.{Bor}
 use Rattle.std.specs.HashSet.{HashSet}
 use Rattle.std.specs.List.{slice_index_or}
@@ -43,25 +44,30 @@ abbrev pub with_given : List Numbered → (List ℕ → List ℤ) → List ℕ �
 with_given given numbers name = numbers_in given name ++ numbers name
 
 -- the fields that a record with fields of these names is given, and the counters after them
-pub record IsGiven (rules : Rules) (numbers : List ℕ → List ℤ) (own : List (List ℕ)) (given : List Numbered) (counters : List Counter) : Type 0 where
+pub record IsGiven (rules : Rules) (numbers : List ℕ
+    → List ℤ) (own : List (List ℕ)) (given : List Numbered) (counters : List Counter) : Type 0 where
   pub fields : AreNumbered (λ name. IsNext rules name (numbers name)) (lacking (automatic_names rules) own) (Ok given)
   pub counters_are : AreCounters rules (with_given given numbers) counters
 
 -- none are given, for want of a number
 abbrev pub IsRefused : Rules → (List ℕ → List ℤ) → List (List ℕ) → Fault → Type 0
-IsRefused rules numbers own fault = AreNumbered (λ name. IsNext rules name (numbers name)) (lacking (automatic_names rules) own) (Err fault)
+IsRefused rules numbers own fault = AreNumbered (λ name. IsNext rules name (numbers name))
+    (lacking (automatic_names rules) own) (Err fault)
 
 -- the automatic fields of the set at a place that a record with fields of these names lacks
 abbrev pub AreLacking : List Piece → Described → ℕ → List (List ℕ) → Result (List Numbered) Fault → Type 0
-AreLacking pieces schema place own = AreNumbered (IsAutomatic pieces schema place) (lacking (automatic_of schema place) own)
+AreLacking pieces schema place own = AreNumbered (IsAutomatic pieces schema place)
+    (lacking (automatic_of schema place) own)
 
 -- a new record of this type gets no automatic field, or those of the set at a place
 abbrev pub GivesNone : Described → Option (List ℕ) → Bool → Type 0
-GivesNone schema record_type auto = (pieces : List Piece) (own : List (List ℕ)) → AreAutomatic pieces schema record_type auto own (Ok [])
+GivesNone schema record_type auto = (pieces : List Piece) (own : List (List ℕ))
+    → AreAutomatic pieces schema record_type auto own (Ok [])
 
 abbrev pub GivesAt : Described → Option (List ℕ) → Bool → ℕ → Type 0
 GivesAt schema record_type auto place = (place < length schema.sets)
-    × ((pieces : List Piece) (own : List (List ℕ)) (answer : Result (List Numbered) Fault) → AreLacking pieces schema place own answer → AreAutomatic pieces schema record_type auto own answer)
+    × ((pieces : List Piece) (own : List (List ℕ)) (answer : Result (List Numbered) Fault)
+        → AreLacking pieces schema place own answer → AreAutomatic pieces schema record_type auto own answer)
 
 -- some are filled, after others
 pub record AddsFilled (answer : Result (List Filled) Fault → Type 0) (old new : List Filled) : Type 0 where
@@ -75,7 +81,8 @@ FillsMore answer old new = AddsFilled answer (filled_of old) (filled_of new)
 
 -- all records of a text are filled so
 abbrev pub AreAllFilled : List Piece → Described → Result (List Filled) Fault → Type 0
-AreAllFilled pieces schema answer = (records : List (Range ℕ)) × AreRecords pieces records × AreFilledOf pieces records schema answer
+AreAllFilled pieces schema answer = (records : List (Range ℕ)) × AreRecords pieces records
+    × AreFilledOf pieces records schema answer
 
 -- ---- as they are found
 
@@ -93,7 +100,8 @@ KeepsPlace old new index place = (i : ℕ) → place_at new i ≡ (if index == i
 -- the record at this place, if there is one, gives what is put at an index
 abbrev pub IsPlaced : List Filled → ℕ → Option ℕ → Type 0
 IsPlaced filled i None = (filling filled).put i ≡ []
-IsPlaced filled i (Some place) = (place < length filled) × ((one : Filled) → one ≡ slice_index_or filled place one → (filling filled).put i ≡ numbered_fields one.given)
+IsPlaced filled i (Some place) = (place < length filled)
+    × ((one : Filled) → one ≡ slice_index_or filled place one → (filling filled).put i ≡ numbered_fields one.given)
 
 -- the places lead to what is put at each index
 abbrev pub ArePlaces : List (Option ℕ) → List Filled → Type 0

@@ -8,4 +8,5 @@ use Rattle.rec_edit.specs.Automatic.{AreAutomatic}
 -- the text of the automatic fields of a new record
 abbrev pub IsAutomaticText : List Piece → Described → Option (List ℕ) → Bool → List (List ℕ) → List ℕ → Type 0
 IsAutomaticText pieces schema record_type auto names text =
-    (automatic : List Numbered) × AreAutomatic pieces schema record_type auto names (Ok automatic) × (text ≡ text_of (numbered_fields automatic))
+    (automatic : List Numbered) × AreAutomatic pieces schema record_type auto names (Ok automatic)
+        × (text ≡ text_of (numbered_fields automatic))

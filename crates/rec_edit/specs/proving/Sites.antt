@@ -44,9 +44,10 @@ abbrev pub heading : Option (List ℕ) → List Piece
 heading None = []
 heading (Some record_type) = canonical rec_name record_type ∷ empty_line ∷ []
 
--- Before the fields of a new record stand an empty line or none, and the descriptor of a new type. Bytes grow by these, and
--- this is the site of the record.
-pub record Begins (pieces : List Piece) (sets : List Set_) (record_type : Option (List ℕ)) (site : Site) (old new : List ℕ) : Type 0 where
+-- Before the fields of a new record stand an empty line or none, and the descriptor of a new type. Bytes grow by these,
+-- and this is the site of the record.
+pub record Begins (pieces : List Piece) (sets : List Set_) (record_type : Option (List ℕ)) (site : Site)
+    (old new : List ℕ) : Type 0 where
   pub records : List (Range ℕ)
   pub are : AreRecords pieces records
   pub prefix : List Piece
@@ -59,10 +60,12 @@ pub record IsPut (place : ℕ) (text : List ℕ) (insertion : Insertion) : Type 
   pub same_text : text ≡ text_of insertion.new
 
 -- at this place this text is put in: a new record with these fields, after automatic ones that are given as a text
-pub record IsRecordPut (pieces : List Piece) (sets : List Set_) (record_type : Option (List ℕ)) (automatic : List ℕ) (pairs : List Pair) (place : ℕ) (text : List ℕ) : Type 0 where
+pub record IsRecordPut (pieces : List Piece) (sets : List Set_) (record_type : Option (List ℕ)) (automatic : List ℕ)
+    (pairs : List Pair) (place : ℕ) (text : List ℕ) : Type 0 where
   pub records : List (Range ℕ)
   pub are : AreRecords pieces records
-  pub is : (given : List Piece) → automatic ≡ text_of given → IsPut place text (insertion_for pieces records sets record_type (given ++ fields_of pairs))
+  pub is : (given : List Piece) → automatic ≡ text_of given
+      → IsPut place text (insertion_for pieces records sets record_type (given ++ fields_of pairs))
 
 -- a text that is put in as one piece; none where it is empty
 abbrev pub block : List ℕ → List Piece

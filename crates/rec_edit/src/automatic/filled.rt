@@ -5,6 +5,7 @@ ghost use Rattle.rec_text.specs.Faults.{IsMemoryOr};
 ghost use Rattle.rec_text.specs.Places.{pieces_of};
 ghost use Rattle.rec_check.specs.declared.set.Set_.{Set_};
 ghost use Rattle.rec_check.specs.Counters.{AreCounters};
+ghost use Rattle.rec_check.specs.DescribedTexts.{BelongTogether};
 ghost use Rattle.rec_check.specs.Rules.{Rules};
 ghost use Rattle.rec_check.specs.Stored.{described};
 ghost use Rattle.rec_check.specs.Violations.{names_of};
@@ -115,6 +116,7 @@ pub(crate) fn filled_records<'s>(
     ensures filled { IfOk result (λ filled. AreFilledIn file.now (Ok (filled_of filled.items))) }
     ensures refused { IfErr result (λ fault. IsMemoryOr fault (AreFilledIn file.now (Err fault))) }
     ensures ranges { IfOk result (λ filled. AreRanges (length file.now.pieces) (ranges_of (filled_of filled.items))) }
+    ensures together { BelongTogether file.now }
 {
     let mut filled = Vec::new(alloc);
     for place in 0..file.schema().sets().len() {

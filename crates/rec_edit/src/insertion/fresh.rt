@@ -1,6 +1,7 @@
 //! New records.
 ghost use Rattle.std.specs.Prelude.{◌≡◌, ◌≢◌, ◌∷◌, [], length, option_to_list, map, Err, Ok, IfOk, IfErr, IsOkUnless, MatchOption};
 ghost use Rattle.std.specs.List.{list_all};
+ghost use Rattle.rec_text.specs.Ascii.{space};
 ghost use Rattle.rec_text.specs.Canonical.{is_plain_name as may_be_written, is_foldable as can_be_folded};
 ghost use Rattle.rec_text.specs.Elements.{AreElementsOf};
 ghost use Rattle.rec_text.specs.Faults.{IsMemoryOr};
@@ -116,7 +117,7 @@ fn pairs_have_plain_names(pairs: &[Pair]) -> bool
 }
 
 fn have_foldable_values(pairs: &[Pair]) -> bool
-    ensures { result ≡ list_all (can_be_folded 32) (map (λ pair. pair.value) pairs.now) }
+    ensures { result ≡ list_all (can_be_folded space) (map (λ pair. pair.value) pairs.now) }
 {
     pairs.iter().all(|pair| is_foldable(pair.value.as_slice()))
 }

@@ -6,6 +6,7 @@ use crate::lines::shown::{line_in, show_line};
 use itoa::Buffer;
 use rec_text::Space::BlankOrNewline;
 use rec_text::{Database, Element, Fault, OrMemory, count_of, read};
+use rec_tools::{Tool, names_for, tool_by};
 use std::alloc::Global;
 use std::str;
 
@@ -22,46 +23,6 @@ const SELECTIONS: &[&[u8]] = &[b"Expression", b"Number", b"Quick"];
 
 const ACTIONS: &[&[u8]] = &[b"Set", b"Add", b"SetAdd", b"Rename", b"Delete", b"Comment"];
 
-/// A tool that makes edits.
-#[derive(Clone, Copy)]
-struct Tool {
-    name: &'static str,
-    /// The names of the fields that an edit by it may have.
-    fields: &'static str,
-}
-
-impl Tool {
-    fn of(word: &[u8]) -> Option<Tool> {
-        let (name, fields) = if word == b"recins".as_slice() {
-            (
-                "recins",
-                "Tool Type Expression Number Quick Field Value Record Auto",
-            )
-        } else if word == b"recdel".as_slice() {
-            ("recdel", "Tool Type Expression Number Quick Comment")
-        } else if word == b"recset".as_slice() {
-            let fields =
-                "Tool Type Expression Number Quick Fields Set Add SetAdd Rename Delete Comment";
-            ("recset", fields)
-        } else if word == b"recfix".as_slice() {
-            ("recfix", "Tool")
-        } else {
-            return None;
-        };
-        Some(Tool { name, fields })
-    }
-
-    /// Whether an edit by the tool may have a field of this name.
-    fn takes(self, name: &[u8]) -> bool {
-        for field in self.fields.split(' ') {
-            if field.as_bytes() == name {
-                return true;
-            }
-        }
-        false
-    }
-}
-
 /// What is wrong with an edit.
 #[derive(Clone, Copy)]
 enum Wrong<'t> {
@@ -69,8 +30,8 @@ enum Wrong<'t> {
     Lacks(&'static str),
     /// There are this many of Field, and another number of Value.
     Unpaired(usize, usize),
-    /// A tool of this name doesn't take the field.
-    Unknown(Element<'t>, &'static str),
+    /// The tool doesn't take the field.
+    Unknown(Element<'t>, Tool),
     /// There is a second field of the name.
     Repeated(Element<'t>),
     /// The field has another value than this, maybe but for blanks around it.
@@ -140,7 +101,7 @@ fn say(path: &str, database: &Database<'_>, wrong: Wrong<'_>, said: &mut Explana
 /// Says what is wrong with the field of a line and a name.
 fn say_field(path: &str, line: usize, wrong: Wrong<'_>, name: &str, said: &mut Explanation) {
     match wrong {
-        Wrong::Unknown(_, tool) => say_unknown(path, line, tool, name, capital_hint(name), said),
+        Wrong::Unknown(_, tool) => say_unknown(path, line, as_text(tool.name()), name, capital_hint(name), said),
         Wrong::Repeated(_) => said.add_at(path, line, &[name, " stands in this edit already"]),
         Wrong::Value(_, wanted, is_padded) => say_value(
             path,
@@ -217,9 +178,9 @@ fn check<'t>(alloc: Global, own: &[Element<'t>]) -> Checked<'t> {
     check_repeated(own)?;
     check_words(alloc, own)?;
     check_excluded(own, SELECTIONS)?;
-    match tool.name {
-        "recins" => check_insertion(own),
-        "recset" => check_setting(own),
+    match tool {
+        Tool::RecIns => check_insertion(own),
+        Tool::RecSet => check_setting(own),
         _ => Ok(()),
     }
 }
@@ -235,22 +196,27 @@ fn tool_in<'t>(alloc: Global, field: &Element<'t>) -> Result<Tool, OrMemory<Wron
 }
 
 fn tool_named<'t>(field: &Element<'t>, word: &[u8]) -> Result<Tool, OrMemory<Wrong<'t>>> {
-    let is_padded = Tool::of(BlankOrNewline.trim(word)).is_some();
-    Tool::of(word).ok_or(OrMemory::Refused(Wrong::Value(*field, TOOLS, is_padded)))
+    let is_padded = tool_by(BlankOrNewline.trim(word)).is_some();
+    tool_by(word).ok_or(OrMemory::Refused(Wrong::Value(*field, TOOLS, is_padded)))
 }
 
 /// The first field that has one of these names.
 fn first_of<'t>(own: &[Element<'t>], names: &[&[u8]]) -> Option<Element<'t>> {
     own.iter()
-        .find(|element| names.contains(&element.name()))
+        .find(|element| is_among(names, element))
         .copied()
+}
+
+/// Whether an element has one of these names.
+fn is_among(names: &[&[u8]], element: &Element<'_>) -> bool {
+    names.contains(&element.name())
 }
 
 /// Whether the tool takes each field.
 fn check_names<'t>(own: &[Element<'t>], tool: Tool) -> Checked<'t> {
     for element in own {
-        if element.is_field() && !tool.takes(element.name()) {
-            return Err(OrMemory::Refused(Wrong::Unknown(*element, tool.name)));
+        if element.is_field() && !is_among(names_for(tool), element) {
+            return Err(OrMemory::Refused(Wrong::Unknown(*element, tool)));
         }
     }
     Ok(())
@@ -311,7 +277,7 @@ fn check_word<'t>(alloc: Global, field: &Element<'t>, wanted: &'static str) -> C
 
 /// Whether no two fields have one of these names.
 fn check_excluded<'t>(own: &[Element<'t>], names: &[&[u8]]) -> Checked<'t> {
-    let mut found = own.iter().filter(|element| names.contains(&element.name()));
+    let mut found = own.iter().filter(|element| is_among(names, element));
     match (found.next(), found.next()) {
         (Some(first), Some(second)) => Err(OrMemory::Refused(Wrong::Excluded(*second, *first))),
         _ => Ok(()),
@@ -344,5 +310,10 @@ fn check_setting<'t>(own: &[Element<'t>]) -> Checked<'t> {
 }
 
 fn name_of<'t>(field: &Element<'t>) -> &'t str {
-    str::from_utf8(field.name()).unwrap_or("?")
+    as_text(field.name())
+}
+
+/// A name as a text.
+fn as_text(name: &[u8]) -> &str {
+    str::from_utf8(name).unwrap_or("?")
 }

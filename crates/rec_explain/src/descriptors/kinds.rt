@@ -3,6 +3,7 @@ use crate::descriptors::kind_words::is_known;
 use crate::descriptors::words::{first_word, split_word};
 use crate::lines::places::value_of;
 use rec_text::Element;
+use rec_text::Space::BlankOrNewline;
 use rec_tools::Bytes;
 use std::alloc::{AllocError, Global};
 
@@ -29,7 +30,7 @@ pub fn last_said(
 /// What a field of a descriptor says of a name, if it is about it.
 fn said_of(alloc: Global, field: &Element<'_>, name: &[u8]) -> Result<Option<Bytes>, AllocError> {
     let value = value_of(alloc, field)?;
-    match after_name(value.bytes().trim_ascii(), name) {
+    match after_name(value.bytes(), name) {
         Some(said) => Ok(Some(in_one_line(alloc, said)?)),
         None => Ok(None),
     }
@@ -40,7 +41,7 @@ fn after_name<'a>(text: &'a [u8], name: &[u8]) -> Option<&'a [u8]> {
     let (names, following) = split_word(text)?;
     for one in names.split(|byte| *byte == b',') {
         if one == name {
-            return Some(following.trim_ascii());
+            return Some(BlankOrNewline.trim(following));
         }
     }
     None

@@ -1,7 +1,7 @@
 //! Values that stand in an earlier record of a set too.
 use crate::lines::places::{value_of, within};
 use crate::reports::place::Place;
-use rec_text::{Element, Value, count_of};
+use rec_text::{Element, count_of};
 use rec_tools::{Rule, Violation};
 use std::alloc::{AllocError, Global};
 use std::borrow::CowSlice;
@@ -66,7 +66,7 @@ fn values_in<'d, 't>(
     let mut values = HashMap::new(alloc);
     for field in record {
         if field.has_name(name) {
-            values.insert(bytes_of(alloc, field)?, field)?;
+            values.insert(value_of(alloc, field)?.into_cow(), field)?;
         }
     }
     Ok(values)
@@ -81,19 +81,11 @@ fn shared_field<'d, 't>(
 ) -> Result<Option<&'d Element<'t>>, AllocError> {
     for field in record {
         if field.has_name(name) {
-            let value = bytes_of(alloc, field)?;
+            let value = value_of(alloc, field)?.into_cow();
             if let Some(own) = values.get(&value) {
                 return Ok(Some(*own));
             }
         }
     }
     Ok(None)
-}
-
-/// The bytes of the value of a field, copied only where they don't stand in the text.
-fn bytes_of<'t>(alloc: Global, field: &Element<'t>) -> Result<CowSlice<'t, u8>, AllocError> {
-    match value_of(alloc, field)? {
-        Value::Part(part) => Ok(CowSlice::Borrowed(part)),
-        Value::Made(made) => Ok(CowSlice::Owned(made.into_vec())),
-    }
 }

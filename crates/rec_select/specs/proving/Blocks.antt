@@ -1,6 +1,7 @@
 -- The text of one record's block, and of blocks one after another.
 use Rattle.std.specs.Prelude.{ℕ, Bool, not, List, [], ◌∷◌, ◌++◌, map, filter, flat_map, if◌then◌else◌}
 use Rattle.std.specs.declared.ops.Range.{Range}
+use Rattle.rec_text.specs.Ascii.{newline, space}
 use Rattle.rec_text.specs.Bytes.{is_nil}
 use Rattle.rec_text.specs.Elements.{Piece}
 use Rattle.rec_text.specs.Places.{pieces_of}
@@ -16,7 +17,7 @@ use Rattle.rec_select.specs.Printing.{block_of, printed_element, row_of, value_l
 
 -- a space, and a value
 abbrev pub spaced_value : Piece → List ℕ
-spaced_value piece = 32 ∷ value_of piece
+spaced_value piece = space ∷ value_of piece
 
 -- what is printed of an element
 abbrev pub in_form : ElementForm → Piece → List ℕ
@@ -37,7 +38,7 @@ led_by before block = if is_nil block then [] else before ++ block
 
 -- what stands before a record's block: an empty line, unless it is the first
 abbrev pub gap : Bool → List ℕ
-gap is_first = if is_first then [] else 10 ∷ []
+gap is_first = if is_first then [] else newline ∷ []
 
 -- the blocks that hold anything
 abbrev pub full : List (List ℕ) → List (List ℕ)

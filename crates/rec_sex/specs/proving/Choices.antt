@@ -1,5 +1,6 @@
 -- Choices of occurrences and matchers in memory, and the walk over all choices.
-use Rattle.std.specs.Prelude.{◌≡◌, ℕ, zero, suc, ◌+◌, Bool, false, ◌||◌, ◌&&◌, not, nat_lt, List, [], ◌∷◌, ◌++◌, length, map, if◌then◌else◌}
+use Rattle.std.specs.Prelude.{◌≡◌, ℕ, zero, suc, ◌+◌, Bool, false, ◌||◌, ◌&&◌, not, nat_lt, List, [], ◌∷◌, ◌++◌, length,
+    map, if◌then◌else◌}
 use Rattle.std.specs.Borrow.{Bor}
 use Rattle.std.specs.HashSet.{HashSet, contains_by}
 use Rattle.std.specs.List.{filter}
@@ -9,7 +10,8 @@ use Rattle.regex.specs.Strings.{matcher_pattern}
 use Rattle.regex.specs.declared.string.matcher.Matcher.{Matcher}
 use Rattle.rec_text.specs.Bytes.{is_among}
 use Rattle.rec_text.specs.Elements.{Piece}
-use Rattle.rec_sex.specs.declared.syntax.tree.Tree.{Tree, Integer, Literal, Name, Occurrence, Count, Not', Negate', Binary', Found', Conditional'}
+use Rattle.rec_sex.specs.declared.syntax.tree.Tree.{Tree, Integer, Literal, Name, Occurrence, Count, Not', Negate',
+    Binary', Found', Conditional'}
 use Rattle.rec_sex.specs.declared.meaning.occurrences.Chosen.{Chosen}
 use Rattle.rec_sex.specs.declared.meaning.sharing.NamesFound.{NamesFound}
 use Rattle.rec_sex.specs.Grammar.{Term}

@@ -1,6 +1,8 @@
 -- What the values of the code that reads tokens stand for.
-use Rattle.std.specs.Prelude.{ℕ, ◌==◌, ◌||◌, ◌&&◌, Bool, true, false, nat_lt, List, [], ◌∷◌, Option, Some, None, length, reverse, if◌then◌else◌, ◌≡◌, take_while}
+use Rattle.std.specs.Prelude.{ℕ, ◌==◌, ◌||◌, ◌&&◌, Bool, true, false, nat_lt, List, [], ◌∷◌, Option, Some, None, length,
+    reverse, if◌then◌else◌, ◌≡◌, take_while}
 use Rattle.std.specs.Char.{is_ascii_digit}
+use Rattle.rec_text.specs.Ascii.{double_quote, apostrophe, backslash}
 use Rattle.rec_sex.specs.declared.syntax.token.Token.{Token}
 use Rattle.rec_sex.specs.declared.syntax.walk.Walk.{Walk as TakenWalk}
 use Rattle.rec_sex.specs.IndexList.{decimal_number, greatest}
@@ -17,7 +19,7 @@ index_at text =
 abbrev pub literal_byte : List ℕ → ℕ × ℕ
 literal_byte [] = (0, 1)
 literal_byte (b ∷ []) = (b, 1)
-literal_byte (b ∷ c ∷ bs) = if b == 92 && (c == 39 || c == 34) then (c, 2) else (b, 1)
+literal_byte (b ∷ c ∷ bs) = if b == backslash && (c == apostrophe || c == double_quote) then (c, 2) else (b, 1)
 
 -- the two are the same
 abbrev pub is_opened : Opened → Opened → Bool

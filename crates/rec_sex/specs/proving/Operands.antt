@@ -1,9 +1,11 @@
 -- Operands in memory, and the operators that work on their readings.
-use Rattle.std.specs.Prelude.{ℕ, ℤ, pos, ◌+ℤ◌, ◌-ℤ◌, ◌*ℤ◌, Bool, true, false, ◌||◌, ◌&&◌, not, List, Option, Some, None, if◌then◌else◌, int_lt, int_div, int_rem}
+use Rattle.std.specs.Prelude.{ℕ, ℤ, pos, ◌+ℤ◌, ◌-ℤ◌, ◌*ℤ◌, Bool, true, false, ◌||◌, ◌&&◌, not, List, Option, Some, None,
+    if◌then◌else◌, int_lt, int_div, int_rem}
 use Rattle.std.specs.Option.{option_map, option_map_or, option_and_then}
 use Rattle.rec_text.specs.Values.{bytes_of}
 use Rattle.rec_sex.specs.declared.syntax.token.Operator.{Operator}
-use Rattle.rec_sex.specs.declared.syntax.token.Operator.TheVariants.{Equal, NotEqual, Less, Greater, LessOrEqual, GreaterOrEqual, Join, Add, Subtract, Multiply, Divide, Remainder, And, Or, Implies}
+use Rattle.rec_sex.specs.declared.syntax.token.Operator.TheVariants.{Equal, NotEqual, Less, Greater, LessOrEqual,
+    GreaterOrEqual, Join, Add, Subtract, Multiply, Divide, Remainder, And, Or, Implies}
 use Rattle.rec_sex.specs.declared.meaning.operand.Operand.{Operand}
 use Rattle.rec_sex.specs.declared.meaning.operand.Operand.TheVariants.{Integer, Text}
 use Rattle.rec_sex.specs.Meaning.{Meaning, integer, text, fits, is_zero, as_text}

@@ -1,5 +1,6 @@
 -- The patterns that a parser collects, what it takes of the tokens, and the trees that it builds of them.
-use Rattle.std.specs.Prelude.{◌≡◌, ℕ, ◌+◌, ◌<◌, ◌≤◌, Bool, true, false, List, [], ◌∷◌, ◌++◌, length, map, Some, None, slice_index_or, if◌then◌else◌, ◌==◌}
+use Rattle.std.specs.Prelude.{◌≡◌, ℕ, ◌+◌, ◌<◌, ◌≤◌, Bool, true, false, List, [], ◌∷◌, ◌++◌, length, map, Some, None,
+    slice_index_or, if◌then◌else◌, ◌==◌}
 use Rattle.std.specs.List.{AllByRecursion}
 use Rattle.std.specs.Str.{is_utf8}
 use Rattle.regex.specs.Strings.{regex_pattern}
@@ -8,7 +9,8 @@ use Rattle.rec_sex.specs.declared.syntax.token.Token.{Token}
 use Rattle.rec_sex.specs.declared.syntax.token.Token.TheVariants.{Literal, Binary, Found, Then}
 use Rattle.rec_sex.specs.declared.syntax.tree.Tree.{Tree}
 use Rattle.rec_sex.specs.declared.syntax.parser.Parser.{Parser}
-use Rattle.rec_sex.specs.Grammar.{Walk, Want, Opened, Operand, Infix, following, may_end, level_of, Derives, IsPatternOf, found}
+use Rattle.rec_sex.specs.Grammar.{Walk, Want, Opened, Operand, Infix, following, may_end, level_of, Derives,
+    IsPatternOf, found}
 use Rattle.rec_sex.specs.Expressions.{pattern_at, term_with}
 use Rattle.rec_sex.specs.Patterns.{IsBuiltFrom}
 

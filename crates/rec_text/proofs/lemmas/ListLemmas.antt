@@ -1,5 +1,6 @@
 -- What several crates need of lists.
-use Rattle.std.proofs.Common.{◌≡◌, ◌∙◌, ◌⊎◌, inl, inr, ℕ, Bool, ◌||◌, ap₂, suc, zero, ◌+◌, ◌<◌, true, false, List, [], ◌∷◌, ◌++◌, ◌==◌, Result, Ok, Err, OnOk, Some, length, take, drop, get_or, refl, ap, sym, subst, append-nil, arith}
+use Rattle.std.proofs.Common.{◌≡◌, ◌∙◌, ◌⊎◌, inl, inr, ℕ, Bool, ◌||◌, ap₂, suc, zero, ◌+◌, ◌<◌, true, false, List, [], ◌∷◌, ◌++◌, ◌==◌, Result, Ok, Err, OnOk, Some, length, take, drop, get_or, refl,
+    ap, sym, subst, append-nil, arith}
 use Rattle.std.specs.Borrow.{Bor}
 use Rattle.std.specs.Prelude.{if◌then◌else◌, flat_map}
 use Rattle.std.specs.List.{AllByRecursion, Contains, join_with_byte, list_any, slice_get}

@@ -1,5 +1,6 @@
 -- A part of some bytes after another, put to a sink.
-use Rattle.std.proofs.Common.{◌≡◌, ℕ, ◌-◌, ◌<◌, ◌≤◌, List, [], ◌∷◌, ◌++◌, Option, Some, None, Result, Ok, Err, OnErr, true, false, ◌==◌, length, length-drop, take, drop, refl, sym, ap, subst, ◌∙◌, append_assoc, append-nil, length-append, arith}
+use Rattle.std.proofs.Common.{◌≡◌, ℕ, ◌-◌, ◌<◌, ◌≤◌, List, [], ◌∷◌, ◌++◌, Option, Some, None, Result, Ok, Err, OnErr, true, false, ◌==◌, length, length-drop, take, drop, refl, sym, ap, subst, ◌∙◌,
+    append_assoc, append-nil, length-append, arith}
 use Rattle.std.proofs.lemmas.List.{take_rest, take-append-drop, take_at}
 use Rattle.std.specs.Io.KnownBytes.{Appends, Keeps}
 use Rattle.std.proofs.KnownBytes.{Appends-nil, Appends-trans}
@@ -15,7 +16,8 @@ pub record HasPut (old new : Option (List ℕ)) (bytes rest : List ℕ) : Type 0
 pub HasPut-none : (old : Option (List ℕ)) (bytes : List ℕ) → HasPut old old bytes bytes
 HasPut-none old bytes = record { prefix = []; parts = refl; put = Appends-nil old }
 
-pub HasPut-more : (old mid new : Option (List ℕ)) (bytes rest : List ℕ) (n : ℕ) → HasPut old mid bytes rest → Appends mid new (take n rest) → HasPut old new bytes (take (length rest - n) (drop n rest))
+pub HasPut-more : (old mid new : Option (List ℕ)) (bytes rest : List ℕ) (n : ℕ) → HasPut old mid bytes rest → Appends mid new (take n rest)
+    → HasPut old new bytes (take (length rest - n) (drop n rest))
 HasPut-more old mid new bytes rest n so_far more =
     record {
       prefix = so_far.prefix ++ take n rest;

@@ -1,6 +1,7 @@
 -- The maximal runs of a test, and a range without its ends that fail it,
 -- made index by index from the last to the first.
-use Rattle.std.specs.Prelude.{◌≡◌, ℕ, ◌+◌, ◌-◌, ◌<◌, ◌≤◌, Bool, true, false, List, [], ◌∷◌, ◌==◌, if◌then◌else◌, Option, Some, None, suc, zero}
+use Rattle.std.specs.Prelude.{◌≡◌, ℕ, ◌+◌, ◌-◌, ◌<◌, ◌≤◌, Bool, true, false, List, [], ◌∷◌, ◌==◌, if◌then◌else◌, Option,
+    Some, None, suc, zero}
 use Rattle.std.specs.List.{filter_map}
 use Rattle.std.specs.declared.ops.Range.{Range}
 

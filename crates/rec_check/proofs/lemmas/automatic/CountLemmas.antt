@@ -1,5 +1,6 @@
 -- The greatest number of each name, field by field, and the counters that go on from it.
-use Rattle.std.proofs.Common.{◌≡◌, ◌∙◌, inl, inr, ℕ, ℤ, ◌+◌, ◌<◌, true, false, ◌&&◌, ◌||◌, not, cond, List, [], ◌∷◌, ◌++◌, Option, Some, None, option_map, length, take, get_or, refl, ap, sym, subst, arith, zero, suc, unwrap_or}
+use Rattle.std.proofs.Common.{◌≡◌, ◌∙◌, inl, inr, ℕ, ℤ, ◌+◌, ◌<◌, true, false, ◌&&◌, ◌||◌, not, cond, List, [], ◌∷◌, ◌++◌, Option, Some, None, option_map, length, take, get_or, refl, ap, sym, subst,
+    arith, zero, suc, unwrap_or}
 use Rattle.std.proofs.lemmas.Bool.{cases_Bool, or_cases, or_left, or_right}
 use Rattle.std.proofs.lemmas.Iterator.Adapters.{option_map_id}
 use Rattle.std.proofs.lemmas.List.{map_more, take_more, flat_map_more}
@@ -120,14 +121,16 @@ IsTopOf-greatest numbers (Some greatest) is = greatest_is numbers greatest is
 
 -- ---- as they are made
 
-IsKept-counter : (rules : Rules) (types : List ℕ → Option (FieldType Re)) (greatest : List ℕ → Option (Option ℤ)) (numbers : List ℤ) (counter : Counter) → ((name : List ℕ) → types name ≡ field_type rules name)
+IsKept-counter : (rules : Rules) (types : List ℕ → Option (FieldType Re)) (greatest : List ℕ → Option (Option ℤ)) (numbers : List ℤ) (counter : Counter)
+    → ((name : List ℕ) → types name ≡ field_type rules name)
     → greatest counter.name.now ≡ Some (greatest_from None numbers) → IsKept types greatest counter → IsCounterOf rules numbers counter
 IsKept-counter rules types greatest numbers counter typed held is = record {
   counts = is.counts ∙ ap (λ t. not (begins_special counter.name.now) && may_count t) (typed counter.name.now);
   greatest = IsTopOf-greatest numbers counter.greatest (sym (is.greatest_is ∙ ap (λ o. unwrap_or o None) held));
 }
 
-module _ (rules : Rules) (types : List ℕ → Option (FieldType Re)) (greatest : List ℕ → Option (Option ℤ)) (numbers : List ℕ → List ℤ) (typed : (name : List ℕ) → types name ≡ field_type rules name) where
+module _ (rules : Rules) (types : List ℕ → Option (FieldType Re)) (greatest : List ℕ → Option (Option ℤ)) (numbers : List ℕ → List ℤ) (typed : (name : List ℕ)
+    → types name ≡ field_type rules name) where
   kept_counters : (names : List (List ℕ)) (counters : List Counter) → HoldsGreatest names greatest numbers → ((counter : Counter) → Contains counters counter → is_among names counter.name.now ≡ true)
       → AllByRecursion (IsKept types greatest) counters → AllByRecursion (λ counter. IsCounterOf rules (numbers counter.name.now) counter) counters
   kept_counters names [] held among kept = tt
@@ -151,8 +154,10 @@ module _ (rules : Rules) (types : List ℕ → Option (FieldType Re)) (greatest 
   }
 
 -- those of the parts of a set are those of the set
-pub counters_at : (pieces own : List Piece) (schema : Described) (place : ℕ) (rules : Rules) (records : List (Range ℕ)) (result : Result (Vec Counter Global) Fault) → own ≡ pieces → AreMembersAt pieces schema place records
-    → slice_get schema.rules place ≡ Some rules → IfOk result (λ counters. AreCounters rules (readings own records) counters.items) → IfOk result (λ counters. AreCountersAt pieces schema place counters.items)
+pub counters_at : (pieces own : List Piece) (schema : Described) (place : ℕ) (rules : Rules) (records : List (Range ℕ)) (result : Result (Vec Counter Global) Fault) → own ≡ pieces
+    → AreMembersAt pieces schema place records
+    → slice_get schema.rules place ≡ Some rules → IfOk result (λ counters. AreCounters rules (readings own records) counters.items)
+    → IfOk result (λ counters. AreCountersAt pieces schema place counters.items)
 counters_at pieces own schema place rules records (Err fault) same members_are ruled is = tt
 counters_at pieces own schema place rules records (Ok counters) same members_are ruled is = λ all s asked are is_set are_rules.
     let alike : rules ≡ asked = same_Some rules asked (sym ruled ∙ are_rules) in

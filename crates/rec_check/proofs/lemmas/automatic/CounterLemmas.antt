@@ -1,5 +1,6 @@
 -- The greatest of some numbers, and the next number after it.
-use Rattle.std.proofs.Common.{◌≡◌, ◌∙◌, inl, inr, ℕ, zero, suc, ◌<◌, ℤ, Bool, true, false, List, [], ◌∷◌, ◌++◌, Option, Some, None, if◌then◌else◌, Result, Ok, Err, length, get_or, map, option_map, refl, ap, sym, subst, arith}
+use Rattle.std.proofs.Common.{◌≡◌, ◌∙◌, inl, inr, ℕ, zero, suc, ◌<◌, ℤ, Bool, true, false, List, [], ◌∷◌, ◌++◌, Option, Some, None, if◌then◌else◌, Result, Ok, Err, length, get_or, map, option_map,
+    refl, ap, sym, subst, arith}
 use Rattle.std.proofs.lemmas.Int.{ints}
 use Rattle.std.proofs.lemmas.List.{length-map}
 use Rattle.std.proofs.lemmas.List.Elements.{All-from_recursion}
@@ -83,7 +84,8 @@ pub greatest_from-option : (so_far reading : Option ℤ) (numbers : List ℤ) �
 greatest_from-option so_far None numbers = refl
 greatest_from-option so_far (Some z) numbers = refl
 
-pub readings_in-named : (name : List ℕ) (piece : Piece) (pieces : List Piece) → bytes_eq (name_of piece) name ≡ true → readings_in name (piece ∷ pieces) ≡ cons_option (int_of (value_of piece)) (readings_in name pieces)
+pub readings_in-named : (name : List ℕ) (piece : Piece) (pieces : List Piece) → bytes_eq (name_of piece) name ≡ true
+    → readings_in name (piece ∷ pieces) ≡ cons_option (int_of (value_of piece)) (readings_in name pieces)
 readings_in-named name piece pieces named = rw named refl
 
 pub readings_in-other : (name : List ℕ) (piece : Piece) (pieces : List Piece) → bytes_eq (name_of piece) name ≡ false → readings_in name (piece ∷ pieces) ≡ readings_in name pieces
@@ -123,7 +125,8 @@ module _ (pieces : List Piece) (sets : List Set_) (rules : List StoredRules) (pl
   abbrev schema : Described
   schema = record { sets = sets; rules = map rules_stored rules }
 
-  pub automatic : (own : List Piece) (records : List (Range ℕ)) (asked : StoredRules) (answer : Result ℤ Fault) → IsDescribed pieces schema → place < length sets → own ≡ pieces → AreMembersAt pieces schema place records
+  pub automatic : (own : List Piece) (records : List (Range ℕ)) (asked : StoredRules) (answer : Result ℤ Fault) → IsDescribed pieces schema → place < length sets → own ≡ pieces
+      → AreMembersAt pieces schema place records
       → asked ≡ get_or rules place asked → UnlessMemory answer (IsNext (rules_stored asked) name (readings own records name)) → UnlessMemory answer (IsAutomatic pieces schema place name)
   automatic own records asked answer is within same members_are rules_are next =
       let s : Set_ = get_or sets place (record { kind = None; head = None; members = record { start = 0; end = 0 } }) in
@@ -134,7 +137,8 @@ module _ (pieces : List Piece) (sets : List Set_) (rules : List StoredRules) (pl
         s = s;
         rules = rules_stored asked;
         is_set = is_set;
-        are_rules = slice_get-map rules_stored rules place ∙ ap (option_map rules_stored) (slice_get-get_or rules place asked (place_of_rules pieces sets rules place is within) ∙ ap Some (sym rules_are));
+        are_rules = slice_get-map rules_stored rules place ∙ ap (option_map rules_stored) (slice_get-get_or rules place asked (place_of_rules pieces sets rules place is within)
+            ∙ ap Some (sym rules_are));
         next = subst (λ numbers. IsNext (rules_stored asked) name numbers answer)
             (ap (λ ps. readings ps records name) same ∙ ap (λ rs. readings pieces rs name) (members_are is.records s is.are is_set)) counted;
       }) next

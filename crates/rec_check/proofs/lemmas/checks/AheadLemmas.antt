@@ -59,7 +59,8 @@ pub ahead_of_members : (records : List (Range ℕ)) (size passed : ℕ) (s : Set
 ahead_of_members records size passed s within next = ahead_of_parts records size next.at passed s.kind s.head s.members within next.within next.begins next.ahead
 
 -- the descriptor, where there is one
-head_of_parts : (at : ℕ) (record_type : Option (List ℕ)) (head : ℕ) (members : Range ℕ) → BeginsAt at (record { kind = record_type; head = Some head; members = members }) → (head ≡ at) × (members.start ≡ at + 1)
+head_of_parts : (at : ℕ) (record_type : Option (List ℕ)) (head : ℕ) (members : Range ℕ) → BeginsAt at (record { kind = record_type; head = Some head; members = members })
+    → (head ≡ at) × (members.start ≡ at + 1)
 head_of_parts at None head members begins = absurd (none-some head (sym begins.1.0))
 head_of_parts at (Some record_type) head members begins = (same_Some head at begins.1.0, begins.1.1)
 
@@ -77,7 +78,8 @@ module _ (records : List (Range ℕ)) (size passed head : ℕ) (s : Set_) (next 
   ahead_after_head reached d within is =
       let then_is : head + 1 ≡ s.members.start = omega (arith, head_is.0, head_is.1) in
       subst (λ n. AreAscending reached (drop n records)) then_is
-      (ahead_past records size head passed reached within head_inside ahead_of_head (λ own_range at low. omega (arith, is, ap (λ (r : Range ℕ). r.start) (at ∙ get_or_default records head own_range d head_inside))))
+      (ahead_past records size head passed reached within head_inside ahead_of_head
+          (λ own_range at low. omega (arith, is, ap (λ (r : Range ℕ). r.start) (at ∙ get_or_default records head own_range d head_inside))))
 
 -- ---- the members of a set
 
@@ -94,7 +96,8 @@ module _ (records : List (Range ℕ)) (s : Set_) where
   part_within size same within is =
       subst (λ n. AreWithin n (members records s)) (sym is)
       (recursion_from_All (IsInside size) (members records s)
-      (All-take (IsInside size) (s.members.end - s.members.start) (drop s.members.start records) (All-drop (IsInside size) s.members.start records (All-from_recursion (IsInside size) records within))))
+      (All-take (IsInside size) (s.members.end - s.members.start) (drop s.members.start records)
+          (All-drop (IsInside size) s.members.start records (All-from_recursion (IsInside size) records within))))
 
   pub part_and_rest : (passed : ℕ) → s.members.start ≤ s.members.end → AreAscending passed (drop s.members.start records) → AreAscending passed (members records s ++ drop s.members.end records)
   part_and_rest passed ordered ahead =

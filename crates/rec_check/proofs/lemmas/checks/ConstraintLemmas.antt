@@ -12,7 +12,8 @@ use Rattle.rec_check.specs.Checks.{AddsUnselected}
 use Rattle.rec_check.specs.Violations.{AreUnselected, violation}
 
 module _ (line : ℕ) (fields : List Piece) where
-  selected_push : (number : ℕ) (terms : List Term) (term : Term) (own : List Violation) → AreUnselected line number terms fields own → Selects term fields → AreUnselected line number (terms ++ term ∷ []) fields own
+  selected_push : (number : ℕ) (terms : List Term) (term : Term) (own : List Violation) → AreUnselected line number terms fields own → Selects term fields
+      → AreUnselected line number (terms ++ term ∷ []) fields own
   selected_push number [] term own are selects = inl (selects, are)
   selected_push number (first ∷ terms) term own (inl (first_selects, are)) selects = inl (first_selects, selected_push (number + 1) terms term own are selects)
   selected_push number (first ∷ terms) term own (inr (fails, (rest, is, are))) selects = inr (fails, (rest, is, selected_push (number + 1) terms term rest are selects))
@@ -22,14 +23,16 @@ module _ (line : ℕ) (fields : List Piece) where
   unselected_push number [] term own are fails =
       inr (fails, ([], ap (λ l. l ++ violation line Constraint (decimal (number + 0)) ∷ []) are ∙ ap (λ n. violation line Constraint (decimal n) ∷ []) (omega arith), refl))
   unselected_push number (first ∷ terms) term own (inl (selects, are)) fails =
-      inl (selects, let P : ℕ → Type 0 = λ n. AreUnselected line (number + 1) (terms ++ term ∷ []) fields (own ++ violation line Constraint (decimal n) ∷ []) in subst P (omega arith) (unselected_push (number + 1) terms term own are fails))
+      inl (selects, let P : ℕ → Type 0 = λ n. AreUnselected line (number + 1) (terms ++ term ∷ []) fields (own ++ violation line Constraint (decimal n) ∷ [])
+          in subst P (omega arith) (unselected_push (number + 1) terms term own are fails))
   unselected_push number (first ∷ terms) term own (inr (other, (rest, is, are))) fails =
       inr (
         other,
         (
           rest ++ violation line Constraint (decimal (number + suc (length terms))) ∷ [],
           ap (λ l. l ++ violation line Constraint (decimal (number + suc (length terms))) ∷ []) is,
-          (let P : ℕ → Type 0 = λ n. AreUnselected line (number + 1) (terms ++ term ∷ []) fields (rest ++ violation line Constraint (decimal n) ∷ []) in subst P (omega arith) (unselected_push (number + 1) terms term rest are fails)),
+          (let P : ℕ → Type 0 = λ n. AreUnselected line (number + 1) (terms ++ term ∷ []) fields (rest ++ violation line Constraint (decimal n) ∷ [])
+              in subst P (omega arith) (unselected_push (number + 1) terms term rest are fails)),
         ),
       )
 
@@ -38,7 +41,8 @@ module _ (line : ℕ) (fields : List Piece) where
     pub AddsUnselected-none : (terms : List Term) → found ≡ old → AddsUnselected line (take 0 terms) fields old found
     AddsUnselected-none terms same = record { own = []; are = refl; joined = same ∙ sym (append-nil old) }
 
-    module _ (terms : List Term) (i : ℕ) (term : Term) (within : i < length terms) (at : term ≡ get_or terms i term) (so_far : AddsUnselected line (take i terms) fields old found) (answer : Bool) (answers : IsTrue answer ↔ Selects term fields) where
+    module _ (terms : List Term) (i : ℕ) (term : Term) (within : i < length terms) (at : term ≡ get_or terms i term) (so_far : AddsUnselected line (take i terms) fields old found) (answer : Bool)
+        (answers : IsTrue answer ↔ Selects term fields) where
       more_is : take (i + 1) terms ≡ take i terms ++ term ∷ []
       more_is = take_more terms i term within ∙ ap (λ t. take i terms ++ t ∷ []) (sym at)
 
@@ -49,7 +53,8 @@ module _ (line : ℕ) (fields : List Piece) where
         joined = so_far.joined;
       }
 
-      pub AddsUnselected-added : (number : ℕ) (more : List Violation) → answer ≡ false → number ≡ i + 1 → more ≡ found ++ violation line Constraint (decimal number) ∷ [] → AddsUnselected line (take (i + 1) terms) fields old more
+      pub AddsUnselected-added : (number : ℕ) (more : List Violation) → answer ≡ false → number ≡ i + 1 → more ≡ found ++ violation line Constraint (decimal number) ∷ []
+          → AddsUnselected line (take (i + 1) terms) fields old more
       AddsUnselected-added number more fails is added =
           let size : 1 + length (take i terms) ≡ number = omega (arith, length-take-le i terms (omega arith)) in
           let one : List Violation = violation line Constraint (decimal number) ∷ [] in

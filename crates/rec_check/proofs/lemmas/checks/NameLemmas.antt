@@ -59,7 +59,8 @@ distinct-push (first ∷ names) name =
     let p : List ℕ → Bool = λ other. not (bytes_eq first other) in
     ap (λ l. first ∷ filter p l) (distinct-push names name) ∙ elim (cases_Bool (bytes_eq name first)) [
       | inl same ↦ ap (λ l. first ∷ l) (filter-without_name p (distinct names) name (is_among names name) (ap not (bytes_eq-sym first name ∙ same))) ∙ rw same refl
-      | inr other ↦ ap (λ l. first ∷ l) (filter-with_name p (distinct names) name (is_among names name) (ap not (bytes_eq-sym first name ∙ other))) ∙ rw other (cons-with_name first (filter p (distinct names)) name (is_among names name))
+      | inr other ↦ ap (λ l. first ∷ l) (filter-with_name p (distinct names) name (is_among names name) (ap not (bytes_eq-sym first name ∙ other)))
+      ∙ rw other (cons-with_name first (filter p (distinct names)) name (is_among names name))
     ]
 
 distinct-old : (names : List (List ℕ)) (name : List ℕ) → is_among names name ≡ true → distinct (names ++ name ∷ []) ≡ distinct names
@@ -184,7 +185,8 @@ abbrev pub no_element : Element
 no_element = record { kind = Blank; at = 0; raw = record { ref_ptr = (0, 0); now = [] } }
 
 -- as a loop takes the elements
-module _ (allows : List ℕ → Bool) (elements : List Element) (i : ℕ) (d : Element) (kept : List (List ℕ)) (within : i < length elements) (so_far : kept ≡ others allows (pieces_of (take i elements))) where
+module _ (allows : List ℕ → Bool) (elements : List Element) (i : ℕ) (d : Element) (kept : List (List ℕ)) (within : i < length elements) (so_far : kept
+    ≡ others allows (pieces_of (take i elements))) where
   abbrev element : Element
   element = get_or elements i d
 
@@ -194,7 +196,8 @@ module _ (allows : List ℕ → Bool) (elements : List Element) (i : ℕ) (d : E
   pub others_passed : is_refused allows (piece_of element) ≡ false → kept ≡ others allows (pieces_of (take (i + 1) elements))
   others_passed passes = so_far ∙ sym (others_more ∙ others-passed allows (pieces_of (take i elements)) (piece_of element) passes)
 
-  pub others_taken : (name : List ℕ) (more : List (List ℕ)) → is_refused allows (piece_of element) ≡ true → name ≡ name_of (piece_of element) → more ≡ distinct (kept ++ name ∷ []) → more ≡ others allows (pieces_of (take (i + 1) elements))
+  pub others_taken : (name : List ℕ) (more : List (List ℕ)) → is_refused allows (piece_of element) ≡ true → name ≡ name_of (piece_of element) → more ≡ distinct (kept ++ name ∷ [])
+      → more ≡ others allows (pieces_of (take (i + 1) elements))
   others_taken name more fails named added =
       added ∙ ap (λ l. distinct (l ++ name ∷ [])) so_far ∙ ap (λ n. distinct (others allows (pieces_of (take i elements)) ++ n ∷ [])) named
       ∙ sym (others_more ∙ others-taken allows (pieces_of (take i elements)) (piece_of element) fails)

@@ -1,5 +1,6 @@
 -- The places of names that pass a test, in a list where each name stands once, and the names at these places.
-use Rattle.std.proofs.Common.{◌≡◌, ◌∙◌, inl, inr, ℕ, zero, suc, ◌+◌, ◌<◌, Bool, true, false, ◌||◌, ◌&&◌, not, cond, List, [], ◌∷◌, ◌++◌, drop, filter, get_or, length, position, take, Option, Some, None, refl, ap, ap₂, sym, arith, append_assoc}
+use Rattle.std.proofs.Common.{◌≡◌, ◌∙◌, inl, inr, ℕ, zero, suc, ◌+◌, ◌<◌, Bool, true, false, ◌||◌, ◌&&◌, not, cond, List, [], ◌∷◌, ◌++◌, drop, filter, get_or, length, position, take, Option, Some,
+    None, refl, ap, ap₂, sym, arith, append_assoc}
 use Rattle.std.proofs.lemmas.Bool.{cases_Bool, false≢true, or_left, or_parts, or_right}
 use Rattle.std.proofs.lemmas.List.{append-nil, length-map, length-take-le, map_more, map_push}
 use Rattle.std.proofs.lemmas.List.Elements.{filter_map-append}
@@ -154,7 +155,8 @@ pub places_kept : (test next : List ℕ → Bool) (more : Bool) (name : List ℕ
 places_kept test next more name names grows none =
     places_agree 0 test next names (λ other among. sym (grows other ∙ ap (λ b. test other || (b && bytes_eq name other)) none ∙ or-false (test other)))
 
-pub places_next : (test next : List ℕ → Bool) (more : Bool) (name : List ℕ) (names : List (List ℕ)) (i : ℕ) → Grows test more name next → distinct names ≡ names → position (bytes_eq name) names ≡ Some i
+pub places_next : (test next : List ℕ → Bool) (more : Bool) (name : List ℕ) (names : List (List ℕ)) (i : ℕ) → Grows test more name next → distinct names ≡ names
+    → position (bytes_eq name) names ≡ Some i
     → cond more (insert_key nat_cmp (places_of test names) i) (places_of test names) ≡ places_of next names
 places_next test next true name names i grows once at =
     let same : 0 + i ≡ i = omega arith in

@@ -19,7 +19,8 @@ use Rattle.rec_check.specs.Checks.{AddsOfRecord, AddsOfRecords, AddsOfSet, AddsU
 use Rattle.rec_text.specs.Records.{elements_in}
 use Rattle.rec_check.specs.Rules.{Rules, field_type}
 use Rattle.rec_check.specs.Types.{FieldType}
-use Rattle.rec_check.specs.Violations.{AreOfRecord, AreOfRecords, AreUnselected, allowed_violations, breaks_key, head_violations, is_allowed, key_violations, line_at, mandatory_violations, members, names_of, prohibit_violations, singular_violations, type_violations, unique_violations, violation, violations_of}
+use Rattle.rec_check.specs.Violations.{AreOfRecord, AreOfRecords, AreUnselected, allowed_violations, breaks_key, head_violations, is_allowed, key_violations, line_at, mandatory_violations, members,
+    names_of, prohibit_violations, singular_violations, type_violations, unique_violations, violation, violations_of}
 use Rattle.rec_check.specs.Words.{distinct}
 use Rattle.rec_check.proofs.lemmas.field_types.FittingLemmas.{misfits-same}
 
@@ -38,11 +39,13 @@ type_violations-same : (pieces : List Piece) (types same : List ℕ → Option (
 type_violations-same pieces types same start fields are =
     filter_map-same _ _ (λ (i, piece). ap (λ b. if b then Some (violation (line_at pieces i) Fit (name_of piece)) else None) (misfits-same types same piece are)) (enumerate_from start fields)
 
-occurrence_violations-same : (rule asked : OccurrenceRule) (names wanted : List (List ℕ)) (line : ℕ) (fields : List Piece) → rule ≡ asked → names ≡ wanted → occurrence_violations rule names line fields ≡ occurrence_violations asked wanted line fields
+occurrence_violations-same : (rule asked : OccurrenceRule) (names wanted : List (List ℕ)) (line : ℕ) (fields : List Piece) → rule ≡ asked → names ≡ wanted
+    → occurrence_violations rule names line fields ≡ occurrence_violations asked wanted line fields
 occurrence_violations-same rule asked names wanted line fields same are = ap (λ l. occurrence_violations l names line fields) same ∙ ap (λ n. occurrence_violations asked n line fields) are
 
 -- what was added for one rule after another
-module _ (pieces : List Piece) (rules : Rules) (earlier : List (List Piece)) (own_range : Range ℕ) (line : ℕ) (fields : List Piece) (line_is : line ≡ line_at pieces own_range.start) (fields_are : fields ≡ elements_in pieces own_range)
+module _ (pieces : List Piece) (rules : Rules) (earlier : List (List Piece)) (own_range : Range ℕ) (line : ℕ) (fields : List Piece) (line_is : line ≡ line_at pieces own_range.start)
+    (fields_are : fields ≡ elements_in pieces own_range)
     (old after_key after_mandatory after_prohibited after_unique after_singular after_allowed after_types new : List Violation) where
   own_of : ℕ → List Piece → List Violation → List Violation
   own_of line fields unselected =
@@ -50,8 +53,10 @@ module _ (pieces : List Piece) (rules : Rules) (earlier : List (List Piece)) (ow
       ++ (unique_violations rules line fields ++ (singular_violations rules line earlier fields ++ (allowed_violations rules line fields
       ++ (type_violations pieces (field_type rules) own_range.start (elements_in pieces own_range) ++ unselected))))))
 
-  pub AddsOfRecord-joined : (name : Option (List ℕ)) (mandatory prohibited unique : OccurrenceRule) (mandatory_names prohibited_names unique_names : List (List ℕ)) (allows : List ℕ → Bool) (types : List ℕ → Option (FieldType Re)) (terms : List Term)
-      → name ≡ rules.key → mandatory ≡ Present → mandatory_names ≡ distinct rules.mandatory → prohibited ≡ Absent → prohibited_names ≡ distinct rules.prohibited → unique ≡ Single → unique_names ≡ distinct rules.unique
+  pub AddsOfRecord-joined : (name : Option (List ℕ)) (mandatory prohibited unique : OccurrenceRule) (mandatory_names prohibited_names unique_names : List (List ℕ)) (allows : List ℕ
+      → Bool) (types : List ℕ → Option (FieldType Re)) (terms : List Term)
+      → name ≡ rules.key → mandatory ≡ Present → mandatory_names ≡ distinct rules.mandatory → prohibited ≡ Absent → prohibited_names ≡ distinct rules.prohibited → unique ≡ Single
+      → unique_names ≡ distinct rules.unique
       → ((name : List ℕ) → allows name ≡ is_allowed rules name) → ((name : List ℕ) → types name ≡ field_type rules name) → terms ≡ rules.constraints
       → after_key ≡ old ++ violations_of line Key (filter (breaks_key earlier fields) (option_to_list name))
       → after_mandatory ≡ after_key ++ occurrence_violations mandatory mandatory_names line fields
@@ -63,7 +68,8 @@ module _ (pieces : List Piece) (rules : Rules) (earlier : List (List Piece)) (ow
       → AddsUnselected line terms fields after_types new
       → AddsOfRecord pieces rules earlier own_range old new
   unfolding own_of
-  AddsOfRecord-joined name mandatory prohibited unique mandatory_names prohibited_names unique_names allows types terms key_is mandatory_is mandatory_are prohibited_is prohibited_are unique_is unique_are allows_is types_are terms_are
+  AddsOfRecord-joined name mandatory prohibited unique mandatory_names prohibited_names unique_names allows types terms key_is mandatory_is mandatory_are prohibited_is prohibited_are unique_is
+      unique_are allows_is types_are terms_are
       key_added mandatory_added prohibited_added unique_added singular_added allowed_added types_added unselected =
       let unselected_are : AreUnselected (line_at pieces own_range.start) 1 rules.constraints (elements_in pieces own_range) unselected.own =
       (let P : ℕ → Type 0 = λ n. AreUnselected n 1 rules.constraints (elements_in pieces own_range) unselected.own in
@@ -73,9 +79,11 @@ module _ (pieces : List Piece) (rules : Rules) (earlier : List (List Piece)) (ow
       let names : List (List ℕ) = distinct (names_of fields) in
       let key = key_added ∙ ap (λ n. old ++ violations_of line Key (filter (breaks_key earlier fields) (option_to_list n))) key_is in
       let mandatory = mandatory_added ∙ ap (λ l. after_key ++ l) (occurrence_violations-same mandatory Present mandatory_names (distinct rules.mandatory) line fields mandatory_is mandatory_are) in
-      let prohibited = prohibited_added ∙ ap (λ l. after_mandatory ++ l) (occurrence_violations-same prohibited Absent prohibited_names (distinct rules.prohibited) line fields prohibited_is prohibited_are) in
+      let prohibited = prohibited_added ∙ ap (λ l. after_mandatory ++ l)
+          (occurrence_violations-same prohibited Absent prohibited_names (distinct rules.prohibited) line fields prohibited_is prohibited_are) in
       let unique = unique_added ∙ ap (λ l. after_prohibited ++ l) (occurrence_violations-same unique Single unique_names (distinct rules.unique) line fields unique_is unique_are) in
-      let allowed = allowed_added ∙ ap (λ l. after_singular ++ violations_of line Allowed l) (filter_agree (λ name. not (allows name)) (λ name. not (is_allowed rules name)) (λ name. ap not (allows_is name)) names) in
+      let allowed = allowed_added ∙ ap (λ l. after_singular ++ violations_of line Allowed l)
+          (filter_agree (λ name. not (allows name)) (λ name. not (is_allowed rules name)) (λ name. ap not (allows_is name)) names) in
       let types_same = type_violations-same pieces (field_type rules) types own_range.start fields types_are ∙ ap (type_violations pieces (field_type rules) own_range.start) fields_are in
       record {
         own = own_of (line_at pieces own_range.start) (elements_in pieces own_range) unselected.own;
@@ -83,15 +91,19 @@ module _ (pieces : List Piece) (rules : Rules) (earlier : List (List Piece)) (ow
         joined =
             unselected.joined
             ∙ ap (λ l. l ++ unselected.own) (types_added ∙ ap (λ l. after_allowed ++ l) types_same
-            ∙ ap (λ l. l ++ type_violations pieces (field_type rules) own_range.start (elements_in pieces own_range)) (allowed ∙ ap (λ l. l ++ allowed_violations rules line fields) (singular_added ∙ ap (λ l. l ++ singular_violations rules line earlier fields)
-            (unique ∙ ap (λ l. l ++ unique_violations rules line fields) (prohibited ∙ ap (λ l. l ++ prohibit_violations rules line fields) (mandatory ∙ ap (λ l. l ++ mandatory_violations rules line fields) key))))))
-            ∙ regroup old (key_violations rules line earlier fields) (mandatory_violations rules line fields) (prohibit_violations rules line fields) (unique_violations rules line fields) (singular_violations rules line earlier fields)
+            ∙ ap (λ l. l ++ type_violations pieces (field_type rules) own_range.start (elements_in pieces own_range)) (allowed
+                ∙ ap (λ l. l ++ allowed_violations rules line fields) (singular_added ∙ ap (λ l. l ++ singular_violations rules line earlier fields)
+            (unique ∙ ap (λ l. l ++ unique_violations rules line fields) (prohibited
+                ∙ ap (λ l. l ++ prohibit_violations rules line fields) (mandatory ∙ ap (λ l. l ++ mandatory_violations rules line fields) key))))))
+            ∙ regroup old (key_violations rules line earlier fields) (mandatory_violations rules line fields) (prohibit_violations rules line fields) (unique_violations rules line fields)
+            (singular_violations rules line earlier fields)
             (allowed_violations rules line fields) (type_violations pieces (field_type rules) own_range.start (elements_in pieces own_range)) unselected.own
             ∙ ap (λ n. old ++ own_of n fields unselected.own) line_is ∙ ap (λ f. old ++ own_of (line_at pieces own_range.start) f unselected.own) fields_are;
       }
 
 -- the elements of a record end where the record does
-pub elements_in-end : (fields : List Element) (pieces : List Piece) (own_range : Range ℕ) → own_range.start ≤ own_range.end → pieces_of fields ≡ elements_in pieces own_range → own_range.start + length fields ≤ own_range.end
+pub elements_in-end : (fields : List Element) (pieces : List Piece) (own_range : Range ℕ) → own_range.start ≤ own_range.end → pieces_of fields ≡ elements_in pieces own_range
+    → own_range.start + length fields ≤ own_range.end
 elements_in-end fields pieces own_range ordered are =
     omega (arith, length-map fields piece_of, ap length are, length-drop own_range.start (take own_range.end pieces), length-take own_range.end pieces)
 
@@ -108,7 +120,8 @@ module _ (pieces : List Piece) (rules : Rules) where
         own_first,
         rest ++ one,
         is,
-        AreOfRecords-push (earlier ++ elements_in pieces first ∷ []) records own_range rest one are (subst P (sym (append_assoc earlier (elements_in pieces first ∷ []) (map (elements_in pieces) records))) last),
+        AreOfRecords-push (earlier ++ elements_in pieces first ∷ []) records own_range rest one are
+            (subst P (sym (append_assoc earlier (elements_in pieces first ∷ []) (map (elements_in pieces) records))) last),
         ap (λ l. l ++ one) joined ∙ append_assoc own_first rest one,
       )
 
@@ -116,7 +129,8 @@ module _ (pieces : List Piece) (rules : Rules) where
   pub AddsOfRecords-none : (records : List (Range ℕ)) (old new : List Violation) → new ≡ old → AddsOfRecords pieces rules (take 0 records) old new
   AddsOfRecords-none records old new same = record { own = []; are = refl; joined = same ∙ sym (append-nil old) }
 
-  pub AddsOfRecords-more : (records : List (Range ℕ)) (i : ℕ) (own_range : Range ℕ) (old found new : List Violation) → i < length records → own_range ≡ get_or records i own_range → AddsOfRecords pieces rules (take i records) old found
+  pub AddsOfRecords-more : (records : List (Range ℕ)) (i : ℕ) (own_range : Range ℕ) (old found new : List Violation) → i < length records → own_range ≡ get_or records i own_range
+      → AddsOfRecords pieces rules (take i records) old found
       → AddsOfRecord pieces rules (map (elements_in pieces) (take i records)) own_range found new → AddsOfRecords pieces rules (take (i + 1) records) old new
   AddsOfRecords-more records i own_range old found new within at so_far one =
       let more_is : take (i + 1) records ≡ take i records ++ own_range ∷ [] = take_more records i own_range within ∙ ap (λ r. take i records ++ r ∷ []) (sym at) in
@@ -127,7 +141,8 @@ module _ (pieces : List Piece) (rules : Rules) where
         joined = one.joined ∙ ap (λ l. l ++ one.own) so_far.joined ∙ append_assoc old so_far.own one.own;
       }
 
-  pub AddsOfRecords-all : (records : List (Range ℕ)) (i : ℕ) (old new : List Violation) → length records ≤ i → AddsOfRecords pieces rules (take i records) old new → AddsOfRecords pieces rules records old new
+  pub AddsOfRecords-all : (records : List (Range ℕ)) (i : ℕ) (old new : List Violation) → length records ≤ i → AddsOfRecords pieces rules (take i records) old new
+      → AddsOfRecords pieces rules records old new
   AddsOfRecords-all records i old new past so_far = let P : List (Range ℕ) → Type 0 = λ l. AddsOfRecords pieces rules l old new in subst P (take_all i records past) so_far
 
 -- ---- a set

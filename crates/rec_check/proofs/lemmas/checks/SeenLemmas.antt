@@ -1,5 +1,6 @@
 -- Which of some names a record has, field by field, and which of them break a rule.
-use Rattle.std.proofs.Common.{◌≡◌, ◌∙◌, inl, inr, ℕ, zero, suc, ◌+◌, ◌<◌, Bool, true, false, ◌||◌, ◌&&◌, not, cond, List, [], ◌∷◌, ◌++◌, filter, length, position, take, get_or, Some, None, refl, ap, ap₂, sym, arith}
+use Rattle.std.proofs.Common.{◌≡◌, ◌∙◌, inl, inr, ℕ, zero, suc, ◌+◌, ◌<◌, Bool, true, false, ◌||◌, ◌&&◌, not, cond, List, [], ◌∷◌, ◌++◌, filter, length, position, take, get_or, Some, None, refl, ap,
+    ap₂, sym, arith}
 use Rattle.std.proofs.lemmas.Bool.{cases_Bool, le-leb, ne_eqb, or_left}
 use Rattle.std.proofs.lemmas.List.{map_more}
 use Rattle.std.proofs.lemmas.List.Elements.{filter_agree}
@@ -94,7 +95,8 @@ module _ (elements : List Element) (i : ℕ) (d : Element) (within : i < length 
   up_to_next : (least : ℕ) → places_of (occurs least (pieces_of (take i elements) ++ piece_at ∷ [])) names ≡ places_of (occurs least (pieces_of (take (i + 1) elements))) names
   up_to_next least = ap (λ l. places_of (occurs least l) names) (sym (map_more piece_of elements i d within))
 
-  pub seen_other : (seen : NamesSeen) → position (bytes_eq (name_of piece_at)) names ≡ None → AreNamesSeen names (pieces_of (take i elements)) seen → AreNamesSeen names (pieces_of (take (i + 1) elements)) seen
+  pub seen_other : (seen : NamesSeen) → position (bytes_eq (name_of piece_at)) names ≡ None → AreNamesSeen names (pieces_of (take i elements)) seen
+      → AreNamesSeen names (pieces_of (take (i + 1) elements)) seen
   seen_other seen none are = record {
     once = are.once ∙ places_passed (pieces_of (take i elements)) piece_at names 1 none ∙ up_to_next 1;
     again = are.again ∙ places_passed (pieces_of (take i elements)) piece_at names 2 none ∙ up_to_next 2;
@@ -117,7 +119,8 @@ not_once (suc n) = ap not (le-leb 1 (suc n) (omega arith)) ∙ sym (ne_eqb (suc 
 
 module _ (rule : OccurrenceRule) (names : List (List ℕ)) (fields : List Piece) where
   -- those that occur so often
-  pub breaking_at : (least : ℕ) (places : List ℕ) → places ≡ places_of (occurs least fields) names → breaks_occurrence_rule rule ≡ nat_le least → filter_map (slice_get names) places ≡ breaking rule names fields
+  pub breaking_at : (least : ℕ) (places : List ℕ) → places ≡ places_of (occurs least fields) names → breaks_occurrence_rule rule ≡ nat_le least
+      → filter_map (slice_get names) places ≡ breaking rule names fields
   breaking_at least places are breaks =
       ap (filter_map (slice_get names)) are ∙ names_at (occurs least fields) names ∙ ap (λ breaks. filter (λ name. breaks (occurrences fields name)) names) (sym breaks)
 

@@ -16,7 +16,8 @@ use Rattle.rec_check.specs.proving.Patterns.{ArePatterns, texts_of}
 use Rattle.rec_text.specs.Bytes.{is_among}
 
 -- a text that finds a value is among the texts
-found_among : {X Y : Type 0} (text : List ℕ) (value : X) (entries : List (String Y × X)) → lookup (λ key. bytes_eq text (string_bytes key)) entries ≡ Some value → is_among (map string_bytes (keys_of entries)) text ≡ true
+found_among : {X Y : Type 0} (text : List ℕ) (value : X) (entries : List (String Y × X)) → lookup (λ key. bytes_eq text (string_bytes key)) entries ≡ Some value
+    → is_among (map string_bytes (keys_of entries)) text ≡ true
 found_among text value [] found = absurd (none-some value found)
 found_among text value (entry ∷ entries) found = elim (cases_Bool (bytes_eq text (string_bytes entry.0))) [
   | inl same ↦ or_left (bytes_eq text (string_bytes entry.0)) (is_among (map string_bytes (keys_of entries)) text) same

@@ -1,5 +1,6 @@
 -- What the fields of a descriptor say, as they are read one by one.
-use Rattle.std.proofs.Common.{◌≡◌, ◌∙◌, ℕ, ◌+◌, ◌<◌, ◌≤◌, Bool, true, false, not, cond, ◌||◌, ◌&&◌, List, [], ◌∷◌, ◌++◌, length, take, get_or, Option, Some, None, Err, unwrap_or, refl, ap, sym, subst, inl, inr, arith}
+use Rattle.std.proofs.Common.{◌≡◌, ◌∙◌, ℕ, ◌+◌, ◌<◌, ◌≤◌, Bool, true, false, not, cond, ◌||◌, ◌&&◌, List, [], ◌∷◌, ◌++◌, length, take, get_or, Option, Some, None, Err, unwrap_or, refl, ap, sym, subst,
+    inl, inr, arith}
 use Rattle.std.proofs.lemmas.Bool.{cases_Bool, cases_lt, false≢true}
 use Rattle.std.proofs.lemmas.List.{append-nil, take_more, take_all}
 use Rattle.std.proofs.lemmas.List.Concat.{flat_map-append}
@@ -330,7 +331,8 @@ module _ (named : List (List ℕ)) (fields : List Piece) (said : Said) (are : Ar
   met_before : (special : Special) (met : Bool) → met ≡ is_met (values_of (name_for special) fields) → list_any (has_name (name_for special)) fields ≡ met
   met_before special met is = list_any-values_of (name_for special) fields ∙ sym is
 
-  special_flaw-following : (special : Special) (value : List ℕ) → special_flaw special (list_any (has_name (name_for special)) fields) named value ≡ special_flaw special (is_repeated special said) named value
+  special_flaw-following : (special : Special) (value : List ℕ) → special_flaw special (list_any (has_name (name_for special)) fields) named value
+      ≡ special_flaw special (is_repeated special said) named value
   special_flaw-following Rec value =
       ap (λ b. special_flaw Rec b named value) (met_before Rec (is_some said.record_type) (ap is_some (are.part Rec) ∙ is_some-type_in (values_of rec_name fields)))
   special_flaw-following Key value = ap (λ b. special_flaw Key b named value) (met_before Key (is_some said.rules.key) (are.part Key).1)
@@ -451,7 +453,8 @@ module _ (named : List (List ℕ)) (value : List ℕ) (old new : Said) (fresh : 
   fresh_as Confidential sound adds = absurd adds
   fresh_as special sound adds = subst (IsFresh named) (sym (ap (λ s. s.record_type) adds)) fresh
 
-  fresh_by : (found : Option Special) → option_and_then (λ special. special_flaw special (is_repeated special old) named value) found ≡ None → AddsOf found value old new → IsFresh named new.record_type
+  fresh_by : (found : Option Special) → option_and_then (λ special. special_flaw special (is_repeated special old) named value) found ≡ None → AddsOf found value old new
+      → IsFresh named new.record_type
   fresh_by None sound adds = subst (IsFresh named) (sym (ap (λ s. s.record_type) adds)) fresh
   fresh_by (Some special) sound adds = fresh_as special sound adds
 
@@ -517,7 +520,8 @@ module _ (named : List (List ℕ)) (fields : List Piece) (i : ℕ) (said : Said)
         number = line_is;
       }
 
-      is_read_fault : (refusal : OrMemory DescriptorFault) → AnswersField named piece said more (Err refusal) → IsMemoryOr (fault_at_line refusal line) (IsRead text named elements (Err (fault_at_line refusal line)))
+      is_read_fault : (refusal : OrMemory DescriptorFault) → AnswersField named piece said more (Err refusal)
+          → IsMemoryOr (fault_at_line refusal line) (IsRead text named elements (Err (fault_at_line refusal line)))
       is_read_fault (Refused Bad) told = has_flaw bad told
       is_read_fault (Refused NotSupported) told = has_flaw unsupported told
       is_read_fault (Refused Pattern) told = record {
@@ -530,7 +534,8 @@ module _ (named : List (List ℕ)) (fields : List Piece) (i : ℕ) (said : Said)
       }
       is_read_fault OutOfMemory told = tt
 
-      pub read_fault : (refusal : OrMemory DescriptorFault) (fault : Fault) → fault ≡ fault_at_line refusal line → AnswersField named piece said more (Err refusal) → IsMemoryOr fault (IsRead text named elements (Err fault))
+      pub read_fault : (refusal : OrMemory DescriptorFault) (fault : Fault) → fault ≡ fault_at_line refusal line → AnswersField named piece said more (Err refusal)
+          → IsMemoryOr fault (IsRead text named elements (Err fault))
       read_fault refusal fault is told =
           let P : Fault → Type 0 = λ f. IsMemoryOr f (IsRead text named elements (Err f)) in
           subst P (sym is) (is_read_fault refusal told)

@@ -99,7 +99,8 @@ module _ (pieces : List Piece) (count : ℕ) (left : List (Range ℕ)) (old : De
   parts = append_assoc here.done (fields ∷ []) rest
 
   -- the schema with the record, whose elements name this type
-  pub grown : (index next : ℕ) (new : Described) → index ≡ count → next ≡ count + 1 → (is_some (type_of (elements_in pieces fields)) ≡ true → (k : ℕ) → FieldIsRead (record_types old.sets) (elements_in pieces fields) k)
+  pub grown : (index next : ℕ) (new : Described) → index ≡ count → next ≡ count + 1
+      → (is_some (type_of (elements_in pieces fields)) ≡ true → (k : ℕ) → FieldIsRead (record_types old.sets) (elements_in pieces fields) k)
       → new.sets ≡ with_record old.sets index (type_of (elements_in pieces fields)) → AllZip (IsRuled pieces (here.done ++ fields ∷ rest)) new.sets new.rules → IsSchemaUpTo pieces next rest new
   grown index next new here_is then read sets_grow rules_are =
       let record_type : Option (List ℕ) = type_of (elements_in pieces fields) in
@@ -125,11 +126,13 @@ module _ (pieces : List Piece) (count : ℕ) (left : List (Range ℕ)) (old : De
       → new.sets ≡ with_record old.sets index record_type → new.rules ≡ old.rules ++ asked ∷ [] → AllZip (IsRuled pieces (here.done ++ fields ∷ rest)) new.sets new.rules
   rules_grow index new asked None here_is typed told sets_grow rules_are = absurd (false≢true typed)
   rules_grow index new asked (Some record_type) here_is typed told sets_grow rules_are =
-      let own : record_at pieces (here.done ++ fields ∷ rest) index ≡ elements_in pieces fields = ap (record_at pieces (here.done ++ fields ∷ rest)) (here_is ∙ here.counted) ∙ record_at-following pieces here.done fields rest in
+      let own : record_at pieces (here.done ++ fields ∷ rest) index ≡ elements_in pieces fields =
+          ap (record_at pieces (here.done ++ fields ∷ rest)) (here_is ∙ here.counted) ∙ record_at-following pieces here.done fields rest in
       let ruled : AreRules (record_at pieces (here.done ++ fields ∷ rest) index) asked = subst (λ fs. AreRules fs asked) (sym own) told in
       let P : List Set_ → Type 0 = λ sets. AllZip (IsRuled pieces (here.done ++ fields ∷ rest)) sets new.rules in
       let Q : List Rules → Type 0 = λ rules. AllZip (IsRuled pieces (here.done ++ fields ∷ rest)) (with_record old.sets index (Some record_type)) rules in
-      subst P (sym sets_grow) (subst Q (sym rules_are) (AllZip-push (IsRuled pieces (here.done ++ fields ∷ rest)) old.sets old.rules (set_of (Some record_type) (Some index) (index + 1) (index + 1)) asked here.rules_are ruled))
+      subst P (sym sets_grow) (subst Q (sym rules_are) (AllZip-push (IsRuled pieces (here.done ++ fields ∷ rest)) old.sets old.rules
+          (set_of (Some record_type) (Some index) (index + 1) (index + 1)) asked here.rules_are ruled))
 
   more_as : (index next : ℕ) (new : Described) (descriptor : Bool) → index ≡ count → next ≡ count + 1 → is_some (type_of (elements_in pieces fields)) ≡ descriptor
       → AddsRecordAs descriptor (record_types old.sets) (elements_in pieces fields) index old new → IsSchemaUpTo pieces next rest new

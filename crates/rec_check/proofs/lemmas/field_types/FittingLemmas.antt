@@ -1,5 +1,6 @@
 -- The types of fields by their names, and whether values fit them.
-use Rattle.std.proofs.Common.{◌≡◌, ◌∙◌, inl, inr, ℕ, ◌+◌, ◌<◌, Bool, true, false, ◌&&◌, ◌||◌, not, cond, List, [], ◌∷◌, ◌++◌, Option, Some, None, length, map, take, get_or, refl, ap, sym, arith, unwrap_or}
+use Rattle.std.proofs.Common.{◌≡◌, ◌∙◌, inl, inr, ℕ, ◌+◌, ◌<◌, Bool, true, false, ◌&&◌, ◌||◌, not, cond, List, [], ◌∷◌, ◌++◌, Option, Some, None, length, map, take, get_or, refl, ap, sym, arith,
+    unwrap_or}
 use Rattle.std.specs.Prelude.{if◌then◌else◌}
 use Rattle.std.proofs.lemmas.Bool.{cases_Bool}
 use Rattle.std.proofs.lemmas.List.Folds.{list_any_more}
@@ -45,7 +46,8 @@ module _ (types : List ℕ → Option (FieldType Re)) (piece : Piece) where
     pub misfits-untyped : types name ≡ None → false ≡ misfits types piece
     misfits-untyped none = sym (misfits-field ∙ ap (λ o. fails o (value_of piece)) none)
 
-    pub misfits-typed : (value_type : Option (FieldType Re)) (value : List ℕ) (answer : Bool) → types name ≡ value_type → value ≡ value_of piece → answer ≡ fails value_type value → answer ≡ misfits types piece
+    pub misfits-typed : (value_type : Option (FieldType Re)) (value : List ℕ) (answer : Bool) → types name ≡ value_type → value ≡ value_of piece → answer ≡ fails value_type value
+        → answer ≡ misfits types piece
     misfits-typed value_type value answer typed is answered = answered ∙ sym (misfits-field ∙ ap (λ o. fails o (value_of piece)) typed ∙ ap (fails value_type) (sym is))
 
 -- ---- the places of names
@@ -61,7 +63,8 @@ pub place_more : (names : List (List ℕ)) (i : ℕ) (name own value : List ℕ)
     → so_far ≡ cond (is_among (take i names) value) place old → new ≡ cond (bytes_eq name value) place so_far → new ≡ cond (is_among (take (i + 1) names) value) place old
 place_more names i name own value place old so_far new within at is reached put =
     put ∙ ap (λ o. cond (bytes_eq name value) place o) reached ∙ cond_or (is_among (take i names) value) (bytes_eq name value) place old
-    ∙ ap (λ b. cond (is_among (take i names) value || b) place old) (bytes_eq-sym name value ∙ ap (bytes_eq value) (is ∙ at)) ∙ ap (λ b. cond b place old) (sym (list_any_more (bytes_eq value) names i own within))
+    ∙ ap (λ b. cond (is_among (take i names) value || b) place old) (bytes_eq-sym name value ∙ ap (bytes_eq value) (is ∙ at))
+    ∙ ap (λ b. cond b place old) (sym (list_any_more (bytes_eq value) names i own within))
 
 -- ---- one typing after another
 
@@ -128,9 +131,11 @@ module _ (pieces : List Piece) (types : List ℕ → Option (FieldType Re)) (sta
     pub misfit_passed : misfits types (piece_of (get_or fields i d)) ≡ false → found ≡ old ++ type_violations pieces types start (pieces_of (take (i + 1) fields))
     misfit_passed fits =
         so_far ∙ ap (λ l. old ++ l) (sym (misfits_more
-        ∙ ap (λ b. type_violations pieces types start (pieces_of (take i fields)) ++ cond b (violation (line_at pieces (start + i)) Fit (name_of (piece_of (get_or fields i d))) ∷ []) []) fits ∙ append-nil _))
+        ∙ ap (λ b. type_violations pieces types start (pieces_of (take i fields)) ++ cond b (violation (line_at pieces (start + i)) Fit (name_of (piece_of (get_or fields i d))) ∷ []) []) fits
+        ∙ append-nil _))
 
-    pub misfit_added : (line : ℕ) (name : List ℕ) (more : List Violation) → misfits types (piece_of (get_or fields i d)) ≡ true → line ≡ line_at pieces (start + i) → name ≡ name_of (piece_of (get_or fields i d))
+    pub misfit_added : (line : ℕ) (name : List ℕ) (more : List Violation) → misfits types (piece_of (get_or fields i d)) ≡ true → line ≡ line_at pieces (start + i)
+        → name ≡ name_of (piece_of (get_or fields i d))
         → more ≡ found ++ violation line Fit name ∷ [] → more ≡ old ++ type_violations pieces types start (pieces_of (take (i + 1) fields))
     misfit_added line name more fails is named added =
         let so_far_list : List Violation = type_violations pieces types start (pieces_of (take i fields)) in

@@ -8,8 +8,7 @@ use Rattle.std.specs.Option.{option_and_then}
 use Rattle.std.specs.Str.{bytes_eq}
 use Rattle.regex.specs.Patterns.{Re}
 use Rattle.rec_text.proofs.lemmas.ListLemmas.{same_bytes}
-use Rattle.rec_check.specs.Meanings.{IsMeaning, MeaningIsOne}
-use Rattle.rec_check.specs.proving.Meanings.{meaning_within, meaning_in}
+use Rattle.rec_check.specs.Meanings.{IsMeaning, MeaningIsOne, meaning_in, meaning_within}
 use Rattle.rec_check.specs.Resolving.{is_known_kind, last_definition, LeadsTo, Resolves}
 use Rattle.rec_check.specs.Types.{FieldType, Definition}
 
@@ -54,7 +53,8 @@ or_first-other None first name other = rw other refl
 last_definition-without : (name other : List ℕ) → bytes_eq name other ≡ false → (definitions : List Definition) → last_definition (without name definitions) other ≡ last_definition definitions other
 last_definition-without name other apart [] = refl
 last_definition-without name other apart (first ∷ later) = elim (cases_Bool (bytes_eq first.name name)) [
-  | inl named ↦ rw named (last_definition-without name other apart later ∙ sym (or_first-other (last_definition later other) first other (ap (λ n. bytes_eq n other) (same_bytes first.name name named) ∙ apart)))
+  | inl named ↦ rw named (last_definition-without name other apart later
+      ∙ sym (or_first-other (last_definition later other) first other (ap (λ n. bytes_eq n other) (same_bytes first.name name named) ∙ apart)))
   | inr unnamed ↦ rw unnamed (ap (λ found. or_first found first other) (last_definition-without name other apart later))
 ]
 
@@ -76,7 +76,8 @@ length-without name (first ∷ later) definition found = elim (cases_Bool (bytes
 -- fewer steps than a name takes don't pass it
 leads_without : (definitions : List Definition) (name : List ℕ) (most : ℕ)
     → ((own value_type : MeantType) (steps : List Definition) → LeadsTo definitions name own steps value_type → length steps ≡ most)
-    → (kind : List ℕ) (own value_type : MeantType) (steps : List Definition) → length steps < most → LeadsTo definitions kind own steps value_type → LeadsTo (without name definitions) kind own steps value_type
+    → (kind : List ℕ) (own value_type : MeantType) (steps : List Definition) → length steps < most → LeadsTo definitions kind own steps value_type
+    → LeadsTo (without name definitions) kind own steps value_type
 leads_without definitions name most long kind own value_type [] fewer leads = leads
 leads_without definitions name most long kind own value_type (step ∷ steps) fewer leads = elim (cases_Bool (bytes_eq name kind)) [
   | inl same ↦
@@ -91,14 +92,16 @@ few_steps most definitions few kind own value_type [] leads = omega arith
 few_steps zero definitions few kind own value_type (step ∷ steps) leads = let fewer = length-without kind definitions step leads.1 in absurd (omega arith)
 few_steps (suc most) definitions few kind own value_type (step ∷ steps) leads =
     let fewer = length-without kind definitions step leads.1 in
-    let following = leads_without definitions kind (length (step ∷ steps)) (λ other end more passes. ap length (same_steps definitions kind other own end value_type more (step ∷ steps) passes leads)) step.kind step.value_type value_type steps (omega arith) leads.2 in
+    let following = leads_without definitions kind (length (step ∷ steps)) (λ other end more passes. ap length (same_steps definitions kind other own end value_type more (step ∷ steps) passes leads))
+        step.kind step.value_type value_type steps (omega arith) leads.2 in
     let few_after = few_steps most (without kind definitions) (omega arith) step.kind step.value_type value_type steps following in
     omega arith
 
 -- ---- the function
 
 module _ (definitions : List Definition) where
-  meaning_within-leads : (most : ℕ) (kind : List ℕ) (own value_type : MeantType) (steps : List Definition) → length steps ≤ most → LeadsTo definitions kind own steps value_type → meaning_within most definitions kind own ≡ Some value_type
+  meaning_within-leads : (most : ℕ) (kind : List ℕ) (own value_type : MeantType) (steps : List Definition) → length steps ≤ most → LeadsTo definitions kind own steps value_type
+      → meaning_within most definitions kind own ≡ Some value_type
   meaning_within-leads zero kind own value_type [] few leads = rw leads.0 (ap Some (sym leads.1))
   meaning_within-leads (suc most) kind own value_type [] few leads = rw leads.0 (ap Some (sym leads.1))
   meaning_within-leads zero kind own value_type (step ∷ steps) few leads = absurd (omega arith)
@@ -118,7 +121,8 @@ module _ (definitions : List Definition) where
   ]
   resolves_within (suc most) kind own value_type is = elim (cases_Bool (is_known_kind kind)) [
     | inl known ↦ ([], (known, sym (same_Some own value_type (sym (rw known refl) ∙ is))))
-    | inr unknown ↦ resolves_by most kind own value_type (last_definition definitions kind) unknown refl (λ step. resolves_within most step.kind step.value_type value_type) (sym (rw unknown refl) ∙ is)
+    | inr unknown ↦ resolves_by most kind own value_type (last_definition definitions kind) unknown refl (λ step. resolves_within most step.kind step.value_type value_type) (sym (rw unknown refl)
+        ∙ is)
   ]
 
   pub meaning_in-resolves : (kind : List ℕ) (own value_type : MeantType) → Resolves definitions kind own value_type → meaning_in definitions kind own ≡ Some value_type

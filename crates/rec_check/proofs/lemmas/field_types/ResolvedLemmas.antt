@@ -1,5 +1,6 @@
 -- How definitions are resolved: what is right so far, and what a way from one to another tells.
-use Rattle.std.proofs.Common.{◌≡◌, ◌∙◌, ◌⊎◌, inl, inr, ℕ, zero, suc, ◌+◌, ◌<◌, ◌≤◌, Bool, true, false, ◌||◌, cond, eqb, eq-eqb, List, [], ◌∷◌, ◌++◌, length, length-append, map, set, get_or, Option, Some, None, refl, ap, sym, subst, arith}
+use Rattle.std.proofs.Common.{◌≡◌, ◌∙◌, ◌⊎◌, inl, inr, ℕ, zero, suc, ◌+◌, ◌<◌, ◌≤◌, Bool, true, false, ◌||◌, cond, eqb, eq-eqb, List, [], ◌∷◌, ◌++◌, length, length-append, map, set, get_or, Option,
+    Some, None, refl, ap, sym, subst, arith}
 use Rattle.std.specs.Prelude.{if◌then◌else◌}
 use Rattle.std.proofs.lemmas.Bool.{cases_Bool, cases_eq, cases_lt, eqb-true, ne_eqb, false≢true}
 use Rattle.std.proofs.lemmas.List.{length-set}
@@ -13,8 +14,7 @@ use Rattle.regex.specs.Patterns.{Re}
 use Rattle.rec_check.specs.declared.field_types.field_type.FieldType.{FieldType as StoredType}
 use Rattle.rec_check.specs.declared.field_types.resolution.Meaning.{Meaning}
 use Rattle.rec_check.specs.declared.field_types.resolution.Meaning.TheVariants.{SameAs, Settled}
-use Rattle.rec_check.specs.Meanings.{IsMeaning}
-use Rattle.rec_check.specs.proving.Meanings.{meaning_in}
+use Rattle.rec_check.specs.Meanings.{IsMeaning, meaning_in}
 use Rattle.rec_check.specs.proving.Resolved.{AreAtWork, AreLastPlaces, AreRight, AreSettledAt, ArePlacesWithin, IsAhead, IsRight, StaySettled, is_at, meant, next_in, open_at, settled_at, type_in}
 use Rattle.rec_check.proofs.lemmas.field_types.LastLemmas.{FindLast-nil, FindLast-more, slice_get-end, slice_get-prefix}
 use Rattle.rec_check.specs.Resolving.{is_known_kind, last_definition, LeadsTo}
@@ -74,7 +74,8 @@ is_at-either places last place among = elim (cases_Bool (is_at places place)) [
 pub AreLastPlaces-nil : (place : List ℕ → Option ℕ) → ((name : List ℕ) → place name ≡ None) → AreLastPlaces [] place
 AreLastPlaces-nil place nowhere = FindLast-nil (λ definition name. bytes_eq definition.name name) place nowhere
 
-pub AreLastPlaces-more : (definitions more : List Definition) (last : Definition) (own : List ℕ) (place next : List ℕ → Option ℕ) (at : ℕ) → AreLastPlaces definitions place → more ≡ definitions ++ last ∷ []
+pub AreLastPlaces-more : (definitions more : List Definition) (last : Definition) (own : List ℕ) (place next : List ℕ → Option ℕ) (at : ℕ) → AreLastPlaces definitions place
+    → more ≡ definitions ++ last ∷ []
     → at ≡ length definitions → own ≡ last.name → ((name : List ℕ) → next name ≡ cond (bytes_eq own name) (Some at) (place name)) → AreLastPlaces more next
 AreLastPlaces-more definitions more last own place next at are more_is at_is own_is put =
     FindLast-more (λ definition name. bytes_eq definition.name name) definitions more last place next at are more_is at_is
@@ -102,7 +103,8 @@ module _ (definitions : List Definition) where
   pub meaning_in-known : (kind : List ℕ) (own : MeantType) → is_known_kind kind ≡ true → meaning_in definitions kind own ≡ Some own
   meaning_in-known kind own known = meaning_in-resolves definitions kind own own ([], (known, refl))
 
-  no_steps : (kind : List ℕ) (own value_type : MeantType) (steps : List Definition) → is_known_kind kind ≡ false → last_definition definitions kind ≡ None → LeadsTo definitions kind own steps value_type → ⊥
+  no_steps : (kind : List ℕ) (own value_type : MeantType) (steps : List Definition) → is_known_kind kind ≡ false → last_definition definitions kind ≡ None
+      → LeadsTo definitions kind own steps value_type → ⊥
   no_steps kind own value_type [] unknown none leads = false≢true (sym unknown ∙ leads.0)
   no_steps kind own value_type (step ∷ steps) unknown none leads = none-some step (sym none ∙ leads.1)
 
@@ -154,7 +156,8 @@ module _ (definitions : List Definition) where
   pub record AreRightSoFar (count : ℕ) (meanings : List Meaning) : Type 0 where
     pub size : length meanings ≡ count
     pub below : count ≤ length definitions
-    pub right : (place : ℕ) (definition : Definition) (meaning : Meaning) → slice_get definitions place ≡ Some definition → slice_get meanings place ≡ Some meaning → IsRight definitions definition meaning
+    pub right : (place : ℕ) (definition : Definition) (meaning : Meaning) → slice_get definitions place ≡ Some definition → slice_get meanings place ≡ Some meaning
+        → IsRight definitions definition meaning
 
   pub AreRightSoFar-nil : (meanings : List Meaning) → meanings ≡ [] → AreRightSoFar 0 meanings
   AreRightSoFar-nil meanings none = record {
@@ -163,7 +166,8 @@ module _ (definitions : List Definition) where
     right = λ place definition meaning at is. absurd (none-some meaning (sym (ap (λ l. slice_get l place) none) ∙ is));
   }
 
-  pub AreRightSoFar-more : (count : ℕ) (meanings more : List Meaning) (own : Definition) (last : Meaning) → AreRightSoFar count meanings → slice_get definitions count ≡ Some own → IsRight definitions own last
+  pub AreRightSoFar-more : (count : ℕ) (meanings more : List Meaning) (own : Definition) (last : Meaning) → AreRightSoFar count meanings → slice_get definitions count ≡ Some own
+      → IsRight definitions own last
       → more ≡ meanings ++ last ∷ [] → AreRightSoFar (count + 1) more
   AreRightSoFar-more count meanings more own last so_far at_own right more_is =
       let within : count < length definitions = slice_get_within definitions count own at_own in
@@ -273,16 +277,19 @@ module _ (definitions : List Definition) where
               ap (λ m. meant (type_in m)) (same ∙ back.1) ∙ ahead_of_itself second (meaning_in definitions second.kind second.value_type) round refl
         ]
 
-    right_at_end : (place : ℕ) (definition : Definition) (meaning : Meaning) → slice_get definitions place ≡ Some definition → slice_get new place ≡ Some meaning → IsRight definitions definition meaning
+    right_at_end : (place : ℕ) (definition : Definition) (meaning : Meaning) → slice_get definitions place ≡ Some definition → slice_get new place ≡ Some meaning
+        → IsRight definitions definition meaning
     right_at_end place definition meaning found stands =
         let within : place < length meanings = (let size = work.size in let below = slice_get_within definitions place definition found in omega arith) in
         elim (cases_Bool (is_at passed place)) [
           | inl among ↦
               let way = work.ahead place among in
               let first : way.0 ≡ definition = same_Some _ _ (sym way.1 ∙ found) in
-              let now : Settled (settled_at meanings at) ≡ meaning = same_Some _ _ (sym (settled.each place within ∙ ap (λ b. cond b (Some (Settled (settled_at meanings at))) (slice_get meanings place)) among) ∙ stands) in
+              let now : Settled (settled_at meanings at) ≡ meaning = same_Some _ _ (sym (settled.each place within
+                  ∙ ap (λ b. cond b (Some (Settled (settled_at meanings at))) (slice_get meanings place)) among) ∙ stands) in
               subst (λ (m : Meaning). IsRight definitions definition m) now (end_right way.2.0 way.2.1 ∙ sym way.2.2.same ∙ ap (λ d. meaning_in definitions d.kind d.value_type) first)
-          | inr other ↦ elim (work.right place definition meaning found (sym (settled.each place within ∙ ap (λ b. cond b (Some (Settled (settled_at meanings at))) (slice_get meanings place)) other) ∙ stands)) [
+          | inr other ↦ elim (work.right place definition meaning found (sym (settled.each place within ∙ ap (λ b. cond b (Some (Settled (settled_at meanings at))) (slice_get meanings place)) other)
+              ∙ stands)) [
             | inl right ↦ right
             | inr back ↦ absurd (false≢true (sym other ∙ back.0))
           ]
@@ -294,16 +301,19 @@ module _ (definitions : List Definition) where
   -- ---- the answer
 
   module _ (place : List ℕ → Option ℕ) (meanings : List Meaning) (are : AreLastPlaces definitions place) (right : AreRight definitions meanings) (closed : (at : ℕ) → open_at meanings at ≡ None) where
-    found_meaning : (kind : List ℕ) (own : MeantType) (found : Option ℕ) → is_known_kind kind ≡ false → place kind ≡ found → option_and_then (λ at. meant (settled_at meanings at)) found ≡ meaning_in definitions kind own
+    found_meaning : (kind : List ℕ) (own : MeantType) (found : Option ℕ) → is_known_kind kind ≡ false → place kind ≡ found
+        → option_and_then (λ at. meant (settled_at meanings at)) found ≡ meaning_in definitions kind own
     found_meaning kind own None unknown is = meaning_in-undefined kind own unknown (sym (are.finds kind) ∙ ap (option_and_then (slice_get definitions)) is)
     found_meaning kind own (Some at) unknown is =
         let within : at < length definitions = are.below kind at is in
         let next = slice_get_some definitions at within in
         let known = slice_get_some meanings at (let size = right.size in omega arith) in
-        let own_right : IsRight definitions next.0 (Settled (settled_at meanings at)) = subst (λ (m : Meaning). IsRight definitions next.0 m) (sym (settled_type meanings at (closed at) known.0 known.1)) (right.right at next.0 known.0 next.1 known.1) in
+        let own_right : IsRight definitions next.0 (Settled (settled_at meanings at)) =
+            subst (λ (m : Meaning). IsRight definitions next.0 m) (sym (settled_type meanings at (closed at) known.0 known.1)) (right.right at next.0 known.0 next.1 known.1) in
         own_right ∙ sym (meaning_in-step kind own next.0 unknown (sym (are.finds kind) ∙ ap (option_and_then (slice_get definitions)) is ∙ next.1))
 
-    pub meaning_by-is : (kind : List ℕ) (own : MeantType) → (if is_known_kind kind then Some own else option_and_then (λ at. meant (settled_at meanings at)) (place kind)) ≡ meaning_in definitions kind own
+    pub meaning_by-is : (kind : List ℕ) (own : MeantType) → (if is_known_kind kind then Some own else option_and_then (λ at. meant (settled_at meanings at)) (place kind))
+        ≡ meaning_in definitions kind own
     meaning_by-is kind own = elim (cases_Bool (is_known_kind kind)) [
       | inl known ↦ rw known (sym (meaning_in-known kind own known))
       | inr unknown ↦ rw unknown (found_meaning kind own (place kind) unknown refl)
@@ -415,7 +425,8 @@ closed_past meanings count closed all place = elim (cases_lt place count) [
   | inr past ↦ ap (option_and_then next_in) (slice_get_past meanings place (omega arith))
 ]
 
-pub closed_more : (old new : List Meaning) (start : ℕ) → ((place : ℕ) → place < start → open_at old place ≡ None) → StaySettled old new → open_at new start ≡ None → (place : ℕ) → place < start + 1 → open_at new place ≡ None
+pub closed_more : (old new : List Meaning) (start : ℕ) → ((place : ℕ) → place < start → open_at old place ≡ None) → StaySettled old new → open_at new start ≡ None → (place : ℕ) → place < start + 1
+    → open_at new place ≡ None
 closed_more old new start closed stay own place below = elim (cases_lt place start) [
   | inl before ↦ stay place (closed place before)
   | inr following ↦ ap (open_at new) (let here : place ≡ start = omega arith in here) ∙ own
@@ -429,13 +440,16 @@ slice_get-map_at f xs i d within is = slice_get-map f xs i ∙ ap (option_map f)
 pub ArePlacesWithin-as : (passed places : List ℕ) (meanings : List Meaning) → ArePlacesWithin passed meanings → places ≡ passed → ArePlacesWithin places meanings
 ArePlacesWithin-as passed places meanings within same = subst (λ l. ArePlacesWithin l meanings) (sym same) within
 
-pub AreRight-end : (definitions : List Definition) (passed places : List ℕ) (at : ℕ) (meanings new : List Meaning) (value_type : BorrowedType) → AreAtWork definitions passed at meanings → open_at meanings at ≡ None
+pub AreRight-end : (definitions : List Definition) (passed places : List ℕ) (at : ℕ) (meanings new : List Meaning) (value_type : BorrowedType) → AreAtWork definitions passed at meanings
+    → open_at meanings at ≡ None
     → value_type ≡ settled_at meanings at → places ≡ passed → AreSettledAt places value_type meanings new → AreRight definitions new
 AreRight-end definitions passed places at meanings new value_type work closed type_is same settled =
-    AreRight-settled definitions passed at meanings new work closed (subst (λ l. AreSettledAt l (settled_at meanings at) meanings new) same (subst (λ (t : BorrowedType). AreSettledAt places t meanings new) type_is settled))
+    AreRight-settled definitions passed at meanings new work closed (subst (λ l. AreSettledAt l (settled_at meanings at) meanings new) same
+        (subst (λ (t : BorrowedType). AreSettledAt places t meanings new) type_is settled))
 
 pub StaySettled-end : (places : List ℕ) (value_type : BorrowedType) (old meanings new : List Meaning) → StaySettled old meanings → AreSettledAt places value_type meanings new → StaySettled old new
 StaySettled-end places value_type old meanings new stay settled = StaySettled-settled places value_type old meanings new stay settled
 
-pub start_end : (start : ℕ) (places : List ℕ) (value_type : BorrowedType) (meanings new : List Meaning) → open_at meanings start ≡ None → AreSettledAt places value_type meanings new → open_at new start ≡ None
+pub start_end : (start : ℕ) (places : List ℕ) (value_type : BorrowedType) (meanings new : List Meaning) → open_at meanings start ≡ None → AreSettledAt places value_type meanings new
+    → open_at new start ≡ None
 start_end start places value_type meanings new closed settled = StaySettled-settled places value_type meanings meanings new (λ place is. is) settled start closed

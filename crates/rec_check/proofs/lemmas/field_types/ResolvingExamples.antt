@@ -2,7 +2,7 @@
 use Rattle.std.specs.Prelude.{codes}
 use Rattle.std.proofs.Common.{◌≡◌, ℕ, pos, true, false, List, [], ◌∷◌, Some, None, refl}
 use Rattle.regex.specs.Patterns.{Re}
-use Rattle.rec_check.specs.proving.Meanings.{meaning_in}
+use Rattle.rec_check.specs.Meanings.{meaning_in}
 use Rattle.rec_check.specs.Resolving.{is_known_kind, LeadsTo}
 use Rattle.rec_check.specs.Types.{FieldType, Definition, integer, range, line, unchecked}
 

@@ -18,7 +18,8 @@ use Rattle.rec_check.specs.proving.Flaws.{flaw_at}
 use Rattle.rec_check.specs.Rules.{Rules, no_rules, AreRules, AreSameRules, AreSameDefinitions, AreSameTypes, AreSameTypings}
 use Rattle.rec_check.specs.Schemas.{Described, IsDescribed, IsReached, IsRuled, IsSchema, HasFlaw, AreSameSchemas, OneSchema}
 use Rattle.rec_check.specs.Sets.{AreSets}
-use Rattle.rec_check.specs.Types.{FieldType, integer, range, line as one_line, size, truth, one_of, matching, unchecked, Definition, Typing, Written, WrittenDefinition, IsDefinition, IsTyping, IsBuilt, definition_of, typing_of}
+use Rattle.rec_check.specs.Types.{FieldType, integer, range, line as one_line, size, truth, one_of, matching, unchecked, Definition, Typing, Written, WrittenDefinition, IsDefinition, IsTyping,
+    IsBuilt, definition_of, typing_of}
 use Rattle.rec_check.proofs.lemmas.descriptors.StandsLemmas.{flaw_at-stands}
 use Rattle.rec_check.proofs.lemmas.SetLemmas.{one_list_of_sets}
 
@@ -99,7 +100,8 @@ same_rules fields one other are too = record {
 
 same_as_none : (one other : Rules) → one ≡ no_rules → other ≡ no_rules → AreSameRules one other
 same_as_none one other is too =
-    let none : AreSameRules no_rules no_rules = record { key = refl; mandatory = refl; prohibited = refl; unique = refl; singular = refl; allowed = refl; automatic = refl; types = tt; definitions = tt; size = refl; constraints = tt } in
+    let none : AreSameRules no_rules no_rules = record { key = refl; mandatory = refl; prohibited = refl; unique = refl; singular = refl; allowed = refl; automatic = refl; types = tt;
+        definitions = tt; size = refl; constraints = tt } in
     subst (λ r. AreSameRules r other) (sym is) (subst (AreSameRules no_rules) (sym too) none)
 
 same_ruled_by : (pieces : List Piece) (records : List (Range ℕ)) (head : Option ℕ) (one other : Rules)
@@ -158,7 +160,8 @@ same_flaw pieces flaw other line number (at, element, one, met, line_is) (later,
     let lines : line ≡ number = line_is ∙ ap (λ n. line_after (text_of (take n pieces))) place ∙ sym number_is in
     ap (λ f. refusal f line) flaws ∙ ap (refusal other) lines
 
-one_schema-ok : (pieces : List Piece) (described : Described) (other : Result Described Fault) → IsDescribed pieces described → IsSchema pieces other → (other ≢ Err BadPattern) → AreSameSchemas (Ok described) other
+one_schema-ok : (pieces : List Piece) (described : Described) (other : Result Described Fault) → IsDescribed pieces described → IsSchema pieces other → (other ≢ Err BadPattern)
+    → AreSameSchemas (Ok described) other
 one_schema-ok pieces described (Ok other) is too built = same_schema pieces described other is too
 one_schema-ok pieces described (Err (BadDescriptor line)) is too built = absurd (no_flaw pieces described bad line is too)
 one_schema-ok pieces described (Err (Unsupported line)) is too built = absurd (no_flaw pieces described unsupported line is too)

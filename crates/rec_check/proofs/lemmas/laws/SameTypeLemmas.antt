@@ -6,7 +6,7 @@ use Rattle.std.specs.List.{AllZip}
 use Rattle.std.specs.Option.{option_and_then}
 use Rattle.std.specs.Str.{bytes_eq}
 use Rattle.regex.specs.Patterns.{Re}
-use Rattle.rec_check.specs.proving.Meanings.{meaning_in, meaning_within}
+use Rattle.rec_check.specs.Meanings.{meaning_in, meaning_within}
 use Rattle.rec_check.specs.Resolving.{is_known_kind, last_definition}
 use Rattle.rec_check.specs.Rules.{Rules, AreSameDefinitions, AreSameRules, AreSameTypes, AreSameTypings, field_type, type_by, typing_for}
 use Rattle.rec_check.specs.Types.{Definition, FieldType, Typing, unchecked}
@@ -54,13 +54,15 @@ module _ (definitions others : List Definition) (same : AllZip AreSameDefinition
   same_step most within None (Some other) alike = absurd alike
   same_step most within (Some one) None alike = absurd alike
   same_step most within (Some one) (Some other) alike =
-      subst (λ k. AreSameIfAny (meaning_within most definitions one.kind one.value_type) (meaning_within most others k other.value_type)) alike.kind (within one.kind one.value_type other.value_type alike.value_type)
+      subst (λ k. AreSameIfAny (meaning_within most definitions one.kind one.value_type) (meaning_within most others k other.value_type)) alike.kind
+          (within one.kind one.value_type other.value_type alike.value_type)
 
   same_within : (most : ℕ) → AreSameWithin most
   unfolding AreSameWithin
   same_within zero = λ kind one other alike. IfBoth-if AreSameTypes (is_known_kind kind) one other None None alike tt
   same_within (suc most) = λ kind one other alike.
-      IfBoth-if AreSameTypes (is_known_kind kind) one other _ _ alike (same_step most (same_within most) (last_definition definitions kind) (last_definition others kind) (same_last definitions others kind same))
+      IfBoth-if AreSameTypes (is_known_kind kind) one other _ _ alike (same_step most (same_within most) (last_definition definitions kind) (last_definition others kind)
+          (same_last definitions others kind same))
 
   pub same_meaning : (kind : List ℕ) (one other : SomeType) → AreSameTypes one other → AreSameIfAny (meaning_in definitions kind one) (meaning_in others kind other)
   unfolding AreSameWithin meaning_in

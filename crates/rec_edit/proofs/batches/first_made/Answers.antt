@@ -1,5 +1,5 @@
 use Rattle.std.proofs.Common.{◌≡◌, ◌∙◌, Ok, Err, ◌∷◌, [], map, take, refl, ap, sym, subst}
-use Rattle.std.proofs.lemmas.Result.{err_from_is_err_and}
+use Rattle.core.proofs.result.Match.{err_is}
 use Rattle.rec_text.specs.Elements.{AreElementsOf, text_of}
 use Rattle.rec_text.specs.Faults.{IsMemoryOr}
 use Rattle.rec_check.specs.Stored.{described}
@@ -17,9 +17,8 @@ there c = record { read = subst (λ ps. AreElementsOf ps (text_of ps)) c.databas
 
 pub returns-in_err-made-clause-refused : goal.returns-in_err-made-clause-refused
 returns-in_err-made-clause-refused c =
-    let kept = err_from_is_err_and c.from_residual-in_err-made.result c.from_residual-in_err-made.ensures.1 in
     let fault = c.in_err-made.field-0.0 in
-    rw (kept.1, kept.2)
+    rw (err_is _ _ c.from_residual-in_err-made.ensures.1)
     (subst (λ edits. IsMemoryOr fault (IsRefusedAt c.args.force (map task_of edits) (text_of c.args.file.pieces) 0 fault)) (sym c.in-Some.ensures.cases.0)
     (edit_of_read c.args.force (task_of c.in-Some.first.now) (text_of c.args.file.pieces) c.args.file.pieces (described c.args.file.schema) (Err fault)
     (there (goal.at.returns-in_err-made-clause-refused c).In-Some) c.in_err-made.ensures))

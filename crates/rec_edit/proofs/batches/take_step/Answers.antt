@@ -1,5 +1,5 @@
 use Rattle.std.proofs.Common.{◌∙◌, Ok, Err, ap, sym, subst, ◌++◌, ◌∷◌, []}
-use Rattle.std.proofs.lemmas.Result.{err_from_is_err_and}
+use Rattle.core.proofs.result.Match.{err_is}
 use Rattle.rec_text.specs.Faults.{IsMemoryOr}
 use Rattle.rec_edit.specs.declared.answer.Edited.{Edited}
 use Rattle.rec_edit.specs.Batch.{AreSteps, IsEditOn}
@@ -10,9 +10,8 @@ use Rattle.rec_edit.proofs.batches.take_step.Goals as goal
 
 pub returns-in_err-patched-clause-refused : goal.returns-in_err-patched-clause-refused
 returns-in_err-patched-clause-refused c =
-    let kept = err_from_is_err_and c.from_residual.result c.from_residual.ensures.1 in
     let fault = c.in_err-patched.field-0.0 in
-    rw (kept.1, kept.2) (subst (λ text. IsMemoryOr fault (IsEditOn c.args.force (task_of c.args.edit.now) text (Err fault))) c.text.ensures c.in_err-patched.ensures)
+    rw (err_is _ _ c.from_residual.ensures.1) (subst (λ text. IsMemoryOr fault (IsEditOn c.args.force (task_of c.args.edit.now) text (Err fault))) c.text.ensures c.in_err-patched.ensures)
 
 pub returns-clause-made : goal.returns-clause-made
 returns-clause-made c = λ tasks text are.

@@ -1,5 +1,5 @@
 use Rattle.std.proofs.Common.{◌≡◌, filter_map, slice_get, Ok, inl, inr, ap, refl, subst}
-use Rattle.std.proofs.lemmas.Result.{err_from_is_err_and}
+use Rattle.core.proofs.result.Match.{err_is}
 use Rattle.rec_text.specs.Records.{AreRecords}
 use Rattle.rec_text.proofs.lemmas.FaultLemmas.{memory_or_weaker}
 use Rattle.rec_edit.proofs.lemmas.records.MemberLemmas.{AreRanges-chosen, indexes_within, chosen_found}
@@ -11,9 +11,8 @@ found c = chosen_found _ _ _ _ _ c.in_ok-ranges_at.ensures c.as_slice.ensures c.
 
 pub returns-in_err-selected-clause-refused : goal.returns-in_err-selected-clause-refused
 returns-in_err-selected-clause-refused c =
-    let kept = err_from_is_err_and c.from_residual.result c.from_residual.ensures.1 in
     let fault = c.in_err-selected.field-0.0 in
-    rw (kept.1, kept.2) (memory_or_weaker fault _ _ (λ refused. inl (fault, refused, refl)) c.in_err-selected.ensures.refused)
+    rw (err_is _ _ c.from_residual.ensures.1) (memory_or_weaker fault _ _ (λ refused. inl (fault, refused, refl)) c.in_err-selected.ensures.refused)
 
 pub ranges_at-requires : goal.ranges_at-requires
 ranges_at-requires c =

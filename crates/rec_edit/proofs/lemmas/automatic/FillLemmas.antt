@@ -1,5 +1,6 @@
 -- Records that are filled one after another, set by set: their ranges, and where their fields are put.
-use Rattle.std.proofs.Common.{◌≡◌, ◌∙◌, inl, inr, ℕ, ℤ, ◌+◌, ◌<◌, ◌≤◌, List, [], ◌∷◌, ◌++◌, length, drop, get_or, flat_map, Result, Ok, Err, refl, ap, sym, subst, arith, append-nil, append_assoc, Bool, zero, suc, true, cond, eqb, take, Option, None, Some, length-append}
+use Rattle.std.proofs.Common.{◌≡◌, ◌∙◌, inl, inr, ℕ, ℤ, ◌+◌, ◌<◌, ◌≤◌, List, [], ◌∷◌, ◌++◌, length, drop, get_or, flat_map, Result, Ok, Err, refl, ap, sym, subst, arith, append-nil, append_assoc,
+    Bool, zero, suc, true, cond, eqb, take, Option, None, Some, length-append}
 use Rattle.std.proofs.lemmas.List.{drop_more, drop_all, map-append, length-map, length-take-le, get_or-map, take_more}
 use Rattle.std.specs.List.{AllByRecursion}
 use Rattle.std.specs.declared.ops.Range.{Range}
@@ -118,14 +119,17 @@ module _ (pieces : List Piece) (records : List (Range ℕ)) (sets : List Set_) (
   set_next s asked rest more own (Ok filled) are left = inr (own, are, inr (filled, left, refl))
   set_next s asked rest more own (Err fault) are left = inr (own, are, inl (fault, left, refl))
 
-  module _ (place : ℕ) (new : List Filled) (within : place < length sets) (long : length sets ≡ length rules) (s : Set_) (asked : Rules) (is_set : get_or sets place s ≡ s) (are_rules : get_or rules place asked ≡ asked)
+  module _ (place : ℕ) (new : List Filled) (within : place < length sets) (long : length sets ≡ length rules) (s : Set_) (asked : Rules) (is_set : get_or sets place s ≡ s)
+      (are_rules : get_or rules place asked ≡ asked)
       (so_far : AreFilledUpTo pieces records sets rules place new) where
-    joins : (answer : Result (List Filled) Fault) → AreFilledSets pieces records (s ∷ drop (place + 1) sets) (asked ∷ drop (place + 1) rules) answer → AreFilledSets pieces records sets rules (before new answer)
+    joins : (answer : Result (List Filled) Fault) → AreFilledSets pieces records (s ∷ drop (place + 1) sets) (asked ∷ drop (place + 1) rules) answer
+        → AreFilledSets pieces records sets rules (before new answer)
     joins answer is = so_far.left answer
         (subst (λ ss. AreFilledSets pieces records ss (drop place rules) answer) (sym (drop_more sets place s within ∙ ap (λ t. t ∷ drop (place + 1) sets) is_set))
         (subst (λ rs. AreFilledSets pieces records (s ∷ drop (place + 1) sets) rs answer) (sym (drop_more rules place asked (omega arith) ∙ ap (λ t. t ∷ drop (place + 1) rules) are_rules)) is))
 
-    pub one_set_filled : (more : List Filled) → AddsFilled (AreFilled pieces asked (readings pieces (members records s)) (members records s)) new more → AreFilledUpTo pieces records sets rules (place + 1) more
+    pub one_set_filled : (more : List Filled) → AddsFilled (AreFilled pieces asked (readings pieces (members records s)) (members records s)) new more
+        → AreFilledUpTo pieces records sets rules (place + 1) more
     one_set_filled more adds = record {
       left = λ answer left.
           subst (AreFilledSets pieces records sets rules) (before-before new adds.own answer ∙ ap (λ l. before l answer) (sym adds.joined))
@@ -135,14 +139,17 @@ module _ (pieces : List Piece) (records : List (Range ℕ)) (sets : List Set_) (
     pub set_refused : (fault : Fault) → AreFilled pieces asked (readings pieces (members records s)) (members records s) (Err fault) → AreFilledSets pieces records sets rules (Err fault)
     set_refused fault refused = joins (Err fault) (inl (fault, refused, refl))
 
-  pub all_sets_filled : (place : ℕ) (new : List Filled) → length sets ≤ place → length rules ≤ place → AreFilledUpTo pieces records sets rules place new → AreFilledSets pieces records sets rules (Ok new)
+  pub all_sets_filled : (place : ℕ) (new : List Filled) → length sets ≤ place → length rules ≤ place → AreFilledUpTo pieces records sets rules place new
+      → AreFilledSets pieces records sets rules (Ok new)
   all_sets_filled place new past ruled so_far =
       subst (AreFilledSets pieces records sets rules) (ap Ok (append-nil new))
-      (so_far.left (Ok []) (subst (λ ss. AreFilledSets pieces records ss (drop place rules) (Ok [])) (sym (drop_all place sets past)) (subst (λ rs. AreFilledSets pieces records [] rs (Ok [])) (sym (drop_all place rules ruled)) refl)))
+      (so_far.left (Ok []) (subst (λ ss. AreFilledSets pieces records ss (drop place rules) (Ok [])) (sym (drop_all place sets past))
+          (subst (λ rs. AreFilledSets pieces records [] rs (Ok [])) (sym (drop_all place rules ruled)) refl)))
 
 -- ---- their ranges
 
-ranges-filled : (pieces : List Piece) (rules : Rules) (numbers : List ℕ → List ℤ) (records : List (Range ℕ)) (filled : List Filled) → AreFilled pieces rules numbers records (Ok filled) → ranges_of filled ≡ records
+ranges-filled : (pieces : List Piece) (rules : Rules) (numbers : List ℕ → List ℤ) (records : List (Range ℕ)) (filled : List Filled) → AreFilled pieces rules numbers records (Ok filled)
+    → ranges_of filled ≡ records
 ranges-filled pieces rules numbers [] filled is = ap ranges_of (same_value filled [] is)
 ranges-filled pieces rules numbers (own_range ∷ records) filled (inl (fault, refused, e)) = absurd (no_both filled fault e)
 ranges-filled pieces rules numbers (own_range ∷ records) filled (inr (given, is, inl (fault, refused, e))) = absurd (no_both filled fault e)
@@ -161,12 +168,14 @@ ranges-filled_sets pieces records (s ∷ sets) (asked ∷ rules) filled (inr (ow
     ∙ ap (λ rs. rs ++ ranges_of rest) (ranges-filled pieces asked (readings pieces (members records s)) (members records s) own is)
     ∙ ap (λ rs. members records s ++ rs) (ranges-filled_sets pieces records sets rules rest are)
 
-other_rest : (passed : ℕ) (some rest other : List (Range ℕ)) → ((reached : ℕ) → AreAscending reached rest → AreAscending reached other) → AreAscending passed (some ++ rest) → AreAscending passed (some ++ other)
+other_rest : (passed : ℕ) (some rest other : List (Range ℕ)) → ((reached : ℕ) → AreAscending reached rest → AreAscending reached other) → AreAscending passed (some ++ rest)
+    → AreAscending passed (some ++ other)
 other_rest passed [] rest other f ahead = f passed ahead
 other_rest passed (own_range ∷ some) rest other f ahead = (ahead.0, other_rest own_range.end some rest other f ahead.1)
 
 module _ (size : ℕ) (records : List (Range ℕ)) (within : AreWithin size records) where
-  members_ahead : (at passed : ℕ) (sets : List Set_) → AreFrom at sets → AllByRecursion (λ s. s.members.end ≤ length records) sets → AreAscending passed (drop at records) → AreAscending passed (flat_map (members records) sets)
+  members_ahead : (at passed : ℕ) (sets : List Set_) → AreFrom at sets → AllByRecursion (λ s. s.members.end ≤ length records) sets → AreAscending passed (drop at records)
+      → AreAscending passed (flat_map (members records) sets)
   members_ahead at passed [] from ends ahead = tt
   members_ahead at passed (s ∷ sets) from ends ahead =
       let next : IsNextSet passed records s = record { at = at; begins = from.0; within = ends.0; ahead = ahead } in
@@ -191,8 +200,10 @@ module _ (pieces : List Piece) (schema : Described) where
   AreRanges-filled is filled are =
       let size : ℕ = length pieces in
       let within : AreWithin size is.records =
-      AllByRecursion-weaker (IsRecord pieces) (λ own_range. (own_range.start < own_range.end) × (own_range.end ≤ size)) (λ own_range inside. (inside.some, omega (arith, inside.high, inside.is_paragraph.within))) is.records is.are.each in
-      let total : 0 + length (flat_map named_in schema.sets) ≤ length is.records = omega (arith, ap length is.sets.joined, length-map is.records (λ own_range. type_of (elements_in pieces own_range))) in
+      AllByRecursion-weaker (IsRecord pieces) (λ own_range. (own_range.start < own_range.end)
+          × (own_range.end ≤ size)) (λ own_range inside. (inside.some, omega (arith, inside.high, inside.is_paragraph.within))) is.records is.are.each in
+      let total : 0 + length (flat_map named_in schema.sets) ≤ length is.records =
+          omega (arith, ap length is.sets.joined, length-map is.records (λ own_range. type_of (elements_in pieces own_range))) in
       subst (AreRanges size) (sym (ranges-filled_sets pieces is.records schema.sets schema.rules filled are))
       (AreRanges-members size is.records within schema.sets is.sets.places (sets_within 0 schema.sets (length is.records) is.sets.places total) is.are.ascending)
 
@@ -221,16 +232,19 @@ put filled i = (filling filled).put i
 
 put-push : (filled : List Filled) (one : Filled) (i : ℕ) → put (filled ++ one ∷ []) i ≡ put filled i ++ cond (eqb one.range.start i) (numbered_fields one.given) []
 put-push filled one i =
-    flat_map-append (λ o. cond (eqb o.range.start i) (numbered_fields o.given) []) filled (one ∷ []) ∙ ap (λ l. put filled i ++ l) (append-nil (cond (eqb one.range.start i) (numbered_fields one.given) []))
+    flat_map-append (λ o. cond (eqb o.range.start i) (numbered_fields o.given) []) filled (one ∷ [])
+        ∙ ap (λ l. put filled i ++ l) (append-nil (cond (eqb one.range.start i) (numbered_fields one.given) []))
 
 put-other : (filled : List Filled) (one : Filled) (i : ℕ) → cond (eqb one.range.start i) (numbered_fields one.given) [] ≡ [] → put (filled ++ one ∷ []) i ≡ put filled i
 put-other filled one i nothing = put-push filled one i ∙ ap (λ l. put filled i ++ l) nothing ∙ append-nil (put filled i)
 
-start_past : (least : ℕ) (filled : List Filled) (one : Filled) → AreAscending least (ranges_of (filled ++ one ∷ [])) → AllByRecursion (λ o. o.range.start < o.range.end) (filled ++ one ∷ []) → least ≤ one.range.start
+start_past : (least : ℕ) (filled : List Filled) (one : Filled) → AreAscending least (ranges_of (filled ++ one ∷ [])) → AllByRecursion (λ o. o.range.start < o.range.end) (filled ++ one ∷ [])
+    → least ≤ one.range.start
 start_past least [] one ascending some = ascending.0
 start_past least (first ∷ filled) one ascending some = omega (arith, ascending.0, some.0, start_past first.range.end filled one ascending.1 some.1)
 
-none_before : (least : ℕ) (filled : List Filled) (one : Filled) → AreAscending least (ranges_of (filled ++ one ∷ [])) → AllByRecursion (λ o. o.range.start < o.range.end) (filled ++ one ∷ []) → put filled one.range.start ≡ []
+none_before : (least : ℕ) (filled : List Filled) (one : Filled) → AreAscending least (ranges_of (filled ++ one ∷ [])) → AllByRecursion (λ o. o.range.start < o.range.end) (filled ++ one ∷ [])
+    → put filled one.range.start ≡ []
 none_before least [] one ascending some = refl
 none_before least (first ∷ filled) one ascending some =
     let past = start_past first.range.end filled one ascending.1 some.1 in
@@ -268,7 +282,8 @@ module _ (places : List (Option ℕ)) (filled : List Filled) (one : Filled) (so_
   ArePlaces-kept new ascending some kept i = elim (cases_Bool (eqb one.range.start i)) [
     | inl here ↦
         let first : put filled i ≡ [] = ap (put filled) (sym (eqb-true one.range.start i here)) ∙ none_before 0 filled one ascending some in
-        let all : put (filled ++ one ∷ []) i ≡ numbered_fields one.given = put-push filled one i ∙ ap (λ l. l ++ cond (eqb one.range.start i) (numbered_fields one.given) []) first ∙ cond-true (eqb one.range.start i) (numbered_fields one.given) [] here in
+        let all : put (filled ++ one ∷ []) i ≡ numbered_fields one.given = put-push filled one i ∙ ap (λ l. l ++ cond (eqb one.range.start i) (numbered_fields one.given) []) first
+            ∙ cond-true (eqb one.range.start i) (numbered_fields one.given) [] here in
         subst (IsPlaced (filled ++ one ∷ []) i) (sym (kept i ∙ cond-true (eqb one.range.start i) (Some (length filled)) (place_at places i) here))
         (omega (arith, length-append filled (one ∷ [])), λ other at. all ∙ ap (λ (o : Filled). numbered_fields o.given) (sym (at ∙ get_or-append_seam filled one [] other)))
     | inr other ↦
@@ -293,7 +308,8 @@ module _ (all : List Filled) (k : ℕ) (one : Filled) (within : k < length all) 
       (subst (KeepsPlace places new one.range.start) (sym long) kept))
 
 -- what a place leads to is what is put
-pub put_placed : {T E : Type 0} (r : Result T E) (own : List Filled) (records : List FilledRecord) (i place : ℕ) (kept : Option ℕ) (fields : List NumberedField) (one : FilledRecord) (old new : List ℕ) → filled_of records ≡ own
+pub put_placed : {T E : Type 0} (r : Result T E) (own : List Filled) (records : List FilledRecord) (i place : ℕ) (kept : Option ℕ) (fields : List NumberedField) (one : FilledRecord) (old new : List ℕ)
+    → filled_of records ≡ own
     → IsPlaced (filled_of records) i kept → kept ≡ Some place → one ≡ get_or records place one → fields ≡ one.given.items
     → OnOk r (new ≡ old ++ text_of (numbered_fields (numbered fields))) → OnOk r (new ≡ old ++ text_of (put own i))
 put_placed r own records i place kept fields one old new view is leads at same fact =

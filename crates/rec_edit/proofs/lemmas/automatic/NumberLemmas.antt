@@ -1,5 +1,6 @@
 -- Counters that give their next numbers one after another, and the automatic fields that a new record lacks.
-use Rattle.std.proofs.Common.{◌≡◌, ◌∙◌, inl, inr, ℕ, zero, suc, ℤ, ◌+◌, ◌<◌, ◌≤◌, Bool, true, false, ◌||◌, not, cond, List, [], ◌∷◌, ◌++◌, length, take, drop, get_or, set, map, filter, Result, Ok, Err, refl, ap, sym, subst, arith, append_assoc, append-nil, slice_get, Some}
+use Rattle.std.proofs.Common.{◌≡◌, ◌∙◌, inl, inr, ℕ, zero, suc, ℤ, ◌+◌, ◌<◌, ◌≤◌, Bool, true, false, ◌||◌, not, cond, List, [], ◌∷◌, ◌++◌, length, take, drop, get_or, set, map, filter, Result, Ok,
+    Err, refl, ap, sym, subst, arith, append_assoc, append-nil, slice_get, Some}
 use Rattle.std.proofs.lemmas.Bool.{cases_Bool}
 use Rattle.std.proofs.lemmas.List.{drop_more, map-append, map_more, take_more, take_more_set, get_or-map, length-map, drop_all, take_all, take-map, drop-set-lt}
 use Rattle.std.proofs.lemmas.List.Elements.{filter-append}
@@ -103,7 +104,8 @@ is_among-push : (names : List (List ℕ)) (one value : List ℕ) → is_among (n
 is_among-push names one value = list_any-append (bytes_eq value) names (one ∷ []) ∙ ap (λ b. is_among names value || b) (or-false (bytes_eq value one))
 
 -- one pair more
-pub pair_named : (pairs : List Pair) (i : ℕ) (d : Pair) (name value : List ℕ) (so_far new : Bool) → i < length pairs → name ≡ (get_or pairs i d).name → so_far ≡ is_among (map (λ pair. pair.name) (take i pairs)) value
+pub pair_named : (pairs : List Pair) (i : ℕ) (d : Pair) (name value : List ℕ) (so_far new : Bool) → i < length pairs → name ≡ (get_or pairs i d).name
+    → so_far ≡ is_among (map (λ pair. pair.name) (take i pairs)) value
     → new ≡ (so_far || bytes_eq value name) → new ≡ is_among (map (λ pair. pair.name) (take (i + 1) pairs)) value
 pair_named pairs i d name value so_far new within is reached put =
     put ∙ ap (λ b. b || bytes_eq value name) reached ∙ ap (λ n. is_among (map (λ (pair : Pair). pair.name) (take i pairs)) value || bytes_eq value n) is
@@ -130,7 +132,8 @@ module _ (fields : List Element) (i : ℕ) (d : Element) (value : List ℕ) (so_
 
 numbers_in-push : (given : List Numbered) (one : Numbered) (name : List ℕ) → numbers_in (given ++ one ∷ []) name ≡ numbers_in given name ++ cond (bytes_eq one.name name) (one.number ∷ []) []
 numbers_in-push given one name =
-    ap (map (λ (n : Numbered). n.number)) (filter-append (λ n. bytes_eq n.name name) given (one ∷ [])) ∙ map-append (λ (n : Numbered). n.number) (filter (λ n. bytes_eq n.name name) given) (filter (λ n. bytes_eq n.name name) (one ∷ []))
+    ap (map (λ (n : Numbered). n.number)) (filter-append (λ n. bytes_eq n.name name) given (one ∷ []))
+        ∙ map-append (λ (n : Numbered). n.number) (filter (λ n. bytes_eq n.name name) given) (filter (λ n. bytes_eq n.name name) (one ∷ []))
     ∙ ap (λ l. numbers_in given name ++ l) (elim (cases_Bool (bytes_eq one.name name)) [ inl same ↦ rw same refl | inr other ↦ rw other refl ])
 
 numbers_in-other : (given : List Numbered) (one : Numbered) (name : List ℕ) → bytes_eq one.name name ≡ false → numbers_in (given ++ one ∷ []) name ≡ numbers_in given name
@@ -148,16 +151,19 @@ before-nil (Ok more) = refl
 before-nil (Err fault) = refl
 
 -- one name more
-AreNumbered-more : (next : List ℕ → Result ℤ Fault → Type 0) (name : List ℕ) (names : List (List ℕ)) (number : ℤ) (answer : Result (List Numbered) Fault) → next name (Ok number) → AreNumbered next names answer
+AreNumbered-more : (next : List ℕ → Result ℤ Fault → Type 0) (name : List ℕ) (names : List (List ℕ)) (number : ℤ) (answer : Result (List Numbered) Fault) → next name (Ok number)
+    → AreNumbered next names answer
     → AreNumbered next (name ∷ names) (before (record { name = name; number = number } ∷ []) answer)
 AreNumbered-more next name names number (Ok more) is rest = inr (number, is, inr (more, rest, refl))
 AreNumbered-more next name names number (Err fault) is rest = inr (number, is, inl (fault, rest, refl))
 
-pub AreNumbered-weaker : (next other : List ℕ → Result ℤ Fault → Type 0) → ((name : List ℕ) (answer : Result ℤ Fault) → next name answer → other name answer) → (names : List (List ℕ)) (answer : Result (List Numbered) Fault)
+pub AreNumbered-weaker : (next other : List ℕ → Result ℤ Fault → Type 0) → ((name : List ℕ) (answer : Result ℤ Fault) → next name answer → other name answer)
+    → (names : List (List ℕ)) (answer : Result (List Numbered) Fault)
     → AreNumbered next names answer → AreNumbered other names answer
 AreNumbered-weaker next other f [] answer is = is
 AreNumbered-weaker next other f (name ∷ names) answer (inl (fault, refused, e)) = inl (fault, f name (Err fault) refused, e)
-AreNumbered-weaker next other f (name ∷ names) answer (inr (number, is, inl (fault, refused, e))) = inr (number, f name (Ok number) is, inl (fault, AreNumbered-weaker next other f names (Err fault) refused, e))
+AreNumbered-weaker next other f (name ∷ names) answer (inr (number, is, inl (fault, refused, e))) =
+    inr (number, f name (Ok number) is, inl (fault, AreNumbered-weaker next other f names (Err fault) refused, e))
 AreNumbered-weaker next other f (name ∷ names) answer (inr (number, is, inr (more, rest, e))) = inr (number, f name (Ok number) is, inr (more, AreNumbered-weaker next other f names (Ok more) rest, e))
 
 -- ---- counter by counter
@@ -172,7 +178,8 @@ pub record IsGivenUpTo (rules : Rules) (numbers : List ℕ → List ℤ) (own : 
       → AreNumbered (λ name. IsNext rules name (numbers name)) (lacking (automatic_names rules) own) (before given answer)
 
 module _ (rules : Rules) (numbers : List ℕ → List ℤ) (own : List (List ℕ)) (old : List Counter) where
-  module _ (now : List Counter) (i : ℕ) (given : List Numbered) (within : i < length now) (so_far : IsGivenUpTo rules numbers own old now i given) (counter : Counter) (at : counter ≡ get_or now i counter) where
+  module _ (now : List Counter) (i : ℕ) (given : List Numbered) (within : i < length now) (so_far : IsGivenUpTo rules numbers own old now i given) (counter : Counter) (at : counter
+      ≡ get_or now i counter) where
     abbrev all : List (List ℕ)
     all = automatic_names rules
 
@@ -189,7 +196,8 @@ module _ (rules : Rules) (numbers : List ℕ → List ℤ) (own : List (List ℕ
     counters_left = drop_more now i counter within ∙ ap (λ c. c ∷ drop (i + 1) now) (sym at)
 
     parts : IsCounterOf rules (numbers counter.name.now) counter × AllByRecursion (λ c. IsCounterOf rules (numbers c.name.now) c) (drop (i + 1) now)
-    parts = let both : AllByRecursion (λ c. IsCounterOf rules (numbers c.name.now) c) (counter ∷ drop (i + 1) now) = subst (AllByRecursion (λ c. IsCounterOf rules (numbers c.name.now) c)) counters_left so_far.left in both
+    parts = let both : AllByRecursion (λ c. IsCounterOf rules (numbers c.name.now) c) (counter ∷ drop (i + 1) now) =
+        subst (AllByRecursion (λ c. IsCounterOf rules (numbers c.name.now) c)) counters_left so_far.left in both
 
     -- the counter, as it stood before
     pub counter_here : IsCounterOf rules (numbers counter.name.now) counter
@@ -202,7 +210,8 @@ module _ (rules : Rules) (numbers : List ℕ → List ℤ) (own : List (List ℕ
         here = rw (bytes_eq-self counter.name.now) refl
 
     apart : is_among (drop (i + 1) all) counter.name.now ≡ false
-    apart = ap (is_among (drop (i + 1) all)) (sym own_name) ∙ ap (λ n. is_among (drop n all) (get_or all i [])) {x = i + 1} {y = suc i} (omega arith) ∙ AreApart-later all i [] (AreApart-distinct rules.automatic) (omega (arith, size))
+    apart = ap (is_among (drop (i + 1) all)) (sym own_name) ∙ ap (λ n. is_among (drop n all) (get_or all i [])) {x = i + 1} {y = suc i} (omega arith)
+        ∙ AreApart-later all i [] (AreApart-distinct rules.automatic) (omega (arith, size))
 
     still_left : (name : List ℕ) → is_among (drop (i + 1) all) name ≡ true → is_among (drop i all) name ≡ true
     still_left name among = ap (λ l. is_among l name) names_left ∙ later
@@ -228,7 +237,8 @@ module _ (rules : Rules) (numbers : List ℕ → List ℤ) (own : List (List ℕ
 
     pub refused_here : (fault : Fault) → is_among own counter.name.now ≡ false → IsNext rules counter.name.now (numbers counter.name.now) (Err fault)
         → AreNumbered (λ name. IsNext rules name (numbers name)) (lacking all own) (Err fault)
-    refused_here fault none refused = so_far.fields (Err fault) (subst (λ l. AreNumbered (λ name. IsNext rules name (numbers name)) l (Err fault)) (sym (lacking_left false none)) (inl (fault, refused, refl)))
+    refused_here fault none refused = so_far.fields (Err fault) (subst (λ l. AreNumbered (λ name. IsNext rules name (numbers name)) l (Err fault)) (sym (lacking_left false none))
+        (inl (fault, refused, refl)))
 
     module _ (next : Counter) (number : ℤ) (none : is_among own counter.name.now ≡ false) (is : IsNext rules counter.name.now (numbers counter.name.now) (Ok number)) (named : next.name ≡ counter.name)
         (counted : IsCounterOf rules (number ∷ numbers counter.name.now) next) where
@@ -236,7 +246,8 @@ module _ (rules : Rules) (numbers : List ℕ → List ℤ) (own : List (List ℕ
       one = record { name = counter.name.now; number = number }
 
       still_asked : (counters : List Counter) → is_among (counter_names counters) counter.name.now ≡ false
-          → AllByRecursion (λ c. IsCounterOf rules (with_given given numbers c.name.now) c) counters → AllByRecursion (λ c. IsCounterOf rules (with_given (given ++ one ∷ []) numbers c.name.now) c) counters
+          → AllByRecursion (λ c. IsCounterOf rules (with_given given numbers c.name.now) c) counters
+          → AllByRecursion (λ c. IsCounterOf rules (with_given (given ++ one ∷ []) numbers c.name.now) c) counters
       still_asked [] none_there held = tt
       still_asked (c ∷ counters) none_there held = elim (cases_Bool (bytes_eq counter.name.now c.name.now)) [
         | inl same ↦ absurd (let clash : true ≡ false = (let e = none_there in rw same at e) in cc)
@@ -255,7 +266,8 @@ module _ (rules : Rules) (numbers : List ℕ → List ℤ) (own : List (List ℕ
       own_numbers = numbers_in-own given one counter.name.now (bytes_eq-self counter.name.now) none_given
 
       next_is : IsCounterOf rules (with_given (given ++ one ∷ []) numbers next.name.now) next
-      next_is = subst (λ n. IsCounterOf rules (with_given (given ++ one ∷ []) numbers n) next) (sym (ap (λ (n : Bor (List ℕ)). n.now) named)) (subst (λ ns. IsCounterOf rules (ns ++ numbers counter.name.now) next) (sym own_numbers) counted)
+      next_is = subst (λ n. IsCounterOf rules (with_given (given ++ one ∷ []) numbers n) next) (sym (ap (λ (n : Bor (List ℕ)). n.now) named))
+          (subst (λ ns. IsCounterOf rules (ns ++ numbers counter.name.now) next) (sym own_numbers) counted)
 
       none_after : (name : List ℕ) → is_among (drop (i + 1) all) name ≡ true → numbers_in (given ++ one ∷ []) name ≡ []
       none_after name among = elim (cases_Bool (bytes_eq counter.name.now name)) [
@@ -311,7 +323,8 @@ module _ (pieces : List Piece) (schema : Described) (place : ℕ) (records : Lis
       (λ name number next. record { records = records; are = are; s = s; rules = rules; is_set = is_set; are_rules = are_rules; next = next })
       (lacking (automatic_names rules) own) answer is)
 
-  pub given_at : (result : Result (Vec NumberedField Global) Fault) (counters : List Counter) → IfOk result (λ given. IsGiven rules (readings pieces (members records s)) own (numbered given.items) counters)
+  pub given_at : (result : Result (Vec NumberedField Global) Fault) (counters : List Counter)
+      → IfOk result (λ given. IsGiven rules (readings pieces (members records s)) own (numbered given.items) counters)
       → IfOk result (λ given. AreLacking pieces schema place own (Ok (numbered given.items)))
   given_at (Ok given) counters is = lacking_at (Ok (numbered given.items)) is.fields
   given_at (Err fault) counters is = tt

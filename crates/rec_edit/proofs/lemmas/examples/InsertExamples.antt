@@ -9,7 +9,7 @@ use Rattle.rec_check.specs.Automatic.{IsAutomatic, last_integer}
 use Rattle.rec_check.specs.Rules.{Rules, no_rules}
 use Rattle.rec_check.specs.Schemas.{Described}
 use Rattle.rec_check.specs.Types.{integer, truth}
-use Rattle.rec_check.specs.proving.Meanings.{meaning_in}
+use Rattle.rec_check.specs.Meanings.{meaning_in}
 use Rattle.rec_check.specs.Resolving.{is_known_kind}
 use Rattle.rec_check.proofs.lemmas.automatic.CounterLemmas.{greatest_is}
 use Rattle.rec_check.proofs.lemmas.SetLemmas.{set_of}
@@ -276,7 +276,8 @@ lacked : lacking (id ∷ codes "No" ∷ []) (codes "N" ∷ id ∷ []) ≡ codes 
 lacked = refl
 
 -- a field of another type is no counter
-no_counter : AreFilled (elements some_lack) (record untyped_counting { types = record { names = id ∷ []; kind = codes "bool"; value_type = truth } ∷ [] }) (λ name. []) (range 3 4 ∷ []) (Err AutoImpossible)
+no_counter : AreFilled (elements some_lack) (record untyped_counting { types = record { names = id ∷ []; kind = codes "bool"; value_type = truth } ∷ [] }) (λ name. []) (range 3 4 ∷ [])
+    (Err AutoImpossible)
 unfolding meaning_in is_known_kind
 no_counter = inl (AutoImpossible, inl (AutoImpossible, inl refl, refl), refl)
 

@@ -30,14 +30,16 @@ use Rattle.rec_text.proofs.lemmas.ListLemmas.{AllByRecursion-weaker}
 use Rattle.rec_edit.proofs.lemmas.scripts.TiedLemmas.{put_in-is}
 use Rattle.rec_edit.proofs.lemmas.scripts.EqualLemmas.{PutsSome, unchanged_by_some}
 use Rattle.rec_edit.proofs.lemmas.records.FitLemmas.{laid_from-kept, own_of-records, records_there}
-use Rattle.rec_edit.proofs.lemmas.scripts.LaidLemmas.{Ends, Ends-closed, LaysNeatly, closed-ends, closed-settled, laid_from, new_pieces-parts_from, parts_reopen, closed-blank, closed-field, map-closed}
+use Rattle.rec_edit.proofs.lemmas.scripts.LaidLemmas.{Ends, Ends-closed, LaysNeatly, closed-ends, closed-settled, laid_from, new_pieces-parts_from, parts_reopen, closed-blank, closed-field,
+    map-closed}
 use Rattle.rec_edit.proofs.lemmas.layouts.NeatLemmas.{CanStandFor-kept}
 use Rattle.rec_edit.proofs.lemmas.outcomes.OutcomeLemmas.{element_at, one_list_of_elements}
 use Rattle.rec_edit.proofs.lemmas.scripts.WellFormedLemmas.{LaysWell, new_pieces_are_read, IsClosed}
 use Rattle.rec_edit.proofs.lemmas.outcomes.EffectLemmas.{said, closed_owns, elements_part, map-map, said-records, type_of-closed}
 use Rattle.rec_edit.proofs.lemmas.records.TypedRecordLemmas.{type_after-none, own_of-map, own_of}
 use Rattle.rec_edit.proofs.lemmas.records.MemberLemmas.{Named, last_type}
-use Rattle.rec_edit.proofs.lemmas.insertions.NewRecordLemmas.{descriptor, descriptor_says, type_of-descriptor, CanBePutIn, IsOwn-writable, descriptor_is_line, new_record_can_be_put_in, type_of-writable, writable_lines}
+use Rattle.rec_edit.proofs.lemmas.insertions.NewRecordLemmas.{descriptor, descriptor_says, type_of-descriptor, CanBePutIn, IsOwn-writable, descriptor_is_line, new_record_can_be_put_in,
+    type_of-writable, writable_lines}
 use Rattle.rec_text.proofs.lemmas.records.RecordLemmas.{one_list_of_records}
 use Rattle.rec_check.proofs.lemmas.laws.SameDescriptorLemmas.{new_descriptor, same_descriptors}
 use Rattle.rec_edit.proofs.lemmas.outcomes.AnswerLemmas.{IsFaithful}
@@ -84,7 +86,8 @@ module _ (insertion : Insertion) (lines : AllByRecursion IsClosed insertion.new)
       ap₂ (λ new rest. new ++ rest) (put_there i same) (laid_after i following (omega (arith, same)))
   laid_around i (piece ∷ prefix) following here =
       let next : insertion.place ≡ i + 1 + length prefix = omega (arith, here) in
-      ap (λ put. put ++ (closed piece ∷ ((inserting insertion).put (i + 1) ++ laid_from (inserting insertion) (i + 1) (prefix ++ following)))) (put_elsewhere i (λ same. absurd (omega (arith, same, here))))
+      ap (λ put. put ++ (closed piece ∷ ((inserting insertion).put (i + 1) ++ laid_from (inserting insertion) (i + 1) (prefix ++ following))))
+          (put_elsewhere i (λ same. absurd (omega (arith, same, here))))
       ∙ ap (λ l. closed piece ∷ l) (laid_around (i + 1) prefix following next)
 
   put_lines : (i : ℕ) → AllByRecursion IsClosed ((inserting insertion).put i)
@@ -123,9 +126,11 @@ inserting_puts_some insertion pieces k piece at = omega arith
 
 -- ---- typed records
 
-typed_records-append : (record_type : Named) (prefix following : List (List Piece)) → typed_records record_type (prefix ++ following) ≡ typed_records record_type prefix ++ typed_records (last_type record_type (map type_of prefix)) following
+typed_records-append : (record_type : Named) (prefix following : List (List Piece))
+    → typed_records record_type (prefix ++ following) ≡ typed_records record_type prefix ++ typed_records (last_type record_type (map type_of prefix)) following
 typed_records-append record_type [] following = refl
-typed_records-append record_type (own ∷ prefix) following = ap (λ all_typed. record { record_type = type_after record_type own; own = own } ∷ all_typed) (typed_records-append (type_after record_type own) prefix following)
+typed_records-append record_type (own ∷ prefix) following = ap (λ all_typed. record { record_type = type_after record_type own; own = own } ∷ all_typed)
+    (typed_records-append (type_after record_type own) prefix following)
 
 length-typed_records : (record_type : Named) (owns : List (List Piece)) → length (typed_records record_type owns) ≡ length owns
 length-typed_records record_type [] = refl
@@ -135,7 +140,8 @@ put_between : (prefix new following : List TypedRecord) (count : ℕ) → length
 put_between prefix new following count size = ap₂ (λ some more. some ++ (new ++ more)) (take_at prefix following count size) (drop_at prefix following count size)
 
 -- a record that names no type has that of the records before it
-pub all_typed-put : (record_type : Named) (prefix following : List (List Piece)) (own : List Piece) (count : ℕ) → length prefix ≡ count → last_type None (map type_of prefix) ≡ record_type → type_of own ≡ None
+pub all_typed-put : (record_type : Named) (prefix following : List (List Piece)) (own : List Piece) (count : ℕ) → length prefix ≡ count → last_type None (map type_of prefix) ≡ record_type
+    → type_of own ≡ None
     → typed_records None (prefix ++ (own ∷ following)) ≡ put_at count (record { record_type = record_type; own = own } ∷ []) (typed_records None (prefix ++ following))
 all_typed-put record_type prefix following own count size ends plain =
     let before : List TypedRecord = typed_records None prefix in
@@ -147,14 +153,16 @@ all_typed-put record_type prefix following own count size ends plain =
     ∙ sym (ap (put_at count new) old ∙ put_between before new later count (length-typed_records None prefix ∙ size))
 
 pub all_typed-opened : (record_type : List ℕ) (owns : List (List Piece)) (own : List Piece) → is_plain_name record_type ≡ true → type_of own ≡ None
-    → typed_records None (owns ++ ((descriptor record_type ∷ []) ∷ own ∷ [])) ≡ typed_records None owns ++ (record { record_type = Some record_type; own = descriptor record_type ∷ [] } ∷ record { record_type = Some record_type; own = own } ∷ [])
+    → typed_records None (owns ++ ((descriptor record_type ∷ []) ∷ own ∷ [])) ≡ typed_records None owns
+    ++ (record { record_type = Some record_type; own = descriptor record_type ∷ [] } ∷ record { record_type = Some record_type; own = own } ∷ [])
 all_typed-opened record_type owns own named plain =
     let before : Named = last_type None (map type_of owns) in
     let first : type_after before (descriptor record_type ∷ []) ≡ Some record_type =
     ap (λ o. elim o as (λ x. Named) [ None ↦ before | Some named ↦ Some named ]) (type_of-descriptor record_type named) in
     let both : Named → List TypedRecord = λ k. record { record_type = k; own = descriptor record_type ∷ [] } ∷ record { record_type = type_after k own; own = own } ∷ [] in
     typed_records-append None owns ((descriptor record_type ∷ []) ∷ own ∷ []) ∙ ap (λ k. typed_records None owns ++ both k) first
-    ∙ ap (λ k. typed_records None owns ++ (record { record_type = Some record_type; own = descriptor record_type ∷ [] } ∷ record { record_type = k; own = own } ∷ [])) (type_after-none (Some record_type) own plain)
+    ∙ ap (λ k. typed_records None owns ++ (record { record_type = Some record_type; own = descriptor record_type ∷ [] } ∷ record { record_type = k; own = own } ∷ []))
+    (type_after-none (Some record_type) own plain)
 
 -- ---- what the descriptors say
 
@@ -172,7 +180,8 @@ said-none own owns plain =
 said-descriptor : (record_type : List ℕ) (owns : List (List Piece)) → is_plain_name record_type ≡ true → said ((descriptor record_type ∷ []) ∷ owns) ≡ ((rec_name, record_type) ∷ []) ∷ said owns
 said-descriptor record_type owns named =
     let rest : List (List Piece) = filter (λ own. is_some (type_of own)) owns in
-    ap (λ o. map (map says) (if is_some o then (descriptor record_type ∷ []) ∷ rest else rest)) (type_of-descriptor record_type named) ∙ ap (λ first. first ∷ said owns) (descriptor_says record_type named)
+    ap (λ o. map (map says) (if is_some o then (descriptor record_type ∷ []) ∷ rest else rest)) (type_of-descriptor record_type named)
+        ∙ ap (λ first. first ∷ said owns) (descriptor_says record_type named)
 
 said-following : (prefix some more : List (List Piece)) (rest : List (List (List ℕ × List ℕ))) → said some ≡ said more ++ rest → said (prefix ++ some) ≡ said (prefix ++ more) ++ rest
 said-following [] some more rest same = same
@@ -186,7 +195,8 @@ said-put prefix following own plain =
 pub said-opened : (record_type : List ℕ) (owns : List (List Piece)) (own : List Piece) → is_plain_name record_type ≡ true → type_of own ≡ None
     → said (owns ++ ((descriptor record_type ∷ []) ∷ own ∷ [])) ≡ said owns ++ ((rec_name, record_type) ∷ []) ∷ []
 said-opened record_type owns own named plain =
-    said-following owns ((descriptor record_type ∷ []) ∷ own ∷ []) [] (((rec_name, record_type) ∷ []) ∷ []) (said-descriptor record_type (own ∷ []) named ∙ ap (λ ds. ((rec_name, record_type) ∷ []) ∷ ds) (said-none own [] plain))
+    said-following owns ((descriptor record_type ∷ []) ∷ own ∷ []) [] (((rec_name, record_type) ∷ []) ∷ []) (said-descriptor record_type (own ∷ []) named
+        ∙ ap (λ ds. ((rec_name, record_type) ∷ []) ∷ ds) (said-none own [] plain))
     ∙ ap (λ l. said l ++ ((rec_name, record_type) ∷ []) ∷ []) (append-nil owns)
 
 -- ---- a record that is put in: the new elements are those of the edited text, its descriptors are sound, and it is the last of its set
@@ -218,7 +228,8 @@ position-none test xs none = elim (slice_get_cases xs (position_or_len test xs))
   | inr (past, at) ↦ ap (λ b. cond b (Some (position_or_len test xs)) None) (le-ltb (position_or_len test xs) (length xs) past)
 ]
 
-module _ (pieces : List Piece) (schema : Described) (elements : AreElementsOf pieces (text_of pieces)) (is : IsSchema pieces (Ok schema)) (records : List (Range ℕ)) (are : AreRecords pieces records) where
+module _ (pieces : List Piece) (schema : Described) (elements : AreElementsOf pieces (text_of pieces)) (is : IsSchema pieces (Ok schema)) (records : List (Range ℕ))
+    (are : AreRecords pieces records) where
   -- ---- elements that are put in
 
   module _ (insertion : Insertion) (lines : AllByRecursion IsClosed insertion.new) where
@@ -227,7 +238,8 @@ module _ (pieces : List Piece) (schema : Described) (elements : AreElementsOf pi
 
     inserted_unchanged : edited_text (script_of (inserting insertion) pieces) ≡ text_of pieces → hunks_of (script_of (inserting insertion) pieces) ≡ []
     inserted_unchanged same =
-        unchanged_by_some (inserting insertion) pieces (λ k. refl) (one_list_of_elements (text_of pieces) (edited pieces insertion) pieces (subst (AreElementsOf (edited pieces insertion)) same inserted_is_read) elements)
+        unchanged_by_some (inserting insertion) pieces (λ k. refl) (one_list_of_elements (text_of pieces) (edited pieces insertion) pieces
+            (subst (AreElementsOf (edited pieces insertion)) same inserted_is_read) elements)
         (inserting_puts_some insertion pieces)
 
     -- the records before those that are put in and the ones after, with their newlines
@@ -273,7 +285,8 @@ module _ (pieces : List Piece) (schema : Described) (elements : AreElementsOf pi
     sound : (more : Described) × IsSchema (edited pieces insertion) (Ok more)
     leads : typed_records None (closed_owns (edited pieces insertion) (ranges (edited pieces insertion))) ≡ with_new schema.sets record_type fields (typed_records None (closed_owns pieces records))
 
-  joins : (record_type : Option (List ℕ)) (fields : List Piece) → CanBePutIn record_type fields → (insertion : Insertion) → JoinsSet pieces records are schema.sets fields record_type insertion → Inserts record_type fields insertion
+  joins : (record_type : Option (List ℕ)) (fields : List Piece) → CanBePutIn record_type fields → (insertion : Insertion) → JoinsSet pieces records are schema.sets fields record_type insertion
+      → Inserts record_type fields insertion
   joins record_type fields can insertion to =
       let new : List Piece = edited pieces insertion in
       let plain : type_of fields ≡ None = type_of-writable fields can.writable in
@@ -301,15 +314,18 @@ module _ (pieces : List Piece) (schema : Described) (elements : AreElementsOf pi
       let before : closed_owns pieces records ≡ owns.prefix = owns.before ∙ ap (λ l. owns.prefix ++ l) (none_after insertion made owns) ∙ append-nil owns.prefix in
       let after : closed_owns new (ranges new) ≡ owns.prefix ++ made =
       owns.after ∙ ap (λ l. owns.prefix ++ (map (map closed) made ++ l)) (none_after insertion made owns)
-      ∙ ap₂ (λ first own. owns.prefix ++ (first ∷ own ∷ [])) (map-closed (descriptor record_type ∷ []) (lines_end (descriptor record_type ∷ []) (descriptor_is_line record_type can.plain, tt))) (map-closed fields (lines_end fields lines)) in
+      ∙ ap₂ (λ first own. owns.prefix ++ (first ∷ own ∷ [])) (map-closed (descriptor record_type ∷ []) (lines_end (descriptor record_type ∷ []) (descriptor_is_line record_type can.plain, tt)))
+      (map-closed fields (lines_end fields lines)) in
       let more : descriptors new (ranges new) ≡ descriptors pieces records ++ ((rec_name, record_type) ∷ []) ∷ [] =
-      said_after insertion to.lines ∙ ap said after ∙ said-opened record_type owns.prefix fields can.plain plain ∙ ap (λ l. l ++ ((rec_name, record_type) ∷ []) ∷ []) (sym (said_before ∙ ap said before)) in
+      said_after insertion to.lines ∙ ap said after ∙ said-opened record_type owns.prefix fields can.plain plain
+          ∙ ap (λ l. l ++ ((rec_name, record_type) ∷ []) ∷ []) (sym (said_before ∙ ap said before)) in
       let answer = new_descriptor pieces new records (ranges new) schema record_type are (records_there new).1 more can.plain (position-none (is_of_type record_type) schema.sets to.absent) is in
       record {
         lines = to.lines;
         sound = (answer.0, answer.1);
         leads = ap (typed_records None) after ∙ all_typed-opened record_type owns.prefix fields can.plain plain
-            ∙ ap (λ l. typed_records None l ++ (record { record_type = Some record_type; own = descriptor record_type ∷ [] } ∷ record { record_type = Some record_type; own = fields } ∷ [])) (sym before)
+            ∙ ap (λ l. typed_records None l ++ (record { record_type = Some record_type; own = descriptor record_type ∷ [] } ∷ record { record_type = Some record_type; own = fields } ∷ []))
+            (sym before)
             ∙ rw to.absent refl;
       }
     where

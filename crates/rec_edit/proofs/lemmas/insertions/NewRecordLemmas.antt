@@ -1,5 +1,6 @@
 -- The fields of a new record, the automatic ones too: they can be written, and each record is one of its own.
-use Rattle.std.proofs.Common.{◌≡◌, ℕ, zero, suc, ℤ, pos, negsuc, ◌+◌, ◌<◌, ◌≤◌, ◌/◌, ◌%◌, Bool, true, false, not, ◌==◌, List, [], ◌∷◌, ◌++◌, map, Option, Some, None, Result, Ok, refl, sym, subst, inl, inr, arith, ◌∙◌, length, ap}
+use Rattle.std.proofs.Common.{◌≡◌, ℕ, zero, suc, ℤ, pos, negsuc, ◌+◌, ◌<◌, ◌≤◌, ◌/◌, ◌%◌, Bool, true, false, not, ◌==◌, List, [], ◌∷◌, ◌++◌, map, Option, Some, None, Result, Ok, refl, sym, subst, inl,
+    inr, arith, ◌∙◌, length, ap}
 use Rattle.std.specs.Prelude.{codes, flat_map, nat_lt, position, slice_get, filter, option_to_list}
 use Rattle.std.specs.List.{AllByRecursion, AllZip, cons_option, list_all, list_any}
 use Rattle.std.specs.Str.{bytes_eq}
@@ -29,7 +30,7 @@ use Rattle.rec_edit.specs.Insertions.{Numbered, numbered_fields}
 use Rattle.rec_edit.specs.Automatic.{AreNumbered, AreAutomatic, lacking}
 use Rattle.rec_check.specs.Soundness.{says}
 use Rattle.rec_edit.specs.Task.{Pair, NewRecord, of_pairs, of_text}
-use Rattle.rec_edit.specs.Wording.{ArePairs, IsNewRecord, pairs_of, some_pairs, written}
+use Rattle.rec_edit.specs.Wording.{ArePairs, IsNewRecord, pairs_of, some_pairs, if_writable}
 use Rattle.rec_edit.specs.Effect.{from_field}
 use Rattle.rec_text.proofs.lemmas.ListLemmas.{AllByRecursion-weaker, AllByRecursion-slice_get, same_bytes, AllByRecursion-append}
 use Rattle.rec_check.proofs.lemmas.descriptors.FlawLemmas.{own_flaw}
@@ -98,7 +99,8 @@ heads_are_typed [] = tt
 heads_are_typed (own ∷ owns) =
     cond_both (is_some (type_of own)) (own ∷ heads owns) (heads owns) (AllByRecursion (λ own. is_some (type_of own) ≡ true)) (λ typed. (typed, heads_are_typed owns)) (λ _. heads_are_typed owns)
 
-rules_give_names : (named : List (List ℕ)) (owns : List (List Piece)) (rules : List Rules) → AllByRecursion (λ own. is_some (type_of own) ≡ true) owns → AreSound named owns → AllZip AreRules owns rules
+rules_give_names : (named : List (List ℕ)) (owns : List (List Piece)) (rules : List Rules) → AllByRecursion (λ own. is_some (type_of own) ≡ true) owns → AreSound named owns
+    → AllZip AreRules owns rules
     → AllByRecursion HaveNames rules
 rules_give_names named [] [] typed sound asked = tt
 rules_give_names named [] (one ∷ rules) typed sound asked = absurd asked
@@ -166,7 +168,8 @@ digits_are_ordinary zero n following all = all
 digits_are_ordinary (suc k) n following all =
     let glyph : ℕ = digit_glyph false (n % 10) in
     let here : AllByRecursion IsOrdinary (glyph ∷ following) = (glyph_is_ordinary (n % 10) (omega arith), all) in
-    cond_both (n / 10 == 0) (glyph ∷ following) (digits_onto k 10 false (n / 10) (glyph ∷ following)) (AllByRecursion IsOrdinary) (λ _. here) (λ _. digits_are_ordinary k (n / 10) (glyph ∷ following) here)
+    cond_both (n / 10 == 0) (glyph ∷ following) (digits_onto k 10 false (n / 10) (glyph ∷ following)) (AllByRecursion IsOrdinary) (λ _. here)
+        (λ _. digits_are_ordinary k (n / 10) (glyph ∷ following) here)
 
 decimal_is_ordinary : (n : ℕ) → AllByRecursion IsOrdinary (decimal n)
 unfolding digits
@@ -346,7 +349,8 @@ abbrev pub IsPlainType : Option (List ℕ) → Type 0
 IsPlainType None = Unit {0}
 IsPlainType (Some record_type) = is_plain_name record_type ≡ true
 
-type_apart : (record_type : Option (List ℕ)) (names : List (List ℕ)) → list_all is_plain_name (option_to_list record_type ++ names) ≡ true → IsPlainType record_type × (list_all is_plain_name names ≡ true)
+type_apart : (record_type : Option (List ℕ)) (names : List (List ℕ)) → list_all is_plain_name (option_to_list record_type ++ names) ≡ true
+    → IsPlainType record_type × (list_all is_plain_name names ≡ true)
 type_apart None names all = (tt, all)
 type_apart (Some record_type) names all = and_parts (is_plain_name record_type) (list_all is_plain_name names) all
 
@@ -356,11 +360,13 @@ pub record CanBePutIn (record_type : Option (List ℕ)) (fields : List Piece) : 
   pub some : 0 < length fields
   pub writable : AllByRecursion IsWritable fields
 
-pub new_record_can_be_put_in : (pieces : List Piece) (schema : Described) (record_type : Option (List ℕ)) (fresh : NewRecord) (auto : Bool) (pairs : List Pair) (automatic : List Numbered) → IsSchema pieces (Ok schema)
-    → IsNewRecord record_type fresh (Ok pairs) → AreAutomatic pieces schema record_type auto (map (λ pair. pair.name) pairs) (Ok automatic) → CanBePutIn record_type (numbered_fields automatic ++ fields_of pairs)
+pub new_record_can_be_put_in : (pieces : List Piece) (schema : Described) (record_type : Option (List ℕ)) (fresh : NewRecord) (auto : Bool) (pairs : List Pair) (automatic : List Numbered)
+    → IsSchema pieces (Ok schema)
+    → IsNewRecord record_type fresh (Ok pairs) → AreAutomatic pieces schema record_type auto (map (λ pair. pair.name) pairs) (Ok automatic)
+    → CanBePutIn record_type (numbered_fields automatic ++ fields_of pairs)
 new_record_can_be_put_in pieces schema record_type fresh auto pairs automatic is new numbered =
     let found = Then-ok (ArePairs fresh)
-    (λ pairs answer. answer ≡ written (option_to_list record_type ++ map (λ pair. pair.name) pairs) (map (λ pair. pair.value) pairs) pairs) pairs new in
+    (λ pairs answer. answer ≡ if_writable (option_to_list record_type ++ map (λ pair. pair.name) pairs) (map (λ pair. pair.value) pairs) pairs) pairs new in
     let given : List Pair = found.0 in
     let can : IsWritten (option_to_list record_type ++ map (λ pair. pair.name) given) (map (λ pair. pair.value) given) given pairs =
     written_by (option_to_list record_type ++ map (λ pair. pair.name) given) (map (λ pair. pair.value) given) given pairs _ _ refl refl found.2 in

@@ -1,5 +1,6 @@
 -- Where a new record is put in: as the last record of its set, or after a new descriptor at the end.
-use Rattle.std.proofs.Common.{◌≡◌, ◌∙◌, suc, ◌-◌, Bool, true, false, not, List, [], ◌∷◌, ◌++◌, ◌⊎◌, length, take, drop, refl, ap, ap₂, sym, inl, inr, arith, ℕ, zero, ◌+◌, ◌<◌, ◌≤◌, Some, map, subst, Option, None}
+use Rattle.std.proofs.Common.{◌≡◌, ◌∙◌, suc, ◌-◌, Bool, true, false, not, List, [], ◌∷◌, ◌++◌, ◌⊎◌, length, take, drop, refl, ap, ap₂, sym, inl, inr, arith, ℕ, zero, ◌+◌, ◌<◌, ◌≤◌, Some, map, subst,
+    Option, None}
 use Rattle.std.specs.Prelude.{reverse, slice_get, if◌then◌else◌, find, flat_map, nat_lt, option_and_then}
 use Rattle.std.specs.List.{list_any, prefix_len, AllByRecursion}
 use Rattle.std.proofs.Math.Numerals.{one-add}
@@ -352,7 +353,8 @@ module _ (pieces : List Piece) (records : List (Range ℕ)) (are : AreRecords pi
   ]
 
   -- the range of the first record, where a typed set begins at once
-  before_typed : (s t : Set_) (typed : List Set_) → AreSets (types_of pieces records) (s ∷ t ∷ typed) → s.members.end ≡ 0 → (r : Range ℕ) × (slice_get records 0 ≡ Some r) × (range_of records t.head ≡ Some r)
+  before_typed : (s t : Set_) (typed : List Set_) → AreSets (types_of pieces records) (s ∷ t ∷ typed) → s.members.end ≡ 0
+      → (r : Range ℕ) × (slice_get records 0 ≡ Some r) × (range_of records t.head ≡ Some r)
   before_typed s t typed are_sets none =
       let size = length-map records (λ r. type_of (elements_in pieces r)) in
       let total : length (flat_map named_in (s ∷ t ∷ typed)) ≡ length records = ap length are_sets.joined ∙ size in

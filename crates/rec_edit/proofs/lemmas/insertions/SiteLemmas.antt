@@ -1,5 +1,6 @@
 -- Where a new record is put, and what stands there before and after it.
-use Rattle.std.proofs.Common.{◌≡◌, ◌∙◌, ℕ, ◌+◌, ◌-◌, ◌≤◌, List, [], ◌∷◌, ◌++◌, Option, Some, None, length, map, reverse, take, drop, refl, ap, sym, inl, inr, arith, length-drop, subst, append_assoc, append-nil, true, eqb, if◌then◌else◌, Bool, Ok, Err}
+use Rattle.std.proofs.Common.{◌≡◌, ◌∙◌, ℕ, ◌+◌, ◌-◌, ◌≤◌, List, [], ◌∷◌, ◌++◌, Option, Some, None, length, map, reverse, take, drop, refl, ap, sym, inl, inr, arith, length-drop, subst, append_assoc,
+    append-nil, true, eqb, if◌then◌else◌, Bool, Ok, Err}
 use Rattle.std.specs.Prelude.{find, position, slice_get, option_and_then, ◌⊎◌}
 use Rattle.std.specs.List.{position_or_len, prefix_len}
 use Rattle.std.specs.Option.{option_map_or}
@@ -17,7 +18,8 @@ use Rattle.rec_text.specs.Elements.{Piece, text_of}
 use Rattle.rec_text.specs.Places.{piece_of, pieces_of}
 use Rattle.rec_check.specs.declared.set.Set_.{Set_}
 use Rattle.rec_check.specs.Sets.{is_of_type}
-use Rattle.rec_edit.specs.Insertions.{Insertion, is_full, paragraph_start, paragraph_end, after_paragraph, before_paragraph, last_of, range_of, at_end, untyped_insertion, insertion_for, inserting, Numbered, numbered_fields}
+use Rattle.rec_edit.specs.Insertions.{Insertion, is_full, paragraph_start, paragraph_end, after_paragraph, before_paragraph, last_of, range_of, at_end, untyped_insertion, insertion_for, inserting,
+    Numbered, numbered_fields}
 use Rattle.rec_text.specs.Records.{AreRecords}
 use Rattle.rec_edit.specs.declared.insertion.site.Gap.{Gap}
 use Rattle.rec_edit.specs.declared.insertion.site.Gap.TheVariants.{Absent, Before, After}
@@ -117,7 +119,8 @@ module _ (pieces : List Piece) (records : List (Range ℕ)) (sets : List Set_) (
 
 -- ---- before the fields
 
-module _ (pieces shown : List Piece) (sets : List Set_) (record_type : Option (List ℕ)) (records slice : List (Range ℕ)) (site : Site) (same : shown ≡ pieces) (all : slice ≡ records) (are : AreRecords pieces records) where
+module _ (pieces shown : List Piece) (sets : List Set_) (record_type : Option (List ℕ)) (records slice : List (Range ℕ)) (site : Site) (same : shown ≡ pieces) (all : slice ≡ records)
+    (are : AreRecords pieces records) where
   -- the site, as it was found among the elements and the records that were read
   sited : (prefix : List Piece) → ((fields : List Piece) → insertion_for shown slice sets record_type fields ≡ placed site (prefix ++ fields))
       → (fields : List Piece) → insertion_for pieces records sets record_type fields ≡ placed site (prefix ++ fields)
@@ -361,7 +364,8 @@ module _ (pieces : List Piece) (records : List (Range ℕ)) (sets : List Set_) w
 -- ---- the edit
 
 module _ (pieces : List Piece) (schema : Described) (record_type : Option (List ℕ)) (fresh : NewRecord) (auto : Bool) where
-  pub insert-no_record : (force : Bool) (fault : Fault) → IsMemoryOr fault (IsNewRecord record_type fresh (Err fault)) → IsMemoryOr fault (IsCarriedOut pieces schema force (insert record_type fresh auto) (Err fault))
+  pub insert-no_record : (force : Bool) (fault : Fault) → IsMemoryOr fault (IsNewRecord record_type fresh (Err fault))
+      → IsMemoryOr fault (IsCarriedOut pieces schema force (insert record_type fresh auto) (Err fault))
   insert-no_record force fault is =
       memory_or_weaker fault (IsNewRecord record_type fresh (Err fault)) (IsCarriedOut pieces schema force (insert record_type fresh auto) (Err fault))
       (λ refused. inl (fault, inl (fault, refused, refl), refl)) is
@@ -376,7 +380,8 @@ module _ (pieces : List Piece) (schema : Described) (record_type : Option (List 
         memory_or_weaker fault (AreAutomatic pieces schema record_type auto names (Err fault)) (IsCarriedOut pieces schema force (insert record_type fresh auto) (Err fault))
         (λ refused. inl (fault, inr (pairs, is_new, inl (fault, refused, refl)), refl)) is
 
-    module _ (automatic : List ℕ) (place : ℕ) (text : List ℕ) (given : IsAutomaticText pieces schema record_type auto names automatic) (put : IsRecordPut pieces schema.sets record_type automatic pairs place text) where
+    module _ (automatic : List ℕ) (place : ℕ) (text : List ℕ) (given : IsAutomaticText pieces schema record_type auto names automatic)
+        (put : IsRecordPut pieces schema.sets record_type automatic pairs place text) where
       abbrev fields : List Piece
       fields = numbered_fields given.0 ++ fields_of pairs
 
@@ -384,7 +389,8 @@ module _ (pieces : List Piece) (schema : Described) (record_type : Option (List 
       is_put = put.is (numbered_fields given.0) given.2
 
       ended : PutsLines (insertion_for pieces put.records schema.sets record_type fields)
-      ended = insertion_for-ended pieces put.records schema.sets record_type fields (AreEnded-append (numbered_fields given.0) (fields_of pairs) (numbered_fields-ended given.0) (fields_of-ended pairs))
+      ended = insertion_for-ended pieces put.records schema.sets record_type fields
+          (AreEnded-append (numbered_fields given.0) (fields_of pairs) (numbered_fields-ended given.0) (fields_of-ended pairs))
 
       pub LaysLines-insert : LaysLines (inserting (in_one place text))
       LaysLines-insert = LaysLines-in_one place text (insertion_for pieces put.records schema.sets record_type fields).new ended is_put.same_text

@@ -1,5 +1,6 @@
 -- Records whose listed fields are edited, and which get more fields.
-use Rattle.std.proofs.Common.{◌≡◌, ◌∙◌, ℕ, suc, ◌+◌, ◌-◌, ◌<◌, ◌≤◌, Bool, true, false, IsTrue, ◌==◌, ◌&&◌, ◌||◌, List, [], ◌∷◌, ◌++◌, Option, Some, None, length, map, filter, take, drop, refl, ap, ap₂, sym, subst, inl, inr, arith}
+use Rattle.std.proofs.Common.{◌≡◌, ◌∙◌, ℕ, suc, ◌+◌, ◌-◌, ◌<◌, ◌≤◌, Bool, true, false, IsTrue, ◌==◌, ◌&&◌, ◌||◌, List, [], ◌∷◌, ◌++◌, Option, Some, None, length, map, filter, take, drop, refl, ap,
+    ap₂, sym, subst, inl, inr, arith}
 use Rattle.std.specs.List.{AllByRecursion, list_all, list_any, enumerate_from}
 use Rattle.std.specs.Prelude.{filter_map, flat_map, slice_get, if◌then◌else◌}
 use Rattle.std.specs.Option.{option_map, option_map_or}
@@ -164,7 +165,8 @@ renamed_field name bytes c plain at =
     ap (λ bs. has_name rec_name (record { kind = Field; bytes = bs })) parts
     ∙ ap (λ n. bytes_eq n rec_name) (named_as name (drop (c + 1) bytes) (plain_colon name (drop (c + 1) bytes) plain)) ∙ not_rec name plain
 
-renamed_more : (name : List ℕ) (kind : Kind) (bytes more : List ℕ) → is_plain_name name ≡ true → IsTrue (is_element kind bytes) → has_name rec_name (renamed name (record { kind = kind; bytes = bytes ++ more })) ≡ false
+renamed_more : (name : List ℕ) (kind : Kind) (bytes more : List ℕ) → is_plain_name name ≡ true → IsTrue (is_element kind bytes)
+    → has_name rec_name (renamed name (record { kind = kind; bytes = bytes ++ more })) ≡ false
 renamed_more name Blank bytes more plain is = refl
 renamed_more name Comment bytes more plain is = refl
 renamed_more name Field bytes more plain is =
@@ -222,7 +224,8 @@ filter_plain keep (item ∷ items) plain = elim (cases_Bool (keep item)) [
   | inr gone ↦ rw gone (filter_plain keep items plain.1)
 ]
 
-added_fails : (test : Piece → Bool) (action : Action) (items : List Item) (own : List Piece) → ArePlainItems items → ((name value : List ℕ) → is_plain_name name ≡ true → test (canonical name value) ≡ false)
+added_fails : (test : Piece → Bool) (action : Action) (items : List Item) (own : List Piece) → ArePlainItems items
+    → ((name value : List ℕ) → is_plain_name name ≡ true → test (canonical name value) ≡ false)
     → list_any test (added action items own) ≡ false
 added_fails test (Set value) items own plain fails = refl
 added_fails test (Add value) items own plain fails = canonicals_fail test value items plain (λ name p. fails name value p)
@@ -287,7 +290,8 @@ module _ (action : Action) (items : List Item) (pieces : List Piece) (selected :
   put_nothing : (i : ℕ) (q : Range ℕ) → (q.end ≡ i → ⊥) → put_in action items pieces i q ≡ []
   put_nothing i q other = ap (λ b. if b then added action items (elements_in pieces q) else []) (ne_eqb q.end i other)
 
-  set_keeps : (i : ℕ) → is_picked items pieces (filter_map (slice_get records) selected) i ≡ false → (set_of action items pieces selected records).put (i + 1) ≡ [] → KeepsAt (set_of action items pieces selected records) i
+  set_keeps : (i : ℕ) → is_picked items pieces (filter_map (slice_get records) selected) i ≡ false → (set_of action items pieces selected records).put (i + 1) ≡ []
+      → KeepsAt (set_of action items pieces selected records) i
   set_keeps i other none = record { stays = λ piece. ap (λ b. if b then picked_becomes action piece else piece ∷ []) other; alone = none }
 
   set_outside : (i : ℕ) → AllByRecursion (LeavesOut i) records → KeepsAt (set_of action items pieces selected records) i
@@ -334,9 +338,11 @@ module _ (action : Action) (items : List Item) (pieces : List Piece) (selected :
     set_fails test IsFine all picked kept_all put =
         laid_from-fails test (set_of action items pieces selected records) IsFine r.start (elements_in pieces r) all
         (λ k piece low high fine.
-        if_both test (is_picked items pieces (filter_map (slice_get records) selected) k) (picked_becomes action (closed piece)) (closed piece ∷ []) (picked piece fine) (alone_fails test (closed piece) (kept_all piece fine)))
+        if_both test (is_picked items pieces (filter_map (slice_get records) selected) k) (picked_becomes action (closed piece)) (closed piece ∷ []) (picked piece fine)
+            (alone_fails test (closed piece) (kept_all piece fine)))
         (λ k low high.
-        flat_map_fails test (put_in action items pieces (k + 1)) (filter_map (slice_get records) selected) (λ q. if_both test (q.end == k + 1) (added action items (elements_in pieces q)) [] (put (elements_in pieces q)) refl))
+        flat_map_fails test (put_in action items pieces (k + 1)) (filter_map (slice_get records) selected)
+            (λ q. if_both test (q.end == k + 1) (added action items (elements_in pieces q)) [] (put (elements_in pieces q)) refl))
 
     set_changes : AllByRecursion IsElement (elements_in pieces r) → list_any (λ k. k == length before) selected ≡ true
         → laid_at pieces (set_of action items pieces selected records) selected (with_fields action items) r ≡ with_fields action items (map closed (elements_in pieces r))
@@ -348,7 +354,8 @@ module _ (action : Action) (items : List Item) (pieces : List Piece) (selected :
         let end : r.start + (0 + length own) ≡ r.end = omega (arith, stands.some) in
         let self : (r.end == r.end) ≡ true = grind (arith, nat_tests) in
         ap (λ n. laid_from layout n own) start
-        ∙ laid_as layout (λ j piece. if list_any (λ place. place == j) (picks items (map closed own)) then picked_becomes action piece else piece ∷ []) (added action items (map closed own)) r.start 0 own (omega (arith, stands.some))
+        ∙ laid_as layout (λ j piece. if list_any (λ place. place == j) (picks items (map closed own)) then picked_becomes action piece
+            else piece ∷ []) (added action items (map closed own)) r.start 0 own (omega (arith, stands.some))
         (λ j piece low high.
         ap (λ b. if b then picked_becomes action piece else piece ∷ []) (
         picked_inside (r.start + j) (omega arith) (omega (arith, stands.some))
@@ -364,7 +371,8 @@ module _ (action : Action) (items : List Item) (pieces : List Piece) (selected :
         ∙ ap (λ b. if b then added action items own else []) self ∙ sym (added-closed action items own all))
 
   pub IsInner-setting : AreOnce selected → IsPlainAction action → ArePlainItems items → ((r : Range ℕ) → AllByRecursion IsElement (elements_in pieces r))
-      → ((before : List (Range ℕ)) (r : Range ℕ) (following : List (Range ℕ)) → records ≡ before ++ r ∷ following → list_any (λ k. k == length before) selected ≡ true → list_any (has_name rec_name) (elements_in pieces r) ≡ false)
+      → ((before : List (Range ℕ)) (r : Range ℕ) (following : List (Range ℕ)) → records ≡ before ++ r ∷ following → list_any (λ k. k == length before) selected ≡ true
+          → list_any (has_name rec_name) (elements_in pieces r) ≡ false)
       → IsInner pieces (set_of action items pieces selected records) selected (with_fields action items) records
   IsInner-setting once plain names elements unnamed = record {
     outside = set_outside;

@@ -21,7 +21,8 @@ use Rattle.rec_text.proofs.lemmas.ListLemmas.{AllByRecursion-weaker, AllByRecurs
 use Rattle.rec_edit.proofs.lemmas.records.MemberLemmas.{holds_index-in, selected_plain}
 use Rattle.rec_edit.proofs.lemmas.layouts.NeatLemmas.{found}
 use Rattle.rec_edit.proofs.lemmas.records.FitLemmas.{blank_or_full, full_no_blank, Cut-AreRecords, Fits-inner}
-use Rattle.rec_edit.proofs.lemmas.layouts.ReplacementLemmas.{begins_at, CanBeWritten, IsInner-replacement, fields_full, pairs_can_be_written, replacement_lays_neatly, replacement_lays_well, HasBlank, ReplacesOwn, are_spaced, script_is_apart}
+use Rattle.rec_edit.proofs.lemmas.layouts.ReplacementLemmas.{begins_at, CanBeWritten, IsInner-replacement, fields_full, pairs_can_be_written, replacement_lays_neatly, replacement_lays_well, HasBlank,
+    ReplacesOwn, are_spaced, script_is_apart}
 use Rattle.rec_edit.proofs.lemmas.outcomes.OutcomeLemmas.{one_list_of_elements, written_by}
 use Rattle.rec_edit.proofs.lemmas.outcomes.EffectLemmas.{AreMeant, IsDone, chosen_meant, done_keeps_sets, effect_of_done, laid_gives_way}
 use Rattle.rec_edit.proofs.lemmas.outcomes.AnswerLemmas.{IsFaithful}
@@ -158,7 +159,8 @@ step_replaces pieces schema force wanted fresh edit (inr (pairs, pairs_are, inr 
 
 -- ---- the text stays where its elements do
 
-full_if : (begins own : Bool) (fields : List Piece) (piece : Piece) → own ≡ true → list_any is_blank_piece fields ≡ false → list_any is_blank_piece (if begins then fields else if own then [] else piece ∷ []) ≡ false
+full_if : (begins own : Bool) (fields : List Piece) (piece : Piece) → own ≡ true → list_any is_blank_piece fields ≡ false
+    → list_any is_blank_piece (if begins then fields else if own then [] else piece ∷ []) ≡ false
 full_if true own fields piece is full = full
 full_if false true fields piece is full = refl
 full_if false false fields piece is full = absurd (cc)
@@ -172,7 +174,8 @@ replaces_own pieces pairs chosen written records = record {
   full = λ i own piece. full_if (begins_at chosen i) (is_own chosen i) (fields_of pairs) piece own (fields_full pairs written);
 }
 
-replacement_is_apart : (pieces : List Piece) (pairs : List Pair) (chosen : List (Range ℕ)) → AreElementsOf pieces (text_of pieces) → AllByRecursion CanBeWritten pairs → AllByRecursion (IsRecord pieces) chosen
+replacement_is_apart : (pieces : List Piece) (pairs : List Pair) (chosen : List (Range ℕ)) → AreElementsOf pieces (text_of pieces) → AllByRecursion CanBeWritten pairs
+    → AllByRecursion (IsRecord pieces) chosen
     → ChangeApart true (script_of (replacement (fields_of pairs) chosen) pieces)
 replacement_is_apart pieces pairs chosen elements written records =
     let layout : Layout = replacement (fields_of pairs) chosen in
@@ -180,7 +183,8 @@ replacement_is_apart pieces pairs chosen elements written records =
     script_is_apart layout (is_own chosen) replaces pieces elements.well_formed elements.lines_end
     (are_spaced pieces (is_own chosen) (own_is_not_blank pieces chosen records) (blank_between_own pieces chosen records))
 
-replacement_unchanged : (pieces : List Piece) (pairs : List Pair) (chosen : List (Range ℕ)) → AreElementsOf pieces (text_of pieces) → AllByRecursion CanBeWritten pairs → AllByRecursion (IsRecord pieces) chosen
+replacement_unchanged : (pieces : List Piece) (pairs : List Pair) (chosen : List (Range ℕ)) → AreElementsOf pieces (text_of pieces) → AllByRecursion CanBeWritten pairs
+    → AllByRecursion (IsRecord pieces) chosen
     → edited_text (script_of (replacement (fields_of pairs) chosen) pieces) ≡ text_of pieces → hunks_of (script_of (replacement (fields_of pairs) chosen) pieces) ≡ []
 replacement_unchanged pieces pairs chosen elements written records unchanged =
     let layout : Layout = replacement (fields_of pairs) chosen in
@@ -195,7 +199,8 @@ records_of_meant pieces schema wanted chosen meant = subst (AllByRecursion (IsRe
 
 -- ---- the effect
 
-replacement_is_done : (pieces : List Piece) (schema : Described) (wanted : Wanted) (fresh : NewRecord) (pairs : List Pair) (chosen : List (Range ℕ)) → IsDescribed pieces schema → AllByRecursion IsElement pieces
+replacement_is_done : (pieces : List Piece) (schema : Described) (wanted : Wanted) (fresh : NewRecord) (pairs : List Pair) (chosen : List (Range ℕ)) → IsDescribed pieces schema
+    → AllByRecursion IsElement pieces
     → IsNewRecord None fresh (Ok pairs) → AllByRecursion CanBeWritten pairs → AreMeant pieces schema.sets wanted chosen
     → IsDone pieces schema (replace wanted fresh) (script_of (replacement (fields_of pairs) chosen) pieces)
 replacement_is_done pieces schema wanted fresh pairs chosen is all pairs_are written meant =
@@ -211,14 +216,16 @@ replacement_is_done pieces schema wanted fresh pairs chosen is all pairs_are wri
       gives = laid_gives_way pieces (replacement (fields_of pairs) chosen_are) selected (λ own. fields_of pairs) records meant.are all
           (selected_plain pieces schema wanted.record_type wanted.filter selected records is meant.are meant.selects)
           (closed-tied (replacement (fields_of pairs) chosen_are) pieces (replacement_lays_neatly pairs chosen_are written) all)
-          (Fits-inner pieces (replacement (fields_of pairs) chosen_are) selected (λ own. fields_of pairs) records (IsInner-replacement pairs pieces selected records written) (Cut-AreRecords pieces records meant.are));
+          (Fits-inner pieces (replacement (fields_of pairs) chosen_are) selected (λ own. fields_of pairs) records (IsInner-replacement pairs pieces selected records written)
+              (Cut-AreRecords pieces records meant.are));
       leads = λ before after same. (selected, pairs, meant.selects, pairs_are, same);
     } in
     subst (λ c. IsDone pieces schema (replace wanted fresh) (script_of (replacement (fields_of pairs) c) pieces)) (sym meant.chosen_are) done
 
 -- ---- what holds of the step
 
-pub faithful_replace : (pieces : List Piece) (schema : Described) (force : Bool) (wanted : Wanted) (fresh : NewRecord) (edit : EditScript) → AreElementsOf pieces (text_of pieces) → IsSchema pieces (Ok schema)
+pub faithful_replace : (pieces : List Piece) (schema : Described) (force : Bool) (wanted : Wanted) (fresh : NewRecord) (edit : EditScript) → AreElementsOf pieces (text_of pieces)
+    → IsSchema pieces (Ok schema)
     → IsEditScript pieces schema force (replace wanted fresh) (Ok edit) → IsFaithful pieces schema (replace wanted fresh) edit
 faithful_replace pieces schema force wanted fresh edit elements is found =
     let by = step_replaces pieces schema force wanted fresh edit found in

@@ -1,8 +1,10 @@
 -- The edit of fields: which elements are picked, which record ends at an index, and what is added after it.
-use Rattle.std.proofs.Common.{◌≡◌, ◌∙◌, ℕ, ◌+◌, ◌-◌, ◌<◌, ◌≤◌, min, Bool, true, false, List, [], ◌∷◌, ◌++◌, length, set, replicate, eqb, leb, ltb, ◌&&◌, ◌||◌, refl, ap, sym, inl, inr, arith, take, length-append, zero, suc, cond, get_or, drop, Option, None, Some, is_some, MatchOption, Result, Ok, Err, OnOk, subst, append-nil}
+use Rattle.std.proofs.Common.{◌≡◌, ◌∙◌, ℕ, ◌+◌, ◌-◌, ◌<◌, ◌≤◌, min, Bool, true, false, List, [], ◌∷◌, ◌++◌, length, set, replicate, eqb, leb, ltb, ◌&&◌, ◌||◌, refl, ap, sym, inl, inr, arith, take,
+    length-append, zero, suc, cond, get_or, drop, Option, None, Some, is_some, MatchOption, Result, Ok, Err, OnOk, subst, append-nil}
 use Rattle.std.proofs.Math.ListN.{get_or-append}
 use Rattle.std.proofs.Math.Seq.{get_or-append_seam, get_or-append_right}
-use Rattle.std.proofs.lemmas.Bool.{cases_lt, cases_eq, cases_order, eq-eqb, ne_eqb, or_right, cond-true, cond-false, cond_both, cases_Bool, and_right, ltb-true, ltb-false, and_from, or_cases, eqb-true, le-leb, lt-ltb}
+use Rattle.std.proofs.lemmas.Bool.{cases_lt, cases_eq, cases_order, eq-eqb, ne_eqb, or_right, cond-true, cond-false, cond_both, cases_Bool, and_right, ltb-true, ltb-false, and_from, or_cases,
+    eqb-true, le-leb, lt-ltb}
 use Rattle.std.proofs.lemmas.Bool.Decides.{nat_tests}
 use Rattle.std.proofs.lemmas.List.{get_or-set_same, get_or-set_other, get_or_past, get_or-replicate, length-replicate, take_all, length-take, length-drop}
 use Rattle.std.proofs.lemmas.List.Sums.{sum_by-cons}
@@ -110,7 +112,8 @@ end_above least [] k d ascending some within = absurd (omega arith)
 end_above least (range ∷ ranges) zero d ascending some within = omega (arith, ascending.0, some.0)
 end_above least (range ∷ ranges) (suc k) d ascending some within = omega (arith, ascending.0, some.0, end_above range.end ranges k d ascending.1 some.1 (omega arith))
 
-pub ends_rise : (least : ℕ) (ranges : List (Range ℕ)) → AreAscending least ranges → AreSome ranges → (i j : ℕ) (d : Range ℕ) → i ≤ j → j < length ranges → (get_or ranges i d).end ≤ (get_or ranges j d).end
+pub ends_rise : (least : ℕ) (ranges : List (Range ℕ)) → AreAscending least ranges → AreSome ranges → (i j : ℕ) (d : Range ℕ) → i ≤ j → j < length ranges
+    → (get_or ranges i d).end ≤ (get_or ranges j d).end
 ends_rise least [] ascending some i j d ordered within = absurd (omega arith)
 ends_rise least (range ∷ ranges) ascending some zero zero d ordered within = omega arith
 ends_rise least (range ∷ ranges) ascending some zero (suc j) d ordered within = end_above range.end ranges j d ascending.1 some.1 (omega arith)
@@ -247,7 +250,8 @@ is_picked_of-held items pieces i range ordered within =
     elim (cases_Bool (list_any (λ place. eqb (range.start + place) i) places)) [
       | inl some ↦
           let lies = held range.start range.end i (length (elements_in pieces range)) places (omega arith) (picks-within items (elements_in pieces range)) some in
-          some ∙ sym (and_from (holds_index i range) (list_any (λ place. eqb (range.start + place) i) places) (and_from (leb range.start i) (ltb i range.end) (le-leb range.start i lies.0) (lt-ltb i range.end lies.1)) some)
+          some ∙ sym (and_from (holds_index i range) (list_any (λ place. eqb (range.start + place) i) places)
+              (and_from (leb range.start i) (ltb i range.end) (le-leb range.start i lies.0) (lt-ltb i range.end lies.1)) some)
       | inr none ↦ none ∙ sym (and_right (holds_index i range) (list_any (λ place. eqb (range.start + place) i) places) none)
     ]
 
@@ -311,7 +315,8 @@ module _ (edit : FieldEdit) (action : Action) (items : List Item) (pieces : List
   added_is = ap (λ e. following (λ range. added e.action e.items (elements_in e.pieces range)) e.chosen i) view
 
   pub put_one : {T E : Type 0} (r : Result T E) (old new : List ℕ) (given : List Item) (own : List Piece) (range : Range ℕ) → EndsAt chosen i range
-      → given ≡ items → own ≡ elements_in pieces range → OnOk r (new ≡ old ++ text_of (added action given own)) → OnOk r (new ≡ old ++ text_of ((setting edit.action edit.items edit.pieces edit.chosen).put i))
+      → given ≡ items → own ≡ elements_in pieces range → OnOk r (new ≡ old ++ text_of (added action given own))
+      → OnOk r (new ≡ old ++ text_of ((setting edit.action edit.items edit.pieces edit.chosen).put i))
   put_one r old new given own range ends given_is own_is put =
       let same : added action given own ≡ (setting edit.action edit.items edit.pieces edit.chosen).put i =
       ap (λ g. added action g own) given_is ∙ ap (added action items) own_is ∙ sym (ends.alone (λ r. added action items (elements_in pieces r))) ∙ added_is in

@@ -1,5 +1,6 @@
 -- Records that are deleted with the blank elements directly after them, or become comments.
-use Rattle.std.proofs.Common.{◌≡◌, ◌∙◌, ℕ, ◌+◌, ◌-◌, ◌<◌, ◌≤◌, Bool, List, [], ◌∷◌, ◌++◌, length, get_or, map, take, drop, cond, refl, ap, sym, arith, length-drop, append_assoc, append-nil, true, false, ◌==◌, ◌&&◌, inl, inr, zero, suc, not, subst}
+use Rattle.std.proofs.Common.{◌≡◌, ◌∙◌, ℕ, ◌+◌, ◌-◌, ◌<◌, ◌≤◌, Bool, List, [], ◌∷◌, ◌++◌, length, get_or, map, take, drop, cond, refl, ap, sym, arith, length-drop, append_assoc, append-nil, true,
+    false, ◌==◌, ◌&&◌, inl, inr, zero, suc, not, subst}
 use Rattle.std.proofs.lemmas.List.{take_rest, drop-map, length-map, map_more, length_push}
 use Rattle.std.proofs.lemmas.List.Sums.{prefix_len-le-length}
 use Rattle.std.specs.List.{prefix_len, AllByRecursion, list_any}
@@ -19,7 +20,8 @@ use Rattle.rec_check.specs.Descriptors.{rec_name, holds_index}
 use Rattle.rec_edit.specs.Script.{Layout, closed}
 use Rattle.rec_edit.specs.Effect.{between_fields}
 use Rattle.rec_text.proofs.lemmas.ListLemmas.{AllByRecursion-get_or, AllByRecursion-weaker, AllByRecursion-push}
-use Rattle.rec_edit.proofs.lemmas.records.FitLemmas.{length-part, Cut, IsOwn, passes_at, passes_at-drop, passes_at-part, KeepsAt, laid_at, laid_from-kept, list_any-closed, IsLaid, Fits, laid_from-fails, between_fields-none, all_fine, EndsBy, BeginsFrom, LeavesOut, StandsBetween, IsInner, all_begin}
+use Rattle.rec_edit.proofs.lemmas.records.FitLemmas.{length-part, Cut, IsOwn, passes_at, passes_at-drop, passes_at-part, KeepsAt, laid_at, laid_from-kept, list_any-closed, IsLaid, Fits,
+    laid_from-fails, between_fields-none, all_fine, EndsBy, BeginsFrom, LeavesOut, StandsBetween, IsInner, all_begin}
 use Rattle.rec_edit.proofs.lemmas.records.MemberLemmas.{any_chosen, none_chosen, holds_index-before, holds_index-following, holds_index-in}
 use Rattle.rec_sex.proofs.lemmas.meaning.PlaceLemmas.{list_any-map}
 use Rattle.rec_edit.proofs.lemmas.scripts.LaidLemmas.{laid_from, closed-blank, closed-field}
@@ -31,12 +33,14 @@ prefix_len-pieces test [] = refl
 prefix_len-pieces test (element ∷ elements) = ap (λ n. cond (test (piece_of element)) (1 + n) 0) (prefix_len-pieces test elements)
 
 -- the blank elements after an index, counted in the code's slice
-pub blanks_after : (elements : List Element) (end : ℕ) → prefix_len is_blank_piece (pieces_of (take (length elements - end) (drop end elements))) ≡ prefix_len is_blank_piece (drop end (pieces_of elements))
+pub blanks_after : (elements : List Element) (end : ℕ) → prefix_len is_blank_piece (pieces_of (take (length elements - end) (drop end elements)))
+    ≡ prefix_len is_blank_piece (drop end (pieces_of elements))
 blanks_after elements end =
     ap (λ e. prefix_len is_blank_piece (pieces_of e)) (take_rest elements end) ∙ ap (prefix_len is_blank_piece) (sym (drop-map piece_of end elements))
 
 -- a range of those that are given
-pub range_within : (size : ℕ) (ranges : List (Range ℕ)) (i : ℕ) (d : Range ℕ) → AreRanges size ranges → i < length ranges → ((get_or ranges i d).start < (get_or ranges i d).end) × ((get_or ranges i d).end ≤ size)
+pub range_within : (size : ℕ) (ranges : List (Range ℕ)) (i : ℕ) (d : Range ℕ) → AreRanges size ranges → i < length ranges
+    → ((get_or ranges i d).start < (get_or ranges i d).end) × ((get_or ranges i d).end ≤ size)
 range_within size ranges i d are within = AllByRecursion-get_or (λ range. (range.start < range.end) × (range.end ≤ size)) ranges i d within are.each
 
 pub blanks_fit : (elements : List Element) (end blanks : ℕ) → blanks ≡ prefix_len is_blank_piece (pieces_of (take (length elements - end) (drop end elements)))
@@ -107,7 +111,8 @@ comments_fail : (test : Piece → Bool) (lines : List (List ℕ)) → ((bytes : 
     → list_any test (map (λ line. record { kind = Comment; bytes = 35 ∷ line }) lines) ≡ false
 comments_fail test [] fails = refl
 comments_fail test (line ∷ lines) fails =
-    or_from (test (record { kind = Comment; bytes = 35 ∷ line })) (list_any test (map (λ line. record { kind = Comment; bytes = 35 ∷ line }) lines)) (fails (35 ∷ line)) (comments_fail test lines fails)
+    or_from (test (record { kind = Comment; bytes = 35 ∷ line })) (list_any test (map (λ line. record { kind = Comment; bytes = 35 ∷ line }) lines)) (fails (35 ∷ line))
+        (comments_fail test lines fails)
 
 pub commented_fails : (test : Piece → Bool) (piece : Piece) → ((bytes : List ℕ) → test (record { kind = Comment; bytes = bytes }) ≡ false) → list_any test (comments_of piece.bytes) ≡ false
 commented_fails test piece fails = comments_fail test (physical_lines piece.bytes) fails
@@ -124,7 +129,8 @@ module _ (pieces : List Piece) (selected : List ℕ) (records : List (Range ℕ)
   pub is_own-outside : (i : ℕ) → AllByRecursion (LeavesOut i) records → is_own (filter_map (slice_get records) selected) i ≡ false
   is_own-outside i all = none_chosen (holds_index i) selected records (AllByRecursion-weaker (LeavesOut i) (λ q. holds_index i q ≡ false) (left_out_fails i) records all)
 
-  pub is_own-inside : (layout : Layout) (made : List Piece → List Piece) (before : List (Range ℕ)) (r : Range ℕ) (following : List (Range ℕ)) → StandsBetween pieces layout selected made records before r following
+  pub is_own-inside : (layout : Layout) (made : List Piece → List Piece) (before : List (Range ℕ)) (r : Range ℕ) (following : List (Range ℕ))
+      → StandsBetween pieces layout selected made records before r following
       → (i : ℕ) → r.start ≤ i → i < r.end → is_own (filter_map (slice_get records) selected) i ≡ (list_any (λ k. k == length before) selected && true)
   is_own-inside layout made before r following stands i low high =
       ap (λ rs. list_any (holds_index i) (filter_map (slice_get rs) selected)) stands.parts
@@ -137,13 +143,15 @@ module _ (pieces : List Piece) (selected : List ℕ) (records : List (Range ℕ)
   keeps i other = record { stays = λ piece. ap (λ b. if b then comments_of piece.bytes else piece ∷ []) other; alone = refl }
 
   laid_fails : (test : Piece → Bool) → ((bytes : List ℕ) → test (record { kind = Comment; bytes = bytes }) ≡ false)
-      → (before : List (Range ℕ)) (r : Range ℕ) (following : List (Range ℕ)) → StandsBetween pieces (commenting (filter_map (slice_get records) selected)) selected (λ own. []) records before r following
+      → (before : List (Range ℕ)) (r : Range ℕ) (following : List (Range ℕ))
+      → StandsBetween pieces (commenting (filter_map (slice_get records) selected)) selected (λ own. []) records before r following
       → list_any (λ k. k == length before) selected ≡ true → list_any test (laid_at pieces (commenting (filter_map (slice_get records) selected)) selected (λ own. []) r) ≡ false
   laid_fails test fails before r following stands takes =
       laid_from-fails test (commenting (filter_map (slice_get records) selected)) (λ piece. Unit {0}) r.start (elements_in pieces r) (all_fine (elements_in pieces r))
       (λ k piece low high fine.
       let own : is_own (filter_map (slice_get records) selected) k ≡ true =
-      is_own-inside (commenting (filter_map (slice_get records) selected)) (λ own. []) before r following stands k low (omega (arith, length-part pieces r.start r.end (omega (arith, stands.some)) stands.within, stands.some))
+      is_own-inside (commenting (filter_map (slice_get records) selected)) (λ own. []) before r following stands k low
+          (omega (arith, length-part pieces r.start r.end (omega (arith, stands.some)) stands.within, stands.some))
       ∙ and_from (list_any (λ k. k == length before) selected) true takes refl in
       ap (λ b. list_any test (if b then comments_of (closed piece).bytes else closed piece ∷ [])) own ∙ commented_fails test (closed piece) fails)
       (λ k low high. refl)
@@ -168,7 +176,8 @@ module _ (ranges : List (Range ℕ)) where
   gone_or_kept test true piece fails = refl
   gone_or_kept test false piece fails = or_from (test (closed piece)) false fails refl
 
-  prefix_fails : (test : Piece → Bool) (gone : Bool) (piece : Piece) (more : List Piece) → test (closed piece) ≡ false → list_any test more ≡ false → list_any test ((if gone then [] else closed piece ∷ []) ++ more) ≡ false
+  prefix_fails : (test : Piece → Bool) (gone : Bool) (piece : Piece) (more : List Piece) → test (closed piece) ≡ false → list_any test more ≡ false
+      → list_any test ((if gone then [] else closed piece ∷ []) ++ more) ≡ false
   prefix_fails test true piece more fails none = none
   prefix_fails test false piece more fails none = or_from (test (closed piece)) (list_any test more) fails none
 
@@ -246,7 +255,8 @@ module _ (pieces : List Piece) where
 
     -- an element in a record or after it, before the next
     goes_as : (before : List (Range ℕ)) (r : Range ℕ) (following : List (Range ℕ)) (i m : ℕ) → records ≡ before ++ r ∷ following → AllByRecursion (λ q. reach q ≤ r.start) before → r.start ≤ i → i < m
-        → AllByRecursion (BeginsFrom m) following → is_own (map (with_blanks pieces) (filter_map (slice_get records) selected)) i ≡ (list_any (λ k. k == length before) selected && holds_index i (with_blanks pieces r))
+        → AllByRecursion (BeginsFrom m) following → is_own (map (with_blanks pieces) (filter_map (slice_get records) selected)) i
+        ≡ (list_any (λ k. k == length before) selected && holds_index i (with_blanks pieces r))
     goes_as before r following i m parts reached low early begun =
         goes_with i ∙ ap (λ rs. list_any (λ q. holds_index i (with_blanks pieces q)) (filter_map (slice_get rs) selected)) parts
         ∙ any_chosen (λ q. holds_index i (with_blanks pieces q)) selected before r following (ended i r.start before low reached) (late i m following early begun)
@@ -258,8 +268,10 @@ module _ (pieces : List Piece) where
     Taken : Bool → ℕ → ℕ → List (Range ℕ) → Type 0
     Taken apart n i following = Fits pieces (taking_out (map (with_blanks pieces) (filter_map (slice_get records) selected))) selected (λ own. []) apart n i following
 
-    laid_so : (before : List (Range ℕ)) (r : Range ℕ) (following : List (Range ℕ)) → records ≡ before ++ r ∷ following → AllByRecursion (λ q. reach q ≤ r.start) before → r.start < r.end → r.end ≤ length pieces
-        → AllByRecursion (BeginsFrom r.end) following → IsOwn (elements_in pieces r) → (list_any (λ k. k == length before) selected ≡ true → laid_at pieces (taking_out (map (with_blanks pieces) (filter_map (slice_get records) selected))) selected (λ own. []) r ≡ [])
+    laid_so : (before : List (Range ℕ)) (r : Range ℕ) (following : List (Range ℕ)) → records ≡ before ++ r ∷ following → AllByRecursion (λ q. reach q ≤ r.start) before → r.start < r.end
+        → r.end ≤ length pieces
+        → AllByRecursion (BeginsFrom r.end) following → IsOwn (elements_in pieces r)
+        → (list_any (λ k. k == length before) selected ≡ true → laid_at pieces (taking_out (map (with_blanks pieces) (filter_map (slice_get records) selected))) selected (λ own. []) r ≡ [])
         → IsLaid pieces (taking_out (map (with_blanks pieces) (filter_map (slice_get records) selected))) selected (λ own. []) (length before) (elements_in pieces r)
         (laid_at pieces (taking_out (map (with_blanks pieces) (filter_map (slice_get records) selected))) selected (λ own. []) r)
     laid_so before r following parts reached some within begun own gone =
@@ -279,8 +291,10 @@ module _ (pieces : List Piece) where
           still = λ takes. ap (list_any (has_name rec_name)) (gone takes);
         }
 
-    record_goes : (before : List (Range ℕ)) (r : Range ℕ) (following : List (Range ℕ)) → records ≡ before ++ r ∷ following → AllByRecursion (λ q. reach q ≤ r.start) before → r.start < r.end → r.end ≤ length pieces
-        → AllByRecursion (BeginsFrom r.end) following → list_any (λ k. k == length before) selected ≡ true → laid_at pieces (taking_out (map (with_blanks pieces) (filter_map (slice_get records) selected))) selected (λ own. []) r ≡ []
+    record_goes : (before : List (Range ℕ)) (r : Range ℕ) (following : List (Range ℕ)) → records ≡ before ++ r ∷ following → AllByRecursion (λ q. reach q ≤ r.start) before → r.start < r.end
+        → r.end ≤ length pieces
+        → AllByRecursion (BeginsFrom r.end) following → list_any (λ k. k == length before) selected ≡ true
+        → laid_at pieces (taking_out (map (with_blanks pieces) (filter_map (slice_get records) selected))) selected (λ own. []) r ≡ []
     record_goes before r following parts reached some within begun takes =
         all_gone (map (with_blanks pieces) (filter_map (slice_get records) selected)) r.start (elements_in pieces r) (λ k low high.
         let inside : k < r.end = omega (arith, length-part pieces r.start r.end (omega arith) within) in

@@ -1,5 +1,6 @@
 -- What holds of each step of an edit, and the refusals that an edit has at all.
-use Rattle.std.proofs.Common.{◌≡◌, inl, inr, Result, Ok, Err, sym, ap, subst, ◌≢◌, List, [], ◌==◌, ℕ, position, Option, Some, None, ◌∷◌, length, ℤ, Bool, true, false, cond, ◌++◌, map, filter_map, slice_get, find, option_to_list}
+use Rattle.std.proofs.Common.{◌≡◌, inl, inr, Result, Ok, Err, sym, ap, subst, ◌≢◌, List, [], ◌==◌, ℕ, position, Option, Some, None, ◌∷◌, length, ℤ, Bool, true, false, cond, ◌++◌, map, filter_map,
+    slice_get, find, option_to_list}
 use Rattle.std.specs.Option.{option_map_or}
 use Rattle.std.specs.declared.ops.Range.{Range}
 use Rattle.std.proofs.lemmas.Bool.{cond_both}
@@ -18,7 +19,7 @@ use Rattle.rec_edit.specs.Outcome.{allowed, AreChosen, AreRemovable, IsLaidOut, 
 use Rattle.rec_edit.specs.Effect.{HasEffect}
 use Rattle.rec_sex.specs.declared.lists.field_list.Item.{Item}
 use Rattle.rec_edit.specs.declared.request.Action.TheVariants.{Add}
-use Rattle.rec_edit.specs.Wording.{unnumbered, IsRecordText, written, names_of_action, values_of_action, AreItemsFor, some_pairs, ArePairs, IsNewRecord}
+use Rattle.rec_edit.specs.Wording.{unnumbered, IsRecordText, if_writable, names_of_action, values_of_action, AreItemsFor, some_pairs, ArePairs, IsNewRecord}
 use Rattle.rec_text.specs.Reading.{IsReading}
 use Rattle.rec_text.specs.Records.{AreRecords, elements_in}
 use Rattle.rec_edit.specs.proving.Causes.{cause_of}
@@ -115,8 +116,8 @@ MayBe-unnumbered : (action : Action) (list : List ℕ) (items : List Item) → M
 MayBe-unnumbered (Add value) list items = place_or_items (position (λ b. b == 91) list) items
 MayBe-unnumbered _ list items = tt
 
-MayBe-written : {X : Type 0} (names values : List (List ℕ)) (x : X) → MayBe (written names values x)
-MayBe-written names values x =
+MayBe-if_writable : {X : Type 0} (names values : List (List ℕ)) (x : X) → MayBe (if_writable names values x)
+MayBe-if_writable names values x =
     cond_both (list_all is_plain_name names) (cond (list_all (is_foldable 32) values) (Ok x) (Err BadValue)) (Err BadName) MayBe
     (λ _. cond_both (list_all (is_foldable 32) values) (Ok x) (Err BadValue) MayBe (λ _. tt) (λ _. tt)) (λ _. tt)
 
@@ -129,7 +130,7 @@ RefusesSo-items : (action : Action) (list : List ℕ) → RefusesSo (AreItemsFor
 RefusesSo-items action list =
     RefusesSo-Then (IsFieldList list) _ (RefusesSo-list list) (λ items.
     RefusesSo-Then (λ answer. answer ≡ unnumbered action list items) _ (RefusesSo-same _ (MayBe-unnumbered action list items)) (λ _.
-    RefusesSo-same _ (MayBe-written (map (λ item. item.name) items ++ names_of_action action) (values_of_action action) items)))
+    RefusesSo-same _ (MayBe-if_writable (map (λ item. item.name) items ++ names_of_action action) (values_of_action action) items)))
 
 -- ---- the records
 
@@ -194,7 +195,7 @@ RefusesSo-pairs (of_text text) = RefusesSo-record_text text
 RefusesSo-new : (record_type : Option (List ℕ)) (fresh : NewRecord) → RefusesSo (IsNewRecord record_type fresh)
 RefusesSo-new record_type fresh =
     RefusesSo-Then (ArePairs fresh) _ (RefusesSo-pairs fresh) (λ pairs.
-    RefusesSo-same _ (MayBe-written (option_to_list record_type ++ map (λ pair. pair.name) pairs) (map (λ pair. pair.value) pairs) pairs))
+    RefusesSo-same _ (MayBe-if_writable (option_to_list record_type ++ map (λ pair. pair.name) pairs) (map (λ pair. pair.value) pairs) pairs))
 
 -- ---- automatic fields
 
@@ -262,7 +263,8 @@ RefusesSo-step pieces schema force (set wanted list action) =
     RefusesSo-Then (AreItemsFor action list) _ (RefusesSo-items action list) (λ items.
     RefusesSo-Then (AreChosen pieces schema.sets wanted) _ (RefusesSo-chosen pieces schema.sets wanted) (λ chosen. RefusesSo-laid pieces chosen (setting action items pieces chosen)))
 RefusesSo-step pieces schema force auto_fill = λ answer (records, are, is).
-    RefusesSo-Then (AreFilledSets pieces records schema.sets schema.rules) _ (RefusesSo-filled_sets pieces records schema.sets schema.rules) (λ filled. RefusesSo-laid pieces (map (λ one. one.range) filled) (filling filled)) answer is
+    RefusesSo-Then (AreFilledSets pieces records schema.sets schema.rules) _ (RefusesSo-filled_sets pieces records schema.sets schema.rules)
+        (λ filled. RefusesSo-laid pieces (map (λ one. one.range) filled) (filling filled)) answer is
 
 -- ---- the edited text
 

@@ -1,6 +1,7 @@
 -- Edits one after another: each text between is read, the steps lead from the first text to the last, and which edit is
 -- refused.
-use Rattle.std.proofs.Common.{◌≡◌, ◌∙◌, ℕ, zero, suc, ◌+◌, ◌<◌, length, map, take, drop, get_or, Bool, false, List, [], ◌∷◌, ◌++◌, refl, ap, ap₂, sym, subst, inl, inr, arith, append_assoc, append-nil, Option, Some, None, Result, Ok, Err}
+use Rattle.std.proofs.Common.{◌≡◌, ◌∙◌, ℕ, zero, suc, ◌+◌, ◌<◌, length, map, take, drop, get_or, Bool, false, List, [], ◌∷◌, ◌++◌, refl, ap, ap₂, sym, subst, inl, inr, arith, append_assoc, append-nil,
+    Option, Some, None, Result, Ok, Err}
 use Rattle.std.specs.Prelude.{IfOk, IfErr}
 use Rattle.std.specs.List.{AllByRecursion}
 use Rattle.std.proofs.lemmas.Int.{clamps}
@@ -29,13 +30,13 @@ use Rattle.rec_edit.specs.Outcome.{IsEditOf, IsSound, IsSoundUnlessForced, IsEdi
 use Rattle.rec_edit.specs.Batch.{IsEditOn, step_with, at_most_greatest, with_first, AreSteps, IsBatchOutcome, fault_alone, IsRefusedAt, AreRefusedAt, AreWholeSteps, HaveEffects}
 use Rattle.rec_edit.specs.Effect.{HasEffect}
 use Rattle.rec_edit.specs.proving.Batches.{untouched, after_edit}
-use Rattle.rec_edit.specs.proving.Edits.{edited_by}
+use Rattle.rec_edit.specs.proving.Edits.{edited_by, IsCarriedOut}
 use Rattle.rec_text.proofs.lemmas.reading.ReadingLemmas.{one_reading}
 use Rattle.rec_text.proofs.lemmas.FaultLemmas.{no_both, same_value, memory_or_weaker}
 use Rattle.rec_text.proofs.lemmas.StepLemmas.{Then-ok}
 use Rattle.rec_check.proofs.lemmas.laws.SameLemmas.{one_schema}
 use Rattle.rec_edit.proofs.lemmas.outcomes.AnswerLemmas.{RefusesSo-edit, RefusesSo-sound, schema_refusal, unless_memory-weaker}
-use Rattle.rec_edit.proofs.lemmas.outcomes.EditLemmas.{fault_is, is_edited_by, old_pieces-edit, outcome-unruled, script_of_edit}
+use Rattle.rec_edit.proofs.lemmas.outcomes.EditLemmas.{carried_out, fault_is, is_edited_by, old_pieces-edit, outcome-unruled, script_of_edit}
 use Rattle.rec_edit.proofs.lemmas.outcomes.UnruledLemmas.{faithful}
 use Rattle.rec_edit.proofs.lemmas.scripts.ScriptLemmas.{Splices-hunks_of, TakesWhole-hunks_of, same_where_no_hunk}
 
@@ -342,13 +343,16 @@ module _ (force : Bool) (task : Task) (text : List ℕ) where
       memory_or_weaker fault (IsDescribedText text (Err fault)) (IsEditOn force task text (Err fault)) (λ undescribed. inl (fault, undescribed, refl)) is
 
   pub edit_of_described : (described : DescribedText) (result : Result Patched Fault) → IsDescribedText text (Ok described)
-      → UnlessMemory result (IsEditOf described.pieces described.schema force task) → UnlessMemory result (IsEditOn force task text)
+      → UnlessMemory result (IsCarriedOut described.pieces described.schema force task) → UnlessMemory result (IsEditOn force task text)
   edit_of_described described result there is =
-      unless_memory-weaker result (IsEditOf described.pieces described.schema force task) (IsEditOn force task text) (λ answer edits. inr (described, there, edits)) is
+      let here = described_parts text described there in
+      let whole : AreElementsOf described.pieces (text_of described.pieces) = subst (AreElementsOf described.pieces) (sym here.read.joined) here.read in
+      unless_memory-weaker result (IsEditOf described.pieces described.schema force task) (IsEditOn force task text) (λ answer edits. inr (described, there, edits))
+      (carried_out described.pieces described.schema force task whole here.is result is)
 
 -- an edit of a file that was read
 pub edit_of_read : (force : Bool) (task : Task) (text : List ℕ) (pieces : List Piece) (schema : Described) (result : Result Patched Fault) → IsRead text pieces schema
-    → UnlessMemory result (IsEditOf pieces schema force task) → UnlessMemory result (IsEditOn force task text)
+    → UnlessMemory result (IsCarriedOut pieces schema force task) → UnlessMemory result (IsEditOn force task text)
 edit_of_read force task text pieces schema result there is = edit_of_described force task text (record { pieces = pieces; schema = schema }) result (read_is_described text pieces schema there) is
 
 -- an edit that puts no descriptor into a text without one keeps its rules

@@ -210,7 +210,8 @@ meant_counts pieces sets wanted chosen layout meant lays alone =
 
 -- ---- each kind of edit
 
-removable_chosen : (pieces : List Piece) (sets : List Set_) (wanted : Wanted) (force : Bool) (chosen : List (Range ℕ)) → AreRemovable pieces sets wanted force (Ok chosen) → AreChosen pieces sets wanted (Ok chosen)
+removable_chosen : (pieces : List Piece) (sets : List Set_) (wanted : Wanted) (force : Bool) (chosen : List (Range ℕ)) → AreRemovable pieces sets wanted force (Ok chosen)
+    → AreChosen pieces sets wanted (Ok chosen)
 removable_chosen pieces sets wanted force chosen (inl (fault, refused, e)) = absurd (cc)
 removable_chosen pieces sets wanted force chosen (inr (found, are, inl (fault, refused, e))) = absurd (cc)
 removable_chosen pieces sets wanted force chosen (inr (found, are, inr (unit, allowed, same))) =

@@ -1,5 +1,6 @@
 -- What an edit makes of a text, by its kind; its hunks are its script's changes.
-use Rattle.std.proofs.Common.{◌≡◌, ◌≢◌, ◌∙◌, ℕ, ◌+◌, ◌<◌, ◌≤◌, Bool, true, false, List, [], ◌∷◌, ◌++◌, ◌==◌, length, map, flat_map, refl, ap, ap₂, sym, subst, inl, inr, arith, append-nil, Result, Ok, Err, None, if◌then◌else◌}
+use Rattle.std.proofs.Common.{◌≡◌, ◌≢◌, ◌∙◌, ℕ, ◌+◌, ◌<◌, ◌≤◌, Bool, true, false, List, [], ◌∷◌, ◌++◌, ◌==◌, length, map, flat_map, refl, ap, ap₂, sym, subst, inl, inr, arith, append-nil, Result, Ok,
+    Err, None, if◌then◌else◌}
 use Rattle.std.specs.List.{AllByRecursion}
 use Rattle.std.specs.Str.{bytes_eq}
 use Rattle.std.proofs.lemmas.Bool.{cases_Bool, eq-eqb, ne_eqb, cond_both}
@@ -374,7 +375,8 @@ module _ (pieces : List Piece) (schema : Described) (force : Bool) (wanted : Wan
 
 module _ (pieces : List Piece) (schema : Described) (task : Task) where
   -- the script of an edit
-  pub script_of_edit : (force : Bool) (edited : Patched) → IsEditOf pieces schema force task (Ok edited) → (edit : EditScript) × IsEditScript pieces schema force task (Ok edit) × IsEditedBy edit edited
+  pub script_of_edit : (force : Bool) (edited : Patched) → IsEditOf pieces schema force task (Ok edited)
+      → (edit : EditScript) × IsEditScript pieces schema force task (Ok edit) × IsEditedBy edit edited
   script_of_edit force edited is =
       let (edit, is_script, (made, by, e)) = Then-ok (IsEditScript pieces schema force task) (λ edit answer. (edited : Patched) × IsEditedBy edit edited × (answer ≡ Ok edited)) edited is in
       (edit, is_script, subst (IsEditedBy edit) (sym (same_value edited made e)) by)

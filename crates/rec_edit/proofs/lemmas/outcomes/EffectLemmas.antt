@@ -1,5 +1,6 @@
 -- What an edit means for the records of a text.
-use Rattle.std.proofs.Common.{◌≡◌, ◌∙◌, ℕ, suc, ◌+◌, ◌<◌, Bool, true, false, ◌==◌, List, [], ◌∷◌, ◌++◌, Some, None, Result, Ok, Err, length, map, take, drop, refl, ap, ap₂, sym, subst, inl, inr, arith}
+use Rattle.std.proofs.Common.{◌≡◌, ◌∙◌, ℕ, suc, ◌+◌, ◌<◌, Bool, true, false, ◌==◌, List, [], ◌∷◌, ◌++◌, Some, None, Result, Ok, Err, length, map, take, drop, refl, ap, ap₂, sym, subst, inl, inr,
+    arith}
 use Rattle.std.specs.Prelude.{filter, filter_map, find, is_some, option_map, slice_get, if◌then◌else◌}
 use Rattle.std.specs.Str.{bytes_eq}
 use Rattle.std.specs.List.{AllByRecursion, list_all, list_any}
@@ -32,7 +33,8 @@ use Rattle.rec_edit.specs.Script.{Layout, Part, closed, new_pieces, edited_text}
 use Rattle.rec_edit.specs.proving.Parts.{script_of}
 use Rattle.rec_edit.specs.Outcome.{AreChosen, AreRemovable, EditScript, IsEditScript}
 use Rattle.rec_edit.proofs.lemmas.records.TypedRecordLemmas.{closes, own_of, own_of-Spaced, AreTurned, described, none-type_of, own_of-map, remade-turned, same_descriptors, type_of-none}
-use Rattle.rec_edit.proofs.lemmas.records.FitLemmas.{Cut, Cut-AreRecords, own_of-records, records_there, ArePlain, AreTurned-Fits, Fits, Spaced-Fits, laid_at, Fits-inner, IsInner, BeginsFrom, all_begin}
+use Rattle.rec_edit.proofs.lemmas.records.FitLemmas.{Cut, Cut-AreRecords, own_of-records, records_there, ArePlain, AreTurned-Fits, Fits, Spaced-Fits, laid_at, Fits-inner, IsInner, BeginsFrom,
+    all_begin}
 use Rattle.rec_edit.proofs.lemmas.scripts.LaidLemmas.{LaysNeatly, closed-blank, closed-field, closed-new_pieces, laid_from}
 use Rattle.rec_edit.proofs.lemmas.records.ClosedLemmas.{name_of-closed, named-closed, value_of-closed}
 use Rattle.rec_edit.proofs.lemmas.records.MemberLemmas.{NoneNamed, selected_plain, selected_once}
@@ -119,7 +121,8 @@ chosen_meant pieces sets wanted chosen (inr (selected, selects, (records, are, s
   chosen_are = same_value chosen (filter_map (slice_get records) selected) same;
 }
 
-removable_meant : (pieces : List Piece) (sets : List Set_) (wanted : Wanted) (force : Bool) (chosen : List (Range ℕ)) → AreRemovable pieces sets wanted force (Ok chosen) → AreMeant pieces sets wanted chosen
+removable_meant : (pieces : List Piece) (sets : List Set_) (wanted : Wanted) (force : Bool) (chosen : List (Range ℕ)) → AreRemovable pieces sets wanted force (Ok chosen)
+    → AreMeant pieces sets wanted chosen
 removable_meant pieces sets wanted force chosen (inl (fault, refused, e)) = absurd (cc)
 removable_meant pieces sets wanted force chosen (inr (found, are, inl (fault, refused, e))) = absurd (cc)
 removable_meant pieces sets wanted force chosen (inr (found, are, inr (unit, allowed, same))) =
@@ -199,7 +202,8 @@ module _ (pieces : List Piece) (schema : Described) (is : IsDescribed pieces sch
         are = meant.are;
         selected = selected;
         made = λ own. [];
-        gives = gives_way pieces (deletion pieces chosen_is) selected (λ own. []) records meant.are all (selected_plain pieces schema wanted.record_type wanted.filter selected records is meant.are meant.selects)
+        gives = gives_way pieces (deletion pieces chosen_is) selected (λ own. []) records meant.are all
+            (selected_plain pieces schema wanted.record_type wanted.filter selected records is meant.are meant.selects)
             (LaysNeatly-deletion pieces chosen_is) refl (Fits-deletion pieces selected records (Cut-AreRecords pieces records meant.are));
         leads = λ before after same. (selected, meant.selects, same);
       } in
@@ -215,7 +219,8 @@ module _ (pieces : List Piece) (schema : Described) (is : IsDescribed pieces sch
         are = meant.are;
         selected = selected;
         made = λ own. [];
-        gives = gives_way pieces (commenting chosen_is) selected (λ own. []) records meant.are all (selected_plain pieces schema wanted.record_type wanted.filter selected records is meant.are meant.selects)
+        gives = gives_way pieces (commenting chosen_is) selected (λ own. []) records meant.are all
+            (selected_plain pieces schema wanted.record_type wanted.filter selected records is meant.are meant.selects)
             (LaysNeatly-commenting chosen_is) refl
             (Fits-inner pieces (commenting chosen_is) selected (λ own. []) records (IsInner-commenting pieces selected records) (Cut-AreRecords pieces records meant.are));
         leads = λ before after same. (selected, meant.selects, same);
@@ -225,12 +230,14 @@ module _ (pieces : List Piece) (schema : Described) (is : IsDescribed pieces sch
   pub done_delete : (force : Bool) (wanted : Wanted) (edit : EditScript) → IsEditScript pieces schema force (delete wanted) (Ok edit) → IsDone pieces schema (delete wanted) edit.script
   done_delete force wanted edit (inl (fault, refused, e)) = absurd (cc)
   done_delete force wanted edit (inr (chosen, are, same)) =
-      subst (IsDone pieces schema (delete wanted)) (sym (script_is pieces chosen (deletion pieces chosen) edit same)) (delete_done wanted chosen (removable_meant pieces schema.sets wanted force chosen are))
+      subst (IsDone pieces schema (delete wanted)) (sym (script_is pieces chosen (deletion pieces chosen) edit same))
+          (delete_done wanted chosen (removable_meant pieces schema.sets wanted force chosen are))
 
   pub done_comment : (force : Bool) (wanted : Wanted) (edit : EditScript) → IsEditScript pieces schema force (comment_out wanted) (Ok edit) → IsDone pieces schema (comment_out wanted) edit.script
   done_comment force wanted edit (inl (fault, refused, e)) = absurd (cc)
   done_comment force wanted edit (inr (chosen, are, same)) =
-      subst (IsDone pieces schema (comment_out wanted)) (sym (script_is pieces chosen (commenting chosen) edit same)) (comment_done wanted chosen (removable_meant pieces schema.sets wanted force chosen are))
+      subst (IsDone pieces schema (comment_out wanted)) (sym (script_is pieces chosen (commenting chosen) edit same))
+          (comment_done wanted chosen (removable_meant pieces schema.sets wanted force chosen are))
 
   set_done : (wanted : Wanted) (list : List ℕ) (action : Action) (items : List Item) (chosen : List (Range ℕ)) → AreItemsFor action list (Ok items) → AreMeant pieces schema.sets wanted chosen
       → IsDone pieces schema (set wanted list action) (script_of (setting action items pieces chosen) pieces)
@@ -259,7 +266,8 @@ module _ (pieces : List Piece) (schema : Described) (is : IsDescribed pieces sch
       } in
       subst (λ c. IsDone pieces schema (set wanted list action) (script_of (setting action items pieces c) pieces)) (sym meant.chosen_are) done
 
-  pub done_set : (force : Bool) (wanted : Wanted) (list : List ℕ) (action : Action) (edit : EditScript) → IsEditScript pieces schema force (set wanted list action) (Ok edit) → IsDone pieces schema (set wanted list action) edit.script
+  pub done_set : (force : Bool) (wanted : Wanted) (list : List ℕ) (action : Action) (edit : EditScript) → IsEditScript pieces schema force (set wanted list action) (Ok edit)
+      → IsDone pieces schema (set wanted list action) edit.script
   done_set force wanted list action edit (inl (fault, refused, e)) = absurd (cc)
   done_set force wanted list action edit (inr (items, items_are, inl (fault, refused, e))) = absurd (cc)
   done_set force wanted list action edit (inr (items, items_are, inr (chosen, are, same))) =

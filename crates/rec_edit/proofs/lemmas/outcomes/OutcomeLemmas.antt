@@ -1,5 +1,6 @@
 -- What an edit makes of a text are the elements of the edited text; and its outcome.
-use Rattle.std.proofs.Common.{◌≡◌, ◌∙◌, ℕ, ◌+◌, ◌≤◌, Bool, true, false, cond, if◌then◌else◌, ◌==◌, List, [], ◌∷◌, ◌++◌, ◌⊎◌, inl, inr, length, map, Some, Result, Ok, Err, refl, sym, ap, ap₂, subst, arith, slice_get, ℤ, filter_map, position, Option, None}
+use Rattle.std.proofs.Common.{◌≡◌, ◌∙◌, ℕ, ◌+◌, ◌≤◌, Bool, true, false, cond, if◌then◌else◌, ◌==◌, List, [], ◌∷◌, ◌++◌, ◌⊎◌, inl, inr, length, map, Some, Result, Ok, Err, refl, sym, ap, ap₂, subst,
+    arith, slice_get, ℤ, filter_map, position, Option, None}
 use Rattle.std.specs.List.{AllByRecursion, list_all, flat_map, AllZip}
 use Rattle.std.specs.declared.ops.Range.{Range}
 use Rattle.std.proofs.lemmas.Bool.{cond_both, and_parts, ne_eqb}
@@ -19,7 +20,7 @@ use Rattle.rec_edit.specs.Script.{Part, Layout, closed, new_pieces, edited_text}
 use Rattle.rec_edit.specs.proving.Parts.{script_of}
 use Rattle.rec_edit.specs.proving.Changes.{hunks_of}
 use Rattle.rec_edit.specs.Rules.{comments_of, is_own, is_picked, taking_out, deletion, commenting, replacement, setting, picked_becomes, added, with_blanks, fields_of}
-use Rattle.rec_edit.specs.Wording.{written, unnumbered, names_of_action, values_of_action, AreItemsFor, pairs_of, IsRecordText, ArePairs, IsNewRecord}
+use Rattle.rec_edit.specs.Wording.{if_writable, unnumbered, names_of_action, values_of_action, AreItemsFor, pairs_of, IsRecordText, ArePairs, IsNewRecord}
 use Rattle.rec_edit.specs.Outcome.{EditScript, AreChosen, AreRemovable, IsLaidOut, IsPutIn, IsEditScript, none_of, IsSoundUnlessForced, IsEditedBy, IsEditOf}
 use Rattle.rec_edit.specs.proving.Edits.{insert_script}
 use Rattle.rec_text.specs.declared.violations.Violation.{Violation}
@@ -44,7 +45,7 @@ use Rattle.rec_text.proofs.lemmas.records.RecordLemmas.{OneListOfRecords-holds}
 use Rattle.rec_sex.proofs.lemmas.lists.FieldListReading.{one_field_list}
 use Rattle.rec_check.proofs.lemmas.laws.CheckLemmas.{one_check}
 use Rattle.rec_check.proofs.lemmas.automatic.NextLemmas.{is_counter-same, one_next, automatic_of-same, one_automatic}
-use Rattle.rec_select.proofs.SelectionLemmas.{one_selection}
+use Rattle.rec_select.proofs.lemmas.selection.SelectionLemmas.{one_selection}
 use Rattle.rec_text.proofs.lemmas.StepLemmas.{AreOne, HasOne, HasOneBut, HasOneBut-of, HasOne-same, AreOne-Then, HasOne-Then, HasOneBut-Then, Then-ok}
 
 -- ---- what an edit makes of a text are the elements of the edited text, and where that is the old text the edit has no hunk
@@ -137,7 +138,8 @@ module _ (pieces : List Piece) (whole : AllByRecursion IsElement pieces) where
 
 -- ---- what an edit has made of its texts
 
-names_split : (items : List Item) (more : List (List ℕ)) → list_all is_plain_name (map (λ item. item.name) items ++ more) ≡ true → AllByRecursion HasPlainName items × (list_all is_plain_name more ≡ true)
+names_split : (items : List Item) (more : List (List ℕ)) → list_all is_plain_name (map (λ item. item.name) items ++ more) ≡ true
+    → AllByRecursion HasPlainName items × (list_all is_plain_name more ≡ true)
 names_split [] more all = (tt, all)
 names_split (item ∷ items) more all =
     let parts = and_parts (is_plain_name item.name) (list_all is_plain_name (map (λ i. i.name) items ++ more)) all in
@@ -165,11 +167,11 @@ pub record AreWritten (action : Action) (items : List Item) : Type 0 where
 pub AreItemsFor-written : (action : Action) (list : List ℕ) (items : List Item) → AreItemsFor action list (Ok items) → AreWritten action items
 AreItemsFor-written action list items are =
     let listed = Then-ok (IsFieldList list)
-    (λ given. Then (λ answer. answer ≡ unnumbered action list given) (λ _ answer. answer ≡ written (map (λ item. item.name) given ++ names_of_action action) (values_of_action action) given))
+    (λ given. Then (λ answer. answer ≡ unnumbered action list given) (λ _ answer. answer ≡ if_writable (map (λ item. item.name) given ++ names_of_action action) (values_of_action action) given))
     items are in
     let given = listed.0 in
     let numbered = Then-ok (λ answer. answer ≡ unnumbered action list given)
-    (λ _ answer. answer ≡ written (map (λ item. item.name) given ++ names_of_action action) (values_of_action action) given) items listed.2 in
+    (λ _ answer. answer ≡ if_writable (map (λ item. item.name) given ++ names_of_action action) (values_of_action action) given) items listed.2 in
     let is = written_by (map (λ item. item.name) given ++ names_of_action action) (values_of_action action) given items _ _ refl refl numbered.2 in
     let split = names_split given (names_of_action action) is.names_are in
     record { plain = subst (AllByRecursion HasPlainName) (sym is.same) split.0; names = split.1; values = is.values_are }
@@ -333,7 +335,8 @@ module _ (pieces : List Piece) (schema same : Described) (alike : AreSameSchemas
       (automatic_of-same schema same place alike.1)
       (AreOne-numbered (IsAutomatic pieces schema place) (IsAutomatic pieces same place) (λ name one other. one_automatic pieces schema same place name one other alike) _)
 
-  AreOne-automatic : (record_type : Option (List ℕ)) (auto : Bool) (names : List (List ℕ)) → AreOne (AreAutomatic pieces schema record_type auto names) (AreAutomatic pieces same record_type auto names)
+  AreOne-automatic : (record_type : Option (List ℕ)) (auto : Bool) (names : List (List ℕ))
+      → AreOne (AreAutomatic pieces schema record_type auto names) (AreAutomatic pieces same record_type auto names)
   AreOne-automatic (Some record_type) true names =
       subst (λ sets. AreOne (numbered_at pieces schema names (position (is_of_type record_type) schema.sets)) (numbered_at pieces same names (position (is_of_type record_type) sets))) alike.0
       (AreOne-numbered_at names (position (is_of_type record_type) schema.sets))
@@ -341,7 +344,8 @@ module _ (pieces : List Piece) (schema same : Described) (alike : AreSameSchemas
   AreOne-automatic None auto names = HasOne-same _
 
 module _ (pieces : List Piece) where
-  AreOne-filled : (rules other : Rules) → AreSameRules rules other → (numbers : List ℕ → List ℤ) (records : List (Range ℕ)) → AreOne (AreFilled pieces rules numbers records) (AreFilled pieces other numbers records)
+  AreOne-filled : (rules other : Rules) → AreSameRules rules other → (numbers : List ℕ → List ℤ) (records : List (Range ℕ))
+      → AreOne (AreFilled pieces rules numbers records) (AreFilled pieces other numbers records)
   AreOne-filled rules other alike numbers [] = HasOne-same _
   AreOne-filled rules other alike numbers (own_range ∷ records) =
       let names : List (List ℕ) = names_of (elements_in pieces own_range) in
@@ -399,7 +403,8 @@ AreOne-edit_script pieces sets rules others force auto_fill alike = AreOne-auto_
 AreOne-step : (pieces : List Piece) (schema same : Described) (force : Bool) (task : Task) → AreSameSchemas (Ok schema) (Ok same)
     → AreOne (IsEditScript pieces schema force task) (IsEditScript pieces same force task)
 AreOne-step pieces schema same force task (sets, rules) =
-    subst (λ ss. AreOne (IsEditScript pieces schema force task) (IsEditScript pieces (ruled ss same.rules) force task)) sets (AreOne-edit_script pieces schema.sets schema.rules same.rules force task rules)
+    subst (λ ss. AreOne (IsEditScript pieces schema force task) (IsEditScript pieces (ruled ss same.rules) force task)) sets
+        (AreOne-edit_script pieces schema.sets schema.rules same.rules force task rules)
 
 pub HasOneBut-sound : (force : Bool) (text : List ℕ) → HasOneBut (IsSoundUnlessForced force text)
 HasOneBut-sound true text = HasOneBut-of _ (HasOne-same _)

@@ -6,7 +6,7 @@ use Rattle.std.proofs.lemmas.List.Folds.{list_all-append}
 use Rattle.rec_text.specs.declared.fault.Fault.{Fault}
 use Rattle.rec_text.specs.declared.fault.Fault.TheVariants.{BadName, BadValue}
 use Rattle.rec_text.specs.Canonical.{is_plain_name, is_foldable}
-use Rattle.rec_edit.specs.Wording.{written}
+use Rattle.rec_edit.specs.Wording.{if_writable}
 
 -- ---- whether names are plain, found in two steps
 
@@ -38,9 +38,9 @@ tested-err true true x fault e = absurd (cc)
 tested-err true false x fault e = let same : fault ≡ BadValue = cc in ap Err same
 tested-err false foldable x fault e = let same : fault ≡ BadName = cc in ap Err same
 
-module _ (names values : List (List ℕ)) {X : Type 0} (x : X) (answer : Answer) (is : answer ≡ written names values tt) where
-  pub written-ok : answer ≡ Ok tt → Ok x ≡ written names values x
-  written-ok e = tested-ok (list_all is_plain_name names) (list_all (is_foldable 32) values) x (sym is ∙ e)
+module _ (names values : List (List ℕ)) {X : Type 0} (x : X) (answer : Answer) (is : answer ≡ if_writable names values tt) where
+  pub if_writable-ok : answer ≡ Ok tt → Ok x ≡ if_writable names values x
+  if_writable-ok e = tested-ok (list_all is_plain_name names) (list_all (is_foldable 32) values) x (sym is ∙ e)
 
-  pub written-err : (fault : Fault) → answer ≡ Err fault → Err fault ≡ written names values x
-  written-err fault e = tested-err (list_all is_plain_name names) (list_all (is_foldable 32) values) x fault (sym is ∙ e)
+  pub if_writable-err : (fault : Fault) → answer ≡ Err fault → Err fault ≡ if_writable names values x
+  if_writable-err fault e = tested-err (list_all is_plain_name names) (list_all (is_foldable 32) values) x fault (sym is ∙ e)

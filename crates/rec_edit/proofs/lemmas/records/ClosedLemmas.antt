@@ -1,5 +1,6 @@
 -- A field has the same name and the same value with and without the newline at its end.
-use Rattle.std.proofs.Common.{◌≡◌, ◌∙◌, ℕ, suc, ◌+◌, ◌<◌, Bool, true, false, IsTrue, ◌==◌, ◌||◌, List, [], ◌∷◌, ◌++◌, Option, Some, None, length, map, take, drop, refl, ap, ap₂, sym, inl, inr, arith, zero, ◌&&◌, not, subst}
+use Rattle.std.proofs.Common.{◌≡◌, ◌∙◌, ℕ, suc, ◌+◌, ◌<◌, Bool, true, false, IsTrue, ◌==◌, ◌||◌, List, [], ◌∷◌, ◌++◌, Option, Some, None, length, map, take, drop, refl, ap, ap₂, sym, inl, inr, arith,
+    zero, ◌&&◌, not, subst}
 use Rattle.std.specs.Prelude.{if◌then◌else◌}
 use Rattle.std.specs.List.{AllByRecursion, list_any, join_with_byte}
 use Rattle.std.specs.Option.{option_map, option_map_or}
@@ -202,7 +203,8 @@ logical_lines-shut before (b ∷ bs) shut whole =
     let inner : is_dangling b bs ≡ false = (or_parts (before == 92 && b == 10 && is_nil bs) (is_dangling b bs) whole).1 in
     let rest : EndShut (logical_lines b bs) = logical_lines-shut b bs (open_tail b bs shut) inner in
     elim (cases_Bool (b == 10 && not (before == 92))) [
-      | inl cut ↦ subst (λ t. EndShut (if t then (b ∷ []) ∷ logical_lines b bs else on_first b (logical_lines b bs))) (sym cut) (end_shut-cons (b ∷ []) (logical_lines b bs) (more_after before b bs cut shut) rest)
+      | inl cut ↦ subst (λ t. EndShut (if t then (b ∷ []) ∷ logical_lines b bs else on_first b (logical_lines b bs))) (sym cut)
+      (end_shut-cons (b ∷ []) (logical_lines b bs) (more_after before b bs cut shut) rest)
       | inr on ↦ subst (λ t. EndShut (if t then (b ∷ []) ∷ logical_lines b bs else on_first b (logical_lines b bs))) (sym on) (on_first-shut b bs shut inner rest)
     ]
 
@@ -268,7 +270,8 @@ not_not : (b : Bool) → not b ≡ true → b ≡ false
 not_not true e = absurd (false≢true e)
 not_not false e = refl
 
-value_of-newline : (kind : Kind) (bytes : List ℕ) → IsTrue (is_element kind bytes) → ends_newline bytes ≡ false → value_of (record { kind = kind; bytes = bytes ++ 10 ∷ [] }) ≡ value_of (record { kind = kind; bytes = bytes })
+value_of-newline : (kind : Kind) (bytes : List ℕ) → IsTrue (is_element kind bytes) → ends_newline bytes ≡ false
+    → value_of (record { kind = kind; bytes = bytes ++ 10 ∷ [] }) ≡ value_of (record { kind = kind; bytes = bytes })
 value_of-newline Blank bytes is shut = refl
 value_of-newline Comment bytes is shut = refl
 value_of-newline Field bytes is shut =

@@ -17,7 +17,8 @@ use Rattle.rec_text.proofs.lemmas.ListLemmas.{AllByRecursion-weaker, slice_get-d
 use Rattle.rec_text.proofs.lemmas.records.RangeLemmas.{LiesIn-cases, LiesIn-low, LiesIn-nil}
 use Rattle.rec_text.proofs.lemmas.records.RecordLemmas.{AreRecords-all_narrowed, field_is_full}
 use Rattle.rec_text.proofs.lemmas.records.RunLemmas.{AreRuns-runs_to}
-use Rattle.rec_edit.proofs.lemmas.records.TypedRecordLemmas.{kept, up_to_field, between_fields-up_to, Spaced, closes, with_own, own_of, own_of-Spaced, IsTurned, AreTurned, from_field-map, up_to_field-map, type_of-none, between_fields-fails}
+use Rattle.rec_edit.proofs.lemmas.records.TypedRecordLemmas.{kept, up_to_field, between_fields-up_to, Spaced, closes, with_own, own_of, own_of-Spaced, IsTurned, AreTurned, from_field-map,
+    up_to_field-map, type_of-none, between_fields-fails}
 use Rattle.rec_edit.proofs.lemmas.scripts.LaidLemmas.{laid_from, laid_from-append, closed-blank, closed-field}
 
 -- ---- a text, cut at its records: what stands between them, by index
@@ -280,7 +281,8 @@ module _ (pieces : List Piece) (layout : Layout) (selected : List ℕ) (made : L
       ap (laid_from layout n) (drop-part pieces n start low (omega arith)) ∙ laid_from-append layout n gap (drop start pieces)
       ∙ ap (λ m. laid_from layout n gap ++ laid_from layout m (drop start pieces)) to_start ∙ ap (λ l. laid_from layout n gap ++ l) second
 
-  pub Spaced-Fits : (before apart : Bool) (n i : ℕ) (records : List (Range ℕ)) → Cut pieces before n records → Fits apart n i records → Spaced apart (laid_from layout n (drop n pieces)) (map laid_at records)
+  pub Spaced-Fits : (before apart : Bool) (n i : ℕ) (records : List (Range ℕ)) → Cut pieces before n records → Fits apart n i records
+      → Spaced apart (laid_from layout n (drop n pieces)) (map laid_at records)
   Spaced-Fits before apart n i [] cut fits = fits
   Spaced-Fits before apart n i (r ∷ records) (low, some, within, none, between, own, more) (later, no_field, blank, laid, gone, rest) = (
     laid_from layout n (drop n (take r.start pieces)),
@@ -371,7 +373,8 @@ all_begin pieces apart n (r ∷ records) (low, some, within, none, between, own,
 pub all_end : (n m : ℕ) (records : List (Range ℕ)) → n ≤ m → AllByRecursion (EndsBy n) records → AllByRecursion (EndsBy m) records
 all_end n m records le all = AllByRecursion-weaker (EndsBy n) (EndsBy m) (λ q ends. (ends.0, omega (arith, ends.0, ends.1))) records all
 
-left_out : (i n m : ℕ) (before following : List (Range ℕ)) → n ≤ i → i < m → AllByRecursion (EndsBy n) before → AllByRecursion (BeginsFrom m) following → AllByRecursion (LeavesOut i) (before ++ following)
+left_out : (i n m : ℕ) (before following : List (Range ℕ)) → n ≤ i → i < m → AllByRecursion (EndsBy n) before → AllByRecursion (BeginsFrom m) following
+    → AllByRecursion (LeavesOut i) (before ++ following)
 left_out i n m before following low high ended begun =
     AllByRecursion-append (LeavesOut i) before following
     (AllByRecursion-weaker (EndsBy n) (LeavesOut i) (λ q ends. (ends.0, inr (omega (arith, ends.1)))) before ended)
@@ -414,7 +417,8 @@ module _ (pieces : List Piece) (layout : Layout) (selected : List ℕ) (made : L
         inner.outside k (subst (AllByRecursion (LeavesOut k)) (sym parts)
         (AllByRecursion-weaker (EndsBy n) (LeavesOut k) (λ q ends. (ends.0, inr (omega (arith, ends.1)))) before ended)))
 
-    laid_so : (before : List (Range ℕ)) (r : Range ℕ) (following : List (Range ℕ)) → StandsBetween before r following → IsLaid pieces layout selected made (length before) (elements_in pieces r) (laid_at pieces layout selected made r)
+    laid_so : (before : List (Range ℕ)) (r : Range ℕ) (following : List (Range ℕ)) → StandsBetween before r following
+        → IsLaid pieces layout selected made (length before) (elements_in pieces r) (laid_at pieces layout selected made r)
     laid_so before r following stands =
         let stays : list_any (λ k. k == length before) selected ≡ false → laid_at pieces layout selected made r ≡ map closed (elements_in pieces r) = λ leaves.
         laid_from-kept layout r.start (elements_in pieces r) (λ k low high.

@@ -1,5 +1,6 @@
 -- The records that a selection takes, their ranges, and the sets that they belong to.
-use Rattle.std.proofs.Common.{◌≡◌, ◌∙◌, ℕ, zero, suc, ◌<◌, ◌≤◌, Bool, true, false, ◌==◌, ◌&&◌, ◌||◌, List, [], ◌∷◌, ◌++◌, Option, Some, None, length, get_or, refl, ap, ap₂, sym, subst, arith, filter_map, slice_get, ◌+◌, take, drop, ◌-◌, Ok, replicate, inl, inr}
+use Rattle.std.proofs.Common.{◌≡◌, ◌∙◌, ℕ, zero, suc, ◌<◌, ◌≤◌, Bool, true, false, ◌==◌, ◌&&◌, ◌||◌, List, [], ◌∷◌, ◌++◌, Option, Some, None, length, get_or, refl, ap, ap₂, sym, subst, arith,
+    filter_map, slice_get, ◌+◌, take, drop, ◌-◌, Ok, replicate, inl, inr}
 use Rattle.std.specs.Prelude.{AllPairs, flat_map, if◌then◌else◌, Contains, find, nat_lt}
 use Rattle.std.specs.List.{AllByRecursion, list_any, cons_option}
 use Rattle.std.specs.Option.{option_map_or, is_some}
@@ -20,7 +21,7 @@ use Rattle.rec_check.specs.declared.set.Set_.{Set_}
 use Rattle.rec_check.specs.Schemas.{Described, IsDescribed}
 use Rattle.rec_check.specs.Sets.{is_of_type, named_in, AreFrom, BeginsAt}
 use Rattle.rec_select.specs.Selection.{Filter, IsSelection}
-use Rattle.rec_select.proofs.SelectionLemmas.{of_set_for}
+use Rattle.rec_select.proofs.lemmas.selection.SelectionLemmas.{of_set_for}
 use Rattle.rec_edit.specs.Insertions.{last_of}
 use Rattle.rec_text.proofs.lemmas.ListLemmas.{AllByRecursion-get_or, AllByRecursion-weaker, Contains-head, Contains-later, same_bytes}
 use Rattle.rec_text.proofs.lemmas.records.RecordLemmas.{OneListOfRecords-holds, one_list_of_records}
@@ -302,7 +303,8 @@ NoneNamed selected i (named ∷ types) = (list_any (λ k. k == i) selected ≡ t
 some_same : (a b : Named) → ◌≡◌ {A = Option Named} (Some a) (Some b) → a ≡ b
 some_same a b e = cc
 
-none_named : (selected : List ℕ) (i : ℕ) (types : List Named) → ((j : ℕ) → j < length types → list_any (λ k. k == i + j) selected ≡ true → slice_get types j ≡ Some nothing) → NoneNamed selected i types
+none_named : (selected : List ℕ) (i : ℕ) (types : List Named) → ((j : ℕ) → j < length types → list_any (λ k. k == i + j) selected ≡ true → slice_get types j ≡ Some nothing)
+    → NoneNamed selected i types
 none_named selected i [] plain = tt
 none_named selected i (named ∷ types) plain =
     let here : i + 0 ≡ i = omega arith in (
@@ -312,7 +314,8 @@ none_named selected i (named ∷ types) plain =
           plain (suc j) (omega arith) (ap (λ n. list_any (λ k. k == n) selected) there ∙ takes)),
     )
 
-pub selected_plain : (pieces : List Piece) (schema : Described) (record_type : Option (List ℕ)) (wanted : Filter) (selected : List ℕ) (records : List (Range ℕ)) → IsDescribed pieces schema → AreRecords pieces records
+pub selected_plain : (pieces : List Piece) (schema : Described) (record_type : Option (List ℕ)) (wanted : Filter) (selected : List ℕ) (records : List (Range ℕ)) → IsDescribed pieces schema
+    → AreRecords pieces records
     → IsSelection pieces schema.sets record_type wanted (Ok selected) → NoneNamed selected 0 (types_of pieces records)
 selected_plain pieces schema record_type wanted selected records is are (s, found, taken) =
     let same : is.records ≡ records = one_list_of_records pieces is.records records is.are are in
@@ -325,7 +328,8 @@ selected_plain pieces schema record_type wanted selected records is are (s, foun
     plain j member.0 member.1) in
     subst (λ rs. NoneNamed selected 0 (types_of pieces rs)) same all
 
-pub selected_once : (pieces : List Piece) (sets : List Set_) (record_type : Option (List ℕ)) (wanted : Filter) (selected : List ℕ) → IsSelection pieces sets record_type wanted (Ok selected) → AreOnce selected
+pub selected_once : (pieces : List Piece) (sets : List Set_) (record_type : Option (List ℕ)) (wanted : Filter) (selected : List ℕ) → IsSelection pieces sets record_type wanted (Ok selected)
+    → AreOnce selected
 selected_once pieces sets record_type wanted selected (s, found, taken) = AreOnce-ascending selected taken.ascending
 
 -- ---- the sets of a text by the types of its records: where each ends, and of which type a record after its last one is

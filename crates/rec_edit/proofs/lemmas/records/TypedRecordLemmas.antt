@@ -176,7 +176,8 @@ pub Spaced-shut : (pieces : List Piece) (mades : List (List Piece)) → Spaced t
 Spaced-shut pieces [] spaced = open_of-none pieces spaced
 Spaced-shut pieces (made ∷ mades) (gap, rest, later, parts, none, apart, full, gone, more) = ap open_of parts ∙ open_of-gap gap (made ++ rest) none (apart refl)
 
-made_before : (later : Bool) (made rest : List Piece) (mades : List (List Piece)) → own_of rest ≡ closes mades → list_any is_blank_piece made ≡ false → (later ≡ false → made ≡ []) → Spaced later rest mades
+made_before : (later : Bool) (made rest : List Piece) (mades : List (List Piece)) → own_of rest ≡ closes mades → list_any is_blank_piece made ≡ false → (later ≡ false → made ≡ [])
+    → Spaced later rest mades
     → own_of (made ++ rest) ≡ closes (made ∷ mades)
 made_before true made rest mades same full gone spaced =
     own_of-full made rest full (Spaced-shut rest mades spaced) ∙ ap (with_own (between_fields made)) same
@@ -322,7 +323,8 @@ module _ (selected : List ℕ) (made : List Piece → List Piece) where
 
   -- a typed record of what is left of a record, before others
   typed_record_before : (record_type : Option (List ℕ)) (own : List Piece) (owns : List (List Piece)) (all_typed : List TypedRecord) → type_of own ≡ None → all_typed ≡ typed_records record_type owns
-      → cons_option (elim own as (λ x. Option TypedRecord) [ [] ↦ None | piece ∷ pieces ↦ Some (record { record_type = record_type; own = piece ∷ pieces }) ]) all_typed ≡ typed_records record_type (with_own own owns)
+      → cons_option (elim own as (λ x. Option TypedRecord) [ [] ↦ None | piece ∷ pieces ↦ Some (record { record_type = record_type; own = piece ∷ pieces }) ]) all_typed
+      ≡ typed_records record_type (with_own own owns)
   typed_record_before record_type [] owns all_typed none same = same
   typed_record_before record_type (piece ∷ own) owns all_typed none same =
       let kept_type : type_after record_type (piece ∷ own) ≡ record_type = type_after-none record_type (piece ∷ own) none in
@@ -330,8 +332,10 @@ module _ (selected : List ℕ) (made : List Piece → List Piece) where
       ∙ ap (λ k. record { record_type = k; own = piece ∷ own } ∷ typed_records k owns) (sym kept_type)
 
   typed_record-same : (record_type : Option (List ℕ)) (own new : List Piece) → between_fields new ≡ between_fields own
-      → ◌≡◌ {A = Option TypedRecord} (typed_record record_type own) (elim (between_fields new) as (λ x. Option TypedRecord) [ [] ↦ None | piece ∷ pieces ↦ Some (record { record_type = record_type; own = piece ∷ pieces }) ])
-  typed_record-same record_type own new same = ap (λ l. elim l as (λ x. Option TypedRecord) [ [] ↦ None | piece ∷ pieces ↦ Some (record { record_type = record_type; own = piece ∷ pieces }) ]) (sym same)
+      → ◌≡◌ {A = Option TypedRecord} (typed_record record_type own) (elim (between_fields new) as (λ x. Option TypedRecord) [ [] ↦ None
+          | piece ∷ pieces ↦ Some (record { record_type = record_type; own = piece ∷ pieces }) ])
+  typed_record-same record_type own new same = ap (λ l. elim l as (λ x. Option TypedRecord) [ [] ↦ None | piece ∷ pieces ↦ Some (record { record_type = record_type; own = piece ∷ pieces }) ])
+      (sym same)
 
   with_own-some : (own new : List Piece) (owns : List (List Piece)) → 0 < length own → new ≡ own → with_own new owns ≡ own ∷ owns
   with_own-some [] new owns some same = absurd (omega arith)
@@ -343,7 +347,8 @@ module _ (selected : List ℕ) (made : List Piece → List Piece) where
   gives-other : (i : ℕ) (typed : TypedRecord) → list_any (λ k. k == i) selected ≡ false → gives (i, typed) ≡ Some typed
   gives-other i typed leaves = ap (λ b. if b then typed_record typed.record_type (made typed.own) else Some typed) leaves
 
-  remade_from : (i : ℕ) (record_type : Option (List ℕ)) (owns news : List (List Piece)) → AreTurned i owns news → filter_map gives (enumerate_from i (typed_records record_type owns)) ≡ typed_records record_type (closes news)
+  remade_from : (i : ℕ) (record_type : Option (List ℕ)) (owns news : List (List Piece)) → AreTurned i owns news
+      → filter_map gives (enumerate_from i (typed_records record_type owns)) ≡ typed_records record_type (closes news)
   remade_from i record_type [] [] turned = refl
   remade_from i record_type [] (new ∷ news) turned = absurd turned
   remade_from i record_type (own ∷ owns) [] turned = absurd turned

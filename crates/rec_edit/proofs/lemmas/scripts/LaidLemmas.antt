@@ -1,5 +1,6 @@
 -- The elements that a layout makes of those of a text, and the newlines at their ends.
-use Rattle.std.proofs.Common.{◌≡◌, ◌∙◌, ℕ, suc, ◌+◌, Bool, true, false, IsTrue, List, [], ◌∷◌, ◌++◌, not, length, map, refl, ap, ap₂, sym, subst, inl, inr, arith, if◌then◌else◌, zero, ◌<◌, eqb, filter, drop, take, flat_map, Option, None, Some, ◌==◌}
+use Rattle.std.proofs.Common.{◌≡◌, ◌∙◌, ℕ, suc, ◌+◌, Bool, true, false, IsTrue, List, [], ◌∷◌, ◌++◌, not, length, map, refl, ap, ap₂, sym, subst, inl, inr, arith, if◌then◌else◌, zero, ◌<◌, eqb,
+    filter, drop, take, flat_map, Option, None, Some, ◌==◌}
 use Rattle.std.specs.List.{AllByRecursion}
 use Rattle.std.proofs.lemmas.Bool.{cases_Bool, false≢true, and_parts, cond_both, cases_lt}
 use Rattle.std.proofs.lemmas.List.{append_assoc, append-nil, map-append, get_or_past, length-take}
@@ -31,7 +32,8 @@ abbrev pub laid_from : Layout → ℕ → List Piece → List Piece
 laid_from layout i [] = []
 laid_from layout i (piece ∷ pieces) = layout.becomes i (closed piece) ++ (layout.put (i + 1) ++ laid_from layout (i + 1) pieces)
 
-pub laid_from-append : (layout : Layout) (i : ℕ) (prefix following : List Piece) → laid_from layout i (prefix ++ following) ≡ laid_from layout i prefix ++ laid_from layout (i + length prefix) following
+pub laid_from-append : (layout : Layout) (i : ℕ) (prefix following : List Piece)
+    → laid_from layout i (prefix ++ following) ≡ laid_from layout i prefix ++ laid_from layout (i + length prefix) following
 laid_from-append layout i [] following = ap (λ n. laid_from layout n following) (let e : i ≡ i + 0 = omega arith in e)
 laid_from-append layout i (piece ∷ prefix) following =
     let next : i + 1 + length prefix ≡ i + suc (length prefix) = omega arith in
@@ -174,7 +176,8 @@ one_reopens layout i piece neatly lacks =
     map-closed-opened (layout.becomes i (closed piece)) (neatly.neat i (closed piece) (Neat-closed piece other))
     ∙ sym (map-closed (layout.becomes i (closed piece)) (neatly.ends i (closed piece) (Ends-closed piece)))
 
-Reopens-changing : (piece : Piece) (new : List Piece) (parts : List Part) → Reopens (record { old = piece ∷ []; new = new }) → AllByRecursion Reopens parts → AllByRecursion Reopens (changing false piece new parts)
+Reopens-changing : (piece : Piece) (new : List Piece) (parts : List Part) → Reopens (record { old = piece ∷ []; new = new }) → AllByRecursion Reopens parts
+    → AllByRecursion Reopens (changing false piece new parts)
 Reopens-changing piece new [] one all = (one, tt)
 Reopens-changing piece new (next ∷ parts) one all = (one, all)
 

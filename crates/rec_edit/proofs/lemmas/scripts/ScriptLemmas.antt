@@ -133,7 +133,8 @@ Cuts-real_changes place (hunk ∷ hunks) pieces after (kept, old, following, res
           let P : List Piece → Type 0 = λ p. Cuts place (real_changes hunks) p (text_of gone ++ rest) in
           let Q : List ℕ → Type 0 = Cuts place (real_changes hunks) pieces in
           let before' : gone ++ following ≡ pieces = append_assoc kept old following ∙ sym before_is in
-          let after' : text_of gone ++ rest ≡ after = ap (λ t. t ++ rest) gone_text ∙ append_assoc (text_of kept) (text_of old) rest ∙ ap (λ t. text_of kept ++ (t ++ rest)) (sym old_new) ∙ sym after_is in
+          let after' : text_of gone ++ rest ≡ after = ap (λ t. t ++ rest) gone_text ∙ append_assoc (text_of kept) (text_of old) rest ∙ ap (λ t. text_of kept ++ (t ++ rest)) (sym old_new)
+              ∙ sym after_is in
           rw same (subst Q after' (subst P before' (Cuts-keep place gone (real_changes hunks) following rest (subst at_place (sym place') more))))
       | inr changes ↦ rw changes (kept, old, following, rest, place_is, before_is, old_is, after_is, more)
     ]
@@ -258,7 +259,8 @@ joining-joining hunk next (third ∷ hunks) touch =
     let ends : hunk.at + length (hunk.old ++ next.old) ≡ next.at + length next.old = omega (arith, length-append hunk.old next.old) in
     let same : (hunk.at + length (hunk.old ++ next.old) == third.at) ≡ (next.at + length next.old == third.at) = ap (λ n. n == third.at) ends in
     elim (cases_Bool (next.at + length next.old == third.at)) [
-      | inl touches ↦ rw (touches, test, same, touches) (ap (λ h. h ∷ hunks) (hunk_is hunk.at _ _ _ _ (sym (append_assoc hunk.old next.old third.old)) (sym (append_assoc hunk.new next.new third.new))))
+      | inl touches ↦ rw (touches, test, same, touches) (ap (λ h. h ∷ hunks)
+          (hunk_is hunk.at _ _ _ _ (sym (append_assoc hunk.old next.old third.old)) (sym (append_assoc hunk.new next.new third.new))))
       | inr apart ↦ rw (apart, test, same, apart) refl
     ]
 

@@ -1,5 +1,6 @@
 -- A layout has one script: the single parts of a text are cut into tied runs in one way, which is that of the code.
-use Rattle.std.proofs.Common.{◌≡◌, ◌∙◌, ℕ, ◌+◌, Bool, true, false, List, [], ◌∷◌, ◌++◌, ◌⊎◌, inl, inr, length, map, flat_map, refl, ap, ap₂, sym, subst, arith, append_assoc, append-nil, Option, Result, Ok}
+use Rattle.std.proofs.Common.{◌≡◌, ◌∙◌, ℕ, ◌+◌, Bool, true, false, List, [], ◌∷◌, ◌++◌, ◌⊎◌, inl, inr, length, map, flat_map, refl, ap, ap₂, sym, subst, arith, append_assoc, append-nil, Option,
+    Result, Ok}
 use Rattle.std.specs.List.{AllByRecursion, enumerate_from}
 use Rattle.std.specs.Prelude.{count_by}
 use Rattle.std.specs.declared.ops.Range.{Range}

@@ -1,5 +1,5 @@
 use Rattle.std.proofs.Common.{length, ap, sym, subst}
-use Rattle.std.proofs.lemmas.Result.{err_from_is_err_and}
+use Rattle.core.proofs.result.Match.{err_is}
 use Rattle.rec_check.specs.Stored.{described}
 use Rattle.rec_edit.specs.proving.Drafts.{AreRanges}
 use Rattle.rec_edit.specs.proving.Filling.{filled_of, ranges_of}
@@ -8,8 +8,7 @@ use Rattle.rec_edit.proofs.outcome.auto_fill.Goals as goal
 
 pub returns-in_err-filled : goal.returns-in_err-filled
 returns-in_err-filled c = λ force.
-    let kept = err_from_is_err_and c.from_residual.result c.from_residual.ensures.1 in
-    rw (kept.1, kept.2) (auto_fill-refused c.args.file.now.pieces (described c.args.file.now.schema) force c.in_err-filled.field-0.0 c.in_err-filled.ensures.refused)
+    rw (err_is _ _ c.from_residual.ensures.1) (auto_fill-refused c.args.file.now.pieces (described c.args.file.now.schema) force c.in_err-filled.field-0.0 c.in_err-filled.ensures.refused)
 
 pub filled_up-requires : goal.filled_up-requires
 filled_up-requires c =
@@ -17,5 +16,6 @@ filled_up-requires c =
 
 pub returns : goal.returns
 returns c = λ force.
-    auto_fill-made c.args.file.now.pieces (described c.args.file.now.schema) force (filled_of c.in_ok-filled.filled.items) (filled_of c.deref.result.now) (ranges_of (filled_of c.deref.result.now)) c.in_ok-filled_up.field-0
-    c.database.ensures.together c.in_ok-filled.ensures.filled (ap filled_of c.deref.ensures.value) (ap (λ f. ranges_of (filled_of f)) c.deref.ensures.value) c.in_ok-filled_up.ensures
+    auto_fill-made c.args.file.now.pieces (described c.args.file.now.schema) force (filled_of c.in_ok-filled.filled.items) (filled_of c.deref.result.now)
+        (ranges_of (filled_of c.deref.result.now)) c.in_ok-filled_up.field-0
+    c.in_ok-filled.ensures.together c.in_ok-filled.ensures.filled (ap filled_of c.deref.ensures.value) (ap (λ f. ranges_of (filled_of f)) c.deref.ensures.value) c.in_ok-filled_up.ensures

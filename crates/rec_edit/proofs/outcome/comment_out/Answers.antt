@@ -1,4 +1,4 @@
-use Rattle.std.proofs.lemmas.Result.{err_from_is_err_and}
+use Rattle.core.proofs.result.Match.{err_is}
 use Rattle.rec_check.specs.Stored.{described}
 use Rattle.rec_edit.specs.Task.{wanted_by}
 use Rattle.rec_edit.proofs.lemmas.outcomes.EditLemmas.{comment_out-refused, comment_out-made}
@@ -7,12 +7,13 @@ use Rattle.rec_edit.proofs.outcome.comment_out.Goals as goal
 
 pub returns-in_err-chosen : goal.returns-in_err-chosen
 returns-in_err-chosen c =
-    let kept = err_from_is_err_and c.from_residual.result c.from_residual.ensures.1 in
-    rw (kept.1, kept.2) (comment_out-refused c.args.file.now.pieces (described c.args.file.now.schema) c.args.force (wanted_by c.args.selection.now) c.in_err-chosen.field-0.0 c.in_err-chosen.ensures.refused)
+    rw (err_is _ _ c.from_residual.ensures.1)
+    (comment_out-refused c.args.file.now.pieces (described c.args.file.now.schema) c.args.force (wanted_by c.args.selection.now) c.in_err-chosen.field-0.0 c.in_err-chosen.ensures.refused)
 
 pub returns : goal.returns
 returns c =
-    comment_out-made c.args.file.now.pieces (described c.args.file.now.schema) c.args.force (wanted_by c.args.selection.now) c.in_ok-chosen.chosen.items c.deref-2.result.now c.deref.result.now _ _ c.in_ok-carried_out.field-0
+    comment_out-made c.args.file.now.pieces (described c.args.file.now.schema) c.args.force
+        (wanted_by c.args.selection.now) c.in_ok-chosen.chosen.items c.deref-2.result.now c.deref.result.now _ _ c.in_ok-carried_out.field-0
     c.in_ok-chosen.ensures.found c.deref.ensures.value c.in_ok-layout.ensures.ranges c.in_ok-layout.ensures.comments c.deref-2.ensures.value c.in_ok-carried_out.ensures
 
 pub carried_out-requires-clause-lines : goal.carried_out-requires-clause-lines

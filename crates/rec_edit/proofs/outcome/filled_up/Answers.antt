@@ -21,4 +21,5 @@ returns c =
     let pieces = c.args.file.now.pieces in
     let ranges = ranges_of (filled_of c.args.filled.now) in
     subst (λ filled. IfOk c.carried_out.result (λ edited. edited ≡ edited_by (laid_script pieces ranges (filling filled)))) c.in_ok-layout.ensures
-    (subst (λ given. IfOk c.carried_out.result (λ edited. edited ≡ edited_by (laid_script pieces given (filling c.in_ok-layout.layout)))) (c.deref.ensures.value ∙ c.in_ok-ranges.ensures) c.carried_out.ensures)
+    (subst (λ given. IfOk c.carried_out.result (λ edited. edited ≡ edited_by (laid_script pieces given (filling c.in_ok-layout.layout)))) (c.deref.ensures.value
+        ∙ c.in_ok-ranges.ensures) c.carried_out.ensures)

@@ -1,5 +1,5 @@
 use Rattle.std.proofs.Common.{ℕ, List, map, Err, subst}
-use Rattle.std.proofs.lemmas.Result.{err_from_is_err_and}
+use Rattle.core.proofs.result.Match.{err_is}
 use Rattle.rec_text.specs.Faults.{IsMemoryOr}
 use Rattle.rec_check.specs.Stored.{described}
 use Rattle.rec_edit.specs.Task.{Pair, fresh_by}
@@ -11,14 +11,16 @@ use Rattle.rec_edit.proofs.outcome.insert.Goals as goal
 use Rattle.rec_edit.proofs.outcome.insert.Goals.{In_ok-layout}
 
 -- the fields of the new record, and the automatic ones before them
-given : (c : In_ok-layout) → IsAutomaticText c.args.file.now.pieces (described c.args.file.now.schema) c.args.record_type.now c.args.auto (map (λ pair. pair.name) c.in_ok-pairs.pairs.items) c.in_ok-automatic.automatic.items
+given : (c : In_ok-layout) → IsAutomaticText c.args.file.now.pieces (described c.args.file.now.schema) c.args.record_type.now c.args.auto
+    (map (λ pair. pair.name) c.in_ok-pairs.pairs.items) c.in_ok-automatic.automatic.items
 given c =
     let P : List Pair → Type 0 = λ pairs.
     IsAutomaticText c.args.file.now.pieces (described c.args.file.now.schema) c.args.record_type.now c.args.auto (map (λ pair. pair.name) pairs) c.in_ok-automatic.automatic.items in
     subst P c.deref.ensures.value c.in_ok-automatic.ensures.found
 
 put : (c : In_ok-layout)
-    → IsRecordPut c.args.file.now.pieces c.args.file.now.schema.sets.items c.args.record_type.now c.in_ok-automatic.automatic.items c.in_ok-pairs.pairs.items c.in_ok-layout.layout.place c.in_ok-layout.layout.text.items
+    → IsRecordPut c.args.file.now.pieces c.args.file.now.schema.sets.items c.args.record_type.now c.in_ok-automatic.automatic.items c.in_ok-pairs.pairs.items c.in_ok-layout.layout.place
+    c.in_ok-layout.layout.text.items
 put c =
     let P : List ℕ → List Pair → Type 0 = λ automatic pairs.
     IsRecordPut c.args.file.now.pieces c.args.file.now.schema.sets.items c.args.record_type.now automatic pairs c.in_ok-layout.layout.place c.in_ok-layout.layout.text.items in
@@ -27,17 +29,18 @@ put c =
 
 pub returns-in_err-pairs : goal.returns-in_err-pairs
 returns-in_err-pairs c = λ force.
-    let kept = err_from_is_err_and c.from_residual.result c.from_residual.ensures.1 in
-    rw (kept.1, kept.2)
-    (insert-no_record c.args.file.now.pieces (described c.args.file.now.schema) c.args.record_type.now (fresh_by c.args.fresh.now) c.args.auto force c.in_err-pairs.field-0.0 c.in_err-pairs.ensures.refused)
+    rw (err_is _ _ c.from_residual.ensures.1)
+    (insert-no_record c.args.file.now.pieces (described c.args.file.now.schema) c.args.record_type.now
+        (fresh_by c.args.fresh.now) c.args.auto force c.in_err-pairs.field-0.0 c.in_err-pairs.ensures.refused)
 
 pub returns-in_err-automatic : goal.returns-in_err-automatic
 returns-in_err-automatic c = λ force.
-    let kept = err_from_is_err_and c.from_residual-in_err-automatic.result c.from_residual-in_err-automatic.ensures.1 in
     let P : List Pair → Type 0 = λ pairs.
-    IsMemoryOr c.in_err-automatic.field-0.0 (AreAutomatic c.args.file.now.pieces (described c.args.file.now.schema) c.args.record_type.now c.args.auto (map (λ pair. pair.name) pairs) (Err c.in_err-automatic.field-0.0)) in
-    rw (kept.1, kept.2)
-    (insert-no_number c.args.file.now.pieces (described c.args.file.now.schema) c.args.record_type.now (fresh_by c.args.fresh.now) c.args.auto c.in_ok-pairs.pairs.items c.in_ok-pairs.ensures.found force
+    IsMemoryOr c.in_err-automatic.field-0.0 (AreAutomatic c.args.file.now.pieces (described c.args.file.now.schema) c.args.record_type.now c.args.auto (map (λ pair. pair.name) pairs)
+        (Err c.in_err-automatic.field-0.0)) in
+    rw (err_is _ _ c.from_residual-in_err-automatic.ensures.1)
+    (insert-no_number c.args.file.now.pieces (described c.args.file.now.schema) c.args.record_type.now
+        (fresh_by c.args.fresh.now) c.args.auto c.in_ok-pairs.pairs.items c.in_ok-pairs.ensures.found force
     c.in_err-automatic.field-0.0 (subst P c.deref.ensures.value c.in_err-automatic.ensures.refused))
 
 pub carried_out_on-requires : goal.carried_out_on-requires

@@ -1,4 +1,4 @@
-use Rattle.std.proofs.lemmas.Result.{err_from_is_err_and}
+use Rattle.core.proofs.result.Match.{err_is}
 use Rattle.rec_check.specs.Stored.{described}
 use Rattle.rec_edit.specs.Task.{wanted_by}
 use Rattle.rec_edit.proofs.lemmas.outcomes.EditLemmas.{set-no_items, set-none_chosen, set-made}
@@ -7,13 +7,13 @@ use Rattle.rec_edit.proofs.outcome.set.Goals as goal
 
 pub returns-in_err-items : goal.returns-in_err-items
 returns-in_err-items c = λ force.
-    let kept = err_from_is_err_and c.from_residual.result c.from_residual.ensures.1 in
-    rw (kept.1, kept.2) (set-no_items c.args.file.now.pieces (described c.args.file.now.schema) force (wanted_by c.args.selection.now) c.args.list.now c.args.action.now c.in_err-items.field-0.0 c.in_err-items.ensures)
+    rw (err_is _ _ c.from_residual.ensures.1)
+    (set-no_items c.args.file.now.pieces (described c.args.file.now.schema) force (wanted_by c.args.selection.now) c.args.list.now c.args.action.now c.in_err-items.field-0.0 c.in_err-items.ensures)
 
 pub returns-in_err-chosen : goal.returns-in_err-chosen
 returns-in_err-chosen c = λ force.
-    let kept = err_from_is_err_and c.from_residual-in_err-chosen.result c.from_residual-in_err-chosen.ensures.1 in
-    rw (kept.1, kept.2) (set-none_chosen c.args.file.now.pieces (described c.args.file.now.schema) force (wanted_by c.args.selection.now) c.args.list.now c.args.action.now _ c.in_err-chosen.field-0.0
+    rw (err_is _ _ c.from_residual-in_err-chosen.ensures.1)
+    (set-none_chosen c.args.file.now.pieces (described c.args.file.now.schema) force (wanted_by c.args.selection.now) c.args.list.now c.args.action.now _ c.in_err-chosen.field-0.0
     c.in_ok-items.ensures c.in_err-chosen.ensures.refused)
 
 pub carried_out-requires-clause-lines : goal.carried_out-requires-clause-lines
@@ -21,5 +21,7 @@ carried_out-requires-clause-lines c = LaysLines-setting c.in_ok-layout.layout.ac
 
 pub returns : goal.returns
 returns c = λ force.
-    set-made c.args.file.now.pieces (described c.args.file.now.schema) force (wanted_by c.args.selection.now) c.args.list.now c.args.action.now c.in_ok-items.items c.in_ok-chosen.chosen.items c.deref-2.result.now c.deref.result.now
-    c.in_ok-layout.layout c.in_ok-carried_out.field-0 c.in_ok-items.ensures c.in_ok-chosen.ensures.found c.in_ok-layout.ensures c.deref.ensures.value c.deref-2.ensures.value c.in_ok-carried_out.ensures
+    set-made c.args.file.now.pieces (described c.args.file.now.schema) force (wanted_by c.args.selection.now) c.args.list.now c.args.action.now c.in_ok-items.items c.in_ok-chosen.chosen.items
+        c.deref-2.result.now c.deref.result.now
+    c.in_ok-layout.layout c.in_ok-carried_out.field-0 c.in_ok-items.ensures c.in_ok-chosen.ensures.found c.in_ok-layout.ensures c.deref.ensures.value c.deref-2.ensures.value
+        c.in_ok-carried_out.ensures

@@ -29,4 +29,5 @@ returns-else-is_end g c =
     let size : vec_len c.put.new.out ≢ 0 = eqb-false _ 0 (sym c.is_empty-is_end.ensures ∙ c.if-is_end.false) in
     let some : length c.put.new.out.items ≢ 0 = omega (arith, size) in
     let something = laid_something _ _ (text_of following) c.clear.ensures.items c.in_ok-put.ensures some in
-    laid_fresh _ _ (text_of (laying layout c.args.first pieces)) c.clear-2.ensures.items c.in_ok-lay_record.ensures ∙ ap text_of (sym (settling-something following (laying layout c.args.first pieces) something))
+    laid_fresh _ _ (text_of (laying layout c.args.first pieces)) c.clear-2.ensures.items c.in_ok-lay_record.ensures
+        ∙ ap text_of (sym (settling-something following (laying layout c.args.first pieces) something))

@@ -1,5 +1,5 @@
 use Rattle.std.proofs.Common.{◌∙◌, ◌==◌, Ok, ap, inr, subst}
-use Rattle.std.proofs.lemmas.Result.{err_from_is_err_and}
+use Rattle.core.proofs.result.Match.{err_is}
 use Rattle.rec_check.specs.Stored.{described}
 use Rattle.rec_check.specs.Violations.{AreViolations, AreViolationsOf}
 use Rattle.rec_edit.proofs.lemmas.outcomes.BatchLemmas.{described_parts, unsound_unread}
@@ -21,8 +21,7 @@ are c =
 
 pub returns-in_err-file : goal.returns-in_err-file
 returns-in_err-file c =
-    let kept = err_from_is_err_and c.from_residual.result c.from_residual.ensures.1 in
-    rw (kept.1, kept.2) (unsound_unread c.args.text.now c.in_err-file.field-0.0 c.in_err-file.ensures.refused)
+    rw (err_is _ _ c.from_residual.ensures.1) (unsound_unread c.args.text.now c.in_err-file.field-0.0 c.in_err-file.ensures.refused)
 
 pub returns-then-not-is_empty : goal.returns-then-not-is_empty
 returns-then-not-is_empty c = inr (

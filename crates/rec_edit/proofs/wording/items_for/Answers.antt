@@ -1,11 +1,11 @@
 use Rattle.std.proofs.Common.{◌≡◌, ◌∙◌, ◌++◌, ℕ, false, List, map, Ok, Err, ap, sym, inr}
 use Rattle.std.specs.List.{list_all}
-use Rattle.std.proofs.lemmas.Result.{err_from_is_err_and}
+use Rattle.core.proofs.result.Match.{err_is}
 use Rattle.rec_text.specs.Canonical.{is_plain_name}
 use Rattle.rec_text.proofs.lemmas.FaultLemmas.{from_fact}
 use Rattle.rec_sex.specs.declared.lists.field_list.Item.{Item}
 use Rattle.rec_edit.specs.Wording.{unnumbered, written_items, names_of_action, values_of_action, AreItemsFor}
-use Rattle.rec_edit.proofs.lemmas.outcomes.WrittenLemmas.{plain_both, plain_neither, written-ok, written-err}
+use Rattle.rec_edit.proofs.lemmas.outcomes.WrittenLemmas.{plain_both, plain_neither, if_writable-ok, if_writable-err}
 use Rattle.rec_edit.proofs.wording.items_for.Goals as goal
 use Rattle.rec_edit.proofs.wording.items_for.Goals.{After-require_written, then-items_have_plain_names, else-items_have_plain_names}
 
@@ -34,13 +34,13 @@ without_number c = sym (c.in_ok-require_unnumbered.ensures c.in_ok-items.items)
 pub returns-in_err-require_written : goal.returns-in_err-require_written
 returns-in_err-require_written c =
     let at = (goal.at.returns-in_err-require_written c).After-require_written in
-    let kept = err_from_is_err_and c.from_residual-in_err-require_written.result c.from_residual-in_err-require_written.ensures.1 in
     let fault = c.in_err-require_written.field-0.0 in
     let items : List Item = c.in_ok-items.items in
     let values : List (List ℕ) = values_of_action c.args.action.now in
     let refused : Err fault ≡ written_items c.args.action.now items =
-    written-err (names at) values items c.require_written.result (c.require_written.ensures (names at) values (plain at) c.gives_foldable_value.ensures) fault c.in_err-require_written.was in
-    rw (kept.1, kept.2) (from_fact fault (AreItemsFor c.args.action.now c.args.list.now (Err fault)) (inr (items, c.in_ok-items.ensures.found, inr (items, without_number at, refused))))
+    if_writable-err (names at) values items c.require_written.result (c.require_written.ensures (names at) values (plain at) c.gives_foldable_value.ensures) fault c.in_err-require_written.was in
+    rw (err_is _ _ c.from_residual-in_err-require_written.ensures.1)
+    (from_fact fault (AreItemsFor c.args.action.now c.args.list.now (Err fault)) (inr (items, c.in_ok-items.ensures.found, inr (items, without_number at, refused))))
 
 pub returns : goal.returns
 returns c =
@@ -53,6 +53,6 @@ returns c =
       inr (
         items,
         without_number at,
-        written-ok (names at) values items c.require_written.result (c.require_written.ensures (names at) values (plain at) c.gives_foldable_value.ensures) c.in_ok-require_written.was,
+        if_writable-ok (names at) values items c.require_written.result (c.require_written.ensures (names at) values (plain at) c.gives_foldable_value.ensures) c.in_ok-require_written.was,
       ),
     )

@@ -1,5 +1,5 @@
 use Rattle.std.proofs.Common.{sym}
-use Rattle.rec_select.proofs.BlockLemmas.{is_field-at, is_field-more}
+use Rattle.rec_select.proofs.lemmas.printing.BlockLemmas.{is_field-at, is_field-more}
 use Rattle.rec_select.proofs.block.has_field.Goals as goal
 
 pub returns-in-Field : goal.returns-in-Field

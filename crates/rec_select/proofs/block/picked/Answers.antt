@@ -1,5 +1,5 @@
 use Rattle.std.proofs.Common.{◌∙◌, ap}
-use Rattle.rec_select.proofs.BlockLemmas.{picked_with, picked_without}
+use Rattle.rec_select.proofs.lemmas.printing.BlockLemmas.{picked_with, picked_without}
 use Rattle.rec_select.proofs.block.picked.Goals as goal
 use Rattle.rec_select.proofs.block.picked.Goals.{in-Some+in_ok-push, in_default}
 

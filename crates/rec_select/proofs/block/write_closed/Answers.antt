@@ -1,6 +1,6 @@
 use Rattle.std.proofs.Common.{[], ◌∷◌}
-use Rattle.rec_select.proofs.PutsLemmas.{Prints-put, Prints-append}
-use Rattle.rec_select.proofs.BlockLemmas.{closed-open}
+use Rattle.rec_select.proofs.lemmas.printing.PutsLemmas.{Prints-put, Prints-append}
+use Rattle.rec_select.proofs.lemmas.printing.BlockLemmas.{closed-open}
 use Rattle.rec_select.proofs.block.write_closed.Goals as goal
 
 pub returns-clause-printed : goal.returns-clause-printed

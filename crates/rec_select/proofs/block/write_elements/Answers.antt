@@ -1,6 +1,6 @@
 use Rattle.rec_select.specs.proving.Blocks.{in_form}
-use Rattle.rec_select.proofs.PutsLemmas.{Prints-stopped, HasStopped-within}
-use Rattle.rec_select.proofs.BlockLemmas.{flat_map_at}
+use Rattle.rec_select.proofs.lemmas.printing.PutsLemmas.{Prints-stopped, HasStopped-within}
+use Rattle.rec_select.proofs.lemmas.printing.BlockLemmas.{flat_map_at}
 use Rattle.rec_select.proofs.block.write_elements.Goals as goal
 
 pub returns-in_err-write_element : goal.returns-in_err-write_element

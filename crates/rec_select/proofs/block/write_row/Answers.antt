@@ -1,6 +1,6 @@
 use Rattle.std.proofs.Common.{[], ◌∷◌}
-use Rattle.rec_select.proofs.PutsLemmas.{Prints-put, Prints-append, Prints-stopped, HasTaken-append, HasStopped-within}
-use Rattle.rec_select.proofs.BlockLemmas.{row_parts}
+use Rattle.rec_select.proofs.lemmas.printing.PutsLemmas.{Prints-put, Prints-append, Prints-stopped, HasTaken-append, HasStopped-within}
+use Rattle.rec_select.proofs.lemmas.printing.BlockLemmas.{row_parts}
 use Rattle.rec_select.proofs.block.write_row.Goals as goal
 
 pub returns-in_err-write_elements : goal.returns-in_err-write_elements

@@ -1,7 +1,7 @@
 use Rattle.std.proofs.Common.{[], ◌∷◌}
 use Rattle.rec_text.specs.Places.{piece_of}
 use Rattle.rec_text.specs.Values.{value_of}
-use Rattle.rec_select.proofs.PutsLemmas.{Prints-append, Prints-stopped, HasStopped-prefix, HasStopped-failed}
+use Rattle.rec_select.proofs.lemmas.printing.PutsLemmas.{Prints-append, Prints-stopped, HasStopped-prefix, HasStopped-failed}
 use Rattle.rec_select.proofs.block.write_spaced_value.Goals as goal
 
 pub returns-in_err-put_all : goal.returns-in_err-put_all

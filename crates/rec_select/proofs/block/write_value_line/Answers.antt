@@ -1,5 +1,5 @@
 use Rattle.std.proofs.Common.{[], ◌∷◌}
-use Rattle.rec_select.proofs.PutsLemmas.{Prints-put, Prints-append}
+use Rattle.rec_select.proofs.lemmas.printing.PutsLemmas.{Prints-put, Prints-append}
 use Rattle.rec_select.proofs.block.write_value_line.Goals as goal
 
 pub returns : goal.returns

@@ -4,8 +4,8 @@ use Rattle.std.proofs.lemmas.Bool.{false≢true}
 use Rattle.rec_check.specs.Stored.{described}
 use Rattle.rec_text.specs.Records.{AreRecords, elements_in}
 use Rattle.rec_select.specs.Selection.{Passes, filter_of, set_for}
-use Rattle.rec_select.proofs.IndexLemmas.{selected_are_records}
-use Rattle.rec_select.proofs.SelectionLemmas.{IsChosenUpTo, none_chosen, countable, passes_as, one_passed, one_taken, members_within, all_chosen, one_selection}
+use Rattle.rec_select.proofs.lemmas.selection.IndexLemmas.{selected_are_records}
+use Rattle.rec_select.proofs.lemmas.selection.SelectionLemmas.{IsChosenUpTo, none_chosen, countable, passes_as, one_passed, one_taken, members_within, all_chosen, one_selection}
 use Rattle.rec_select.proofs.chooser.choose.Goals as goal
 use Rattle.rec_select.proofs.chooser.choose.Goals.{After-into_iter-index-iterator, In_ok-passes}
 
@@ -17,7 +17,8 @@ start : (c : After-into_iter-index-iterator)
     c.into_iter-index-iterator.result.iter.count c.into_iter-index-iterator.result.iter.iter c.new-selected.result.items
 start c =
     let taken = ap (λ i. i.iter) c.into_iter-index-iterator.ensures.into_iter_gives ∙ c.take-index-items.ensures.source in
-    none_chosen _ _ _ c.records.result _ _ _ (subst (λ pieces. AreRecords pieces c.records.result) c.database-database.ensures.elements c.records.ensures) (ap (λ i. i.count) taken ∙ c.enumerate.ensures.count) (ap (λ i. i.iter) taken ∙ c.enumerate.ensures.source) c.new-selected.ensures.items
+    none_chosen _ _ _ c.records.result _ _ _ (subst (λ pieces. AreRecords pieces c.records.result) c.database-database.ensures.elements c.records.ensures) (ap (λ i. i.count) taken
+        ∙ c.enumerate.ensures.count) (ap (λ i. i.iter) taken ∙ c.enumerate.ensures.source) c.new-selected.ensures.items
 
 passes : (c : In_ok-passes)
     → IsTrue c.in_ok-passes.field-0 ↔ Passes (filter_of c.args.selection.now.by) (elements_in c.args.file.now.pieces c.in-Some.record) (c.in-Some.index - c.in_ok-members.field-0.now.members.start)
@@ -96,8 +97,10 @@ returns-clause-selected c =
 
 pub returns-clause-only : goal.returns-clause-only
 returns-clause-only c = λ other is.
-    sym (one_selection c.args.file.now.pieces c.args.file.now.schema.sets.items c.args.selection.now.kind (filter_of c.args.selection.now.by) (Ok c.loop-index.selected.items) other (returns-clause-selected c) is)
+    sym (one_selection c.args.file.now.pieces c.args.file.now.schema.sets.items c.args.selection.now.kind (filter_of c.args.selection.now.by) (Ok c.loop-index.selected.items) other
+        (returns-clause-selected c) is)
 
 pub returns-clause-indexes : goal.returns-clause-indexes
 returns-clause-indexes c =
-    selected_are_records c.args.file.now.pieces (described c.args.file.now.schema) c.args.selection.now.kind (filter_of c.args.selection.now.by) c.loop-index.selected.items c.database-database.ensures.together (returns-clause-selected c)
+    selected_are_records c.args.file.now.pieces (described c.args.file.now.schema) c.args.selection.now.kind
+        (filter_of c.args.selection.now.by) c.loop-index.selected.items c.database-database.ensures.together (returns-clause-selected c)

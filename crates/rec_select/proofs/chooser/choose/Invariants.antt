@@ -1,7 +1,7 @@
 use Rattle.std.proofs.Common.{◌≡◌, ◌+◌}
 use Rattle.rec_select.specs.proving.Filters.{stands_for}
 use Rattle.rec_select.specs.Selection.{filter_of}
-use Rattle.rec_select.proofs.SelectionLemmas.{IsChosenUpTo}
+use Rattle.rec_select.proofs.lemmas.selection.SelectionLemmas.{IsChosenUpTo}
 use Rattle.rec_select.proofs.chooser.choose.Given as goal
 
 abbrev pub invariant-loop-index : goal.invariant-loop-index

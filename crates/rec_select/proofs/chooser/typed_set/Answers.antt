@@ -1,4 +1,4 @@
-use Rattle.rec_select.proofs.SelectionLemmas.{set_found, set_missing}
+use Rattle.rec_select.proofs.lemmas.selection.SelectionLemmas.{set_found, set_missing}
 use Rattle.rec_select.proofs.chooser.typed_set.Goals as goal
 
 pub returns-in-Some-clause-set : goal.returns-in-Some-clause-set

@@ -3,8 +3,8 @@ use Rattle.std.specs.Prelude.{Any}
 use Rattle.std.proofs.lemmas.Bool.{false≢true}
 use Rattle.rec_text.specs.Elements.{Piece}
 use Rattle.rec_select.specs.proving.Filters.{HasText}
-use Rattle.rec_select.proofs.FilterLemmas.{any_at, any_later}
-use Rattle.rec_select.proofs.OneLineLemmas.{not_in_line}
+use Rattle.rec_select.proofs.lemmas.selection.FilterLemmas.{any_at, any_later}
+use Rattle.rec_select.proofs.lemmas.selection.OneLineLemmas.{not_in_line}
 use Rattle.rec_select.proofs.filter.any_has_text.Goals as goal
 
 pub loop-element-init : goal.loop-element-init

@@ -1,4 +1,4 @@
-use Rattle.rec_select.proofs.OneLineLemmas.{one_line_found, one_line_unfound}
+use Rattle.rec_select.proofs.lemmas.selection.OneLineLemmas.{one_line_found, one_line_unfound}
 use Rattle.rec_select.proofs.filter.is_line.Goals as goal
 
 pub returns-in-Some : goal.returns-in-Some

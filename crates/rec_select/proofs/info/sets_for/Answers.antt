@@ -1,5 +1,5 @@
 use Rattle.std.proofs.Common.{◌∙◌, sym}
-use Rattle.rec_select.proofs.InfoLemmas.{sets_for-found, sets_for-missing}
+use Rattle.rec_select.proofs.lemmas.info.InfoLemmas.{sets_for-found, sets_for-missing}
 use Rattle.rec_select.proofs.info.sets_for.Goals as goal
 
 pub returns-in-Some-set_of_type : goal.returns-in-Some-set_of_type

@@ -1,6 +1,6 @@
 use Rattle.rec_select.specs.Info.{count_line}
-use Rattle.rec_select.proofs.PutsLemmas.{Prints-stopped}
-use Rattle.rec_select.proofs.InfoLemmas.{one_taken, one_stopped}
+use Rattle.rec_select.proofs.lemmas.printing.PutsLemmas.{Prints-stopped}
+use Rattle.rec_select.proofs.lemmas.info.InfoLemmas.{one_taken, one_stopped}
 use Rattle.rec_select.proofs.info.write_counts.Goals as goal
 
 pub returns-in_err-write_count-clause-printed : goal.returns-in_err-write_count-clause-printed

@@ -1,6 +1,6 @@
 use Rattle.std.proofs.Common.{drop, flat_map}
 use Rattle.rec_select.specs.Info.{count_line}
-use Rattle.rec_select.proofs.InfoLemmas.{IsTakenTo}
+use Rattle.rec_select.proofs.lemmas.info.InfoLemmas.{IsTakenTo}
 use Rattle.rec_select.proofs.info.write_counts.Given as goal
 
 abbrev pub invariant-loop-set : goal.invariant-loop-set

@@ -1,6 +1,6 @@
 use Rattle.std.proofs.Common.{ap, length, arith}
-use Rattle.rec_select.proofs.PutsLemmas.{Prints-stopped}
-use Rattle.rec_select.proofs.InfoLemmas.{first_head, head_low, head_there, head_stopped, head_taken, heads_taken, next_head}
+use Rattle.rec_select.proofs.lemmas.printing.PutsLemmas.{Prints-stopped}
+use Rattle.rec_select.proofs.lemmas.info.InfoLemmas.{first_head, head_low, head_there, head_stopped, head_taken, heads_taken, next_head}
 use Rattle.rec_select.proofs.info.write_descriptors.Goals as goal
 
 pub loop-set-init : goal.loop-set-init

@@ -1,5 +1,5 @@
 use Rattle.std.proofs.Common.{drop}
-use Rattle.rec_select.proofs.InfoLemmas.{AreHeadsTo}
+use Rattle.rec_select.proofs.lemmas.info.InfoLemmas.{AreHeadsTo}
 use Rattle.rec_select.proofs.info.write_descriptors.Given as goal
 
 abbrev pub invariant-loop-set : goal.invariant-loop-set

@@ -1,4 +1,4 @@
-use Rattle.rec_select.proofs.InfoLemmas.{AreHeads-kept}
+use Rattle.rec_select.proofs.lemmas.info.InfoLemmas.{AreHeads-kept}
 use Rattle.rec_select.proofs.info.write_info.Goals as goal
 
 pub write_sets-requires : goal.write_sets-requires

@@ -1,5 +1,5 @@
 use Rattle.std.proofs.Common.{[], ◌∷◌}
-use Rattle.rec_select.proofs.PutsLemmas.{Prints-append}
+use Rattle.rec_select.proofs.lemmas.printing.PutsLemmas.{Prints-append}
 use Rattle.rec_select.proofs.info.write_next_block.Goals as goal
 use Rattle.rec_select.proofs.info.write_next_block.Goals.{then-not-is_first+in_ok-put_all, else-not-is_first}
 

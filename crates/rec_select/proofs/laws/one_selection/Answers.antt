@@ -1,4 +1,4 @@
-use Rattle.rec_select.proofs.SelectionLemmas as lemma
+use Rattle.rec_select.proofs.lemmas.selection.SelectionLemmas as lemma
 use Rattle.rec_select.proofs.laws.one_selection.Goals as goal
 
 pub returns : goal.returns

@@ -1,6 +1,6 @@
 use Rattle.std.proofs.Common.{refl}
-use Rattle.rec_select.proofs.PutsLemmas.{Prints-stopped, HasStopped-failed}
-use Rattle.rec_select.proofs.InfoLemmas.{one_taken, one_stopped}
+use Rattle.rec_select.proofs.lemmas.printing.PutsLemmas.{Prints-stopped, HasStopped-failed}
+use Rattle.rec_select.proofs.lemmas.info.InfoLemmas.{one_taken, one_stopped}
 use Rattle.rec_select.proofs.parts.put_parts.Goals as goal
 
 pub returns-in_err-put_all-clause-printed : goal.returns-in_err-put_all-clause-printed

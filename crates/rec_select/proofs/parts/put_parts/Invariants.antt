@@ -1,5 +1,5 @@
 use Rattle.std.proofs.Common.{drop, flat_map}
-use Rattle.rec_select.proofs.InfoLemmas.{IsTakenTo}
+use Rattle.rec_select.proofs.lemmas.info.InfoLemmas.{IsTakenTo}
 use Rattle.rec_select.proofs.parts.put_parts.Given as goal
 
 abbrev pub invariant-loop-part : goal.invariant-loop-part

@@ -1,6 +1,6 @@
 use Rattle.std.proofs.Common.{◌∙◌}
 use Rattle.rec_text.proofs.lemmas.ListLemmas.{AllByRecursion-get_or}
-use Rattle.rec_select.proofs.PrintingLemmas.{record_at-within}
+use Rattle.rec_select.proofs.lemmas.printing.PrintingLemmas.{record_at-within}
 use Rattle.rec_select.proofs.records.record_of.Goals as goal
 
 pub part-requires-clause-ordered : goal.part-requires-clause-ordered

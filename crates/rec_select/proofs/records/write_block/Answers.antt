@@ -1,7 +1,7 @@
 use Rattle.std.proofs.Common.{◌++◌, ◌∙◌, sym, ap}
 use Rattle.rec_text.specs.Bytes.{is_nil}
-use Rattle.rec_select.proofs.PutsLemmas.{HasStopped-as, HasStopped-append, Prints-stopped}
-use Rattle.rec_select.proofs.PrintingLemmas.{led_by-full}
+use Rattle.rec_select.proofs.lemmas.printing.PutsLemmas.{HasStopped-as, HasStopped-append, Prints-stopped}
+use Rattle.rec_select.proofs.lemmas.printing.PrintingLemmas.{led_by-full}
 use Rattle.rec_select.proofs.records.write_block.Goals as goal
 
 pub returns-in_err-write-clause-printed : goal.returns-in_err-write-clause-printed

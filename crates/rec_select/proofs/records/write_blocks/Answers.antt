@@ -1,8 +1,8 @@
 use Rattle.std.proofs.Common.{ℕ, List, ap}
 use Rattle.rec_select.specs.Selection.{record_at}
 use Rattle.rec_select.specs.Printing.{block_of}
-use Rattle.rec_select.proofs.PutsLemmas.{HasStopped-within, Prints-stopped}
-use Rattle.rec_select.proofs.PrintingLemmas.{separated_rest}
+use Rattle.rec_select.proofs.lemmas.printing.PutsLemmas.{HasStopped-within, Prints-stopped}
+use Rattle.rec_select.proofs.lemmas.printing.PrintingLemmas.{separated_rest}
 use Rattle.rec_select.proofs.records.write_blocks.Goals as goal
 
 pub returns-in_err-write_block : goal.returns-in_err-write_block

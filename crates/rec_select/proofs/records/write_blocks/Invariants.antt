@@ -1,7 +1,7 @@
 use Rattle.std.proofs.Common.{◌≡◌, take}
 use Rattle.rec_select.specs.proving.Blocks.{blocks_of, separated}
 use Rattle.rec_select.specs.Taken.{HasTaken}
-use Rattle.rec_select.proofs.PrintingLemmas.{lead}
+use Rattle.rec_select.proofs.lemmas.printing.PrintingLemmas.{lead}
 use Rattle.rec_select.proofs.records.write_blocks.Given as goal
 
 abbrev pub invariant-loop-index : goal.invariant-loop-index

@@ -1,5 +1,5 @@
 use Rattle.std.proofs.Common.{[], ◌∷◌, ◌∙◌}
-use Rattle.rec_select.proofs.PutsLemmas.{HasTaken-as, Prints-put, Prints-append}
+use Rattle.rec_select.proofs.lemmas.printing.PutsLemmas.{HasTaken-as, Prints-put, Prints-append}
 use Rattle.rec_select.proofs.records.write_number.Goals as goal
 
 pub returns-clause-printed : goal.returns-clause-printed

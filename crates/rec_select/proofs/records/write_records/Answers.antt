@@ -1,8 +1,8 @@
 use Rattle.std.proofs.Common.{◌∙◌, ap, inl, inr}
 use Rattle.rec_text.specs.Records.{AreRecords}
 use Rattle.rec_select.specs.Printing.{IsPrinted}
-use Rattle.rec_select.proofs.PutsLemmas.{PrintsAndCounts-prints, refusals-prints}
-use Rattle.rec_select.proofs.PrintingLemmas.{SeparatorIs, IsPrinted-blocks, records_within, indexes_within}
+use Rattle.rec_select.proofs.lemmas.printing.PutsLemmas.{PrintsAndCounts-prints, refusals-prints}
+use Rattle.rec_select.proofs.lemmas.printing.PrintingLemmas.{SeparatorIs, IsPrinted-blocks, records_within, indexes_within}
 use Rattle.rec_select.proofs.records.write_records.Goals as goal
 use Rattle.rec_select.proofs.records.write_records.Goals.{then-collapse, else-collapse}
 

@@ -1,6 +1,6 @@
 use Rattle.std.proofs.Common.{drop, flat_map}
 use Rattle.rec_select.specs.Report.{report_line}
-use Rattle.rec_select.proofs.InfoLemmas.{IsTakenTo}
+use Rattle.rec_select.proofs.lemmas.info.InfoLemmas.{IsTakenTo}
 use Rattle.rec_select.proofs.report.write_violations.Given as goal
 
 abbrev pub invariant-loop-violation : goal.invariant-loop-violation

@@ -165,7 +165,8 @@ none_begins : (IsList : List ℕ → Type 0) (IsFault : List ℕ → ℕ → Typ
 none_begins IsList IsFault no_both text prefix back seen more place count parts cut size counted settled (rest, is) =
     let longer : place + count ≡ length (prefix ++ seen) = omega (arith, size, counted, length-append prefix seen) in
     let whole : text ≡ (prefix ++ seen) ++ more = parts ∙ ap (λ b. prefix ++ b) cut ∙ sym (append_assoc prefix seen more) in
-    let bytes : take (place + count) text ++ rest ≡ prefix ++ (seen ++ rest) = ap (λ t. t ++ rest) (take_prefix text (prefix ++ seen) more (place + count) whole longer) ∙ append_assoc prefix seen rest in
+    let bytes : take (place + count) text ++ rest ≡ prefix ++ (seen ++ rest) =
+        ap (λ t. t ++ rest) (take_prefix text (prefix ++ seen) more (place + count) whole longer) ∙ append_assoc prefix seen rest in
     no_both (prefix ++ (seen ++ rest)) (length prefix) (settled rest) (subst IsList bytes is)
 
 here : (IsList : List ℕ → Type 0) (IsFault : List ℕ → ℕ → Type 0) → ((text : List ℕ) (place : ℕ) → IsFault text place → IsList text → ⊥)

@@ -1,5 +1,6 @@
 -- A text has at most one reading as an index list: the one that is computed here.
-use Rattle.std.proofs.Common.{◌≡◌, ◌≢◌, ◌∙◌, ℕ, ◌-◌, ◌<◌, ◌≤◌, true, false, cond, List, [], ◌∷◌, ◌++◌, length, take, drop, Option, Some, None, Result, Ok, Err, refl, ap, sym, inl, inr, arith, leb, ltb}
+use Rattle.std.proofs.Common.{◌≡◌, ◌≢◌, ◌∙◌, ℕ, ◌-◌, ◌<◌, ◌≤◌, true, false, cond, List, [], ◌∷◌, ◌++◌, length, take, drop, Option, Some, None, Result, Ok, Err, refl, ap, sym, inl, inr, arith, leb,
+    ltb}
 use Rattle.std.specs.Prelude.{◌⊎◌, ◌==◌}
 use Rattle.std.proofs.lemmas.List.{append_assoc, length-append, take_at, drop_at}
 use Rattle.std.proofs.lemmas.Bool.{cases_lt, cond-true, cond-false, le-leb, lt-leb, lt-ltb, le-ltb, eqb-true}
@@ -32,7 +33,8 @@ index_of-cut least text digits rest parts all ended =
     let back : drop (prefix_len is_ascii_digit text) text ≡ rest = ap (λ n. drop n text) count ∙ ap (drop (length digits)) parts ∙ drop_at digits rest (length digits) refl in
     ap (λ d. index_from least d (drop (prefix_len is_ascii_digit text) text)) prefix ∙ ap (index_from least digits) back
 
-index_from-some : (least : ℕ) (digits rest : List ℕ) → digits ≢ [] → least ≤ decimal_number digits → decimal_number digits ≤ greatest → index_from least digits rest ≡ Some (decimal_number digits, rest)
+index_from-some : (least : ℕ) (digits rest : List ℕ) → digits ≢ [] → least ≤ decimal_number digits → decimal_number digits ≤ greatest
+    → index_from least digits rest ≡ Some (decimal_number digits, rest)
 index_from-some least [] rest some enough small = absurd (some refl)
 index_from-some least (d ∷ digits) rest some enough small =
     cond-false _ None (cond (leb (decimal_number (d ∷ digits)) greatest) (Some (decimal_number (d ∷ digits), rest)) None) (le-ltb (decimal_number (d ∷ digits)) least enough)

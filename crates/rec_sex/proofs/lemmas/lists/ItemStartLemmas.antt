@@ -1,5 +1,6 @@
 -- Where the items of a list start, and what the items pick that start at a field.
-use Rattle.std.proofs.Common.{◌≡◌, ◌∙◌, inl, inr, ◌⊎◌, ℕ, zero, suc, ◌+◌, ◌-◌, ◌<◌, ◌≤◌, Bool, true, false, ◌||◌, cond, List, [], ◌∷◌, ◌++◌, length, get_or, Option, Some, None, refl, ap, ap₂, sym, subst, take, drop_of_length-le, append_assoc, arith}
+use Rattle.std.proofs.Common.{◌≡◌, ◌∙◌, inl, inr, ◌⊎◌, ℕ, zero, suc, ◌+◌, ◌-◌, ◌<◌, ◌≤◌, Bool, true, false, ◌||◌, cond, List, [], ◌∷◌, ◌++◌, length, get_or, Option, Some, None, refl, ap, ap₂, sym,
+    subst, take, drop_of_length-le, append_assoc, arith}
 use Rattle.std.proofs.lemmas.Bool.{cases_Bool, cases_lt, false≢true, or_left, or_right}
 use Rattle.std.proofs.lemmas.List.{length-take, length-take-le, take_all, take_more}
 use Rattle.std.proofs.Math.Bool.{or-false}
@@ -150,8 +151,10 @@ has_index-kept true true i k indexes has = has_index-push i k indexes ∙ or_lef
 has_index-kept true false i k indexes has = has
 has_index-kept false other i k indexes has = has
 
-pub covers_more : (old new : List ℕ → ℕ → List ℕ) (items : List Item) (k : ℕ) (d : Item) (name : List ℕ) (first : ℕ) → k < length items → name ≡ (get_or items k d).name → first ≡ first_of (get_or items k d).occurrences
-    → ((other : List ℕ) (at : ℕ) → new other at ≡ cond (bytes_eq name other) (cond (nat_eq first at) (old other at ++ k ∷ []) (old other at)) (old other at)) → Has old (take k items) → Has new (take (k + 1) items)
+pub covers_more : (old new : List ℕ → ℕ → List ℕ) (items : List Item) (k : ℕ) (d : Item) (name : List ℕ) (first : ℕ) → k < length items → name ≡ (get_or items k d).name
+    → first ≡ first_of (get_or items k d).occurrences
+    → ((other : List ℕ) (at : ℕ) → new other at ≡ cond (bytes_eq name other) (cond (nat_eq first at) (old other at ++ k ∷ []) (old other at)) (old other at)) → Has old (take k items)
+    → Has new (take (k + 1) items)
 covers_more old new items k d name first within name_is first_is added has i item is =
     let own = get_or items k d in
     let start = first_of item.occurrences in
@@ -224,9 +227,11 @@ module _ {S T : Type 0} (table : HashMap (Vec ℕ) (HashMap ℕ (Vec ℕ) T) S) 
   -- the indexes that the table has for the fields before this place are among these
   abbrev pub AreWantedBelow : ℕ → List ℕ → Type 0
   AreWantedBelow below wanted =
-      (name : List ℕ) (occurrence place i : ℕ) → slice_get (places_from 0 name (pieces_of fields)) occurrence ≡ Some place → place < below → has_index (indexes_in table name occurrence) i ≡ true → has_index wanted i ≡ true
+      (name : List ℕ) (occurrence place i : ℕ) → slice_get (places_from 0 name (pieces_of fields)) occurrence ≡ Some place → place < below → has_index (indexes_in table name occurrence) i ≡ true
+          → has_index wanted i ≡ true
 
-  pub places_all : {R : Type 0} (places : HashMap (Bor (List ℕ)) (Vec ℕ) R) (below : ℕ) → length fields ≤ below → HasPlacesOf table places (pieces_of (take below fields)) → HasPlacesOf table places (pieces_of fields)
+  pub places_all : {R : Type 0} (places : HashMap (Bor (List ℕ)) (Vec ℕ) R) (below : ℕ) → length fields ≤ below → HasPlacesOf table places (pieces_of (take below fields))
+      → HasPlacesOf table places (pieces_of fields)
   places_all places below past so_far = subst (λ l. HasPlacesOf table places (pieces_of l)) (take_all below fields past) so_far
 
   module _ (at : ℕ) (d : Element) (within : at < length fields) (own : List ℕ) (own_is : own ≡ name_of (piece_of (get_or fields at d))) where
@@ -284,7 +289,8 @@ module _ {S T : Type 0} (table : HashMap (Vec ℕ) (HashMap ℕ (Vec ℕ) T) S) 
             let before = places_from 0 name (pieces_of (take at fields)) in
             places name starts has ∙ sym (places_from-more name fields at d within ∙ ap (λ b. cond b (before ++ at ∷ []) before) apart)
 
-pub wanted_all : {S T : Type 0} (table : HashMap (Vec ℕ) (HashMap ℕ (Vec ℕ) T) S) (fields : List Element) (below : ℕ) (wanted : List ℕ) → length fields ≤ below → AreWantedBelow table fields below wanted
+pub wanted_all : {S T : Type 0} (table : HashMap (Vec ℕ) (HashMap ℕ (Vec ℕ) T) S) (fields : List Element) (below : ℕ) (wanted : List ℕ) → length fields ≤ below
+    → AreWantedBelow table fields below wanted
     → AreWanted table (pieces_of fields) wanted
 wanted_all table [] below wanted past so_far = λ name occurrence place i found has. absurd (none-some place found)
 wanted_all table (field ∷ fields) below wanted past so_far = λ name occurrence place i found has.
@@ -362,7 +368,8 @@ module _ (pick : Item → List ℕ) where
           let before : nat_cmp at k ≡ Less = sym (nat_cmp_is at k Less following) in
           let lacks : has_index (k ∷ keys) at ≡ false = none_before at (k ∷ keys) (before, before_all at k keys following sorted.0) in
           ap₂ (λ l m. l ++ m) (sym (first_picks at item items (k ∷ keys) found lacks))
-          (picked_from (at + 1) items (k ∷ keys) (others_stand at item items stand) sorted (omega (arith, following), from_above k keys (at + 1) (omega (arith, following)) sorted.0) (others_found at item items (k ∷ keys) found))
+          (picked_from (at + 1) items (k ∷ keys) (others_stand at item items stand) sorted (omega (arith, following),
+              from_above k keys (at + 1) (omega (arith, following)) sorted.0) (others_found at item items (k ∷ keys) found))
       | inr level ↦
           let here : k ≡ at = omega (arith, level, from.0) in
           let none : at ≡ at + 0 = omega arith in

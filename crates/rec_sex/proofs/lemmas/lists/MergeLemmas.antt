@@ -1,5 +1,6 @@
 -- Spans in an order in which they can be searched.
-use Rattle.std.proofs.Common.{drop, add-one, append_assoc, drop_of_length-le, ◌≡◌, ℕ, zero, suc, ◌+◌, ◌<◌, ◌≤◌, ◌⊎◌, inl, inr, ⊎_elim, Bool, true, false, ◌&&◌, max, List, [], ◌∷◌, ◌++◌, length, get_or, refl, sym, ap, ◌∙◌, subst, arith, nat_le, nat_lt}
+use Rattle.std.proofs.Common.{drop, add-one, append_assoc, drop_of_length-le, ◌≡◌, ℕ, zero, suc, ◌+◌, ◌<◌, ◌≤◌, ◌⊎◌, inl, inr, ⊎_elim, Bool, true, false, ◌&&◌, max, List, [], ◌∷◌, ◌++◌, length,
+    get_or, refl, sym, ap, ◌∙◌, subst, arith, nat_le, nat_lt}
 use Rattle.std.specs.Prelude.{◌||◌}
 use Rattle.std.specs.List.Sorted.{IsNonDecreasingBy, IsPartitionPoint, IsPermutation}
 use Rattle.std.proofs.lemmas.Bool.{false≢true, cases_lt}
@@ -196,7 +197,8 @@ module _ (list written sorted searched looked : List Span) (index at : ℕ) (vie
 -- ---- one more span that reaches
 
 pub reach_more : (spans done more : List Span) (d : Span) (end next i : ℕ) → i < length spans → next ≡ max (get_or spans i d).last end
-    → more ≡ done ++ record { first = (get_or spans i d).first; last = next } ∷ [] → done ++ reach_from end (drop i spans) ≡ reach_from 0 spans → more ++ reach_from next (drop (i + 1) spans) ≡ reach_from 0 spans
+    → more ≡ done ++ record { first = (get_or spans i d).first; last = next } ∷ [] → done ++ reach_from end (drop i spans) ≡ reach_from 0 spans
+    → more ++ reach_from next (drop (i + 1) spans) ≡ reach_from 0 spans
 reach_more spans done more d end next i within e f h =
     let left : drop i spans ≡ get_or spans i d ∷ drop (i + 1) spans = rw add-one (drop-cons spans i d within) in
     let reached : reach_from end (drop i spans) ≡ record { first = (get_or spans i d).first; last = next } ∷ reach_from next (drop (i + 1) spans) =

@@ -19,8 +19,10 @@ use Rattle.rec_sex.specs.Expressions.{pattern_at, term_under}
 use Rattle.rec_sex.specs.proving.Choices.{NameChoice, chosen_in, is_chosen, repeated_names, repeated_among, places_of, any_below, any_choice}
 use Rattle.rec_sex.specs.proving.Outcomes.{outcome_of, can_be, only, inverse_of, is_connective, joined_by, branch_of, outcomes_over, outcomes_of_part, outcomes_in, can_hold, CanBe}
 use Rattle.rec_text.proofs.lemmas.ListLemmas.{bytes_eq-self}
-use Rattle.rec_sex.proofs.lemmas.meaning.EntryLemmas.{chosen_in-none, chosen_in-prefix, chosen_in-following, HasEntries, any_choice-entries, any_choice-chosen, entries_of, chosen_among, not_among, agrees_with_own, is_among-names, has_chosen, is_among-repeated_among, has_chosen-repeated_among}
-use Rattle.rec_sex.proofs.lemmas.meaning.OutcomeLemmas.{inverted, joined, branched, outcome_of-inverse, outcome_of-joined, outcome_of-branched, true_holds, holds_true, can_be-only, only_one, can_be-union_below, inverse_can_be, inverse_part, joined_can_be, joined_parts, Parts, branch_can_be, branch_part, by_condition, by_yes, by_no}
+use Rattle.rec_sex.proofs.lemmas.meaning.EntryLemmas.{chosen_in-none, chosen_in-prefix, chosen_in-following, HasEntries, any_choice-entries, any_choice-chosen, entries_of, chosen_among, not_among,
+    agrees_with_own, is_among-names, has_chosen, is_among-repeated_among, has_chosen-repeated_among}
+use Rattle.rec_sex.proofs.lemmas.meaning.OutcomeLemmas.{inverted, joined, branched, outcome_of-inverse, outcome_of-joined, outcome_of-branched, true_holds, holds_true, can_be-only, only_one,
+    can_be-union_below, inverse_can_be, inverse_part, joined_can_be, joined_parts, Parts, branch_can_be, branch_part, by_condition, by_yes, by_no}
 
 if_true : {A : Type 0} (b : Bool) (x y : A) → b ≡ true → (if b then x else y) ≡ x
 if_true true x y e = refl
@@ -132,7 +134,8 @@ module _ (pieces : List Piece) (patterns : List Re) where
             ∙ ap (can_be (joined_by op (outcomes a) (outcomes b))) (outcome_of-joined op connective (under a c) (under b c))
             ∙ joined_can_be op (outcomes a) (outcomes b) (outcome_of (under a c)) (outcome_of (under b c)) (expression_is a) (expression_is b)
         | inr other ↦
-            ap (λ s. can_be s (outcome_of (under (Binary' op p a q b) c))) (if_false (is_connective op) (joined_by op (outcomes a) (outcomes b)) (outcomes_of_part patterns pieces entries (Binary' op p a q b)) other)
+            ap (λ s. can_be s (outcome_of (under (Binary' op p a q b) c))) (if_false (is_connective op) (joined_by op (outcomes a) (outcomes b))
+                (outcomes_of_part patterns pieces entries (Binary' op p a q b)) other)
             ∙ part_is (Binary' op p a q b)
       ]
       expression_is (Conditional' p k q a r b) =
@@ -239,7 +242,8 @@ module _ (pieces : List Piece) (patterns : List Re) where
       is = outcome_of-inverse (under a can.chosen) ∙ ap inverted can.is ∙ make;
     }
 
-    joined_can : (op : Operator) (a b : Tree) (x y o : Outcome) → is_connective op ≡ true → joined op x y ≡ o → CanBeBoth a b x y → CanBe (binary op (term_under patterns a) (term_under patterns b)) pieces entries o
+    joined_can : (op : Operator) (a b : Tree) (x y o : Outcome) → is_connective op ≡ true → joined op x y ≡ o → CanBeBoth a b x y
+        → CanBe (binary op (term_under patterns a) (term_under patterns b)) pieces entries o
     joined_can op a b x y o connective make can = record {
       chosen = can.chosen;
       is_choice = can.is_choice;
@@ -276,13 +280,15 @@ module _ (pieces : List Piece) (patterns : List Re) where
           inverse_can a part.0 o part.2 (expression_can_be a once part.0 part.1)
       expression_can_be (Binary' op p a q b) once o e = elim (cases_Bool (is_connective op)) [
         | inl connective ↦ (
-            let in_both : can_be (joined_by op (outcomes a) (outcomes b)) o ≡ true = ap (λ s. can_be s o) (sym (if_true (is_connective op) (joined_by op (outcomes a) (outcomes b)) (outcomes_of_part patterns pieces entries (Binary' op p a q b)) connective)) ∙ e in
+            let in_both : can_be (joined_by op (outcomes a) (outcomes b)) o ≡ true = ap (λ s. can_be s o)
+                (sym (if_true (is_connective op) (joined_by op (outcomes a) (outcomes b)) (outcomes_of_part patterns pieces entries (Binary' op p a q b)) connective)) ∙ e in
             let parts : Parts (joined op) (outcomes a) (outcomes b) o =
             joined_parts op (outcomes a) (outcomes b) (outcome_of (under a (chosen_in entries))) (outcome_of (under b (chosen_in entries))) o (is_own a) (is_own b) in_both in
             let left : Can a parts.left = expression_can_be a (λ name several free. omega (arith, once name several free)) parts.left parts.left_can_be in
             let right : Can b parts.right = expression_can_be b (λ name several free. omega (arith, once name several free)) parts.right parts.right_can_be in
             joined_can op a b parts.left parts.right o connective parts.make (can_be_both a b parts.left parts.right left right once))
-        | inr other ↦ part_can_be own_is_choice (Binary' op p a q b) o (ap (λ s. can_be s o) (sym (if_false (is_connective op) (joined_by op (outcomes a) (outcomes b)) (outcomes_of_part patterns pieces entries (Binary' op p a q b)) other)) ∙ e)
+        | inr other ↦ part_can_be own_is_choice (Binary' op p a q b) o (ap (λ s. can_be s o)
+            (sym (if_false (is_connective op) (joined_by op (outcomes a) (outcomes b)) (outcomes_of_part patterns pieces entries (Binary' op p a q b)) other)) ∙ e)
       ]
       expression_can_be (Conditional' p k q a r b) once o e = elim (branch_part (outcomes k) (outcomes a) (outcomes b) o e) [
         | by_condition no_value is_undefined ↦ undefined_can k a b o is_undefined (expression_can_be k (λ name several free. omega (arith, once name several free)) Undefined no_value)

@@ -86,19 +86,23 @@ implies_tests false true = refl
 implies_tests false false = refl
 
 -- an operator that tests whether its operands' readings are 0
-module _ (op : Operator) (test : Bool → Bool → Bool) (tests : (x y : Bool) → outcome_of (Some (truth (test x y))) ≡ joined op (condition x) (condition y)) (undefined_left : (y : Outcome) → joined op Undefined y ≡ Undefined) where
-  tested_readings : (a b : Option ℤ) → outcome_of (option_and_then (λ x. option_and_then (λ y. Some (truth (test (is_zero x) (is_zero y)))) b) a) ≡ joined op (outcome_of_reading a) (outcome_of_reading b)
+module _ (op : Operator) (test : Bool → Bool → Bool) (tests : (x y : Bool) → outcome_of (Some (truth (test x y))) ≡ joined op (condition x) (condition y)) (undefined_left : (y : Outcome)
+    → joined op Undefined y ≡ Undefined) where
+  tested_readings : (a b : Option ℤ) → outcome_of (option_and_then (λ x. option_and_then (λ y. Some (truth (test (is_zero x) (is_zero y)))) b) a)
+      ≡ joined op (outcome_of_reading a) (outcome_of_reading b)
   tested_readings None b = sym (undefined_left (outcome_of_reading b))
   tested_readings (Some x) None = sym (joined-undefined op (condition (is_zero x)))
   tested_readings (Some x) (Some y) = tests (is_zero x) (is_zero y)
 
   tested : (m n : Option Meaning)
-      → outcome_of (option_and_then (λ a. option_and_then (λ b. option_and_then (λ x. option_and_then (λ y. Some (truth (test (is_zero x) (is_zero y)))) (reading_of b)) (reading_of a)) n) m) ≡ joined op (outcome_of m) (outcome_of n)
+      → outcome_of (option_and_then (λ a. option_and_then (λ b. option_and_then (λ x. option_and_then (λ y. Some (truth (test (is_zero x) (is_zero y)))) (reading_of b)) (reading_of a)) n) m)
+      ≡ joined op (outcome_of m) (outcome_of n)
   tested None n = sym (undefined_left (outcome_of n))
   tested (Some a) None = sym (joined-undefined op (outcome_of (Some a)))
   tested (Some a) (Some b) = tested_readings (reading_of a) (reading_of b)
 
-pub outcome_of-joined : (op : Operator) → is_connective op ≡ true → (m n : Option Meaning) → outcome_of (option_and_then (λ x. option_and_then (λ y. apply_operator op x y) n) m) ≡ joined op (outcome_of m) (outcome_of n)
+pub outcome_of-joined : (op : Operator) → is_connective op ≡ true → (m n : Option Meaning)
+    → outcome_of (option_and_then (λ x. option_and_then (λ y. apply_operator op x y) n) m) ≡ joined op (outcome_of m) (outcome_of n)
 outcome_of-joined And is m n = tested And (λ x y. not x && not y) and_tests (λ y. refl) m n
 outcome_of-joined Or is m n = tested Or (λ x y. not x || not y) or_tests (λ y. refl) m n
 outcome_of-joined Implies is m n = tested Implies (λ x y. x || not y) implies_tests (λ y. refl) m n
@@ -109,11 +113,13 @@ module _ (yes_part no_part : Option Meaning) where
   branch_test true = refl
   branch_test false = refl
 
-  branch_reading : (reading : Option ℤ) → outcome_of (option_and_then (λ z. if is_zero z then no_part else yes_part) reading) ≡ branched (outcome_of_reading reading) (outcome_of yes_part) (outcome_of no_part)
+  branch_reading : (reading : Option ℤ) → outcome_of (option_and_then (λ z. if is_zero z then no_part else yes_part) reading)
+      ≡ branched (outcome_of_reading reading) (outcome_of yes_part) (outcome_of no_part)
   branch_reading None = refl
   branch_reading (Some z) = branch_test (is_zero z)
 
-  pub outcome_of-branched : (m : Option Meaning) → outcome_of (option_and_then (λ x. option_and_then (λ z. if is_zero z then no_part else yes_part) (reading_of x)) m) ≡ branched (outcome_of m) (outcome_of yes_part) (outcome_of no_part)
+  pub outcome_of-branched : (m : Option Meaning) → outcome_of (option_and_then (λ x. option_and_then (λ z. if is_zero z then no_part else yes_part) (reading_of x)) m)
+      ≡ branched (outcome_of m) (outcome_of yes_part) (outcome_of no_part)
   outcome_of-branched None = refl
   outcome_of-branched (Some x) = branch_reading (reading_of x)
 
@@ -226,7 +232,8 @@ both_parts s t x y Holds h k e =
 pub joined_can_be : (op : Operator) (s t : Outcomes) (x y : Outcome) → can_be s x ≡ true → can_be t y ≡ true → can_be (joined_by op s t) (joined op x y) ≡ true
 joined_can_be And s t x y h k = both_can_be s t x y h k
 joined_can_be Or s t x y h k =
-    inverse_can_be (both_of (inverse_of s) (inverse_of t)) (both (inverted x) (inverted y)) (both_can_be (inverse_of s) (inverse_of t) (inverted x) (inverted y) (inverse_can_be s x h) (inverse_can_be t y k))
+    inverse_can_be (both_of (inverse_of s) (inverse_of t)) (both (inverted x) (inverted y))
+        (both_can_be (inverse_of s) (inverse_of t) (inverted x) (inverted y) (inverse_can_be s x h) (inverse_can_be t y k))
 joined_can_be _ s t x y h k = inverse_can_be (both_of s (inverse_of t)) (both x (inverted y)) (both_can_be s (inverse_of t) x (inverted y) h (inverse_can_be t y k))
 
 -- a part that is an inverse
@@ -254,7 +261,8 @@ implies_parts s t o p = record {
 pub joined_parts : (op : Operator) (s t : Outcomes) (x y o : Outcome) → can_be s x ≡ true → can_be t y ≡ true → can_be (joined_by op s t) o ≡ true → Parts (joined op) s t o
 joined_parts And s t x y o h k e = both_parts s t x y o h k e
 joined_parts Or s t x y o h k e =
-    or_parts_of s t o (both_parts (inverse_of s) (inverse_of t) (inverted x) (inverted y) (inverted o) (inverse_can_be s x h) (inverse_can_be t y k) (part_of_inverse (both_of (inverse_of s) (inverse_of t)) o e))
+    or_parts_of s t o (both_parts (inverse_of s) (inverse_of t) (inverted x) (inverted y) (inverted o) (inverse_can_be s x h) (inverse_can_be t y k)
+        (part_of_inverse (both_of (inverse_of s) (inverse_of t)) o e))
 joined_parts _ s t x y o h k e = implies_parts s t o (both_parts s (inverse_of t) x (inverted y) (inverted o) h (inverse_can_be t y k) (part_of_inverse (both_of s (inverse_of t)) o e))
 
 pub branch_can_be : (s t u : Outcomes) (x y z : Outcome) → can_be s x ≡ true → can_be t y ≡ true → can_be u z ≡ true → can_be (branch_of s t u) (branched x y z) ≡ true
@@ -262,7 +270,8 @@ branch_can_be s t u Undefined y z h k l = or_left (s.undefined || (s.holds && t.
 branch_can_be s t u Fails y Undefined h k l = or_right (s.undefined || (s.holds && t.undefined)) (s.fails && u.undefined) (and_from s.fails u.undefined h l)
 branch_can_be s t u Fails y Fails h k l = or_right (s.holds && t.fails) (s.fails && u.fails) (and_from s.fails u.fails h l)
 branch_can_be s t u Fails y Holds h k l = or_right (s.holds && t.holds) (s.fails && u.holds) (and_from s.fails u.holds h l)
-branch_can_be s t u Holds Undefined z h k l = or_left (s.undefined || (s.holds && t.undefined)) (s.fails && u.undefined) (or_right s.undefined (s.holds && t.undefined) (and_from s.holds t.undefined h k))
+branch_can_be s t u Holds Undefined z h k l = or_left (s.undefined || (s.holds && t.undefined)) (s.fails && u.undefined)
+    (or_right s.undefined (s.holds && t.undefined) (and_from s.holds t.undefined h k))
 branch_can_be s t u Holds Fails z h k l = or_left (s.holds && t.fails) (s.fails && u.fails) (and_from s.holds t.fails h k)
 branch_can_be s t u Holds Holds z h k l = or_left (s.holds && t.holds) (s.fails && u.holds) (and_from s.holds t.holds h k)
 

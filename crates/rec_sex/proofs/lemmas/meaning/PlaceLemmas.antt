@@ -29,10 +29,12 @@ module _ {K S : Type 0} (text : K → List ℕ) (old new : HashSet K S) (key : K
   abbrev has : List K → List ℕ → Bool
   has keys value = list_any (λ k. bytes_eq value (text k)) keys
 
-  pub has-put : (added : Bool) → PutsKey old new key added → (added ≡ false → has old.keys (text key) ≡ true) → (value : List ℕ) → has new.keys value ≡ (has old.keys value || bytes_eq value (text key))
+  pub has-put : (added : Bool) → PutsKey old new key added → (added ≡ false → has old.keys (text key) ≡ true) → (value : List ℕ)
+      → has new.keys value ≡ (has old.keys value || bytes_eq value (text key))
   has-put true puts known value = sym (list_any-IsPermutation (λ k. bytes_eq value (text k)) (key ∷ old.keys) new.keys puts) ∙ or_comm (bytes_eq value (text key)) (has old.keys value)
   has-put false puts known value = ap (λ keys. has keys value) puts ∙ elim (cases_Bool (bytes_eq value (text key))) [
-    | inl same ↦ let there : has old.keys value ≡ true = ap (has old.keys) (same_bytes value (text key) same) ∙ known refl in there ∙ sym (or_left (has old.keys value) (bytes_eq value (text key)) there)
+    | inl same ↦ let there : has old.keys value ≡ true = ap (has old.keys) (same_bytes value (text key) same) ∙ known refl in there
+    ∙ sym (or_left (has old.keys value) (bytes_eq value (text key)) there)
     | inr apart ↦ sym (ap (λ b. has old.keys value || b) apart ∙ or-false (has old.keys value))
   ]
 

@@ -1,5 +1,6 @@
 -- Where the fault of a broken token lies.
-use Rattle.std.proofs.Common.{◌≡◌, ◌≢◌, ⊎_elim, inl, inr, ℕ, pos, ◌+◌, ◌^◌, ◌<◌, ◌≤◌, Bool, true, false, ◌==◌, ◌||◌, List, [], ◌∷◌, ◌++◌, Option, Some, None, length, drop, refl, ap, sym, ◌∙◌, subst, arith}
+use Rattle.std.proofs.Common.{◌≡◌, ◌≢◌, ⊎_elim, inl, inr, ℕ, pos, ◌+◌, ◌^◌, ◌<◌, ◌≤◌, Bool, true, false, ◌==◌, ◌||◌, List, [], ◌∷◌, ◌++◌, Option, Some, None, length, drop, refl, ap, sym, ◌∙◌, subst,
+    arith}
 use Rattle.std.specs.Prelude.{if◌then◌else◌, nat_lt, take_while}
 use Rattle.std.specs.Char.{is_ascii_digit}
 use Rattle.std.specs.List.{list_all}
@@ -12,7 +13,8 @@ use Rattle.rec_sex.specs.declared.syntax.token.Token.{Token}
 use Rattle.rec_sex.specs.declared.syntax.token.Token.TheVariants.{Integer, Literal, Name, Occurrence, Count}
 use Rattle.rec_sex.specs.IndexList.{begins_digit, decimal_number, greatest}
 use Rattle.rec_sex.specs.Integers.{magnitude_of}
-use Rattle.rec_sex.specs.Tokens.{Whole, Broken, literal_from, literal_at, integer_at, name_at, token_after_name, subscript_at, closing_at, count_at, token_of_one, token_of_two, of_one, operator_at, lexeme_at}
+use Rattle.rec_sex.specs.Tokens.{Whole, Broken, literal_from, literal_at, integer_at, name_at, token_after_name, subscript_at, closing_at, count_at, token_of_one, token_of_two, of_one, operator_at,
+    lexeme_at}
 use Rattle.rec_sex.specs.TokenSpellings.{IsSubscriptFault, IsFaultInside}
 use Rattle.rec_sex.proofs.lemmas.syntax.SpellingLemmas.{if_then, if_else, while_none, word_continues, not_empty, subscript_with, subscript_is_with, word_is_read}
 use Rattle.rec_sex.proofs.lemmas.syntax.LongestLemmas.{if_cases, split, word_of_letter, some_digits}
@@ -98,7 +100,8 @@ module _ (digits rest s : List ℕ) (len at : ℕ) (parts : s ≡ digits ++ rest
       (λ h f.
       let tests = or_parts (length digits == 0) (nat_lt greatest (decimal_number digits)) h in
       let small : decimal_number digits ≤ greatest = let k = tests.1 in grind (arith, nat_tests) in
-      (length digits, inr (digits, rest, parts, record { some = some_digits digits tests.0; all = all; ended = ended }, inr (small, refl)), closing_inside name (decimal_number digits) rest (len + length digits) at f)) e
+      (length digits, inr (digits, rest, parts, record { some = some_digits digits tests.0; all = all; ended = ended }, inr (small, refl)),
+          closing_inside name (decimal_number digits) rest (len + length digits) at f)) e
 
 subscript_inside : (name s : List ℕ) (len at : ℕ) → subscript_at name s len ≡ Broken at → BreaksAt s len at
 subscript_inside name s len at e =
@@ -143,7 +146,8 @@ large_is_broken name digits rest len large =
     let test : nat_lt greatest (decimal_number digits) ≡ true = grind (arith, nat_tests) in
     if_then (length digits == 0 || nat_lt greatest (decimal_number digits)) (Broken len) _ (or_right (length digits == 0) (nat_lt greatest (decimal_number digits)) test)
 
-small_is_closed : (name digits rest : List ℕ) (len : ℕ) → digits ≢ [] → decimal_number digits ≤ greatest → subscript_with name digits rest len ≡ closing_at name (decimal_number digits) rest (len + length digits)
+small_is_closed : (name digits rest : List ℕ) (len : ℕ) → digits ≢ [] → decimal_number digits ≤ greatest
+    → subscript_with name digits rest len ≡ closing_at name (decimal_number digits) rest (len + length digits)
 small_is_closed name digits rest len some small =
     let test : nat_lt greatest (decimal_number digits) ≡ false = grind (arith, nat_tests) in
     if_else (length digits == 0 || nat_lt greatest (decimal_number digits)) (Broken len) _ (or_from (length digits == 0) (nat_lt greatest (decimal_number digits)) (not_empty digits some) test)
@@ -159,7 +163,8 @@ fault_is_read name s len inside at fault e =
     let rest = t.1 in
     let with_digits : subscript_with name digits rest len ≡ Broken at = sym (subscript_is_with name digits rest len t.3.all t.3.ended) ∙ ap (λ x. subscript_at name x len) (sym t.2) ∙ e in
     ⊎_elim
-    (λ (u : (greatest < decimal_number digits) × (inside ≡ 0)). let here : Broken len ≡ Broken at = sym (large_is_broken name digits rest len u.0) ∙ with_digits in omega (arith, same_inside len at here, u.1))
+    (λ (u : (greatest < decimal_number digits) × (inside ≡ 0)). let here : Broken len ≡ Broken at = sym (large_is_broken name digits rest len u.0) ∙ with_digits
+        in omega (arith, same_inside len at here, u.1))
     (λ u. let here : closing_at name (decimal_number digits) rest (len + length digits) ≡ Broken at = sym (small_is_closed name digits rest len t.3.some u.0) ∙ with_digits in
     omega (arith, closing_inside name (decimal_number digits) rest (len + length digits) at here, u.1))
     t.4)
@@ -173,7 +178,8 @@ inside_is_broken b bs inside at fault e =
     sym (fault_is_read t.0 t.1 (length t.0 + 1) t.2 at t.5 read) ∙ sym t.6)
     (λ t.
     ⊎_elim
-    (λ (u : (name rest : List ℕ) × (following : ℕ) × (b ∷ bs ≡ name ++ 91 ∷ rest) × (is_plain_name name ≡ true) × IsSubscriptFault rest following × (at ≡ length name + 1 + following)). absurd (t.0 u.0 u.1 u.3 u.4))
+    (λ (u : (name rest : List ℕ) × (following : ℕ) × (b ∷ bs ≡ name ++ 91 ∷ rest) × (is_plain_name name ≡ true) × IsSubscriptFault rest following × (at ≡ length name + 1 + following)). absurd
+        (t.0 u.0 u.1 u.3 u.4))
     (λ u. u.1 ∙ sym t.1)
     (broken_is_inside b bs at e))
     fault

@@ -11,7 +11,8 @@ use Rattle.rec_sex.specs.declared.syntax.token.Operator.{Operator}
 use Rattle.rec_sex.specs.declared.syntax.token.Operator.TheVariants.{Subtract, Implies}
 use Rattle.rec_sex.specs.declared.syntax.token.Token.{Token}
 use Rattle.rec_sex.specs.declared.syntax.token.Token.TheVariants.{Integer, Literal, Name, Occurrence, Count, Not, Binary, Found, Open, Close, Then, Else}
-use Rattle.rec_sex.specs.Grammar.{Term, Derives, by_conditional, by_implication, by_operator, by_pattern, by_not, by_minus, by_next, by_integer, by_literal, by_name, by_occurrence, by_count, by_parentheses, IsPatternOf, AreTaken, level_of, Operand, Infix, Comparison, Want, Opened, Parenthesis, Question}
+use Rattle.rec_sex.specs.Grammar.{Term, Derives, by_conditional, by_implication, by_operator, by_pattern, by_not, by_minus, by_next, by_integer, by_literal, by_name, by_occurrence, by_count,
+    by_parentheses, IsPatternOf, AreTaken, level_of, Operand, Infix, Comparison, Want, Opened, Parenthesis, Question}
 use Rattle.rec_sex.specs.proving.Parsing.{takes_from}
 use Rattle.rec_sex.proofs.lemmas.syntax.WalkLemmas.{AreTaken-taken, after_comparison, takes_pattern}
 
@@ -21,7 +22,8 @@ use Rattle.rec_sex.proofs.lemmas.syntax.WalkLemmas.{AreTaken-taken, after_compar
 abbrev after_level : ℕ → Want
 after_level level = if nat_le level 4 then Comparison else Infix
 
-next_after : (here next : Bool) (stack : List Opened) (rest : List Token) → (here ≡ false → next ≡ false) → takes_from (if here then Comparison else Infix) stack rest ≡ true → takes_from (if next then Comparison else Infix) stack rest ≡ true
+next_after : (here next : Bool) (stack : List Opened) (rest : List Token) → (here ≡ false → next ≡ false) → takes_from (if here then Comparison else Infix) stack rest ≡ true
+    → takes_from (if next then Comparison else Infix) stack rest ≡ true
 next_after true true stack rest falls h = h
 next_after true false stack rest falls h = (after_comparison stack rest h).0
 next_after false false stack rest falls h = h
@@ -43,7 +45,8 @@ takes_as tokens these stack e h = ap (λ x. takes_from Operand stack x) e ∙ h
 pub utf8_of_pattern : (text : List ℕ) (pattern : Re) → IsPatternOf text pattern → is_utf8 text ≡ true
 utf8_of_pattern text pattern p = subst (λ x. is_utf8 x ≡ true) p.1 (is_utf8-from_IsUtf8 (regex_source p.0) (IsUtf8-string_bytes p.0.pattern.source))
 
-pub takes_derived : (level : ℕ) (tokens : List Token) (a : Term) → Derives level tokens a → (stack : List Opened) (rest : List Token) → takes_from (after_level level) stack rest ≡ true → takes_from Operand stack (tokens ++ rest) ≡ true
+pub takes_derived : (level : ℕ) (tokens : List Token) (a : Term) → Derives level tokens a → (stack : List Opened) (rest : List Token) → takes_from (after_level level) stack rest ≡ true
+    → takes_from Operand stack (tokens ++ rest) ≡ true
 takes_derived level tokens a (by_conditional _ condition yes_part no_part c x y e dc dx dy) stack rest h =
     takes_as (tokens ++ rest) (condition ++ Then ∷ (yes_part ++ Else ∷ (no_part ++ rest))) stack
     (ap (λ t. t ++ rest) e ∙ regroup condition (yes_part ++ Else ∷ no_part) rest Then ∙ ap (λ t. condition ++ Then ∷ t) (regroup yes_part no_part rest Else))

@@ -1,5 +1,6 @@
 -- What stands before the leftmost fault begins an expression, and with what stands there it doesn't.
-use Rattle.std.proofs.Common.{◌≡◌, ◌⊎◌, ⊎_elim, inl, inr, ℕ, pos, zero, suc, ◌+◌, ◌≤◌, Bool, true, false, List, [], ◌∷◌, ◌++◌, Option, Some, None, length, refl, sym, ap, ◌∙◌, subst, arith, append_assoc, length-append, if◌then◌else◌}
+use Rattle.std.proofs.Common.{◌≡◌, ◌⊎◌, ⊎_elim, inl, inr, ℕ, pos, zero, suc, ◌+◌, ◌≤◌, Bool, true, false, List, [], ◌∷◌, ◌++◌, Option, Some, None, length, refl, sym, ap, ◌∙◌, subst, arith,
+    append_assoc, length-append, if◌then◌else◌}
 use Rattle.std.specs.Prelude.{nat_le}
 use Rattle.std.specs.Str.{is_utf8}
 use Rattle.std.proofs.lemmas.Bool.{false≢true}
@@ -9,7 +10,8 @@ use Rattle.rec_sex.specs.declared.syntax.token.Token.{Token}
 use Rattle.rec_sex.specs.declared.syntax.token.Token.TheVariants.{Integer, Literal, Name, Binary, Found, Close, Else}
 use Rattle.rec_sex.specs.declared.syntax.token.Operator.TheVariants.{Subtract}
 use Rattle.rec_sex.specs.Tokens.{Lexeme, Whole, Broken, Placed, lexemes}
-use Rattle.rec_sex.specs.Grammar.{Want, Operand, Infix, Comparison, Pattern, Opened, Parenthesis, Question, Walk, walk_start, following, after_operand_wanted, after_operand, after_else, after_close, after_found, level_of, may_end, fault_inside, fault_from, fault_of, walked, AreTokens, HaveGoodPatterns, IsPatternOf}
+use Rattle.rec_sex.specs.Grammar.{Want, Operand, Infix, Comparison, Pattern, Opened, Parenthesis, Question, Walk, walk_start, following, after_operand_wanted, after_operand, after_else, after_close,
+    after_found, level_of, may_end, fault_inside, fault_from, fault_of, walked, AreTokens, HaveGoodPatterns, IsPatternOf}
 use Rattle.rec_sex.specs.proving.Parsing.{takes, takes_from}
 use Rattle.rec_sex.specs.LeftmostFaults.{AreExpression, BeginExpression, EndInFound, ThereIsAPattern, IsRefusedAt, IsStoppedBy, IsLeftmostFault, IsFaultless, FaultIsLeftmost}
 use Rattle.rec_sex.proofs.lemmas.syntax.WalkLemmas.{takes_pattern}
@@ -108,7 +110,8 @@ closing_is_good (Question ∷ stack) = good_cons Else (Integer (pos 0) ∷ closi
 abbrev BeginsGood : List Token → Type 0
 BeginsGood tokens = (text : List ℕ) (rest : List Token) → tokens ≡ Literal text ∷ rest → (pattern : Re) × IsPatternOf text pattern
 
-good_first : (token : Token) (tokens more rest : List Token) (text : List ℕ) → HaveGoodPatterns (token ∷ tokens) → BeginsGood more → token ∷ (tokens ++ more) ≡ Found ∷ (Literal text ∷ rest) → (pattern : Re) × IsPatternOf text pattern
+good_first : (token : Token) (tokens more rest : List Token) (text : List ℕ) → HaveGoodPatterns (token ∷ tokens) → BeginsGood more → token ∷ (tokens ++ more) ≡ Found ∷ (Literal text ∷ rest)
+    → (pattern : Re) × IsPatternOf text pattern
 good_first token [] more rest text good begins e = begins text rest (cc)
 good_first token (u ∷ tokens) more rest text good begins e =
     let first : token ≡ Found = cc in
@@ -219,7 +222,8 @@ ends_wanted walk last (token ∷ tokens) e w =
       | None ↦ λ is f. absurd (cc)
       | Some next ↦ λ is f.
           ⊎_elim
-          (λ (h : (next.want ≡ Pattern) × (tokens ≡ [])). let first : token ≡ Found = wanted walk next token is h.0 in let empty : tokens ≡ [] = h.1 in ([], ap (λ x. x ∷ tokens) first ∙ ap (λ x. Found ∷ x) empty))
+          (λ (h : (next.want ≡ Pattern) × (tokens ≡ [])). let first : token ≡ Found = wanted walk next token is h.0 in let empty : tokens ≡ [] = h.1
+              in ([], ap (λ x. x ∷ tokens) first ∙ ap (λ x. Found ∷ x) empty))
           (λ h. (token ∷ h.0, ap (λ x. token ∷ x) h.1))
           (ends_wanted next last tokens f w)
     ] in
@@ -234,13 +238,15 @@ begun tokens last walks good p = begun_by tokens last walks good (goes_on last.w
 
 -- ---- broken tokens
 
-name_wants : (want : Want) (stack : List Opened) (name : List ℕ) (inside : ℕ) (more : List Token) → takes_from want stack (Name name ∷ more) ≡ true → fault_inside (record { want = want; stack = stack }) inside ≡ inside
+name_wants : (want : Want) (stack : List Opened) (name : List ℕ) (inside : ℕ) (more : List Token) → takes_from want stack (Name name ∷ more) ≡ true
+    → fault_inside (record { want = want; stack = stack }) inside ≡ inside
 name_wants Operand stack name inside more h = refl
 name_wants Infix stack name inside more h = absurd (false≢true h)
 name_wants Comparison stack name inside more h = absurd (false≢true h)
 name_wants Pattern stack name inside more h = absurd (false≢true h)
 
-name_stands : (tokens : List Token) (last : Walk) (name : List ℕ) → walked walk_start tokens ≡ Some last → following last (Name name) ≡ Some (record { want = Infix; stack = last.stack }) → HaveGoodPatterns tokens → BeginExpression (tokens ++ Name name ∷ [])
+name_stands : (tokens : List Token) (last : Walk) (name : List ℕ) → walked walk_start tokens ≡ Some last → following last (Name name) ≡ Some (record { want = Infix; stack = last.stack })
+    → HaveGoodPatterns tokens → BeginExpression (tokens ++ Name name ∷ [])
 name_stands tokens last name walks is good =
     let next : Walk = record { want = Infix; stack = last.stack } in
     begun_by (tokens ++ Name name ∷ []) next (walked_on walk_start last next tokens (Name name) walks is)
@@ -278,7 +284,8 @@ record Stop (end : ℕ) (seen : List Token) (places : List Placed) (place : ℕ)
   stops : StopsAt end last more rest place
 
 module _ (end place : ℕ) where
-  stop_here : (more : ℕ) (walk : Walk) (seen : List Token) (places : List Placed) → walked walk_start seen ≡ Some walk → length seen + more ≡ 1000 → StopsAt end walk more places place → Stop end seen places place
+  stop_here : (more : ℕ) (walk : Walk) (seen : List Token) (places : List Placed) → walked walk_start seen ≡ Some walk → length seen + more ≡ 1000 → StopsAt end walk more places place
+      → Stop end seen places place
   stop_here more walk seen places walks few stops = record {
     before = [];
     rest = places;
@@ -292,7 +299,8 @@ module _ (end place : ℕ) where
     stops = stops;
   }
 
-  stop_after : (seen : List Token) (placed : Placed) (places : List Placed) (token : Token) (len : ℕ) → placed.lexeme ≡ Whole token len → Stop end (seen ++ token ∷ []) places place → Stop end seen (placed ∷ places) place
+  stop_after : (seen : List Token) (placed : Placed) (places : List Placed) (token : Token) (len : ℕ) → placed.lexeme ≡ Whole token len → Stop end (seen ++ token ∷ []) places place
+      → Stop end seen (placed ∷ places) place
   stop_after seen placed places token len is s =
       let same : (seen ++ token ∷ []) ++ s.tokens ≡ seen ++ token ∷ s.tokens = append_assoc seen (token ∷ []) s.tokens in
       record {
@@ -315,7 +323,8 @@ module _ (end place : ℕ) where
   same_place : (a : ℕ) → Some a ≡ Some place → place ≡ a
   same_place a e = let same : a ≡ place = cc in sym same
 
-  module _ (more : ℕ) (rest : List Placed) (after_it : (walk : Walk) (seen : List Token) → walked walk_start seen ≡ Some walk → length seen + more ≡ 1000 → fault_from end more walk rest ≡ Some place → Stop end seen rest place) where
+  module _ (more : ℕ) (rest : List Placed) (after_it : (walk : Walk) (seen : List Token) → walked walk_start seen ≡ Some walk → length seen + more ≡ 1000 → fault_from end more walk rest ≡ Some place
+      → Stop end seen rest place) where
     stop_token : (walk : Walk) (seen : List Token) (at len : ℕ) (token : Token) (next : Option Walk) → walked walk_start seen ≡ Some walk → length seen + suc more ≡ 1000 → following walk token ≡ next
         → (elim next [ None ↦ Some at | Some after ↦ fault_from end more after rest ]) ≡ Some place → Stop end seen (record { place = at; lexeme = Whole token len } ∷ rest) place
     stop_token walk seen at len token None walks few is e =
@@ -330,7 +339,8 @@ module _ (end place : ℕ) where
     stop_lexeme walk seen at (Broken inside) walks few e =
         stop_here (suc more) walk seen (record { place = at; lexeme = Broken inside } ∷ rest) walks few (same_place (at + fault_inside walk inside) e)
 
-  stop_from : (more : ℕ) (places : List Placed) (walk : Walk) (seen : List Token) → walked walk_start seen ≡ Some walk → length seen + more ≡ 1000 → fault_from end more walk places ≡ Some place → Stop end seen places place
+  stop_from : (more : ℕ) (places : List Placed) (walk : Walk) (seen : List Token) → walked walk_start seen ≡ Some walk → length seen + more ≡ 1000 → fault_from end more walk places ≡ Some place
+      → Stop end seen places place
   stop_from more [] walk seen walks few e = stop_here more walk seen [] walks few (ended_early (may_end walk) e)
   stop_from zero (placed ∷ rest) walk seen walks few e = stop_here zero walk seen (placed ∷ rest) walks few (same_place placed.place e)
   stop_from (suc more) (placed ∷ rest) walk seen walks few e = stop_lexeme more rest (stop_from more rest) walk seen placed.place placed.lexeme walks few e
@@ -346,7 +356,8 @@ stopped_lexeme tokens last (suc more) here place rest (Broken inside) end walks 
   λ good none. s ∙ ap (λ n. here + n) (no_name tokens last.want last.stack inside walks good none) ∙ omega arith,
 )
 
-stopped : (tokens : List Token) (last : Walk) (more place : ℕ) (rest : List Placed) (end : ℕ) → walked walk_start tokens ≡ Some last → length tokens + more ≡ 1000 → StopsAt end last more rest place → IsStoppedBy end tokens rest place
+stopped : (tokens : List Token) (last : Walk) (more place : ℕ) (rest : List Placed) (end : ℕ) → walked walk_start tokens ≡ Some last → length tokens + more ≡ 1000 → StopsAt end last more rest place
+    → IsStoppedBy end tokens rest place
 stopped tokens last more place [] end walks few s = (s.0, unfinished tokens last walks s.1)
 stopped tokens last more place (placed ∷ rest) end walks few s = stopped_lexeme tokens last more placed.place place rest placed.lexeme end walks few s
 
@@ -377,7 +388,8 @@ not_early end true e = refl
 not_early end false e = absurd (cc)
 
 module _ (end more : ℕ) (rest : List Placed) (after_it : (walk : Walk) → fault_from end more walk rest ≡ None → WholeAfter walk more rest) where
-  whole_token : (walk : Walk) (at len : ℕ) (token : Token) (next : Option Walk) → following walk token ≡ next → ◌≡◌ {A = Option ℕ} (elim next [ None ↦ Some at | Some after ↦ fault_from end more after rest ]) None
+  whole_token : (walk : Walk) (at len : ℕ) (token : Token) (next : Option Walk) → following walk token ≡ next
+      → ◌≡◌ {A = Option ℕ} (elim next [ None ↦ Some at | Some after ↦ fault_from end more after rest ]) None
       → WholeAfter walk (suc more) (record { place = at; lexeme = Whole token len } ∷ rest)
   whole_token walk at len token None is e = absurd (cc)
   whole_token walk at len token (Some after) is e =
@@ -389,7 +401,8 @@ module _ (end more : ℕ) (rest : List Placed) (after_it : (walk : Walk) → fau
         taken = ap (λ o. elim o [ None ↦ false | Some next ↦ takes next w.tokens ]) is ∙ w.taken;
       }
 
-  whole_lexeme : (walk : Walk) (at : ℕ) (l : Lexeme) → fault_from end (suc more) walk (record { place = at; lexeme = l } ∷ rest) ≡ None → WholeAfter walk (suc more) (record { place = at; lexeme = l } ∷ rest)
+  whole_lexeme : (walk : Walk) (at : ℕ) (l : Lexeme) → fault_from end (suc more) walk (record { place = at; lexeme = l } ∷ rest) ≡ None
+      → WholeAfter walk (suc more) (record { place = at; lexeme = l } ∷ rest)
   whole_lexeme walk at (Whole token len) e = whole_token walk at len token (following walk token) refl e
   whole_lexeme walk at (Broken inside) e = absurd (cc)
 

@@ -1,5 +1,6 @@
 -- A token that is read is written there, and is the longest.
-use Rattle.std.proofs.Common.{◌≡◌, ◌≢◌, inl, inr, ℕ, pos, ◌+◌, ◌^◌, ◌≤◌, Bool, true, false, ◌==◌, ◌||◌, ◌&&◌, List, [], ◌∷◌, ◌++◌, Option, Some, None, length, drop, refl, ap, sym, ◌∙◌, subst, arith, cond, append_assoc, length-append}
+use Rattle.std.proofs.Common.{◌≡◌, ◌≢◌, inl, inr, ℕ, pos, ◌+◌, ◌^◌, ◌≤◌, Bool, true, false, ◌==◌, ◌||◌, ◌&&◌, List, [], ◌∷◌, ◌++◌, Option, Some, None, length, drop, refl, ap, sym, ◌∙◌, subst, arith,
+    cond, append_assoc, length-append}
 use Rattle.std.specs.Prelude.{if◌then◌else◌, nat_lt, take_while}
 use Rattle.std.specs.Char.{is_ascii_digit}
 use Rattle.std.specs.List.{list_all}
@@ -16,9 +17,11 @@ use Rattle.rec_sex.specs.declared.syntax.token.Token.{Token}
 use Rattle.rec_sex.specs.declared.syntax.token.Token.TheVariants.{Integer, Literal, Name, Occurrence, Count, Not, Binary, Found, Open, Close, Then, Else, Unused}
 use Rattle.rec_sex.specs.IndexList.{AreDigits, begins, decimal_number, greatest}
 use Rattle.rec_sex.specs.Integers.{magnitude_of}
-use Rattle.rec_sex.specs.Tokens.{Lexeme, Whole, Broken, with_byte, literal_from, literal_at, integer_at, name_at, token_after_name, subscript_at, closing_at, count_at, token_of_one, token_of_two, of_one, operator_at, lexeme_at}
+use Rattle.rec_sex.specs.Tokens.{Lexeme, Whole, Broken, with_byte, literal_from, literal_at, integer_at, name_at, token_after_name, subscript_at, closing_at, count_at, token_of_one, token_of_two,
+    of_one, operator_at, lexeme_at}
 use Rattle.rec_sex.specs.TokenSpellings.{is_quote, begins_escape, Closes, operator_of, Spells, by_integer, by_literal, by_name, by_occurrence, by_count, by_operator, is_continued, IsLongest}
-use Rattle.rec_sex.proofs.lemmas.syntax.SpellingLemmas.{while_longer, word_continues, magnitude_bytes, lexeme_at-digit, lexeme_at-letter, integer_with, subscript_with, closes_some, occurrence_is_whole, literal_is_whole, two_is_read, spelled_is_read}
+use Rattle.rec_sex.proofs.lemmas.syntax.SpellingLemmas.{while_longer, word_continues, magnitude_bytes, lexeme_at-digit, lexeme_at-letter, integer_with, subscript_with, closes_some,
+    occurrence_is_whole, literal_is_whole, two_is_read, spelled_is_read}
 use Rattle.rec_sex.proofs.lemmas.syntax.WithinLemmas.{IsWithin, lexeme_is_within}
 
 pub if_cases : {A : Type 0} (P : Type 0) (test : Bool) (a b x : A) → (test ≡ true → a ≡ x → P) → (test ≡ false → b ≡ x → P) → (if test then a else b) ≡ x → P
@@ -34,14 +37,16 @@ integer_len : (word : List ℕ) (token : Token) (len : ℕ) → integer_with wor
 integer_len word token len =
     elim (magnitude_of word) as (λ o. (elim o [ None ↦ Broken 0 | Some n ↦ if nat_lt n (2 ^ 63) then Whole (Integer (pos n)) (length word) else Broken 0 ]) ≡ Whole token len → length word ≡ len) [
       | None ↦ λ e. absurd (cc)
-      | Some n ↦ if_cases (length word ≡ len) (nat_lt n (2 ^ 63)) (Whole (Integer (pos n)) (length word)) (Broken 0) (Whole token len) (λ h e. same_len (Integer (pos n)) token (length word) len e) (λ h e. absurd (cc))
+      | Some n ↦ if_cases (length word ≡ len) (nat_lt n (2 ^ 63)) (Whole (Integer (pos n)) (length word)) (Broken 0) (Whole token len) (λ h e. same_len (Integer (pos n)) token (length word) len e)
+      (λ h e. absurd (cc))
     ]
 
 integer_longer : (bytes following : List ℕ) (n : ℕ) (token : Token) (len : ℕ) → magnitude_of bytes ≡ Some n → lexeme_at (bytes ++ following) ≡ Whole token len → length bytes ≤ len
 integer_longer [] following n token len m e = absurd (cc)
 integer_longer (b ∷ bs) following n token len m e =
     let h = magnitude_bytes b bs n m in
-    let size : length (take_while continues_name ((b ∷ bs) ++ following)) ≡ len = integer_len (take_while continues_name ((b ∷ bs) ++ following)) token len (sym (lexeme_at-digit b (bs ++ following) h.0) ∙ e) in
+    let size : length (take_while continues_name ((b ∷ bs) ++ following)) ≡ len =
+        integer_len (take_while continues_name ((b ∷ bs) ++ following)) token len (sym (lexeme_at-digit b (bs ++ following) h.0) ∙ e) in
     let longer = while_longer continues_name (b ∷ bs) following h.1 in
     omega (arith, size, longer)
 
@@ -95,7 +100,8 @@ longer prefix following other token len (by_literal _ inner text quote parts q c
     let size : length prefix ≡ len = same_len (Literal text) token (length prefix) len (sym (literal_is_whole prefix inner following text quote parts q closes) ∙ e) in omega (arith, size)
 longer prefix following other token len (by_name _ w) e = name_longer prefix following token len w e
 longer prefix following other token len (by_occurrence _ name digits parts w are small) e =
-    let size : length prefix ≡ len = same_len (Occurrence name (decimal_number digits)) token (length prefix) len (sym (occurrence_is_whole prefix name digits following parts w are small) ∙ e) in omega (arith, size)
+    let size : length prefix ≡ len = same_len (Occurrence name (decimal_number digits)) token (length prefix) len (sym (occurrence_is_whole prefix name digits following parts w are small) ∙ e)
+        in omega (arith, size)
 longer prefix following other token len (by_count _ name parts w) e =
     let size : length name + 1 ≤ len = count_longer name following token len w (sym (ap (λ x. lexeme_at (x ++ following)) parts) ∙ e) in omega (arith, size, ap length parts)
 longer prefix following other token len (by_operator _ _ o) e = operator_longer prefix following other token len o e
@@ -171,8 +177,10 @@ integer_is_written : (s : List ℕ) (token : Token) (len : ℕ) → integer_at s
 integer_is_written s token len =
     let word = take_while continues_name s in
     let cut = split continues_name s in
-    let step : (o : Option ℕ) → magnitude_of word ≡ o → (elim o [ None ↦ Broken 0 | Some n ↦ if nat_lt n (2 ^ 63) then Whole (Integer (pos n)) (length word) else Broken 0 ]) ≡ Whole token len → IsToken s token len =
-    λ o. elim o as (λ v. magnitude_of word ≡ v → (elim v [ None ↦ Broken 0 | Some n ↦ if nat_lt n (2 ^ 63) then Whole (Integer (pos n)) (length word) else Broken 0 ]) ≡ Whole token len → IsToken s token len) [
+    let step : (o : Option ℕ) → magnitude_of word ≡ o → (elim o [ None ↦ Broken 0 | Some n ↦ if nat_lt n (2 ^ 63) then Whole (Integer (pos n)) (length word) else Broken 0 ]) ≡ Whole token len
+        → IsToken s token len =
+    λ o. elim o as (λ v. magnitude_of word ≡ v → (elim v [ None ↦ Broken 0 | Some n ↦ if nat_lt n (2 ^ 63) then Whole (Integer (pos n)) (length word) else Broken 0 ]) ≡ Whole token len
+        → IsToken s token len) [
       | None ↦ λ is e. absurd (cc)
       | Some n ↦ λ is. if_cases (IsToken s token len) (nat_lt n (2 ^ 63)) (Whole (Integer (pos n)) (length word)) (Broken 0) (Whole token len)
           (λ h e. as_whole s (Integer (pos n)) token (length word) len e (record {
@@ -190,7 +198,8 @@ integer_is_written s token len =
 pub some_digits : (digits : List ℕ) → (length digits == 0) ≡ false → digits ≢ []
 some_digits digits h e = let none : length digits ≡ 0 = ap length e in eqb-false (length digits) 0 h none
 
-closing_is_written : (name digits following : List ℕ) (at : ℕ) (token : Token) (len : ℕ) → at ≡ length name + 1 + length digits → is_plain_name name ≡ true → AreDigits digits [] → decimal_number digits ≤ greatest
+closing_is_written : (name digits following : List ℕ) (at : ℕ) (token : Token) (len : ℕ) → at ≡ length name + 1 + length digits → is_plain_name name ≡ true → AreDigits digits []
+    → decimal_number digits ≤ greatest
     → closing_at name (decimal_number digits) following at ≡ Whole token len → IsToken (name ++ 91 ∷ (digits ++ following)) token len
 closing_is_written name digits [] at token len size w are small e = absurd (cc)
 closing_is_written name digits (b ∷ bs) at token len size w are small e =
@@ -212,7 +221,8 @@ subscript_is_written name s token len w e =
     let cut = split is_ascii_digit s in
     let following : drop (length digits) s ≡ cut.rest = ap (drop (length digits)) cut.parts ∙ drop_at digits cut.rest (length digits) refl in
     let here : IsToken (name ++ 91 ∷ (digits ++ cut.rest)) token len =
-    if_cases (IsToken (name ++ 91 ∷ (digits ++ cut.rest)) token len) (length digits == 0 || nat_lt greatest (decimal_number digits)) (Broken (length name + 1)) (closing_at name (decimal_number digits) (drop (length digits) s) (length name + 1 + length digits)) (Whole token len)
+    if_cases (IsToken (name ++ 91 ∷ (digits ++ cut.rest)) token len) (length digits == 0 || nat_lt greatest (decimal_number digits)) (Broken (length name + 1))
+        (closing_at name (decimal_number digits) (drop (length digits) s) (length name + 1 + length digits)) (Whole token len)
     (λ h f. absurd (cc))
     (λ h f.
     let parts = or_parts (length digits == 0) (nat_lt greatest (decimal_number digits)) h in
@@ -221,13 +231,15 @@ subscript_is_written name s token len w e =
     (ap (λ x. closing_at name (decimal_number digits) x (length name + 1 + length digits)) (sym following) ∙ f)) e in
     subst (λ x. IsToken (name ++ 91 ∷ x) token len) (sym cut.parts) here
 
-after_name_is_written : (name rest : List ℕ) (token : Token) (len : ℕ) → is_plain_name name ≡ true → begins continues_name rest ≡ false → token_after_name name rest ≡ Whole token len → IsToken (name ++ rest) token len
+after_name_is_written : (name rest : List ℕ) (token : Token) (len : ℕ) → is_plain_name name ≡ true → begins continues_name rest ≡ false → token_after_name name rest ≡ Whole token len
+    → IsToken (name ++ rest) token len
 after_name_is_written name [] token len w ended e =
     as_whole (name ++ []) (Name name) token (length name) len e (record { bytes = name; rest = []; parts = refl; size = refl; spells = by_name name w; ended = refl })
 after_name_is_written name (b ∷ bs) token len w ended e =
     if_cases (IsToken (name ++ b ∷ bs) token len) (b == 91) (subscript_at name bs (length name + 1)) (Whole (Name name) (length name)) (Whole token len)
     (λ h f. subst (λ x. IsToken (name ++ x ∷ bs) token len) (sym (eqb-true b 91 h)) (subscript_is_written name bs token len w f))
-    (λ h f. as_whole (name ++ b ∷ bs) (Name name) token (length name) len f (record { bytes = name; rest = b ∷ bs; parts = refl; size = refl; spells = by_name name w; ended = or_from (continues_name b) (b == 91) ended h })) e
+    (λ h f. as_whole (name ++ b ∷ bs) (Name name) token (length name) len f (record { bytes = name; rest = b ∷ bs; parts = refl; size = refl; spells = by_name name w;
+        ended = or_from (continues_name b) (b == 91) ended h })) e
 
 name_is_written : (b : ℕ) (bs : List ℕ) (token : Token) (len : ℕ) → is_letter b ≡ true → name_at (b ∷ bs) ≡ Whole token len → IsToken (b ∷ bs) token len
 name_is_written b bs token len h e =
@@ -294,7 +306,8 @@ literal_is_closed quote (b ∷ c ∷ bs) x e =
             closes = (t.bytes, t.closes, inr (refl, q));
           })
     ] in
-    let plain : (o : Option (List ℕ × ℕ)) → literal_from quote (c ∷ bs) ≡ o → (b == quote) ≡ false → (b == 92 && (c == 39 || c == 34)) ≡ false → with_byte b o ≡ Some x → IsClosed quote (b ∷ c ∷ bs) x.0 x.1 =
+    let plain : (o : Option (List ℕ × ℕ)) → literal_from quote (c ∷ bs) ≡ o → (b == quote) ≡ false → (b == 92 && (c == 39 || c == 34)) ≡ false → with_byte b o ≡ Some x
+        → IsClosed quote (b ∷ c ∷ bs) x.0 x.1 =
     λ o. elim o as (λ v. literal_from quote (c ∷ bs) ≡ v → (b == quote) ≡ false → (b == 92 && (c == 39 || c == 34)) ≡ false → with_byte b v ≡ Some x → IsClosed quote (b ∷ c ∷ bs) x.0 x.1) [
       | None ↦ λ is other none f. absurd (cc)
       | Some y ↦ λ is other none f.
@@ -308,7 +321,8 @@ literal_is_closed quote (b ∷ c ∷ bs) x e =
           })
     ] in
     if_cases (IsClosed quote (b ∷ c ∷ bs) x.0 x.1) (b == quote) (Some ([], 1)) _ (Some x) (λ h f. closed_here quote b (c ∷ bs) x h f)
-    (λ h. if_cases (IsClosed quote (b ∷ c ∷ bs) x.0 x.1) (b == 92 && (c == 39 || c == 34)) (option_map (λ y. (c ∷ y.0, y.1 + 2)) (literal_from quote bs)) (with_byte b (literal_from quote (c ∷ bs))) (Some x)
+    (λ h. if_cases (IsClosed quote (b ∷ c ∷ bs) x.0 x.1) (b == 92 && (c == 39 || c == 34)) (option_map (λ y. (c ∷ y.0, y.1 + 2)) (literal_from quote bs)) (with_byte b (literal_from quote (c ∷ bs)))
+        (Some x)
     (λ k f. let both = and_parts (b == 92) (c == 39 || c == 34) k in escaped (literal_from quote bs) refl (eqb-true b 92 both.0) both.1 f)
     (λ k f. plain (literal_from quote (c ∷ bs)) refl h k f)) e
 
@@ -363,7 +377,8 @@ one_is_written b bs token len =
     let step : (o : Option Token) → token_of_one b ≡ o → (elim o [ None ↦ Broken 0 | Some t ↦ Whole t 1 ]) ≡ Whole token len → IsToken (b ∷ bs) token len =
     λ o. elim o as (λ v. token_of_one b ≡ v → (elim v [ None ↦ Broken 0 | Some t ↦ Whole t 1 ]) ≡ Whole token len → IsToken (b ∷ bs) token len) [
       | None ↦ λ is e. absurd (cc)
-      | Some t ↦ λ is e. as_whole (b ∷ bs) t token 1 len e (record { bytes = b ∷ []; rest = bs; parts = refl; size = refl; spells = by_operator (b ∷ []) t is; ended = ended_before t bs (one_is_ended b t is) })
+      | Some t ↦ λ is e. as_whole (b ∷ bs) t token 1 len e (record { bytes = b ∷ []; rest = bs; parts = refl; size = refl; spells = by_operator (b ∷ []) t is;
+          ended = ended_before t bs (one_is_ended b t is) })
     ] in
     step (token_of_one b) refl
 
@@ -374,7 +389,8 @@ operator_is_written (b ∷ c ∷ bs) token len e =
     let step : (o : Option Token) → token_of_two b c ≡ o → (elim o [ None ↦ of_one b | Some t ↦ Whole t 2 ]) ≡ Whole token len → IsToken (b ∷ c ∷ bs) token len =
     λ o. elim o as (λ v. token_of_two b c ≡ v → (elim v [ None ↦ of_one b | Some t ↦ Whole t 2 ]) ≡ Whole token len → IsToken (b ∷ c ∷ bs) token len) [
       | None ↦ λ is f. one_is_written b (c ∷ bs) token len f
-      | Some t ↦ λ is f. as_whole (b ∷ c ∷ bs) t token 2 len f (record { bytes = b ∷ c ∷ []; rest = bs; parts = refl; size = refl; spells = by_operator (b ∷ c ∷ []) t is; ended = ended_before t bs (two_is_ended b c t is) })
+      | Some t ↦ λ is f. as_whole (b ∷ c ∷ bs) t token 2 len f (record { bytes = b ∷ c ∷ []; rest = bs; parts = refl; size = refl; spells = by_operator (b ∷ c ∷ []) t is;
+          ended = ended_before t bs (two_is_ended b c t is) })
     ] in
     step (token_of_two b c) refl e
 
@@ -392,7 +408,8 @@ pub IsLongest-read : (s : List ℕ) (token : Token) (len : ℕ) → lexeme_at s 
 IsLongest-read s token len e t = record {
   spells = t.spells;
   ended = t.ended;
-  longest = λ other prefix following parts spells. let few : length prefix ≤ len = longer prefix following other token len spells (ap lexeme_at (sym parts) ∙ ap lexeme_at (sym t.parts) ∙ e) in omega (arith, few, t.size);
+  longest = λ other prefix following parts spells. let few : length prefix ≤ len =
+      longer prefix following other token len spells (ap lexeme_at (sym parts) ∙ ap lexeme_at (sym t.parts) ∙ e) in omega (arith, few, t.size);
 }
 
 pub IsLongest-lexeme : (bytes rest : List ℕ) (token : Token) → IsLongest bytes rest token → lexeme_at (bytes ++ rest) ≡ Whole token (length bytes)

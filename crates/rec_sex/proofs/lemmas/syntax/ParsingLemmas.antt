@@ -1,5 +1,6 @@
 -- Patterns built from texts, one more at a time.
-use Rattle.std.proofs.Common.{ℕ, ◌+◌, ◌<◌, List, [], ◌∷◌, ◌++◌, length, take, get_or, add-one, ◌≡◌, ℤ, zero, suc, ◌-◌, ◌≤◌, true, false, drop, map, refl, ap, sym, ◌∙◌, subst, append_assoc, zero-add, length-append, Some, unwrap_or, slice_get, arith, lit≤}
+use Rattle.std.proofs.Common.{ℕ, ◌+◌, ◌<◌, List, [], ◌∷◌, ◌++◌, length, take, get_or, add-one, ◌≡◌, ℤ, zero, suc, ◌-◌, ◌≤◌, true, false, drop, map, refl, ap, sym, ◌∙◌, subst, append_assoc, zero-add,
+    length-append, Some, unwrap_or, slice_get, arith, lit≤}
 use Rattle.std.proofs.Math.Seq.{take-suc, get_or-append_seam}
 use Rattle.std.specs.Str.{is_utf8}
 use Rattle.std.specs.Option.{option_map}
@@ -11,13 +12,15 @@ use Rattle.regex.specs.declared.string.regex.Regex.{Regex}
 use Rattle.regex.specs.Patterns.{empty as no_pattern}
 use Rattle.regex.specs.Strings.{regex_pattern}
 use Rattle.rec_sex.specs.Patterns.{IsBuiltFrom}
-use Rattle.rec_sex.specs.proving.Parsing.{AreBuiltFrom, AreAmong, Passes, IsTree, Extends, IsBoundAbove, IsFoundTree, MayStand, AreNumbered, takes_from, level_at, left_level, right_level, begins_conditional}
+use Rattle.rec_sex.specs.proving.Parsing.{AreBuiltFrom, AreAmong, Passes, IsTree, Extends, IsBoundAbove, IsFoundTree, MayStand, AreNumbered, takes_from, level_at, left_level, right_level,
+    begins_conditional}
 use Rattle.rec_sex.specs.declared.syntax.token.Token.{Token}
 use Rattle.rec_sex.specs.declared.syntax.token.Token.TheVariants.{Integer, Literal, Name, Occurrence, Count, Not, Binary, Found, Open, Close, Then, Else}
 use Rattle.rec_sex.specs.declared.syntax.tree.Tree.{Tree, Integer as IntegerTree, Literal as LiteralTree, Name as NameTree, Occurrence as OccurrenceTree, Count as CountTree}
 use Rattle.rec_sex.specs.declared.syntax.token.Operator.{Operator}
 use Rattle.rec_sex.specs.declared.syntax.token.Operator.TheVariants.{Subtract, Implies}
-use Rattle.rec_sex.specs.Grammar.{Term, Derives, IsPatternOf, AreTaken, walk_start, by_next, by_conditional, by_implication, by_operator, by_pattern, by_not, by_minus, by_integer, by_literal, by_name, by_occurrence, by_count, by_parentheses, level_of, number, literal, field, occurrence, count, inverse, negated, binary, conditional, Parenthesis, Question, Operand, Infix}
+use Rattle.rec_sex.specs.Grammar.{Term, Derives, IsPatternOf, AreTaken, walk_start, by_next, by_conditional, by_implication, by_operator, by_pattern, by_not, by_minus, by_integer, by_literal, by_name,
+    by_occurrence, by_count, by_parentheses, level_of, number, literal, field, occurrence, count, inverse, negated, binary, conditional, Parenthesis, Question, Operand, Infix}
 use Rattle.rec_sex.specs.Expressions.{pattern_at, term_with}
 use Rattle.rec_sex.proofs.lemmas.syntax.WalkLemmas.{takes_walked, levels, after_operator, after_pattern, operator_is_minus, ends_in_parenthesis, ends_in_else, ends_in_nothing}
 
@@ -66,13 +69,15 @@ numbered_before texts more text patterns e numbered = λ i h.
     let same : get_or more i [] ≡ get_or texts i [] = ap (λ x. get_or x i []) e ∙ get_or-append texts (text ∷ []) [] i h in
     subst (λ x. IsPatternOf x (pattern_at (map regex_pattern patterns) i)) same here
 
-numbered_last : (texts more : List (List ℕ)) (text : List ℕ) (patterns : List Regex) → more ≡ texts ++ text ∷ [] → AreNumbered more patterns → IsPatternOf text (pattern_at (map regex_pattern patterns) (length texts))
+numbered_last : (texts more : List (List ℕ)) (text : List ℕ) (patterns : List Regex) → more ≡ texts ++ text ∷ [] → AreNumbered more patterns
+    → IsPatternOf text (pattern_at (map regex_pattern patterns) (length texts))
 numbered_last texts more text patterns e numbered =
     let within : length texts < length more = omega (arith, ap length e, length-append texts (text ∷ [])) in
     let same : get_or more (length texts) [] ≡ text = ap (λ x. get_or x (length texts) []) e ∙ get_or-append_seam texts text [] [] in
     subst (λ x. IsPatternOf x (pattern_at (map regex_pattern patterns) (length texts))) same (numbered (length texts) within)
 
-abbrev pub Passes-pattern : (text : List ℕ) (tokens rest : List Token) (texts more : List (List ℕ)) → tokens ≡ Literal text ∷ rest → is_utf8 text ≡ true → more ≡ texts ++ text ∷ [] → Passes (Found ∷ tokens) rest texts more
+abbrev pub Passes-pattern : (text : List ℕ) (tokens rest : List Token) (texts more : List (List ℕ)) → tokens ≡ Literal text ∷ rest → is_utf8 text ≡ true → more ≡ texts ++ text ∷ []
+    → Passes (Found ∷ tokens) rest texts more
 Passes-pattern text tokens rest texts more e utf8 collected = record {
   used = Found ∷ Literal text ∷ [];
   parts = ap (λ x. Found ∷ x) e;
@@ -82,7 +87,8 @@ Passes-pattern text tokens rest texts more e utf8 collected = record {
       subst (λ x. AreAmong whole x) (sym collected) (among_more whole texts text h here);
 }
 
-numbered_built : (texts : List (List ℕ)) (patterns : List Regex) → AreBuiltFrom texts patterns → (i : ℕ) → i < length texts → (r : Regex) × (slice_get patterns i ≡ Some r) × IsBuiltFrom (get_or texts i []) r
+numbered_built : (texts : List (List ℕ)) (patterns : List Regex) → AreBuiltFrom texts patterns → (i : ℕ) → i < length texts
+    → (r : Regex) × (slice_get patterns i ≡ Some r) × IsBuiltFrom (get_or texts i []) r
 numbered_built [] [] built i h = absurd (omega arith)
 numbered_built [] (pattern ∷ patterns) built i h = absurd built
 numbered_built (text ∷ texts) [] built i h = absurd built
@@ -109,7 +115,8 @@ Derives-weaker level strong tokens a h k d =
     let same : strong ≡ (strong - level) + level = omega arith in
     weaker_by (strong - level) level tokens a (omega arith) (subst (λ n. Derives n tokens a) same d)
 
-pub IsTree-weaker : (level strong : ℕ) (tokens rest : List Token) (texts more : List (List ℕ)) (tree : Tree) → level ≤ strong → strong ≤ 9 → IsTree strong tokens rest texts more tree → IsTree level tokens rest texts more tree
+pub IsTree-weaker : (level strong : ℕ) (tokens rest : List Token) (texts more : List (List ℕ)) (tree : Tree) → level ≤ strong → strong ≤ 9 → IsTree strong tokens rest texts more tree
+    → IsTree level tokens rest texts more tree
 IsTree-weaker level strong tokens rest texts more tree h k t = record {
   passes = t.passes;
   derived = λ patterns numbered. Derives-weaker level strong t.passes.used (term_with patterns tree) h k (t.derived patterns numbered);
@@ -121,7 +128,8 @@ IsTree-weaker level strong tokens rest texts more tree h k t = record {
 pub left_level-within : (level bound : ℕ) → 1 ≤ level → level < right_level bound → 1 ≤ bound → left_level level ≤ bound
 left_level-within level bound h k b = grind (arith, nat_tests)
 
-pub IsBoundAbove-more : (level : ℕ) (tokens middle rest : List Token) (texts some more : List (List ℕ)) (left tree : Tree) → 1 ≤ level → level ≤ level_at middle → IsBoundAbove level tokens middle texts some left → Extends middle rest some more left tree → IsBoundAbove level tokens rest texts more tree
+pub IsBoundAbove-more : (level : ℕ) (tokens middle rest : List Token) (texts some more : List (List ℕ)) (left tree : Tree) → 1 ≤ level → level ≤ level_at middle
+    → IsBoundAbove level tokens middle texts some left → Extends middle rest some more left tree → IsBoundAbove level tokens rest texts more tree
 IsBoundAbove-more level tokens middle rest texts some more left tree h k a b = record {
   bound = level_at middle;
   low = k;
@@ -181,14 +189,16 @@ module _ (tokens rest : List Token) (texts : List (List ℕ)) where
 -- ---- signs and parentheses
 
 module _ (tokens inner rest : List Token) (texts more : List (List ℕ)) (operand tree : Tree) where
-  pub IsTree-not : tokens ≡ Not ∷ inner → IsTree 8 inner rest texts more operand → ((patterns : List Regex) → term_with patterns tree ≡ inverse (term_with patterns operand)) → IsTree 8 tokens rest texts more tree
+  pub IsTree-not : tokens ≡ Not ∷ inner → IsTree 8 inner rest texts more operand → ((patterns : List Regex) → term_with patterns tree ≡ inverse (term_with patterns operand))
+      → IsTree 8 tokens rest texts more tree
   IsTree-not e t same = record {
     passes = Passes-join tokens inner rest texts texts more (Passes-token Not tokens inner texts e) t.passes;
     derived = λ patterns numbered. rw same (by_not (Not ∷ t.passes.used) t.passes.used (term_with patterns operand) refl (t.derived patterns numbered));
     goes_on = λ stack taken. t.goes_on stack (rw e at taken);
   }
 
-  pub IsTree-minus : (op : Operator) → MayStand Operand tokens → tokens ≡ Binary op ∷ inner → IsTree 8 inner rest texts more operand → ((patterns : List Regex) → term_with patterns tree ≡ negated (term_with patterns operand)) → IsTree 8 tokens rest texts more tree
+  pub IsTree-minus : (op : Operator) → MayStand Operand tokens → tokens ≡ Binary op ∷ inner → IsTree 8 inner rest texts more operand
+      → ((patterns : List Regex) → term_with patterns tree ≡ negated (term_with patterns operand)) → IsTree 8 tokens rest texts more tree
   IsTree-minus op may e t same =
       let minus : op ≡ Subtract = (operator_is_minus may.stack op inner (rw e at may.taken)).0 in
       let f : tokens ≡ Binary Subtract ∷ inner = e ∙ ap (λ x. Binary x ∷ inner) minus in
@@ -199,7 +209,8 @@ module _ (tokens inner rest : List Token) (texts more : List (List ℕ)) (operan
       }
 
 -- the parenthesis that is popped after an expression closes it
-pub IsTree-parentheses : (tokens inner after_inner rest : List Token) (texts more : List (List ℕ)) (tree : Tree) → MayStand Operand tokens → tokens ≡ Open ∷ inner → IsTree 0 inner after_inner texts more tree → level_at after_inner ≡ 0 → begins_conditional after_inner ≡ false → rest ≡ drop 1 after_inner → IsTree 8 tokens rest texts more tree
+pub IsTree-parentheses : (tokens inner after_inner rest : List Token) (texts more : List (List ℕ)) (tree : Tree) → MayStand Operand tokens → tokens ≡ Open ∷ inner
+    → IsTree 0 inner after_inner texts more tree → level_at after_inner ≡ 0 → begins_conditional after_inner ≡ false → rest ≡ drop 1 after_inner → IsTree 8 tokens rest texts more tree
 IsTree-parentheses tokens inner after_inner rest texts more tree may e t level none popped =
     let close = ends_in_parenthesis may.stack after_inner (t.goes_on (Parenthesis ∷ may.stack) (rw e at may.taken)) level none in
     let f : after_inner ≡ Close ∷ rest = close.1 ∙ ap (λ x. Close ∷ x) (sym (popped ∙ ap (λ x. drop 1 x) close.1)) in
@@ -213,7 +224,8 @@ IsTree-parentheses tokens inner after_inner rest texts more tree may e t level n
 
 -- ---- operators after an operand
 
-pub operator_derives : (op : Operator) (left right : List Token) (a b : Term) → Derives (left_level (level_of op)) left a → Derives (right_level (level_of op)) right b → Derives (level_of op) (left ++ Binary op ∷ right) (binary op a b)
+pub operator_derives : (op : Operator) (left right : List Token) (a b : Term) → Derives (left_level (level_of op)) left a → Derives (right_level (level_of op)) right b
+    → Derives (level_of op) (left ++ Binary op ∷ right) (binary op a b)
 operator_derives Implies left right a b d f = by_implication (left ++ Binary Implies ∷ right) left right a b refl d f
 operator_derives op left right a b d f = by_operator op (left ++ Binary op ∷ right) left right a b (lit≤ tt) refl d f
 
@@ -221,7 +233,8 @@ fewer : (tokens used rest : List Token) → tokens ≡ used ++ rest → length r
 fewer tokens used rest e = omega (arith, ap length e, length-append used rest)
 
 module _ (tokens middle rest : List Token) (texts more : List (List ℕ)) (left tree : Tree) where
-  pub Extends-binary : (op : Operator) (level : ℕ) (right : Tree) → tokens ≡ Binary op ∷ middle → level ≡ right_level (level_of op) → IsTree level middle rest texts more right → level_at rest < level → ((patterns : List Regex) → term_with patterns tree ≡ binary op (term_with patterns left) (term_with patterns right)) → Extends tokens rest texts more left tree
+  pub Extends-binary : (op : Operator) (level : ℕ) (right : Tree) → tokens ≡ Binary op ∷ middle → level ≡ right_level (level_of op) → IsTree level middle rest texts more right → level_at rest < level
+      → ((patterns : List Regex) → term_with patterns tree ≡ binary op (term_with patterns left) (term_with patterns right)) → Extends tokens rest texts more left tree
   Extends-binary op level right e l t ends same =
       let u : IsTree (right_level (level_of op)) middle rest texts more right = subst (λ n. IsTree n middle rest texts more right) l t in
       let here : Extends (Binary op ∷ middle) rest texts more left tree = record {
@@ -237,7 +250,8 @@ module _ (tokens middle rest : List Token) (texts more : List (List ℕ)) (left 
   Extends-found may e f =
       let here : Extends (Found ∷ middle) rest texts more left tree = record {
         passes = Passes-pattern f.text middle rest texts more f.parts f.utf8 f.collected;
-        derived = λ patterns numbered prefix d. rw f.term (by_pattern (prefix ++ Found ∷ Literal f.text ∷ []) prefix (term_with patterns left) f.text (pattern_at (map regex_pattern patterns) (length texts)) refl d (numbered_last texts more f.text patterns f.collected numbered));
+        derived = λ patterns numbered prefix d. rw f.term (by_pattern (prefix ++ Found ∷ Literal f.text ∷ []) prefix (term_with patterns left) f.text
+            (pattern_at (map regex_pattern patterns) (length texts)) refl d (numbered_last texts more f.text patterns f.collected numbered));
         goes_on = λ stack taken. (after_pattern stack f.text rest (rw f.parts at taken) f.utf8).0;
         stops = (after_pattern may.stack f.text rest (rw (e, f.parts) at may.taken) f.utf8).1;
         shorter = let few : length middle ≡ length rest + 1 = (ap length f.parts ∙ omega arith) in omega arith;
@@ -280,7 +294,8 @@ takes_all tokens taken = takes_walked walk_start taken.last tokens taken.walks t
 pub MayStand-all : (tokens all : List Token) → AreTaken tokens → all ≡ tokens → MayStand Operand all
 MayStand-all tokens all taken e = record { stack = []; taken = ap (λ x. takes_from Operand [] x) e ∙ takes_all tokens taken }
 
-module _ (tokens all rest : List Token) (texts more : List (List ℕ)) (tree : Tree) (taken : AreTaken tokens) (same : all ≡ tokens) (empty : texts ≡ []) (t : IsTree 0 all rest texts more tree) (level : level_at rest ≡ 0) (none : begins_conditional rest ≡ false) where
+module _ (tokens all rest : List Token) (texts more : List (List ℕ)) (tree : Tree) (taken : AreTaken tokens) (same : all ≡ tokens) (empty : texts ≡ []) (t : IsTree 0 all rest texts more tree)
+    (level : level_at rest ≡ 0) (none : begins_conditional rest ≡ false) where
   all_used : t.passes.used ≡ tokens
   all_used =
       let end : rest ≡ [] = ends_in_nothing rest (t.goes_on [] (ap (λ x. takes_from Operand [] x) same ∙ takes_all tokens taken)) level none in

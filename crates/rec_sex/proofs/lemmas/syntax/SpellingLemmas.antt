@@ -1,5 +1,6 @@
 -- What is written is read: bytes that write a token are the token that the lexer answers.
-use Rattle.std.proofs.Common.{◌≡◌, ◌≢◌, ⊎_elim, ℕ, pos, ◌+◌, ◌-◌, ◌*◌, ◌^◌, ◌<◌, ◌≤◌, Bool, true, false, ◌==◌, ◌||◌, ◌&&◌, List, [], ◌∷◌, ◌++◌, Option, Some, None, length, drop, refl, ap, sym, ◌∙◌, subst, arith, cond, append_assoc, length-append, nat_le}
+use Rattle.std.proofs.Common.{◌≡◌, ◌≢◌, ⊎_elim, ℕ, pos, ◌+◌, ◌-◌, ◌*◌, ◌^◌, ◌<◌, ◌≤◌, Bool, true, false, ◌==◌, ◌||◌, ◌&&◌, List, [], ◌∷◌, ◌++◌, Option, Some, None, length, drop, refl, ap, sym, ◌∙◌,
+    subst, arith, cond, append_assoc, length-append, nat_le}
 use Rattle.std.specs.Prelude.{if◌then◌else◌, nat_lt, take_while}
 use Rattle.std.specs.Char.{is_ascii_digit}
 use Rattle.std.specs.List.{list_all}
@@ -15,7 +16,8 @@ use Rattle.rec_sex.specs.declared.syntax.token.Token.{Token}
 use Rattle.rec_sex.specs.declared.syntax.token.Token.TheVariants.{Integer, Literal, Name, Occurrence, Count}
 use Rattle.rec_sex.specs.IndexList.{AreDigits, begins, decimal_number, greatest}
 use Rattle.rec_sex.specs.Integers.{magnitude_of, digit_of, number_from, after_zero}
-use Rattle.rec_sex.specs.Tokens.{Lexeme, Whole, Broken, with_byte, literal_from, literal_at, integer_at, name_at, token_after_name, subscript_at, closing_at, token_of_one, token_of_two, of_one, operator_at, lexeme_at}
+use Rattle.rec_sex.specs.Tokens.{Lexeme, Whole, Broken, with_byte, literal_from, literal_at, integer_at, name_at, token_after_name, subscript_at, closing_at, token_of_one, token_of_two, of_one,
+    operator_at, lexeme_at}
 use Rattle.rec_sex.specs.TokenSpellings.{is_quote, begins_escape, Closes, operator_of, Spells, by_integer, by_literal, by_name, by_occurrence, by_count, by_operator, is_continued}
 
 -- ---- tests
@@ -78,8 +80,10 @@ small_digit b digit small e =
 number_bytes : (base n m : ℕ) (bs : List ℕ) → number_from base n bs ≡ Some m → list_all continues_name bs ≡ true
 number_bytes base n m [] e = refl
 number_bytes base n m (b ∷ bs) e =
-    let step : (o : Option ℕ) → digit_of b ≡ o → (option_and_then (λ digit. if nat_lt digit base then number_from base (n * base + digit) bs else None) o) ≡ Some m → list_all continues_name (b ∷ bs) ≡ true =
-    λ o. elim o as (λ v. digit_of b ≡ v → (option_and_then (λ digit. if nat_lt digit base then number_from base (n * base + digit) bs else None) v) ≡ Some m → list_all continues_name (b ∷ bs) ≡ true) [
+    let step : (o : Option ℕ) → digit_of b ≡ o → (option_and_then (λ digit. if nat_lt digit base then number_from base (n * base + digit) bs else None) o) ≡ Some m
+        → list_all continues_name (b ∷ bs) ≡ true =
+    λ o. elim o as (λ v. digit_of b ≡ v → (option_and_then (λ digit. if nat_lt digit base then number_from base (n * base + digit) bs else None) v) ≡ Some m
+        → list_all continues_name (b ∷ bs) ≡ true) [
       | None ↦ λ is f. absurd (cc)
       | Some digit ↦ λ is. elim (nat_lt digit base) as (λ t. (if t then number_from base (n * base + digit) bs else None) ≡ Some m → list_all continues_name (b ∷ bs) ≡ true) [
         | true ↦ λ f. rw (digit_is_byte b digit is, number_bytes base (n * base + digit) m bs f) refl
@@ -247,12 +251,14 @@ not_empty (d ∷ digits) some = grind (arith, nat_tests)
 abbrev pub subscript_with : List ℕ → List ℕ → List ℕ → ℕ → Lexeme
 subscript_with name digits following len = if length digits == 0 || nat_lt greatest (decimal_number digits) then Broken len else closing_at name (decimal_number digits) following (len + length digits)
 
-pub subscript_is_with : (name digits rest : List ℕ) (len : ℕ) → list_all is_ascii_digit digits ≡ true → begins is_ascii_digit rest ≡ false → subscript_at name (digits ++ rest) len ≡ subscript_with name digits rest len
+pub subscript_is_with : (name digits rest : List ℕ) (len : ℕ) → list_all is_ascii_digit digits ≡ true → begins is_ascii_digit rest ≡ false
+    → subscript_at name (digits ++ rest) len ≡ subscript_with name digits rest len
 subscript_is_with name digits rest len all ended =
     ap (λ x. subscript_with name x (drop (length x) (digits ++ rest)) len) (while_all is_ascii_digit digits rest all ended)
     ∙ ap (λ x. subscript_with name digits x len) (drop_at digits rest (length digits) refl)
 
-subscript_is_read : (name digits rest : List ℕ) (len : ℕ) → AreDigits digits [] → decimal_number digits ≤ greatest → subscript_at name (digits ++ 93 ∷ rest) len ≡ Whole (Occurrence name (decimal_number digits)) (len + length digits + 1)
+subscript_is_read : (name digits rest : List ℕ) (len : ℕ) → AreDigits digits [] → decimal_number digits ≤ greatest
+    → subscript_at name (digits ++ 93 ∷ rest) len ≡ Whole (Occurrence name (decimal_number digits)) (len + length digits + 1)
 subscript_is_read name digits rest len are small =
     let fits : nat_lt greatest (decimal_number digits) ≡ false = grind (arith, nat_tests) in
     subscript_is_with name digits (93 ∷ rest) len are.all refl
@@ -273,7 +279,8 @@ pub closes_some : (quote : ℕ) (bytes text : List ℕ) → Closes quote bytes t
 closes_some quote bytes [] e = (quote, [], e)
 closes_some quote bytes (c ∷ text) h = ⊎_elim (λ (k : (bytes ≡ c ∷ h.0) × (c ≢ quote) × (begins_escape bytes ≡ false)). (c, h.0, k.0)) (λ k. (92, c ∷ h.0, k.0)) h.2
 
-plain_is_read : (quote c : ℕ) (more rest text : List ℕ) (n : ℕ) → c ≢ quote → begins_escape (c ∷ more) ≡ false → ((b : ℕ) × (bs : List ℕ) × (more ≡ b ∷ bs)) → literal_from quote (more ++ rest) ≡ Some (text, n)
+plain_is_read : (quote c : ℕ) (more rest text : List ℕ) (n : ℕ) → c ≢ quote → begins_escape (c ∷ more) ≡ false → ((b : ℕ) × (bs : List ℕ) × (more ≡ b ∷ bs))
+    → literal_from quote (more ++ rest) ≡ Some (text, n)
     → literal_from quote (c ∷ (more ++ rest)) ≡ Some (c ∷ text, n + 1)
 plain_is_read quote c [] rest text n ne plain some e = let none = some.2 in absurd (cc)
 plain_is_read quote c (d ∷ ds) rest text n ne plain some e =
@@ -305,7 +312,8 @@ closes_is_read quote bytes rest (c ∷ text) q h =
     (escape_is_read quote c more rest text (length more) q k.1 following ∙ ap (λ n. Some (c ∷ text, n)) (omega arith)))
     h.2
 
-literal_is_read : (quote : ℕ) (following rest text : List ℕ) → is_quote quote ≡ true → Closes quote following text → lexeme_at (quote ∷ (following ++ rest)) ≡ Whole (Literal text) (length following + 1)
+literal_is_read : (quote : ℕ) (following rest text : List ℕ) → is_quote quote ≡ true → Closes quote following text
+    → lexeme_at (quote ∷ (following ++ rest)) ≡ Whole (Literal text) (length following + 1)
 literal_is_read quote following rest text q closes =
     lexeme_at-quote quote q (following ++ rest) ∙ ap (λ o. elim o [ None ↦ Broken 0 | Some x ↦ Whole (Literal x.0) (x.1 + 1) ]) (closes_is_read quote following rest text q closes)
 
@@ -354,7 +362,8 @@ occurrence_is_whole bytes name digits rest e w are small =
     ap (λ x. lexeme_at (x ++ rest)) e ∙ ap lexeme_at (occurrence_parts name digits rest) ∙ occurrence_is_read name digits rest w are small
     ∙ ap (Whole (Occurrence name (decimal_number digits))) (sym (ap length e ∙ occurrence_size name digits))
 
-pub literal_is_whole : (bytes following rest text : List ℕ) (quote : ℕ) → bytes ≡ quote ∷ following → is_quote quote ≡ true → Closes quote following text → lexeme_at (bytes ++ rest) ≡ Whole (Literal text) (length bytes)
+pub literal_is_whole : (bytes following rest text : List ℕ) (quote : ℕ) → bytes ≡ quote ∷ following → is_quote quote ≡ true → Closes quote following text
+    → lexeme_at (bytes ++ rest) ≡ Whole (Literal text) (length bytes)
 literal_is_whole bytes following rest text quote e q closes =
     ap (λ x. lexeme_at (x ++ rest)) e ∙ literal_is_read quote following rest text q closes ∙ ap (Whole (Literal text)) (omega (arith, ap length e))
 

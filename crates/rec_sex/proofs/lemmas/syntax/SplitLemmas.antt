@@ -8,7 +8,8 @@ use Rattle.rec_sex.specs.declared.syntax.token.Operator.{Operator}
 use Rattle.rec_sex.specs.declared.syntax.token.Operator.TheVariants.{Subtract, Implies}
 use Rattle.rec_sex.specs.declared.syntax.token.Token.{Token}
 use Rattle.rec_sex.specs.declared.syntax.token.Token.TheVariants.{Integer, Literal, Name, Occurrence, Count, Not, Binary, Found, Open, Close, Then, Else}
-use Rattle.rec_sex.specs.Grammar.{Term, Derives, by_conditional, by_implication, by_operator, by_pattern, by_not, by_minus, by_next, by_integer, by_literal, by_name, by_occurrence, by_count, by_parentheses, Walk, Want, Opened, Parenthesis, Question, Operand, Infix, Comparison, Pattern, following, after_operand, after_found, after_operand_wanted, may_end, level_of}
+use Rattle.rec_sex.specs.Grammar.{Term, Derives, by_conditional, by_implication, by_operator, by_pattern, by_not, by_minus, by_next, by_integer, by_literal, by_name, by_occurrence, by_count,
+    by_parentheses, Walk, Want, Opened, Parenthesis, Question, Operand, Infix, Comparison, Pattern, following, after_operand, after_found, after_operand_wanted, may_end, level_of}
 use Rattle.rec_sex.specs.proving.Parsing.{takes, takes_from, left_level, right_level}
 use Rattle.rec_sex.proofs.lemmas.syntax.WalkLemmas.{after_operator, after_pattern, operator_levels}
 use Rattle.rec_sex.proofs.lemmas.syntax.GrammarLemmas.{regroup, takes_derived, utf8_of_pattern}
@@ -21,7 +22,8 @@ pub data Divisions (left right prefix rest : List Token) (main other : Token) : 
   before : (between : List Token) → prefix ≡ left ++ main ∷ between → right ≡ between ++ other ∷ rest → Divisions left right prefix rest main other
   after : (between : List Token) → left ≡ prefix ++ other ∷ between → rest ≡ between ++ main ∷ right → Divisions left right prefix rest main other
 
-Divisions-cons : (token : Token) (left right prefix rest : List Token) (main other : Token) → Divisions left right prefix rest main other → Divisions (token ∷ left) right (token ∷ prefix) rest main other
+Divisions-cons : (token : Token) (left right prefix rest : List Token) (main other : Token) → Divisions left right prefix rest main other
+    → Divisions (token ∷ left) right (token ∷ prefix) rest main other
 Divisions-cons token left right prefix rest main other (together e f g) = together (ap (λ x. token ∷ x) e) f g
 Divisions-cons token left right prefix rest main other (before between e f) = before between (ap (λ x. token ∷ x) e) f
 Divisions-cons token left right prefix rest main other (after between e f) = after between (ap (λ x. token ∷ x) e) f
@@ -58,12 +60,14 @@ longer_found : (utf8 : Bool) (more stack : List Opened) (next : Walk) → (if ut
 longer_found true more stack next e = ap (option_map (longer more)) e
 longer_found false more stack next e = absurd (cc)
 
-after_operand_wanted-longer : (more stack : List Opened) (token : Token) (next : Walk) → after_operand_wanted stack token ≡ Some next → after_operand_wanted (stack ++ more) token ≡ Some (longer more next)
+after_operand_wanted-longer : (more stack : List Opened) (token : Token) (next : Walk) → after_operand_wanted stack token ≡ Some next
+    → after_operand_wanted (stack ++ more) token ≡ Some (longer more next)
 after_operand_wanted-longer more stack (Binary Subtract) next e = ap (option_map (longer more)) e
 after_operand_wanted-longer more stack (Binary _) next e = absurd (cc)
 after_operand_wanted-longer more stack _ next e = ap (option_map (longer more)) e
 
-after_operand-longer : (any : Bool) (more stack : List Opened) (token : Token) (next : Walk) → after_operand any stack token ≡ Some next → after_operand any (stack ++ more) token ≡ Some (longer more next)
+after_operand-longer : (any : Bool) (more stack : List Opened) (token : Token) (next : Walk) → after_operand any stack token ≡ Some next
+    → after_operand any (stack ++ more) token ≡ Some (longer more next)
 after_operand-longer any more stack (Binary op) next e = longer_if (nat_le (level_of op) (if any then 7 else 4)) more stack next e
 after_operand-longer any more [] Close next e = absurd (cc)
 after_operand-longer any more (Parenthesis ∷ stack) Close next e = ap (option_map (longer more)) e
@@ -109,7 +113,8 @@ took : (tokens these : List Token) (stack : List Opened) → tokens ≡ these �
 took tokens these stack e h = ap (λ x. takes_from Operand stack x) (sym e) ∙ h
 
 -- the walk stands as before, and wants an operator
-pub goes_on : (level : ℕ) (tokens : List Token) (a : Term) → Derives level tokens a → (stack : List Opened) (rest : List Token) → takes_from Operand stack (tokens ++ rest) ≡ true → takes_from Infix stack rest ≡ true
+pub goes_on : (level : ℕ) (tokens : List Token) (a : Term) → Derives level tokens a → (stack : List Opened) (rest : List Token) → takes_from Operand stack (tokens ++ rest) ≡ true
+    → takes_from Infix stack rest ≡ true
 goes_on level tokens a (by_conditional _ condition yes_part no_part c x y e dc dx dy) stack rest h =
     goes_on 0 no_part y dy stack rest
     (goes_on 0 yes_part x dx (Question ∷ stack) (Else ∷ (no_part ++ rest))
@@ -177,7 +182,8 @@ Bind-divided level left right prefix rest main token here on_left on_right (afte
 
 taken_after_operator : (level : ℕ) (left prefix : List Token) (op : Operator) (a : Term) → Derives level left a → Taken ((left ++ Binary op ∷ []) ++ prefix) → Taken prefix
 taken_after_operator level left prefix op a d taken =
-    after_operator [] op prefix (goes_on level left a d [] (Binary op ∷ prefix) (took ((left ++ Binary op ∷ []) ++ prefix) (left ++ Binary op ∷ prefix) [] (append_assoc left (Binary op ∷ []) prefix) taken))
+    after_operator [] op prefix (goes_on level left a d [] (Binary op ∷ prefix)
+        (took ((left ++ Binary op ∷ []) ++ prefix) (left ++ Binary op ∷ prefix) [] (append_assoc left (Binary op ∷ []) prefix) taken))
 
 nothing_after_pattern : (left : List Token) (a : Term) (text : List ℕ) (level : ℕ) → Derives 4 left a → BindAfter level (left ++ Found ∷ []) (Literal text ∷ [])
 nothing_after_pattern left a text level d = λ prefix rest token e taken.
@@ -257,19 +263,22 @@ pub record Divides (left right : List Token) (main : Token) : Type 0 where
 one_binds_less : (some other : ℕ) → at_right some ≤ other → at_left other ≤ some → ⊥
 one_binds_less some other h k = grind (arith, nat_tests)
 
-weaker_first : (left right prefix rest : List Token) (main other : Token) → Divides left right main → Divides prefix rest other → (between : List Token) → prefix ≡ left ++ main ∷ between → right ≡ between ++ other ∷ rest → ⊥
+weaker_first : (left right prefix rest : List Token) (main other : Token) → Divides left right main → Divides prefix rest other → (between : List Token) → prefix ≡ left ++ main ∷ between
+    → right ≡ between ++ other ∷ rest → ⊥
 weaker_first left right prefix rest main other d other_divides between e f =
     one_binds_less (weight main) (weight other)
     (d.on_right between rest other f (subst Taken (e ∙ sym (append_assoc left (main ∷ []) between)) other_divides.taken))
     (other_divides.on_left left between main e d.taken)
 
-one_of : (left right prefix rest : List Token) (main other : Token) → Divides left right main → Divides prefix rest other → Divisions left right prefix rest main other → (left ≡ prefix) × (main ≡ other) × (right ≡ rest)
+one_of : (left right prefix rest : List Token) (main other : Token) → Divides left right main → Divides prefix rest other → Divisions left right prefix rest main other
+    → (left ≡ prefix) × (main ≡ other) × (right ≡ rest)
 one_of left right prefix rest main other d f (together e g h) = (e, g, h)
 one_of left right prefix rest main other d f (before between e g) = absurd (weaker_first left right prefix rest main other d f between e g)
 one_of left right prefix rest main other d f (after between e g) = absurd (weaker_first prefix rest left right other main f d between e g)
 
 -- the tokens are divided in one way
-pub one_division : (left right prefix rest : List Token) (main other : Token) → Divides left right main → Divides prefix rest other → left ++ main ∷ right ≡ prefix ++ other ∷ rest → (left ≡ prefix) × (main ≡ other) × (right ≡ rest)
+pub one_division : (left right prefix rest : List Token) (main other : Token) → Divides left right main → Divides prefix rest other → left ++ main ∷ right ≡ prefix ++ other ∷ rest
+    → (left ≡ prefix) × (main ≡ other) × (right ≡ rest)
 one_division left right prefix rest main other d f e = one_of left right prefix rest main other d f (divisions left right prefix rest main other e)
 
 levels_agree : (level : ℕ) → 1 ≤ level → (at_left level ≤ left_level level) × (at_right level ≤ right_level level)
@@ -281,7 +290,8 @@ Divides-operator op left right a b d f =
     record {
       taken = Taken-derived (left_level (level_of op)) left a d;
       on_left = λ prefix rest token e taken. omega (arith, agree.0, Bind-derived (left_level (level_of op)) left a d prefix rest token e taken);
-      on_right = λ prefix rest token e taken. omega (arith, agree.1, Bind-derived (right_level (level_of op)) right b f prefix rest token e (taken_after_operator (left_level (level_of op)) left prefix op a d taken));
+      on_right = λ prefix rest token e taken. omega (arith, agree.1, Bind-derived (right_level (level_of op)) right b f prefix rest token e
+          (taken_after_operator (left_level (level_of op)) left prefix op a d taken));
     }
 
 pub Divides-pattern : (left : List Token) (a : Term) (text : List ℕ) → Derives 4 left a → Divides left (Literal text ∷ []) Found

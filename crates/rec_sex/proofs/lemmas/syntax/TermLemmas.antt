@@ -7,7 +7,8 @@ use Rattle.rec_sex.specs.declared.syntax.token.Operator.{Operator}
 use Rattle.rec_sex.specs.declared.syntax.token.Operator.TheVariants.{Subtract}
 use Rattle.rec_sex.specs.declared.syntax.token.Token.{Token}
 use Rattle.rec_sex.specs.declared.syntax.token.Token.TheVariants.{Integer, Literal, Name, Occurrence, Count, Not, Binary, Found, Open, Close, Then, Else}
-use Rattle.rec_sex.specs.Grammar.{Term, Derives, by_conditional, by_pattern, by_not, by_minus, by_next, by_integer, by_literal, by_name, by_occurrence, by_count, by_parentheses, HaveGoodPatterns, AreTaken, walk_start, level_of, number, literal, field, occurrence, count, inverse, negated, binary, found, conditional, Operand, Infix, Opened, Parenthesis, Question}
+use Rattle.rec_sex.specs.Grammar.{Term, Derives, by_conditional, by_pattern, by_not, by_minus, by_next, by_integer, by_literal, by_name, by_occurrence, by_count, by_parentheses, HaveGoodPatterns,
+    AreTaken, walk_start, level_of, number, literal, field, occurrence, count, inverse, negated, binary, found, conditional, Operand, Infix, Opened, Parenthesis, Question}
 use Rattle.rec_sex.specs.proving.Parsing.{MayStand, takes_from, level_at, left_level, right_level, begins_conditional}
 use Rattle.rec_sex.proofs.lemmas.syntax.WalkLemmas.{takes_walked, operator_is_minus, after_operator, after_pattern, operator_levels, levels, ends_in_parenthesis, ends_in_else, ends_in_nothing}
 use Rattle.rec_sex.proofs.lemmas.syntax.ParsingLemmas.{Derives-weaker, left_level-within, operator_derives}
@@ -55,7 +56,8 @@ fewer_after tokens used rest e = omega (arith, ap length e, length-append used r
 
 -- ---- operands
 
-single : (token : Token) (rest : List Token) (a : Term) → Derives 9 (token ∷ []) a → ((stack : List Opened) → takes_from Operand stack (token ∷ rest) ≡ true → takes_from Infix stack rest ≡ true) → HasTerm 8 (token ∷ rest) rest
+single : (token : Token) (rest : List Token) (a : Term) → Derives 9 (token ∷ []) a → ((stack : List Opened) → takes_from Operand stack (token ∷ rest) ≡ true → takes_from Infix stack rest ≡ true)
+    → HasTerm 8 (token ∷ rest) rest
 single token rest a d goes = record { used = token ∷ []; term = a; parts = refl; derives = by_next 8 9 (token ∷ []) a refl (lit≤ tt) d; goes_on = goes }
 
 has_not : (inner rest : List Token) → HasTerm 8 inner rest → HasTerm 8 (Not ∷ inner) rest
@@ -189,7 +191,8 @@ module _ (n : ℕ) (parses : Parses n) (level : ℕ) (one : 1 ≤ level) (tokens
       let left : length middle ≤ length tokens = fewer_after tokens a.has.used middle a.has.parts in
       more n parses middle (omega arith) (omega arith) (record { stack = may.stack; taken = a.has.goes_on may.stack may.taken }) (good_after tokens a.has.used middle a.has.parts good)
 
-  climb_on : (m : ℕ) (middle : List Token) (binds : Bool) → nat_le level (level_at middle) ≡ binds → HasBound level tokens middle → length middle ≤ m + 1 → ((rest : List Token) → HasBound level tokens rest → length rest ≤ m → HasOperation level tokens) → HasOperation level tokens
+  climb_on : (m : ℕ) (middle : List Token) (binds : Bool) → nat_le level (level_at middle) ≡ binds → HasBound level tokens middle → length middle ≤ m + 1
+      → ((rest : List Token) → HasBound level tokens rest → length rest ≤ m → HasOperation level tokens) → HasOperation level tokens
   climb_on m middle true e a short further =
       let k : level ≤ level_at middle = grind (arith, nat_tests) in
       let b = more_of middle k a in
@@ -219,7 +222,8 @@ then_at [] b = absurd (false≢true b)
 then_at (Then ∷ rest) b = (rest, refl)
 then_at (_ ∷ rest) b = absurd (false≢true b)
 
-has_conditional : (tokens after_condition yes_part after_yes no_part rest : List Token) → after_condition ≡ Then ∷ yes_part → after_yes ≡ Else ∷ no_part → HasTerm 1 tokens after_condition → HasTerm 0 yes_part after_yes → HasTerm 0 no_part rest → HasTerm 0 tokens rest
+has_conditional : (tokens after_condition yes_part after_yes no_part rest : List Token) → after_condition ≡ Then ∷ yes_part → after_yes ≡ Else ∷ no_part → HasTerm 1 tokens after_condition
+    → HasTerm 0 yes_part after_yes → HasTerm 0 no_part rest → HasTerm 0 tokens rest
 has_conditional tokens after_condition yes_part after_yes no_part rest e f t u v = record {
   used = t.used ++ Then ∷ (u.used ++ Else ∷ v.used);
   term = conditional t.term u.term v.term;
@@ -241,7 +245,8 @@ module _ (n : ℕ) (parses : Parses n) (tokens : List Token) (few : length token
       let colon = ends_in_else may.stack b.rest (b.has.goes_on (Question ∷ may.stack) yes_taken) b.stops b.no_conditional in
       let no_few : length b.rest ≤ length question.0 = fewer_after question.0 b.has.used b.rest b.has.parts in
       let colon_len : length b.rest ≡ length colon.0 + 1 = length_after b.rest Else colon.0 colon.1 in
-      let d = parses.expression colon.0 (omega arith) (record { stack = may.stack; taken = colon.2 }) (good_after b.rest (Else ∷ []) colon.0 colon.1 (good_after question.0 b.has.used b.rest b.has.parts yes_good)) in
+      let d = parses.expression colon.0 (omega arith) (record { stack = may.stack; taken = colon.2 })
+          (good_after b.rest (Else ∷ []) colon.0 colon.1 (good_after question.0 b.has.used b.rest b.has.parts yes_good)) in
       record { rest = d.rest; has = has_conditional tokens a.rest question.0 b.rest colon.0 d.rest question.1 colon.1 a.has b.has d.has; stops = d.stops; no_conditional = d.no_conditional }
   expression_on a false e = record { rest = a.rest; has = HasTerm-weaker 0 1 tokens a.rest (lit≤ tt) (lit≤ tt) a.has; stops = omega (arith, a.stops); no_conditional = e }
 

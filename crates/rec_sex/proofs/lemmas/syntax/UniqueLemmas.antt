@@ -1,5 +1,6 @@
 -- An expression has no fault: the walk takes its tokens to the end.
-use Rattle.std.proofs.Common.{◌≡◌, ℕ, zero, suc, ◌≤◌, Bool, true, false, Option, Some, None, List, [], ◌∷◌, length, ap, refl, ◌∙◌, if◌then◌else◌, arith, ◌+◌, ◌/◌, ◌<◌, cond, ◌++◌, get_or, IsSomeAnd, sym, ap₂, subst, length-append, lit≤, lit<, ⊎_elim}
+use Rattle.std.proofs.Common.{◌≡◌, ℕ, zero, suc, ◌≤◌, Bool, true, false, Option, Some, None, List, [], ◌∷◌, length, ap, refl, ◌∙◌, if◌then◌else◌, arith, ◌+◌, ◌/◌, ◌<◌, cond, ◌++◌, get_or, IsSomeAnd,
+    sym, ap₂, subst, length-append, lit≤, lit<, ⊎_elim}
 use Rattle.std.specs.Prelude.{◌&&◌, ◌⊎◌, ⊤, nat_lt, neg_ℤ}
 use Rattle.std.specs.Option.{option_map, option_and_then}
 use Rattle.std.specs.Str.{is_utf8, IsUtf8}
@@ -11,7 +12,9 @@ use Rattle.regex.specs.declared.string.regex.Regex.{Regex}
 use Rattle.regex.proofs.ForCallers.{is_match_alike}
 use Rattle.rec_sex.specs.declared.syntax.token.Token.{Token}
 use Rattle.rec_sex.specs.Expressions.{IsExpression, AreSame, OneExpression}
-use Rattle.rec_sex.specs.Grammar.{Term, Walk, AreTokens, AreTaken, walk_start, walked, following, may_end, fault_from, fault_of, Derives, by_conditional, by_implication, by_operator, by_pattern, by_not, by_minus, by_next, by_integer, by_literal, by_name, by_occurrence, by_count, by_parentheses, level_of, number, literal, field, occurrence, count, inverse, negated, binary, found, conditional, IsPatternOf}
+use Rattle.rec_sex.specs.Grammar.{Term, Walk, AreTokens, AreTaken, walk_start, walked, following, may_end, fault_from, fault_of, Derives, by_conditional, by_implication, by_operator, by_pattern,
+    by_not, by_minus, by_next, by_integer, by_literal, by_name, by_occurrence, by_count, by_parentheses, level_of, number, literal, field, occurrence, count, inverse, negated, binary, found,
+    conditional, IsPatternOf}
 use Rattle.rec_sex.specs.Tokens.{Placed, lexemes, Lexeme, Whole}
 use Rattle.rec_text.specs.Elements.{Piece}
 use Rattle.rec_sex.specs.declared.syntax.token.Operator.{Operator}
@@ -100,7 +103,8 @@ same_pattern text some other p q =
 abbrev Sides : List Token → Token → List Token → Term → Type 0
 Sides left (Binary op) right a = (x y : Term) × (a ≡ binary op x y) × Derives (left_level (level_of op)) left x × Derives (right_level (level_of op)) right y
 Sides left Found right a = (x : Term) × (text : List ℕ) × (pattern : Re) × (a ≡ found x pattern) × (right ≡ Literal text ∷ []) × Derives 4 left x × IsPatternOf text pattern
-Sides left Then right a = (c x y : Term) × (yes_part no_part : List Token) × (a ≡ conditional c x y) × (right ≡ yes_part ++ Else ∷ no_part) × Derives 1 left c × Derives 0 yes_part x × Derives 0 no_part y
+Sides left Then right a = (c x y : Term) × (yes_part no_part : List Token) × (a ≡ conditional c x y) × (right ≡ yes_part ++ Else ∷ no_part) × Derives 1 left c × Derives 0 yes_part x
+    × Derives 0 no_part y
 Sides left _ right a = ⊥
 
 -- what an expression that no operator divides begins with
@@ -122,10 +126,12 @@ data View (tokens : List Token) (a : Term) : Type 0 where
 by_atom : (tokens : List Token) (a : Term) → Derives 9 tokens a → Derives 8 tokens a
 by_atom tokens a d = by_next 8 9 tokens a refl (lit≤ tt) d
 
-divided_by : (op : Operator) (tokens left right : List Token) (a b : Term) → tokens ≡ left ++ Binary op ∷ right → Derives (left_level (level_of op)) left a → Derives (right_level (level_of op)) right b → View tokens (binary op a b)
+divided_by : (op : Operator) (tokens left right : List Token) (a b : Term) → tokens ≡ left ++ Binary op ∷ right → Derives (left_level (level_of op)) left a
+    → Derives (right_level (level_of op)) right b → View tokens (binary op a b)
 divided_by op tokens left right a b e d f = divided left right (Binary op) e (Divides-operator op left right a b d f) (a, b, refl, d, f)
 
-divided_from_left : (op : Operator) (tokens left right : List Token) (a b : Term) → 2 ≤ level_of op → tokens ≡ left ++ Binary op ∷ right → Derives (level_of op) left a → Derives (level_of op + 1) right b → View tokens (binary op a b)
+divided_from_left : (op : Operator) (tokens left right : List Token) (a b : Term) → 2 ≤ level_of op → tokens ≡ left ++ Binary op ∷ right → Derives (level_of op) left a
+    → Derives (level_of op + 1) right b → View tokens (binary op a b)
 divided_from_left Implies tokens left right a b k e d f = absurd (omega (arith, k))
 divided_from_left op tokens left right a b k e d f = divided_by op tokens left right a b e d f
 
@@ -163,7 +169,8 @@ module _ (n : ℕ) (one : AreOneBelow n) where
       let sum : length right ≡ length (t.3 ++ Else ∷ t.4) = ap length t.6 in
       let yes_few : length t.3 < n = omega (arith, sum, length-append t.3 (Else ∷ t.4)) in
       let no_few : length t.4 < n = omega (arith, sum, length-append t.3 (Else ∷ t.4)) in
-      rw (s.5, t.5) (one left 1 1 s.0 t.0 k s.7 t.7, one t.3 0 0 s.1 t.1 yes_few (subst (λ x. Derives 0 x s.1) branches.0 s.8) t.8, one t.4 0 0 s.2 t.2 no_few (subst (λ x. Derives 0 x s.2) branches.1 s.9) t.9)
+      rw (s.5, t.5) (one left 1 1 s.0 t.0 k s.7 t.7, one t.3 0 0 s.1 t.1 yes_few (subst (λ x. Derives 0 x s.1) branches.0 s.8) t.8,
+          one t.4 0 0 s.2 t.2 no_few (subst (λ x. Derives 0 x s.2) branches.1 s.9) t.9)
   same_sides left right _ a b k l s t = absurd s
 
   same_beginning : (first : Token) (rest : List Token) (a b : Term) → length rest < n → Begins first rest a → Begins first rest b → AreSame a b
@@ -227,7 +234,8 @@ AreBytes-append [] more h t = t
 AreBytes-append (b ∷ bytes) more h t = AreBytes-cons b (bytes ++ more) (h 0) (AreBytes-append bytes more (λ k. h (suc k)) t)
 
 encoded_bytes : (one two three : Bool) (c : ℕ) → nat_lt c 128 ≡ one → nat_lt c 2048 ≡ two → nat_lt c 65536 ≡ three → c < 1114112
-    → AreBytes (cond one (c ∷ []) (cond two ((192 + c / 64) ∷ next c ∷ []) (cond three ((224 + c / 4096) ∷ next (c / 64) ∷ next c ∷ []) ((240 + c / 262144) ∷ next (c / 4096) ∷ next (c / 64) ∷ next c ∷ []))))
+    → AreBytes (cond one (c ∷ []) (cond two ((192 + c / 64) ∷ next c ∷ [])
+        (cond three ((224 + c / 4096) ∷ next (c / 64) ∷ next c ∷ []) ((240 + c / 262144) ∷ next (c / 4096) ∷ next (c / 64) ∷ next c ∷ []))))
 encoded_bytes true two three c e f g h = AreBytes-cons c [] (grind (arith, nat_tests)) AreBytes-nil
 encoded_bytes false true three c e f g h =
     let small : c < 2048 = grind (arith, nat_tests) in

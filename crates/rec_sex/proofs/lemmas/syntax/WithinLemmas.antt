@@ -12,7 +12,8 @@ use Rattle.rec_sex.specs.declared.syntax.token.Token.{Token}
 use Rattle.rec_sex.specs.declared.syntax.token.Token.TheVariants.{Integer, Literal, Name, Occurrence, Count}
 use Rattle.rec_sex.specs.IndexList.{decimal_number, greatest}
 use Rattle.rec_sex.specs.Integers.{magnitude_of}
-use Rattle.rec_sex.specs.Tokens.{Lexeme, Whole, Broken, with_byte, literal_from, literal_at, integer_at, name_at, token_after_name, subscript_at, closing_at, count_at, token_of_one, token_of_two, of_one, operator_at, lexeme_at}
+use Rattle.rec_sex.specs.Tokens.{Lexeme, Whole, Broken, with_byte, literal_from, literal_at, integer_at, name_at, token_after_name, subscript_at, closing_at, count_at, token_of_one, token_of_two,
+    of_one, operator_at, lexeme_at}
 
 -- ---- a token lies within the text
 
@@ -44,7 +45,8 @@ integer_is_within b bs first =
     let word = take_while continues_name (b ∷ bs) in
     elim (magnitude_of word) as (λ o. IsWithin (length (b ∷ bs)) (elim o [ None ↦ Broken 0 | Some n ↦ if nat_lt n (2 ^ 63) then Whole (Integer (pos n)) (length word) else Broken 0 ])) [
       | None ↦ omega arith
-      | Some n ↦ IsWithin-if (length (b ∷ bs)) (nat_lt n (2 ^ 63)) (Whole (Integer (pos n)) (length word)) (Broken 0) (word_is_some continues_name b bs first, length-word-le continues_name (b ∷ bs)) (omega arith)
+      | Some n ↦ IsWithin-if (length (b ∷ bs)) (nat_lt n (2 ^ 63)) (Whole (Integer (pos n)) (length word)) (Broken 0) (word_is_some continues_name b bs first,
+          length-word-le continues_name (b ∷ bs)) (omega arith)
     ]
 
 closing_is_within : (name : List ℕ) (n : ℕ) (s : List ℕ) (len : ℕ) → IsWithin (len + length s) (closing_at name n s len)

@@ -65,7 +65,8 @@ text_of-between i j pieces ordered =
 -- a later place isn't before an earlier one, and none is after the end
 pub length-text_of-take-le : (i j : ℕ) (pieces : List Piece) → i ≤ j → length (text_of (take i pieces)) ≤ length (text_of (take j pieces))
 length-text_of-take-le i j pieces ordered =
-    omega (arith, ap length (ap text_of (take-between i j pieces ordered) ∙ text_of-append (take i pieces) (drop i (take j pieces))), length-append (text_of (take i pieces)) (text_of (drop i (take j pieces))))
+    omega (arith, ap length (ap text_of (take-between i j pieces ordered) ∙ text_of-append (take i pieces) (drop i (take j pieces))),
+        length-append (text_of (take i pieces)) (text_of (drop i (take j pieces))))
 
 pub length-text_of-take-le-length : (i : ℕ) (pieces : List Piece) → length (text_of (take i pieces)) ≤ length (text_of pieces)
 length-text_of-take-le-length i pieces = omega (arith, ap length (text_of-split i pieces), length-append (text_of (take i pieces)) (text_of (drop i pieces)))
@@ -76,7 +77,8 @@ pub text_within : (i j at end : ℕ) (pieces : List Piece) (text : List ℕ) →
 text_within i j at end pieces text ordered at_is end_is text_is =
     (omega (arith, at_is, end_is, length-text_of-take-le i j pieces ordered), omega (arith, end_is, ap length text_is, length-text_of-take-le-length j pieces))
 
-pub text_of-elements_in : (pieces : List Piece) (range : Range ℕ) (at end : ℕ) (text : List ℕ) → range.start ≤ range.end → at ≡ length (text_of (take range.start pieces)) → end ≡ length (text_of (take range.end pieces))
+pub text_of-elements_in : (pieces : List Piece) (range : Range ℕ) (at end : ℕ) (text : List ℕ) → range.start ≤ range.end → at ≡ length (text_of (take range.start pieces))
+    → end ≡ length (text_of (take range.end pieces))
     → text ≡ text_of pieces → take (end - at) (drop at text) ≡ text_of (elements_in pieces range)
 text_of-elements_in pieces range at end text ordered at_is end_is text_is =
     rw (at_is, end_is, text_is) (text_of-between range.start range.end pieces ordered)

@@ -1,5 +1,6 @@
 -- How far a line and a field reach, from where a search finds the next newline.
-use Rattle.std.proofs.Common.{◌≡◌, ℕ, ◌+◌, ◌-◌, ◌<◌, ◌≤◌, Bool, true, false, not, ◌&&◌, eqb, List, [], ◌∷◌, length, get_or, take, drop, Option, None, Some, refl, sym, ap, ◌∙◌, zero, suc, add-one, arith}
+use Rattle.std.proofs.Common.{◌≡◌, ℕ, ◌+◌, ◌-◌, ◌<◌, ◌≤◌, Bool, true, false, not, ◌&&◌, eqb, List, [], ◌∷◌, length, get_or, take, drop, Option, None, Some, refl, sym, ap, ◌∙◌, zero, suc, add-one,
+    arith}
 use Rattle.std.proofs.lemmas.Bool.{cond-true, cond-false, and_right, ne_eqb, eq-eqb, eqb-true}
 use Rattle.std.proofs.lemmas.List.{take_rest, get_or-drop, drop-drop, length-drop}
 use Rattle.memchr.specs.Find.{IsFirstByte, is_byte}

@@ -1,5 +1,6 @@
 -- The table of the bytes of names, and the place of the colon.
-use Rattle.std.proofs.Common.{◌≡◌, ◌≢◌, ℕ, ◌+◌, ◌<◌, Bool, true, false, List, [], ◌∷◌, ◌==◌, Option, Some, None, suc, not, nat_eq, bit_and, cond, ltb, inl, inr, length, get_or, ap, subst, refl, sym, add-one, ◌∙◌, arith}
+use Rattle.std.proofs.Common.{◌≡◌, ◌≢◌, ℕ, ◌+◌, ◌<◌, Bool, true, false, List, [], ◌∷◌, ◌==◌, Option, Some, None, suc, not, nat_eq, bit_and, cond, ltb, inl, inr, length, get_or, ap, subst, refl, sym,
+    add-one, ◌∙◌, arith}
 use Rattle.std.specs.Option.{option_map, option_and_then}
 use Rattle.std.specs.List.{position, position_or_len}
 use Rattle.std.specs.Prelude.{if◌then◌else◌}

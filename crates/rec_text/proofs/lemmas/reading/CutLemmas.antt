@@ -1,5 +1,6 @@
 -- An element and what follows it: the two determine where the element ends.
-use Rattle.std.proofs.Common.{◌≡◌, ℕ, ◌+◌, ◌<◌, ◌≤◌, Bool, true, false, not, ◌&&◌, ◌||◌, cond, eqb, nat_le, List, [], ◌∷◌, ◌++◌, length, get_or, take, drop, Option, None, Some, ◌⊎◌, inl, inr, refl, sym, ap, ◌∙◌, zero, suc, arith}
+use Rattle.std.proofs.Common.{◌≡◌, ℕ, ◌+◌, ◌<◌, ◌≤◌, Bool, true, false, not, ◌&&◌, ◌||◌, cond, eqb, nat_le, List, [], ◌∷◌, ◌++◌, length, get_or, take, drop, Option, None, Some, ◌⊎◌, inl, inr, refl,
+    sym, ap, ◌∙◌, zero, suc, arith}
 use Rattle.std.specs.Option.{option_map_or}
 use Rattle.std.proofs.lemmas.Bool.{cases_Bool, eqb-true, ne_eqb, leb-true, and_parts, or_cases, not-true, false≢true, true≢false}
 use Rattle.std.proofs.lemmas.List.{append-nil, length-drop, drop-append-le, drop_more, take_at, drop_at}

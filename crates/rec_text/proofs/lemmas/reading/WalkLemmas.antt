@@ -8,7 +8,8 @@ use Rattle.rec_text.specs.Bytes.{begins_plus, ends_newline}
 use Rattle.rec_text.specs.Elements.{Piece, text_of, is_element, is_comment, is_blank_line, is_line, is_field, is_open_field, is_joined, is_dangling, is_body, is_open_body}
 use Rattle.rec_text.specs.Reading.{begins_element}
 use Rattle.rec_text.proofs.lemmas.elements.FieldLemmas.{colon_of-append, is_named-at}
-use Rattle.rec_text.proofs.lemmas.reading.CutLemmas.{IsCut, one_cut, element_is_some, element_begins, IsNamed-true, begins_blank_line-append, body_len-joined, cut_len, len_of, kind_at-field, named_begins}
+use Rattle.rec_text.proofs.lemmas.reading.CutLemmas.{IsCut, one_cut, element_is_some, element_begins, IsNamed-true, begins_blank_line-append, body_len-joined, cut_len, len_of, kind_at-field,
+    named_begins}
 
 -- ---- rests that no element begins
 

@@ -1,5 +1,6 @@
 -- The value of a field that is spelled line by line.
-use Rattle.std.proofs.Common.{◌≡◌, ℕ, ◌+◌, Bool, true, false, if◌then◌else◌, IsTrue, List, [], ◌∷◌, ◌++◌, ◌==◌, ◌⊎◌, inl, inr, Some, suc, map, length, drop, sym, ap, refl, ◌∙◌, append_assoc, append-nil}
+use Rattle.std.proofs.Common.{◌≡◌, ℕ, ◌+◌, Bool, true, false, if◌then◌else◌, IsTrue, List, [], ◌∷◌, ◌++◌, ◌==◌, ◌⊎◌, inl, inr, Some, suc, map, length, drop, sym, ap, refl, ◌∙◌, append_assoc,
+    append-nil}
 use Rattle.std.specs.Option.{option_map, option_map_or}
 use Rattle.std.specs.List.{AllByRecursion, concat, flat_map, join_with_byte, list_all}
 use Rattle.rec_text.specs.declared.element.Kind.{Kind}
@@ -27,7 +28,8 @@ without_first-none test (b ∷ bs) none = rw none
 without_first-one : (test : ℕ → Bool) (b : ℕ) (text : List ℕ) → IsTrue (test b) → without_first test (b ∷ text) ≡ text
 without_first-one test b text passes = rw passes
 
-without_first-line : (dropped : ℕ → Bool) (line : LogicalLine) (rest : List ℕ) → IsLogicalLine dropped line → begins dropped rest ≡ false → without_first dropped (line_bytes line ++ rest) ≡ joined line.parts ++ rest
+without_first-line : (dropped : ℕ → Bool) (line : LogicalLine) (rest : List ℕ) → IsLogicalLine dropped line → begins dropped rest ≡ false
+    → without_first dropped (line_bytes line ++ rest) ≡ joined line.parts ++ rest
 without_first-line dropped line rest is none =
     elim is.mark [
       | inl (b, e, passes) ↦
@@ -45,7 +47,8 @@ ends_backslash-joint [] rest = refl
 ends_backslash-joint (x ∷ []) rest = refl
 ends_backslash-joint (x ∷ y ∷ ys) rest = ends_backslash-joint (y ∷ ys) rest
 
-rest_value-parts : (parts : List (List ℕ)) (following : List ℕ) → AllByRecursion HasNoNewline parts → ends_backslash (joined parts) ≡ false → rest_value 10 (joined parts ++ 10 ∷ following) ≡ concat parts ++ next_value following
+rest_value-parts : (parts : List (List ℕ)) (following : List ℕ) → AllByRecursion HasNoNewline parts → ends_backslash (joined parts) ≡ false
+    → rest_value 10 (joined parts ++ 10 ∷ following) ≡ concat parts ++ next_value following
 rest_value-parts [] following unbroken ends = rest_value-line 10 [] following tt refl
 rest_value-parts (part ∷ []) following unbroken ends =
     rest_value-line 10 part following unbroken.0 (ends_backslash-newline part ∙ ends) ∙ ap (λ text. text ++ next_value following) (sym (append-nil part))
@@ -80,7 +83,8 @@ follows test [] close newline (inl e) = ap (begins test) e
 follows test [] close newline (inr e) = ap (begins test) e ∙ newline
 follows test (line ∷ lines) close newline closed = newline
 
-rest_value-lines : (parts : List (List ℕ)) (plus : List LogicalLine) (close : List ℕ) → AllByRecursion HasNoNewline parts → ends_backslash (joined parts) ≡ false → AllByRecursion (IsLogicalLine (λ b. b == 32)) plus → (close ≡ []) ⊎ (close ≡ 10 ∷ []) → rest_value 10 (joined parts ++ (plus_bytes plus ++ close)) ≡ concat parts ++ plus_values plus
+rest_value-lines : (parts : List (List ℕ)) (plus : List LogicalLine) (close : List ℕ) → AllByRecursion HasNoNewline parts → ends_backslash (joined parts) ≡ false
+    → AllByRecursion (IsLogicalLine (λ b. b == 32)) plus → (close ≡ []) ⊎ (close ≡ 10 ∷ []) → rest_value 10 (joined parts ++ (plus_bytes plus ++ close)) ≡ concat parts ++ plus_values plus
 rest_value-lines parts [] close unbroken ends all (inl e) =
     ap (λ bs. rest_value 10 (joined parts ++ bs)) e
     ∙ ap (rest_value 10) (append-nil (joined parts))

@@ -1,14 +1,13 @@
-use Rattle.std.proofs.lemmas.Result.{err_from_is_err_and}
+use Rattle.core.proofs.result.Match.{err_is}
 use Rattle.rec_text.specs.Places.{pieces_of}
 use Rattle.std.proofs.Common.{codes}
 use Rattle.rec_journal.specs.declared.event.Tool.TheVariants.{RecDel}
 use Rattle.rec_tools.specs.Batches.{HasWord, AsksTool}
-use Rattle.rec_tools.proofs.BatchLemmas.{refused_too, deletion_parts}
+use Rattle.rec_tools.proofs.lemmas.batches.BatchLemmas.{refused_too, deletion_parts}
 use Rattle.rec_tools.proofs.batches.deletion.Goals as goal
 
 pub returns-in_err-has_word : goal.returns-in_err-has_word
 returns-in_err-has_word c =
-    let p = err_from_is_err_and c.from_residual-in_err-has_word.result c.from_residual-in_err-has_word.ensures.1 in
     let own = pieces_of c.args.own.now in
-    rw (p.1, p.2) (refused_too (HasWord (codes "Comment") (codes "yes") own) (AsksTool RecDel own) _
+    rw (err_is _ _ c.from_residual-in_err-has_word.ensures.1) (refused_too (HasWord (codes "Comment") (codes "yes") own) (AsksTool RecDel own) _
     (λ edit asks. (deletion_parts own edit asks).1) c.in_err-has_word.ensures)

@@ -1,5 +1,5 @@
 use Rattle.rec_text.specs.Places.{pieces_of}
-use Rattle.rec_tools.proofs.BatchLemmas.{refused_record, next_record}
+use Rattle.rec_tools.proofs.lemmas.batches.BatchLemmas.{refused_record, next_record}
 use Rattle.rec_tools.proofs.batches.edits_of.Goals as goal
 
 pub returns-in-Err-Refused-clause-refused : goal.returns-in-Err-Refused-clause-refused

@@ -1,7 +1,7 @@
 use Rattle.std.proofs.Common.{◌∙◌, map, sym}
 use Rattle.rec_text.specs.Places.{piece_of}
 use Rattle.rec_text.proofs.lemmas.ListLemmas.{contained_is_among}
-use Rattle.rec_tools.proofs.BatchLemmas.{is_known-field}
+use Rattle.rec_tools.proofs.lemmas.batches.BatchLemmas.{is_known-field}
 use Rattle.rec_tools.proofs.batches.is_known.Goals as goal
 
 pub returns-then-is_field : goal.returns-then-is_field

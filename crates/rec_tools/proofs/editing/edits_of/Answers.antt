@@ -1,6 +1,6 @@
 use Rattle.std.proofs.Common.{arith, refl}
 use Rattle.rec_text.proofs.lemmas.FaultLemmas.{memory_or_weaker}
-use Rattle.rec_tools.proofs.TaskLemmas.{tasks_at, no_task_at}
+use Rattle.rec_tools.proofs.lemmas.batches.TaskLemmas.{tasks_at, no_task_at}
 use Rattle.rec_tools.proofs.editing.edits_of.Goals as goal
 
 pub returns-in-Err-clause-place : goal.returns-in-Err-clause-place

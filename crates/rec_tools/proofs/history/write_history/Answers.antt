@@ -1,7 +1,7 @@
 use Rattle.std.proofs.Common.{◌∙◌, ap, sym, flat_map}
-use Rattle.rec_select.proofs.PutsLemmas.{Prints-as}
+use Rattle.rec_select.proofs.lemmas.printing.PutsLemmas.{Prints-as}
 use Rattle.rec_tools.specs.proving.Listed.{line_of}
-use Rattle.rec_tools.proofs.ListedLemmas.{printed_history-open}
+use Rattle.rec_tools.proofs.lemmas.printing.ListedLemmas.{printed_history-open}
 use Rattle.rec_tools.proofs.history.write_history.Goals as goal
 
 pub returns-clause-printed : goal.returns-clause-printed

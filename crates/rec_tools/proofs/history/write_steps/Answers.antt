@@ -1,5 +1,5 @@
-use Rattle.rec_select.proofs.PutsLemmas.{Prints-stopped}
-use Rattle.rec_tools.proofs.ListedLemmas.{next_taken, next_stopped}
+use Rattle.rec_select.proofs.lemmas.printing.PutsLemmas.{Prints-stopped}
+use Rattle.rec_tools.proofs.lemmas.printing.ListedLemmas.{next_taken, next_stopped}
 use Rattle.rec_tools.proofs.history.write_steps.Goals as goal
 
 pub loop-step-preserved : goal.loop-step-preserved

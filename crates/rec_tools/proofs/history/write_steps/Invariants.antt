@@ -1,5 +1,5 @@
 use Rattle.std.proofs.Common.{flat_map}
-use Rattle.rec_select.proofs.InfoLemmas.{IsTakenTo}
+use Rattle.rec_select.proofs.lemmas.info.InfoLemmas.{IsTakenTo}
 use Rattle.rec_tools.specs.proving.Listed.{line_of}
 use Rattle.rec_tools.proofs.history.write_steps.Given as goal
 

@@ -1,4 +1,4 @@
-use Rattle.rec_tools.proofs.OutcomeLemmas as lemma
+use Rattle.rec_tools.proofs.lemmas.outcomes.OutcomeLemmas as lemma
 use Rattle.rec_tools.proofs.laws.one_outcome.Goals as goal
 
 pub returns : goal.returns

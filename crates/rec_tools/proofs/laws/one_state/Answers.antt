@@ -1,4 +1,4 @@
-use Rattle.rec_tools.proofs.StandsLemmas as lemma
+use Rattle.rec_tools.proofs.lemmas.machine.StandsLemmas as lemma
 use Rattle.rec_tools.proofs.laws.one_state.Goals as goal
 
 pub returns : goal.returns

@@ -1,4 +1,4 @@
-use Rattle.rec_tools.proofs.StepLemmas as lemma
+use Rattle.rec_tools.proofs.lemmas.machine.StepLemmas as lemma
 use Rattle.rec_tools.proofs.laws.outcomes_are_steps.Goals as goal
 
 pub returns : goal.returns

@@ -1,4 +1,4 @@
-use Rattle.rec_tools.proofs.StopLemmas as lemma
+use Rattle.rec_tools.proofs.lemmas.runs.StopLemmas as lemma
 use Rattle.rec_tools.proofs.laws.stops_are_steps.Goals as goal
 
 pub returns-clause-stops : goal.returns-clause-stops

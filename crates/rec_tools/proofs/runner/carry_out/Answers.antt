@@ -1,4 +1,4 @@
-use Rattle.rec_tools.proofs.AttemptLemmas.{refused_with, put-stopped, put-made}
+use Rattle.rec_tools.proofs.lemmas.calls.AttemptLemmas.{refused_with, put-stopped, put-made}
 use Rattle.rec_tools.proofs.runner.carry_out.Goals as goal
 
 pub returns-in_err-put-in-Put-clause-calls : goal.returns-in_err-put-in-Put-clause-calls

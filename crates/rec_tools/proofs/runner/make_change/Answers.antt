@@ -1,5 +1,5 @@
-use Rattle.rec_tools.proofs.AttemptLemmas.{refused_with}
-use Rattle.rec_tools.proofs.ExitLemmas.{silent-reads_both, silently-unread_both, silently-refused, silently-carried}
+use Rattle.rec_tools.proofs.lemmas.calls.AttemptLemmas.{refused_with}
+use Rattle.rec_tools.proofs.lemmas.calls.ExitLemmas.{silent-reads_both, silently-unread_both, silently-refused, silently-carried}
 use Rattle.rec_tools.proofs.runner.make_change.Goals as goal
 
 pub returns-in_err-file-clause-attempts : goal.returns-in_err-file-clause-attempts
@@ -8,7 +8,8 @@ returns-in_err-file-clause-attempts g c =
 
 pub returns-in_err-decision-clause-attempts : goal.returns-in_err-decision-clause-attempts
 returns-in_err-decision-clause-attempts g c =
-    rw (refused_with _ _ c.from_residual-in_err-decision.ensures.1) (silently-refused _ _ _ _ _ _ _ _ _ (silent-reads_both _ c.requires) c.in_ok-file.ensures.calls c.as_slice.ensures c.as_slice-2.ensures c.in_err-decision.ensures.found)
+    rw (refused_with _ _ c.from_residual-in_err-decision.ensures.1) (silently-refused _ _ _ _ _ _ _ _ _ (silent-reads_both _ c.requires) c.in_ok-file.ensures.calls c.as_slice.ensures
+        c.as_slice-2.ensures c.in_err-decision.ensures.found)
 
 pub returns-clause-attempts : goal.returns-clause-attempts
 returns-clause-attempts g c =

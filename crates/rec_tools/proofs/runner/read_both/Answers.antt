@@ -1,6 +1,6 @@
 use Rattle.std.proofs.Common.{[], ◌∷◌}
 use Rattle.rec_tools.specs.declared.home.Which.TheVariants.{Journal as TheJournal}
-use Rattle.rec_tools.proofs.AttemptLemmas.{refused_with, read-stopped, next_read-stopped}
+use Rattle.rec_tools.proofs.lemmas.calls.AttemptLemmas.{refused_with, read-stopped, next_read-stopped}
 use Rattle.rec_tools.proofs.runner.read_both.Goals as goal
 
 pub returns-in_err-file-clause-calls : goal.returns-in_err-file-clause-calls

@@ -1,4 +1,4 @@
-use Rattle.rec_tools.proofs.RunLemmas.{attempted-kept, attempted-store_failed, attempted-unchanged, attempted-stopped, attempted-looks}
+use Rattle.rec_tools.proofs.lemmas.runs.RunLemmas.{attempted-kept, attempted-store_failed, attempted-unchanged, attempted-stopped, attempted-looks}
 use Rattle.rec_tools.proofs.runner.run.Goals as goal
 
 pub returns-clause-kept : goal.returns-clause-kept
@@ -7,7 +7,8 @@ returns-clause-kept g c =
 
 pub returns-clause-store_failed : goal.returns-clause-store_failed
 returns-clause-store_failed g c =
-    attempted-store_failed g.H.Home.goes g.S.Sink.contents g.S.Sink.failure_count g.H.Home.failure_count g.met.H.Home.counts _ _ c.args.out.now c.attempt.new.out c.args.request.now _ c.attempt.ensures.attempts
+    attempted-store_failed g.H.Home.goes g.S.Sink.contents g.S.Sink.failure_count g.H.Home.failure_count g.met.H.Home.counts _ _ c.args.out.now c.attempt.new.out c.args.request.now
+        _ c.attempt.ensures.attempts
 
 pub returns-clause-unchanged : goal.returns-clause-unchanged
 returns-clause-unchanged g c =

@@ -1,5 +1,5 @@
 use Rattle.std.proofs.Common.{◌∙◌, arith, rules}
-use Rattle.rec_tools.proofs.RunAllLemmas.{AttemptedAll, attempted_all-none, attempted_all-more, attempted_all-runs, attempted_all-fails, silent_at, take_one_more, take_them_all}
+use Rattle.rec_tools.proofs.lemmas.runs.RunAllLemmas.{AttemptedAll, attempted_all-none, attempted_all-more, attempted_all-runs, attempted_all-fails, silent_at, take_one_more, take_them_all}
 use Rattle.rec_tools.proofs.runner.run_all.Goals as goal
 
 pub loop-request-init : goal.loop-request-init

@@ -1,6 +1,6 @@
 use Rattle.std.proofs.Common.{◌≡◌, ◌≤◌, length, take, vec_len, vec_capacity}
 use Rattle.std.specs.List.{AllByRecursion}
-use Rattle.rec_tools.proofs.RunAllLemmas.{AttemptedAll, IsSilentRequest}
+use Rattle.rec_tools.proofs.lemmas.runs.RunAllLemmas.{AttemptedAll, IsSilentRequest}
 use Rattle.rec_tools.proofs.runner.run_all.Given as goal
 
 -- the requests so far have their answers, and there is room for the others

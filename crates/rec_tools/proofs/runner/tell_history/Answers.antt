@@ -1,5 +1,5 @@
-use Rattle.rec_tools.proofs.AttemptLemmas.{refused_with}
-use Rattle.rec_tools.proofs.ExitLemmas.{attempted-unread, attempted-listed}
+use Rattle.rec_tools.proofs.lemmas.calls.AttemptLemmas.{refused_with}
+use Rattle.rec_tools.proofs.lemmas.calls.ExitLemmas.{attempted-unread, attempted-listed}
 use Rattle.rec_tools.proofs.runner.tell_history.Goals as goal
 
 pub returns-in_err-file-clause-attempts : goal.returns-in_err-file-clause-attempts

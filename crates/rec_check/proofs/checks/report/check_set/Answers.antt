@@ -11,14 +11,16 @@ use Rattle.rec_check.proofs.checks.report.check_set.Goals as goal
 pub check_records-requires : goal.check_records-requires
 check_records-requires c = record {
   ahead = ahead_of_part c.args.records.now c.args.set.now c.check_head.new.lines.passed c.in_ok-check_head.ensures.ahead;
-  within = part_within c.args.records.now c.args.set.now (length c.args.lines.now.elements.now) (length c.check_head.new.lines.elements.now) c.requires.within (ap length c.in_ok-check_head.ensures.elements);
+  within = part_within c.args.records.now c.args.set.now (length c.args.lines.now.elements.now) (length c.check_head.new.lines.elements.now) c.requires.within
+      (ap length c.in_ok-check_head.ensures.elements);
 }
 
 pub returns-clause-added : goal.returns-clause-added
 returns-clause-added c =
     let asked = rules_stored c.args.rules.now in
     on_ok_weaker c.check_records.result
-    (λ added. AddsOfSet-joined (pieces_of c.args.lines.now.elements.now) c.args.records.now c.args.set.now asked c.args.found.now.items c.check_head.new.found.items c.check_records.new.found.items c.in_ok-check_head.ensures.added
+    (λ added. AddsOfSet-joined (pieces_of c.args.lines.now.elements.now) c.args.records.now c.args.set.now asked c.args.found.now.items c.check_head.new.found.items c.check_records.new.found.items
+        c.in_ok-check_head.ensures.added
     (subst (λ l. AddsOfRecords (pieces_of l) asked (members c.args.records.now c.args.set.now) c.check_head.new.found.items c.check_records.new.found.items) c.in_ok-check_head.ensures.elements added))
     c.check_records.ensures.added
 

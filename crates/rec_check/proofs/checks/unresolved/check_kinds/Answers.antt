@@ -4,7 +4,7 @@ use Rattle.std.proofs.lemmas.Result.{on_ok_weaker}
 use mathlib.Core.Path.{fun_ext}
 use Rattle.rec_text.specs.Places.{pieces_of}
 use Rattle.rec_text.specs.Records.{elements_in}
-use Rattle.rec_check.specs.proving.Meanings.{meaning_in}
+use Rattle.rec_check.specs.Meanings.{meaning_in}
 use Rattle.rec_check.specs.proving.Resolved.{resolved_by}
 use Rattle.rec_check.specs.Stored.{definition_stored, rules_stored}
 use Rattle.rec_check.specs.Types.{unchecked}

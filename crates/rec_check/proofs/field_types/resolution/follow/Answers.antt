@@ -1,5 +1,6 @@
 use Rattle.std.proofs.Common.{inl, inr, refl, sym}
-use Rattle.rec_check.proofs.lemmas.field_types.ResolvedLemmas.{AreAtWork-nil, AreAtWork-more, ArePlacesWithin-nil, ArePlacesWithin-more, StaySettled-more, settled_start, start_settled, count_open-less}
+use Rattle.rec_check.proofs.lemmas.field_types.ResolvedLemmas.{AreAtWork-nil, AreAtWork-more, ArePlacesWithin-nil, ArePlacesWithin-more, StaySettled-more, settled_start, start_settled,
+    count_open-less}
 use Rattle.rec_check.proofs.field_types.resolution.follow.Goals as goal
 
 pub loop-next-init : goal.loop-next-init
@@ -13,10 +14,12 @@ loop-next-init c = record {
 pub loop-next-preserved : goal.loop-next-preserved
 loop-next-preserved c = record {
   work = λ definitions are.
-      AreAtWork-more definitions c.loop-next.passed.items c.push.new.self.items c.loop-next.at c.in-Some.next c.loop-next.meanings _ (sym c.in-Some.ensures) c.in_ok-push.ensures.items refl (c.loop-next.invariant.work definitions are);
+      AreAtWork-more definitions c.loop-next.passed.items c.push.new.self.items c.loop-next.at c.in-Some.next c.loop-next.meanings _ (sym c.in-Some.ensures) c.in_ok-push.ensures.items refl
+          (c.loop-next.invariant.work definitions are);
   start = inr (start_settled c.loop-next.meanings _ c.loop-next.at c.in-Some.next (sym c.in-Some.ensures) refl c.args.start c.loop-next.invariant.start);
   settled = StaySettled-more c.loop-next.meanings _ c.loop-next.at c.in-Some.next (sym c.in-Some.ensures) refl c.args.meanings.now c.loop-next.invariant.settled;
-  within = ArePlacesWithin-more c.loop-next.meanings _ c.loop-next.at c.in-Some.next (sym c.in-Some.ensures) refl c.loop-next.passed.items c.push.new.self.items c.in_ok-push.ensures.items c.loop-next.invariant.within;
+  within = ArePlacesWithin-more c.loop-next.meanings _ c.loop-next.at c.in-Some.next
+      (sym c.in-Some.ensures) refl c.loop-next.passed.items c.push.new.self.items c.in_ok-push.ensures.items c.loop-next.invariant.within;
 }
 
 pub loop-next-smaller : goal.loop-next-smaller

@@ -13,4 +13,5 @@ pub returns-clause-start : goal.returns-clause-start
 returns-clause-start c = start_end c.args.start c.deref.result.now c.settled_at-value_type.result c.follow.new.meanings c.settle.new.meanings c.in_ok-end.ensures.start c.settle.ensures
 
 pub returns-clause-settled : goal.returns-clause-settled
-returns-clause-settled c = StaySettled-end c.deref.result.now c.settled_at-value_type.result c.args.meanings.now c.follow.new.meanings c.settle.new.meanings c.in_ok-end.ensures.settled c.settle.ensures
+returns-clause-settled c = StaySettled-end c.deref.result.now c.settled_at-value_type.result c.args.meanings.now c.follow.new.meanings c.settle.new.meanings c.in_ok-end.ensures.settled
+    c.settle.ensures

@@ -1,6 +1,6 @@
 use Rattle.std.proofs.Common.{◌∙◌, ◌<◌, ◌≤◌, ◌^◌, List, ap, inl, length, subst, arith}
 use Rattle.std.proofs.lemmas.List.{length-map}
-use Rattle.std.proofs.lemmas.Result.{err_from_is_err_and}
+use Rattle.core.proofs.result.Match.{err_is}
 use Rattle.rec_text.specs.declared.element.Element.{Element}
 use Rattle.rec_text.specs.Elements.{text_of}
 use Rattle.rec_text.specs.Faults.{IsMemoryOr}
@@ -41,25 +41,28 @@ pub add-requires-clause-places : goal.add-requires-clause-places
 add-requires-clause-places c =
     rw c.elements_in-fields.ensures.elements
     (fields_within c.args.database.now _ _ (drafted c.loop-index.draft) c.in-Some.record _ c.in-Some.ensures.steps.0 c.loop-index.invariant.so_far
-    c.elements-elements.result.now c.elements-elements.ensures.pieces c.loop-index.draft.types (record_types-HaveTypes c.loop-index.draft.sets.items c.loop-index.draft.types c.loop-index.invariant.typed) c.elements-elements.ensures.places)
+    c.elements-elements.result.now c.elements-elements.ensures.pieces c.loop-index.draft.types
+        (record_types-HaveTypes c.loop-index.draft.sets.items c.loop-index.draft.types c.loop-index.invariant.typed) c.elements-elements.ensures.places)
 
 pub loop-index-preserved : goal.loop-index-preserved
 loop-index-preserved c =
     let steps = c.in-Some.ensures.steps in
     let short = few_pieces c.args.database.now c.elements-elements.result.now (2 ^ 64) c.elements-elements.ensures.pieces (omega arith) in
     let so_far = schema_more c.args.database.now _ _ (drafted c.loop-index.draft) c.in-Some.record _ steps.0 c.loop-index.invariant.so_far
-    c.elements-elements.result.now c.elements-elements.ensures.pieces c.loop-index.draft.types (record_types-HaveTypes c.loop-index.draft.sets.items c.loop-index.draft.types c.loop-index.invariant.typed)
+    c.elements-elements.result.now c.elements-elements.ensures.pieces c.loop-index.draft.types
+        (record_types-HaveTypes c.loop-index.draft.sets.items c.loop-index.draft.types c.loop-index.invariant.typed)
     c.in-Some.index c.next.new.self.count (drafted c.add.new.self) steps.1 steps.2 (rw c.elements_in-fields.ensures.elements at c.in_ok-add.ensures.added) in
     record { can = (tt, tt, inl (countable _ _ _ _ (2 ^ 64) so_far short)); finite = tt; so_far = so_far; typed = c.in_ok-add.ensures.typed }
 
 pub returns-in_err-add-clause-refused : goal.returns-in_err-add-clause-refused
 returns-in_err-add-clause-refused c =
-    let kept = err_from_is_err_and c.from_residual-in_err-add.result c.from_residual-in_err-add.ensures.1 in
     let fault = c.in_err-add.field-0.0 in
     let P : List Element → Type 0 = λ fields. IsMemoryOr fault (IsRefusedRecord (text_of c.args.database.now) c.loop-index.draft.types fields fault) in
-    rw (kept.1, kept.2)
+    rw (err_is _ _ c.from_residual-in_err-add.ensures.1)
     (schema_fault c.args.database.now _ _ (drafted c.loop-index.draft) c.in-Some.record _ c.in-Some.ensures.steps.0 c.loop-index.invariant.so_far
-    c.elements-elements.result.now c.elements-elements.ensures.pieces c.loop-index.draft.types (record_types-HaveTypes c.loop-index.draft.sets.items c.loop-index.draft.types c.loop-index.invariant.typed) c.elements-elements.ensures.places c.in_err-add.field-0.0 (subst P c.elements_in-fields.ensures.elements c.in_err-add.ensures.refused))
+    c.elements-elements.result.now c.elements-elements.ensures.pieces c.loop-index.draft.types
+        (record_types-HaveTypes c.loop-index.draft.sets.items c.loop-index.draft.types c.loop-index.invariant.typed) c.elements-elements.ensures.places c.in_err-add.field-0.0
+        (subst P c.elements_in-fields.ensures.elements c.in_err-add.ensures.refused))
 
 pub returns-clause-found : goal.returns-clause-found
 returns-clause-found c =

@@ -1,6 +1,6 @@
 use Rattle.std.proofs.Common.{◌∙◌, ℕ, get_or, ap, sym}
 use Rattle.std.proofs.lemmas.List.{get_or_default, map_push}
-use Rattle.std.proofs.lemmas.Result.{err_from_is_err_and}
+use Rattle.core.proofs.result.Match.{err_is}
 use Rattle.std.specs.declared.ops.Range.{Range}
 use Rattle.rec_text.specs.Places.{pieces_of}
 use Rattle.rec_check.specs.Violations.{names_of}
@@ -16,7 +16,6 @@ loop-record-init c = λ rules numbers are. none_filled (pieces_of c.args.element
 
 pub returns-in_err-given-clause-refused : goal.returns-in_err-given-clause-refused
 returns-in_err-given-clause-refused c = λ rules numbers are.
-    let kept = err_from_is_err_and c.from_residual.result c.from_residual.ensures.1 in
     let pieces = pieces_of c.args.elements.now in
     let records = c.args.records.now in
     let i = c.loop-record.record-index in
@@ -24,8 +23,9 @@ returns-in_err-given-clause-refused c = λ rules numbers are.
     let one : Range ℕ = get_or records i none in
     let so_far = c.loop-record.invariant rules numbers are in
     let fault = c.in_err-given.field-0.0 in
-    rw (kept.1, kept.2) (memory_or_weaker fault _ _
-    (one_refused pieces rules numbers records (filled_of c.args.filled.now.items) i (filled_of c.loop-record.filled.items) c.loop-record.counters one (names_of (pieces_of c.elements_in-fields.result.now)) c.loop-record-test.true
+    rw (err_is _ _ c.from_residual.ensures.1) (memory_or_weaker fault _ _
+    (one_refused pieces rules numbers records (filled_of c.args.filled.now.items) i (filled_of c.loop-record.filled.items) c.loop-record.counters one
+        (names_of (pieces_of c.elements_in-fields.result.now)) c.loop-record-test.true
     (sym (get_or_default records i none one c.loop-record-test.true)) (ap names_of c.elements_in-fields.ensures.pieces) so_far fault)
     (c.in_err-given.ensures.refused rules so_far.now so_far.counters_are))
 
@@ -38,11 +38,14 @@ loop-record-preserved c = λ rules numbers are.
     let one : Range ℕ = get_or records i none in
     let so_far = c.loop-record.invariant rules numbers are in
     let typed : FilledRecord → Filled = λ o. record { range = o.range; given = numbered o.given.items } in
-    one_filled pieces rules numbers records (filled_of c.args.filled.now.items) i (filled_of c.loop-record.filled.items) c.loop-record.counters one (names_of (pieces_of c.elements_in-fields.result.now)) c.loop-record-test.true
-    (sym (get_or_default records i none one c.loop-record-test.true)) (ap names_of c.elements_in-fields.ensures.pieces) so_far (numbered c.in_ok-given.given.items) c.fill_record.new.counters (filled_of c.push.new.self.items)
+    one_filled pieces rules numbers records (filled_of c.args.filled.now.items) i (filled_of c.loop-record.filled.items) c.loop-record.counters one
+        (names_of (pieces_of c.elements_in-fields.result.now)) c.loop-record-test.true
+    (sym (get_or_default records i none one c.loop-record-test.true)) (ap names_of c.elements_in-fields.ensures.pieces) so_far (numbered c.in_ok-given.given.items) c.fill_record.new.counters
+        (filled_of c.push.new.self.items)
     (c.in_ok-given.ensures.given rules so_far.now so_far.counters_are)
     (ap filled_of c.in_ok-push.ensures.items ∙ map_push typed c.loop-record.filled.items (record { range = one; given = c.in_ok-given.given }))
 
 pub returns-clause-filled : goal.returns-clause-filled
 returns-clause-filled c = λ rules numbers are.
-    all_filled (pieces_of c.args.elements.now) rules numbers c.args.records.now (filled_of c.args.filled.now.items) c.loop-record.record-index (filled_of c.loop-record.filled.items) c.loop-record.counters c.loop-record-test.false (c.loop-record.invariant rules numbers are)
+    all_filled (pieces_of c.args.elements.now) rules numbers c.args.records.now (filled_of c.args.filled.now.items) c.loop-record.record-index
+        (filled_of c.loop-record.filled.items) c.loop-record.counters c.loop-record-test.false (c.loop-record.invariant rules numbers are)

@@ -1,7 +1,7 @@
 use Rattle.std.proofs.Common.{◌≡◌, ◌<◌, ◌≤◌, List, None, get_or, length, refl, sym, arith}
 use Rattle.std.proofs.lemmas.List.{get_or_default}
 use Rattle.std.proofs.lemmas.Option.{slice_get-get_or}
-use Rattle.std.proofs.lemmas.Result.{err_from_is_err_and}
+use Rattle.core.proofs.result.Match.{err_is}
 use Rattle.std.proofs.lemmas.Slice.Zip.{AllZip-long}
 use Rattle.rec_check.specs.declared.set.Set_.{Set_}
 use Rattle.rec_check.specs.Rules.{Rules, no_rules}
@@ -38,18 +38,18 @@ returns-in_err-fill_set-clause-refused c =
     let at = (goal.at.returns-in_err-fill_set-clause-refused c).After-sets-place-end in
     let records = c.schema.ensures.together.records in
     let are = c.schema.ensures.together.are in
-    let kept = err_from_is_err_and c.from_residual.result c.from_residual.ensures.1 in
     let i = c.loop-place.place in
     let within : i < length (sets at) = omega (arith, count at) in
     let ruled : i < length (rules at) = omega (arith, long at) in
     let s = get_or (sets at) i no_set in
     let asked = get_or (rules at) i no_rules in
     let fault = c.in_err-fill_set.field-0.0 in
-    rw (kept.1, kept.2) (memory_or_weaker fault _ _
+    rw (err_is _ _ c.from_residual.ensures.1) (memory_or_weaker fault _ _
     (λ refused. (
       records,
       are,
-      set_refused c.args.file.now.pieces records (sets at) (rules at) i (filled_of c.loop-place.filled.items) within (long at) s asked (sym (get_or_default (sets at) i no_set s within)) (sym (get_or_default (rules at) i no_rules asked ruled))
+      set_refused c.args.file.now.pieces records (sets at) (rules at) i (filled_of c.loop-place.filled.items) within (long at) s asked (sym (get_or_default (sets at) i no_set s within))
+          (sym (get_or_default (rules at) i no_rules asked ruled))
           (c.loop-place.invariant records are) fault refused,
     ))
     (c.in_err-fill_set.ensures.refused records s asked (are, slice_get-get_or (sets at) i no_set within, slice_get-get_or (rules at) i no_rules ruled)))
@@ -62,7 +62,8 @@ loop-place-preserved c = λ records are.
     let ruled : i < length (rules at) = omega (arith, long at) in
     let s = get_or (sets at) i no_set in
     let asked = get_or (rules at) i no_rules in
-    one_set_filled c.args.file.now.pieces records (sets at) (rules at) i (filled_of c.loop-place.filled.items) within (long at) s asked (sym (get_or_default (sets at) i no_set s within)) (sym (get_or_default (rules at) i no_rules asked ruled))
+    one_set_filled c.args.file.now.pieces records (sets at) (rules at) i (filled_of c.loop-place.filled.items) within (long at) s asked (sym (get_or_default (sets at) i no_set s within))
+        (sym (get_or_default (rules at) i no_rules asked ruled))
     (c.loop-place.invariant records are) (filled_of c.fill_set.new.filled.items)
     (c.in_ok-fill_set.ensures.filled records s asked (are, slice_get-get_or (sets at) i no_set within, slice_get-get_or (rules at) i no_rules ruled))
 
@@ -72,7 +73,8 @@ returns-clause-filled c =
     let records = c.schema.ensures.together.records in
     let are = c.schema.ensures.together.are in
     let past : length (sets at) ≤ c.loop-place.place = omega (arith, count at, c.loop-place-test.false) in
-    (records, are, all_sets_filled c.args.file.now.pieces records (sets at) (rules at) c.loop-place.place (filled_of c.loop-place.filled.items) past (omega (arith, long at)) (c.loop-place.invariant records are))
+    (records, are, all_sets_filled c.args.file.now.pieces records (sets at) (rules at) c.loop-place.place (filled_of c.loop-place.filled.items) past (omega (arith, long at))
+        (c.loop-place.invariant records are))
 
 pub returns-clause-ranges : goal.returns-clause-ranges
 returns-clause-ranges c =
@@ -80,4 +82,5 @@ returns-clause-ranges c =
     let is = c.schema.ensures.together in
     let past : length (sets at) ≤ c.loop-place.place = omega (arith, count at, c.loop-place-test.false) in
     AreRanges-filled c.args.file.now.pieces (described c.args.file.now.schema) is (filled_of c.loop-place.filled.items)
-    (all_sets_filled c.args.file.now.pieces is.records (sets at) (rules at) c.loop-place.place (filled_of c.loop-place.filled.items) past (omega (arith, long at)) (c.loop-place.invariant is.records is.are))
+    (all_sets_filled c.args.file.now.pieces is.records (sets at) (rules at) c.loop-place.place (filled_of c.loop-place.filled.items) past (omega (arith, long at))
+        (c.loop-place.invariant is.records is.are))

@@ -7,4 +7,5 @@ use Rattle.rec_edit.proofs.lemmas.automatic.FillLemmas.{AreFilledUpTo}
 use Rattle.rec_edit.proofs.automatic.filled.filled_records.Given as goal
 
 abbrev pub invariant-loop-place : goal.invariant-loop-place
-invariant-loop-place l = (records : List (Range ℕ)) → AreRecords l.file.pieces records → AreFilledUpTo l.file.pieces records (described l.file.schema).sets (described l.file.schema).rules l.place (filled_of l.filled.items)
+invariant-loop-place l = (records : List (Range ℕ)) → AreRecords l.file.pieces records
+    → AreFilledUpTo l.file.pieces records (described l.file.schema).sets (described l.file.schema).rules l.place (filled_of l.filled.items)

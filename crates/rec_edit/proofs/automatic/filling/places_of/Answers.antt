@@ -30,5 +30,6 @@ loop-place-preserved c =
           (placed_more (filled_of filled) k (typed one) within at c.loop-place.places.items so_far c.requires.0 w.keep_place.new.places.items c.requires.1 w.in_ok-keep_place.ensures)
       | else-not-is_empty w ↦
           subst (λ p. ArePlaces p (take (k + 1) (filled_of filled))) (sym (ap (λ v. v.items) w.places-is))
-          (placed_nothing (filled_of filled) k (typed one) within at c.loop-place.places.items so_far (ap numbered (none_there one.given.items (omega (arith, one.given.ok.0, eqb-true _ _ (sym c.is_empty.ensures ∙ w.if-not-is_empty.false))))))
+          (placed_nothing (filled_of filled) k (typed one) within at c.loop-place.places.items so_far
+              (ap numbered (none_there one.given.items (omega (arith, one.given.ok.0, eqb-true _ _ (sym c.is_empty.ensures ∙ w.if-not-is_empty.false))))))
     ])

@@ -2,7 +2,7 @@ use Rattle.std.proofs.Common.{◌≡◌, ◌∙◌, ◌++◌, ◌∷◌, [], ℕ
 use Rattle.std.proofs.lemmas.Int.{to_z-of_z}
 use Rattle.std.proofs.lemmas.List.{get_or_default, map_push}
 use mir.Val.{SFits}
-use Rattle.std.proofs.lemmas.Result.{err_from_is_err_and}
+use Rattle.core.proofs.result.Match.{err_is}
 use Rattle.rec_check.specs.declared.automatic.counter.Counter.{Counter}
 use Rattle.rec_sex.specs.proving.Choices.{has_name}
 use Rattle.rec_text.proofs.lemmas.FaultLemmas.{from_fact}
@@ -29,16 +29,16 @@ among c b own named is = ap (has_name c.args.names.now) (sym c.name-name.ensures
 pub loop-i-preserved-then-contains : goal.loop-i-preserved-then-contains
 loop-i-preserved-then-contains c = λ rules numbers own are named.
     let at = (goal.at.loop-i-preserved-then-contains c).After-contains in
-    none_lacking rules numbers own c.args.counters.now c.loop-i.counters c.loop-i.i (numbered c.loop-i.given.items) (omega arith) (c.loop-i.invariant rules numbers own are named) (own_counter at) (here at)
+    none_lacking rules numbers own c.args.counters.now c.loop-i.counters c.loop-i.i (numbered c.loop-i.given.items) (omega arith) (c.loop-i.invariant rules numbers own are named) (own_counter at)
+        (here at)
     (sym (named (own_counter at).name.now) ∙ among at true own named c.if-contains.true)
 
 pub returns-in_err-number-clause-refused : goal.returns-in_err-number-clause-refused
 returns-in_err-number-clause-refused c = λ rules numbers own are named.
     let at = (goal.at.returns-in_err-number-clause-refused c).After-contains in
-    let kept = err_from_is_err_and c.from_residual.result c.from_residual.ensures.1 in
     let so_far = c.loop-i.invariant rules numbers own are named in
     let counted = counter_here rules numbers own c.args.counters.now c.loop-i.counters c.loop-i.i (numbered c.loop-i.given.items) (omega arith) so_far (own_counter at) (here at) in
-    rw (kept.1, kept.2) (from_fact c.in_err-number.field-0.0 (IsRefused rules numbers own c.in_err-number.field-0.0)
+    rw (err_is _ _ c.from_residual.ensures.1) (from_fact c.in_err-number.field-0.0 (IsRefused rules numbers own c.in_err-number.field-0.0)
     (refused_here rules numbers own c.args.counters.now c.loop-i.counters c.loop-i.i (numbered c.loop-i.given.items) (omega arith) so_far (own_counter at) (here at) c.in_err-number.field-0.0
     (sym (named (own_counter at).name.now) ∙ among at false own named c.if-contains.false) (c.in_err-number.ensures.next rules (numbers (own_counter at).name.now) counted)))
 
@@ -53,7 +53,8 @@ loop-i-preserved c = λ asked numbers own are named.
     let typed : NumberedField → Numbered = λ field. record { name = field.name.now; number = field.number } in
     let one : NumberedField = record { name = c.name-name.result; number = number } in
     let more : numbered c.push.new.self.items ≡ numbered given ++ record { name = (own_counter at).name.now; number = number } ∷ [] =
-    ap numbered c.in_ok-push.ensures.items ∙ ap (λ z. numbered (given ++ record { name = c.name-name.result; number = z } ∷ [])) (to_z-of_z w64 number fits) ∙ map_push typed given one ∙ ap (λ n. numbered given ++ record { name = n; number = number } ∷ []) c.name-name.ensures in
+    ap numbered c.in_ok-push.ensures.items ∙ ap (λ z. numbered (given ++ record { name = c.name-name.result; number = z } ∷ [])) (to_z-of_z w64 number fits) ∙ map_push typed given one
+        ∙ ap (λ n. numbered given ++ record { name = n; number = number } ∷ []) c.name-name.ensures in
     subst (IsGivenUpTo asked numbers own c.args.counters.now _ _) (sym more)
     (one_given asked numbers own c.args.counters.now c.loop-i.counters c.loop-i.i (numbered given) (omega arith) so_far (own_counter at) (here at) c.next_number.new.self number
     (sym (named (own_counter at).name.now) ∙ among at false own named c.if-contains.false) (c.in_ok-number.ensures.next asked (numbers (own_counter at).name.now) counted)

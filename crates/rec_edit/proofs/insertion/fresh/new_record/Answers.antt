@@ -1,12 +1,12 @@
 use Rattle.std.proofs.Common.{◌≡◌, ◌∙◌, ◌++◌, ℕ, false, List, map, Err, ap, inr}
 use Rattle.std.specs.Prelude.{option_to_list}
 use Rattle.std.specs.List.{list_all}
-use Rattle.std.proofs.lemmas.Result.{err_from_is_err_and}
+use Rattle.core.proofs.result.Match.{err_is}
 use Rattle.rec_text.specs.Canonical.{is_plain_name, is_foldable}
 use Rattle.rec_text.proofs.lemmas.FaultLemmas.{from_fact}
 use Rattle.rec_edit.specs.Task.{Pair, fresh_by}
 use Rattle.rec_edit.specs.Wording.{names_in, written_pairs, IsNewRecord}
-use Rattle.rec_edit.proofs.lemmas.outcomes.WrittenLemmas.{plain_both, plain_neither, written-ok, written-err}
+use Rattle.rec_edit.proofs.lemmas.outcomes.WrittenLemmas.{plain_both, plain_neither, if_writable-ok, if_writable-err}
 use Rattle.rec_edit.proofs.insertion.fresh.new_record.Goals as goal
 use Rattle.rec_edit.proofs.insertion.fresh.new_record.Goals.{After-require_written, then-is_plain_type, else-is_plain_type}
 
@@ -34,12 +34,12 @@ foldable c = c.have_foldable_values.ensures ∙ ap (λ (pairs : List Pair). list
 pub returns-in_err-require_written-clause-refused : goal.returns-in_err-require_written-clause-refused
 returns-in_err-require_written-clause-refused c =
     let at = (goal.at.returns-in_err-require_written-clause-refused c).After-require_written in
-    let kept = err_from_is_err_and c.from_residual-in_err-require_written.result c.from_residual-in_err-require_written.ensures.1 in
     let fault = c.in_err-require_written.field-0.0 in
     let pairs : List Pair = c.in_ok-pairs.pairs.items in
     let refused : Err fault ≡ written_pairs c.args.record_type.now pairs =
-    written-err (names at) (values at) pairs c.require_written.result (c.require_written.ensures (names at) (values at) (plain at) (foldable at)) fault c.in_err-require_written.was in
-    rw (kept.1, kept.2) (from_fact fault (IsNewRecord c.args.record_type.now (fresh_by c.args.fresh.now) (Err fault)) (inr (pairs, c.in_ok-pairs.ensures.found, refused)))
+    if_writable-err (names at) (values at) pairs c.require_written.result (c.require_written.ensures (names at) (values at) (plain at) (foldable at)) fault c.in_err-require_written.was in
+    rw (err_is _ _ c.from_residual-in_err-require_written.ensures.1)
+    (from_fact fault (IsNewRecord c.args.record_type.now (fresh_by c.args.fresh.now) (Err fault)) (inr (pairs, c.in_ok-pairs.ensures.found, refused)))
 
 pub returns-clause-found : goal.returns-clause-found
 returns-clause-found c =
@@ -48,5 +48,5 @@ returns-clause-found c =
     inr (
       pairs,
       c.in_ok-pairs.ensures.found,
-      written-ok (names at) (values at) pairs c.require_written.result (c.require_written.ensures (names at) (values at) (plain at) (foldable at)) c.in_ok-require_written.was,
+      if_writable-ok (names at) (values at) pairs c.require_written.result (c.require_written.ensures (names at) (values at) (plain at) (foldable at)) c.in_ok-require_written.was,
     )

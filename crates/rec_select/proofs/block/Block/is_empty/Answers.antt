@@ -2,7 +2,7 @@ use Rattle.std.proofs.Common.{ap, ◌∙◌, ◌==◌, not}
 use Rattle.std.specs.List.{list_any}
 use Rattle.rec_text.specs.Records.{is_field_piece}
 use Rattle.rec_select.specs.Printing.{printed_element, value_line}
-use Rattle.rec_select.proofs.BlockLemmas.{is_nil-fields, is_nil-flat_map, is_nil-closed, is_nil-value_line}
+use Rattle.rec_select.proofs.lemmas.printing.BlockLemmas.{is_nil-fields, is_nil-flat_map, is_nil-closed, is_nil-value_line}
 use Rattle.rec_select.proofs.block.Block.is_empty.Goals as goal
 
 pub returns-in-Fields : goal.returns-in-Fields

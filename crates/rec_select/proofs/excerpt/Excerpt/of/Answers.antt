@@ -1,4 +1,4 @@
-use Rattle.rec_select.proofs.ExcerptLemmas.{IsExcerpt-whole}
+use Rattle.rec_select.proofs.lemmas.printing.ExcerptLemmas.{IsExcerpt-whole}
 use Rattle.rec_select.proofs.excerpt.Excerpt.of.Goals as goal
 
 pub invariant_of-result : goal.invariant_of-result

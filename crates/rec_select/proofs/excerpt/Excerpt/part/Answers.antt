@@ -1,6 +1,6 @@
 use Rattle.std.proofs.Common.{ap, ◌∙◌}
 use Rattle.rec_text.specs.Records.{elements_in}
-use Rattle.rec_select.proofs.ExcerptLemmas.{IsExcerpt-sliced}
+use Rattle.rec_select.proofs.lemmas.printing.ExcerptLemmas.{IsExcerpt-sliced}
 use Rattle.rec_select.proofs.excerpt.Excerpt.part.Goals as goal
 
 pub invariant_of-result : goal.invariant_of-result

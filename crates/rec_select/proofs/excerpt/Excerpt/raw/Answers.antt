@@ -1,6 +1,6 @@
 use Rattle.std.proofs.Common.{ap, ◌∙◌, arith, rules}
 use Rattle.rec_text.specs.Elements.{text_of}
-use Rattle.rec_select.proofs.ExcerptLemmas.{ends_within, in_order, text_between}
+use Rattle.rec_select.proofs.lemmas.printing.ExcerptLemmas.{ends_within, in_order, text_between}
 use Rattle.rec_select.proofs.excerpt.Excerpt.raw.Goals as goal
 
 pub overflow_add-result : goal.overflow_add-result

@@ -1,5 +1,5 @@
-use Rattle.rec_select.proofs.PutsLemmas.{HasTaken-as, HasTaken-nil, Prints-as}
-use Rattle.rec_select.proofs.ExcerptLemmas.{closed_none, closed_some}
+use Rattle.rec_select.proofs.lemmas.printing.PutsLemmas.{HasTaken-as, HasTaken-nil, Prints-as}
+use Rattle.rec_select.proofs.lemmas.printing.ExcerptLemmas.{closed_none, closed_some}
 use Rattle.rec_select.proofs.excerpt.Excerpt.write.Goals as goal
 
 pub returns-then-is_empty-clause-printed : goal.returns-then-is_empty-clause-printed

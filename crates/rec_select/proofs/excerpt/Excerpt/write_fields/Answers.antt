@@ -1,8 +1,8 @@
 use Rattle.std.proofs.Common.{◌≡◌, ◌∙◌, ◌+◌, ap, sym, length, arith}
 use Rattle.std.proofs.lemmas.List.{length-map}
 use Rattle.rec_text.specs.Places.{piece_of}
-use Rattle.rec_select.proofs.PutsLemmas.{HasTaken-as, HasTaken-append, HasStopped-within, Prints-stopped, Prints-append, Prints-as}
-use Rattle.rec_select.proofs.ExcerptLemmas.{no_run, run_whole, last_run, longer_run, whole_run}
+use Rattle.rec_select.proofs.lemmas.printing.PutsLemmas.{HasTaken-as, HasTaken-append, HasStopped-within, Prints-stopped, Prints-append, Prints-as}
+use Rattle.rec_select.proofs.lemmas.printing.ExcerptLemmas.{no_run, run_whole, last_run, longer_run, whole_run}
 use Rattle.rec_select.proofs.excerpt.Excerpt.write_fields.Goals as goal
 use Rattle.rec_select.proofs.excerpt.Excerpt.write_fields.Goals.{then-not-is_field+in_ok-write, else-not-is_field}
 
@@ -14,7 +14,8 @@ returns-in_err-write-clause-printed g c =
 pub loop-at-preserved : goal.loop-at-preserved
 loop-at-preserved g c = elim c.if-not-is_field.branch [
   | then-not-is_field+in_ok-write w ↦
-      let whole = whole_run c.args.self.now c.loop-at.start c.loop-at.at c.loop-at.invariant.run c.self.inside.elements.now _ c.self.view_is c.loop-at-test.true w.if-not-is_field.ensures w.part.result w.part.ensures in
+      let whole = whole_run c.args.self.now c.loop-at.start c.loop-at.at c.loop-at.invariant.run c.self.inside.elements.now _ c.self.view_is c.loop-at-test.true w.if-not-is_field.ensures w.part.result
+          w.part.ensures in
       rw (w.start-is, w.out-is) (record {
         run = no_run c.args.self.now (c.loop-at.at + 1);
         printed = HasTaken-as whole (HasTaken-append c.loop-at.invariant.printed w.in_ok-write.ensures.printed);

@@ -1,6 +1,6 @@
 use Rattle.std.proofs.Common.{take}
 use Rattle.rec_select.specs.Taken.{HasTaken}
-use Rattle.rec_select.proofs.ExcerptLemmas.{IsFieldRun, fields_text}
+use Rattle.rec_select.proofs.lemmas.printing.ExcerptLemmas.{IsFieldRun, fields_text}
 use Rattle.rec_select.proofs.excerpt.Excerpt.write_fields.Given as goal
 
 abbrev pub invariant-loop-at : goal.invariant-loop-at

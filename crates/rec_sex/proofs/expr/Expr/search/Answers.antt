@@ -13,5 +13,6 @@ invariant_of-result c = record {
 
 pub loop-pattern-preserved : goal.loop-pattern-preserved
 loop-pattern-preserved c =
-    map_more matcher_pattern regex_pattern c.loop-pattern.matchers.items c.push.new.self.items c.in_ok-matcher.field-0 c.deref-pattern-items.result.now c.loop-pattern.pattern-index c.pattern-item.result
+    map_more matcher_pattern regex_pattern c.loop-pattern.matchers.items c.push.new.self.items c.in_ok-matcher.field-0 c.deref-pattern-items.result.now c.loop-pattern.pattern-index
+        c.pattern-item.result
     c.in_ok-push.ensures.items c.in_ok-matcher.ensures.pattern c.loop-pattern-test.true c.pattern-item.is c.loop-pattern.invariant

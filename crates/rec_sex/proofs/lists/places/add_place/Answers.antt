@@ -23,5 +23,6 @@ returns-clause-added c = λ other.
     let same : found c.get_mut.follows.lender-at-none ≡ found c.args.table.now = ap found c.get_mut.follows.holds-at-none in
     one_place_more (found c.args.table.now) (found c.insert.new.self) own c.push-2.new.self c.args.place
     (c.in_ok-push-2.ensures.items ∙ ap (λ items. items ++ c.args.place ∷ []) c.new-places.ensures.items ∙ ap (λ option. kept option ++ c.args.place ∷ []) c.in_default.ensures.value)
-    (λ name. hash_map_updates_str own c.get_mut.follows.lender-at-none c.insert.new.self _ c.in_ok-insert.ensures.updates name ∙ ap (λ old. cond (bytes_eq own name) (Some c.push-2.new.self) (old name)) same)
+    (λ name. hash_map_updates_str own c.get_mut.follows.lender-at-none c.insert.new.self _ c.in_ok-insert.ensures.updates name
+        ∙ ap (λ old. cond (bytes_eq own name) (Some c.push-2.new.self) (old name)) same)
     other

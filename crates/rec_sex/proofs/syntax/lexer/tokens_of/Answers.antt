@@ -1,6 +1,7 @@
 use Rattle.std.proofs.Common.{◌≡◌, ◌+◌, ◌<◌, length, Some, sym, ap, ◌∙◌, arith, rules}
 use Rattle.rec_sex.specs.proving.Lexing.{walk_of}
-use Rattle.rec_sex.proofs.lemmas.syntax.LexerLemmas.{token_is_within, fault_is_within, lexeme_read, step_is_taken, step_is_refused, fault_inside-le, IsRead-more, fault-refused, fault-broken, tokens-ended}
+use Rattle.rec_sex.proofs.lemmas.syntax.LexerLemmas.{token_is_within, fault_is_within, lexeme_read, step_is_taken, step_is_refused, fault_inside-le, IsRead-more, fault-refused, fault-broken,
+    tokens-ended}
 use Rattle.rec_sex.proofs.syntax.lexer.tokens_of.Goals as goal
 
 pub returns-then-not-branch-clause-bad_expression : goal.returns-then-not-branch-clause-bad_expression

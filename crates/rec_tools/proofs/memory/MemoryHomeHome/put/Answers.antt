@@ -1,7 +1,7 @@
 use Rattle.std.proofs.Common.{◌∙◌, ap, sym, subst, arith}
 use Rattle.rec_text.specs.Sink.{one_more}
 use Rattle.rec_tools.specs.Home.{CountsOne}
-use Rattle.rec_tools.proofs.MemoryLemmas.{put-short, put-failing}
+use Rattle.rec_tools.proofs.lemmas.calls.MemoryLemmas.{put-short, put-failing}
 use Rattle.rec_tools.proofs.memory.MemoryHomeHome.put.Goals as goal
 
 pub returns-in-Some-clause-call : goal.returns-in-Some-clause-call

@@ -11,5 +11,6 @@ loop-field-preserved c = elim c.if-refuses.branch [
       w.name.result.now c.if-refuses.names (sym c.refuses.ensures ∙ w.if-refuses.true) w.name.ensures (w.names-is ∙ w.in_ok-add.ensures)
   | else-refuses w ↦
       w.names-is
-      ∙ others_passed (allows c.args.self.now) c.args.fields.now c.loop-field.field-index no_element c.loop-field.names c.loop-field-test.true c.loop-field.invariant (sym c.refuses.ensures ∙ w.if-refuses.false)
+      ∙ others_passed (allows c.args.self.now) c.args.fields.now c.loop-field.field-index no_element c.loop-field.names c.loop-field-test.true c.loop-field.invariant (sym c.refuses.ensures
+          ∙ w.if-refuses.false)
 ]

@@ -45,4 +45,5 @@ returns-clause-added c =
     (omega (arith, length-map c.loop-i.search-items searched, ap length c.loop-i.invariant.same)) c.loop-i.invariant.added
 
 pub returns-clause-same : goal.returns-clause-same
-returns-clause-same c = ap (map searched) (with_items_is c.args.self.now.searches c.loop-i.search-items (omega (arith, c.loop-i.auto.search-items, c.deref_mut-search-items.ensures.len))) ∙ c.loop-i.invariant.same
+returns-clause-same c = ap (map searched) (with_items_is c.args.self.now.searches c.loop-i.search-items (omega (arith, c.loop-i.auto.search-items, c.deref_mut-search-items.ensures.len)))
+    ∙ c.loop-i.invariant.same

@@ -42,6 +42,7 @@ loop-field-preserved c =
           (c.loop-field.invariant.seen name value among)
           (seen_own own.names piece name value listed (has_seen_at own) (has_seen_at new) item.0 at
           (λ value place.
-          seen-put (λ one. one.0) (λ one. cow_slice_items one.1) own.seen c.insert.new.self item c.in_ok-insert.field-0 c.in_ok-insert.ensures.keys (λ old. not-false _ (sym c.in_ok-insert.ensures.added ∙ old)) value place
+          seen-put (λ one. one.0) (λ one. cow_slice_items one.1) own.seen c.insert.new.self item c.in_ok-insert.field-0 c.in_ok-insert.ensures.keys
+              (λ old. not-false _ (sym c.in_ok-insert.ensures.added ∙ old)) value place
           ∙ ap (λ bytes. has_seen_at own value place || (eqb place item.0 && bytes_eq value bytes)) value_is));
     }

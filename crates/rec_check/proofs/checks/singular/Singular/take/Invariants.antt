@@ -8,5 +8,6 @@ use Rattle.rec_check.proofs.checks.singular.Singular.take.Given as goal
 abbrev pub invariant-loop-field : goal.invariant-loop-field
 invariant-loop-field l = record {
   names : l.self.names ≡ l.fn.self.names;
-  seen : (name value : List ℕ) → is_among l.fn.self.names name ≡ true → has_seen l.self name value ≡ (has_seen l.fn.self name value || is_among (values_of name (pieces_of (take l.field-index l.fields))) value);
+  seen : (name value : List ℕ) → is_among l.fn.self.names name ≡ true → has_seen l.self name value
+      ≡ (has_seen l.fn.self name value || is_among (values_of name (pieces_of (take l.field-index l.fields))) value);
 }

@@ -5,10 +5,12 @@ use Rattle.rec_check.proofs.lemmas.descriptors.BuiltLemmas.{ArePatterns-more, Ar
 use Rattle.rec_check.proofs.descriptors.patterns.Patterns.pattern_of.Goals as goal
 
 pub returns-in-Some-clause-pattern : goal.returns-in-Some-clause-pattern
-returns-in-Some-clause-pattern c = found_pattern c.self.inside.built c.args.text.now c.in-Some.pattern.now c.in_ok-clone.field-0 c.self.invariant (sym c.in-Some.ensures.value) c.in_ok-clone.ensures.cases
+returns-in-Some-clause-pattern c = found_pattern c.self.inside.built c.args.text.now c.in-Some.pattern.now c.in_ok-clone.field-0 c.self.invariant
+    (sym c.in-Some.ensures.value) c.in_ok-clone.ensures.cases
 
 pub returns-in-Some-clause-kept : goal.returns-in-Some-clause-kept
-returns-in-Some-clause-kept c = ap (λ texts. is_among texts c.args.text.now) (sym c.self.view_is) ∙ texts_of-found c.self.inside.built c.args.text.now c.in-Some.pattern.now (sym c.in-Some.ensures.value)
+returns-in-Some-clause-kept c = ap (λ texts. is_among texts c.args.text.now) (sym c.self.view_is)
+    ∙ texts_of-found c.self.inside.built c.args.text.now c.in-Some.pattern.now (sym c.in-Some.ensures.value)
 
 pub invariant_of-self-in_err-insert : goal.invariant_of-self-in_err-insert
 invariant_of-self-in_err-insert c = ArePatterns-unchanged c.self.inside.built c.insert.new.self c.in_err-insert.ensures.err c.self.invariant

@@ -2,7 +2,7 @@ use Rattle.std.proofs.Common.{◌≡◌, ◌∙◌, ℕ, List, ap, map}
 use Rattle.std.proofs.lemmas.Result.{IfOk-weaker}
 use Rattle.std.specs.Option.{option_map}
 use Rattle.regex.specs.Patterns.{Re}
-use Rattle.rec_check.specs.proving.Meanings.{meaning_in}
+use Rattle.rec_check.specs.Meanings.{meaning_in}
 use Rattle.rec_check.specs.proving.Resolved.{meaning_by}
 use Rattle.rec_check.specs.Rules.{type_by, typing_for}
 use Rattle.rec_check.specs.Stored.{definition_stored, rules_stored, typing_stored}

@@ -1,0 +1,3 @@
+pub mod selection
+pub mod printing
+pub mod info

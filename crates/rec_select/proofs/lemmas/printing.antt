@@ -1,0 +1,5 @@
+pub mod PutsLemmas
+pub mod BlockLemmas
+pub mod ExcerptLemmas
+pub mod PrintingLemmas
+pub mod PrintingExamples

@@ -1,0 +1,5 @@
+pub mod FilterLemmas
+pub mod OneLineLemmas
+pub mod SelectionLemmas
+pub mod SelectionExamples
+pub mod IndexLemmas

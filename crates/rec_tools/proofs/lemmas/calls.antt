@@ -1,0 +1,4 @@
+pub mod CallLemmas
+pub mod MemoryLemmas
+pub mod AttemptLemmas
+pub mod ExitLemmas

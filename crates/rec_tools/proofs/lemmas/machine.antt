@@ -1,0 +1,4 @@
+pub mod StandsLemmas
+pub mod ForgettingLemmas
+pub mod StepLemmas
+pub mod MachineLemmas

@@ -1,0 +1,299 @@
+-- What a request comes to on contents that stand for a state is what the machine does in that state.
+use Rattle.std.proofs.Common.{arith, ◌≡◌, ◌≢◌, ◌⊎◌, inl, inr, ℕ, ◌+◌, ◌-◌, ◌<◌, Bool, List, [], ◌∷◌, length, map, Result, Ok, Err, sym, ap, ap₂, subst, refl, ◌∙◌}
+use Rattle.std.proofs.lemmas.Bool.{false≢true}
+use Rattle.std.specs.Prelude.{true, false, codes, if◌then◌else◌}
+use Rattle.rec_text.specs.declared.fault.Fault.{Fault}
+use Rattle.rec_journal.specs.declared.event.Revision.{Revision}
+use Rattle.rec_journal.specs.declared.patch.Direction.{Direction}
+use Rattle.rec_journal.specs.declared.patch.Direction.TheVariants.{Forward, Backward}
+use Rattle.rec_journal.specs.declared.event.Tool.{Tool}
+use Rattle.rec_journal.specs.declared.plan.Plan.{Plan}
+use Rattle.rec_journal.specs.History.{Opened, Opens, IsOpening}
+use Rattle.rec_journal.specs.Revisions.{Leads}
+use Rattle.rec_journal.specs.Plans.{ShareDigest, edit_to, after_edit_plan, edits_on, after_move, LeadsNowhere}
+use Rattle.rec_journal.proofs.lemmas.histories.Openings.{one_opening}
+use Rattle.rec_journal.proofs.lemmas.patches.StepLemmas.{edits_lead_to_one_text}
+use Rattle.rec_check.specs.DescribedTexts.{IsDescribedText}
+use Rattle.rec_edit.specs.declared.answer.Edited.{Edited}
+use Rattle.rec_tools.specs.declared.request.Reply.TheVariants.{Shown, Edited as EditedReply, Forgotten}
+use Rattle.rec_tools.specs.Home.{Contents}
+use Rattle.rec_tools.specs.Steps.{Then}
+use Rattle.rec_tools.specs.Printouts.{Printout, history_text, printed_history}
+use Rattle.rec_tools.specs.Requests.{Edits, Asked, looking, listing, editing, moving, forgetting, asked_of}
+use Rattle.rec_tools.specs.Outcomes.{Outcome, IsRequestOutcome, IsPrinting, IsMade, IsEditOutcome, IsPlanned, IsMove, IsMoveOutcome, IsForgetting, Forgets, printing, reply_of}
+use Rattle.rec_tools.specs.Machine.{Entry, State, AreEntries, Stands, IsMachineStep, IsMoveStep, Clashes, entries_on, state_history, state_after_edit, state_after_move, state_after_forgetting}
+use Rattle.rec_tools.specs.Guarantee.{StepsAsMachine, OutcomesAreSteps}
+use Rattle.rec_text.proofs.lemmas.FaultLemmas.{ok_is_no_err}
+use Rattle.rec_tools.proofs.lemmas.machine.StandsLemmas.{StandsBy, stands_by}
+use Rattle.rec_tools.proofs.lemmas.outcomes.OpeningLemmas.{edit_leads_back, leads_on, leads_back}
+use Rattle.rec_tools.proofs.lemmas.machine.ForgettingLemmas.{as_many_edits, stands_after_forgetting}
+
+-- ---- the history that is printed
+
+abbrev pair : ℕ → Tool → ℕ × Tool
+pair number tool = (number, tool)
+
+abbrev of_edit : Revision → ℕ × Tool
+of_edit e = (e.number, e.tool)
+
+abbrev of_entry : Entry → ℕ × Tool
+of_entry entry = (entry.number, entry.tool)
+
+-- edits and their entries are printed alike
+printed_alike : (direction : Direction) (es : List Revision) (entries : List Entry) (here : List ℕ) → AreEntries direction es entries here
+    → map of_edit es ≡ map of_entry entries
+printed_alike direction [] [] here are = refl
+printed_alike direction [] (entry ∷ entries) here are = absurd are
+printed_alike direction (e ∷ es) [] here are = absurd are
+printed_alike direction (e ∷ es) (entry ∷ entries) here are =
+    ap₂ (λ x xs. x ∷ xs) (ap₂ pair are.0 are.1) (printed_alike direction es entries entry.text are.3)
+
+-- ---- the nearest entry that way
+
+-- the entry of the nearest edit that way, and the entries of the others
+pub record HasNearest (direction : Direction) (s : State) (here : List ℕ) (nearest : Revision) (others : List Revision) : Type 0 where
+  pub entry : Entry
+  pub entries : List Entry
+  pub are : entries_on direction s ≡ entry ∷ entries
+  pub number : nearest.number ≡ entry.number
+  pub tool : nearest.tool ≡ entry.tool
+  pub leads : Leads direction nearest here entry.text
+  pub after : AreEntries direction others entries entry.text
+
+nearest_of : (direction : Direction) (s : State) (here : List ℕ) (nearest : Revision) (others : List Revision) (entries : List Entry)
+    → entries_on direction s ≡ entries → AreEntries direction (nearest ∷ others) entries here → HasNearest direction s here nearest others
+nearest_of direction s here nearest others [] e are = absurd are
+nearest_of direction s here nearest others (entry ∷ entries) e are =
+    record { entry = entry; entries = entries; are = e; number = are.0; tool = are.1; leads = are.2; after = are.3 }
+
+no_entries : (direction : Direction) (entries : List Entry) (here : List ℕ) → AreEntries direction [] entries here → entries ≡ []
+no_entries direction [] here are = refl
+no_entries direction (entry ∷ entries) here are = absurd are
+
+-- the entries that way are those of the edits that way
+are_on : (direction : Direction) (o : Opened) (c : Contents) (s : State) → StandsBy o c s
+    → AreEntries direction (edits_on direction o) (entries_on direction s) c.file
+are_on Backward o c s by = by.past
+are_on Forward o c s by = by.future
+
+has_nearest : (direction : Direction) (o : Opened) (c : Contents) (s : State) (nearest : Revision) (others : List Revision) → StandsBy o c s
+    → edits_on direction o ≡ nearest ∷ others → HasNearest direction s c.file nearest others
+has_nearest direction o c s nearest others by there =
+    nearest_of direction s c.file nearest others (entries_on direction s) refl
+    (subst (λ es. AreEntries direction es (entries_on direction s) c.file) there (are_on direction o c s by))
+
+-- the contents after a move stand for the state after it
+stands_after_move : (direction : Direction) (o : Opened) (c after : Contents) (s : State) (nearest : Revision) (others : List Revision)
+    → (by : StandsBy o c s) (has : HasNearest direction s c.file nearest others) → after.file ≡ has.entry.text
+    → Opens after.file after.journal (after_move direction o c.journal nearest others)
+    → Stands after (state_after_move direction s has.entry has.entries)
+stands_after_move Backward o c after s nearest others by has text opens = record {
+  opened = after_move Backward o c.journal nearest others;
+  opens = opens;
+  settled = refl;
+  present = sym text;
+  past = subst (λ t. AreEntries Backward others has.entries t) (sym text) has.after;
+  future = (
+    has.number,
+    has.tool,
+    subst (λ t. Leads Forward nearest t s.present) (sym text)
+        (subst (λ t. Leads Forward nearest has.entry.text t) (sym by.present) (leads_on nearest c.file has.entry.text has.leads)),
+    subst (λ t. AreEntries Forward o.future s.future t) (sym by.present) by.future,
+  );
+  next = ap (λ n. n + 1) by.next;
+}
+stands_after_move Forward o c after s nearest others by has text opens = record {
+  opened = after_move Forward o c.journal nearest others;
+  opens = opens;
+  settled = refl;
+  present = sym text;
+  past = (
+    has.number,
+    has.tool,
+    subst (λ t. Leads Backward nearest t s.present) (sym text)
+        (subst (λ t. Leads Backward nearest has.entry.text t) (sym by.present) (leads_back nearest c.file has.entry.text has.leads)),
+    subst (λ t. AreEntries Backward o.past s.past t) (sym by.present) by.past,
+  );
+  future = subst (λ t. AreEntries Forward others has.entries t) (sym text) has.after;
+  next = ap (λ n. n + 1) by.next;
+}
+
+-- ---- what is asked for, on contents that stand for a state
+
+module _ (c : Contents) (s : State) (stands : Stands c s) where
+  -- contents that stand for a state can be opened
+  no_refusal : (fault : Fault) → IsOpening c.file c.journal (Err fault) → ⊥
+  no_refusal fault refused = ok_is_no_err stands.opened fault ⊥ (one_opening c.file c.journal (Err fault) (Ok stands.opened) refused stands.opens)
+
+  by_opening : (o : Opened) → Opens c.file c.journal o → StandsBy o c s
+  by_opening o opens = stands_by c s o stands opens
+
+  looks_step : (IsText : List ℕ → Result Printout Fault → Type 0) (r : Result Outcome Fault)
+      → IsPrinting (IsText c.file) r → StepsAsMachine c s (looking IsText) r
+  looks_step IsText (Ok outcome) (p, is, e) =
+      subst (λ x. StepsAsMachine c s (looking IsText) (Ok x)) (sym e)
+      (s, (Ok p, subst (λ text. IsText text (Ok p)) (sym stands.present) is, (refl, refl), refl), stands)
+  looks_step IsText (Err fault) is = inl (Err fault, subst (λ text. IsText text (Err fault)) (sym stands.present) is, (refl, refl), refl)
+
+  -- ---- the history
+
+  printed_as_listed : (o : Opened) → StandsBy o c s → printed_history o ≡ state_history s
+  printed_as_listed o by =
+      ap (λ b. if b then codes "drifted\n" else history_text (map of_edit o.past) (map of_edit o.future)) by.settled
+      ∙ ap₂ history_text (printed_alike Backward o.past s.past c.file by.past) (printed_alike Forward o.future s.future c.file by.future)
+
+  lists_step : (r : Result Outcome Fault)
+      → Then (IsOpening c.file c.journal) (λ o given. given ≡ Ok (printing (printed_history o) Shown)) r → StepsAsMachine c s listing r
+  lists_step r (inl (fault, refused, e)) = absurd (no_refusal fault refused)
+  lists_step r (inr (o, opens, e)) =
+      subst (λ x. StepsAsMachine c s listing x) (sym e) (s, (refl, printed_as_listed o (by_opening o opens), refl), stands)
+
+  -- ---- an edit
+
+  module _ (IsEdit : Result Edits Fault → Type 0) where
+    -- what the edit makes of the file it makes of the state's text
+    on_present : (r : Result (Tool × Edited) Fault) → Then (IsDescribedText c.file) (λ _. IsMade IsEdit c.file) r
+        → Then (IsDescribedText s.present) (λ _. IsMade IsEdit s.present) r
+    on_present r is = subst (λ text. Then (IsDescribedText text) (λ _. IsMade IsEdit text) r) (sym stands.present) is
+
+    edit_refused : (fault : Fault) → Then (IsDescribedText c.file) (λ _. IsMade IsEdit c.file) (Err fault) → StepsAsMachine c s (editing IsEdit) (Err fault)
+    edit_refused fault is = inl (Err fault, on_present (Err fault) is, (refl, refl), refl)
+
+    module _ (tool : Tool) (made : Edited) (is : Then (IsDescribedText c.file) (λ _. IsMade IsEdit c.file) (Ok (tool, made))) where
+      module _ (differs : made.text ≢ c.file) where
+        other : made.text ≢ s.present
+        other same = differs (same ∙ stands.present)
+
+        step : IsMachineStep s (editing IsEdit) (Ok (EditedReply made.changed)) [] (state_after_edit s tool made.text)
+        step = (Ok (tool, made), on_present (Ok (tool, made)) is, inr (other, refl, refl), refl)
+
+        clashes : ShareDigest c.file made.text → Clashes s (editing IsEdit)
+        clashes same = record {
+          reply = EditedReply made.changed;
+          later = state_after_edit s tool made.text;
+          step = step;
+          differ = other;
+          same_digest = subst (λ t. ShareDigest t made.text) (sym stands.present) same;
+        }
+
+      stands_after_edit : (o : Opened) (plan : Plan) → Opens c.file c.journal o → IsPlanned o c tool made plan
+          → Stands (record { file = plan.file; journal = plan.journal }) (state_after_edit s tool made.text)
+      stands_after_edit o plan opens planned =
+          let by = by_opening o opens in
+          let edit = edit_to o tool made.text made.steps in
+          record {
+            opened = after_edit_plan o c.journal tool made.steps made.text;
+            opens = planned.safe.next;
+            settled = refl;
+            present = sym planned.planned.1;
+            past = (
+              sym by.next,
+              refl,
+              subst (λ t. Leads Backward edit t s.present) (sym planned.planned.1)
+                  (subst (λ t. Leads Backward edit made.text t) (sym by.present) (edit_leads_back c o tool made plan opens planned)),
+              subst (λ t. AreEntries Backward o.past s.past t) (sym by.present) by.past,
+            );
+            future = tt;
+            next = ap (λ n. n + 1) by.next;
+          }
+
+      edit_steps : (o : Opened) (r : Result Outcome Fault) → Opens c.file c.journal o → IsEditOutcome o c tool made r
+          → StepsAsMachine c s (editing IsEdit) r
+      edit_steps o (Ok outcome) opens (inl (same, e)) =
+          subst (λ x. StepsAsMachine c s (editing IsEdit) (Ok x)) (sym e)
+          (s, (Ok (tool, made), on_present (Ok (tool, made)) is, inl (same ∙ sym stands.present, refl, refl), refl), stands)
+      edit_steps o (Ok outcome) opens (inr (differs, (plan, planned, e))) =
+          subst (λ x. StepsAsMachine c s (editing IsEdit) (Ok x)) (sym e)
+          (state_after_edit s tool made.text, step differs, stands_after_edit o plan opens planned)
+      edit_steps o (Err fault) opens (differs, e, same) = inr (e, clashes differs same)
+
+    edits_step : (r : Result Outcome Fault)
+        → Then (IsDescribedText c.file) (λ _. Then (IsOpening c.file c.journal) (λ o. Then (IsMade IsEdit c.file) (λ told. IsEditOutcome o c told.0 told.1))) r
+        → StepsAsMachine c s (editing IsEdit) r
+    edits_step r (inl (fault, refused, e)) =
+        subst (λ x. StepsAsMachine c s (editing IsEdit) x) (sym e) (edit_refused fault (inl (fault, refused, refl)))
+    edits_step r (inr (text, is, inl (fault, refused, e))) = absurd (no_refusal fault refused)
+    edits_step r (inr (text, is, inr (o, opens, inl (fault, refused, e)))) =
+        subst (λ x. StepsAsMachine c s (editing IsEdit) x) (sym e) (edit_refused fault (inr (text, is, refused)))
+    edits_step r (inr (text, is, inr (o, opens, inr ((tool, made), done, last)))) = edit_steps tool made (inr (text, is, done)) o r opens last
+
+  -- ---- a move
+
+  module _ (direction : Direction) (o : Opened) (opens : Opens c.file c.journal o) where
+    by : StandsBy o c s
+    by = by_opening o opens
+
+    moved : (outcome : Outcome) → IsMoveOutcome direction o c outcome → StepsAsMachine c s (moving direction) (Ok outcome)
+    moved outcome m =
+        let has = has_nearest direction o c s m.moves.nearest m.moves.others by m.moves.there in
+        let t = state_after_move direction s has.entry has.entries in
+        let reply = reply_of direction m.moves.nearest.number in
+        subst (λ x. StepsAsMachine c s (moving direction) (Ok x)) (sym m.is) (
+          t,
+          (
+            subst (λ es. IsMoveStep direction s es (Ok reply) t) (sym has.are) (ap (λ n. Ok (reply_of direction n)) has.number, refl),
+            refl,
+          ),
+          stands_after_move direction o c (record { file = m.plan.file; journal = m.plan.journal }) s m.moves.nearest m.moves.others by has
+              (edits_lead_to_one_text direction m.moves.nearest c.file m.plan.file has.entry.text m.moves.leads has.leads) m.safe.next,
+        )
+
+    no_drift : (o.drifted ≡ true) ⊎ ((o.drifted ≡ false) × LeadsNowhere direction o c.file) → ⊥
+    no_drift (inl drifted) = false≢true (sym by.settled ∙ drifted)
+    no_drift (inr (settled, nowhere)) =
+        let has = has_nearest direction o c s nowhere.nearest nowhere.others by nowhere.there in
+        nowhere.none has.entry.text has.leads
+
+    move_steps : (r : Result Outcome Fault) → IsMove direction o c r → StepsAsMachine c s (moving direction) r
+    move_steps (Ok outcome) (settled, m) = moved outcome m
+    move_steps (Err fault) (inl (e, drifted)) = absurd (no_drift drifted)
+    move_steps (Err fault) (inr (e, settled, nothing)) =
+        let none : entries_on direction s ≡ [] =
+        no_entries direction (entries_on direction s) c.file
+        (subst (λ es. AreEntries direction es (entries_on direction s) c.file) nothing (are_on direction o c s by)) in
+        inl (subst (λ es. IsMoveStep direction s es (Err fault) s) (sym none) (ap Err e, refl), refl)
+
+  moves_step : (direction : Direction) (r : Result Outcome Fault) → Then (IsOpening c.file c.journal) (λ o. IsMove direction o c) r
+      → StepsAsMachine c s (moving direction) r
+  moves_step direction r (inl (fault, refused, e)) = absurd (no_refusal fault refused)
+  moves_step direction r (inr (o, opens, move)) = move_steps direction o opens r move
+
+  -- ---- forgetting
+
+  module _ (n : ℕ) (o : Opened) (opens : Opens c.file c.journal o) where
+    history : StandsBy o c s
+    history = by_opening o opens
+
+    as_many : length o.past ≡ length s.past
+    as_many = as_many_edits Backward o.past s.past c.file history.past
+
+    forgotten : (outcome : Outcome) → n < length o.past → Forgets n o c outcome → StepsAsMachine c s (forgetting n) (Ok outcome)
+    forgotten outcome more f =
+        subst (λ x. StepsAsMachine c s (forgetting n) (Ok x)) (sym f.is) (
+          state_after_forgetting n s,
+          (inr (omega (arith, more, as_many), ap (λ k. Ok (Forgotten (k - n))) as_many, refl), refl),
+          stands_after_forgetting n o c s history f.opens,
+        )
+
+    forgetting_steps : (r : Result Outcome Fault) → IsForgetting n o c r → StepsAsMachine c s (forgetting n) r
+    forgetting_steps (Ok outcome) (settled, inl (few, e)) =
+        subst (λ x. StepsAsMachine c s (forgetting n) (Ok x)) (sym e) (s, (inl (omega (arith, few, as_many), refl, refl), refl), stands)
+    forgetting_steps (Ok outcome) (settled, inr (more, f)) = forgotten outcome more f
+    forgetting_steps (Err fault) (e, drifted) = absurd (false≢true (sym history.settled ∙ drifted))
+
+  forgets_step : (n : ℕ) (r : Result Outcome Fault) → Then (IsOpening c.file c.journal) (λ o. IsForgetting n o c) r
+      → StepsAsMachine c s (forgetting n) r
+  forgets_step n r (inl (fault, refused, e)) = absurd (no_refusal fault refused)
+  forgets_step n r (inr (o, opens, forgets)) = forgetting_steps n o opens r forgets
+
+-- whatever it comes to on contents that stand for a state, the machine steps so
+pub outcomes_are_steps : (c : Contents) (s : State) (asked : Asked) (r : Result Outcome Fault)
+    → Stands c s → IsRequestOutcome c asked r → StepsAsMachine c s asked r
+outcomes_are_steps c s (looking IsText) r stands is = looks_step c s stands IsText r is
+outcomes_are_steps c s listing r stands is = lists_step c s stands r is
+outcomes_are_steps c s (editing IsEdit) r stands is = edits_step c s stands IsEdit r is
+outcomes_are_steps c s (moving direction) r stands is = moves_step c s stands direction r is
+outcomes_are_steps c s (forgetting n) r stands is = forgets_step c s stands n r is
+
+pub of_requests : OutcomesAreSteps
+of_requests c s request r stands is = outcomes_are_steps c s (asked_of request) r stands is

@@ -1,0 +1,243 @@
+-- A request comes to one outcome on two contents at most.
+use Rattle.std.proofs.Common.{arith, ◌≡◌, inl, inr, ℕ, Bool, Option, List, ◌∷◌, Result, Ok, Err, sym, ap, ◌∙◌}
+use Rattle.std.proofs.lemmas.Bool.{false≢true}
+use Rattle.rec_text.specs.declared.fault.Fault.{Fault}
+use Rattle.rec_text.specs.declared.violations.Violation.{Violation}
+use Rattle.rec_text.specs.Elements.{Piece}
+use Rattle.rec_text.proofs.lemmas.records.RecordLemmas.{OneListOfRecords-holds}
+use Rattle.rec_sex.specs.declared.lists.field_list.Item.{Item}
+use Rattle.rec_sex.proofs.lemmas.lists.FieldListReading.{one_field_list}
+use Rattle.rec_check.specs.declared.set.Set_.{Set_}
+use Rattle.rec_check.specs.DescribedTexts.{IsDescribedText}
+use Rattle.rec_check.proofs.lemmas.laws.CheckLemmas.{one_check}
+use Rattle.rec_check.specs.Violations.{AreViolationsOf}
+use Rattle.rec_select.specs.declared.info.InfoForm.{InfoForm}
+use Rattle.rec_select.specs.declared.records.Shape.{Shape}
+use Rattle.rec_select.specs.declared.records.Shape.TheVariants.{Print as PrintedFields, Values as PickedValues, Row as PickedRow}
+use Rattle.rec_select.specs.Info.{IsInfo, info}
+use Rattle.rec_select.specs.Printing.{IsPrinted, printed}
+use Rattle.rec_select.specs.Report.{report}
+use Rattle.rec_select.specs.Selection.{IsSelection}
+use Rattle.rec_select.proofs.lemmas.selection.SelectionLemmas.{one_selection}
+use Rattle.rec_journal.specs.declared.event.Revision.{Revision}
+use Rattle.rec_journal.specs.declared.patch.Direction.{Direction}
+use Rattle.rec_journal.specs.declared.event.Tool.{Tool}
+use Rattle.rec_journal.specs.declared.plan.Plan.{Plan}
+use Rattle.rec_journal.specs.History.{Opened, Opens, IsOpening}
+use Rattle.rec_journal.specs.Plans.{IsMovePlan}
+use Rattle.rec_journal.proofs.lemmas.plans.PlanLemmas.{one_move_plan}
+use Rattle.rec_journal.proofs.lemmas.histories.Openings.{one_opening}
+use Rattle.rec_edit.specs.declared.answer.Edited.{Edited}
+use Rattle.rec_tools.specs.declared.request.Form.{Form}
+use Rattle.rec_tools.specs.declared.request.Form.TheVariants.{Blocks, Print, Values, Row, Count}
+use Rattle.rec_tools.specs.declared.request.Pick.{Pick}
+use Rattle.rec_tools.specs.declared.request.Request.{Request}
+use Rattle.rec_tools.specs.declared.request.Request.TheVariants.{Show, Info, Check, Edit, Batch, Undo, Redo, Forget, History}
+use Rattle.rec_tools.specs.declared.request.Reply.{Reply}
+use Rattle.rec_tools.specs.declared.request.Reply.TheVariants.{Shown, Edited as EditedReply}
+use Rattle.rec_tools.specs.Home.{Contents}
+use Rattle.rec_tools.specs.Steps.{Then}
+use Rattle.rec_tools.specs.Asking.{IsFilter, IsListed, IsShape}
+use Rattle.rec_tools.specs.Printouts.{Printout, printed_history, IsShow, IsInfoOf, IsShownText, IsReportText, verdict}
+use Rattle.rec_tools.specs.Requests.{Edits, Asked, looking, listing, editing, moving, forgetting, asked_of}
+use Rattle.rec_tools.specs.Outcomes.{Outcome, IsRequestOutcome, IsPrinting, IsMade, IsEditOutcome, IsMove, IsForgetting, OneOutcome, printing, putting, reply_of}
+use Rattle.rec_text.proofs.lemmas.FaultLemmas.{same_fault, same_value}
+use Rattle.rec_tools.proofs.lemmas.outcomes.OpeningLemmas.{no_clash, same_plan_of}
+use Rattle.rec_tools.proofs.lemmas.outcomes.EditLemmas.{AreEditsAlike, agree_on_one, agree_on_batch, one_made}
+use Rattle.rec_text.proofs.lemmas.FaultLemmas.{no_both}
+use Rattle.rec_text.proofs.lemmas.StepLemmas.{HasOne, HasOneBut, HasOneBut-of, HasOneBut-Then, AgreeLike, one_value, no_value, one_fault, HasOne-Then, Then-first, Then-next}
+use Rattle.rec_tools.proofs.lemmas.outcomes.AnswerLemmas.{HasOneBut-filter, HasOneBut-text, agree_by_sets, same_selection}
+
+-- ---- printed texts
+
+HasOne-listed : (shape_of : List Item → Shape) (text : List ℕ) → HasOne (IsListed shape_of text)
+HasOne-listed shape_of text (Ok one) (Ok other) (items, is, e) (others, is_too, k) =
+    ap Ok (e ∙ ap shape_of (same_value items others (one_field_list text (Ok items) is (Ok others) is_too)) ∙ sym k)
+HasOne-listed shape_of text (Ok one) (Err fault) (items, is, e) is_too = absurd (no_both items fault (one_field_list text (Ok items) is (Err fault) is_too))
+HasOne-listed shape_of text (Err fault) (Ok other) is (others, is_too, k) = absurd (no_both others fault (one_field_list text (Ok others) is_too (Err fault) is))
+HasOne-listed shape_of text (Err fault) (Err other) is is_too = ap Err (same_fault fault other (one_field_list text (Err fault) is (Err other) is_too))
+
+HasOne-shape : (form : Form) → HasOne (IsShape form)
+HasOne-shape Blocks one other is is_too = is ∙ sym is_too
+HasOne-shape (Print list) one other is is_too = HasOne-listed PrintedFields list one other is is_too
+HasOne-shape (Values list) one other is is_too = HasOne-listed PickedValues list one other is is_too
+HasOne-shape (Row list) one other is is_too = HasOne-listed PickedRow list one other is is_too
+HasOne-shape Count one other is is_too = is ∙ sym is_too
+
+HasOne-printed : (pieces : List Piece) (selected : List ℕ) (shape : Shape) (collapse : Bool) → HasOne (IsPrinted pieces selected shape collapse)
+HasOne-printed pieces selected shape collapse (Ok one) (Ok other) (records, are, e) (others, are_too, k) =
+    ap Ok (e ∙ ap (λ rs. printed pieces rs selected shape collapse) (OneListOfRecords-holds.records pieces records others are are_too) ∙ sym k)
+HasOne-printed pieces selected shape collapse (Ok one) (Err fault) is is_too = absurd is_too
+HasOne-printed pieces selected shape collapse (Err fault) other is is_too = absurd is
+
+-- the records of these sets that a pick selects, in a form
+abbrev IsShowIn : Pick → Form → Bool → List Piece → List Set_ → Result (List ℕ) Fault → Type 0
+IsShowIn pick form collapse pieces sets =
+    Then (IsFilter pick.by) (λ wanted.
+    Then (IsShape form) (λ shape.
+    Then (IsSelection pieces sets pick.kind wanted) (λ selected. IsPrinted pieces selected shape collapse)))
+
+HasOneBut-show_in : (pick : Pick) (form : Form) (collapse : Bool) (pieces : List Piece) (sets : List Set_) → HasOneBut (IsShowIn pick form collapse pieces sets)
+HasOneBut-show_in pick form collapse pieces sets =
+    HasOneBut-filter pick.by _
+    (λ wanted other alike. Then-next (IsShape form) _ _ (λ shape. Then-first _ _ _ (same_selection pieces sets pick.kind wanted other alike.into alike.back)))
+    (λ wanted. HasOneBut-of _ (HasOne-Then _ _ (HasOne-shape form) (λ shape _.
+    HasOne-Then _ _ (one_selection pieces sets pick.kind wanted) (λ selected _. HasOne-printed pieces selected shape collapse))))
+
+HasOneBut-show : (file : List ℕ) (pick : Pick) (form : Form) (collapse : Bool) → HasOneBut (IsShow file pick form collapse)
+HasOneBut-show file pick form collapse =
+    HasOneBut-text file (λ text. IsShowIn pick form collapse text.pieces text.schema.sets)
+    (agree_by_sets (IsShowIn pick form collapse) (HasOneBut-show_in pick form collapse))
+
+HasOne-info : (record_type : Option (List ℕ)) (form : InfoForm) (pieces : List Piece) (sets : List Set_) → HasOne (IsInfo pieces sets record_type form)
+HasOne-info record_type form pieces sets (Ok one) (Ok other) (kept, records, are, is, e) (others, more, are_too, is_too, k) =
+    ap Ok (e ∙ ap (λ ss. info form pieces records ss) (same_value kept others (sym is ∙ is_too))
+    ∙ ap (λ rs. info form pieces rs others) (OneListOfRecords-holds.records pieces records more are are_too) ∙ sym k)
+HasOne-info record_type form pieces sets (Ok one) (Err fault) (kept, records, are, is, e) is_too = absurd (no_both kept fault (sym is ∙ is_too))
+HasOne-info record_type form pieces sets (Err fault) (Ok other) is (others, more, are_too, is_too, k) = absurd (no_both others fault (sym is_too ∙ is))
+HasOne-info record_type form pieces sets (Err fault) (Err other) is is_too = ap Err (same_fault fault other (sym is ∙ is_too))
+
+HasOneBut-info_of : (file : List ℕ) (record_type : Option (List ℕ)) (form : InfoForm) → HasOneBut (IsInfoOf file record_type form)
+HasOneBut-info_of file record_type form =
+    HasOneBut-text file (λ text. IsInfo text.pieces text.schema.sets record_type form)
+    (agree_by_sets (λ pieces sets. IsInfo pieces sets record_type form) (λ pieces sets. HasOneBut-of _ (HasOne-info record_type form pieces sets)))
+
+HasOneBut-check : (file : List ℕ) → HasOneBut (AreViolationsOf file)
+HasOneBut-check file = one_check file
+
+-- ---- what is printed, with its reply
+
+same_printout : (one other : Printout) → one.text ≡ other.text → one.reply ≡ other.reply → one ≡ other
+same_printout one other text reply =
+    let made : List ℕ → Reply → Printout = λ t r. record { text = t; reply = r } in
+    ap (λ t. made t one.reply) text ∙ ap (made other.text) reply
+
+HasOneBut-shown : (step : Result (List ℕ) Fault → Type 0) → HasOneBut step → HasOneBut (IsShownText step)
+HasOneBut-shown step has_one (Ok one) (Ok other) is is_too built built_too =
+    ap Ok (same_printout one other (one_value step has_one one.text other.text is.0 is_too.0) (is.1 ∙ sym is_too.1))
+HasOneBut-shown step has_one (Ok one) (Err fault) is is_too built built_too = absurd (no_value step has_one one.text fault is.0 is_too built_too)
+HasOneBut-shown step has_one (Err fault) (Ok other) is is_too built built_too = absurd (no_value step has_one other.text fault is_too.0 is built)
+HasOneBut-shown step has_one (Err fault) (Err other) is is_too built built_too = ap Err (one_fault step has_one fault other is is_too built built_too)
+
+HasOneBut-reported : (step : Result (List Violation) Fault → Type 0) → HasOneBut step → HasOneBut (IsReportText step)
+HasOneBut-reported step has_one (Ok one) (Ok other) (found, is, text, reply) (others, is_too, text_too, reply_too) built built_too =
+    let same = one_value step has_one found others is is_too in
+    ap Ok (same_printout one other (text ∙ ap report same ∙ sym text_too) (reply ∙ ap verdict same ∙ sym reply_too))
+HasOneBut-reported step has_one (Ok one) (Err fault) is is_too built built_too = absurd (no_value step has_one is.0 fault is.1 is_too built_too)
+HasOneBut-reported step has_one (Err fault) (Ok other) is is_too built built_too = absurd (no_value step has_one is_too.0 fault is_too.1 is built)
+HasOneBut-reported step has_one (Err fault) (Err other) is is_too built built_too = ap Err (one_fault step has_one fault other is is_too built built_too)
+
+HasOneBut-printing : (step : Result Printout Fault → Type 0) → HasOneBut step → HasOneBut (IsPrinting step)
+HasOneBut-printing step has_one (Ok one) (Ok other) (p, is, e) (q, is_too, k) built built_too =
+    ap Ok (e ∙ ap (λ (x : Printout). printing x.text x.reply) (one_value step has_one p q is is_too) ∙ sym k)
+HasOneBut-printing step has_one (Ok one) (Err fault) is is_too built built_too = absurd (no_value step has_one is.0 fault is.1 is_too built_too)
+HasOneBut-printing step has_one (Err fault) (Ok other) is is_too built built_too = absurd (no_value step has_one is_too.0 fault is_too.1 is built)
+HasOneBut-printing step has_one (Err fault) (Err other) is is_too built built_too = ap Err (one_fault step has_one fault other is is_too built built_too)
+
+-- ---- what is asked for
+
+-- what is asked for has one answer: one text of a file, and edits that are alike
+abbrev pub MeansOne : Asked → Type 0
+MeansOne (looking IsText) = (file : List ℕ) → HasOneBut (IsText file)
+MeansOne listing = Unit {0}
+MeansOne (editing IsEdit) = AgreeLike AreEditsAlike IsEdit IsEdit
+MeansOne (moving direction) = Unit {0}
+MeansOne (forgetting n) = Unit {0}
+
+pub one_meaning : (request : Request) → MeansOne (asked_of request)
+one_meaning (Show pick form collapse) = λ file. HasOneBut-shown _ (HasOneBut-show file pick form collapse)
+one_meaning (Info record_type form) = λ file. HasOneBut-shown _ (HasOneBut-info_of file record_type form)
+one_meaning Check = λ file. HasOneBut-reported _ (HasOneBut-check file)
+one_meaning (Edit edit force) = agree_on_one edit force
+one_meaning (Batch text force) = agree_on_batch text force
+one_meaning Undo = tt
+one_meaning Redo = tt
+one_meaning (Forget n) = tt
+one_meaning History = tt
+
+-- ---- an edit
+
+-- a step that doesn't ask for what was read of a text has one answer after it
+pub HasOneBut-once_read : {A : Type 0} (file : List ℕ) (step : Result A Fault → Type 0) → HasOneBut step → HasOneBut (Then (IsDescribedText file) (λ _. step))
+HasOneBut-once_read file step has_one = HasOneBut-text file (λ _. step) (λ pieces schema same is is_too. has_one)
+
+module _ (o : Opened) (c : Contents) (opens : Opens c.file c.journal o) (tool : Tool) (made : Edited) where
+  HasOne-edit_outcome : HasOne (IsEditOutcome o c tool made)
+  HasOne-edit_outcome (Ok one) (Ok other) (inl (same, e)) (inl (same_too, k)) = ap Ok (e ∙ sym k)
+  HasOne-edit_outcome (Ok one) (Ok other) (inl (same, e)) (inr (differs, is_too)) = absurd (differs same)
+  HasOne-edit_outcome (Ok one) (Ok other) (inr (differs, is)) (inl (same, k)) = absurd (differs same)
+  HasOne-edit_outcome (Ok one) (Ok other) (inr (differs, (plan, planned, e))) (inr (differs_too, (also, planned_too, k))) =
+      ap Ok (e ∙ ap (λ p. putting p (EditedReply made.changed)) (same_plan_of c o tool made plan also planned planned_too) ∙ sym k)
+  HasOne-edit_outcome (Ok one) (Err fault) (inl (same, e)) is_too = absurd (is_too.0 same)
+  HasOne-edit_outcome (Ok one) (Err fault) (inr (differs, (plan, planned, e))) is_too = absurd (no_clash c o tool made plan opens planned is_too.2)
+  HasOne-edit_outcome (Err fault) (Ok other) is (inl (same, k)) = absurd (is.0 same)
+  HasOne-edit_outcome (Err fault) (Ok other) is (inr (differs, (plan, planned, k))) = absurd (no_clash c o tool made plan opens planned is.2)
+  HasOne-edit_outcome (Err fault) (Err other) is is_too = ap Err (is.1 ∙ sym is_too.1)
+
+-- ---- a move
+
+same_first : (one other : Revision) (rest others : List Revision) → one ∷ rest ≡ other ∷ others → one ≡ other
+same_first one other rest others e = cc
+
+module _ (direction : Direction) (o : Opened) (c : Contents) where
+  is_planned : (outcome : Outcome) (is : IsMove direction o c (Ok outcome)) → IsMovePlan direction o c.file c.journal (Ok is.1.plan)
+  is_planned outcome (settled, m) = (settled, m.moves)
+
+  one_plan : (one other : Result Plan Fault) → IsMovePlan direction o c.file c.journal one → IsMovePlan direction o c.file c.journal other → one ≡ other
+  one_plan one other is is_too = one_move_plan direction o c.file c.journal one other is is_too
+
+  HasOne-move : HasOne (IsMove direction o c)
+  HasOne-move (Ok one) (Ok other) is is_too =
+      let m = is.1 in
+      let n = is_too.1 in
+      let plans = same_value m.plan n.plan (one_plan (Ok m.plan) (Ok n.plan) (is_planned one is) (is_planned other is_too)) in
+      let nearest = same_first m.moves.nearest n.moves.nearest m.moves.others n.moves.others (sym m.moves.there ∙ n.moves.there) in
+      ap Ok (m.is ∙ ap (λ p. putting p (reply_of direction m.moves.nearest.number)) plans
+      ∙ ap (λ (e : Revision). putting n.plan (reply_of direction e.number)) nearest ∙ sym n.is)
+  HasOne-move (Ok one) (Err fault) is is_too =
+      absurd (no_both is.1.plan fault (one_plan (Ok is.1.plan) (Err fault) (is_planned one is) is_too))
+  HasOne-move (Err fault) (Ok other) is is_too =
+      absurd (no_both is_too.1.plan fault (one_plan (Ok is_too.1.plan) (Err fault) (is_planned other is_too) is))
+  HasOne-move (Err fault) (Err other) is is_too = ap Err (same_fault fault other (one_plan (Err fault) (Err other) is is_too))
+
+-- ---- forgetting
+
+module _ (n : ℕ) (o : Opened) (c : Contents) where
+  HasOne-forgetting : HasOne (IsForgetting n o c)
+  HasOne-forgetting (Ok one) (Ok other) (settled, inl (few, e)) (settled_too, inl (few_too, k)) = ap Ok (e ∙ sym k)
+  HasOne-forgetting (Ok one) (Ok other) (settled, inl (few, e)) (settled_too, inr (more, f)) = absurd (omega (arith, few, more))
+  HasOne-forgetting (Ok one) (Ok other) (settled, inr (more, f)) (settled_too, inl (few, k)) = absurd (omega (arith, few, more))
+  HasOne-forgetting (Ok one) (Ok other) (settled, inr (more, f)) (settled_too, inr (more_too, g)) = ap Ok (f.is ∙ sym g.is)
+  HasOne-forgetting (Ok one) (Err fault) is is_too = absurd (false≢true (sym is.0 ∙ is_too.1))
+  HasOne-forgetting (Err fault) (Ok other) is is_too = absurd (false≢true (sym is_too.0 ∙ is.1))
+  HasOne-forgetting (Err fault) (Err other) is is_too = ap Err (is.0 ∙ sym is_too.0)
+
+-- ---- outcomes
+
+module _ (c : Contents) where
+  HasOneBut-edit : (IsEdit : Result Edits Fault → Type 0) → AgreeLike AreEditsAlike IsEdit IsEdit → HasOneBut (IsRequestOutcome c (editing IsEdit))
+  HasOneBut-edit IsEdit agree =
+      let last : Opened → Tool × Edited → Result Outcome Fault → Type 0 = λ o told. IsEditOutcome o c told.0 told.1 in
+      let next : Opened → Result Outcome Fault → Type 0 = λ o. Then (IsMade IsEdit c.file) (last o) in
+      HasOneBut-once_read c.file (Then (IsOpening c.file c.journal) next)
+      (HasOneBut-Then (IsOpening c.file c.journal) next (HasOneBut-of (IsOpening c.file c.journal) (one_opening c.file c.journal)) (λ o opens.
+      HasOneBut-Then (IsMade IsEdit c.file) (last o) (one_made IsEdit agree c.file)
+      (λ made _. HasOneBut-of (last o made) (HasOne-edit_outcome o c opens made.0 made.1))))
+
+  -- what is asked for comes to one outcome
+  pub one_outcome_of : (asked : Asked) → MeansOne asked → HasOneBut (IsRequestOutcome c asked)
+  one_outcome_of (looking IsText) means one other is is_too built built_too =
+      HasOneBut-printing (IsText c.file) (means c.file) one other is is_too built built_too
+  one_outcome_of listing means one other is is_too built built_too =
+      HasOne-Then (IsOpening c.file c.journal) (λ o given. given ≡ Ok (printing (printed_history o) Shown)) (one_opening c.file c.journal)
+      (λ o _ a b e k. e ∙ sym k) one other is is_too
+  one_outcome_of (editing IsEdit) means one other is is_too built built_too = HasOneBut-edit IsEdit means one other is is_too built built_too
+  one_outcome_of (moving direction) means one other is is_too built built_too =
+      HasOne-Then (IsOpening c.file c.journal) (λ o. IsMove direction o c) (one_opening c.file c.journal) (λ o _. HasOne-move direction o c)
+      one other is is_too
+  one_outcome_of (forgetting n) means one other is is_too built built_too =
+      HasOne-Then (IsOpening c.file c.journal) (λ o. IsForgetting n o c) (one_opening c.file c.journal) (λ o _. HasOne-forgetting n o c)
+      one other is is_too
+
+pub one_outcome : OneOutcome
+one_outcome c request one other is is_too built built_too = one_outcome_of c (asked_of request) (one_meaning request) one other is is_too built built_too

@@ -1,0 +1,76 @@
+-- What is asked for is never refused because a store failed: that comes of calls alone.
+use Rattle.std.proofs.Common.{◌≡◌, inl, inr, ℕ, Result, Ok, Err}
+use Rattle.rec_text.specs.declared.fault.Fault.{Fault}
+use Rattle.rec_text.specs.declared.fault.Fault.TheVariants.{StoreFailed}
+use Rattle.rec_journal.specs.declared.event.Tool.{Tool}
+use Rattle.rec_journal.specs.History.{Opened, IsOpening}
+use Rattle.rec_edit.specs.declared.answer.Edited.{Edited}
+use Rattle.rec_tools.specs.declared.request.Reply.TheVariants.{Shown}
+use Rattle.rec_tools.specs.declared.request.Request.{Request}
+use Rattle.rec_tools.specs.declared.request.Request.TheVariants.{Show, Info, Check, Edit, Batch, Undo, Redo, Forget, History}
+use Rattle.rec_tools.specs.Home.{Contents}
+use Rattle.rec_tools.specs.Steps.{Then}
+use Rattle.rec_journal.specs.declared.patch.Direction.{Direction}
+use Rattle.rec_journal.specs.declared.patch.Direction.TheVariants.{Forward, Backward}
+use Rattle.rec_journal.specs.Plans.{nothing_there}
+use Rattle.rec_check.specs.DescribedTexts.{IsDescribedText}
+use Rattle.rec_tools.specs.Printouts.{printed_history}
+use Rattle.rec_select.specs.Info.{IsInfo}
+use Rattle.rec_tools.specs.Requests.{Edits, IsOneEdit, IsBatch, editing, moving, forgetting, asked_of}
+use Rattle.rec_tools.specs.Outcomes.{Outcome, IsMade, IsEditOutcome, IsMove, IsForgetting, IsRequestOutcome, printing}
+use Rattle.rec_text.proofs.lemmas.FaultLemmas.{ok_is_no_err}
+use Rattle.rec_tools.proofs.lemmas.printing.PutsLemmas.{no_store_then, no_store_text}
+use Rattle.rec_tools.proofs.lemmas.printing.ShowLemmas.{no_store_show}
+use Rattle.rec_tools.proofs.lemmas.printing.InformLemmas.{no_store_info}
+use Rattle.rec_tools.proofs.lemmas.printing.CheckLemmas.{no_store_report}
+use Rattle.rec_tools.proofs.lemmas.outcomes.EditLemmas.{no_store_made, no_store_one, no_store_listed}
+
+-- ---- edits
+
+no_store_edit : (o : Opened) (c : Contents) (tool : Tool) (made : Edited) → IsEditOutcome o c tool made (Err StoreFailed) → ⊥
+no_store_edit o c tool made h = let e = h.1 in cc
+
+never_edits : (c : Contents) (IsEdit : Result Edits Fault → Type 0) → (IsEdit (Err StoreFailed) → ⊥) → IsRequestOutcome c (editing IsEdit) (Err StoreFailed) → ⊥
+never_edits c IsEdit never =
+    let last : Opened → Tool × Edited → Result Outcome Fault → Type 0 = λ o told. IsEditOutcome o c told.0 told.1 in
+    let next : Opened → Result Outcome Fault → Type 0 = λ o. Then (IsMade IsEdit c.file) (last o) in
+    no_store_then (IsDescribedText c.file) (λ _. Then (IsOpening c.file c.journal) next) (no_store_text c.file) (λ _.
+    no_store_then (IsOpening c.file c.journal) next (λ h. h) (λ o.
+    no_store_then (IsMade IsEdit c.file) (last o) (no_store_made IsEdit never c.file) (λ made. no_store_edit o c made.0 made.1)))
+
+-- ---- moves
+
+no_store_there : (direction : Direction) → StoreFailed ≡ nothing_there direction → ⊥
+no_store_there Backward e = cc
+no_store_there Forward e = cc
+
+no_store_move : (direction : Direction) (o : Opened) (c : Contents) → IsMove direction o c (Err StoreFailed) → ⊥
+no_store_move direction o c (inl drifted) = let e = drifted.0 in cc
+no_store_move direction o c (inr none) = no_store_there direction none.0
+
+never_moves : (direction : Direction) (c : Contents) → IsRequestOutcome c (moving direction) (Err StoreFailed) → ⊥
+never_moves direction c = no_store_then (IsOpening c.file c.journal) (λ o. IsMove direction o c) (λ h. h) (λ o. no_store_move direction o c)
+
+-- ---- forgetting
+
+no_store_forgetting : (n : ℕ) (o : Opened) (c : Contents) → IsForgetting n o c (Err StoreFailed) → ⊥
+no_store_forgetting n o c h = let e = h.0 in cc
+
+never_forgets : (n : ℕ) (c : Contents) → IsRequestOutcome c (forgetting n) (Err StoreFailed) → ⊥
+never_forgets n c = no_store_then (IsOpening c.file c.journal) (λ o. IsForgetting n o c) (λ h. h) (λ o. no_store_forgetting n o c)
+
+-- ---- requests
+
+pub never_store : (request : Request) (c : Contents) → IsRequestOutcome c (asked_of request) (Err StoreFailed) → ⊥
+never_store (Show pick form collapse) c is = no_store_show c.file pick form collapse is
+never_store (Info record_type form) c is =
+    no_store_then (IsDescribedText c.file) (λ text. IsInfo text.pieces text.schema.sets record_type form) (no_store_text c.file) (λ text. no_store_info text record_type form) is
+never_store Check c is = no_store_report c.file is
+never_store (Edit edit force) c is = never_edits c (IsOneEdit edit force) (no_store_one edit force) is
+never_store (Batch text force) c is = never_edits c (IsBatch text force) (no_store_listed text force) is
+never_store Undo c is = never_moves Backward c is
+never_store Redo c is = never_moves Forward c is
+never_store (Forget n) c is = never_forgets n c is
+never_store History c is =
+    no_store_then (IsOpening c.file c.journal) (λ o given. given ≡ Ok (printing (printed_history o) Shown)) (λ h. h)
+    (λ o. ok_is_no_err (printing (printed_history o) Shown) StoreFailed ⊥) is

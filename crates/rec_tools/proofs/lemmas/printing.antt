@@ -1,0 +1,5 @@
+pub mod PutsLemmas
+pub mod ShowLemmas
+pub mod InformLemmas
+pub mod CheckLemmas
+pub mod ListedLemmas

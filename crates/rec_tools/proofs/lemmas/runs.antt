@@ -1,0 +1,5 @@
+pub mod RunLemmas
+pub mod StopLemmas
+pub mod OutsideLemmas
+pub mod GuaranteeLemmas
+pub mod RunAllLemmas

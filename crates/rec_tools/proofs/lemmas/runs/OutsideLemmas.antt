@@ -1,0 +1,97 @@
+-- A file that was changed outside, and what requests then come to.
+use Rattle.std.proofs.Common.{◌≡◌, ◌⊎◌, inl, inr, ℕ, true, false, [], Result, Ok, Err, sym, ap, subst, refl, ◌∙◌}
+use Rattle.std.specs.Prelude.{codes, if◌then◌else◌, map}
+use Rattle.std.proofs.lemmas.Bool.{false≢true}
+use Rattle.rec_text.specs.declared.fault.Fault.{Fault}
+use Rattle.rec_text.specs.declared.fault.Fault.TheVariants.{Drifted}
+use Rattle.rec_journal.specs.declared.patch.Direction.{Direction}
+use Rattle.rec_journal.specs.declared.patch.Direction.TheVariants.{Forward, Backward}
+use Rattle.rec_journal.specs.declared.event.Revision.{Revision}
+use Rattle.rec_journal.specs.declared.event.Tool.{Tool}
+use Rattle.rec_journal.specs.declared.plan.Plan.{Plan}
+use Rattle.rec_journal.specs.History.{Opened, Opens, IsOpening}
+use Rattle.rec_journal.specs.Revisions.{Leads}
+use Rattle.rec_journal.specs.Plans.{edit_to, after_edit_plan}
+use Rattle.rec_journal.proofs.lemmas.histories.Countings.{drifted-empty}
+use Rattle.rec_journal.proofs.lemmas.histories.Openings.{one_opening}
+use Rattle.rec_edit.specs.declared.answer.Edited.{Edited}
+use Rattle.rec_tools.specs.declared.request.Reply.TheVariants.{Shown}
+use Rattle.rec_tools.specs.Home.{Contents, written}
+use Rattle.rec_tools.specs.Printouts.{history_text}
+use Rattle.rec_tools.specs.Requests.{Asked, looking, listing, editing, moving, forgetting, asked_of}
+use Rattle.rec_tools.specs.Outcomes.{Outcome, IsRequestOutcome, IsPlanned, printing}
+use Rattle.rec_tools.specs.Machine.{AreEntries, Stands}
+use Rattle.rec_tools.specs.Laws.{outside_state, OutsideIsNoticed}
+use Rattle.rec_text.proofs.lemmas.FaultLemmas.{ok_is_no_err, same_value}
+use Rattle.rec_tools.proofs.lemmas.outcomes.OpeningLemmas.{edit_leads_back}
+use Rattle.rec_tools.proofs.lemmas.runs.RunLemmas.{writes_nothing}
+
+module _ (c : Contents) (o : Opened) (opens : Opens c.file c.journal o) (drifted : o.drifted ≡ true) where
+  no_refusal : (fault : Fault) → IsOpening c.file c.journal (Err fault) → ⊥
+  no_refusal fault refused = ok_is_no_err o fault ⊥ (one_opening c.file c.journal (Err fault) (Ok o) refused opens)
+
+  same_opening : (p : Opened) → Opens c.file c.journal p → p ≡ o
+  same_opening p opened = same_value p o (one_opening c.file c.journal (Ok p) (Ok o) opened opens)
+
+  not_settled : (p : Opened) → Opens c.file c.journal p → p.drifted ≡ false → ⊥
+  not_settled p opened settled = false≢true (sym settled ∙ ap (λ (x : Opened). x.drifted) (same_opening p opened) ∙ drifted)
+
+  no_move : (direction : Direction) (r : Result Outcome Fault) → IsRequestOutcome c (moving direction) r → r ≡ Err Drifted
+  no_move direction r (inl (fault, refused, e)) = absurd (no_refusal fault refused)
+  no_move direction (Ok outcome) (inr (p, opened, (settled, m))) = absurd (not_settled p opened settled)
+  no_move direction (Err fault) (inr (p, opened, inl (is, why))) = ap Err is
+  no_move direction (Err fault) (inr (p, opened, inr (is, settled, none))) = absurd (not_settled p opened settled)
+
+  nothing_forgotten : (n : ℕ) (r : Result Outcome Fault) → IsRequestOutcome c (forgetting n) r → r ≡ Err Drifted
+  nothing_forgotten n r (inl (fault, refused, e)) = absurd (no_refusal fault refused)
+  nothing_forgotten n (Ok outcome) (inr (p, opened, (settled, forgets))) = absurd (not_settled p opened settled)
+  nothing_forgotten n (Err fault) (inr (p, opened, (is, why))) = ap Err is
+
+  told_drifted : (r : Result Outcome Fault) → IsRequestOutcome c listing r → r ≡ Ok (printing (codes "drifted\n") Shown)
+  told_drifted r (inl (fault, refused, e)) = absurd (no_refusal fault refused)
+  told_drifted r (inr (p, opened, e)) =
+      let is : p.drifted ≡ true = ap (λ (x : Opened). x.drifted) (same_opening p opened) ∙ drifted in
+      e ∙ ap (λ b. Ok (printing (if b then codes "drifted\n" else history_text (map (λ (x : Revision). (x.number, x.tool)) p.past) (map (λ (x : Revision). (x.number, x.tool)) p.future)) Shown)) is
+
+  -- the history after an edit has that edit alone
+  begun : (tool : Tool) (made : Edited) (plan : Plan) → IsPlanned o c tool made plan → Stands (record { file = plan.file; journal = plan.journal }) (outside_state c o tool plan.file)
+  begun tool made plan planned =
+      let edit : Revision = edit_to o tool made.text made.steps in
+      record {
+        opened = after_edit_plan o c.journal tool made.steps made.text;
+        opens = planned.safe.next;
+        settled = refl;
+        present = refl;
+        past = (
+          refl,
+          refl,
+          subst (λ t. Leads Backward edit t c.file) (sym planned.planned.1) (edit_leads_back c o tool made plan opens planned),
+          subst (λ es. AreEntries Backward es [] c.file) (sym (drifted-empty c.file c.journal o opens drifted).0) tt,
+        );
+        future = tt;
+        next = refl;
+      }
+
+  begins_anew : (asked : Asked) (outcome : Outcome) → IsRequestOutcome c asked (Ok outcome)
+      → (outcome.writes ≡ []) ⊎ ((tool : Tool) × Stands (written c outcome.writes) (outside_state c o tool (written c outcome.writes).file))
+  begins_anew (looking IsText) outcome is = inl (writes_nothing c (looking IsText) outcome tt is)
+  begins_anew listing outcome is = inl (writes_nothing c listing outcome tt is)
+  begins_anew (editing IsEdit) outcome (inl refused) = let e = refused.2 in cc
+  begins_anew (editing IsEdit) outcome (inr (text, is, inl refused)) = let e = refused.2 in cc
+  begins_anew (editing IsEdit) outcome (inr (text, is, inr (p, opened, inl refused))) = let e = refused.2 in cc
+  begins_anew (editing IsEdit) outcome (inr (text, is, inr (p, opened, inr (made, done, inl (same, e))))) = inl (ap (λ (x : Outcome). x.writes) e)
+  begins_anew (editing IsEdit) outcome (inr (text, is, inr (p, opened, inr ((tool, made), done, inr (differs, (plan, planned, e)))))) =
+      let here : IsPlanned o c tool made plan = subst (λ x. IsPlanned x c tool made plan) (same_opening p opened) planned in
+      inr (tool, subst (λ ws. Stands (written c ws) (outside_state c o tool (written c ws).file)) (sym (ap (λ (x : Outcome). x.writes) e)) (begun tool made plan here))
+  begins_anew (moving direction) outcome is = absurd (ok_is_no_err outcome Drifted ⊥ (sym (no_move direction (Ok outcome) is)))
+  begins_anew (forgetting n) outcome is = absurd (ok_is_no_err outcome Drifted ⊥ (sym (nothing_forgotten n (Ok outcome) is)))
+
+pub outside_is_noticed : OutsideIsNoticed
+outside_is_noticed c o opens drifted =
+    record {
+      undo = no_move c o opens drifted Backward;
+      redo = no_move c o opens drifted Forward;
+      forgetting = nothing_forgotten c o opens drifted;
+      history = told_drifted c o opens drifted;
+      edits = λ request outcome is. begins_anew c o opens drifted (asked_of request) outcome is;
+    }

@@ -55,6 +55,7 @@ fn run(alloc: Global, log: &mut Log) {
     journals::run(alloc, log);
     journals::patches::run(alloc, log);
     journals::hashes::run(alloc, log);
+    journals::texts::run(alloc, log);
     edits::run(alloc, log);
     edits::batches::run(alloc, log);
     edits::options::run(alloc, log);

@@ -3,3 +3,4 @@ pub mod events
 pub mod OutcomeLemmas
 pub mod histories
 pub mod plans
+pub mod texts

@@ -1,4 +1,4 @@
--- what patches, events, histories and plans are, what a stop leaves, and what forgetting does
+-- what patches, events, histories and plans are, which texts edits have, what a stop leaves, and what forgetting does
 pub mod Direction
 pub mod Patch
 pub mod Revisions
@@ -6,6 +6,7 @@ pub mod Event
 pub mod History
 pub mod Listing
 pub mod Plans
+pub mod EditTexts
 pub mod Stops
 pub mod Bound
 pub mod Promises

@@ -4,3 +4,4 @@ pub mod Prefixes
 pub mod Head
 pub mod Reading
 pub mod Scan
+pub mod Ways

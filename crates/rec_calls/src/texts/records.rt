@@ -49,7 +49,9 @@ nothing to undo
 nothing to redo
 the file was changed outside
 a file could not be read or written
-bad usage";
+bad usage
+batch line 8: not an edit
+no such edit";
 
 fn fault_of_number(alloc: Global, number: usize) -> Result<Option<Fault>, Fault> {
     Ok(Some(match number {
@@ -77,6 +79,8 @@ fn fault_of_number(alloc: Global, number: usize) -> Result<Option<Fault>, Fault>
         22 => Fault::Drifted,
         23 => Fault::StoreFailed,
         24 => Fault::BadUsage,
+        25 => Fault::BadBatch { line: 8 },
+        26 => Fault::NoSuchEdit,
         _ => return Ok(None),
     }))
 }

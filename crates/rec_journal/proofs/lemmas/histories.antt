@@ -6,3 +6,4 @@ pub mod Pieces
 pub mod Countings
 pub mod Openings
 pub mod Chains
+pub mod Growths

@@ -1,5 +1,4 @@
 use Rattle.std.proofs.Common.{◌≡◌, ◌∙◌, Ok, Err, ◌∷◌, [], map, take, refl, ap, sym, subst}
-use Rattle.core.proofs.result.Match.{err_is}
 use Rattle.rec_text.specs.Elements.{AreElementsOf, text_of}
 use Rattle.rec_text.specs.Faults.{IsMemoryOr}
 use Rattle.rec_check.specs.Stored.{described}
@@ -7,6 +6,7 @@ use Rattle.rec_edit.specs.declared.answer.Edited.{Edited}
 use Rattle.rec_edit.specs.Batch.{AreSteps, IsRefusedAt}
 use Rattle.rec_edit.specs.Task.{task_of, tool_of}
 use Rattle.rec_edit.specs.proving.Batches.{after_edit, untouched}
+use Rattle.rec_text.proofs.lemmas.ErrorLemmas.{kept_error}
 use Rattle.rec_edit.proofs.lemmas.outcomes.BatchLemmas.{IsRead, edit_of_read, with_last}
 use Rattle.rec_edit.proofs.batches.first_made.Goals as goal
 use Rattle.rec_edit.proofs.batches.first_made.Goals.{In-Some}
@@ -18,7 +18,7 @@ there c = record { read = subst (λ ps. AreElementsOf ps (text_of ps)) c.databas
 pub returns-in_err-made-clause-refused : goal.returns-in_err-made-clause-refused
 returns-in_err-made-clause-refused c =
     let fault = c.in_err-made.field-0.0 in
-    rw (err_is _ _ c.from_residual-in_err-made.ensures.1)
+    rw (kept_error c.from_residual-in_err-made.ensures.1)
     (subst (λ edits. IsMemoryOr fault (IsRefusedAt c.args.force (map task_of edits) (text_of c.args.file.pieces) 0 fault)) (sym c.in-Some.ensures.cases.0)
     (edit_of_read c.args.force (task_of c.in-Some.first.now) (text_of c.args.file.pieces) c.args.file.pieces (described c.args.file.schema) (Err fault)
     (there (goal.at.returns-in_err-made-clause-refused c).In-Some) c.in_err-made.ensures))

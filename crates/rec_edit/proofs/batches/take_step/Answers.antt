@@ -1,17 +1,17 @@
 use Rattle.std.proofs.Common.{◌∙◌, Ok, Err, ap, sym, subst, ◌++◌, ◌∷◌, []}
-use Rattle.core.proofs.result.Match.{err_is}
 use Rattle.rec_text.specs.Faults.{IsMemoryOr}
 use Rattle.rec_edit.specs.declared.answer.Edited.{Edited}
 use Rattle.rec_edit.specs.Batch.{AreSteps, IsEditOn}
 use Rattle.rec_edit.specs.Task.{task_of}
 use Rattle.rec_edit.specs.proving.Batches.{after_edit}
+use Rattle.rec_text.proofs.lemmas.ErrorLemmas.{kept_error}
 use Rattle.rec_edit.proofs.lemmas.outcomes.BatchLemmas.{with_last}
 use Rattle.rec_edit.proofs.batches.take_step.Goals as goal
 
 pub returns-in_err-patched-clause-refused : goal.returns-in_err-patched-clause-refused
 returns-in_err-patched-clause-refused c =
     let fault = c.in_err-patched.field-0.0 in
-    rw (err_is _ _ c.from_residual.ensures.1) (subst (λ text. IsMemoryOr fault (IsEditOn c.args.force (task_of c.args.edit.now) text (Err fault))) c.text.ensures c.in_err-patched.ensures)
+    rw (kept_error c.from_residual.ensures.1) (subst (λ text. IsMemoryOr fault (IsEditOn c.args.force (task_of c.args.edit.now) text (Err fault))) c.text.ensures c.in_err-patched.ensures)
 
 pub returns-clause-made : goal.returns-clause-made
 returns-clause-made c = λ tasks text are.

@@ -1,6 +1,6 @@
 use Rattle.std.proofs.Common.{◌≡◌, filter_map, slice_get, Ok, inl, inr, ap, refl, subst}
-use Rattle.core.proofs.result.Match.{err_is}
 use Rattle.rec_text.specs.Records.{AreRecords}
+use Rattle.rec_text.proofs.lemmas.ErrorLemmas.{kept_error}
 use Rattle.rec_text.proofs.lemmas.FaultLemmas.{memory_or_weaker}
 use Rattle.rec_edit.proofs.lemmas.records.MemberLemmas.{AreRanges-chosen, indexes_within, chosen_found}
 use Rattle.rec_edit.proofs.chosen.chosen_records.Goals as goal
@@ -12,7 +12,7 @@ found c = chosen_found _ _ _ _ _ c.in_ok-ranges_at.ensures c.as_slice.ensures c.
 pub returns-in_err-selected-clause-refused : goal.returns-in_err-selected-clause-refused
 returns-in_err-selected-clause-refused c =
     let fault = c.in_err-selected.field-0.0 in
-    rw (err_is _ _ c.from_residual.ensures.1) (memory_or_weaker fault _ _ (λ refused. inl (fault, refused, refl)) c.in_err-selected.ensures.refused)
+    rw (kept_error c.from_residual.ensures.1) (memory_or_weaker fault _ _ (λ refused. inl (fault, refused, refl)) c.in_err-selected.ensures.refused)
 
 pub ranges_at-requires : goal.ranges_at-requires
 ranges_at-requires c =

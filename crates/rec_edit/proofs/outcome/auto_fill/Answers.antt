@@ -1,14 +1,14 @@
 use Rattle.std.proofs.Common.{length, ap, sym, subst}
-use Rattle.core.proofs.result.Match.{err_is}
 use Rattle.rec_check.specs.Stored.{described}
 use Rattle.rec_edit.specs.proving.Drafts.{AreRanges}
 use Rattle.rec_edit.specs.proving.Filling.{filled_of, ranges_of}
+use Rattle.rec_text.proofs.lemmas.ErrorLemmas.{kept_error}
 use Rattle.rec_edit.proofs.lemmas.automatic.FillLemmas.{auto_fill-refused, auto_fill-made}
 use Rattle.rec_edit.proofs.outcome.auto_fill.Goals as goal
 
 pub returns-in_err-filled : goal.returns-in_err-filled
 returns-in_err-filled c = λ force.
-    rw (err_is _ _ c.from_residual.ensures.1) (auto_fill-refused c.args.file.now.pieces (described c.args.file.now.schema) force c.in_err-filled.field-0.0 c.in_err-filled.ensures.refused)
+    rw (kept_error c.from_residual.ensures.1) (auto_fill-refused c.args.file.now.pieces (described c.args.file.now.schema) force c.in_err-filled.field-0.0 c.in_err-filled.ensures.refused)
 
 pub filled_up-requires : goal.filled_up-requires
 filled_up-requires c =

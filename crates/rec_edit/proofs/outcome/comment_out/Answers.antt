@@ -1,13 +1,13 @@
-use Rattle.core.proofs.result.Match.{err_is}
 use Rattle.rec_check.specs.Stored.{described}
 use Rattle.rec_edit.specs.Task.{wanted_by}
+use Rattle.rec_text.proofs.lemmas.ErrorLemmas.{kept_error}
 use Rattle.rec_edit.proofs.lemmas.outcomes.EditLemmas.{comment_out-refused, comment_out-made}
 use Rattle.rec_edit.proofs.lemmas.scripts.LaidLemmas.{LaysLines-removing}
 use Rattle.rec_edit.proofs.outcome.comment_out.Goals as goal
 
 pub returns-in_err-chosen : goal.returns-in_err-chosen
 returns-in_err-chosen c =
-    rw (err_is _ _ c.from_residual.ensures.1)
+    rw (kept_error c.from_residual.ensures.1)
     (comment_out-refused c.args.file.now.pieces (described c.args.file.now.schema) c.args.force (wanted_by c.args.selection.now) c.in_err-chosen.field-0.0 c.in_err-chosen.ensures.refused)
 
 pub returns : goal.returns

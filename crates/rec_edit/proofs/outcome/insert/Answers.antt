@@ -1,11 +1,11 @@
 use Rattle.std.proofs.Common.{ℕ, List, map, Err, subst}
-use Rattle.core.proofs.result.Match.{err_is}
 use Rattle.rec_text.specs.Faults.{IsMemoryOr}
 use Rattle.rec_check.specs.Stored.{described}
 use Rattle.rec_edit.specs.Task.{Pair, fresh_by}
 use Rattle.rec_edit.specs.Automatic.{AreAutomatic}
 use Rattle.rec_edit.specs.proving.Given.{IsAutomaticText}
 use Rattle.rec_edit.specs.proving.Sites.{IsRecordPut}
+use Rattle.rec_text.proofs.lemmas.ErrorLemmas.{kept_error}
 use Rattle.rec_edit.proofs.lemmas.insertions.SiteLemmas.{insert-no_record, insert-no_number, LaysLines-insert, insert-made}
 use Rattle.rec_edit.proofs.outcome.insert.Goals as goal
 use Rattle.rec_edit.proofs.outcome.insert.Goals.{In_ok-layout}
@@ -29,7 +29,7 @@ put c =
 
 pub returns-in_err-pairs : goal.returns-in_err-pairs
 returns-in_err-pairs c = λ force.
-    rw (err_is _ _ c.from_residual.ensures.1)
+    rw (kept_error c.from_residual.ensures.1)
     (insert-no_record c.args.file.now.pieces (described c.args.file.now.schema) c.args.record_type.now
         (fresh_by c.args.fresh.now) c.args.auto force c.in_err-pairs.field-0.0 c.in_err-pairs.ensures.refused)
 
@@ -38,7 +38,7 @@ returns-in_err-automatic c = λ force.
     let P : List Pair → Type 0 = λ pairs.
     IsMemoryOr c.in_err-automatic.field-0.0 (AreAutomatic c.args.file.now.pieces (described c.args.file.now.schema) c.args.record_type.now c.args.auto (map (λ pair. pair.name) pairs)
         (Err c.in_err-automatic.field-0.0)) in
-    rw (err_is _ _ c.from_residual-in_err-automatic.ensures.1)
+    rw (kept_error c.from_residual-in_err-automatic.ensures.1)
     (insert-no_number c.args.file.now.pieces (described c.args.file.now.schema) c.args.record_type.now
         (fresh_by c.args.fresh.now) c.args.auto c.in_ok-pairs.pairs.items c.in_ok-pairs.ensures.found force
     c.in_err-automatic.field-0.0 (subst P c.deref.ensures.value c.in_err-automatic.ensures.refused))

@@ -1,18 +1,18 @@
-use Rattle.core.proofs.result.Match.{err_is}
 use Rattle.rec_check.specs.Stored.{described}
 use Rattle.rec_edit.specs.Task.{wanted_by}
+use Rattle.rec_text.proofs.lemmas.ErrorLemmas.{kept_error}
 use Rattle.rec_edit.proofs.lemmas.outcomes.EditLemmas.{set-no_items, set-none_chosen, set-made}
 use Rattle.rec_edit.proofs.lemmas.scripts.LaidLemmas.{LaysLines-setting}
 use Rattle.rec_edit.proofs.outcome.set.Goals as goal
 
 pub returns-in_err-items : goal.returns-in_err-items
 returns-in_err-items c = λ force.
-    rw (err_is _ _ c.from_residual.ensures.1)
+    rw (kept_error c.from_residual.ensures.1)
     (set-no_items c.args.file.now.pieces (described c.args.file.now.schema) force (wanted_by c.args.selection.now) c.args.list.now c.args.action.now c.in_err-items.field-0.0 c.in_err-items.ensures)
 
 pub returns-in_err-chosen : goal.returns-in_err-chosen
 returns-in_err-chosen c = λ force.
-    rw (err_is _ _ c.from_residual-in_err-chosen.ensures.1)
+    rw (kept_error c.from_residual-in_err-chosen.ensures.1)
     (set-none_chosen c.args.file.now.pieces (described c.args.file.now.schema) force (wanted_by c.args.selection.now) c.args.list.now c.args.action.now _ c.in_err-chosen.field-0.0
     c.in_ok-items.ensures c.in_err-chosen.ensures.refused)
 

@@ -1,7 +1,7 @@
 use Rattle.std.proofs.Common.{◌∙◌, ◌==◌, Ok, ap, inr, subst}
-use Rattle.core.proofs.result.Match.{err_is}
 use Rattle.rec_check.specs.Stored.{described}
 use Rattle.rec_check.specs.Violations.{AreViolations, AreViolationsOf}
+use Rattle.rec_text.proofs.lemmas.ErrorLemmas.{kept_error}
 use Rattle.rec_edit.proofs.lemmas.outcomes.BatchLemmas.{described_parts, unsound_unread}
 use Rattle.rec_edit.proofs.lemmas.outcomes.OutcomeLemmas.{none_of-some, none_of-none}
 use Rattle.rec_edit.proofs.sound.require_sound.Goals as goal
@@ -21,7 +21,7 @@ are c =
 
 pub returns-in_err-file : goal.returns-in_err-file
 returns-in_err-file c =
-    rw (err_is _ _ c.from_residual.ensures.1) (unsound_unread c.args.text.now c.in_err-file.field-0.0 c.in_err-file.ensures.refused)
+    rw (kept_error c.from_residual.ensures.1) (unsound_unread c.args.text.now c.in_err-file.field-0.0 c.in_err-file.ensures.refused)
 
 pub returns-then-not-is_empty : goal.returns-then-not-is_empty
 returns-then-not-is_empty c = inr (

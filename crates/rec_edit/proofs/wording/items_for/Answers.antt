@@ -1,7 +1,7 @@
 use Rattle.std.proofs.Common.{◌≡◌, ◌∙◌, ◌++◌, ℕ, false, List, map, Ok, Err, ap, sym, inr}
 use Rattle.std.specs.List.{list_all}
-use Rattle.core.proofs.result.Match.{err_is}
 use Rattle.rec_text.specs.Canonical.{is_plain_name}
+use Rattle.rec_text.proofs.lemmas.ErrorLemmas.{kept_error}
 use Rattle.rec_text.proofs.lemmas.FaultLemmas.{from_fact}
 use Rattle.rec_sex.specs.declared.lists.field_list.Item.{Item}
 use Rattle.rec_edit.specs.Wording.{unnumbered, written_items, names_of_action, values_of_action, AreItemsFor}
@@ -39,7 +39,7 @@ returns-in_err-require_written c =
     let values : List (List ℕ) = values_of_action c.args.action.now in
     let refused : Err fault ≡ written_items c.args.action.now items =
     if_writable-err (names at) values items c.require_written.result (c.require_written.ensures (names at) values (plain at) c.gives_foldable_value.ensures) fault c.in_err-require_written.was in
-    rw (err_is _ _ c.from_residual-in_err-require_written.ensures.1)
+    rw (kept_error c.from_residual-in_err-require_written.ensures.1)
     (from_fact fault (AreItemsFor c.args.action.now c.args.list.now (Err fault)) (inr (items, c.in_ok-items.ensures.found, inr (items, without_number at, refused))))
 
 pub returns : goal.returns

@@ -1,16 +1,16 @@
 use Rattle.std.proofs.Common.{ap}
-use Rattle.core.proofs.result.Match.{err_is}
 use Rattle.rec_tools.specs.Outcomes.{outcome_of}
+use Rattle.rec_text.proofs.lemmas.ErrorLemmas.{kept_error}
 use Rattle.rec_tools.proofs.lemmas.outcomes.DecideLemmas.{move-no_opening, move-refused, move-planned}
 use Rattle.rec_tools.proofs.decision.decide_move.Goals as goal
 
 pub returns-in_err-history-clause-found : goal.returns-in_err-history-clause-found
 returns-in_err-history-clause-found c =
-    rw (err_is _ _ c.from_residual.ensures.1) (move-no_opening c.args.file.now c.args.journal.now c.args.direction _ c.in_err-history.ensures)
+    rw (kept_error c.from_residual.ensures.1) (move-no_opening c.args.file.now c.args.journal.now c.args.direction _ c.in_err-history.ensures)
 
 pub returns-in_err-plan-clause-found : goal.returns-in_err-plan-clause-found
 returns-in_err-plan-clause-found c =
-    rw (err_is _ _ c.from_residual-in_err-plan.ensures.1) (move-refused c.args.file.now c.args.journal.now c.args.direction _ c.in_ok-history.ensures _ c.in_err-plan.ensures.plan.found)
+    rw (kept_error c.from_residual-in_err-plan.ensures.1) (move-refused c.args.file.now c.args.journal.now c.args.direction _ c.in_ok-history.ensures _ c.in_err-plan.ensures.plan.found)
 
 pub returns-clause-found : goal.returns-clause-found
 returns-clause-found c =

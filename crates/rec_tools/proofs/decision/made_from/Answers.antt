@@ -1,4 +1,4 @@
-use Rattle.core.proofs.result.Match.{err_is}
+use Rattle.rec_text.proofs.lemmas.ErrorLemmas.{kept_error}
 use Rattle.rec_tools.proofs.lemmas.outcomes.DecideLemmas.{one-refused, one-made, one-steps, batch-no_edits, batch-refused, batch-made, batch-steps}
 use Rattle.rec_tools.proofs.decision.made_from.Goals as goal
 
@@ -6,7 +6,7 @@ use Rattle.rec_tools.proofs.decision.made_from.Goals as goal
 
 pub returns-in_err-made-in-OneEdit-clause-found : goal.returns-in_err-made-in-OneEdit-clause-found
 returns-in_err-made-in-OneEdit-clause-found c =
-    rw (err_is _ _ c.from_residual.ensures.1, c.in-OneEdit.is) (one-refused c.args.force _ c.in-OneEdit.edit.now _ (rw c.from_ref.ensures.value at c.in_err-made-in-OneEdit.ensures.found))
+    rw (kept_error c.from_residual.ensures.1, c.in-OneEdit.is) (one-refused c.args.force _ c.in-OneEdit.edit.now _ (rw c.from_ref.ensures.value at c.in_err-made-in-OneEdit.ensures.found))
 
 pub returns-in_ok-made-in-OneEdit-clause-found : goal.returns-in_ok-made-in-OneEdit-clause-found
 returns-in_ok-made-in-OneEdit-clause-found c =
@@ -21,11 +21,11 @@ returns-in_ok-made-in-OneEdit-clause-steps c =
 
 pub returns-in_err-edits-in-Listed-clause-found : goal.returns-in_err-edits-in-Listed-clause-found
 returns-in_err-edits-in-Listed-clause-found c =
-    rw (err_is _ _ c.from_residual-in_err-edits-in-Listed.ensures.1, c.in-Listed.is) (batch-no_edits c.args.force _ c.in-Listed.text.now _ c.in_err-edits-in-Listed.ensures.refused)
+    rw (kept_error c.from_residual-in_err-edits-in-Listed.ensures.1, c.in-Listed.is) (batch-no_edits c.args.force _ c.in-Listed.text.now _ c.in_err-edits-in-Listed.ensures.refused)
 
 pub returns-in_err-made-in-Listed-clause-found : goal.returns-in_err-made-in-Listed-clause-found
 returns-in_err-made-in-Listed-clause-found c =
-    rw (err_is _ _ c.from_residual-in_err-made-in-Listed.ensures.1, c.in-Listed.is) (batch-refused c.args.force _ c.in-Listed.text.now _ c.in_ok-edits-in-Listed.ensures.found
+    rw (kept_error c.from_residual-in_err-made-in-Listed.ensures.1, c.in-Listed.is) (batch-refused c.args.force _ c.in-Listed.text.now _ c.in_ok-edits-in-Listed.ensures.found
     _ (rw c.deref.ensures.value at c.in_err-made-in-Listed.ensures.found))
 
 pub returns-in_ok-made-in-Listed-clause-found : goal.returns-in_ok-made-in-Listed-clause-found

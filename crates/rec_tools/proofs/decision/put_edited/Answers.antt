@@ -1,12 +1,12 @@
 use Rattle.std.proofs.Common.{ap}
-use Rattle.core.proofs.result.Match.{err_is}
 use Rattle.rec_tools.specs.Outcomes.{outcome_of}
+use Rattle.rec_text.proofs.lemmas.ErrorLemmas.{kept_error}
 use Rattle.rec_tools.proofs.lemmas.outcomes.DecideLemmas.{put-clash, put-planned}
 use Rattle.rec_tools.proofs.decision.put_edited.Goals as goal
 
 pub returns-in_err-plan-clause-found : goal.returns-in_err-plan-clause-found
 returns-in_err-plan-clause-found c =
-    rw (err_is _ _ c.from_residual.ensures.1) (put-clash _ _ _ c.requires.opened c.args.tool c.args.edited c.requires.differs _ c.in_err-plan.ensures.found)
+    rw (kept_error c.from_residual.ensures.1) (put-clash _ _ _ c.requires.opened c.args.tool c.args.edited c.requires.differs _ c.in_err-plan.ensures.found)
 
 pub returns-clause-found : goal.returns-clause-found
 returns-clause-found c =

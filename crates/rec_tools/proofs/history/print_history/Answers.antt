@@ -1,14 +1,14 @@
-use Rattle.core.proofs.result.Match.{err_is}
+use Rattle.rec_text.proofs.lemmas.ErrorLemmas.{kept_error}
 use Rattle.rec_tools.proofs.lemmas.printing.ListedLemmas.{history-refused, history-cut_short, history-printed}
 use Rattle.rec_tools.proofs.history.print_history.Goals as goal
 
 pub returns-in_err-history-clause-written : goal.returns-in_err-history-clause-written
 returns-in_err-history-clause-written g c =
-    rw (err_is _ _ c.from_residual.ensures.1) (history-refused c.args.file.now c.args.journal.now _ _ c.in_err-history.ensures)
+    rw (kept_error c.from_residual.ensures.1) (history-refused c.args.file.now c.args.journal.now _ _ c.in_err-history.ensures)
 
 pub returns-in_err-write_history-clause-written : goal.returns-in_err-write_history-clause-written
 returns-in_err-write_history-clause-written g c =
-    rw (err_is _ _ c.from_residual-in_err-write_history.ensures.1) (history-cut_short c.args.file.now c.args.journal.now _ c.in_ok-history.ensures c.in_err-write_history.ensures.printed)
+    rw (kept_error c.from_residual-in_err-write_history.ensures.1) (history-cut_short c.args.file.now c.args.journal.now _ c.in_ok-history.ensures c.in_err-write_history.ensures.printed)
 
 pub returns-clause-written : goal.returns-clause-written
 returns-clause-written g c = history-printed c.args.file.now c.args.journal.now _ c.in_ok-history.ensures c.in_ok-write_history.ensures.printed

@@ -1,17 +1,17 @@
 use Rattle.std.proofs.Common.{◌∙◌, ap}
-use Rattle.core.proofs.result.Match.{err_is}
 use Rattle.rec_tools.specs.Printouts.{verdict}
+use Rattle.rec_text.proofs.lemmas.ErrorLemmas.{kept_error}
 use Rattle.rec_tools.proofs.lemmas.printing.PutsLemmas.{refused_within, printed_all}
 use Rattle.rec_tools.proofs.lemmas.printing.CheckLemmas.{check-no_text, check-printed, check-cut_short}
 use Rattle.rec_tools.proofs.printing.check.Goals as goal
 
 pub returns-in_err-read-clause-written : goal.returns-in_err-read-clause-written
 returns-in_err-read-clause-written g c =
-    rw (err_is _ _ c.from_residual.ensures.1) (check-no_text c.args.file.now _ _ c.in_err-read.ensures.refused)
+    rw (kept_error c.from_residual.ensures.1) (check-no_text c.args.file.now _ _ c.in_err-read.ensures.refused)
 
 pub returns-in_err-write_report-clause-written : goal.returns-in_err-write_report-clause-written
 returns-in_err-write_report-clause-written g c =
-    rw (err_is _ _ c.from_residual-in_err-write_report.ensures.1) (refused_within c.in_err-write_report.ensures.written
+    rw (kept_error c.from_residual-in_err-write_report.ensures.1) (refused_within c.in_err-write_report.ensures.written
     (check-cut_short c.args.file.now _ c.in_ok-read.ensures.found _ (rw (c.database.ensures.elements, c.schema.ensures.schema) at c.in_ok-found.ensures.violations)
     (Unit {0}) _ _ _ _ c.deref.ensures.value))
 

@@ -1,11 +1,11 @@
 use Rattle.std.proofs.Common.{◌∙◌, ◌<◌, ◌≤◌, ◌^◌, List, ap, inl, length, subst, arith}
 use Rattle.std.proofs.lemmas.List.{length-map}
-use Rattle.core.proofs.result.Match.{err_is}
 use Rattle.rec_text.specs.declared.element.Element.{Element}
 use Rattle.rec_text.specs.Elements.{text_of}
 use Rattle.rec_text.specs.Faults.{IsMemoryOr}
 use Rattle.rec_text.specs.Places.{piece_of}
 use Rattle.rec_check.specs.proving.Reading.{IsRefusedRecord, drafted}
+use Rattle.rec_text.proofs.lemmas.ErrorLemmas.{kept_error}
 use Rattle.rec_text.proofs.lemmas.elements.ElementLemmas.{few_pieces}
 use Rattle.rec_check.proofs.lemmas.descriptors.SchemaLemmas.{IsSchemaUpTo, schema_first, countable, record_within, schema_more, fields_within, schema_fault, schema_all}
 use Rattle.rec_check.proofs.lemmas.TypeLemmas.{record_types-HaveTypes}
@@ -58,7 +58,7 @@ pub returns-in_err-add-clause-refused : goal.returns-in_err-add-clause-refused
 returns-in_err-add-clause-refused c =
     let fault = c.in_err-add.field-0.0 in
     let P : List Element → Type 0 = λ fields. IsMemoryOr fault (IsRefusedRecord (text_of c.args.database.now) c.loop-index.draft.types fields fault) in
-    rw (err_is _ _ c.from_residual-in_err-add.ensures.1)
+    rw (kept_error c.from_residual-in_err-add.ensures.1)
     (schema_fault c.args.database.now _ _ (drafted c.loop-index.draft) c.in-Some.record _ c.in-Some.ensures.steps.0 c.loop-index.invariant.so_far
     c.elements-elements.result.now c.elements-elements.ensures.pieces c.loop-index.draft.types
         (record_types-HaveTypes c.loop-index.draft.sets.items c.loop-index.draft.types c.loop-index.invariant.typed) c.elements-elements.ensures.places c.in_err-add.field-0.0

@@ -1,12 +1,12 @@
 use Rattle.std.proofs.Common.{◌∙◌, ℕ, get_or, ap, sym}
 use Rattle.std.proofs.lemmas.List.{get_or_default, map_push}
-use Rattle.core.proofs.result.Match.{err_is}
 use Rattle.std.specs.declared.ops.Range.{Range}
 use Rattle.rec_text.specs.Places.{pieces_of}
 use Rattle.rec_check.specs.Violations.{names_of}
 use Rattle.rec_edit.specs.declared.automatic.filled.FilledRecord.{FilledRecord}
 use Rattle.rec_edit.specs.proving.Filling.{numbered, filled_of}
 use Rattle.rec_edit.specs.Insertions.{Filled}
+use Rattle.rec_text.proofs.lemmas.ErrorLemmas.{kept_error}
 use Rattle.rec_text.proofs.lemmas.FaultLemmas.{memory_or_weaker}
 use Rattle.rec_edit.proofs.lemmas.automatic.FillLemmas.{none_filled, one_filled, one_refused, all_filled}
 use Rattle.rec_edit.proofs.automatic.filled.fill_records.Goals as goal
@@ -23,7 +23,7 @@ returns-in_err-given-clause-refused c = λ rules numbers are.
     let one : Range ℕ = get_or records i none in
     let so_far = c.loop-record.invariant rules numbers are in
     let fault = c.in_err-given.field-0.0 in
-    rw (err_is _ _ c.from_residual.ensures.1) (memory_or_weaker fault _ _
+    rw (kept_error c.from_residual.ensures.1) (memory_or_weaker fault _ _
     (one_refused pieces rules numbers records (filled_of c.args.filled.now.items) i (filled_of c.loop-record.filled.items) c.loop-record.counters one
         (names_of (pieces_of c.elements_in-fields.result.now)) c.loop-record-test.true
     (sym (get_or_default records i none one c.loop-record-test.true)) (ap names_of c.elements_in-fields.ensures.pieces) so_far fault)

@@ -1,13 +1,13 @@
 use Rattle.std.proofs.Common.{◌≡◌, ◌<◌, ◌≤◌, List, None, get_or, length, refl, sym, arith}
 use Rattle.std.proofs.lemmas.List.{get_or_default}
 use Rattle.std.proofs.lemmas.Option.{slice_get-get_or}
-use Rattle.core.proofs.result.Match.{err_is}
 use Rattle.std.proofs.lemmas.Slice.Zip.{AllZip-long}
 use Rattle.rec_check.specs.declared.set.Set_.{Set_}
 use Rattle.rec_check.specs.Rules.{Rules, no_rules}
 use Rattle.rec_check.specs.Schemas.{IsRuled}
 use Rattle.rec_check.specs.Stored.{described}
 use Rattle.rec_edit.specs.proving.Filling.{filled_of}
+use Rattle.rec_text.proofs.lemmas.ErrorLemmas.{kept_error}
 use Rattle.rec_text.proofs.lemmas.FaultLemmas.{memory_or_weaker}
 use Rattle.rec_edit.proofs.lemmas.automatic.FillLemmas.{one_set_filled, set_refused, all_sets_filled, AreRanges-filled}
 use Rattle.rec_edit.proofs.automatic.filled.filled_records.Goals as goal
@@ -44,7 +44,7 @@ returns-in_err-fill_set-clause-refused c =
     let s = get_or (sets at) i no_set in
     let asked = get_or (rules at) i no_rules in
     let fault = c.in_err-fill_set.field-0.0 in
-    rw (err_is _ _ c.from_residual.ensures.1) (memory_or_weaker fault _ _
+    rw (kept_error c.from_residual.ensures.1) (memory_or_weaker fault _ _
     (λ refused. (
       records,
       are,

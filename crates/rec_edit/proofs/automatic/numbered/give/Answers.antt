@@ -2,9 +2,9 @@ use Rattle.std.proofs.Common.{◌≡◌, ◌∙◌, ◌++◌, ◌∷◌, [], ℕ
 use Rattle.std.proofs.lemmas.Int.{to_z-of_z}
 use Rattle.std.proofs.lemmas.List.{get_or_default, map_push}
 use mir.Val.{SFits}
-use Rattle.core.proofs.result.Match.{err_is}
 use Rattle.rec_check.specs.declared.automatic.counter.Counter.{Counter}
 use Rattle.rec_sex.specs.proving.Choices.{has_name}
+use Rattle.rec_text.proofs.lemmas.ErrorLemmas.{kept_error}
 use Rattle.rec_text.proofs.lemmas.FaultLemmas.{from_fact}
 use Rattle.rec_edit.specs.declared.automatic.numbered.NumberedField.{NumberedField}
 use Rattle.rec_edit.specs.proving.Filling.{numbered, AreNamesOf, IsRefused}
@@ -38,7 +38,7 @@ returns-in_err-number-clause-refused c = λ rules numbers own are named.
     let at = (goal.at.returns-in_err-number-clause-refused c).After-contains in
     let so_far = c.loop-i.invariant rules numbers own are named in
     let counted = counter_here rules numbers own c.args.counters.now c.loop-i.counters c.loop-i.i (numbered c.loop-i.given.items) (omega arith) so_far (own_counter at) (here at) in
-    rw (err_is _ _ c.from_residual.ensures.1) (from_fact c.in_err-number.field-0.0 (IsRefused rules numbers own c.in_err-number.field-0.0)
+    rw (kept_error c.from_residual.ensures.1) (from_fact c.in_err-number.field-0.0 (IsRefused rules numbers own c.in_err-number.field-0.0)
     (refused_here rules numbers own c.args.counters.now c.loop-i.counters c.loop-i.i (numbered c.loop-i.given.items) (omega arith) so_far (own_counter at) (here at) c.in_err-number.field-0.0
     (sym (named (own_counter at).name.now) ∙ among at false own named c.if-contains.false) (c.in_err-number.ensures.next rules (numbers (own_counter at).name.now) counted)))
 

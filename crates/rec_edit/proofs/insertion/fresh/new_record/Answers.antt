@@ -1,8 +1,8 @@
 use Rattle.std.proofs.Common.{◌≡◌, ◌∙◌, ◌++◌, ℕ, false, List, map, Err, ap, inr}
 use Rattle.std.specs.Prelude.{option_to_list}
 use Rattle.std.specs.List.{list_all}
-use Rattle.core.proofs.result.Match.{err_is}
 use Rattle.rec_text.specs.Canonical.{is_plain_name, is_foldable}
+use Rattle.rec_text.proofs.lemmas.ErrorLemmas.{kept_error}
 use Rattle.rec_text.proofs.lemmas.FaultLemmas.{from_fact}
 use Rattle.rec_edit.specs.Task.{Pair, fresh_by}
 use Rattle.rec_edit.specs.Wording.{names_in, written_pairs, IsNewRecord}
@@ -38,7 +38,7 @@ returns-in_err-require_written-clause-refused c =
     let pairs : List Pair = c.in_ok-pairs.pairs.items in
     let refused : Err fault ≡ written_pairs c.args.record_type.now pairs =
     if_writable-err (names at) (values at) pairs c.require_written.result (c.require_written.ensures (names at) (values at) (plain at) (foldable at)) fault c.in_err-require_written.was in
-    rw (err_is _ _ c.from_residual-in_err-require_written.ensures.1)
+    rw (kept_error c.from_residual-in_err-require_written.ensures.1)
     (from_fact fault (IsNewRecord c.args.record_type.now (fresh_by c.args.fresh.now) (Err fault)) (inr (pairs, c.in_ok-pairs.ensures.found, refused)))
 
 pub returns-clause-found : goal.returns-clause-found

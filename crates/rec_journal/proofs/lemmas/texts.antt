@@ -1,0 +1,4 @@
+pub mod OverLemmas
+pub mod WayLemmas
+pub mod AllLemmas
+pub mod WalkLemmas

@@ -6,7 +6,7 @@ cd "$(dirname "$0")"
 recu=$PWD/crates/recu/out/recu
 folder=$(mktemp -d)
 # From nothing (processors: minutes). On 4 it was measured, on fewer it is what the processor minutes come to.
-minutes=([1]=100 [2]=60 [4]=40)
+minutes=([1]=75 [2]=50 [4]=34)
 
 # What runs beside this script ends with it, and what it proved is kept.
 end() {

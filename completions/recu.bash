@@ -4,7 +4,7 @@
 # _recu_options TOOL: a line for each option of the tool: its letter, its name, and what its value is called, or - for none
 _recu_options() {
     command recu "$1" -h 2> /dev/null |
-        sed -nE '/^Options:/,/^$/ s/^ +(-[A-Za-z])?(, )?(--[a-z-]+)?( <([A-Z]+)>)? .*/\1 \3 \5/p' |
+        sed -nE '/^Options:/,/^$/ s/^ +(-[A-Za-z])?(, )?(--[a-z-]+)?( <([A-Z=]+)>)? .*/\1 \3 \5/p' |
         sed -E 's/^ /- /; s/  /&- /; s/  / /; s/ $/ -/'
 }
 

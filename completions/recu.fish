@@ -9,7 +9,7 @@ end
 # The options of a tool: the letter, the name, what the value is called, and what the option does, with tabs between.
 function __recu_options
     command recu $argv[1] -h 2>/dev/null |
-        string replace -rf '^ +(?=-)(?:-([A-Za-z]))?(?:, )?(?:--([a-z-]+))?(?: <([A-Z]+)>)?  +([^ ].*)$' '$1\t$2\t$3\t$4'
+        string replace -rf '^ +(?=-)(?:-([A-Za-z]))?(?:, )?(?:--([a-z-]+))?(?: <([A-Z=]+)>)?  +([^ ].*)$' '$1\t$2\t$3\t$4'
 end
 
 # Whether this tool stands on the line before the cursor, or none.

@@ -43,7 +43,7 @@ _recu() {
     local -A takes
     local -A actions=(TYPE _recu_types FIELDS _recu_names NAME _recu_names PATH _files)
     for line in ${(f)"$(recu $tool -h 2> /dev/null)"}; do
-        [[ $line =~ '^ +(-[A-Za-z])?(, )?(--[a-z-]+)?( <([A-Z]+)>)?  +([^ ].*)$' ]] || continue
+        [[ $line =~ '^ +(-[A-Za-z])?(, )?(--[a-z-]+)?( <([A-Z=]+)>)?  +([^ ].*)$' ]] || continue
         letter=$match[1] name=$match[3] value=$match[5] about=${match[6]//(#m)[\]\[:\\]/\\$MATCH} often=
         [[ $tool/$name != recins/--(field|value) ]] || often='*'
         for word in $letter $name; do

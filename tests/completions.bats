@@ -99,7 +99,7 @@ in_table() {
 
 # in_help TOOL: the same, as the tool's help gives them
 in_help() {
-    "$program" "$1" -h | sed -nE '/^Options:/,/^$/ s/^ +(-.)?(, )?(--[a-z-]+)?( <([A-Z]+)>)? .*/\1 \3 \5/p' |
+    "$program" "$1" -h | sed -nE '/^Options:/,/^$/ s/^ +(-.)?(, )?(--[a-z-]+)?( <([A-Z=]+)>)? .*/\1 \3 \5/p' |
         sed -E 's/^ /- /; s/  /& - /; s/ $/ -/; s/ +/ /g' | grep -vE -- '--(help|version)'
 }
 

@@ -85,8 +85,35 @@ people='# P¶Name:  Ada¶# c¶Mail: a\¶b¶Mail: c¶¶Name: Bo'
     edited '# P¶Name:  Ada¶# c¶#Mail: a\¶#b¶#Mail: c¶¶Name: Bo' -f Mail -c
     edited '# P¶Name:  Ada¶# c¶Mail: a\¶b¶Mail: c¶¶Name: Cy' -q Bo -f Name -s Cy
     edited '# P¶Name:  Ada¶# c¶Mail: a\¶b¶Mail: c¶¶Name: Cy' -e '!#Mail' -f Name -s Cy
+    edited '# P¶Name:  Ada¶# c¶Mail: a\¶b¶Mail: c¶¶Name: Cy' --where Name=Bo -f Name -s Cy
     edited '# P¶Name:  Ada¶# c¶Mail: a\¶b¶Mail: c¶¶Name: Cy' -n 1 -f Name -s Cy
     only db.rec db.rec.journal
+}
+
+@test "a value from elsewhere selects what has it, whatever it is" {
+    local name
+    put db.rec "Name: O'Brien¶Note: a\¶b¶+ c¶¶Name: Ann¶¶Name: a=b¶"
+    for name in "' || '1' = '1" "Ann' || '1' = '1" '" || 1 = 1' '.*' '' 'O' "O'Brie" 'ann'; do
+        does recdel --where "Name=$name" db.rec
+        does recdel -c --where "Name=$name" db.rec
+        does recset --where "Name=$name" -f Name -s x db.rec
+        does recins --where "Name=$name" -f Name -v x db.rec
+        has db.rec "Name: O'Brien¶Note: a\¶b¶+ c¶¶Name: Ann¶¶Name: a=b¶"
+    done
+    only db.rec
+    does recset --where "Name=O'Brien" -f Name -s "O'Hara" db.rec
+    has db.rec "Name: O'Hara¶Note: a\¶b¶+ c¶¶Name: Ann¶¶Name: a=b¶"
+    does undo db.rec
+    does recins --where Name=a=b -f Name -v x db.rec
+    has db.rec "Name: O'Brien¶Note: a\¶b¶+ c¶¶Name: Ann¶¶Name: x¶"
+    does undo db.rec
+    does recdel --where $'Note=ab\nc' db.rec
+    has db.rec 'Name: Ann¶¶Name: a=b¶'
+    does undo db.rec
+    does recdel -c --where Name=Ann db.rec
+    has db.rec "Name: O'Brien¶Note: a\¶b¶+ c¶¶#Name: Ann¶¶Name: a=b¶"
+    does undo db.rec
+    has db.rec "Name: O'Brien¶Note: a\¶b¶+ c¶¶Name: Ann¶¶Name: a=b¶"
 }
 
 @test "records are commented out" {

@@ -29,6 +29,17 @@ load helpers
     rejects 'expression: error at byte 4' recsel -c -e 'A ~ B'
 }
 
+@test "what a value selects" {
+    put db.rec "A: O'Brien¶B: x\¶y¶+ z¶¶A: O¶¶A: é=¶"
+    shows "A: O'Brien¶" recsel --where "A=O'Brien" -p A
+    shows "A: O'Brien¶" recsel --where $'B=xy\nz' -p A
+    shows 'A: é=¶' recsel --where A=é=
+    shows '' recsel --where "A=' || '1' = '1"
+    shows '0¶' recsel --where C= -c
+    rejects 'bad name' recsel --where 'A B=x'
+    rejects 'bad usage' recsel --where A
+}
+
 @test "patterns of thousands of bytes, and patterns that are nested deeply" {
     local long opening closing
     put db.rec 'A: x¶'

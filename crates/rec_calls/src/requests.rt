@@ -59,14 +59,26 @@ fn check_places(log: &mut Log, by: &Option<Ask>) {
     }
 }
 
+fn check_named(log: &mut Log, by: &Option<Ask>) {
+    match by {
+        Some(Ask::Where(text)) => log.same("the name and the value", text.as_slice(), b"N=x"),
+        _ => log.holds("it is by a value", false),
+    }
+}
+
 fn one_selection_is_asked_for(alloc: Global, log: &mut Log) -> Result<(), Fault> {
     let list = Bytes::copy_of(alloc, b"0-1")?;
-    check_places(log, &Ask::of(None, Some(list), None));
-    let all = Ask::of(None, None, None);
+    check_places(log, &Ask::of(None, Some(list), None, None));
+    let all = Ask::of(None, None, None, None);
     log.holds("all records", matches!(all, Some(Ask::All)));
     let list = Bytes::copy_of(alloc, b"0-1")?;
     let text = Bytes::copy_of(alloc, b"x")?;
-    log.holds("not both", Ask::of(None, Some(list), Some(text)).is_none());
+    log.holds(
+        "not both",
+        Ask::of(None, Some(list), Some(text), None).is_none(),
+    );
+    let named = Bytes::copy_of(alloc, b"N=x")?;
+    check_named(log, &Ask::of(None, None, None, Some(named)));
     Ok(())
 }
 

@@ -56,6 +56,7 @@ selecting =
     ∷ valued (codes "e") (codes "expression")
     ∷ valued (codes "n") (codes "number")
     ∷ valued (codes "q") (codes "quick")
+    ∷ valued [] (codes "where")
     ∷ []
 
 -- the paths of a file that has to be there, and of its journal

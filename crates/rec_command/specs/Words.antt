@@ -41,12 +41,13 @@ has_flag name options = option_map_or (λ text. bytes_eq text (codes "true")) (o
 abbrev pub texts_given : Text → List Row → List Text
 texts_given name options = unwrap_or (all_of name options) []
 
--- the texts of `--expression`, `--number` and `--quick`
-abbrev pub selection_given : List Row → Option Text × Option Text × Option Text
+-- the texts of `--expression`, `--number`, `--quick` and `--where`
+abbrev pub selection_given : List Row → Option Text × Option Text × Option Text × Option Text
 selection_given options = (
   first_of (codes "expression") options,
   first_of (codes "number") options,
   first_of (codes "quick") options,
+  first_of (codes "where") options,
 )
 
 -- the records that the options of a tool select

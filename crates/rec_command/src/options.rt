@@ -61,6 +61,13 @@ const QUICK: Argument = Argument {
     help: "The records with a value that contains TEXT",
 };
 
+const WHERE: Argument = Argument {
+    written: Written::Name,
+    name: "where",
+    takes: Takes::Value("NAME=VALUE"),
+    help: "The records whose field NAME is exactly VALUE",
+};
+
 const FORCE: Argument = Argument {
     written: Written::Name,
     name: "force",
@@ -89,11 +96,12 @@ const INPUT: Argument = Argument {
     help: "The rec file [default: standard input]",
 };
 
-pub static RECSEL: [Argument; 10] = [
+pub static RECSEL: [Argument; 11] = [
     TYPE,
     EXPRESSION,
     NUMBER,
     QUICK,
+    WHERE,
     Argument {
         written: Written::Both('p'),
         name: "print",
@@ -167,7 +175,7 @@ pub static RECFIX: [Argument; 5] = [
     INPUT,
 ];
 
-pub static RECINS: [Argument; 11] = [
+pub static RECINS: [Argument; 12] = [
     Argument {
         written: Written::Both('t'),
         name: "type",
@@ -177,6 +185,7 @@ pub static RECINS: [Argument; 11] = [
     EXPRESSION,
     NUMBER,
     QUICK,
+    WHERE,
     Argument {
         written: Written::Both('f'),
         name: "field",
@@ -206,11 +215,12 @@ pub static RECINS: [Argument; 11] = [
     FILE,
 ];
 
-pub static RECDEL: [Argument; 8] = [
+pub static RECDEL: [Argument; 9] = [
     TYPE,
     EXPRESSION,
     NUMBER,
     QUICK,
+    WHERE,
     Argument {
         written: Written::Both('c'),
         name: "comment",
@@ -227,11 +237,12 @@ pub static RECDEL: [Argument; 8] = [
     FILE,
 ];
 
-pub static RECSET: [Argument; 14] = [
+pub static RECSET: [Argument; 15] = [
     TYPE,
     EXPRESSION,
     NUMBER,
     QUICK,
+    WHERE,
     Argument {
         written: Written::Both('f'),
         name: "fields",
@@ -248,7 +259,7 @@ pub static RECSET: [Argument; 14] = [
         written: Written::Both('a'),
         name: "add",
         takes: Takes::Value("VALUE"),
-        help: "Add a field with VALUE for each of FIELDS, at the end",
+        help: "Add a field with VALUE for each of FIELDS at the end",
     },
     Argument {
         written: Written::Both('S'),

@@ -20,7 +20,7 @@ use Rattle.rec_journal.specs.declared.patch.Hunk.{Hunk}
 use Rattle.rec_journal.specs.Bound.{most_bytes}
 use Rattle.rec_journal.specs.Event.{IsEditInRange, spelling}
 use Rattle.rec_journal.specs.Revisions.{all_hunks, is_batch}
-use Rattle.rec_select.specs.Selection.{Filter, all, by_expression, at_places, with_text, IsSelection}
+use Rattle.rec_select.specs.Selection.{Filter, all, by_expression, at_places, with_text, with_value, IsSelection}
 use Rattle.rec_edit.specs.declared.outcome.Patched.{Patched}
 use Rattle.rec_edit.specs.Task.{Wanted, Task, insert, replace, delete, comment_out, set, auto_fill}
 use Rattle.rec_edit.specs.Script.{Part, Layout, closed, IsScriptOf, old_pieces, new_pieces, edited_text, parts_in,
@@ -44,6 +44,7 @@ allowed all force = if force then Ok tt else Err NoSelection
 allowed (by_expression term) force = Ok tt
 allowed (at_places spans) force = Ok tt
 allowed (with_text text) force = Ok tt
+allowed (with_value wanted) force = Ok tt
 
 -- those that may be taken out
 abbrev pub AreRemovable : List Piece → List Set_ → Wanted → Bool → Result (List (Range ℕ)) Fault → Type 0

@@ -56,12 +56,13 @@ pub(crate) fn explain_edit(
     fault: &Fault,
     said: &mut Explanation,
 ) {
+    let words = Words::of_edit(edit);
     match fault {
         Fault::NoSelection => explain_deletion(alloc, about, edit, said),
         Fault::AutoImpossible => explain_counter(alloc, about, edit, said),
-        Fault::BadName => explain_name(alloc, edit, said),
+        Fault::BadName if !words.has_bad_name(alloc) => explain_name(alloc, edit, said),
         Fault::BadRecord => explain_record(edit, said),
-        _ => explain_words(alloc, about, Words::of_edit(edit), fault, said),
+        _ => explain_words(alloc, about, words, fault, said),
     }
 }
 
@@ -76,9 +77,10 @@ fn explain_words(
     match fault {
         Fault::TypeNeeded | Fault::NoSuchType => explain_types(alloc, about, said),
         Fault::BadPattern => explain_pattern(alloc, about, words.expression(), said),
-        Fault::BadExpression { .. } | Fault::BadFieldList { .. } | Fault::BadIndexList { .. } => {
-            words.explain_place(alloc, fault, said);
-        }
+        Fault::BadExpression { .. }
+        | Fault::BadFieldList { .. }
+        | Fault::BadIndexList { .. }
+        | Fault::BadName => words.explain_place(alloc, fault, said),
         _ => explain_contents(alloc, about, fault, said),
     }
 }

@@ -58,7 +58,9 @@ impl<'w> Cells<'w> {
     fn read_ask(&self, by: &mut Ask) -> Result<(), AllocError> {
         match by {
             Ask::All => Ok(()),
-            Ask::Expr(cell) | Ask::Index(cell) | Ask::Quick(cell) => self.read(cell),
+            Ask::Expr(cell) | Ask::Index(cell) | Ask::Quick(cell) | Ask::Where(cell) => {
+                self.read(cell)
+            }
         }
     }
 

@@ -1,4 +1,5 @@
 -- what a reader believes, in reading order
+pub mod FieldValues
 pub mod Selection
 pub mod Printing
 pub mod Taken

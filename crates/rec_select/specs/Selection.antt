@@ -4,7 +4,7 @@ use Rattle.std.specs.Prelude.{◌≡◌, ◌↔◌, ℕ, ◌-◌, ◌<◌, ◌�
 use Rattle.std.specs.declared.ops.Range.{Range}
 use Rattle.rec_text.specs.declared.fault.Fault.{Fault}
 use Rattle.rec_text.specs.declared.fault.Fault.TheVariants.{TypeNeeded, NoSuchType}
-use Rattle.rec_text.specs.Elements.{Piece}
+use Rattle.rec_text.specs.Elements.{Piece, has_name}
 use Rattle.rec_text.specs.Records.{AreRecords, is_field_piece}
 use Rattle.rec_text.specs.Values.{value_of}
 use Rattle.rec_sex.specs.declared.lists.index_list.Span.{Span}
@@ -17,8 +17,9 @@ use Rattle.rec_check.specs.declared.set.Set_.{Set_}
 pub use Rattle.rec_text.specs.Records.{record_at}
 use Rattle.rec_check.specs.Sets.{is_of_type}
 use Rattle.rec_check.specs.Stored.{described}
+use Rattle.rec_select.specs.declared.field_value.FieldValue.{FieldValue}
 use Rattle.rec_select.specs.declared.selection.By.{By}
-use Rattle.rec_select.specs.declared.selection.By.TheVariants.{All, Expr, Index, Quick}
+use Rattle.rec_select.specs.declared.selection.By.TheVariants.{All, Expr, Index, Quick, Where}
 use Rattle.rec_select.specs.declared.selection.Selection.{Selection}
 
 -- ---- the set
@@ -54,22 +55,28 @@ Answers value result answer = MatchResult result (λ x. answer ≡ Ok (value x))
 -- ---- the filter
 
 -- which members are selected: all; those that an expression selects; those at some places of the set, from 0; those
--- with a value that holds a text
+-- with a value that holds a text; those with a field of some name that has exactly some value
 pub data Filter : Type 0 where
   all : Filter
   by_expression : Term → Filter
   at_places : List Span → Filter
   with_text : List ℕ → Filter
+  with_value : FieldValue → Filter
 
 abbrev pub filter_of : By → Filter
 filter_of All = all
 filter_of (Expr e) = by_expression (term_of e)
 filter_of (Index list) = at_places list
 filter_of (Quick text) = with_text text
+filter_of (Where wanted) = with_value wanted
 
 -- the text stands somewhere in the value
 abbrev pub Holds : List ℕ → List ℕ → Type 0
 Holds value text = (prefix following : List ℕ) × (value ≡ prefix ++ (text ++ following))
+
+-- the element is a field of the name, and its value is the one that is wanted
+abbrev pub HasValue : FieldValue → Piece → Type 0
+HasValue wanted piece = (has_name wanted.name piece ≡ true) × (value_of piece ≡ wanted.value)
 
 -- the member with these elements, at this place of its set, is selected
 abbrev pub Passes : Filter → List Piece → ℕ → Type 0
@@ -77,6 +84,7 @@ Passes all pieces place = Unit {0}
 Passes (by_expression term) pieces place = Selects term pieces
 Passes (at_places spans) pieces place = has spans place ≡ true
 Passes (with_text text) pieces place = Any (λ piece. (is_field_piece piece ≡ true) × Holds (value_of piece) text) pieces
+Passes (with_value wanted) pieces place = Any (HasValue wanted) pieces
 
 -- ---- the selection
 

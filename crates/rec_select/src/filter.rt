@@ -1,9 +1,11 @@
 //! Filters, ready to be tried on many records.
 ghost use Rattle.std.specs.Prelude.{◌≡◌, ◌↔◌, Any, IsTrue, IfOk, IsOkUnless};
 ghost use Rattle.rec_text.specs.Places.{piece_of};
+ghost use Rattle.rec_select.specs.Selection.{HasValue};
 ghost use Rattle.rec_select.specs.proving.Filters.{HasText, is_one_line};
 
 use crate::excerpt::Excerpt;
+use crate::field_value::FieldValue;
 use crate::selection::By;
 use memchr::memchr;
 use memchr::memmem::Finder;
@@ -18,6 +20,7 @@ pub(crate) enum Filter<'s> {
     Expr(Search<'s>),
     Index(&'s IndexList),
     Quick(Finder<'s>),
+    Where(&'s FieldValue),
 }
 
 /// Whether an element is a field whose value contains a text.
@@ -60,6 +63,31 @@ fn any_has_text(alloc: Global, fields: &Excerpt, text: &Finder) -> Result<bool, 
     Ok(false)
 }
 
+/// Whether an element is a field of the name with the value.
+fn has_value(alloc: Global, element: &Element, wanted: &FieldValue) -> Result<bool, Fault>
+    ensures has { IfOk result (λ answer. IsTrue answer ↔ HasValue wanted.now (piece_of element.now)) }
+    ensures refusals { IsOkUnless result Fault.OutOfMemory }
+{
+    if !element.has_name(wanted.name.as_slice()) {
+        return Ok(false);
+    }
+    let value = element.value(alloc)?;
+    Ok(value.bytes() == wanted.value.as_slice())
+}
+
+/// Whether some element is a field of the name with the value.
+fn any_has_value(alloc: Global, fields: &Excerpt, wanted: &FieldValue) -> Result<bool, Fault>
+    ensures has { IfOk result (λ answer. IsTrue answer ↔ Any (HasValue wanted.now) fields.now) }
+    ensures refusals { IsOkUnless result Fault.OutOfMemory }
+{
+    for element in fields.elements() {
+        if has_value(alloc, element, wanted)? {
+            return Ok(true);
+        }
+    }
+    Ok(false)
+}
+
 impl<'s> Filter<'s> {
     ghost use Rattle.std.specs.Prelude.{◌≡◌, ◌↔◌, IsTrue, IfOk, IsOkUnless};
     ghost use Rattle.rec_select.specs.Selection.{filter_of, Passes};
@@ -74,6 +102,7 @@ impl<'s> Filter<'s> {
             By::Expr(expr) => Ok(Filter::Expr(expr.search(alloc)?)),
             By::Index(list) => Ok(Filter::Index(list)),
             By::Quick(text) => Ok(Filter::Quick(Finder::new(text.as_slice()))),
+            By::Where(wanted) => Ok(Filter::Where(wanted)),
         }
     }
 
@@ -93,6 +122,7 @@ impl<'s> Filter<'s> {
             Filter::Expr(search) => search.selects(alloc, fields.elements()),
             Filter::Index(list) => Ok(list.has(place)),
             Filter::Quick(text) => any_has_text(alloc, fields, text),
+            Filter::Where(wanted) => any_has_value(alloc, fields, wanted),
         }
     }
 }

@@ -5,6 +5,7 @@
 mod block;
 mod chooser;
 mod excerpt;
+mod field_value;
 mod filter;
 mod info;
 mod laws;
@@ -14,6 +15,7 @@ mod report;
 mod selection;
 
 pub use chooser::choose;
+pub use field_value::FieldValue;
 pub use info::{InfoForm, write_info};
 pub use laws::one_selection;
 pub use parts::put_parts;

@@ -1,4 +1,5 @@
 //! Which records are meant.
+use crate::field_value::FieldValue;
 use rec_sex::{Expr, IndexList};
 use rec_text::Bytes;
 
@@ -12,6 +13,8 @@ pub enum By {
     Index(IndexList),
     /// Those with a value that contains these bytes.
     Quick(Bytes),
+    /// Those of which some field of this name has exactly this value.
+    Where(FieldValue),
 }
 
 /// Records of a type, or of the set that is meant where none is given.

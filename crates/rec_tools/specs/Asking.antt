@@ -11,21 +11,24 @@ use Rattle.rec_sex.specs.Lists.{IsFieldList}
 use Rattle.rec_select.specs.declared.records.Shape.{Shape}
 use Rattle.rec_select.specs.declared.records.Shape.TheVariants.{Blocks as AllFields, Print as PrintedFields,
     Values as PickedValues, Row as PickedRow, Count as NumberAlone}
-use Rattle.rec_select.specs.Selection.{Filter, all, by_expression, at_places, with_text}
+use Rattle.rec_select.specs.declared.field_value.FieldValue.{FieldValue}
+use Rattle.rec_select.specs.FieldValues.{field_value_of}
+use Rattle.rec_select.specs.Selection.{Filter, all, by_expression, at_places, with_text, with_value}
 use Rattle.rec_tools.specs.declared.request.Ask.{Ask}
-use Rattle.rec_tools.specs.declared.request.Ask.TheVariants.{All, Expr, Index, Quick}
+use Rattle.rec_tools.specs.declared.request.Ask.TheVariants.{All, Expr, Index, Quick, Where}
 use Rattle.rec_tools.specs.declared.request.Form.{Form}
 use Rattle.rec_tools.specs.declared.request.Form.TheVariants.{Blocks, Print, Values, Row, Count}
 
 -- ---- the options that select records
 
--- the texts of an expression, of a list of numbers, and of a text to find quickly, where these records are asked for:
--- one of them is given, or none
-abbrev pub selection_for : Ask → Option (List ℕ) × Option (List ℕ) × Option (List ℕ)
-selection_for All = (None, None, None)
-selection_for (Expr text) = (Some text, None, None)
-selection_for (Index list) = (None, Some list, None)
-selection_for (Quick text) = (None, None, Some text)
+-- the texts of an expression, of a list of numbers, of a text to find quickly, and of a field's name with its value,
+-- where these records are asked for: one of them is given, or none
+abbrev pub selection_for : Ask → Option (List ℕ) × Option (List ℕ) × Option (List ℕ) × Option (List ℕ)
+selection_for All = (None, None, None, None)
+selection_for (Expr text) = (Some text, None, None, None)
+selection_for (Index list) = (None, Some list, None, None)
+selection_for (Quick text) = (None, None, Some text, None)
+selection_for (Where text) = (None, None, None, Some text)
 
 -- ---- the filter that is asked for
 
@@ -41,11 +44,17 @@ abbrev pub IsIndexFilter : List ℕ → Result Filter Fault → Type 0
 IsIndexFilter text (Ok wanted) = (spans : List Span) × IsIndexList text (Ok spans) × (wanted ≡ at_places spans)
 IsIndexFilter text (Err fault) = IsIndexList text (Err fault)
 
+abbrev pub IsValueFilter : List ℕ → Result Filter Fault → Type 0
+IsValueFilter text (Ok wanted) =
+    (named : FieldValue) × (field_value_of text ≡ Ok named) × (wanted ≡ with_value named)
+IsValueFilter text (Err fault) = field_value_of text ≡ Err fault
+
 abbrev pub IsFilter : Ask → Result Filter Fault → Type 0
 IsFilter All answer = answer ≡ Ok all
 IsFilter (Expr text) answer = IsExpressionFilter text answer
 IsFilter (Index list) answer = IsIndexFilter list answer
 IsFilter (Quick text) answer = answer ≡ Ok (with_text text)
+IsFilter (Where text) answer = IsValueFilter text answer
 
 -- ---- the shape that is asked for
 

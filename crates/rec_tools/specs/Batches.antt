@@ -2,7 +2,7 @@
 -- tool.
 use Rattle.std.specs.Prelude.{◌≡◌, ◌≢◌, ◌⊎◌, ℕ, Bool, true, false, not, if◌then◌else◌, List, [], ◌∷◌, ◌++◌, map, take,
     codes}
-use Rattle.std.specs.Prelude.{Option, Some, option_to_list, Result, Ok, Err}
+use Rattle.std.specs.Prelude.{Option, Some, None, option_to_list, Result, Ok, Err}
 use Rattle.std.specs.List.{AllByRecursion, AllZip, list_all}
 use Rattle.std.specs.declared.ops.Range.{Range}
 use Rattle.rec_text.specs.declared.fault.Fault.{Fault}
@@ -65,10 +65,12 @@ word_if word false = []
 abbrev pub HasWord : List ℕ → List ℕ → List Piece → Bool → Type 0
 HasWord name word own is_there = word_if word is_there ≡ values_of name own
 
+-- a batch has no field for `--where`
 pub record IsSelectionOf (own : List Piece) (by : Ask) : Type 0 where
   pub expression : HasOnly (codes "Expression") own (selection_for by).0
   pub number : HasOnly (codes "Number") own (selection_for by).1
   pub quick : HasOnly (codes "Quick") own (selection_for by).2
+  pub no_value : (selection_for by).3 ≡ None
 
 -- the records that are selected
 abbrev pub IsPickOf : List Piece → Pick → Type 0

@@ -96,7 +96,7 @@ fn pick_of(alloc: Global, own: &[Element<'_>]) -> Result<Pick, Refusal>
     let expression = value_named(alloc, own, b"Expression")?;
     let number = value_named(alloc, own, b"Number")?;
     let quick = value_named(alloc, own, b"Quick")?;
-    match Ask::of(expression, number, quick) {
+    match Ask::of(expression, number, quick, None) {
         Some(by) => Ok(Pick { kind, by }),
         None => Err(OrMemory::Refused(NotAnEdit)),
     }

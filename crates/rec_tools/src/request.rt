@@ -15,6 +15,8 @@ pub enum Ask {
     Index(Bytes),
     /// Those with a value that contains these bytes.
     Quick(Bytes),
+    /// Those of which some field has exactly a value: its name, `=` and the value, such as `Name=Ann`.
+    Where(Bytes),
 }
 
 impl Ask {
@@ -22,17 +24,23 @@ impl Ask {
     ghost use Rattle.rec_tools.specs.declared.request.Ask.{Ask as AskOf};
     ghost use Rattle.rec_tools.specs.Asking.{selection_for};
 
-    /// The records that are asked for by the texts of three options: all of them where none is given, and none where more than
+    /// The records that are asked for by the texts of four options: all of them where none is given, and none where more than
     /// one is.
-    pub fn of(expression: Option<Bytes>, number: Option<Bytes>, quick: Option<Bytes>) -> Option<Ask>
-        ensures { MatchOption result ((by : AskOf) → selection_for by ≡ (expression, number, quick) → ⊥)
-            (λ by. selection_for by ≡ (expression, number, quick)) }
+    pub fn of(
+        expression: Option<Bytes>,
+        number: Option<Bytes>,
+        quick: Option<Bytes>,
+        named: Option<Bytes>,
+    ) -> Option<Ask>
+        ensures { MatchOption result ((by : AskOf) → selection_for by ≡ (expression, number, quick, named) → ⊥)
+            (λ by. selection_for by ≡ (expression, number, quick, named)) }
     {
-        match (expression, number, quick) {
-            (None, None, None) => Some(Ask::All),
-            (Some(text), None, None) => Some(Ask::Expr(text)),
-            (None, Some(list), None) => Some(Ask::Index(list)),
-            (None, None, Some(text)) => Some(Ask::Quick(text)),
+        match (expression, number, quick, named) {
+            (None, None, None, None) => Some(Ask::All),
+            (Some(text), None, None, None) => Some(Ask::Expr(text)),
+            (None, Some(list), None, None) => Some(Ask::Index(list)),
+            (None, None, Some(text), None) => Some(Ask::Quick(text)),
+            (None, None, None, Some(text)) => Some(Ask::Where(text)),
             _ => None,
         }
     }

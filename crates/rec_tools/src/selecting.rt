@@ -6,7 +6,7 @@ ghost use Rattle.rec_tools.specs.Asking.{IsFilter, IsShape};
 ghost use Rattle.rec_tools.specs.Steps.{Then};
 
 use crate::request::{Ask, Form, Pick};
-use rec_select::{By, Selection, Shape};
+use rec_select::{By, FieldValue, Selection, Shape};
 use rec_sex::{Expr, FieldList, IndexList};
 use rec_text::{Bytes, Fault};
 use std::alloc::{AllocError, Global};
@@ -21,6 +21,7 @@ fn by_of(alloc: Global, ask: &Ask) -> Result<By, Fault>
         Ask::Expr(text) => By::Expr(Expr::parse(alloc, text.as_slice())?),
         Ask::Index(list) => By::Index(IndexList::parse(alloc, list.as_slice())?),
         Ask::Quick(text) => By::Quick(Bytes::copy_of(alloc, text.as_slice())?),
+        Ask::Where(text) => By::Where(FieldValue::parse(alloc, text.as_slice())?),
     })
 }
 

@@ -61,7 +61,7 @@ fn run(rt: &HostRuntime, line: CommandLine) -> Result<Reply, Fault> {
 fn carry_out(
     rt: &HostRuntime,
     file: Option<String>,
-    journal: String,
+    journal: Option<String>,
     request: &Request,
     batch: &Option<String>,
 ) -> Result<Reply, Fault> {

@@ -16,11 +16,11 @@ pub fn run(alloc: Global, log: &mut Log) {
         a_history_begun_anew_tells_what_it_drops);
 }
 
-/// The texts of a file: a field is set, one is added, and the first is deleted, which is undone.
-const TEXTS: [&[u8]; 4] = [b"A: 1\n", b"A: 2\n", b"A: 2\nB: 3\n", b"B: 3\n"];
-
 /// The file as it is.
-const FILE: &[u8] = TEXTS[2];
+const FILE: &[u8] = b"A: 2\nB: 3\n";
+
+/// The texts that it had: a field is set, one is added, and the first is deleted, which is undone.
+const TEXTS: [&[u8]; 4] = [b"A: 1\n", b"A: 2\n", FILE, b"B: 3\n"];
 
 const JOURNAL: &[u8] = b"%rec: RecEdit
 %doc: recu journal, format 2

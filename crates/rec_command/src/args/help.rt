@@ -8,7 +8,7 @@ pub const PROGRAM_HELP: &str =
     "A file begins empty (touch new.rec). A record in it is a line NAME: VALUE for\neach field, and an empty line ends it. An edit that was wrong is taken back by\nrecu undo FILE, and made again by recu redo FILE; recu history FILE prints which\nedits there are. A change by another program ends that history. One command at a\ntime edits a file: a second one is refused, and doesn't wait.\n\nFILE.new and the journal's .new are working names of recu: each file is written\nunder its own before it takes its place. What an interrupted recu left there is\nremoved; with any other file there the command is refused, and the file stays.\n\nExamples:\n  recu recsel -e \"#Phone\" contacts.rec\n  recu recdel -n 1 contacts.rec\n  recu undo contacts.rec";
 
 pub const RECSEL_HELP: &str =
-    "By default -t takes the records of no type, or else those of the only type. Only\none of -e, -n and -q can be given, and only one of -p, -P, -R and -c.\n\nExamples:\n  recu recsel -e \"#Phone || Note ~ 'second'\" -P Name contacts.rec\n  recu recsel -n 0,2 -p Name,Email contacts.rec\n  recu recsel -t Book -q Austen library.rec";
+    "By default -t takes the records of no type, or else those of the only type. Only\none of -e, -n, -q and --where can be given, and only one of -p, -P, -R and -c.\n\nExamples:\n  recu recsel -e \"#Phone || Note ~ 'second'\" -P Name contacts.rec\n  recu recsel -n 0,2 -p Name,Email contacts.rec\n  recu recsel -t Book -q Austen library.rec\n  recu recsel --where 'Name=Ada Lovelace' contacts.rec";
 
 pub const RECINF_HELP: &str =
     "Only one of -d and -n can be given.\n\nExamples:\n  recu recinf library.rec\n  recu recinf -t Book -d library.rec";
@@ -23,21 +23,21 @@ pub const RECINS_USAGE: &str =
     "recu recins [OPTIONS] -f NAME -v VALUE.. FILE\n       recu recins [OPTIONS] -r TEXT FILE";
 
 pub const RECINS_ABOUT: &str =
-    "Inserts a record after the last one of its type, with its automatic fields. With\none of -e, -n and -q it replaces each selected record, without automatic fields.\nThe record is given by -f and -v, the first name with the first value and so on,\nor as the text of -r.";
+    "Inserts a record after the last one of its type, with its automatic fields. With\none of -e, -n, -q and --where it replaces each selected record, without\nautomatic fields. The record is given by -f and -v, the first name with the\nfirst value and so on, or as the text of -r.";
 
 pub const RECINS_HELP: &str =
     "The default of -t is for a new record no type, even where there is only one, and\nfor those that are replaced no type, or else the only one.\n\nExamples:\n  recu recins -f Name -v 'Alan Turing' -f Phone -v '555 0123' contacts.rec\n  recu recins -t Book -r 'Title: Emma' library.rec\n  recu recins -n 0 -f Name -v 'Ada King' contacts.rec";
 
 pub const RECDEL_ABOUT: &str =
-    "Deletes records, or comments them out. Only one of -e, -n and -q can be given;\nwithout one, all records, --force is needed.";
+    "Deletes records, or comments them out. Only one of -e, -n, -q and\n--where can be given; without one, all records, --force is needed.";
 
 pub const RECDEL_HELP: &str =
-    "By default -t takes the records of no type, or else those of the only type.\n\nExamples:\n  recu recdel -n 1 contacts.rec\n  recu recdel -c -e \"Name ~ 'Hopper'\" contacts.rec";
+    "By default -t takes the records of no type, or else those of the only type.\n\nExamples:\n  recu recdel -n 1 contacts.rec\n  recu recdel -c -e \"Name ~ 'Hopper'\" contacts.rec\n  recu recdel --where 'Name=Ada Lovelace' contacts.rec";
 
 pub const RECSET_USAGE: &str = "recu recset [OPTIONS] -f FIELDS <ACTION> FILE";
 
 pub const RECSET_ABOUT: &str =
-    "Edits fields of records. FIELDS and exactly one ACTION of -s, -a, -S, -r, -d and\n-c are needed. Only one of -e, -n and -q can be given; without one all records\nare edited.";
+    "Edits fields of records. FIELDS and exactly one ACTION of -s, -a, -S, -r, -d and\n-c are needed. Only one of -e, -n, -q and --where can be given; without one\nall records are edited.";
 
 pub const RECSET_HELP: &str =
     "By default -t takes the records of no type, or else those of the only type. A\nvalue that begins with a hyphen is given as in --set=-5.\n\nExamples:\n  recu recset -n 0 -f Email -s ada@example.net contacts.rec\n  recu recset -e '!#Phone' -f Phone -a unknown contacts.rec\n  recu recset -n 2 -f Note --set=-5 contacts.rec";

@@ -1,16 +1,16 @@
 //! What recsel and recinf are asked for, and which records any tool takes.
-ghost use Rattle.std.specs.Prelude.{◌≡◌, IfOk};
-ghost use Rattle.clap.specs.Words.{found_of, rows_of};
+ghost use Rattle.std.specs.Prelude.{◌≡◌, codes, IfOk};
+ghost use Rattle.clap.specs.Words.{first_of, found_of, rows_of};
 ghost use Rattle.rec_tools.specs.Asking.{selection_for};
 ghost use Rattle.rec_command.specs.declared.tools.Tool.TheVariants.{RecSel, RecInf};
 ghost use Rattle.rec_command.specs.Words.{selection_given, form_given, form_for, info_form_given, info_form_for};
 ghost use Rattle.rec_command.specs.Words.{IsPick, Orders};
 
 use super::Order;
-use super::found::{is_given, text};
+use super::found::{given, is_given, text};
 use super::refusal::Refusal;
 use clap::ArgMatches;
-use rec_tools::{Ask, Form, InfoForm, Pick, Request};
+use rec_tools::{Ask, Bytes, Form, InfoForm, Pick, Request};
 use std::alloc::Global;
 
 /// What recsel is asked for.
@@ -50,9 +50,24 @@ fn ask(alloc: Global, options: &ArgMatches) -> Result<Ask, Refusal>
     let expression = text(alloc, options, "expression")?;
     let number = text(alloc, options, "number")?;
     let quick = text(alloc, options, "quick")?;
-    match Ask::of(expression, number, quick) {
+    let named = named_value(alloc, options)?;
+    match Ask::of(expression, number, quick, named) {
         Some(by) => Ok(by),
-        None => Err(Refusal::Rule("only one of --expression, --number and --quick can be given")),
+        None => Err(Refusal::Rule(
+            "only one of --expression, --number, --quick and --where can be given",
+        )),
+    }
+}
+
+/// The name and the value that `--where` gives, as they stand there.
+fn named_value(alloc: Global, options: &ArgMatches) -> Result<Option<Bytes>, Refusal>
+    ensures { IfOk result (λ named. named ≡ first_of (codes "where") (rows_of (found_of options.now))) }
+{
+    match given(options, "where") {
+        Some(word) if !word.contains('=') => Err(Refusal::Rule(
+            "--where takes the name of a field, an equals sign and a value, as Name=Ann",
+        )),
+        _ => Ok(text(alloc, options, "where")?),
     }
 }
 

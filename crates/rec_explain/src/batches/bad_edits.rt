@@ -101,7 +101,14 @@ fn say(path: &str, database: &Database<'_>, wrong: Wrong<'_>, said: &mut Explana
 /// Says what is wrong with the field of a line and a name.
 fn say_field(path: &str, line: usize, wrong: Wrong<'_>, name: &str, said: &mut Explanation) {
     match wrong {
-        Wrong::Unknown(_, tool) => say_unknown(path, line, as_text(tool.name()), name, capital_hint(name), said),
+        Wrong::Unknown(_, tool) => say_unknown(
+            path,
+            line,
+            as_text(tool.name()),
+            name,
+            capital_hint(name),
+            said,
+        ),
         Wrong::Repeated(_) => said.add_at(path, line, &[name, " stands in this edit already"]),
         Wrong::Value(_, wanted, is_padded) => say_value(
             path,
@@ -202,9 +209,7 @@ fn tool_named<'t>(field: &Element<'t>, word: &[u8]) -> Result<Tool, OrMemory<Wro
 
 /// The first field that has one of these names.
 fn first_of<'t>(own: &[Element<'t>], names: &[&[u8]]) -> Option<Element<'t>> {
-    own.iter()
-        .find(|element| is_among(names, element))
-        .copied()
+    own.iter().find(|element| is_among(names, element)).copied()
 }
 
 /// Whether an element has one of these names.

@@ -1,8 +1,14 @@
 //! The texts of a request in which a fault has a place.
 use crate::explanation::Explanation;
 use crate::lines::shown::show_place;
+use rec_select::FieldValue;
+use rec_text::begins_name;
 use rec_tools::{Action, Ask, Bytes, EditRequest, Fault, Form, Request};
 use std::alloc::Global;
+
+/// How a value is asked for.
+const VALUE: &str =
+    "a value is asked for by the name of its field, without an index, such as Name=Ann";
 
 /// The texts of a request, or of an edit of a batch.
 #[derive(Clone, Copy)]
@@ -59,6 +65,17 @@ impl<'r> Words<'r> {
         }
     }
 
+    /// Whether a value is asked for by what is no name of a field.
+    pub fn has_bad_name(self, alloc: Global) -> bool {
+        match self.by {
+            Some(Ask::Where(text)) => {
+                let read = FieldValue::parse(alloc, text.as_slice());
+                matches!(read, Err(Fault::BadName))
+            }
+            _ => false,
+        }
+    }
+
     /// Shows the text in which a fault has a place, and says what it is to be.
     pub fn explain_place(self, alloc: Global, fault: &Fault, said: &mut Explanation) {
         match (fault, self.by, self.fields) {
@@ -68,6 +85,10 @@ impl<'r> Words<'r> {
             (Fault::BadIndexList { at }, Some(Ask::Index(list)), _) => {
                 show_place(alloc, list.as_slice(), *at, said);
                 said.add(&["an index list is such as 0,4-7"]);
+            }
+            (Fault::BadName, Some(Ask::Where(text)), _) => {
+                show_place(alloc, text.as_slice(), name_len(text.as_slice()), said);
+                said.add(&[VALUE]);
             }
             (Fault::BadFieldList { at }, _, Some(list)) => {
                 show_place(alloc, list.as_slice(), *at, said);
@@ -80,6 +101,21 @@ impl<'r> Words<'r> {
             _ => {}
         }
     }
+}
+
+/// How many bytes at the start of a text are a name.
+fn name_len(text: &[u8]) -> usize {
+    match text.split_first() {
+        Some((first, rest)) if begins_name(*first) => word_len(rest).saturating_add(1),
+        _ => 0,
+    }
+}
+
+/// How many bytes at the start of a text a name can go on with.
+fn word_len(text: &[u8]) -> usize {
+    text.iter()
+        .position(|byte| !byte.is_ascii_alphanumeric() && *byte != b'_')
+        .unwrap_or(text.len())
 }
 
 /// The list of fields that are printed.

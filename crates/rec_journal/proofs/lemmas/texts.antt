@@ -2,3 +2,4 @@ pub mod OverLemmas
 pub mod WayLemmas
 pub mod AllLemmas
 pub mod WalkLemmas
+pub mod TextExamples

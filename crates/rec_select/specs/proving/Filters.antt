@@ -5,8 +5,8 @@ use Rattle.rec_text.specs.Records.{is_field_piece}
 use Rattle.rec_text.specs.Values.{value_of}
 use Rattle.rec_sex.specs.Searching.{searched}
 use Rattle.rec_select.specs.declared.filter.Filter.{Filter as Ready}
-use Rattle.rec_select.specs.declared.filter.Filter.TheVariants.{All, Expr, Index, Quick}
-use Rattle.rec_select.specs.Selection.{Filter, all, by_expression, at_places, with_text, Holds}
+use Rattle.rec_select.specs.declared.filter.Filter.TheVariants.{All, Expr, Index, Quick, Where}
+use Rattle.rec_select.specs.Selection.{Filter, all, by_expression, at_places, with_text, with_value, Holds}
 
 -- the filter that one in memory stands for
 abbrev pub stands_for : Ready → Filter
@@ -14,6 +14,7 @@ stands_for All = all
 stands_for (Expr search) = by_expression (searched search)
 stands_for (Index list) = at_places list.now
 stands_for (Quick text) = with_text text
+stands_for (Where wanted) = with_value wanted.now
 
 -- no newline stands in the text but at its end
 abbrev pub is_one_line : List ℕ → Bool

@@ -23,7 +23,7 @@ use Rattle.rec_edit.specs.Outcome.{EditScript, allowed}
 use Rattle.rec_edit.specs.proving.Edits.{edit_script, insert_script}
 use Rattle.rec_text.specs.declared.fault.Fault.TheVariants.{BadFieldList, NoSelection, BadName, BadValue, BadRecord}
 use Rattle.rec_sex.specs.Lists.{AreItems}
-use Rattle.rec_select.specs.Selection.{all, at_places, with_text}
+use Rattle.rec_select.specs.Selection.{all, at_places, with_text, with_value}
 use Rattle.rec_edit.specs.declared.request.Action.TheVariants.{Set, Add, SetAdd, Rename, Delete, Comment as CommentFields}
 use Rattle.rec_edit.specs.Wording.{AreItemsFor, IsNewRecord}
 use Rattle.rec_edit.specs.declared.request.Action.{Action}
@@ -225,7 +225,7 @@ forced_or_not : map (allowed all) (false ∷ true ∷ []) ≡ Err NoSelection �
 forced_or_not = refl
 
 -- a selection takes some, though it may be all of them
-some_records : map (λ wanted. allowed wanted false) (at_places [] ∷ with_text [] ∷ []) ≡ Ok tt ∷ Ok tt ∷ []
+some_records : map (λ wanted. allowed wanted false) (at_places [] ∷ with_text [] ∷ with_value (record { name = []; value = [] }) ∷ []) ≡ Ok tt ∷ Ok tt ∷ Ok tt ∷ []
 some_records = refl
 
 -- ---- what edits mean for the records, at small texts: the records that are meant are those of the edited text. Each example computes

@@ -31,7 +31,7 @@ use Rattle.rec_check.specs.Automatic.{automatic_names, automatic_of, readings, I
 use Rattle.rec_check.specs.Rules.{Rules}
 use Rattle.rec_check.specs.Sets.{is_of_type}
 use Rattle.rec_check.specs.Violations.{AreViolationsOf, members, names_of}
-use Rattle.rec_select.specs.Selection.{Filter, all, by_expression, at_places, with_text, has_members, only_set, set_for, IsSelection}
+use Rattle.rec_select.specs.Selection.{Filter, all, by_expression, at_places, with_text, with_value, has_members, only_set, set_for, IsSelection}
 use Rattle.rec_edit.specs.declared.request.Action.{Action}
 use Rattle.rec_edit.specs.Insertions.{Numbered, numbered_fields, filling}
 use Rattle.rec_edit.specs.Rules.{fields_of, deletion, commenting, replacement, setting}
@@ -171,6 +171,7 @@ MayBe-allowed all false = tt
 MayBe-allowed (by_expression term) force = tt
 MayBe-allowed (at_places spans) force = tt
 MayBe-allowed (with_text text) force = tt
+MayBe-allowed (with_value wanted) force = tt
 
 RefusesSo-removable : (pieces : List Piece) (sets : List Set_) (wanted : Wanted) (force : Bool) → RefusesSo (AreRemovable pieces sets wanted force)
 RefusesSo-removable pieces sets wanted force =

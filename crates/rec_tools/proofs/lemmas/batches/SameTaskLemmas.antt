@@ -14,7 +14,7 @@ use Rattle.rec_edit.specs.declared.request.NewRecord.TheVariants.{Pairs, Text as
 use Rattle.rec_edit.specs.declared.request.Pair.{Pair}
 use Rattle.rec_edit.specs.Task.{Wanted, Task, NewRecord as FreshRecord, of_pairs, of_text, insert, replace, delete, comment_out, set, fresh_by}
 use Rattle.rec_tools.specs.declared.request.Ask.{Ask}
-use Rattle.rec_tools.specs.declared.request.Ask.TheVariants.{All, Expr, Index, Quick}
+use Rattle.rec_tools.specs.declared.request.Ask.TheVariants.{All, Expr, Index, Quick, Where}
 use Rattle.rec_tools.specs.declared.request.Pick.{Pick}
 use Rattle.rec_tools.specs.declared.request.EditRequest.{EditRequest}
 use Rattle.rec_tools.specs.declared.request.EditRequest.TheVariants.{Insert, Replace, Delete, CommentOut, Set, AutoFill}
@@ -42,8 +42,8 @@ same_not true false same = absurd (cc)
 same_not false true same = absurd (cc)
 same_not false false same = refl
 
-same_three : {X Y Z : Type 0} (a b : X) (c d : Y) (e f : Z) → a ≡ b → c ≡ d → e ≡ f → ◌≡◌ {A = X × Y × Z} (a, c, e) (b, d, f)
-same_three a b c d e f x y z = rw (x, y, z) refl
+same_four : {W X Y Z : Type 0} (a b : W) (c d : X) (e f : Y) (g h : Z) → a ≡ b → c ≡ d → e ≡ f → g ≡ h → ◌≡◌ {A = W × X × Y × Z} (a, c, e, g) (b, d, f, h)
+same_four a b c d e f g h w x y z = rw (w, x, y, z) refl
 
 same_six : {T U V W X Y : Type 0} (a b : T) (c d : U) (e f : V) (g h : W) (i j : X) (k l : Y) → a ≡ b → c ≡ d → e ≡ f → g ≡ h → i ≡ j
     → k ≡ l → ◌≡◌ {A = T × U × V × W × X × Y} (a, c, e, g, i, k) (b, d, f, h, j, l)
@@ -78,24 +78,27 @@ one_word word true false same = absurd (cc)
 one_word word false true same = absurd (cc)
 one_word word false false same = refl
 
-abbrev ask_by : Option (List ℕ) × Option (List ℕ) × Option (List ℕ) → Ask
-ask_by (Some text, list, quick) = Expr text
-ask_by (None, Some list, quick) = Index list
-ask_by (None, None, Some text) = Quick text
-ask_by (None, None, None) = All
+abbrev ask_by : Option (List ℕ) × Option (List ℕ) × Option (List ℕ) × Option (List ℕ) → Ask
+ask_by (Some text, list, quick, named) = Expr text
+ask_by (None, Some list, quick, named) = Index list
+ask_by (None, None, Some text, named) = Quick text
+ask_by (None, None, None, Some text) = Where text
+ask_by (None, None, None, None) = All
 
 ask_by-selection_for : (by : Ask) → ask_by (selection_for by) ≡ by
 ask_by-selection_for All = refl
 ask_by-selection_for (Expr text) = refl
 ask_by-selection_for (Index list) = refl
 ask_by-selection_for (Quick text) = refl
+ask_by-selection_for (Where text) = refl
 
 one_selection : (own : List Piece) (a b : Ask) → IsSelectionOf own a → IsSelectionOf own b → a ≡ b
 one_selection own a b is_a is_b =
     let expression = one_option _ _ (is_a.expression ∙ sym is_b.expression) in
     let number = one_option _ _ (is_a.number ∙ sym is_b.number) in
     let quick = one_option _ _ (is_a.quick ∙ sym is_b.quick) in
-    let same : selection_for a ≡ selection_for b = same_three _ _ _ _ _ _ expression number quick in
+    let no_value = is_a.no_value ∙ sym is_b.no_value in
+    let same : selection_for a ≡ selection_for b = same_four _ _ _ _ _ _ _ _ expression number quick no_value in
     sym (ask_by-selection_for a) ∙ (ap ask_by same ∙ ask_by-selection_for b)
 
 one_pick : (own : List Piece) (a b : Pick) → IsPickOf own a → IsPickOf own b → a ≡ b

@@ -14,12 +14,13 @@ use Rattle.rec_check.specs.declared.set.Set_.{Set_}
 use Rattle.rec_check.specs.Schemas.{Described, IsSchema}
 use Rattle.rec_check.specs.DescribedTexts.{DescribedText, AreDescribed, IsDescribedText}
 use Rattle.rec_check.proofs.lemmas.laws.SameLemmas.{one_schema}
-use Rattle.rec_select.specs.Selection.{Filter, all as all_members, at_places, with_text, Passes, IsSelection}
+use Rattle.rec_select.specs.FieldValues.{field_value_of}
+use Rattle.rec_select.specs.Selection.{Filter, all as all_members, at_places, with_text, with_value, Passes, IsSelection}
 use Rattle.rec_edit.specs.Outcome.{allowed}
 use Rattle.rec_tools.specs.declared.request.Ask.{Ask}
-use Rattle.rec_tools.specs.declared.request.Ask.TheVariants.{All, Expr, Index, Quick}
+use Rattle.rec_tools.specs.declared.request.Ask.TheVariants.{All, Expr, Index, Quick, Where}
 use Rattle.rec_tools.specs.Steps.{Then}
-use Rattle.rec_tools.specs.Asking.{IsExpressionFilter, IsIndexFilter, IsFilter}
+use Rattle.rec_tools.specs.Asking.{IsExpressionFilter, IsIndexFilter, IsValueFilter, IsFilter}
 use Rattle.rec_text.proofs.lemmas.FaultLemmas.{no_both, same_fault, same_value}
 use Rattle.rec_text.proofs.lemmas.StepLemmas.{AgreeBut, HasOneBut, HasOneBut-of, AgreeLike, AgreeBut-like, HasOneBut-Then, Then-parts, Then-value, Then-next}
 use Rattle.rec_check.proofs.lemmas.laws.AlikeLemmas.{SameSchemas, AgreeLike-schema}
@@ -42,6 +43,9 @@ same_indexes : (text : List ℕ) (wanted other : Filter) → IsIndexFilter text 
 same_indexes text wanted other (spans, is, e) (others, is_too, k) =
     e ∙ ap at_places (same_value spans others (one_index_list text (Ok spans) is (Ok others) is_too)) ∙ sym k
 
+same_values : (text : List ℕ) (wanted other : Filter) → IsValueFilter text (Ok wanted) → IsValueFilter text (Ok other) → wanted ≡ other
+same_values text wanted other (one, is, e) (two, is_too, k) = e ∙ ap with_value (same_value one two (sym is ∙ is_too)) ∙ sym k
+
 -- the same records pass each filter that is asked for
 same_passes : (ask : Ask) (wanted other : Filter) → IsFilter ask (Ok wanted) → IsFilter ask (Ok other)
     → (pieces : List Piece) (place : ℕ) → Passes wanted pieces place → Passes other pieces place
@@ -49,6 +53,7 @@ same_passes All wanted other is is_too pieces place passes = subst (λ w. Passes
 same_passes (Expr text) wanted other is is_too pieces place passes = same_expression text wanted other is is_too pieces place passes
 same_passes (Index list) wanted other is is_too pieces place passes = subst (λ w. Passes w pieces place) (same_indexes list wanted other is is_too) passes
 same_passes (Quick text) wanted other is is_too pieces place passes = subst (λ w. Passes w pieces place) (same_value wanted other (is ∙ sym is_too)) passes
+same_passes (Where text) wanted other is is_too pieces place passes = subst (λ w. Passes w pieces place) (same_values text wanted other is is_too) passes
 
 same_place : (text : List ℕ) (one other : ℕ) → fault_of text ≡ Some one → fault_of text ≡ Some other → one ≡ other
 same_place text one other e k = same_some one other (sym e ∙ k)
@@ -71,12 +76,14 @@ filter_fault All fault other is is_too built built_too = absurd (no_both all_mem
 filter_fault (Expr text) fault other is is_too built built_too = expression_fault text fault other is is_too built built_too
 filter_fault (Index list) fault other is is_too built built_too = same_fault fault other (one_index_list list (Err fault) is (Err other) is_too)
 filter_fault (Quick text) fault other is is_too built built_too = absurd (no_both (with_text text) fault (sym is))
+filter_fault (Where text) fault other is is_too built built_too = same_fault fault other (sym is ∙ is_too)
 
 filter_or_fault : (ask : Ask) (wanted : Filter) (fault : Fault) → IsFilter ask (Ok wanted) → IsFilter ask (Err fault) → fault ≢ BadPattern → ⊥
 filter_or_fault All wanted fault is is_too built = no_both all_members fault (sym is_too)
 filter_or_fault (Expr text) wanted fault is is_too built = expression_or_fault text wanted fault is is_too built
 filter_or_fault (Index list) wanted fault is is_too built = no_both is.0 fault (one_index_list list (Ok is.0) is.1 (Err fault) is_too)
 filter_or_fault (Quick text) wanted fault is is_too built = no_both (with_text text) fault (sym is_too)
+filter_or_fault (Where text) wanted fault is is_too built = no_both is.0 fault (sym is.1 ∙ is_too)
 
 not_refused : {B : Type 0} (answer : Result B Fault) (fault : Fault) → answer ≡ Err fault → answer ≢ Err BadPattern → fault ≢ BadPattern
 not_refused answer fault e built k = built (e ∙ ap Err k)
@@ -92,6 +99,7 @@ same_allowed All wanted other is is_too force = ap (λ w. allowed w force) (same
 same_allowed (Expr text) wanted other (one, is, e) (two, is_too, k) force = ap (λ w. allowed w force) e ∙ sym (ap (λ w. allowed w force) k)
 same_allowed (Index list) wanted other is is_too force = ap (λ w. allowed w force) (same_indexes list wanted other is is_too)
 same_allowed (Quick text) wanted other is is_too force = ap (λ w. allowed w force) (same_value wanted other (is ∙ sym is_too))
+same_allowed (Where text) wanted other is is_too force = ap (λ w. allowed w force) (same_values text wanted other is is_too)
 
 alike_of : (ask : Ask) (wanted other : Filter) → IsFilter ask (Ok wanted) → IsFilter ask (Ok other) → AreAlike wanted other
 alike_of ask wanted other is is_too = record {

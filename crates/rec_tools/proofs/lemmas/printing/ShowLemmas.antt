@@ -2,17 +2,18 @@
 use Rattle.std.proofs.Common.{◌≡◌, inl, inr, ℕ, Bool, List, Option, Some, None, Result, Ok, Err, refl, subst, sym, [], ◌∷◌, true, false}
 use Rattle.std.specs.Prelude.{find, if◌then◌else◌}
 use Rattle.rec_text.specs.declared.fault.Fault.{Fault}
-use Rattle.rec_text.specs.declared.fault.Fault.TheVariants.{StoreFailed}
+use Rattle.rec_text.specs.declared.fault.Fault.TheVariants.{BadName, StoreFailed}
 use Rattle.rec_text.specs.Faults.{IsMemoryOr}
 use Rattle.rec_check.specs.declared.set.Set_.{Set_}
 use Rattle.rec_select.specs.Taken.{PrintsAndCounts}
 use Rattle.rec_check.specs.DescribedTexts.{DescribedText, IsDescribedText}
 use Rattle.rec_check.specs.Sets.{is_of_type}
+use Rattle.rec_select.specs.declared.field_value.FieldValue.{FieldValue}
 use Rattle.rec_select.specs.declared.records.Shape.{Shape}
 use Rattle.rec_select.specs.Printing.{IsPrinted}
 use Rattle.rec_select.specs.Selection.{Filter, IsSelection, set_for, only_set, has_members}
 use Rattle.rec_tools.specs.declared.request.Ask.{Ask}
-use Rattle.rec_tools.specs.declared.request.Ask.TheVariants.{All, Expr, Index, Quick}
+use Rattle.rec_tools.specs.declared.request.Ask.TheVariants.{All, Expr, Index, Quick, Where}
 use Rattle.rec_tools.specs.declared.request.Form.{Form}
 use Rattle.rec_tools.specs.declared.request.Form.TheVariants.{Blocks, Print, Values, Row, Count}
 use Rattle.rec_tools.specs.declared.request.Pick.{Pick}
@@ -24,11 +25,16 @@ use Rattle.rec_tools.proofs.lemmas.printing.PutsLemmas.{refused_before, no_store
 
 -- ---- what is asked for
 
+no_store_value : (test : Bool) (named : FieldValue) → (if test then Ok named else Err BadName) ≡ Err StoreFailed → ⊥
+no_store_value true named e = cc
+no_store_value false named e = cc
+
 pub no_store_filter : (ask : Ask) → IsFilter ask (Err StoreFailed) → ⊥
 no_store_filter All e = cc
 no_store_filter (Expr text) h = h
 no_store_filter (Index list) h = h
 no_store_filter (Quick text) e = cc
+no_store_filter (Where text) e = no_store_value _ _ e
 
 no_store_shape : (form : Form) → IsShape form (Err StoreFailed) → ⊥
 no_store_shape Blocks e = cc

@@ -10,7 +10,7 @@ invariant_of-self-in-Continue-branch-3 c =
     let extended = c.in_ok-extend_from_slice.ensures.items in
     let held = c.reserve.ensures.items in
     let line_before_newline = extended ∙ ap (λ lines. lines ++ c.as_bytes-then-can_be_shown.result.now) held ∙ ap (λ line. c.self.inside.lines.items ++ line) c.as_bytes-then-can_be_shown.ensures.value
-        in
+    in
     let whole = ended ∙ ap (λ lines. lines ++ 10 ∷ []) line_before_newline in
     let shown = ap (list_all is_shown) (sym c.as_bytes.ensures.value) ∙ sym c.can_be_shown.ensures ∙ c.if-can_be_shown.true in
     subst (All IsShown) (sym whole) (line_is_shown c.self.inside.lines.items c.args.line.now c.self.invariant shown)

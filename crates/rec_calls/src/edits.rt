@@ -250,5 +250,6 @@ fn growth_of_edit(alloc: Global, log: &mut Log) -> Result<(), Fault> {
     log.same("the tool", request.tool().name(), b"recdel");
     log.same("the text", edited.text.as_slice(), b"B: 2\n");
     log.equal("the records changed", edited.changed, 1);
+    log.holds("the records selected", edited.chosen == Some(1));
     Ok(())
 }

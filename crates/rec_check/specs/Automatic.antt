@@ -1,6 +1,6 @@
 -- Automatic values: the next number of a counter.
-use Rattle.std.specs.Prelude.{◌≡◌, ◌⊎◌, ℕ, ℤ, pos, ◌-◌, ◌^◌, ◌==◌, ◌+ℤ◌, int_lt, Bool, true, false, ◌&&◌, not, List, [],
-    ◌∷◌, All, Contains, flat_map, filter_map, slice_get, Option, Some, None, Result, Ok, Err}
+use Rattle.std.specs.Prelude.{◌≡◌, ◌⊎◌, ℕ, ℤ, pos, ◌-◌, ◌^◌, ◌==◌, ◌+ℤ◌, int_lt, Bool, true, false, ◌&&◌, not, List, []}
+use Rattle.std.specs.Prelude.{◌∷◌, All, Contains, flat_map, filter_map, slice_get, Option, Some, None, Result, Ok, Err}
 use Rattle.std.specs.Option.{option_map_or}
 use Rattle.std.specs.declared.ops.Range.{Range}
 use Rattle.regex.specs.Patterns.{Re}

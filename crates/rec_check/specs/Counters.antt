@@ -1,6 +1,6 @@
 -- Counters that go on from number to number.
-use Rattle.std.specs.Prelude.{◌≡◌, ℕ, ℤ, true, ◌&&◌, not, List, [], map, slice_get, Option, Some, None, option_map,
-    unwrap_or}
+use Rattle.std.specs.Prelude.{◌≡◌, ℕ, ℤ, true, ◌&&◌, not, List, [], map, slice_get, Option, Some, None, option_map}
+use Rattle.std.specs.Prelude.{unwrap_or}
 use Rattle.std.specs.Borrow.{Bor}
 use Rattle.std.specs.HashMap.{HashMap, get_by}
 use Rattle.std.specs.List.{AllByRecursion}

@@ -1,6 +1,6 @@
 -- The greatest reading of a counter's fields, number by number, and the number after it.
-use Rattle.std.specs.Prelude.{◌≡◌, ℕ, ℤ, pos, ◌+ℤ◌, int_lt, true, List, [], ◌∷◌, filter_map, Option, Some, None, Result,
-    Ok, Err, if◌then◌else◌}
+use Rattle.std.specs.Prelude.{◌≡◌, ℕ, ℤ, pos, ◌+ℤ◌, int_lt, true, List, [], ◌∷◌, filter_map, Option, Some, None, Result}
+use Rattle.std.specs.Prelude.{Ok, Err, if◌then◌else◌}
 use Rattle.rec_text.specs.declared.fault.Fault.{Fault}
 use Rattle.rec_text.specs.declared.fault.Fault.TheVariants.{AutoImpossible}
 use Rattle.rec_text.specs.Elements.{Piece}

@@ -1,7 +1,7 @@
 -- Descriptors: the records with a `%rec` field, what their fields mean, and what may be wrong with one of these.
-use Rattle.std.specs.Prelude.{◌≡◌, ℕ, ◌+◌, Bool, true, false, ◌==◌, ◌||◌, ◌&&◌, not, nat_le, nat_lt, is_some, List, [],
-    ◌∷◌, ◌++◌, length, map, drop, find, filter_map, codes, Option, Some, None, option_map, option_and_then,
-    if◌then◌else◌}
+use Rattle.std.specs.Prelude.{◌≡◌, ℕ, ◌+◌, Bool, true, false, ◌==◌, ◌||◌, ◌&&◌, not, nat_le, nat_lt, is_some, List, []}
+use Rattle.std.specs.Prelude.{◌∷◌, ◌++◌, length, map, drop, find, filter_map, codes, Option, Some, None, option_map}
+use Rattle.std.specs.Prelude.{option_and_then, if◌then◌else◌}
 use Rattle.std.specs.List.{list_any, list_all}
 use Rattle.std.specs.Str.{bytes_eq}
 use Rattle.std.specs.declared.ops.Range.{Range}
@@ -12,8 +12,9 @@ pub use Rattle.rec_text.specs.Records.{elements_in}
 use Rattle.rec_text.specs.Values.{value_of}
 use Rattle.rec_sex.specs.Grammar.{fault_of}
 use Rattle.rec_check.specs.declared.descriptors.special.Special.{Special}
-use Rattle.rec_check.specs.declared.descriptors.special.Special.TheVariants.{Rec, Key, Mandatory, Prohibit, Unique,
-    Singular, Allowed, Auto, Typed, Typedef, Size, Constraint, Confidential}
+use Rattle.rec_check.specs.declared.descriptors.special.Special.TheVariants.{Rec, Key, Mandatory, Prohibit, Unique}
+use Rattle.rec_check.specs.declared.descriptors.special.Special.TheVariants.{Singular, Allowed, Auto, Typed, Typedef}
+use Rattle.rec_check.specs.declared.descriptors.special.Special.TheVariants.{Size, Constraint, Confidential}
 use Rattle.rec_check.specs.declared.descriptors.special.Bound.{Bound}
 use Rattle.rec_check.specs.declared.descriptors.special.Comparison.{Comparison}
 use Rattle.rec_check.specs.declared.descriptors.special.Comparison.TheVariants.{Exactly, Less, AtMost, Greater, AtLeast}

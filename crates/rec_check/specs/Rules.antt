@@ -1,6 +1,6 @@
 -- What a descriptor asks of the records of its set.
-use Rattle.std.specs.Prelude.{◌≡◌, ℕ, List, [], codes, flat_map, slice_get, Option, Some, None, option_and_then,
-    option_map, unwrap_or, if◌then◌else◌}
+use Rattle.std.specs.Prelude.{◌≡◌, ℕ, List, [], codes, flat_map, slice_get, Option, Some, None, option_and_then}
+use Rattle.std.specs.Prelude.{option_map, unwrap_or, if◌then◌else◌}
 use Rattle.std.specs.List.{AllZip, list_any}
 use Rattle.regex.specs.Patterns.{Re, SameCaptures}
 use Rattle.rec_text.specs.Elements.{Piece, has_name}

@@ -11,8 +11,8 @@ use Rattle.rec_text.specs.Values.{value_of}
 use Rattle.rec_sex.specs.Expressions.{ExpressionMayBeRefused}
 use Rattle.rec_check.specs.declared.set.Set_.{Set_}
 use Rattle.rec_check.specs.declared.descriptors.special.Special.TheVariants.{Typed, Typedef, Constraint}
-use Rattle.rec_check.specs.Descriptors.{DescriptorElement, Flaw, StandsAt, bad, unsupported, flaw_of, special_of,
-    types_of}
+use Rattle.rec_check.specs.Descriptors.{DescriptorElement, Flaw, StandsAt, bad, unsupported, flaw_of, special_of}
+use Rattle.rec_check.specs.Descriptors.{types_of}
 use Rattle.rec_check.specs.Rules.{Rules, no_rules, AreRules, AreSameRules}
 use Rattle.rec_check.specs.Sets.{AreSets}
 use Rattle.rec_check.specs.Types.{DefinitionMayBeRefused, TypeMayBeRefused}

@@ -8,19 +8,20 @@ use Rattle.rec_sex.specs.Expressions.{term_of}
 use Rattle.rec_text.specs.declared.or_memory.OrMemory.{OrMemory}
 use Rattle.rec_check.specs.declared.descriptors.descriptor_fault.DescriptorFault.{DescriptorFault}
 use Rattle.rec_text.specs.declared.or_memory.OrMemory.TheVariants.{Refused, OutOfMemory as NoMemory}
-use Rattle.rec_check.specs.declared.descriptors.descriptor_fault.DescriptorFault.TheVariants.{Bad,
-    Unsupported as NotSupported, Pattern}
+use Rattle.rec_check.specs.declared.descriptors.descriptor_fault.DescriptorFault.TheVariants.{Bad}
+use Rattle.rec_check.specs.declared.descriptors.descriptor_fault.DescriptorFault.TheVariants.{Unsupported as NotSupported}
+use Rattle.rec_check.specs.declared.descriptors.descriptor_fault.DescriptorFault.TheVariants.{Pattern}
 use Rattle.rec_check.specs.declared.field_types.definition.Definition.{Definition as StoredDefinition}
 use Rattle.rec_check.specs.declared.field_types.field_type.FieldType.{FieldType as StoredType}
-use Rattle.rec_check.specs.declared.field_types.field_type.FieldType.TheVariants.{Integer, Range, Line, Size, Truth,
-    OneOf, Matching, Unchecked}
+use Rattle.rec_check.specs.declared.field_types.field_type.FieldType.TheVariants.{Integer, Range, Line, Size, Truth}
+use Rattle.rec_check.specs.declared.field_types.field_type.FieldType.TheVariants.{OneOf, Matching, Unchecked}
 use Rattle.rec_check.specs.declared.field_types.field_type.Typing.{Typing as StoredTyping}
 use Rattle.rec_check.specs.declared.rules.Rules.{Rules as StoredRules}
 use Rattle.rec_check.specs.declared.schema.Schema.{Schema}
 use Rattle.rec_check.specs.Rules.{Rules}
 use Rattle.rec_check.specs.Schemas.{Described}
-use Rattle.rec_check.specs.Types.{FieldType, integer, range, line, size, truth, one_of, matching, unchecked, Typing,
-    Definition}
+use Rattle.rec_check.specs.Types.{FieldType, integer, range, line, size, truth, one_of, matching, unchecked, Typing}
+use Rattle.rec_check.specs.Types.{Definition}
 
 abbrev pub type_stored : StoredType → FieldType Re
 type_stored Integer = integer

@@ -1,12 +1,13 @@
 -- Types of fields: how a descriptor writes them, and which values fit them.
-use Rattle.std.specs.Prelude.{◌≡◌, ℕ, ℤ, pos, negsuc, ◌-◌, ◌^◌, Bool, true, false, ◌==◌, ◌||◌, ◌&&◌, not, nat_le,
-    int_lt, List, [], ◌∷◌, count_by, codes, Option, Some, None, is_some, option_map, option_and_then, if◌then◌else◌}
+use Rattle.std.specs.Prelude.{◌≡◌, ℕ, ℤ, pos, negsuc, ◌-◌, ◌^◌, Bool, true, false, ◌==◌, ◌||◌, ◌&&◌, not, nat_le}
+use Rattle.std.specs.Prelude.{int_lt, List, [], ◌∷◌, count_by, codes, Option, Some, None, is_some, option_map}
+use Rattle.std.specs.Prelude.{option_and_then, if◌then◌else◌}
 use Rattle.std.specs.List.{list_all, list_any, slice_split}
 use Rattle.std.specs.Option.{option_map_or}
 use Rattle.std.specs.Str.{bytes_eq, is_utf8}
 use Rattle.regex.specs.Patterns.{Re}
-use Rattle.rec_text.specs.Ascii.{newline, space, left_parenthesis, right_parenthesis, comma, hyphen, digit_0, digit_9,
-    underscore}
+use Rattle.rec_text.specs.Ascii.{newline, space, left_parenthesis, right_parenthesis, comma, hyphen, digit_0, digit_9}
+use Rattle.rec_text.specs.Ascii.{underscore}
 use Rattle.rec_text.specs.Bytes.{is_letter, is_among}
 use Rattle.rec_text.specs.Canonical.{is_field_name, is_plain_name}
 use Rattle.rec_sex.specs.Grammar.{IsPatternOf}
@@ -14,8 +15,8 @@ use Rattle.rec_sex.specs.Integers.{int_of, trimmed}
 use Rattle.rec_sex.specs.Meaning.{is_found}
 use Rattle.rec_sex.specs.Patterns.{PatternMayBeRefused}
 use Rattle.rec_check.specs.declared.field_types.known_kind.KnownKind.{KnownKind}
-use Rattle.rec_check.specs.declared.field_types.known_kind.KnownKind.TheVariants.{Integer, Range, Line, Size, Truth,
-    Enum, Regexp, Unchecked}
+use Rattle.rec_check.specs.declared.field_types.known_kind.KnownKind.TheVariants.{Integer, Range, Line, Size, Truth}
+use Rattle.rec_check.specs.declared.field_types.known_kind.KnownKind.TheVariants.{Enum, Regexp, Unchecked}
 use Rattle.rec_check.specs.Words.{words, stripped, after_first_word}
 
 -- ---- types

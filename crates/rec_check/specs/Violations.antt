@@ -1,7 +1,8 @@
 -- Where a text breaks the rules of its record sets, in the order of the report.
-use Rattle.std.specs.Prelude.{◌≡◌, ◌≢◌, ◌⊎◌, ℕ, ◌+◌, ◌-◌, ◌==◌, Bool, true, false, ◌&&◌, ◌||◌, not, nat_le, List, [],
-    ◌∷◌, ◌++◌, codes, length, map, filter, filter_map, take, drop, decimal, is_some, Option, Some, None, unwrap_or,
-    option_to_list, option_map, option_and_then, slice_get, Result, Ok, Err, if◌then◌else◌}
+use Rattle.std.specs.Prelude.{◌≡◌, ◌≢◌, ◌⊎◌, ℕ, ◌+◌, ◌-◌, ◌==◌, Bool, true, false, ◌&&◌, ◌||◌, not, nat_le, List, []}
+use Rattle.std.specs.Prelude.{◌∷◌, ◌++◌, codes, length, map, filter, filter_map, take, drop, decimal, is_some, Option}
+use Rattle.std.specs.Prelude.{Some, None, unwrap_or, option_to_list, option_map, option_and_then, slice_get, Result, Ok}
+use Rattle.std.specs.Prelude.{Err, if◌then◌else◌}
 use Rattle.std.specs.List.{list_any, enumerate_from}
 use Rattle.std.specs.Option.{option_map_or}
 use Rattle.std.specs.Str.{bytes_eq}
@@ -10,8 +11,8 @@ use Rattle.regex.specs.Patterns.{Re}
 use Rattle.rec_text.specs.declared.fault.Fault.{Fault}
 use Rattle.rec_text.specs.declared.fault.Fault.TheVariants.{BadPattern}
 use Rattle.rec_text.specs.declared.violations.Rule.{Rule}
-use Rattle.rec_text.specs.declared.violations.Rule.TheVariants.{Size, Typedef, Key, Mandatory, Prohibit, Unique,
-    Singular, Allowed, Fit, Constraint}
+use Rattle.rec_text.specs.declared.violations.Rule.TheVariants.{Size, Typedef, Key, Mandatory, Prohibit, Unique}
+use Rattle.rec_text.specs.declared.violations.Rule.TheVariants.{Singular, Allowed, Fit, Constraint}
 use Rattle.rec_text.specs.declared.violations.Violation.{Violation}
 use Rattle.rec_text.specs.Elements.{Piece, text_of, name_of, has_name}
 use Rattle.rec_text.specs.Reading.{IsReading, line_after}

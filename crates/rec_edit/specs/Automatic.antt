@@ -1,6 +1,6 @@
 -- Automatic fields: those that a new record lacks, and those that the records of a text lack.
-use Rattle.std.specs.Prelude.{◌≡◌, ℕ, ℤ, Bool, true, not, List, [], ◌∷◌, ◌++◌, map, filter, position, Option, Some,
-    None, Result, Ok}
+use Rattle.std.specs.Prelude.{◌≡◌, ℕ, ℤ, Bool, true, not, List, [], ◌∷◌, ◌++◌, map, filter, position, Option, Some}
+use Rattle.std.specs.Prelude.{None, Result, Ok}
 use Rattle.std.specs.Str.{bytes_eq}
 use Rattle.std.specs.declared.ops.Range.{Range}
 use Rattle.rec_text.specs.declared.fault.Fault.{Fault}
@@ -50,7 +50,7 @@ abbrev pub AreFilled : List Piece → Rules → (List ℕ → List ℤ) → List
 AreFilled pieces rules numbers [] answer = answer ≡ Ok []
 AreFilled pieces rules numbers (own_range ∷ records) answer =
     Then (AreNumbered (λ name. IsNext rules name (numbers name))
-        (lacking (automatic_names rules) (names_of (elements_in pieces own_range)))) (λ given.
+    (lacking (automatic_names rules) (names_of (elements_in pieces own_range)))) (λ given.
     Then (AreFilled pieces rules (λ name. numbers_in given name ++ numbers name) records) (λ filled answer.
     answer ≡ Ok (record { range = own_range; given = given } ∷ filled))) answer
 

@@ -1,6 +1,6 @@
 -- Edits in turn, each of the text that the one before it gave; one edit is a batch of one.
-use Rattle.std.specs.Prelude.{◌≡◌, ◌≢◌, ℕ, zero, suc, ◌+◌, Bool, List, [], ◌∷◌, ◌++◌, Option, Some, None, Result, Ok,
-    Err, min}
+use Rattle.std.specs.Prelude.{◌≡◌, ◌≢◌, ℕ, zero, suc, ◌+◌, Bool, List, [], ◌∷◌, ◌++◌, Option, Some, None, Result, Ok}
+use Rattle.std.specs.Prelude.{Err, min}
 use Rattle.std.specs.List.{AllByRecursion}
 use Rattle.rec_text.specs.declared.fault.Fault.{Fault}
 use Rattle.rec_text.specs.declared.fault.Fault.TheVariants.{BadPattern}
@@ -34,17 +34,24 @@ step_with tool (hunk ∷ hunks) = single_step tool (hunk ∷ hunks)
 abbrev pub at_most_greatest : ℕ → ℕ
 at_most_greatest n = min n 18446744073709551615
 
+-- how many records two edits select, where one of them is of a selection
+abbrev pub both_chosen : Option ℕ → Option ℕ → Option ℕ
+both_chosen None other = other
+both_chosen (Some n) None = Some n
+both_chosen (Some n) (Some m) = Some (at_most_greatest (n + m))
+
 -- what an edit and those after it make of a text
 abbrev pub with_first : Task → Patched → Edited → Edited
 with_first task patched rest = record {
   steps = step_with (tool_of task) patched.patch ++ rest.steps;
   text = rest.text;
   changed = at_most_greatest (patched.changed + rest.changed);
+  chosen = both_chosen patched.chosen rest.chosen;
 }
 
 -- what edits make of a text in turn, violations aside; or the first refusal
 abbrev pub AreSteps : Bool → List Task → List ℕ → Result Edited Fault → Type 0
-AreSteps force [] text answer = answer ≡ Ok (record { steps = []; text = text; changed = 0 })
+AreSteps force [] text answer = answer ≡ Ok (record { steps = []; text = text; changed = 0; chosen = None })
 AreSteps force (task ∷ tasks) text answer =
     Then (IsEditOn force task text) (λ patched.
     Then (AreSteps force tasks patched.text) (λ rest answer.

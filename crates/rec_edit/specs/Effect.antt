@@ -1,6 +1,6 @@
 -- What an edit means for the records of a text, whatever stands between them.
-use Rattle.std.specs.Prelude.{◌≡◌, ◌==◌, ◌&&◌, ℕ, List, [], ◌∷◌, ◌++◌, map, take, drop, reverse, flat_map, filter_map,
-    find, is_some, slice_get, zip, Option, Some, None, Ok, if◌then◌else◌}
+use Rattle.std.specs.Prelude.{◌≡◌, ◌==◌, ◌&&◌, ℕ, List, [], ◌∷◌, ◌++◌, map, take, drop, reverse, flat_map, filter_map}
+use Rattle.std.specs.Prelude.{find, is_some, slice_get, zip, Option, Some, None, Ok, if◌then◌else◌}
 use Rattle.std.specs.List.{AllZip, list_any, enumerate_from}
 use Rattle.std.specs.Option.{option_map_or}
 use Rattle.std.specs.declared.ops.Range.{Range}
@@ -57,21 +57,23 @@ between_fields pieces = reverse (from_field (reverse (from_field pieces)))
 
 -- elements as a record; they are none without a field
 abbrev pub typed_record : Option (List ℕ) → List Piece → Option TypedRecord
-typed_record record_type own = elim (between_fields own) [ [] ↦ None
-    | piece ∷ pieces ↦ Some (record { record_type = record_type; own = piece ∷ pieces }) ]
+typed_record record_type own = elim (between_fields own) [
+  | [] ↦ None
+  | piece ∷ pieces ↦ Some (record { record_type = record_type; own = piece ∷ pieces })
+]
 
 -- each record of these indexes is replaced by what is made of it, and is left out where that has no field
 abbrev pub remade : List ℕ → (List Piece → List Piece) → List TypedRecord → List TypedRecord
 remade selected made all_typed = filter_map
     (λ (i, typed). if list_any (λ k. k == i) selected then typed_record typed.record_type (made typed.own)
-        else Some typed)
+    else Some typed)
     (enumerate_from 0 all_typed)
 
 -- a record with its picked fields edited, and with those that are added
 abbrev pub with_fields : Action → List Item → List Piece → List Piece
 with_fields action items own =
     flat_map (λ (i, piece). if list_any (λ place. place == i) (picks items own) then picked_becomes action piece
-        else piece ∷ []) (enumerate_from 0 own)
+    else piece ∷ []) (enumerate_from 0 own)
     ++ added action items own
 
 -- records stand before the one of this index
@@ -86,7 +88,7 @@ with_new sets (Some record_type) own all_typed = option_map_or
     (λ s. put_at s.members.end (record { record_type = Some record_type; own = own } ∷ []) all_typed)
     (find (is_of_type record_type) sets)
     (all_typed ++ record { record_type = Some record_type; own = canonical rec_name record_type ∷ [] }
-        ∷ record { record_type = Some record_type; own = own } ∷ [])
+    ∷ record { record_type = Some record_type; own = own } ∷ [])
 
 -- ---- automatic filling
 

@@ -1,6 +1,6 @@
 -- Where an edit puts new elements: the layouts of a new record and of automatic fields.
-use Rattle.std.specs.Prelude.{ℕ, ℤ, ◌+◌, ◌-◌, ◌==◌, Bool, not, List, [], ◌∷◌, ◌++◌, length, map, drop, take, reverse,
-    flat_map, find, slice_get, Option, Some, None, option_and_then, if◌then◌else◌}
+use Rattle.std.specs.Prelude.{ℕ, ℤ, ◌+◌, ◌-◌, ◌==◌, Bool, not, List, [], ◌∷◌, ◌++◌, length, map, drop, take, reverse}
+use Rattle.std.specs.Prelude.{flat_map, find, slice_get, Option, Some, None, option_and_then, if◌then◌else◌}
 use Rattle.std.specs.List.{prefix_len}
 use Rattle.std.specs.Option.{option_map_or}
 use Rattle.std.specs.Fmt.{signed_decimal}
@@ -38,13 +38,18 @@ after_paragraph pieces fields own_range =
 
 -- before the record's paragraph, with an empty line after
 abbrev pub before_paragraph : List Piece → List Piece → Range ℕ → Insertion
-before_paragraph pieces fields own_range = record { place = paragraph_start pieces own_range.start;
-    new = fields ++ empty_line ∷ [] }
+before_paragraph pieces fields own_range = record {
+  place = paragraph_start pieces own_range.start;
+  new = fields ++ empty_line ∷ [];
+}
 
 -- at the end, after an empty line where the last element is there and isn't blank
 abbrev pub at_end : List Piece → List Piece → Insertion
-at_end pieces new = record { place = length pieces; new = if is_full_at pieces (length pieces - 1) then empty_line ∷ new
-    else new }
+at_end pieces new = record {
+  place = length pieces;
+  new = if is_full_at pieces (length pieces - 1) then empty_line ∷ new
+      else new;
+}
 
 -- the record after which one more of a set is put: its last one, or else its descriptor
 abbrev pub last_of : Set_ → Option ℕ
@@ -97,5 +102,7 @@ pub record Filled : Type 0 where
   pub given : List Numbered
 
 abbrev pub filling : List Filled → Layout
-filling filled = record untouched { put = λ i. flat_map (λ one. if one.range.start == i then numbered_fields one.given
-    else []) filled }
+filling filled = record untouched {
+  put = λ i. flat_map (λ one. if one.range.start == i then numbered_fields one.given
+      else []) filled;
+}

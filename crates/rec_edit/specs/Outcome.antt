@@ -1,12 +1,13 @@
 -- What one edit makes of the elements of a text: its first refusal in their order, or its script and how many records
 -- it changes.
-use Rattle.std.specs.Prelude.{◌≡◌, ◌≤◌, ℕ, Bool, true, false, not, List, [], ◌∷◌, ◌++◌, length, map, filter_map,
-    count_by, slice_get, Option, None, Result, Ok, Err, if◌then◌else◌}
+use Rattle.std.specs.Prelude.{◌≡◌, ◌≤◌, ℕ, Bool, true, false, not, List, [], ◌∷◌, ◌++◌, length, map, filter_map}
+use Rattle.std.specs.Prelude.{count_by, slice_get, Option, Some, None, Result, Ok, Err, if◌then◌else◌}
 use Rattle.std.specs.Str.{bytes_eq}
 use Rattle.std.specs.declared.ops.Range.{Range}
 use Rattle.rec_text.specs.declared.fault.Fault.{Fault}
-use Rattle.rec_text.specs.declared.fault.Fault.TheVariants.{OutOfMemory, BadPattern, BadFieldList, NoSelection,
-    TypeNeeded, NoSuchType, BadName, BadValue, BadRecord, Integrity, AutoImpossible}
+use Rattle.rec_text.specs.declared.fault.Fault.TheVariants.{OutOfMemory, BadPattern, BadFieldList, NoSelection}
+use Rattle.rec_text.specs.declared.fault.Fault.TheVariants.{TypeNeeded, NoSuchType, BadName, BadValue, BadRecord}
+use Rattle.rec_text.specs.declared.fault.Fault.TheVariants.{Integrity, AutoImpossible}
 use Rattle.rec_text.specs.declared.violations.Violation.{Violation}
 use Rattle.rec_text.specs.Elements.{Piece, AreElementsOf, text_of}
 use Rattle.rec_text.specs.Records.{AreRecords}
@@ -23,8 +24,8 @@ use Rattle.rec_journal.specs.Revisions.{all_hunks, is_batch}
 use Rattle.rec_select.specs.Selection.{Filter, all, by_expression, at_places, with_text, with_value, IsSelection}
 use Rattle.rec_edit.specs.declared.outcome.Patched.{Patched}
 use Rattle.rec_edit.specs.Task.{Wanted, Task, insert, replace, delete, comment_out, set, auto_fill}
-use Rattle.rec_edit.specs.Script.{Part, Layout, closed, IsScriptOf, old_pieces, new_pieces, edited_text, parts_in,
-    AreChangesOf}
+use Rattle.rec_edit.specs.Script.{Part, Layout, closed, IsScriptOf, old_pieces, new_pieces, edited_text, parts_in}
+use Rattle.rec_edit.specs.Script.{AreChangesOf}
 use Rattle.rec_edit.specs.Rules.{fields_of, deletion, commenting, replacement, setting}
 use Rattle.rec_edit.specs.Insertions.{inserting, insertion_for, numbered_fields, filling}
 use Rattle.rec_edit.specs.Wording.{AreItemsFor, IsNewRecord}
@@ -54,10 +55,11 @@ AreRemovable pieces sets wanted force =
 
 -- ---- one edit
 
--- what an edit makes of a text, and how many records it changes
+-- what an edit makes of a text, how many records it changes, and how many are selected, where it is of a selection
 pub record EditScript : Type 0 where
   pub script : List Part
   pub changed : ℕ
+  pub chosen : Option ℕ
 
 -- the script makes something else of a record, the newline at the end of the text aside
 abbrev pub is_changed_by : List Part → Range ℕ → Bool
@@ -65,17 +67,21 @@ is_changed_by script own_range = not (bytes_eq
     (text_of (map closed (new_pieces (parts_in own_range 0 script))))
     (text_of (map closed (old_pieces (parts_in own_range 0 script)))))
 
--- the script of a layout; of these records those count of which it makes something else
+-- the script of a layout, where this number is selected; of these records those count of which it makes something else
+abbrev pub IsLaidOutFor : Option ℕ → List Piece → List (Range ℕ) → Layout → Result EditScript Fault → Type 0
+IsLaidOutFor selected pieces records layout answer = (script : List Part) × IsScriptOf layout pieces script
+    × (answer ≡ Ok (record { script = script; changed = count_by (is_changed_by script) records; chosen = selected }))
+
+-- the script of a layout for selected records
 abbrev pub IsLaidOut : List Piece → List (Range ℕ) → Layout → Result EditScript Fault → Type 0
-IsLaidOut pieces chosen layout answer = (script : List Part) × IsScriptOf layout pieces script
-    × (answer ≡ Ok (record { script = script; changed = count_by (is_changed_by script) chosen }))
+IsLaidOut pieces chosen = IsLaidOutFor (Some (length chosen)) pieces chosen
 
 -- a new record is put in
 abbrev pub IsPutIn : List Piece → List (Range ℕ) → List Set_ → Option (List ℕ) → List Piece → Result EditScript Fault
     → Type 0
 IsPutIn pieces records sets record_type fields answer =
     (script : List Part) × IsScriptOf (inserting (insertion_for pieces records sets record_type fields)) pieces script
-    × (answer ≡ Ok (record { script = script; changed = 1 }))
+    × (answer ≡ Ok (record { script = script; changed = 1; chosen = None }))
 
 -- the script of an edit of the text of these elements
 abbrev pub IsEditScript : List Piece → Described → Bool → Task → Result EditScript Fault → Type 0
@@ -100,7 +106,7 @@ IsEditScript pieces schema force (set wanted list action) answer =
     IsLaidOut pieces chosen (setting action items pieces chosen))) answer
 IsEditScript pieces schema force auto_fill answer = (records : List (Range ℕ)) × AreRecords pieces records
     × Then (AreFilledOf pieces records schema) (λ filled.
-    IsLaidOut pieces (map (λ one. one.range) filled) (filling filled)) answer
+    IsLaidOutFor None pieces (map (λ one. one.range) filled) (filling filled)) answer
 
 -- ---- the violations of the edited text
 
@@ -118,11 +124,12 @@ IsSoundUnlessForced false text answer = IsSound text answer
 
 -- ---- what it comes to
 
--- the changes of the script, the edited text, and the number of changed records
+-- the changes of the script, the edited text, and the numbers of changed and of selected records
 pub record IsEditedBy (edit : EditScript) (edited : Patched) : Type 0 where
   pub patch : AreChangesOf edit.script edited.patch
   pub text : edited.text ≡ edited_text edit.script
   pub changed : edited.changed ≡ edit.changed
+  pub chosen : edited.chosen ≡ edit.chosen
 
 -- what an edit makes of the text of these elements, violations aside
 abbrev pub IsEditOf : List Piece → Described → Bool → Task → Result Patched Fault → Type 0

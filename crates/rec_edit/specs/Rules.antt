@@ -1,7 +1,7 @@
 -- What an edit makes of the elements of a text: the layouts of the edits of records and of their fields. Chosen records
 -- are given by the ranges of their elements, in order, each from its first to its last field.
-use Rattle.std.specs.Prelude.{ℕ, ◌+◌, ◌==◌, Bool, true, false, ◌&&◌, List, [], ◌∷◌, ◌++◌, length, map, filter, drop,
-    flat_map, if◌then◌else◌}
+use Rattle.std.specs.Prelude.{ℕ, ◌+◌, ◌==◌, Bool, true, false, ◌&&◌, List, [], ◌∷◌, ◌++◌, length, map, filter, drop}
+use Rattle.std.specs.Prelude.{flat_map, if◌then◌else◌}
 use Rattle.std.specs.List.{list_any, prefix_len}
 use Rattle.std.specs.declared.ops.Range.{Range}
 use Rattle.rec_text.specs.declared.element.Kind.TheVariants.{Blank, Comment}
@@ -14,8 +14,8 @@ use Rattle.rec_sex.specs.declared.lists.field_list.Item.{Item}
 use Rattle.rec_sex.specs.Lists.{picks}
 use Rattle.rec_check.specs.Descriptors.{holds_index}
 use Rattle.rec_edit.specs.declared.request.Action.{Action}
-use Rattle.rec_edit.specs.declared.request.Action.TheVariants.{Set, Add, SetAdd, Rename, Delete,
-    Comment as CommentFields}
+use Rattle.rec_edit.specs.declared.request.Action.TheVariants.{Set, Add, SetAdd, Rename, Delete}
+use Rattle.rec_edit.specs.declared.request.Action.TheVariants.{Comment as CommentFields}
 use Rattle.rec_edit.specs.Task.{Pair}
 use Rattle.rec_edit.specs.Script.{Layout, untouched}
 
@@ -49,14 +49,16 @@ is_own chosen i = list_any (holds_index i) chosen
 
 -- a record's range, with the blank elements directly after it
 abbrev pub with_blanks : List Piece → Range ℕ → Range ℕ
-with_blanks pieces own_range = record { start = own_range.start;
-    end = own_range.end + prefix_len is_blank_piece (drop own_range.end pieces) }
+with_blanks pieces own_range = record {
+  start = own_range.start;
+  end = own_range.end + prefix_len is_blank_piece (drop own_range.end pieces);
+}
 
 -- the element of this index is one that a list picks of this record
 abbrev pub is_picked_of : List Item → List Piece → ℕ → Range ℕ → Bool
 is_picked_of items pieces i own_range =
     holds_index i own_range && list_any (λ place. own_range.start + place == i)
-        (picks items (elements_in pieces own_range))
+    (picks items (elements_in pieces own_range))
 
 -- it is picked of one of these records
 abbrev pub is_picked : List Item → List Piece → List (Range ℕ) → ℕ → Bool

@@ -1,7 +1,7 @@
 -- The script of an edit: parts in order, in each of which some elements are replaced by others. Joined, the old ones
 -- are the elements of the text, and the new ones those of the edited text.
-use Rattle.std.specs.Prelude.{◌≡◌, ◌≢◌, ℕ, ◌+◌, ◌==◌, ◌⊎◌, Bool, true, false, leb, ◌&&◌, not, List, [], ◌∷◌, ◌++◌,
-    length, map, flat_map, if◌then◌else◌}
+use Rattle.std.specs.Prelude.{◌≡◌, ◌≢◌, ℕ, ◌+◌, ◌==◌, ◌⊎◌, Bool, true, false, leb, ◌&&◌, not, List, [], ◌∷◌, ◌++◌}
+use Rattle.std.specs.Prelude.{length, map, flat_map, if◌then◌else◌}
 use Rattle.std.specs.List.{AllByRecursion, enumerate_from}
 use Rattle.std.specs.Str.{bytes_eq}
 use Rattle.std.specs.declared.ops.Range.{Range}
@@ -94,8 +94,10 @@ put_alone (piece ∷ pieces) = record { part = record { old = []; new = piece �
 
 -- an element, with what stands instead of it
 abbrev pub changed_alone : Layout → ℕ → Piece → Single
-changed_alone layout i piece = record { part = record { old = piece ∷ []; new = layout.becomes i (closed piece) };
-    tied = layout.tied i }
+changed_alone layout i piece = record {
+  part = record { old = piece ∷ []; new = layout.becomes i (closed piece) };
+  tied = layout.tied i;
+}
 
 -- each element after what is put before it, and at the end what is put after them all
 abbrev pub singles_of : Layout → List Piece → List Single
@@ -135,7 +137,7 @@ changes_from at (part ∷ parts) =
     if is_kept part
     then changes_from (at + length (text_of part.old)) parts
     else record { at = at; old = text_of part.old; new = text_of part.new }
-        ∷ changes_from (at + length (text_of part.old)) parts
+    ∷ changes_from (at + length (text_of part.old)) parts
 
 -- the parts whose old elements lie in a range of indexes, those without old elements at its ends too; the first part
 -- begins at this index

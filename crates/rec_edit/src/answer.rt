@@ -3,12 +3,14 @@ use rec_journal::EditSteps;
 use rec_text::{Bytes, Fault};
 
 /// What edits make of a text in turn: the steps that lead from it to the text after them, one for each edit that changes
-/// something, and the sum of the numbers of records that the edits changed.
+/// something, the sum of the numbers of records that the edits changed, and that of those that they selected, where one of
+/// them is of a selection.
 #[derive(Drop)]
 pub struct Edited {
     pub steps: EditSteps,
     pub text: Bytes,
     pub changed: usize,
+    pub chosen: Option<usize>,
 }
 
 /// Why edits are refused, and which of them is: none where the text after them all breaks rules.

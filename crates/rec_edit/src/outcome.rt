@@ -1,8 +1,8 @@
 //! What one edit makes of a file.
-ghost use Rattle.std.specs.Prelude.{◌≡◌, length, Bool, IfOk};
+ghost use Rattle.std.specs.Prelude.{◌≡◌, length, Bool, None, IfOk};
 ghost use Rattle.rec_text.specs.Faults.{UnlessMemory};
 ghost use Rattle.rec_edit.specs.proving.Drafts.{AreRanges};
-ghost use Rattle.rec_edit.specs.proving.Edits.{laid_script, edited_by};
+ghost use Rattle.rec_edit.specs.proving.Edits.{laid_script_for, edited_by};
 ghost use Rattle.rec_edit.specs.proving.Files.{IsCarriedOutIn};
 ghost use Rattle.rec_edit.specs.proving.Filling.{filled_of, ranges_of};
 ghost use Rattle.rec_edit.specs.Insertions.{filling};
@@ -18,7 +18,7 @@ use crate::layouts::removal::Removal;
 use crate::layouts::replacement::Replacement;
 use crate::layouts::setting::Setting;
 use crate::request::{Action, Edit, NewRecord};
-use crate::script::{carried_out, carried_out_on};
+use crate::script::{carried_out, carried_out_on, carried_out_over};
 use crate::wording::items_for;
 use rec_check::RecFile;
 use rec_journal::Patch;
@@ -26,12 +26,14 @@ use rec_select::Selection;
 use rec_text::{Bytes, Fault};
 use std::alloc::{AllocError, Global};
 
-/// What an edit makes of a text: the text after it, the patch that leads there, and how many records it changed.
+/// What an edit makes of a text: the text after it, the patch that leads there, how many records it changed, and how many were
+/// selected, where it is of a selection.
 #[derive(Drop)]
 pub struct Patched {
     pub patch: Patch,
     pub text: Bytes,
     pub changed: usize,
+    pub chosen: Option<usize>,
 }
 
 /// A record of a type is put in, with its automatic fields where that is asked for.
@@ -48,7 +50,7 @@ fn insert(
     let pairs = new_record(alloc, record_type, fresh)?;
     let automatic = automatic_fields(alloc, file, record_type, auto, &pairs)?;
     let layout = Insertion::of(alloc, file, record_type, &automatic, &pairs)?;
-    Ok(carried_out_on(alloc, file, 1, &layout)?)
+    Ok(carried_out_on(alloc, file, 1, None, &layout)?)
 }
 
 /// A new record is put instead of each of a selection.
@@ -73,11 +75,11 @@ fn replace(
 fn filled_up(alloc: Global, file: &RecFile, filled: &[FilledRecord]) -> Result<Patched, AllocError>
     requires { AreRanges (length file.now.pieces) (ranges_of (filled_of filled.now)) }
     ensures { IfOk result (λ edited. edited ≡ edited_by
-        (laid_script file.now.pieces (ranges_of (filled_of filled.now)) (filling (filled_of filled.now)))) }
+        (laid_script_for None file.now.pieces (ranges_of (filled_of filled.now)) (filling (filled_of filled.now)))) }
 {
     let ranges = record_ranges(alloc, filled)?;
     let layout = Filling::of(alloc, filled)?;
-    carried_out(alloc, file, &ranges, &layout)
+    carried_out_over(alloc, file, &ranges, None, &layout)
 }
 
 /// All records of typed sets get the automatic fields that they lack.

@@ -7,7 +7,7 @@ ghost use Rattle.rec_text.specs.Places.{piece_of, pieces_of};
 ghost use Rattle.rec_edit.specs.Script.{Part, closed};
 ghost use Rattle.rec_edit.specs.proving.Parts.{putting, script_of};
 ghost use Rattle.rec_edit.specs.proving.Drafts.{AreRanges, LaysLines, IsTie, IsDraft, IsLaid, is_changed, laying, laying_last, laying_tie};
-ghost use Rattle.rec_edit.specs.proving.Edits.{laid_script, edited_by};
+ghost use Rattle.rec_edit.specs.proving.Edits.{laid_script, laid_script_for, edited_by};
 
 mod draft;
 pub mod layout;
@@ -283,16 +283,17 @@ fn changed_count<P: Layout>(
     Ok(count)
 }
 
-/// What a layout makes of a text, where it is known how many records it changes.
+/// What a layout makes of a text, where it is known how many records it changes and how many are selected.
 pub(crate) fn carried_out_on<P: Layout>(
     alloc: Global,
     file: &RecFile,
     changed: usize,
+    chosen: Option<usize>,
     layout: &P,
 ) -> Result<Patched, AllocError>
     requires { LaysLines (P.layout layout.now) }
-    ensures { IfOk result (λ edited.
-        edited ≡ edited_by (record { script = script_of (P.layout layout.now) file.now.pieces; changed = changed })) }
+    ensures { IfOk result (λ edited. edited ≡ edited_by
+        (record { script = script_of (P.layout layout.now) file.now.pieces; changed = changed; chosen = chosen })) }
 {
     let draft = drafted(alloc, file.database(), layout)?;
     let (patch, text) = draft.finish()?;
@@ -300,10 +301,28 @@ pub(crate) fn carried_out_on<P: Layout>(
         patch,
         text,
         changed,
+        chosen,
     })
 }
 
-/// What a layout makes of a text, and how many of the chosen records it changes.
+/// What a layout makes of a text, and how many of these records it changes, where it is known how many are selected.
+pub(crate) fn carried_out_over<P: Layout>(
+    alloc: Global,
+    file: &RecFile,
+    records: &[Range<usize>],
+    chosen: Option<usize>,
+    layout: &P,
+) -> Result<Patched, AllocError>
+    requires chosen { AreRanges (length file.now.pieces) records.now }
+    requires lines { LaysLines (P.layout layout.now) }
+    ensures { IfOk result (λ edited. edited ≡ edited_by
+        (laid_script_for chosen file.now.pieces records.now (P.layout layout.now))) }
+{
+    let changed = changed_count(alloc, layout, file.database(), records)?;
+    carried_out_on(alloc, file, changed, chosen, layout)
+}
+
+/// What a layout makes of a text, and how many of the selected records it changes.
 pub(crate) fn carried_out<P: Layout>(
     alloc: Global,
     file: &RecFile,
@@ -312,8 +331,8 @@ pub(crate) fn carried_out<P: Layout>(
 ) -> Result<Patched, AllocError>
     requires chosen { AreRanges (length file.now.pieces) chosen.now }
     requires lines { LaysLines (P.layout layout.now) }
-    ensures { IfOk result (λ edited. edited ≡ edited_by (laid_script file.now.pieces chosen.now (P.layout layout.now))) }
+    ensures { IfOk result (λ edited. edited ≡ edited_by
+        (laid_script file.now.pieces chosen.now (P.layout layout.now))) }
 {
-    let changed = changed_count(alloc, layout, file.database(), chosen)?;
-    carried_out_on(alloc, file, changed, layout)
+    carried_out_over(alloc, file, chosen, Some(chosen.len()), layout)
 }

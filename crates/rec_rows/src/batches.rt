@@ -30,7 +30,7 @@ fn run_each(home: &mut Tester, edits: Vec<EditRequest>, force: bool) -> End {
     let mut changed: usize = 0;
     for edit in edits {
         match home.reply(&Request::Edit { edit, force }) {
-            Ok(Reply::Edited(count)) => changed = changed.saturating_add(count),
+            Ok(Reply::Edited { changed: more, .. }) => changed = changed.saturating_add(more),
             Ok(_) => {}
             Err(fault) => return End::Refused(fault.number()),
         }

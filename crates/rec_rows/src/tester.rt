@@ -52,10 +52,10 @@ fn say(said: &mut String, answer: &Result<Reply, Fault>) -> Result<(), AllocErro
     match answer {
         Ok(Reply::Shown) => said.push_str("shown"),
         Ok(Reply::Violated(count)) => write!(said, "violated {count}"),
-        Ok(Reply::Edited(count)) => write!(said, "edited {count}"),
-        Ok(Reply::Unchanged) => said.push_str("unchanged"),
-        Ok(Reply::Undone(number)) => write!(said, "undone {number}"),
-        Ok(Reply::Redone(number)) => write!(said, "redone {number}"),
+        Ok(Reply::Edited { changed, .. }) => write!(said, "edited {changed}"),
+        Ok(Reply::Unchanged { .. }) => said.push_str("unchanged"),
+        Ok(Reply::Undone(number, _)) => write!(said, "undone {number}"),
+        Ok(Reply::Redone(number, _)) => write!(said, "redone {number}"),
         Ok(Reply::Forgotten(count)) => write!(said, "forgotten {count}"),
         Err(fault) => write!(said, "{} {fault}", fault.number()),
     }

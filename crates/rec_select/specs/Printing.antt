@@ -1,6 +1,6 @@
 -- What is printed of records.
-use Rattle.std.specs.Prelude.{◌≡◌, ℕ, ◌<◌, Bool, not, List, [], ◌∷◌, ◌++◌, length, map, filter, filter_map, flat_map,
-    slice_get, decimal, Result, Ok, Err, if◌then◌else◌}
+use Rattle.std.specs.Prelude.{◌≡◌, ℕ, ◌<◌, Bool, not, List, [], ◌∷◌, ◌++◌, length, map, filter, filter_map, flat_map}
+use Rattle.std.specs.Prelude.{slice_get, decimal, Result, Ok, Err, if◌then◌else◌}
 use Rattle.std.specs.List.{concat, join_with_byte, AllByRecursion}
 use Rattle.std.specs.declared.ops.Range.{Range}
 use Rattle.rec_text.specs.declared.fault.Fault.{Fault}

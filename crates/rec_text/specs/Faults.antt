@@ -1,10 +1,12 @@
 -- The numbers of the refusals, and answers that memory may cut short.
 use Rattle.std.specs.Prelude.{◌≡◌, ◌⊎◌, ℕ, Result, Ok, Err, IfErr}
 use Rattle.rec_text.specs.declared.fault.Fault.{Fault}
-use Rattle.rec_text.specs.declared.fault.Fault.TheVariants.{OutOfMemory, BadLine, OpenLine, BadDescriptor, Unsupported,
-    BadExpression, BadPattern, BadFieldList, BadIndexList, NoSelection, TypeNeeded, NoSuchType, BadName, BadValue,
-    BadRecord, Integrity, AutoImpossible, DigestClash, BadJournal, NothingToUndo, NothingToRedo, Drifted, StoreFailed,
-    BadUsage, BadBatch, NoSuchEdit}
+use Rattle.rec_text.specs.declared.fault.Fault.TheVariants.{OutOfMemory, BadLine, OpenLine, BadDescriptor, Unsupported}
+use Rattle.rec_text.specs.declared.fault.Fault.TheVariants.{BadExpression, BadPattern, BadFieldList, BadIndexList}
+use Rattle.rec_text.specs.declared.fault.Fault.TheVariants.{NoSelection, TypeNeeded, NoSuchType, BadName, BadValue}
+use Rattle.rec_text.specs.declared.fault.Fault.TheVariants.{BadRecord, Integrity, AutoImpossible, DigestClash}
+use Rattle.rec_text.specs.declared.fault.Fault.TheVariants.{BadJournal, NothingToUndo, NothingToRedo, Drifted}
+use Rattle.rec_text.specs.declared.fault.Fault.TheVariants.{StoreFailed, BadUsage, BadBatch, NoSuchEdit}
 
 abbrev pub number_of : Fault → ℕ
 number_of OutOfMemory = 1

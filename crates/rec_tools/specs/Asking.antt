@@ -9,8 +9,9 @@ use Rattle.rec_sex.specs.Grammar.{Term, fault_of}
 use Rattle.rec_sex.specs.IndexList.{IsIndexList}
 use Rattle.rec_sex.specs.Lists.{IsFieldList}
 use Rattle.rec_select.specs.declared.records.Shape.{Shape}
-use Rattle.rec_select.specs.declared.records.Shape.TheVariants.{Blocks as AllFields, Print as PrintedFields,
-    Values as PickedValues, Row as PickedRow, Count as NumberAlone}
+use Rattle.rec_select.specs.declared.records.Shape.TheVariants.{Blocks as AllFields, Print as PrintedFields}
+use Rattle.rec_select.specs.declared.records.Shape.TheVariants.{Values as PickedValues, Row as PickedRow}
+use Rattle.rec_select.specs.declared.records.Shape.TheVariants.{Count as NumberAlone}
 use Rattle.rec_select.specs.declared.field_value.FieldValue.{FieldValue}
 use Rattle.rec_select.specs.FieldValues.{field_value_of}
 use Rattle.rec_select.specs.Selection.{Filter, all, by_expression, at_places, with_text, with_value}

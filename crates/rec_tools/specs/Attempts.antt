@@ -7,8 +7,8 @@ use Rattle.rec_tools.specs.declared.home.Which.{Which}
 use Rattle.rec_tools.specs.declared.home.Which.TheVariants.{Base as TheFile, Journal as TheJournal}
 use Rattle.rec_tools.specs.declared.request.Request.{Request}
 use Rattle.rec_tools.specs.declared.request.Reply.{Reply}
-use Rattle.rec_tools.specs.Home.{Contents, content_of, Write, written, Call, got, lacked, unread, put_all, put_some,
-    TellAll, Went}
+use Rattle.rec_tools.specs.Home.{Contents, content_of, Write, written, Call, got, lacked, unread, put_all, put_some}
+use Rattle.rec_tools.specs.Home.{TellAll, Went}
 use Rattle.rec_tools.specs.Printouts.{Printed, IsBoth, IsSilence}
 use Rattle.rec_tools.specs.Requests.{Asked, asked_of, reads_of}
 use Rattle.rec_tools.specs.Outcomes.{Outcome, IsRequestOutcome}

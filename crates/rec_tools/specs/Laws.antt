@@ -34,8 +34,12 @@ FirstStands = (file : List ℕ) → Stands (record { file = file; journal = [] }
 -- an edit begins the history anew, with the outside text as the one before it
 abbrev pub outside_state : Contents → Opened → Tool → List ℕ → State
 outside_state c o tool text =
-    record { past = record { number = o.next; tool = tool; text = c.file } ∷ []; present = text; future = [];
-        next = o.next + 1 }
+    record {
+      past = record { number = o.next; tool = tool; text = c.file } ∷ [];
+      present = text;
+      future = [];
+      next = o.next + 1;
+    }
 
 -- nothing is taken back, made again or forgotten, and the history says so; an edit that changes the text begins it anew
 pub record IsNoticed (c : Contents) (o : Opened) : Type 0 where

@@ -1,6 +1,6 @@
 -- A home in memory: what it holds, and which of its calls fail.
-use Rattle.std.specs.Prelude.{◌≡◌, ℕ, ◌+◌, ◌-◌, ◌^◌, ◌≤◌, ◌<◌, min, List, [], ◌∷◌, length, take, Option, Some, None,
-    ◌==◌, if◌then◌else◌}
+use Rattle.std.specs.Prelude.{◌≡◌, ℕ, ◌+◌, ◌-◌, ◌^◌, ◌≤◌, ◌<◌, min, List, [], ◌∷◌, length, take, Option, Some, None}
+use Rattle.std.specs.Prelude.{◌==◌, if◌then◌else◌}
 use Rattle.rec_tools.specs.declared.memory.Failing.{Failing}
 use Rattle.rec_tools.specs.declared.memory.MemoryHome.{MemoryHome}
 use Rattle.rec_tools.specs.Home.{Contents, Write, written, Call, got, lacked, unread, put_all, put_some, left_by}

@@ -1,7 +1,7 @@
 -- What a request comes to on any two contents: its refusals in their order, or what it prints, what it writes, and its
 -- reply.
-use Rattle.std.specs.Prelude.{◌≡◌, ◌≢◌, ◌⊎◌, ℕ, ◌-◌, ◌≤◌, ◌<◌, true, false, List, [], length, Some, None, Result, Ok,
-    Err}
+use Rattle.std.specs.Prelude.{◌≡◌, ◌≢◌, ◌⊎◌, ℕ, ◌-◌, ◌≤◌, ◌<◌, true, false, List, [], length, Some, None, Result, Ok}
+use Rattle.std.specs.Prelude.{Err}
 use Rattle.rec_text.specs.declared.fault.Fault.{Fault}
 use Rattle.rec_text.specs.declared.fault.Fault.TheVariants.{BadPattern, DigestClash, Drifted}
 use Rattle.rec_journal.specs.declared.patch.Direction.{Direction}
@@ -20,8 +20,8 @@ use Rattle.rec_edit.specs.Batch.{IsBatchOutcome}
 use Rattle.rec_check.specs.DescribedTexts.{IsDescribedText}
 use Rattle.rec_tools.specs.declared.request.Request.{Request}
 use Rattle.rec_tools.specs.declared.request.Reply.{Reply}
-use Rattle.rec_tools.specs.declared.request.Reply.TheVariants.{Shown, Edited as EditedReply, Unchanged, Undone, Redone,
-    Forgotten}
+use Rattle.rec_tools.specs.declared.request.Reply.TheVariants.{Shown, Edited as EditedReply, Unchanged, Undone, Redone}
+use Rattle.rec_tools.specs.declared.request.Reply.TheVariants.{Forgotten}
 use Rattle.rec_tools.specs.Home.{Contents, Write, writes_by}
 use Rattle.rec_tools.specs.Steps.{Then}
 use Rattle.rec_tools.specs.Printouts.{Printout, printed_history}
@@ -73,18 +73,19 @@ pub record IsPlanned (o : Opened) (c : Contents) (tool : Tool) (made : Edited) (
 -- digest
 abbrev pub IsEditOutcome : Opened → Contents → Tool → Edited → Result Outcome Fault → Type 0
 IsEditOutcome o c tool made (Ok outcome) =
-    ((made.text ≡ c.file) × (outcome ≡ staying Unchanged))
+    ((made.text ≡ c.file) × (outcome ≡ staying (Unchanged made.chosen)))
     ⊎ ((made.text ≢ c.file)
-    × ((plan : Plan) × IsPlanned o c tool made plan × (outcome ≡ putting plan (EditedReply made.changed))))
+    × ((plan : Plan) × IsPlanned o c tool made plan
+    × (outcome ≡ putting plan (EditedReply made.changed o.next o.dropped))))
 IsEditOutcome o c tool made (Err fault) =
     (made.text ≢ c.file) × (fault ≡ DigestClash) × ShareDigest c.file made.text
 
 -- ---- a move
 
--- the reply to a move by the edit of this number
-abbrev pub reply_of : Direction → ℕ → Reply
-reply_of Backward number = Undone number
-reply_of Forward number = Redone number
+-- the reply to a move by the edit of this number and tool
+abbrev pub reply_of : Direction → ℕ → Tool → Reply
+reply_of Backward number tool = Undone number tool
+reply_of Forward number tool = Redone number tool
 
 -- the plan of a move by the nearest edit that way is put in place, and a stop leaves the history before or the one with
 -- the move
@@ -92,7 +93,7 @@ pub record IsMoveOutcome (direction : Direction) (o : Opened) (c : Contents) (ou
   pub plan : Plan
   pub moves : MovesByNearest direction o c.file c.journal plan
   pub safe : IsSafe c.file c.journal o (after_move direction o c.journal moves.nearest moves.others) plan
-  pub is : outcome ≡ putting plan (reply_of direction moves.nearest.number)
+  pub is : outcome ≡ putting plan (reply_of direction moves.nearest.number moves.nearest.tool)
 
 -- refused as its plan is: where the file has drifted, else where there is no edit that way, else where the nearest
 -- leads nowhere

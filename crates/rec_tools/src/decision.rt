@@ -97,9 +97,15 @@ fn put_edited(
         steps,
         text,
         changed,
+        ..
     } = edited;
     let plan = plan_steps(alloc, history, file, journal, tool, &steps, text)?;
-    Ok(put_plan(plan, Reply::Edited(changed)))
+    let reply = Reply::Edited {
+        changed,
+        number: history.next(),
+        dropped: history.dropped(),
+    };
+    Ok(put_plan(plan, reply))
 }
 
 /// Decides an edit on a file that was hashed and a journal. The elements of the file are let go before the edited text is
@@ -118,7 +124,8 @@ fn decide_on(
     let history = History::load(alloc, file, journal)?;
     let (tool, edited) = made_from(alloc, read, source, force)?;
     if edited.text.as_slice() == file.text() {
-        return Ok(Decision::Stay(Reply::Unchanged));
+        let chosen = edited.chosen;
+        return Ok(Decision::Stay(Reply::Unchanged { chosen }));
     }
     put_edited(alloc, &history, file, journal, tool, edited)
 }
@@ -138,13 +145,13 @@ fn decide_edit(
     decide_on(alloc, &hashed, journal, source, force)
 }
 
-/// The reply to a move by the edit of this number.
-fn reply_of(direction: Direction, number: usize) -> Reply
-    ensures { result ≡ reply_of direction number }
+/// The reply to a move by the edit of this number and tool.
+fn reply_of(direction: Direction, number: usize, tool: Tool) -> Reply
+    ensures { result ≡ reply_of direction number tool }
 {
     match direction {
-        Direction::Forward => Reply::Redone(number),
-        Direction::Backward => Reply::Undone(number),
+        Direction::Forward => Reply::Redone(number, tool),
+        Direction::Backward => Reply::Undone(number, tool),
     }
 }
 
@@ -159,8 +166,8 @@ fn decide_move(
     ensures refusals { IfErr result IsRefusal }
 {
     let history = history_of(alloc, file, journal)?;
-    let MovePlan { plan, number } = plan_move(alloc, direction, &history, file, journal)?;
-    Ok(put_plan(plan, reply_of(direction, number)))
+    let MovePlan { plan, number, tool } = plan_move(alloc, direction, &history, file, journal)?;
+    Ok(put_plan(plan, reply_of(direction, number, tool)))
 }
 
 /// Decides what is forgotten, on a file and a journal.

@@ -162,14 +162,24 @@ pub enum Reply {
     Shown,
     /// The number of violations that were reported.
     Violated(usize),
-    /// The number of records that were changed, of a batch the sum of those of its edits.
-    Edited(usize),
+    /// The text was changed.
+    Edited {
+        /// The number of records that were changed, of a batch the sum of those of its edits.
+        changed: usize,
+        /// The edit's number in the history.
+        number: usize,
+        /// How many edits can't be undone any more, since the file was changed outside after them.
+        dropped: usize,
+    },
     /// The text stays as it is; no event is made.
-    Unchanged,
-    /// The edit of this number was taken back.
-    Undone(usize),
-    /// The edit of this number was made again.
-    Redone(usize),
+    Unchanged {
+        /// The number of records that are selected, where an edit is of a selection; of a batch the sum.
+        chosen: Option<usize>,
+    },
+    /// The edit of this number, by this tool, was taken back.
+    Undone(usize, Tool),
+    /// The edit of this number, by this tool, was made again.
+    Redone(usize, Tool),
     /// The number of edits that were forgotten.
     Forgotten(usize),
 }

@@ -161,6 +161,7 @@ fn check_step(log: &mut Log, step: &EditStep, tool: Tool, at: usize, old: &[u8],
 fn check_made(log: &mut Log, made: &Edited) {
     log.same("the text", made.text.as_slice(), ONE);
     log.equal("the records changed", made.changed, 2);
+    log.holds("the records selected", made.chosen == Some(2));
     let [first, second] = made.steps.as_slice() else {
         return log.holds("two steps", false);
     };

@@ -1,6 +1,6 @@
 -- What a schema says of the records of its text, and the violations of one set after another.
-use Rattle.std.proofs.Common.{◌≡◌, ◌∙◌, ℕ, zero, suc, ◌+◌, ◌-◌, ◌<◌, ◌≤◌, List, [], ◌∷◌, ◌++◌, Option, Some, None, length, length-append, drop, flat_map, get_or, map, take, refl, ap, sym, subst,
-    arith, append_assoc}
+use Rattle.std.proofs.Common.{◌≡◌, ◌∙◌, ℕ, zero, suc, ◌+◌, ◌-◌, ◌<◌, ◌≤◌, List, [], ◌∷◌, ◌++◌, Option, Some, None, length, length-append, drop, flat_map, get_or, map, take, refl, ap, sym, subst}
+use Rattle.std.proofs.Common.{arith, append_assoc}
 use Rattle.std.proofs.lemmas.List.{append-nil, drop_more, get_or-map, length-map, length-replicate, length-take-le, take_all, take_more}
 use Rattle.std.proofs.lemmas.List.Elements.{All-from_recursion, All-get_or}
 use Rattle.std.proofs.lemmas.Option.{none-some}
@@ -70,7 +70,7 @@ module _ (pieces : List Piece) (sets : List Set_) (rules : List StoredRules) (is
       let s : Set_ = get_or sets i d in
       let ruled : IsRuled pieces is.records s (rules_stored (get_or rules i e)) =
       subst (IsRuled pieces is.records s) (get_or-map rules_stored rules i e (rules_stored e) (omega (arith, same_length)))
-          (AllZip-at (IsRuled pieces is.records) sets (map rules_stored rules) i d (rules_stored e) is.rules within) in
+      (AllZip-at (IsRuled pieces is.records) sets (map rules_stored rules) i d (rules_stored e) is.rules within) in
       size_of_ruled pieces is.records s.kind s.head s.members (rules_stored (get_or rules i e)) ruled none
 
   pub set_ordered : (i : ℕ) (d : Set_) → i < length sets → (get_or sets i d).members.start ≤ (get_or sets i d).members.end
@@ -81,13 +81,13 @@ module _ (pieces : List Piece) (sets : List Set_) (rules : List StoredRules) (is
     set_within i d within =
         let same : is.records ≡ records = OneListOfRecords-holds.records pieces is.records records is.are are in
         let total : 0 + length (flat_map named_in sets) ≤ length records =
-            omega (arith, ap length is.sets.joined, length-map is.records (λ own_range. type_of (elements_in pieces own_range)), ap length same) in
+        omega (arith, ap length is.sets.joined, length-map is.records (λ own_range. type_of (elements_in pieces own_range)), ap length same) in
         All-get_or (λ s. s.members.end ≤ length records) sets i d within (All-from_recursion (λ s. s.members.end ≤ length records) sets (sets_within 0 sets (length records) is.sets.places total))
 
     pub records_within : (size : ℕ) → size ≡ length pieces → AreWithin size records
     records_within size is_size =
         AllByRecursion-weaker (IsRecord pieces) (λ own_range. (own_range.start < own_range.end)
-            × (own_range.end ≤ size)) (λ own_range inside. (inside.some, omega (arith, inside.high, inside.is_paragraph.within))) records are.each
+        × (own_range.end ≤ size)) (λ own_range inside. (inside.some, omega (arith, inside.high, inside.is_paragraph.within))) records are.each
 
 -- ---- one set after another
 
@@ -139,7 +139,7 @@ module _ (pieces walked : List Piece) (records : List (Range ℕ)) (sets : List 
       let more_rules : take (place + 1) rules ≡ take place rules ++ asked ∷ [] = take_more rules place asked fits ∙ ap (λ t. take place rules ++ t ∷ []) (sym asked_at) in
       let sized : length (take place sets) ≡ length (take place rules) = omega (arith, length-take-le place sets (omega arith), length-take-le place rules (omega arith)) in
       let all : AreOfSets pieces records (take place sets ++ s ∷ []) (take place rules ++ asked ∷ []) (found ++ own.own) =
-          AreOfSets-push pieces records (take place sets) (take place rules) s asked found own.own sized so_far.are own.are in
+      AreOfSets-push pieces records (take place sets) (take place rules) s asked found own.own sized so_far.are own.are in
       record {
         at = s.members.end;
         from = from_here.1;
@@ -148,15 +148,18 @@ module _ (pieces walked : List Piece) (records : List (Range ℕ)) (sets : List 
         are =
             subst (AreOfSets pieces records (take (place + 1) sets) (take (place + 1) rules)) (sym own.joined)
             (subst (λ l. AreOfSets pieces records l (take (place + 1) rules) (found ++ own.own)) (sym more_sets)
-                (subst (λ l. AreOfSets pieces records (take place sets ++ s ∷ []) l (found ++ own.own)) (sym more_rules) all));
+            (subst (λ l. AreOfSets pieces records (take place sets ++ s ∷ []) l (found ++ own.own)) (sym more_rules) all));
       }
 
 pub all_reported : (pieces walked : List Piece) (records : List (Range ℕ)) (sets : List Set_) (rules : List Rules) (place passed : ℕ) (found : List Violation) → AreRecords pieces records
     → length sets ≤ place → length rules ≤ place
     → IsReported pieces walked records sets rules place passed found → AreViolations pieces (record { sets = sets; rules = rules }) found
-all_reported pieces walked records sets rules place passed found are past ruled so_far =
-    (records, are, subst (λ l. AreOfSets pieces records l rules found) (take_all place sets past)
-        (subst (λ l. AreOfSets pieces records (take place sets) l found) (take_all place rules ruled) so_far.are))
+all_reported pieces walked records sets rules place passed found are past ruled so_far = (
+  records,
+  are,
+  subst (λ l. AreOfSets pieces records l rules found) (take_all place sets past)
+      (subst (λ l. AreOfSets pieces records (take place sets) l found) (take_all place rules ruled) so_far.are),
+)
 
 -- what is answered of a schema's parts is answered of the schema
 pub violations_as : (pieces : List Piece) (sets own : List Set_) (rules asked : List StoredRules) (result : Result (Vec Violation Global) Fault) → sets ≡ own → rules ≡ asked

@@ -207,9 +207,11 @@ same_parts at (Some record_type) (Some other) head top start end from to some mo
     let same = same_count (end - start) (to - from) some more h k rest in
     let heads : head ≡ top = begins.1.0 ∙ sym starts.1.0 in
     let start_is : start ≡ from = omega (arith, begins.1.1, starts.1.1) in
-    let end_is : end ≡ to = omega (arith, begins.0, starts.0, same.0) in
-    (ap (λ t. set_of (Some t) head start end) type_is ∙ ap (λ p. set_of (Some other) p start end) heads ∙ ap (λ n. set_of (Some other) top n end) start_is
-        ∙ ap (set_of (Some other) top from) end_is, same.1)
+    let end_is : end ≡ to = omega (arith, begins.0, starts.0, same.0) in (
+      ap (λ t. set_of (Some t) head start end) type_is ∙ ap (λ p. set_of (Some other) p start end) heads ∙ ap (λ n. set_of (Some other) top n end) start_is
+          ∙ ap (set_of (Some other) top from) end_is,
+      same.1,
+    )
 
 same_first : (at : ℕ) (s t : Set_) (some more : List Named) → is_some s.kind ≡ is_some t.kind → BeginsAt at s → BeginsAt at t → BeginsTyped some → BeginsTyped more
     → named_in s ++ some ≡ named_in t ++ more → (s ≡ t) × (some ≡ more)
@@ -237,7 +239,7 @@ same_typed at (s ∷ sets) [] typed typed_too from starts e =
     absurd (some_named s.kind (replicate (s.members.end - s.members.start) nothing) (flat_map named_in sets) typed.0 (sym e))
 same_typed at (s ∷ sets) (t ∷ others) typed typed_too from starts e =
     let first = same_first at s t (flat_map named_in sets) (flat_map named_in others) (typed.0
-        ∙ sym typed_too.0) from.0 starts.0 (BeginsTyped-named sets typed.1) (BeginsTyped-named others typed_too.1) e in
+    ∙ sym typed_too.0) from.0 starts.0 (BeginsTyped-named sets typed.1) (BeginsTyped-named others typed_too.1) e in
     let begins : AreFrom s.members.end others = subst (λ n. AreFrom n others) (sym (ap (λ u. u.members.end) first.0)) starts.1 in
     ap (λ u. u ∷ sets) first.0 ∙ ap (λ us. t ∷ us) (same_typed s.members.end sets others typed.1 typed_too.1 from.1 begins first.1)
 

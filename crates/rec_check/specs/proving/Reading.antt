@@ -1,7 +1,7 @@
 -- How a record is read: what the fields of a descriptor say so far, what one more adds, and what is answered of the
 -- whole.
-use Rattle.std.specs.Prelude.{◌≡◌, ℕ, ◌<◌, Bool, true, false, List, [], ◌∷◌, ◌++◌, take, map, is_some, slice_get,
-    unwrap_or, Option, Some, None, option_and_then, Result, Ok, Err}
+use Rattle.std.specs.Prelude.{◌≡◌, ℕ, ◌<◌, Bool, true, false, List, [], ◌∷◌, ◌++◌, take, map, is_some, slice_get}
+use Rattle.std.specs.Prelude.{unwrap_or, Option, Some, None, option_and_then, Result, Ok, Err}
 use Rattle.rec_text.specs.declared.element.Element.{Element}
 use Rattle.rec_text.specs.declared.fault.Fault.{Fault}
 use Rattle.rec_text.specs.declared.fault.Fault.TheVariants.{BadDescriptor, Unsupported, BadExpression, BadPattern}
@@ -19,11 +19,13 @@ use Rattle.rec_check.specs.declared.field_types.field_type.Typing.{Typing as Sto
 use Rattle.rec_text.specs.declared.or_memory.OrMemory.{OrMemory}
 use Rattle.rec_check.specs.declared.descriptors.descriptor_fault.DescriptorFault.{DescriptorFault}
 use Rattle.rec_text.specs.declared.or_memory.OrMemory.TheVariants.{Refused, OutOfMemory}
-use Rattle.rec_check.specs.declared.descriptors.descriptor_fault.DescriptorFault.TheVariants.{Bad,
-    Unsupported as NotSupported, Pattern}
+use Rattle.rec_check.specs.declared.descriptors.descriptor_fault.DescriptorFault.TheVariants.{Bad}
+use Rattle.rec_check.specs.declared.descriptors.descriptor_fault.DescriptorFault.TheVariants.{Unsupported as NotSupported}
+use Rattle.rec_check.specs.declared.descriptors.descriptor_fault.DescriptorFault.TheVariants.{Pattern}
 use Rattle.rec_check.specs.declared.descriptors.special.Special.{Special}
-use Rattle.rec_check.specs.declared.descriptors.special.Special.TheVariants.{Rec, Key, Mandatory, Prohibit, Unique,
-    Singular, Allowed, Auto, Typed, Typedef, Size, Constraint, Confidential}
+use Rattle.rec_check.specs.declared.descriptors.special.Special.TheVariants.{Rec, Key, Mandatory, Prohibit, Unique}
+use Rattle.rec_check.specs.declared.descriptors.special.Special.TheVariants.{Singular, Allowed, Auto, Typed, Typedef}
+use Rattle.rec_check.specs.declared.descriptors.special.Special.TheVariants.{Size, Constraint, Confidential}
 use Rattle.rec_check.specs.Descriptors.{Flaw, bad, unsupported, first_word, special_flaw, special_of, type_of, bound_in}
 use Rattle.rec_check.specs.Rules.{Rules, no_rules, AreRules}
 use Rattle.rec_check.specs.Schemas.{Described, FieldMayBeRefused}

@@ -1,6 +1,6 @@
 -- How a script is carried out, part by part: what is done of it and what is left.
-use Rattle.std.specs.Prelude.{◌≡◌, ℕ, ◌+◌, ◌<◌, ◌≤◌, ◌⊎◌, Bool, true, false, not, IsTrue, List, [], ◌∷◌, ◌++◌, length,
-    drop, map, flat_map, Option, Some, None, if◌then◌else◌}
+use Rattle.std.specs.Prelude.{◌≡◌, ℕ, ◌+◌, ◌<◌, ◌≤◌, ◌⊎◌, Bool, true, false, not, IsTrue, List, [], ◌∷◌, ◌++◌, length}
+use Rattle.std.specs.Prelude.{drop, map, flat_map, Option, Some, None, if◌then◌else◌}
 use Rattle.std.specs.List.{AllByRecursion, enumerate_from}
 use Rattle.std.specs.Str.{bytes_eq}
 use Rattle.std.specs.declared.ops.Range.{Range}
@@ -88,7 +88,7 @@ laying layout first pieces = flat_map (λ (i, piece). layout.becomes i (closed p
 abbrev pub laid : Layout → List Piece → Range ℕ → List Piece
 laid layout pieces own_range =
     layout.put own_range.start ++ (laying layout own_range.start (elements_in pieces own_range)
-        ++ layout.put own_range.end)
+    ++ layout.put own_range.end)
 
 -- that is something else than the record, the newline at the end of the text aside
 abbrev pub is_changed : Layout → List Piece → Range ℕ → Bool

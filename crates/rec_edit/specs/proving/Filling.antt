@@ -1,6 +1,6 @@
 -- Automatic fields as they are given: counter by counter, record by record, and set by set.
-use Rattle.std.specs.Prelude.{◌≡◌, ◌==◌, ◌<◌, ℕ, ℤ, Bool, List, [], ◌++◌, length, map, Option, Some, None, Result, Ok,
-    Err, if◌then◌else◌}
+use Rattle.std.specs.Prelude.{◌≡◌, ◌==◌, ◌<◌, ℕ, ℤ, Bool, List, [], ◌++◌, length, map, Option, Some, None, Result, Ok}
+use Rattle.std.specs.Prelude.{Err, if◌then◌else◌}
 use Rattle.std.specs.Borrow.{Bor}
 use Rattle.std.specs.HashSet.{HashSet}
 use Rattle.std.specs.List.{slice_index_or}
@@ -67,7 +67,7 @@ GivesNone schema record_type auto = (pieces : List Piece) (own : List (List ℕ)
 abbrev pub GivesAt : Described → Option (List ℕ) → Bool → ℕ → Type 0
 GivesAt schema record_type auto place = (place < length schema.sets)
     × ((pieces : List Piece) (own : List (List ℕ)) (answer : Result (List Numbered) Fault)
-        → AreLacking pieces schema place own answer → AreAutomatic pieces schema record_type auto own answer)
+    → AreLacking pieces schema place own answer → AreAutomatic pieces schema record_type auto own answer)
 
 -- some are filled, after others
 pub record AddsFilled (answer : Result (List Filled) Fault → Type 0) (old new : List Filled) : Type 0 where

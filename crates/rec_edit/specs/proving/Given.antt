@@ -9,4 +9,4 @@ use Rattle.rec_edit.specs.Automatic.{AreAutomatic}
 abbrev pub IsAutomaticText : List Piece → Described → Option (List ℕ) → Bool → List (List ℕ) → List ℕ → Type 0
 IsAutomaticText pieces schema record_type auto names text =
     (automatic : List Numbered) × AreAutomatic pieces schema record_type auto names (Ok automatic)
-        × (text ≡ text_of (numbered_fields automatic))
+    × (text ≡ text_of (numbered_fields automatic))

@@ -21,7 +21,7 @@ abbrev pub parts_from : ℕ → Layout → List Piece → List Part
 parts_from i layout [] = putting (layout.put i) []
 parts_from i layout (piece ∷ pieces) =
     putting (layout.put i) (changing (layout.tied i) piece (layout.becomes i (closed piece))
-        (parts_from (i + 1) layout pieces))
+    (parts_from (i + 1) layout pieces))
 
 abbrev pub script_of : Layout → List Piece → List Part
 script_of layout pieces = settled (parts_from 0 layout pieces)

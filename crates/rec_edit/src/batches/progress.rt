@@ -1,6 +1,6 @@
 //! What edits made so far, one after another.
 ghost use Rattle.std.specs.Prelude.{◌≡◌, ◌++◌, OnOk};
-ghost use Rattle.rec_edit.specs.Batch.{step_with};
+ghost use Rattle.rec_edit.specs.Batch.{step_with, both_chosen};
 
 use crate::answer::Edited;
 use crate::outcome::Patched;
@@ -9,12 +9,13 @@ use rec_text::Bytes;
 use std::alloc::{AllocError, Global};
 use std::marker::Model;
 
-/// The steps of the edits so far, the text after them, and how many records they changed.
+/// The steps of the edits so far, the text after them, and how many records they changed and selected.
 #[derive(Drop)]
 pub(crate) struct Progress {
     steps: Vec<EditStep>,
     text: Bytes,
     changed: usize,
+    chosen: Option<usize>,
 }
 
 impl Model for Progress {
@@ -22,7 +23,7 @@ impl Model for Progress {
 
     ghost Value = { Edited };
 
-    ghost view = { λ p. record { steps = p.steps.items; text = p.text; changed = p.changed } };
+    ghost view = { λ p. record { steps = p.steps.items; text = p.text; changed = p.changed; chosen = p.chosen } };
 }
 
 /// Appends an edit as a step, if it changes something.
@@ -34,6 +35,17 @@ fn append_step(steps: &mut Vec<EditStep>, tool: Tool, patch: Patch) -> Result<()
     }
     steps.push(EditStep { tool, patch })?;
     Ok(())
+}
+
+/// How many records two edits select, where one of them is of a selection.
+fn both_chosen(one: Option<usize>, other: Option<usize>) -> Option<usize>
+    ensures { result ≡ both_chosen one other }
+{
+    match (one, other) {
+        (Some(one), Some(other)) => Some(one.saturating_add(other)),
+        (Some(one), None) => Some(one),
+        (None, other) => other,
+    }
 }
 
 impl Progress {
@@ -48,6 +60,7 @@ impl Progress {
             steps: Vec::new(alloc),
             text,
             changed: 0,
+            chosen: None,
         }
     }
 
@@ -65,6 +78,7 @@ impl Progress {
         append_step(&mut self.steps, tool, edited.patch)?;
         self.text = edited.text;
         self.changed = self.changed.saturating_add(edited.changed);
+        self.chosen = both_chosen(self.chosen, edited.chosen);
         Ok(())
     }
 
@@ -76,6 +90,7 @@ impl Progress {
             steps: EditSteps::from_vec(self.steps),
             text: self.text,
             changed: self.changed,
+            chosen: self.chosen,
         }
     }
 }

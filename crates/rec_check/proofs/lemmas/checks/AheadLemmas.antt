@@ -79,7 +79,7 @@ module _ (records : List (Range ℕ)) (size passed head : ℕ) (s : Set_) (next 
       let then_is : head + 1 ≡ s.members.start = omega (arith, head_is.0, head_is.1) in
       subst (λ n. AreAscending reached (drop n records)) then_is
       (ahead_past records size head passed reached within head_inside ahead_of_head
-          (λ own_range at low. omega (arith, is, ap (λ (r : Range ℕ). r.start) (at ∙ get_or_default records head own_range d head_inside))))
+      (λ own_range at low. omega (arith, is, ap (λ (r : Range ℕ). r.start) (at ∙ get_or_default records head own_range d head_inside))))
 
 -- ---- the members of a set
 
@@ -97,7 +97,7 @@ module _ (records : List (Range ℕ)) (s : Set_) where
       subst (λ n. AreWithin n (members records s)) (sym is)
       (recursion_from_All (IsInside size) (members records s)
       (All-take (IsInside size) (s.members.end - s.members.start) (drop s.members.start records)
-          (All-drop (IsInside size) s.members.start records (All-from_recursion (IsInside size) records within))))
+      (All-drop (IsInside size) s.members.start records (All-from_recursion (IsInside size) records within))))
 
   pub part_and_rest : (passed : ℕ) → s.members.start ≤ s.members.end → AreAscending passed (drop s.members.start records) → AreAscending passed (members records s ++ drop s.members.end records)
   part_and_rest passed ordered ahead =

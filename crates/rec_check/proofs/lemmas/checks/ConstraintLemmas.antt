@@ -23,8 +23,11 @@ module _ (line : ℕ) (fields : List Piece) where
   unselected_push number [] term own are fails =
       inr (fails, ([], ap (λ l. l ++ violation line Constraint (decimal (number + 0)) ∷ []) are ∙ ap (λ n. violation line Constraint (decimal n) ∷ []) (omega arith), refl))
   unselected_push number (first ∷ terms) term own (inl (selects, are)) fails =
-      inl (selects, let P : ℕ → Type 0 = λ n. AreUnselected line (number + 1) (terms ++ term ∷ []) fields (own ++ violation line Constraint (decimal n) ∷ [])
-          in subst P (omega arith) (unselected_push (number + 1) terms term own are fails))
+      inl (
+        selects,
+        let P : ℕ → Type 0 = λ n. AreUnselected line (number + 1) (terms ++ term ∷ []) fields (own ++ violation line Constraint (decimal n) ∷ [])
+            in subst P (omega arith) (unselected_push (number + 1) terms term own are fails),
+      )
   unselected_push number (first ∷ terms) term own (inr (other, (rest, is, are))) fails =
       inr (
         other,

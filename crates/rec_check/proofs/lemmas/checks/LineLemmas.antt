@@ -32,8 +32,13 @@ module _ (pieces : List Piece) (from more : ℕ) where
 
   place_within : place pieces (from + more) ≤ length (text_of pieces)
   place_within =
-      omega (arith, place_to, ap length text_parts, length-append (text_of (take from pieces)) (between ++ text_of (drop more (drop from pieces))),
-          length-append between (text_of (drop more (drop from pieces))))
+      omega (
+        arith,
+        place_to,
+        ap length text_parts,
+        length-append (text_of (take from pieces)) (between ++ text_of (drop more (drop from pieces))),
+        length-append between (text_of (drop more (drop from pieces))),
+      )
 
   slice_is : take (place pieces (from + more) - place pieces from) (drop (place pieces from) (text_of pieces)) ≡ between
   slice_is =
@@ -66,8 +71,14 @@ module _ (pieces : List Piece) (text : List ℕ) (from to one other : ℕ) (whol
       ap (λ t. take (other - one) (drop one t)) whole ∙ ap (λ n. take (n - one) (drop one (text_of pieces))) (sym to_from)
       ∙ ap (λ n. take (place pieces (from + (to - from)) - n) (drop n (text_of pieces))) one_is ∙ slice_is pieces from (to - from) in
       let whole_to = ap (λ n. text_of (take n pieces)) (sym same_to) ∙ text_to pieces from (to - from) in
-      omega (arith, reached, counted, ap (count_by (λ b. b == 10)) part, ap (count_by (λ b. b == 10)) whole_to,
-          count_by-append (λ b. b == 10) (text_of (take from pieces)) (between pieces from (to - from)))
+      omega (
+        arith,
+        reached,
+        counted,
+        ap (count_by (λ b. b == 10)) part,
+        ap (count_by (λ b. b == 10)) whole_to,
+        count_by-append (λ b. b == 10) (text_of (take from pieces)) (between pieces from (to - from)),
+      )
 
   pub line_inside : line_at pieces to ≤ length text + 1
   line_inside = omega (arith, count_by-le-length (λ b. b == 10) (text_of (take to pieces)), place_inside, other_is)

@@ -60,7 +60,7 @@ distinct-push (first ∷ names) name =
     ap (λ l. first ∷ filter p l) (distinct-push names name) ∙ elim (cases_Bool (bytes_eq name first)) [
       | inl same ↦ ap (λ l. first ∷ l) (filter-without_name p (distinct names) name (is_among names name) (ap not (bytes_eq-sym first name ∙ same))) ∙ rw same refl
       | inr other ↦ ap (λ l. first ∷ l) (filter-with_name p (distinct names) name (is_among names name) (ap not (bytes_eq-sym first name ∙ other)))
-      ∙ rw other (cons-with_name first (filter p (distinct names)) name (is_among names name))
+          ∙ rw other (cons-with_name first (filter p (distinct names)) name (is_among names name))
     ]
 
 distinct-old : (names : List (List ℕ)) (name : List ℕ) → is_among names name ≡ true → distinct (names ++ name ∷ []) ≡ distinct names

@@ -1,6 +1,6 @@
 -- The places of names that pass a test, in a list where each name stands once, and the names at these places.
-use Rattle.std.proofs.Common.{◌≡◌, ◌∙◌, inl, inr, ℕ, zero, suc, ◌+◌, ◌<◌, Bool, true, false, ◌||◌, ◌&&◌, not, cond, List, [], ◌∷◌, ◌++◌, drop, filter, get_or, length, position, take, Option, Some,
-    None, refl, ap, ap₂, sym, arith, append_assoc}
+use Rattle.std.proofs.Common.{◌≡◌, ◌∙◌, inl, inr, ℕ, zero, suc, ◌+◌, ◌<◌, Bool, true, false, ◌||◌, ◌&&◌, not, cond, List, [], ◌∷◌, ◌++◌, drop, filter, get_or, length, position, take, Option, Some}
+use Rattle.std.proofs.Common.{None, refl, ap, ap₂, sym, arith, append_assoc}
 use Rattle.std.proofs.lemmas.Bool.{cases_Bool, false≢true, or_left, or_parts, or_right}
 use Rattle.std.proofs.lemmas.List.{append-nil, length-map, length-take-le, map_more, map_push}
 use Rattle.std.proofs.lemmas.List.Elements.{filter_map-append}

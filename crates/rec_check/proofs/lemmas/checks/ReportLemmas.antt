@@ -19,8 +19,8 @@ use Rattle.rec_check.specs.Checks.{AddsOfRecord, AddsOfRecords, AddsOfSet, AddsU
 use Rattle.rec_text.specs.Records.{elements_in}
 use Rattle.rec_check.specs.Rules.{Rules, field_type}
 use Rattle.rec_check.specs.Types.{FieldType}
-use Rattle.rec_check.specs.Violations.{AreOfRecord, AreOfRecords, AreUnselected, allowed_violations, breaks_key, head_violations, is_allowed, key_violations, line_at, mandatory_violations, members,
-    names_of, prohibit_violations, singular_violations, type_violations, unique_violations, violation, violations_of}
+use Rattle.rec_check.specs.Violations.{AreOfRecord, AreOfRecords, AreUnselected, allowed_violations, breaks_key, head_violations, is_allowed, key_violations, line_at, mandatory_violations, members}
+use Rattle.rec_check.specs.Violations.{names_of, prohibit_violations, singular_violations, type_violations, unique_violations, violation, violations_of}
 use Rattle.rec_check.specs.Words.{distinct}
 use Rattle.rec_check.proofs.lemmas.field_types.FittingLemmas.{misfits-same}
 
@@ -80,10 +80,10 @@ module _ (pieces : List Piece) (rules : Rules) (earlier : List (List Piece)) (ow
       let key = key_added ∙ ap (λ n. old ++ violations_of line Key (filter (breaks_key earlier fields) (option_to_list n))) key_is in
       let mandatory = mandatory_added ∙ ap (λ l. after_key ++ l) (occurrence_violations-same mandatory Present mandatory_names (distinct rules.mandatory) line fields mandatory_is mandatory_are) in
       let prohibited = prohibited_added ∙ ap (λ l. after_mandatory ++ l)
-          (occurrence_violations-same prohibited Absent prohibited_names (distinct rules.prohibited) line fields prohibited_is prohibited_are) in
+      (occurrence_violations-same prohibited Absent prohibited_names (distinct rules.prohibited) line fields prohibited_is prohibited_are) in
       let unique = unique_added ∙ ap (λ l. after_prohibited ++ l) (occurrence_violations-same unique Single unique_names (distinct rules.unique) line fields unique_is unique_are) in
       let allowed = allowed_added ∙ ap (λ l. after_singular ++ violations_of line Allowed l)
-          (filter_agree (λ name. not (allows name)) (λ name. not (is_allowed rules name)) (λ name. ap not (allows_is name)) names) in
+      (filter_agree (λ name. not (allows name)) (λ name. not (is_allowed rules name)) (λ name. ap not (allows_is name)) names) in
       let types_same = type_violations-same pieces (field_type rules) types own_range.start fields types_are ∙ ap (type_violations pieces (field_type rules) own_range.start) fields_are in
       record {
         own = own_of (line_at pieces own_range.start) (elements_in pieces own_range) unselected.own;
@@ -92,9 +92,9 @@ module _ (pieces : List Piece) (rules : Rules) (earlier : List (List Piece)) (ow
             unselected.joined
             ∙ ap (λ l. l ++ unselected.own) (types_added ∙ ap (λ l. after_allowed ++ l) types_same
             ∙ ap (λ l. l ++ type_violations pieces (field_type rules) own_range.start (elements_in pieces own_range)) (allowed
-                ∙ ap (λ l. l ++ allowed_violations rules line fields) (singular_added ∙ ap (λ l. l ++ singular_violations rules line earlier fields)
+            ∙ ap (λ l. l ++ allowed_violations rules line fields) (singular_added ∙ ap (λ l. l ++ singular_violations rules line earlier fields)
             (unique ∙ ap (λ l. l ++ unique_violations rules line fields) (prohibited
-                ∙ ap (λ l. l ++ prohibit_violations rules line fields) (mandatory ∙ ap (λ l. l ++ mandatory_violations rules line fields) key))))))
+            ∙ ap (λ l. l ++ prohibit_violations rules line fields) (mandatory ∙ ap (λ l. l ++ mandatory_violations rules line fields) key))))))
             ∙ regroup old (key_violations rules line earlier fields) (mandatory_violations rules line fields) (prohibit_violations rules line fields) (unique_violations rules line fields)
             (singular_violations rules line earlier fields)
             (allowed_violations rules line fields) (type_violations pieces (field_type rules) own_range.start (elements_in pieces own_range)) unselected.own

@@ -1,6 +1,6 @@
 -- Which of some names a record has, field by field, and which of them break a rule.
-use Rattle.std.proofs.Common.{◌≡◌, ◌∙◌, inl, inr, ℕ, zero, suc, ◌+◌, ◌<◌, Bool, true, false, ◌||◌, ◌&&◌, not, cond, List, [], ◌∷◌, ◌++◌, filter, length, position, take, get_or, Some, None, refl, ap,
-    ap₂, sym, arith}
+use Rattle.std.proofs.Common.{◌≡◌, ◌∙◌, inl, inr, ℕ, zero, suc, ◌+◌, ◌<◌, Bool, true, false, ◌||◌, ◌&&◌, not, cond, List, [], ◌∷◌, ◌++◌, filter, length, position, take, get_or, Some, None, refl, ap}
+use Rattle.std.proofs.Common.{ap₂, sym, arith}
 use Rattle.std.proofs.lemmas.Bool.{cases_Bool, le-leb, ne_eqb, or_left}
 use Rattle.std.proofs.lemmas.List.{map_more}
 use Rattle.std.proofs.lemmas.List.Elements.{filter_agree}

@@ -33,7 +33,7 @@ module _ (pieces : List Piece) (resolved : List ℕ → Bool) (start : ℕ) wher
       → unresolved_violations pieces resolved start (fields ++ field ∷ []) ≡ unresolved_violations pieces resolved start fields ++ option_to_list (unresolved_at (start + length fields, field))
   push fields field =
       ap (filter_map unresolved_at) (enumerate_from-append start fields (field ∷ []))
-          ∙ filter_map-append unresolved_at (enumerate_from start fields) (enumerate_from (start + length fields) (field ∷ []))
+      ∙ filter_map-append unresolved_at (enumerate_from start fields) (enumerate_from (start + length fields) (field ∷ []))
       ∙ ap (λ l. unresolved_violations pieces resolved start fields ++ l) (cons_option-list (unresolved_at (start + length fields, field)))
 
   pub unresolved_more : (fields : List Element) (i : ℕ) (d : Element) (old found more : List Violation) → i < length fields
@@ -47,7 +47,7 @@ module _ (pieces : List Piece) (resolved : List ℕ → Bool) (start : ℕ) wher
       let size : length (pieces_of (take i fields)) ≡ i = omega (arith, length-map (take i fields) piece_of, length-take-le i fields (omega arith)) in
       let grown : unresolved_violations pieces resolved start (pieces_of (take (i + 1) fields)) ≡ before ++ own =
       ap (unresolved_violations pieces resolved start) (map_more piece_of fields i d within) ∙ push (pieces_of (take i fields)) field
-          ∙ ap (λ n. before ++ option_to_list (unresolved_at (start + n, field))) size in
+      ∙ ap (λ n. before ++ option_to_list (unresolved_at (start + n, field))) size in
       added ∙ ap (λ l. l ++ own) so_far ∙ append_assoc old before own ∙ ap (λ l. old ++ l) (sym grown)
 
 -- ---- the descriptor of a set
@@ -59,7 +59,7 @@ module _ (pieces : List Piece) (records : List (Range ℕ)) (rules : Rules) (s :
       let own : List Violation = violation (option_map_or (λ own_range. line_at pieces own_range.start) (option_and_then (slice_get records) s.head) 0) Size (unwrap_or s.kind []) ∷ [] in
       ap₂ ◌++◌ (ap (λ b. if b then own else []) unbroken)
       (ap (λ head. option_map_or (λ own_range. unresolved_violations pieces (resolves rules.definitions) own_range.start (elements_in pieces own_range)) (option_and_then (slice_get records) head) [])
-          none)
+      none)
 
   pub head_violations-at : (head : ℕ) (own_range d : Range ℕ) → s.head ≡ Some head → head < length records → own_range ≡ get_or records head d
       → head_violations pieces records rules s

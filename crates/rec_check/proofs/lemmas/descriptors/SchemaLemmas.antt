@@ -127,12 +127,12 @@ module _ (pieces : List Piece) (count : ℕ) (left : List (Range ℕ)) (old : De
   rules_grow index new asked None here_is typed told sets_grow rules_are = absurd (false≢true typed)
   rules_grow index new asked (Some record_type) here_is typed told sets_grow rules_are =
       let own : record_at pieces (here.done ++ fields ∷ rest) index ≡ elements_in pieces fields =
-          ap (record_at pieces (here.done ++ fields ∷ rest)) (here_is ∙ here.counted) ∙ record_at-following pieces here.done fields rest in
+      ap (record_at pieces (here.done ++ fields ∷ rest)) (here_is ∙ here.counted) ∙ record_at-following pieces here.done fields rest in
       let ruled : AreRules (record_at pieces (here.done ++ fields ∷ rest) index) asked = subst (λ fs. AreRules fs asked) (sym own) told in
       let P : List Set_ → Type 0 = λ sets. AllZip (IsRuled pieces (here.done ++ fields ∷ rest)) sets new.rules in
       let Q : List Rules → Type 0 = λ rules. AllZip (IsRuled pieces (here.done ++ fields ∷ rest)) (with_record old.sets index (Some record_type)) rules in
       subst P (sym sets_grow) (subst Q (sym rules_are) (AllZip-push (IsRuled pieces (here.done ++ fields ∷ rest)) old.sets old.rules
-          (set_of (Some record_type) (Some index) (index + 1) (index + 1)) asked here.rules_are ruled))
+      (set_of (Some record_type) (Some index) (index + 1) (index + 1)) asked here.rules_are ruled))
 
   more_as : (index next : ℕ) (new : Described) (descriptor : Bool) → index ≡ count → next ≡ count + 1 → is_some (type_of (elements_in pieces fields)) ≡ descriptor
       → AddsRecordAs descriptor (record_types old.sets) (elements_in pieces fields) index old new → IsSchemaUpTo pieces next rest new

@@ -11,8 +11,8 @@ use Rattle.rec_check.specs.Descriptors.{DescriptorElement, Flaw, StandsAt, flaw_
 use Rattle.rec_check.specs.proving.Flaws.{ElementIsRead, FieldIsRead, field_flaw, flaw_at}
 use Rattle.rec_check.specs.Schemas.{FieldMayBeRefused, HasFlaw, IsReached, IsReadElement, SchemaMayBeRefused}
 use Rattle.rec_check.proofs.lemmas.SetLemmas.{types_among}
-use Rattle.rec_check.proofs.lemmas.descriptors.FlawLemmas.{field_flaw-here, flaw_at-field, own_descriptor_element, element_within, read-field, read-up_to, slice_get-seam, stands-field,
-    types_named-among}
+use Rattle.rec_check.proofs.lemmas.descriptors.FlawLemmas.{field_flaw-here, flaw_at-field, own_descriptor_element, element_within, read-field, read-up_to, slice_get-seam, stands-field}
+use Rattle.rec_check.proofs.lemmas.descriptors.FlawLemmas.{types_named-among}
 
 -- ---- what is wrong with the element of an index is what is wrong with the one that stands there
 

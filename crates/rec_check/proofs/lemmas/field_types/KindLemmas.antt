@@ -68,7 +68,7 @@ module _ (value name following : List ℕ) (first : words value ≡ name ∷ wor
   pub definition_of-parts : definition_of value ≡ cond (is_plain_name name) (option_map (λ (kind, value_type). record { name = name; kind = kind; value_type = value_type }) (kind_of following)) None
   definition_of-parts =
       ap definition_by first ∙ ap (λ text. cond (is_plain_name name) (option_map (λ (kind, value_type). record { name = name; kind = kind; value_type = value_type }) (kind_of text)) None)
-          (sym following_is)
+      (sym following_is)
 
   pub refused_definition : (refusal : OrMemory DescriptorFault) → is_plain_name name ≡ true → IsKindIn following (Err refusal) → refusal ≡ Refused Pattern → DefinitionMayBeRefused value
   refused_definition (Refused Pattern) plain (kind, pattern, written, refused) is = (

@@ -93,7 +93,7 @@ few_steps zero definitions few kind own value_type (step ∷ steps) leads = let 
 few_steps (suc most) definitions few kind own value_type (step ∷ steps) leads =
     let fewer = length-without kind definitions step leads.1 in
     let following = leads_without definitions kind (length (step ∷ steps)) (λ other end more passes. ap length (same_steps definitions kind other own end value_type more (step ∷ steps) passes leads))
-        step.kind step.value_type value_type steps (omega arith) leads.2 in
+    step.kind step.value_type value_type steps (omega arith) leads.2 in
     let few_after = few_steps most (without kind definitions) (omega arith) step.kind step.value_type value_type steps following in
     omega arith
 

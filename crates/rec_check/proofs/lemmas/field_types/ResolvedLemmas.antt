@@ -1,6 +1,6 @@
 -- How definitions are resolved: what is right so far, and what a way from one to another tells.
-use Rattle.std.proofs.Common.{◌≡◌, ◌∙◌, ◌⊎◌, inl, inr, ℕ, zero, suc, ◌+◌, ◌<◌, ◌≤◌, Bool, true, false, ◌||◌, cond, eqb, eq-eqb, List, [], ◌∷◌, ◌++◌, length, length-append, map, set, get_or, Option,
-    Some, None, refl, ap, sym, subst, arith}
+use Rattle.std.proofs.Common.{◌≡◌, ◌∙◌, ◌⊎◌, inl, inr, ℕ, zero, suc, ◌+◌, ◌<◌, ◌≤◌, Bool, true, false, ◌||◌, cond, eqb, eq-eqb, List, [], ◌∷◌, ◌++◌, length, length-append, map, set, get_or, Option}
+use Rattle.std.proofs.Common.{Some, None, refl, ap, sym, subst, arith}
 use Rattle.std.specs.Prelude.{if◌then◌else◌}
 use Rattle.std.proofs.lemmas.Bool.{cases_Bool, cases_eq, cases_lt, eqb-true, ne_eqb, false≢true}
 use Rattle.std.proofs.lemmas.List.{length-set}
@@ -286,13 +286,13 @@ module _ (definitions : List Definition) where
               let way = work.ahead place among in
               let first : way.0 ≡ definition = same_Some _ _ (sym way.1 ∙ found) in
               let now : Settled (settled_at meanings at) ≡ meaning = same_Some _ _ (sym (settled.each place within
-                  ∙ ap (λ b. cond b (Some (Settled (settled_at meanings at))) (slice_get meanings place)) among) ∙ stands) in
+              ∙ ap (λ b. cond b (Some (Settled (settled_at meanings at))) (slice_get meanings place)) among) ∙ stands) in
               subst (λ (m : Meaning). IsRight definitions definition m) now (end_right way.2.0 way.2.1 ∙ sym way.2.2.same ∙ ap (λ d. meaning_in definitions d.kind d.value_type) first)
           | inr other ↦ elim (work.right place definition meaning found (sym (settled.each place within ∙ ap (λ b. cond b (Some (Settled (settled_at meanings at))) (slice_get meanings place)) other)
               ∙ stands)) [
-            | inl right ↦ right
-            | inr back ↦ absurd (false≢true (sym other ∙ back.0))
-          ]
+                | inl right ↦ right
+                | inr back ↦ absurd (false≢true (sym other ∙ back.0))
+              ]
         ]
 
     pub AreRight-settled : AreRight definitions new
@@ -309,7 +309,7 @@ module _ (definitions : List Definition) where
         let next = slice_get_some definitions at within in
         let known = slice_get_some meanings at (let size = right.size in omega arith) in
         let own_right : IsRight definitions next.0 (Settled (settled_at meanings at)) =
-            subst (λ (m : Meaning). IsRight definitions next.0 m) (sym (settled_type meanings at (closed at) known.0 known.1)) (right.right at next.0 known.0 next.1 known.1) in
+        subst (λ (m : Meaning). IsRight definitions next.0 m) (sym (settled_type meanings at (closed at) known.0 known.1)) (right.right at next.0 known.0 next.1 known.1) in
         own_right ∙ sym (meaning_in-step kind own next.0 unknown (sym (are.finds kind) ∙ ap (option_and_then (slice_get definitions)) is ∙ next.1))
 
     pub meaning_by-is : (kind : List ℕ) (own : MeantType) → (if is_known_kind kind then Some own else option_and_then (λ at. meant (settled_at meanings at)) (place kind))
@@ -445,7 +445,7 @@ pub AreRight-end : (definitions : List Definition) (passed places : List ℕ) (a
     → value_type ≡ settled_at meanings at → places ≡ passed → AreSettledAt places value_type meanings new → AreRight definitions new
 AreRight-end definitions passed places at meanings new value_type work closed type_is same settled =
     AreRight-settled definitions passed at meanings new work closed (subst (λ l. AreSettledAt l (settled_at meanings at) meanings new) same
-        (subst (λ (t : BorrowedType). AreSettledAt places t meanings new) type_is settled))
+    (subst (λ (t : BorrowedType). AreSettledAt places t meanings new) type_is settled))
 
 pub StaySettled-end : (places : List ℕ) (value_type : BorrowedType) (old meanings new : List Meaning) → StaySettled old meanings → AreSettledAt places value_type meanings new → StaySettled old new
 StaySettled-end places value_type old meanings new stay settled = StaySettled-settled places value_type old meanings new stay settled

@@ -24,9 +24,9 @@ use Rattle.rec_check.specs.Descriptors.{meets}
 use Rattle.rec_check.specs.Rules.{Rules, AreSameRules, AreSameTypes, field_type}
 use Rattle.rec_check.specs.Schemas.{Described}
 use Rattle.rec_check.specs.Types.{FieldType, matching, fits}
-use Rattle.rec_check.specs.Violations.{line_at, violation, violations_of, occurrences, breaks_key, breaks_singular, names_of, key_violations, mandatory_violations, prohibit_violations,
-    unique_violations, singular_violations, allowed_violations, type_violations, misfits, size_violations, head_line, members, resolves, unresolved_violations, typedef_violations, head_violations,
-    AreUnselected, AreOfRecord, AreOfRecords, AreOfSet, AreOfSets, OneReport}
+use Rattle.rec_check.specs.Violations.{line_at, violation, violations_of, occurrences, breaks_key, breaks_singular, names_of, key_violations, mandatory_violations, prohibit_violations}
+use Rattle.rec_check.specs.Violations.{unique_violations, singular_violations, allowed_violations, type_violations, misfits, size_violations, head_line, members, resolves, unresolved_violations}
+use Rattle.rec_check.specs.Violations.{typedef_violations, head_violations, AreUnselected, AreOfRecord, AreOfRecords, AreOfSet, AreOfSets, OneReport}
 use Rattle.rec_check.specs.Words.{distinct}
 use Rattle.rec_text.specs.Bytes.{is_among}
 use Rattle.rec_check.proofs.lemmas.laws.SameLemmas.{one_schema}
@@ -135,7 +135,7 @@ module _ (one other : Rules) (same : AreSameRules one other) where
   same_typedefs pieces records s =
       let same_all : resolves one.definitions ≡ resolves other.definitions = fun_ext (same_resolves one.definitions other.definitions same.definitions) in
       ap (λ (resolved : List ℕ → Bool). option_map_or (λ own_range. unresolved_violations pieces resolved own_range.start (elements_in pieces own_range))
-          (option_and_then (slice_get records) s.head) []) same_all
+      (option_and_then (slice_get records) s.head) []) same_all
 
   same_head : (pieces : List Piece) (records : List (Range ℕ)) (s : Set_) → head_violations pieces records one s ≡ head_violations pieces records other s
   same_head pieces records s = ap₂ ◌++◌ (same_size pieces records s) (same_typedefs pieces records s)

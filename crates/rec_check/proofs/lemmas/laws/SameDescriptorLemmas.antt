@@ -1,6 +1,6 @@
 -- Texts with the same descriptors have schemas with the same rules.
-use Rattle.std.proofs.Common.{◌≡◌, ◌∙◌, ℕ, ◌+◌, ◌-◌, true, false, cond, List, [], ◌∷◌, ◌++◌, length, map, take, position, replicate, slice_get, Option, Some, None, refl, ap, ap₂, sym, subst, inl, inr,
-    suc, zero, arith}
+use Rattle.std.proofs.Common.{◌≡◌, ◌∙◌, ℕ, ◌+◌, ◌-◌, true, false, cond, List, [], ◌∷◌, ◌++◌, length, map, take, position, replicate, slice_get, Option, Some, None, refl, ap, ap₂, sym, subst, inl, inr}
+use Rattle.std.proofs.Common.{suc, zero, arith}
 use Rattle.std.proofs.lemmas.Bool.{cases_Bool, false≢true}
 use Rattle.std.proofs.lemmas.List.{append_assoc, append-nil, length_push, map-append}
 use Rattle.std.specs.List.{AllZip, cons_option, flat_map}
@@ -24,8 +24,8 @@ use Rattle.rec_check.proofs.lemmas.descriptors.DescriptorLemmas.{AllZip-push, ea
 use Rattle.rec_check.proofs.lemmas.descriptors.FlawLemmas.{field_flaw-here, own_flaw, stands-field}
 use Rattle.rec_check.proofs.lemmas.descriptors.SchemaLemmas.{IsSchemaUpTo, IsRuled-longer, grown, here, none_there, record_at-following, rules_grow, schema_all, schema_none}
 use Rattle.rec_check.proofs.lemmas.SetLemmas.{AreTyped, Named, filter_map-append, record_types-AreSets, nothing, set_of, some_named, types_among}
-use Rattle.rec_check.proofs.lemmas.laws.SoundLemmas.{AreSound, AreSound-alike, AreSound-all, AreSound-heads, AreSound-push, AreRules-alike, heads, heads_no, heads_yes, new_flaw, new_rules, new_type,
-    types_in, types_in-alike, types_in-heads}
+use Rattle.rec_check.proofs.lemmas.laws.SoundLemmas.{AreSound, AreSound-alike, AreSound-all, AreSound-heads, AreSound-push, AreRules-alike, heads, heads_no, heads_yes, new_flaw, new_rules, new_type}
+use Rattle.rec_check.proofs.lemmas.laws.SoundLemmas.{types_in, types_in-alike, types_in-heads}
 use Rattle.rec_check.proofs.lemmas.TypeLemmas.{list_any-position, position-HaveTypes, no_place}
 
 -- the elements of some records
@@ -222,7 +222,7 @@ module _ (pieces : List Piece) where
             let stays = subst (λ t. AllZip (IsRuled pieces (now.done ++ r ∷ rest)) (with_record old.sets count t) old.rules) (sym (none_there (type_of own) member))
             (IsRuled-longer pieces (now.done ++ r ∷ rest) count old.sets old.rules now.rules_are) in
             completed rest (count + 1) next rules (grown pieces count (r ∷ rest) old r rest refl so_far count (count + 1) next refl refl (λ is. absurd (false≢true (sym member ∙ is))) refl stays)
-                following
+            following
             (subst (λ hs. AllZip AreRules hs rules) (heads_no own (owns_of pieces rest) member) asked)
       ]
 
@@ -270,7 +270,7 @@ new_descriptor pieces others records ranges schema record_type are are_too more 
     let e = parts.1 in
     let named : types_in (owns_of pieces records) ≡ types_in fs = sym (types_in-heads (owns_of pieces records)) ∙ types_in-alike ds fs (sym parts.3) in
     let nowhere = no_place (position (bytes_eq record_type) (types_in (owns_of pieces records)))
-        (sym (position-HaveTypes schema.sets (types_in (owns_of pieces records)) old.given.types_are record_type) ∙ absent) in
+    (sym (position-HaveTypes schema.sets (types_in (owns_of pieces records)) old.given.types_are record_type) ∙ absent) in
     let fresh : is_among (types_in fs) record_type ≡ false = ap (λ ts. is_among ts record_type) (sym named) ∙ list_any-position (bytes_eq record_type) (types_in (owns_of pieces records)) nowhere in
     let prefix = AreSound-alike [] ds fs (sym parts.3) (AreSound-heads [] (owns_of pieces records) old.sound) in
     let sound = subst (AreSound []) (sym parts.2) (AreSound-push [] fs e prefix (new_flaw record_type e parts.4 plain (types_in fs) fresh)) in

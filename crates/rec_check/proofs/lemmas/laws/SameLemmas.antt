@@ -18,8 +18,8 @@ use Rattle.rec_check.specs.proving.Flaws.{flaw_at}
 use Rattle.rec_check.specs.Rules.{Rules, no_rules, AreRules, AreSameRules, AreSameDefinitions, AreSameTypes, AreSameTypings}
 use Rattle.rec_check.specs.Schemas.{Described, IsDescribed, IsReached, IsRuled, IsSchema, HasFlaw, AreSameSchemas, OneSchema}
 use Rattle.rec_check.specs.Sets.{AreSets}
-use Rattle.rec_check.specs.Types.{FieldType, integer, range, line as one_line, size, truth, one_of, matching, unchecked, Definition, Typing, Written, WrittenDefinition, IsDefinition, IsTyping,
-    IsBuilt, definition_of, typing_of}
+use Rattle.rec_check.specs.Types.{FieldType, integer, range, line as one_line, size, truth, one_of, matching, unchecked, Definition, Typing, Written, WrittenDefinition, IsDefinition, IsTyping}
+use Rattle.rec_check.specs.Types.{IsBuilt, definition_of, typing_of}
 use Rattle.rec_check.proofs.lemmas.descriptors.StandsLemmas.{flaw_at-stands}
 use Rattle.rec_check.proofs.lemmas.SetLemmas.{one_list_of_sets}
 
@@ -100,8 +100,19 @@ same_rules fields one other are too = record {
 
 same_as_none : (one other : Rules) → one ≡ no_rules → other ≡ no_rules → AreSameRules one other
 same_as_none one other is too =
-    let none : AreSameRules no_rules no_rules = record { key = refl; mandatory = refl; prohibited = refl; unique = refl; singular = refl; allowed = refl; automatic = refl; types = tt;
-        definitions = tt; size = refl; constraints = tt } in
+    let none : AreSameRules no_rules no_rules = record {
+      key = refl;
+      mandatory = refl;
+      prohibited = refl;
+      unique = refl;
+      singular = refl;
+      allowed = refl;
+      automatic = refl;
+      types = tt;
+      definitions = tt;
+      size = refl;
+      constraints = tt;
+    } in
     subst (λ r. AreSameRules r other) (sym is) (subst (AreSameRules no_rules) (sym too) none)
 
 same_ruled_by : (pieces : List Piece) (records : List (Range ℕ)) (head : Option ℕ) (one other : Rules)

@@ -55,14 +55,14 @@ module _ (definitions others : List Definition) (same : AllZip AreSameDefinition
   same_step most within (Some one) None alike = absurd alike
   same_step most within (Some one) (Some other) alike =
       subst (λ k. AreSameIfAny (meaning_within most definitions one.kind one.value_type) (meaning_within most others k other.value_type)) alike.kind
-          (within one.kind one.value_type other.value_type alike.value_type)
+      (within one.kind one.value_type other.value_type alike.value_type)
 
   same_within : (most : ℕ) → AreSameWithin most
   unfolding AreSameWithin
   same_within zero = λ kind one other alike. IfBoth-if AreSameTypes (is_known_kind kind) one other None None alike tt
   same_within (suc most) = λ kind one other alike.
       IfBoth-if AreSameTypes (is_known_kind kind) one other _ _ alike (same_step most (same_within most) (last_definition definitions kind) (last_definition others kind)
-          (same_last definitions others kind same))
+      (same_last definitions others kind same))
 
   pub same_meaning : (kind : List ℕ) (one other : SomeType) → AreSameTypes one other → AreSameIfAny (meaning_in definitions kind one) (meaning_in others kind other)
   unfolding AreSameWithin meaning_in

@@ -173,8 +173,13 @@ sound (suc (suc (suc (suc (suc (suc (suc (suc i)))))))) =
     flaw_at-outside text records at (after_all records 8 at (lit≤ tt, (lit≤ tt, (lit≤ tt, (lit≤ tt, tt)))) (omega arith))
 
 described : IsSchema text (Ok (record { sets = sets; rules = no_rules ∷ keyed ∷ [] }))
-described = record { records = records; are = records_are; sound = λ i element stands. sym (flaw_at-stands text records i element records_are stands) ∙ sound i; sets = sets_are;
-    rules = (refl, (keyed_are, tt)) }
+described = record {
+  records = records;
+  are = records_are;
+  sound = λ i element stands. sym (flaw_at-stands text records i element records_are stands) ∙ sound i;
+  sets = sets_are;
+  rules = (refl, (keyed_are, tt));
+}
 
 -- a newline at the end and what stands before the descriptor are no matter
 abbrev moved : List Piece
@@ -212,8 +217,22 @@ twice_flaws = refl
 read_before : (i : ℕ) → i < 2 → ElementIsRead twice twice_records i
 read_before zero less = record {
   sound = refl;
-  built = (no_rules, record { key = refl; mandatory = refl; prohibited = refl; unique = refl; singular = refl; allowed = refl; automatic = refl; types = tt; definitions = tt; size = refl;
-      constraints = tt });
+  built = (
+    no_rules,
+    record {
+      key = refl;
+      mandatory = refl;
+      prohibited = refl;
+      unique = refl;
+      singular = refl;
+      allowed = refl;
+      automatic = refl;
+      types = tt;
+      definitions = tt;
+      size = refl;
+      constraints = tt;
+    },
+  );
 }
 read_before (suc zero) less = tt
 read_before (suc (suc i)) less = absurd (omega arith)
@@ -289,6 +308,15 @@ key_is_missing = (
   record { sets = keyless_sets; rules = no_rules ∷ keyed ∷ [] },
   record { joined = refl; well_formed = (refl, (refl, (refl, (refl, tt)))); lines_end = (refl, (refl, (refl, tt))) },
   keyless_described,
-  (keyless_records, keyless_records_are, ([], no_key, ([], refl, refl), (no_key, [], (no_key, (no_key, [], record { unselected = []; are = refl; joined = refl }, refl, refl), refl), refl, refl),
-      refl)),
+  (
+    keyless_records,
+    keyless_records_are,
+    (
+      [],
+      no_key,
+      ([], refl, refl),
+      (no_key, [], (no_key, (no_key, [], record { unselected = []; are = refl; joined = refl }, refl, refl), refl), refl, refl),
+      refl,
+    ),
+  ),
 )

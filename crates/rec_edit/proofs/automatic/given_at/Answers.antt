@@ -26,7 +26,7 @@ returns-clause-given c =
     let numbers = readings pieces (members is.records s) in
     given_at pieces schema c.args.place is.records is.are s is_set rules are_rules own c.give.result c.give.new.counters
     (c.give.ensures.given rules numbers own (subst (AreCounters rules numbers) (sym c.deref_mut.ensures.value)
-        ((rw (elements, same) at c.in_ok-counters.ensures.counters) is.records s rules is.are is_set are_rules)) c.in_ok-names.ensures.names)
+    ((rw (elements, same) at c.in_ok-counters.ensures.counters) is.records s rules is.are is_set are_rules)) c.in_ok-names.ensures.names)
 
 pub returns-clause-refused : goal.returns-clause-refused
 returns-clause-refused c =
@@ -41,4 +41,4 @@ returns-clause-refused c =
     let numbers = readings pieces (members is.records s) in
     refused_at pieces schema c.args.place is.records is.are s is_set rules are_rules own c.give.result
     (c.give.ensures.refused rules numbers own (subst (AreCounters rules numbers) (sym c.deref_mut.ensures.value)
-        ((rw (elements, same) at c.in_ok-counters.ensures.counters) is.records s rules is.are is_set are_rules)) c.in_ok-names.ensures.names)
+    ((rw (elements, same) at c.in_ok-counters.ensures.counters) is.records s rules is.are is_set are_rules)) c.in_ok-names.ensures.names)

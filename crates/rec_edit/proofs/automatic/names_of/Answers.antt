@@ -9,6 +9,6 @@ use Rattle.rec_edit.proofs.automatic.names_of.Goals as goal
 pub loop-pair-preserved : goal.loop-pair-preserved
 loop-pair-preserved c = λ name.
     pair_named c.args.pairs.now c.loop-pair.pair-index c.pair-item.result c.as_slice.result.now name (has_name c.loop-pair.names name) (has_name c.insert.new.self name) c.loop-pair-test.true
-        (c.as_slice.ensures ∙ ap (λ (pair : Pair). pair.name) c.pair-item.is) (c.loop-pair.invariant name)
+    (c.as_slice.ensures ∙ ap (λ (pair : Pair). pair.name) c.pair-item.is) (c.loop-pair.invariant name)
     (has-put (λ one. one.now) c.loop-pair.names c.insert.new.self c.as_slice.result c.in_ok-insert.field-0 c.in_ok-insert.ensures.keys
-        (λ old. not-false _ (sym c.in_ok-insert.ensures.added ∙ old)) name)
+    (λ old. not-false _ (sym c.in_ok-insert.ensures.added ∙ old)) name)

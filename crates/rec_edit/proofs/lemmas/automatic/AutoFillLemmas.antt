@@ -1,6 +1,6 @@
 -- What the filling of all records makes of a text: the records stay, with automatic fields before those that lack them.
-use Rattle.std.proofs.Common.{◌≡◌, ◌∙◌, ◌⊎◌, ℕ, suc, ◌+◌, ◌<◌, ◌≤◌, Bool, true, false, List, [], ◌∷◌, ◌++◌, length, map, take, drop, filter, Option, Some, None, refl, ap, ap₂, sym, subst, inl, inr,
-    arith, zero, ◌==◌, Ok}
+use Rattle.std.proofs.Common.{◌≡◌, ◌∙◌, ◌⊎◌, ℕ, suc, ◌+◌, ◌<◌, ◌≤◌, Bool, true, false, List, [], ◌∷◌, ◌++◌, length, map, take, drop, filter, Option, Some, None, refl, ap, ap₂, sym, subst, inl, inr}
+use Rattle.std.proofs.Common.{arith, zero, ◌==◌, Ok}
 use Rattle.std.specs.Prelude.{is_some, slice_get, if◌then◌else◌}
 use Rattle.std.specs.List.{AllByRecursion, AllZip, enumerate_from, list_any}
 use Rattle.std.specs.declared.ops.Range.{Range}
@@ -29,10 +29,10 @@ use Rattle.rec_text.proofs.lemmas.ListLemmas.{AllByRecursion-weaker, AllByRecurs
 use Rattle.rec_edit.proofs.lemmas.records.ClosedLemmas.{name_of-closed}
 use Rattle.rec_edit.proofs.lemmas.outcomes.EffectLemmas.{closed_owns, elements_part, type_of-closed, map-map, said, said-records}
 use Rattle.rec_edit.proofs.lemmas.layouts.FieldsLaidLemmas.{IsOther}
-use Rattle.rec_edit.proofs.lemmas.automatic.FilledLemmas.{IsPut, LaysNeatly-filling, all_put, filled_are_put, filling_is_read, filling_unchanged, put_is_field, IsFilled, all_from, auto_fill_fills,
-    given_at, names-given}
-use Rattle.rec_edit.proofs.lemmas.records.FitLemmas.{closed-own, list_any-closed, BeginsFrom, all_begin, Cut, Cut-AreRecords, IsOwn, between_fields-own, drop-part, length-part, with_own-some,
-    own_of-records, records_there}
+use Rattle.rec_edit.proofs.lemmas.automatic.FilledLemmas.{IsPut, LaysNeatly-filling, all_put, filled_are_put, filling_is_read, filling_unchanged, put_is_field, IsFilled, all_from, auto_fill_fills}
+use Rattle.rec_edit.proofs.lemmas.automatic.FilledLemmas.{given_at, names-given}
+use Rattle.rec_edit.proofs.lemmas.records.FitLemmas.{closed-own, list_any-closed, BeginsFrom, all_begin, Cut, Cut-AreRecords, IsOwn, between_fields-own, drop-part, length-part, with_own-some}
+use Rattle.rec_edit.proofs.lemmas.records.FitLemmas.{own_of-records, records_there}
 use Rattle.rec_edit.proofs.lemmas.scripts.LaidLemmas.{Ends, LaysNeatly, Ends-laid_from, closed-blank, closed-field, closed-settled, laid_from, map-closed, new_pieces-parts_from, parts_reopen}
 use Rattle.rec_edit.proofs.lemmas.records.TypedRecordLemmas.{Spaced, closes, kept, own_of, own_of-Spaced, with_own, own_of-map}
 use Rattle.rec_check.proofs.lemmas.laws.SameDescriptorLemmas.{same_descriptors as schemas_of_same}

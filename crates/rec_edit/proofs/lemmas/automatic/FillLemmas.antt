@@ -1,6 +1,6 @@
 -- Records that are filled one after another, set by set: their ranges, and where their fields are put.
-use Rattle.std.proofs.Common.{◌≡◌, ◌∙◌, inl, inr, ℕ, ℤ, ◌+◌, ◌<◌, ◌≤◌, List, [], ◌∷◌, ◌++◌, length, drop, get_or, flat_map, Result, Ok, Err, refl, ap, sym, subst, arith, append-nil, append_assoc,
-    Bool, zero, suc, true, cond, eqb, take, Option, None, Some, length-append}
+use Rattle.std.proofs.Common.{◌≡◌, ◌∙◌, inl, inr, ℕ, ℤ, ◌+◌, ◌<◌, ◌≤◌, List, [], ◌∷◌, ◌++◌, length, drop, get_or, flat_map, Result, Ok, Err, refl, ap, sym, subst, arith, append-nil, append_assoc}
+use Rattle.std.proofs.Common.{Bool, zero, suc, true, cond, eqb, take, Option, None, Some, length-append}
 use Rattle.std.proofs.lemmas.List.{drop_more, drop_all, map-append, length-map, length-take-le, get_or-map, take_more}
 use Rattle.std.specs.List.{AllByRecursion}
 use Rattle.std.specs.declared.ops.Range.{Range}
@@ -29,7 +29,7 @@ use Rattle.rec_text.specs.Faults.{IsMemoryOr}
 use Rattle.rec_check.specs.Descriptors.{type_of}
 use Rattle.rec_check.specs.Schemas.{Described, IsDescribed, IsSchema}
 use Rattle.rec_edit.specs.declared.outcome.Patched.{Patched}
-use Rattle.rec_edit.specs.proving.Edits.{IsCarriedOut, laid_script, edit_script, edited_by}
+use Rattle.rec_edit.specs.proving.Edits.{IsCarriedOut, laid_script_for, edit_script_for, edited_by}
 use Rattle.rec_edit.proofs.lemmas.scripts.TiedLemmas.{laid_out}
 use Rattle.rec_edit.proofs.lemmas.outcomes.CountedLemmas.{filling_counted}
 use Rattle.rec_edit.specs.Task.{auto_fill}
@@ -144,7 +144,7 @@ module _ (pieces : List Piece) (records : List (Range ℕ)) (sets : List Set_) (
   all_sets_filled place new past ruled so_far =
       subst (AreFilledSets pieces records sets rules) (ap Ok (append-nil new))
       (so_far.left (Ok []) (subst (λ ss. AreFilledSets pieces records ss (drop place rules) (Ok [])) (sym (drop_all place sets past))
-          (subst (λ rs. AreFilledSets pieces records [] rs (Ok [])) (sym (drop_all place rules ruled)) refl)))
+      (subst (λ rs. AreFilledSets pieces records [] rs (Ok [])) (sym (drop_all place rules ruled)) refl)))
 
 -- ---- their ranges
 
@@ -201,9 +201,9 @@ module _ (pieces : List Piece) (schema : Described) where
       let size : ℕ = length pieces in
       let within : AreWithin size is.records =
       AllByRecursion-weaker (IsRecord pieces) (λ own_range. (own_range.start < own_range.end)
-          × (own_range.end ≤ size)) (λ own_range inside. (inside.some, omega (arith, inside.high, inside.is_paragraph.within))) is.records is.are.each in
+      × (own_range.end ≤ size)) (λ own_range inside. (inside.some, omega (arith, inside.high, inside.is_paragraph.within))) is.records is.are.each in
       let total : 0 + length (flat_map named_in schema.sets) ≤ length is.records =
-          omega (arith, ap length is.sets.joined, length-map is.records (λ own_range. type_of (elements_in pieces own_range))) in
+      omega (arith, ap length is.sets.joined, length-map is.records (λ own_range. type_of (elements_in pieces own_range))) in
       subst (AreRanges size) (sym (ranges-filled_sets pieces is.records schema.sets schema.rules filled are))
       (AreRanges-members size is.records within schema.sets is.sets.places (sets_within 0 schema.sets (length is.records) is.sets.places total) is.are.ascending)
 
@@ -214,12 +214,13 @@ module _ (pieces : List Piece) (schema : Described) where
         (λ refused. inl (fault, (refused.0, refused.1, inl (fault, refused.2, refl)), refl)) is
 
     pub auto_fill-made : (filled taken : List Filled) (given : List (Range ℕ)) (edited : Patched) → IsSchema pieces (Ok schema) → AreAllFilled pieces schema (Ok filled) → taken ≡ filled
-        → given ≡ ranges_of filled → edited ≡ edited_by (laid_script pieces given (filling taken)) → IsCarriedOut pieces schema force auto_fill (Ok edited)
+        → given ≡ ranges_of filled → edited ≡ edited_by (laid_script_for None pieces given (filling taken)) → IsCarriedOut pieces schema force auto_fill (Ok edited)
     auto_fill-made filled taken given edited is_schema are_filled planned same is =
         inr (
-          edit_script pieces (ranges_of filled) (filling filled),
+          edit_script_for None pieces (ranges_of filled) (filling filled),
           (are_filled.0, are_filled.1, inr (filled, are_filled.2, laid_out pieces (ranges_of filled) (filling filled))),
-          ap Ok (is ∙ ap (λ ranges. edited_by (laid_script pieces ranges (filling taken))) same ∙ ap (λ f. edited_by (laid_script pieces (ranges_of filled) (filling f))) planned
+          ap Ok (is ∙ ap (λ ranges. edited_by (laid_script_for None pieces ranges (filling taken))) same
+              ∙ ap (λ f. edited_by (laid_script_for None pieces (ranges_of filled) (filling f))) planned
               ∙ ap edited_by (filling_counted pieces schema are_filled.0 filled is_schema are_filled.1 are_filled.2)),
         )
 
@@ -233,7 +234,7 @@ put filled i = (filling filled).put i
 put-push : (filled : List Filled) (one : Filled) (i : ℕ) → put (filled ++ one ∷ []) i ≡ put filled i ++ cond (eqb one.range.start i) (numbered_fields one.given) []
 put-push filled one i =
     flat_map-append (λ o. cond (eqb o.range.start i) (numbered_fields o.given) []) filled (one ∷ [])
-        ∙ ap (λ l. put filled i ++ l) (append-nil (cond (eqb one.range.start i) (numbered_fields one.given) []))
+    ∙ ap (λ l. put filled i ++ l) (append-nil (cond (eqb one.range.start i) (numbered_fields one.given) []))
 
 put-other : (filled : List Filled) (one : Filled) (i : ℕ) → cond (eqb one.range.start i) (numbered_fields one.given) [] ≡ [] → put (filled ++ one ∷ []) i ≡ put filled i
 put-other filled one i nothing = put-push filled one i ∙ ap (λ l. put filled i ++ l) nothing ∙ append-nil (put filled i)
@@ -283,7 +284,7 @@ module _ (places : List (Option ℕ)) (filled : List Filled) (one : Filled) (so_
     | inl here ↦
         let first : put filled i ≡ [] = ap (put filled) (sym (eqb-true one.range.start i here)) ∙ none_before 0 filled one ascending some in
         let all : put (filled ++ one ∷ []) i ≡ numbered_fields one.given = put-push filled one i ∙ ap (λ l. l ++ cond (eqb one.range.start i) (numbered_fields one.given) []) first
-            ∙ cond-true (eqb one.range.start i) (numbered_fields one.given) [] here in
+        ∙ cond-true (eqb one.range.start i) (numbered_fields one.given) [] here in
         subst (IsPlaced (filled ++ one ∷ []) i) (sym (kept i ∙ cond-true (eqb one.range.start i) (Some (length filled)) (place_at places i) here))
         (omega (arith, length-append filled (one ∷ [])), λ other at. all ∙ ap (λ (o : Filled). numbered_fields o.given) (sym (at ∙ get_or-append_seam filled one [] other)))
     | inr other ↦

@@ -1,6 +1,6 @@
 -- The records that are filled, and the layout of their automatic fields.
-use Rattle.std.proofs.Common.{◌≡◌, ◌∙◌, ℕ, ℤ, suc, ◌+◌, ◌-◌, ◌<◌, ◌≤◌, ◌==◌, min, true, false, not, List, [], ◌∷◌, ◌++◌, length, length-drop, map, drop, Option, Some, None, Result, Ok, refl, ap, ap₂,
-    sym, subst, inl, inr, arith}
+use Rattle.std.proofs.Common.{◌≡◌, ◌∙◌, ℕ, ℤ, suc, ◌+◌, ◌-◌, ◌<◌, ◌≤◌, ◌==◌, min, true, false, not, List, [], ◌∷◌, ◌++◌, length, length-drop, map, drop, Option, Some, None, Result, Ok, refl, ap, ap₂}
+use Rattle.std.proofs.Common.{sym, subst, inl, inr, arith}
 use Rattle.std.specs.Prelude.{◌&&◌, find, flat_map, is_some, nat_le, nat_lt, option_map, slice_get, zip, if◌then◌else◌}
 use Rattle.std.specs.List.{AllByRecursion, AllZip}
 use Rattle.std.specs.Option.{option_map_or}
@@ -322,20 +322,20 @@ module _ (pieces : List Piece) (records : List (Range ℕ)) where
   pub filled_are_put : (one : Filled) → IsFilled pieces records one → AllByRecursion (IsPut pieces one.range) (numbered_fields one.given)
   filled_are_put one is =
       AllByRecursion-map (IsLacked pieces records one.range) (IsPut pieces one.range) (λ given. canonical given.name (signed_decimal given.number))
-          (numbered_is_put one.range is.member) one.given is.lacked
+      (numbered_is_put one.range is.member) one.given is.lacked
 
   module _ (filled : List Filled) (are : AllByRecursion (IsFilled pieces records) filled) where
     put_is_closed : (i : ℕ) → AllByRecursion IsClosed ((filling filled).put i)
     put_is_closed i =
         all_put IsClosed i filled (AllByRecursion-weaker (IsFilled pieces records) (λ one. one.range.start ≡ i → AllByRecursion IsClosed (numbered_fields one.given))
         (λ one is here. numbered_are_closed one.given (AllByRecursion-weaker (IsLacked pieces records one.range) (λ given. is_plain_name given.name ≡ true)
-            (λ given lacked. lacked.0) one.given is.lacked))
+        (λ given lacked. lacked.0) one.given is.lacked))
         filled are)
 
     pub put_is_field : (i : ℕ) → AllByRecursion (λ piece. is_field_piece piece ≡ true) ((filling filled).put i)
     put_is_field i =
         all_put (λ piece. is_field_piece piece ≡ true) i filled (AllByRecursion-weaker (IsFilled pieces records) (λ one. one.range.start ≡ i
-            → AllByRecursion (λ piece. is_field_piece piece ≡ true) (numbered_fields one.given))
+        → AllByRecursion (λ piece. is_field_piece piece ≡ true) (numbered_fields one.given))
         (λ one is here. AllByRecursion-weaker (IsPut pieces one.range) (λ piece. is_field_piece piece ≡ true) (λ piece put. put.field) (numbered_fields one.given) (filled_are_put one is)) filled are)
 
     pub LaysNeatly-filling : LaysNeatly (filling filled)

@@ -1,6 +1,6 @@
 -- Counters that give their next numbers one after another, and the automatic fields that a new record lacks.
-use Rattle.std.proofs.Common.{◌≡◌, ◌∙◌, inl, inr, ℕ, zero, suc, ℤ, ◌+◌, ◌<◌, ◌≤◌, Bool, true, false, ◌||◌, not, cond, List, [], ◌∷◌, ◌++◌, length, take, drop, get_or, set, map, filter, Result, Ok,
-    Err, refl, ap, sym, subst, arith, append_assoc, append-nil, slice_get, Some}
+use Rattle.std.proofs.Common.{◌≡◌, ◌∙◌, inl, inr, ℕ, zero, suc, ℤ, ◌+◌, ◌<◌, ◌≤◌, Bool, true, false, ◌||◌, not, cond, List, [], ◌∷◌, ◌++◌, length, take, drop, get_or, set, map, filter, Result, Ok}
+use Rattle.std.proofs.Common.{Err, refl, ap, sym, subst, arith, append_assoc, append-nil, slice_get, Some}
 use Rattle.std.proofs.lemmas.Bool.{cases_Bool}
 use Rattle.std.proofs.lemmas.List.{drop_more, map-append, map_more, take_more, take_more_set, get_or-map, length-map, drop_all, take_all, take-map, drop-set-lt}
 use Rattle.std.proofs.lemmas.List.Elements.{filter-append}
@@ -133,7 +133,7 @@ module _ (fields : List Element) (i : ℕ) (d : Element) (value : List ℕ) (so_
 numbers_in-push : (given : List Numbered) (one : Numbered) (name : List ℕ) → numbers_in (given ++ one ∷ []) name ≡ numbers_in given name ++ cond (bytes_eq one.name name) (one.number ∷ []) []
 numbers_in-push given one name =
     ap (map (λ (n : Numbered). n.number)) (filter-append (λ n. bytes_eq n.name name) given (one ∷ []))
-        ∙ map-append (λ (n : Numbered). n.number) (filter (λ n. bytes_eq n.name name) given) (filter (λ n. bytes_eq n.name name) (one ∷ []))
+    ∙ map-append (λ (n : Numbered). n.number) (filter (λ n. bytes_eq n.name name) given) (filter (λ n. bytes_eq n.name name) (one ∷ []))
     ∙ ap (λ l. numbers_in given name ++ l) (elim (cases_Bool (bytes_eq one.name name)) [ inl same ↦ rw same refl | inr other ↦ rw other refl ])
 
 numbers_in-other : (given : List Numbered) (one : Numbered) (name : List ℕ) → bytes_eq one.name name ≡ false → numbers_in (given ++ one ∷ []) name ≡ numbers_in given name

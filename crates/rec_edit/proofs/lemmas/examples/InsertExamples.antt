@@ -18,7 +18,7 @@ use Rattle.rec_edit.specs.Rules.{fields_of}
 use Rattle.rec_edit.specs.Insertions.{Numbered, Filled, numbered_fields, filling}
 use Rattle.rec_edit.specs.Automatic.{AreAutomatic, AreFilled, AreFilledSets, lacking}
 use Rattle.rec_edit.specs.Outcome.{EditScript}
-use Rattle.rec_edit.specs.proving.Edits.{edit_script, insert_script}
+use Rattle.rec_edit.specs.proving.Edits.{edit_script_for, insert_script}
 use Rattle.rec_edit.proofs.lemmas.examples.WordingExamples.{elements, records_of, AreRecords-records_of, sets_of, shown, expected, hunk, pair}
 
 -- ---- the place of a new record
@@ -262,12 +262,12 @@ all_are_filled =
       ),
     )
 
-filled_text : shown some_lack (edit_script (elements some_lack) (map (λ one. one.range) filled) (filling filled))
+filled_text : shown some_lack (edit_script_for None (elements some_lack) (map (λ one. one.range) filled) (filling filled))
     ≡ expected (codes "%rec: P\n%auto: Id\n\nId: 5\nN: a\n\nId: 4\n\nId: 6\nN: b\n") 2
 unfolding runs_from narrowed_from digits
 filled_text = refl
 
-filled_hunks : hunks_of (edit_script (elements some_lack) (map (λ one. one.range) filled) (filling filled)).script ≡ hunk 19 [] (codes "Id: 5\n") ∷ hunk 32 [] (codes "Id: 6\n") ∷ []
+filled_hunks : hunks_of (edit_script_for None (elements some_lack) (map (λ one. one.range) filled) (filling filled)).script ≡ hunk 19 [] (codes "Id: 5\n") ∷ hunk 32 [] (codes "Id: 6\n") ∷ []
 unfolding runs_from narrowed_from digits
 filled_hunks = refl
 
@@ -296,6 +296,7 @@ after_negative = inr (
   inr ([], refl, refl),
 )
 
-negative_text : shown negative (edit_script (elements negative) (map (λ one. one.range) filled_negative) (filling filled_negative)) ≡ expected (codes "%rec: P\n%auto: Id\n\nId: -5\n\nId: -4\nN: a") 1
+negative_text : shown negative (edit_script_for None (elements negative) (map (λ one. one.range) filled_negative) (filling filled_negative))
+    ≡ expected (codes "%rec: P\n%auto: Id\n\nId: -5\n\nId: -4\nN: a") 1
 unfolding runs_from narrowed_from digits
 negative_text = refl

@@ -1,6 +1,6 @@
 -- Edits of small texts: the edited texts, and what they mean for the records. Each example computes.
-use Rattle.std.proofs.Common.{ℕ, ◌+◌, ◌==◌, Bool, true, ◌&&◌, List, [], ◌∷◌, length, take, drop, filter_map, slice_get, Option, Some, None, if◌then◌else◌, ◌≡◌, false, inl, inr, map, Ok, Err, refl, ap,
-    arith, lit≤}
+use Rattle.std.proofs.Common.{ℕ, ◌+◌, ◌==◌, Bool, true, ◌&&◌, List, [], ◌∷◌, length, take, drop, filter_map, slice_get, Option, Some, None, if◌then◌else◌, ◌≡◌, false, inl, inr, map, Ok, Err, refl, ap}
+use Rattle.std.proofs.Common.{arith, lit≤}
 use Rattle.std.specs.List.{list_all}
 use Rattle.std.specs.Option.{option_map_or}
 use Rattle.std.specs.Str.{bytes_eq}

@@ -30,16 +30,16 @@ use Rattle.rec_text.proofs.lemmas.ListLemmas.{AllByRecursion-weaker}
 use Rattle.rec_edit.proofs.lemmas.scripts.TiedLemmas.{put_in-is}
 use Rattle.rec_edit.proofs.lemmas.scripts.EqualLemmas.{PutsSome, unchanged_by_some}
 use Rattle.rec_edit.proofs.lemmas.records.FitLemmas.{laid_from-kept, own_of-records, records_there}
-use Rattle.rec_edit.proofs.lemmas.scripts.LaidLemmas.{Ends, Ends-closed, LaysNeatly, closed-ends, closed-settled, laid_from, new_pieces-parts_from, parts_reopen, closed-blank, closed-field,
-    map-closed}
+use Rattle.rec_edit.proofs.lemmas.scripts.LaidLemmas.{Ends, Ends-closed, LaysNeatly, closed-ends, closed-settled, laid_from, new_pieces-parts_from, parts_reopen, closed-blank, closed-field}
+use Rattle.rec_edit.proofs.lemmas.scripts.LaidLemmas.{map-closed}
 use Rattle.rec_edit.proofs.lemmas.layouts.NeatLemmas.{CanStandFor-kept}
 use Rattle.rec_edit.proofs.lemmas.outcomes.OutcomeLemmas.{element_at, one_list_of_elements}
 use Rattle.rec_edit.proofs.lemmas.scripts.WellFormedLemmas.{LaysWell, new_pieces_are_read, IsClosed}
 use Rattle.rec_edit.proofs.lemmas.outcomes.EffectLemmas.{said, closed_owns, elements_part, map-map, said-records, type_of-closed}
 use Rattle.rec_edit.proofs.lemmas.records.TypedRecordLemmas.{type_after-none, own_of-map, own_of}
 use Rattle.rec_edit.proofs.lemmas.records.MemberLemmas.{Named, last_type}
-use Rattle.rec_edit.proofs.lemmas.insertions.NewRecordLemmas.{descriptor, descriptor_says, type_of-descriptor, CanBePutIn, IsOwn-writable, descriptor_is_line, new_record_can_be_put_in,
-    type_of-writable, writable_lines}
+use Rattle.rec_edit.proofs.lemmas.insertions.NewRecordLemmas.{descriptor, descriptor_says, type_of-descriptor, CanBePutIn, IsOwn-writable, descriptor_is_line, new_record_can_be_put_in}
+use Rattle.rec_edit.proofs.lemmas.insertions.NewRecordLemmas.{type_of-writable, writable_lines}
 use Rattle.rec_text.proofs.lemmas.records.RecordLemmas.{one_list_of_records}
 use Rattle.rec_check.proofs.lemmas.laws.SameDescriptorLemmas.{new_descriptor, same_descriptors}
 use Rattle.rec_edit.proofs.lemmas.outcomes.AnswerLemmas.{IsFaithful}
@@ -87,7 +87,7 @@ module _ (insertion : Insertion) (lines : AllByRecursion IsClosed insertion.new)
   laid_around i (piece ∷ prefix) following here =
       let next : insertion.place ≡ i + 1 + length prefix = omega (arith, here) in
       ap (λ put. put ++ (closed piece ∷ ((inserting insertion).put (i + 1) ++ laid_from (inserting insertion) (i + 1) (prefix ++ following))))
-          (put_elsewhere i (λ same. absurd (omega (arith, same, here))))
+      (put_elsewhere i (λ same. absurd (omega (arith, same, here))))
       ∙ ap (λ l. closed piece ∷ l) (laid_around (i + 1) prefix following next)
 
   put_lines : (i : ℕ) → AllByRecursion IsClosed ((inserting insertion).put i)
@@ -181,7 +181,7 @@ said-descriptor : (record_type : List ℕ) (owns : List (List Piece)) → is_pla
 said-descriptor record_type owns named =
     let rest : List (List Piece) = filter (λ own. is_some (type_of own)) owns in
     ap (λ o. map (map says) (if is_some o then (descriptor record_type ∷ []) ∷ rest else rest)) (type_of-descriptor record_type named)
-        ∙ ap (λ first. first ∷ said owns) (descriptor_says record_type named)
+    ∙ ap (λ first. first ∷ said owns) (descriptor_says record_type named)
 
 said-following : (prefix some more : List (List Piece)) (rest : List (List (List ℕ × List ℕ))) → said some ≡ said more ++ rest → said (prefix ++ some) ≡ said (prefix ++ more) ++ rest
 said-following [] some more rest same = same
@@ -196,7 +196,7 @@ pub said-opened : (record_type : List ℕ) (owns : List (List Piece)) (own : Lis
     → said (owns ++ ((descriptor record_type ∷ []) ∷ own ∷ [])) ≡ said owns ++ ((rec_name, record_type) ∷ []) ∷ []
 said-opened record_type owns own named plain =
     said-following owns ((descriptor record_type ∷ []) ∷ own ∷ []) [] (((rec_name, record_type) ∷ []) ∷ []) (said-descriptor record_type (own ∷ []) named
-        ∙ ap (λ ds. ((rec_name, record_type) ∷ []) ∷ ds) (said-none own [] plain))
+    ∙ ap (λ ds. ((rec_name, record_type) ∷ []) ∷ ds) (said-none own [] plain))
     ∙ ap (λ l. said l ++ ((rec_name, record_type) ∷ []) ∷ []) (append-nil owns)
 
 -- ---- a record that is put in: the new elements are those of the edited text, its descriptors are sound, and it is the last of its set
@@ -239,7 +239,7 @@ module _ (pieces : List Piece) (schema : Described) (elements : AreElementsOf pi
     inserted_unchanged : edited_text (script_of (inserting insertion) pieces) ≡ text_of pieces → hunks_of (script_of (inserting insertion) pieces) ≡ []
     inserted_unchanged same =
         unchanged_by_some (inserting insertion) pieces (λ k. refl) (one_list_of_elements (text_of pieces) (edited pieces insertion) pieces
-            (subst (AreElementsOf (edited pieces insertion)) same inserted_is_read) elements)
+        (subst (AreElementsOf (edited pieces insertion)) same inserted_is_read) elements)
         (inserting_puts_some insertion pieces)
 
     -- the records before those that are put in and the ones after, with their newlines
@@ -318,7 +318,7 @@ module _ (pieces : List Piece) (schema : Described) (elements : AreElementsOf pi
       (map-closed fields (lines_end fields lines)) in
       let more : descriptors new (ranges new) ≡ descriptors pieces records ++ ((rec_name, record_type) ∷ []) ∷ [] =
       said_after insertion to.lines ∙ ap said after ∙ said-opened record_type owns.prefix fields can.plain plain
-          ∙ ap (λ l. l ++ ((rec_name, record_type) ∷ []) ∷ []) (sym (said_before ∙ ap said before)) in
+      ∙ ap (λ l. l ++ ((rec_name, record_type) ∷ []) ∷ []) (sym (said_before ∙ ap said before)) in
       let answer = new_descriptor pieces new records (ranges new) schema record_type are (records_there new).1 more can.plain (position-none (is_of_type record_type) schema.sets to.absent) is in
       record {
         lines = to.lines;
@@ -355,7 +355,7 @@ module _ (pieces : List Piece) (schema : Described) (elements : AreElementsOf pi
     fields_put = numbered_fields automatic ++ fields_of pairs
 
     insertion_is_faithful : (insertion : Insertion) → Inserts record_type fields_put insertion
-        → IsFaithful pieces schema (insert record_type fresh auto) (record { script = script_of (inserting insertion) pieces; changed = 1 })
+        → IsFaithful pieces schema (insert record_type fresh auto) (record { script = script_of (inserting insertion) pieces; changed = 1; chosen = None })
     insertion_is_faithful insertion done = record {
       layout = inserting insertion;
       is = refl;

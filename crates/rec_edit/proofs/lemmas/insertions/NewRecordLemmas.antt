@@ -1,6 +1,6 @@
 -- The fields of a new record, the automatic ones too: they can be written, and each record is one of its own.
-use Rattle.std.proofs.Common.{◌≡◌, ℕ, zero, suc, ℤ, pos, negsuc, ◌+◌, ◌<◌, ◌≤◌, ◌/◌, ◌%◌, Bool, true, false, not, ◌==◌, List, [], ◌∷◌, ◌++◌, map, Option, Some, None, Result, Ok, refl, sym, subst, inl,
-    inr, arith, ◌∙◌, length, ap}
+use Rattle.std.proofs.Common.{◌≡◌, ℕ, zero, suc, ℤ, pos, negsuc, ◌+◌, ◌<◌, ◌≤◌, ◌/◌, ◌%◌, Bool, true, false, not, ◌==◌, List, [], ◌∷◌, ◌++◌, map, Option, Some, None, Result, Ok, refl, sym, subst, inl}
+use Rattle.std.proofs.Common.{inr, arith, ◌∙◌, length, ap}
 use Rattle.std.specs.Prelude.{codes, flat_map, nat_lt, position, slice_get, filter, option_to_list}
 use Rattle.std.specs.List.{AllByRecursion, AllZip, cons_option, list_all, list_any}
 use Rattle.std.specs.Str.{bytes_eq}
@@ -169,7 +169,7 @@ digits_are_ordinary (suc k) n following all =
     let glyph : ℕ = digit_glyph false (n % 10) in
     let here : AllByRecursion IsOrdinary (glyph ∷ following) = (glyph_is_ordinary (n % 10) (omega arith), all) in
     cond_both (n / 10 == 0) (glyph ∷ following) (digits_onto k 10 false (n / 10) (glyph ∷ following)) (AllByRecursion IsOrdinary) (λ _. here)
-        (λ _. digits_are_ordinary k (n / 10) (glyph ∷ following) here)
+    (λ _. digits_are_ordinary k (n / 10) (glyph ∷ following) here)
 
 decimal_is_ordinary : (n : ℕ) → AllByRecursion IsOrdinary (decimal n)
 unfolding digits

@@ -1,6 +1,6 @@
 -- Where a new record is put in: as the last record of its set, or after a new descriptor at the end.
-use Rattle.std.proofs.Common.{◌≡◌, ◌∙◌, suc, ◌-◌, Bool, true, false, not, List, [], ◌∷◌, ◌++◌, ◌⊎◌, length, take, drop, refl, ap, ap₂, sym, inl, inr, arith, ℕ, zero, ◌+◌, ◌<◌, ◌≤◌, Some, map, subst,
-    Option, None}
+use Rattle.std.proofs.Common.{◌≡◌, ◌∙◌, suc, ◌-◌, Bool, true, false, not, List, [], ◌∷◌, ◌++◌, ◌⊎◌, length, take, drop, refl, ap, ap₂, sym, inl, inr, arith, ℕ, zero, ◌+◌, ◌<◌, ◌≤◌, Some, map, subst}
+use Rattle.std.proofs.Common.{Option, None}
 use Rattle.std.specs.Prelude.{reverse, slice_get, if◌then◌else◌, find, flat_map, nat_lt, option_and_then}
 use Rattle.std.specs.List.{list_any, prefix_len, AllByRecursion}
 use Rattle.std.proofs.Math.Numerals.{one-add}

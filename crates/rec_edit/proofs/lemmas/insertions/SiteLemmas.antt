@@ -1,6 +1,6 @@
 -- Where a new record is put, and what stands there before and after it.
-use Rattle.std.proofs.Common.{◌≡◌, ◌∙◌, ℕ, ◌+◌, ◌-◌, ◌≤◌, List, [], ◌∷◌, ◌++◌, Option, Some, None, length, map, reverse, take, drop, refl, ap, sym, inl, inr, arith, length-drop, subst, append_assoc,
-    append-nil, true, eqb, if◌then◌else◌, Bool, Ok, Err}
+use Rattle.std.proofs.Common.{◌≡◌, ◌∙◌, ℕ, ◌+◌, ◌-◌, ◌≤◌, List, [], ◌∷◌, ◌++◌, Option, Some, None, length, map, reverse, take, drop, refl, ap, sym, inl, inr, arith, length-drop, subst, append_assoc}
+use Rattle.std.proofs.Common.{append-nil, true, eqb, if◌then◌else◌, Bool, Ok, Err}
 use Rattle.std.specs.Prelude.{find, position, slice_get, option_and_then, ◌⊎◌}
 use Rattle.std.specs.List.{position_or_len, prefix_len}
 use Rattle.std.specs.Option.{option_map_or}
@@ -18,8 +18,8 @@ use Rattle.rec_text.specs.Elements.{Piece, text_of}
 use Rattle.rec_text.specs.Places.{piece_of, pieces_of}
 use Rattle.rec_check.specs.declared.set.Set_.{Set_}
 use Rattle.rec_check.specs.Sets.{is_of_type}
-use Rattle.rec_edit.specs.Insertions.{Insertion, is_full, paragraph_start, paragraph_end, after_paragraph, before_paragraph, last_of, range_of, at_end, untyped_insertion, insertion_for, inserting,
-    Numbered, numbered_fields}
+use Rattle.rec_edit.specs.Insertions.{Insertion, is_full, paragraph_start, paragraph_end, after_paragraph, before_paragraph, last_of, range_of, at_end, untyped_insertion, insertion_for, inserting}
+use Rattle.rec_edit.specs.Insertions.{Numbered, numbered_fields}
 use Rattle.rec_text.specs.Records.{AreRecords}
 use Rattle.rec_edit.specs.declared.insertion.site.Gap.{Gap}
 use Rattle.rec_edit.specs.declared.insertion.site.Gap.TheVariants.{Absent, Before, After}
@@ -274,10 +274,10 @@ module _ (place : ℕ) (new more : List Piece) (same : PutAlike new more) where
       subst P (sym (parts_from-cons i one piece pieces refl)) (subst Q (sym (parts_from-cons i other piece pieces refl)) all)
 
   same_insertion : (pieces : List Piece) (changed : ℕ)
-      → edited_by (record { script = script_of one pieces; changed = changed }) ≡ edited_by (record { script = script_of other pieces; changed = changed })
+      → edited_by (record { script = script_of one pieces; changed = changed; chosen = None }) ≡ edited_by (record { script = script_of other pieces; changed = changed; chosen = None })
   same_insertion pieces changed =
       let alike = settled_alike (parts_from 0 one pieces) (parts_from 0 other pieces) (parts_alike 0 pieces) in
-      let made : List Hunk → List ℕ → Patched = λ hunks text. record { patch = hunks; text = text; changed = changed } in
+      let made : List Hunk → List ℕ → Patched = λ hunks text. record { patch = hunks; text = text; changed = changed; chosen = None } in
       ap (λ hunks. made (real_changes (merged hunks)) (edited_text (script_of one pieces))) (same_changes 0 (script_of one pieces) (script_of other pieces) alike)
       ∙ ap (made (hunks_of (script_of other pieces))) (same_edited (script_of one pieces) (script_of other pieces) alike)
 
@@ -321,9 +321,10 @@ LaysLines-in_one place text new ended is = record {
 
 -- it is the same edit
 pub put_in_one : (pieces : List Piece) (place : ℕ) (text : List ℕ) (insertion : Insertion) (changed : ℕ) → AreEnded insertion.new → IsPut place text insertion
-    → edited_by (record { script = script_of (inserting (in_one place text)) pieces; changed = changed }) ≡ edited_by (record { script = script_of (inserting insertion) pieces; changed = changed })
+    → edited_by (record { script = script_of (inserting (in_one place text)) pieces; changed = changed; chosen = None })
+    ≡ edited_by (record { script = script_of (inserting insertion) pieces; changed = changed; chosen = None })
 put_in_one pieces place text insertion changed ended is =
-    let made : ℕ → Patched = λ at. edited_by (record { script = script_of (inserting (in_one at text)) pieces; changed = changed }) in
+    let made : ℕ → Patched = λ at. edited_by (record { script = script_of (inserting (in_one at text)) pieces; changed = changed; chosen = None }) in
     ap made is.same_place ∙ same_insertion insertion.place (block text) insertion.new (block-alike text insertion.new ended is.same_text) pieces changed
 
 -- ---- the edit that puts a new record in, and its refusals
@@ -395,7 +396,7 @@ module _ (pieces : List Piece) (schema : Described) (record_type : Option (List 
       pub LaysLines-insert : LaysLines (inserting (in_one place text))
       LaysLines-insert = LaysLines-in_one place text (insertion_for pieces put.records schema.sets record_type fields).new ended is_put.same_text
 
-      pub insert-made : (force : Bool) (edited : Patched) → edited ≡ edited_by (record { script = script_of (inserting (in_one place text)) pieces; changed = 1 })
+      pub insert-made : (force : Bool) (edited : Patched) → edited ≡ edited_by (record { script = script_of (inserting (in_one place text)) pieces; changed = 1; chosen = None })
           → IsCarriedOut pieces schema force (insert record_type fresh auto) (Ok edited)
       insert-made force edited is =
           inr (

@@ -1,6 +1,6 @@
 -- Records whose listed fields are edited, and which get more fields.
-use Rattle.std.proofs.Common.{◌≡◌, ◌∙◌, ℕ, suc, ◌+◌, ◌-◌, ◌<◌, ◌≤◌, Bool, true, false, IsTrue, ◌==◌, ◌&&◌, ◌||◌, List, [], ◌∷◌, ◌++◌, Option, Some, None, length, map, filter, take, drop, refl, ap,
-    ap₂, sym, subst, inl, inr, arith}
+use Rattle.std.proofs.Common.{◌≡◌, ◌∙◌, ℕ, suc, ◌+◌, ◌-◌, ◌<◌, ◌≤◌, Bool, true, false, IsTrue, ◌==◌, ◌&&◌, ◌||◌, List, [], ◌∷◌, ◌++◌, Option, Some, None, length, map, filter, take, drop, refl, ap}
+use Rattle.std.proofs.Common.{ap₂, sym, subst, inl, inr, arith}
 use Rattle.std.specs.List.{AllByRecursion, list_all, list_any, enumerate_from}
 use Rattle.std.specs.Prelude.{filter_map, flat_map, slice_get, if◌then◌else◌}
 use Rattle.std.specs.Option.{option_map, option_map_or}
@@ -339,10 +339,10 @@ module _ (action : Action) (items : List Item) (pieces : List Piece) (selected :
         laid_from-fails test (set_of action items pieces selected records) IsFine r.start (elements_in pieces r) all
         (λ k piece low high fine.
         if_both test (is_picked items pieces (filter_map (slice_get records) selected) k) (picked_becomes action (closed piece)) (closed piece ∷ []) (picked piece fine)
-            (alone_fails test (closed piece) (kept_all piece fine)))
+        (alone_fails test (closed piece) (kept_all piece fine)))
         (λ k low high.
         flat_map_fails test (put_in action items pieces (k + 1)) (filter_map (slice_get records) selected)
-            (λ q. if_both test (q.end == k + 1) (added action items (elements_in pieces q)) [] (put (elements_in pieces q)) refl))
+        (λ q. if_both test (q.end == k + 1) (added action items (elements_in pieces q)) [] (put (elements_in pieces q)) refl))
 
     set_changes : AllByRecursion IsElement (elements_in pieces r) → list_any (λ k. k == length before) selected ≡ true
         → laid_at pieces (set_of action items pieces selected records) selected (with_fields action items) r ≡ with_fields action items (map closed (elements_in pieces r))
@@ -355,7 +355,7 @@ module _ (action : Action) (items : List Item) (pieces : List Piece) (selected :
         let self : (r.end == r.end) ≡ true = grind (arith, nat_tests) in
         ap (λ n. laid_from layout n own) start
         ∙ laid_as layout (λ j piece. if list_any (λ place. place == j) (picks items (map closed own)) then picked_becomes action piece
-            else piece ∷ []) (added action items (map closed own)) r.start 0 own (omega (arith, stands.some))
+        else piece ∷ []) (added action items (map closed own)) r.start 0 own (omega (arith, stands.some))
         (λ j piece low high.
         ap (λ b. if b then picked_becomes action piece else piece ∷ []) (
         picked_inside (r.start + j) (omega arith) (omega (arith, stands.some))
@@ -372,7 +372,7 @@ module _ (action : Action) (items : List Item) (pieces : List Piece) (selected :
 
   pub IsInner-setting : AreOnce selected → IsPlainAction action → ArePlainItems items → ((r : Range ℕ) → AllByRecursion IsElement (elements_in pieces r))
       → ((before : List (Range ℕ)) (r : Range ℕ) (following : List (Range ℕ)) → records ≡ before ++ r ∷ following → list_any (λ k. k == length before) selected ≡ true
-          → list_any (has_name rec_name) (elements_in pieces r) ≡ false)
+      → list_any (has_name rec_name) (elements_in pieces r) ≡ false)
       → IsInner pieces (set_of action items pieces selected records) selected (with_fields action items) records
   IsInner-setting once plain names elements unnamed = record {
     outside = set_outside;

@@ -1,6 +1,6 @@
 -- The layouts of records and fields make well-formed elements that end in newlines.
-use Rattle.std.proofs.Common.{◌≡◌, ◌∙◌, ℕ, suc, ◌+◌, ◌<◌, Bool, true, ◌&&◌, ◌==◌, leb, ltb, List, [], ◌∷◌, ◌++◌, map, take, drop, Option, Some, None, refl, sym, ap, subst, inl, inr, arith, filter,
-    zero, false, IsTrue, length}
+use Rattle.std.proofs.Common.{◌≡◌, ◌∙◌, ℕ, suc, ◌+◌, ◌<◌, Bool, true, ◌&&◌, ◌==◌, leb, ltb, List, [], ◌∷◌, ◌++◌, map, take, drop, Option, Some, None, refl, sym, ap, subst, inl, inr, arith, filter}
+use Rattle.std.proofs.Common.{zero, false, IsTrue, length}
 use Rattle.std.specs.List.{AllByRecursion, list_all, list_any, slice_get}
 use Rattle.std.specs.Prelude.{flat_map, if◌then◌else◌}
 use Rattle.std.specs.Str.{bytes_eq}
@@ -25,8 +25,8 @@ use Rattle.rec_edit.specs.Wording.{names_of_action, values_of_action}
 use Rattle.rec_text.specs.Bytes.{continues_name, ends_newline, is_letter}
 use Rattle.rec_text.specs.Values.{on_first}
 use Rattle.rec_text.proofs.lemmas.ListLemmas.{AllByRecursion-weaker, AllByRecursion-prefix, AllByRecursion-following, slice_get-drop, slice_get-take, same_bytes, AllByRecursion-append}
-use Rattle.rec_edit.proofs.lemmas.scripts.WellFormedLemmas.{IsClosed, IsClosed-closed, bare-closed, commented_are_closed, commented_are_bare, canonical_is_closed, canonical_is_bare, renamed_is_closed,
-    renamed_is_bare, name_of-closed, kind-closed, AllByRecursion-map, CanStandFor}
+use Rattle.rec_edit.proofs.lemmas.scripts.WellFormedLemmas.{IsClosed, IsClosed-closed, bare-closed, commented_are_closed, commented_are_bare, canonical_is_closed, canonical_is_bare, renamed_is_closed}
+use Rattle.rec_edit.proofs.lemmas.scripts.WellFormedLemmas.{renamed_is_bare, name_of-closed, kind-closed, AllByRecursion-map, CanStandFor}
 use Rattle.rec_text.proofs.lemmas.elements.NameLemmas.{IsBelow, colon_of_is_below}
 use Rattle.rec_text.proofs.lemmas.values.ValueLemmas.{passes_apart}
 use Rattle.rec_edit.proofs.lemmas.scripts.LaidLemmas.{Ends, Neat, LaysNeatly, closed-neat, ends_newline-push}
@@ -87,7 +87,7 @@ places_are_named : (i : ℕ) (name : List ℕ) (own : List Piece) → AllByRecur
 places_are_named i name [] = tt
 places_are_named i name (field ∷ own) =
     let more = AllByRecursion-weaker (HasNameFrom (i + 1) name own) (HasNameFrom i name (field ∷ own)) (HasNameFrom-later i name field own) (places_from (i + 1) name own)
-        (places_are_named (i + 1) name own) in
+    (places_are_named (i + 1) name own) in
     cond_both (bytes_eq (name_of field) name) (i ∷ places_from (i + 1) name own) (places_from (i + 1) name own) (AllByRecursion (HasNameFrom i name (field ∷ own)))
     (λ named. (HasNameFrom-first i name field own named, more)) (λ _. more)
 
@@ -315,9 +315,11 @@ renamed_ends name piece ends =
     ap ends_newline (renamed_parts name piece prefix.0 prefix.1) ∙ ends_newline-push (name ++ drop (length (name_of piece)) prefix.0)
 
 renamed_neat : (name : List ℕ) (piece : Piece) → is_plain_name name ≡ true → Neat piece → Neat (renamed name piece)
-renamed_neat name piece plain (prefix, is, shut) =
-    (name ++ drop (length (name_of piece)) prefix, renamed_parts name piece prefix is,
-        open_append name (drop (length (name_of piece)) prefix) (plain_open name plain) (open_drop (length (name_of piece)) prefix shut))
+renamed_neat name piece plain (prefix, is, shut) = (
+  name ++ drop (length (name_of piece)) prefix,
+  renamed_parts name piece prefix is,
+  open_append name (drop (length (name_of piece)) prefix) (plain_open name plain) (open_drop (length (name_of piece)) prefix shut),
+)
 
 -- ---- the layouts
 
@@ -371,7 +373,7 @@ put_neat : (action : Action) (items : List Item) (pieces : List Piece) (i : ℕ)
 put_neat action items pieces i [] = tt
 put_neat action items pieces i (r ∷ chosen) =
     AllByRecursion-append Neat (if r.end == i then added action items (elements_in pieces r)
-        else []) (flat_map (λ own_range. if own_range.end == i then added action items (elements_in pieces own_range) else []) chosen)
+    else []) (flat_map (λ own_range. if own_range.end == i then added action items (elements_in pieces own_range) else []) chosen)
     (if_added (r.end == i) (added action items (elements_in pieces r)) (added_neat action items (elements_in pieces r))) (put_neat action items pieces i chosen)
 
 pub LaysNeatly-deletion : (pieces : List Piece) (chosen : List (Range ℕ)) → LaysNeatly (deletion pieces chosen)

@@ -21,8 +21,8 @@ use Rattle.rec_text.proofs.lemmas.ListLemmas.{AllByRecursion-weaker, AllByRecurs
 use Rattle.rec_edit.proofs.lemmas.records.MemberLemmas.{holds_index-in, selected_plain}
 use Rattle.rec_edit.proofs.lemmas.layouts.NeatLemmas.{found}
 use Rattle.rec_edit.proofs.lemmas.records.FitLemmas.{blank_or_full, full_no_blank, Cut-AreRecords, Fits-inner}
-use Rattle.rec_edit.proofs.lemmas.layouts.ReplacementLemmas.{begins_at, CanBeWritten, IsInner-replacement, fields_full, pairs_can_be_written, replacement_lays_neatly, replacement_lays_well, HasBlank,
-    ReplacesOwn, are_spaced, script_is_apart}
+use Rattle.rec_edit.proofs.lemmas.layouts.ReplacementLemmas.{begins_at, CanBeWritten, IsInner-replacement, fields_full, pairs_can_be_written, replacement_lays_neatly, replacement_lays_well, HasBlank}
+use Rattle.rec_edit.proofs.lemmas.layouts.ReplacementLemmas.{ReplacesOwn, are_spaced, script_is_apart}
 use Rattle.rec_edit.proofs.lemmas.outcomes.OutcomeLemmas.{one_list_of_elements, written_by}
 use Rattle.rec_edit.proofs.lemmas.outcomes.EffectLemmas.{AreMeant, IsDone, chosen_meant, done_keeps_sets, effect_of_done, laid_gives_way}
 use Rattle.rec_edit.proofs.lemmas.outcomes.AnswerLemmas.{IsFaithful}
@@ -217,7 +217,7 @@ replacement_is_done pieces schema wanted fresh pairs chosen is all pairs_are wri
           (selected_plain pieces schema wanted.record_type wanted.filter selected records is meant.are meant.selects)
           (closed-tied (replacement (fields_of pairs) chosen_are) pieces (replacement_lays_neatly pairs chosen_are written) all)
           (Fits-inner pieces (replacement (fields_of pairs) chosen_are) selected (λ own. fields_of pairs) records (IsInner-replacement pairs pieces selected records written)
-              (Cut-AreRecords pieces records meant.are));
+          (Cut-AreRecords pieces records meant.are));
       leads = λ before after same. (selected, pairs, meant.selects, pairs_are, same);
     } in
     subst (λ c. IsDone pieces schema (replace wanted fresh) (script_of (replacement (fields_of pairs) c) pieces)) (sym meant.chosen_are) done

@@ -17,8 +17,8 @@ use Rattle.rec_edit.specs.Task.{Pair}
 use Rattle.rec_edit.specs.Rules.{canonical, fields_of, is_own, replacement}
 use Rattle.rec_edit.specs.Effect.{between_fields}
 use Rattle.rec_text.proofs.lemmas.reading.CutLemmas.{element_is_some}
-use Rattle.rec_edit.proofs.lemmas.scripts.WellFormedLemmas.{bare-closed, lacks_newline-ends, IsClosed, IsBare, IsClosed-closed, canonical_is_closed, canonical_is_bare, AllByRecursion-map,
-    changing-untied}
+use Rattle.rec_edit.proofs.lemmas.scripts.WellFormedLemmas.{bare-closed, lacks_newline-ends, IsClosed, IsBare, IsClosed-closed, canonical_is_closed, canonical_is_bare, AllByRecursion-map}
+use Rattle.rec_edit.proofs.lemmas.scripts.WellFormedLemmas.{changing-untied}
 use Rattle.rec_edit.proofs.lemmas.scripts.LaidLemmas.{Ends, closed-ends, Neat, Ends-closed, Neat-closed, closed-neat, laid_from}
 use Rattle.rec_edit.proofs.lemmas.scripts.EqualLemmas.{PutsNone, parts_from-none, parts_from-end, LaysTied, IsFullPart, ChangeApart}
 use Rattle.rec_text.proofs.lemmas.ListLemmas.{AllByRecursion-weaker}

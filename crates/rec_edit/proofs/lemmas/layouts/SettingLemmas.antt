@@ -1,10 +1,10 @@
 -- The edit of fields: which elements are picked, which record ends at an index, and what is added after it.
-use Rattle.std.proofs.Common.{◌≡◌, ◌∙◌, ℕ, ◌+◌, ◌-◌, ◌<◌, ◌≤◌, min, Bool, true, false, List, [], ◌∷◌, ◌++◌, length, set, replicate, eqb, leb, ltb, ◌&&◌, ◌||◌, refl, ap, sym, inl, inr, arith, take,
-    length-append, zero, suc, cond, get_or, drop, Option, None, Some, is_some, MatchOption, Result, Ok, Err, OnOk, subst, append-nil}
+use Rattle.std.proofs.Common.{◌≡◌, ◌∙◌, ℕ, ◌+◌, ◌-◌, ◌<◌, ◌≤◌, min, Bool, true, false, List, [], ◌∷◌, ◌++◌, length, set, replicate, eqb, leb, ltb, ◌&&◌, ◌||◌, refl, ap, sym, inl, inr, arith, take}
+use Rattle.std.proofs.Common.{length-append, zero, suc, cond, get_or, drop, Option, None, Some, is_some, MatchOption, Result, Ok, Err, OnOk, subst, append-nil}
 use Rattle.std.proofs.Math.ListN.{get_or-append}
 use Rattle.std.proofs.Math.Seq.{get_or-append_seam, get_or-append_right}
-use Rattle.std.proofs.lemmas.Bool.{cases_lt, cases_eq, cases_order, eq-eqb, ne_eqb, or_right, cond-true, cond-false, cond_both, cases_Bool, and_right, ltb-true, ltb-false, and_from, or_cases,
-    eqb-true, le-leb, lt-ltb}
+use Rattle.std.proofs.lemmas.Bool.{cases_lt, cases_eq, cases_order, eq-eqb, ne_eqb, or_right, cond-true, cond-false, cond_both, cases_Bool, and_right, ltb-true, ltb-false, and_from, or_cases}
+use Rattle.std.proofs.lemmas.Bool.{eqb-true, le-leb, lt-ltb}
 use Rattle.std.proofs.lemmas.Bool.Decides.{nat_tests}
 use Rattle.std.proofs.lemmas.List.{get_or-set_same, get_or-set_other, get_or_past, get_or-replicate, length-replicate, take_all, length-take, length-drop}
 use Rattle.std.proofs.lemmas.List.Sums.{sum_by-cons}
@@ -251,7 +251,7 @@ is_picked_of-held items pieces i range ordered within =
       | inl some ↦
           let lies = held range.start range.end i (length (elements_in pieces range)) places (omega arith) (picks-within items (elements_in pieces range)) some in
           some ∙ sym (and_from (holds_index i range) (list_any (λ place. eqb (range.start + place) i) places)
-              (and_from (leb range.start i) (ltb i range.end) (le-leb range.start i lies.0) (lt-ltb i range.end lies.1)) some)
+          (and_from (leb range.start i) (ltb i range.end) (le-leb range.start i lies.0) (lt-ltb i range.end lies.1)) some)
       | inr none ↦ none ∙ sym (and_right (holds_index i range) (list_any (λ place. eqb (range.start + place) i) places) none)
     ]
 

@@ -1,6 +1,6 @@
 -- Records that are deleted with the blank elements directly after them, or become comments.
-use Rattle.std.proofs.Common.{◌≡◌, ◌∙◌, ℕ, ◌+◌, ◌-◌, ◌<◌, ◌≤◌, Bool, List, [], ◌∷◌, ◌++◌, length, get_or, map, take, drop, cond, refl, ap, sym, arith, length-drop, append_assoc, append-nil, true,
-    false, ◌==◌, ◌&&◌, inl, inr, zero, suc, not, subst}
+use Rattle.std.proofs.Common.{◌≡◌, ◌∙◌, ℕ, ◌+◌, ◌-◌, ◌<◌, ◌≤◌, Bool, List, [], ◌∷◌, ◌++◌, length, get_or, map, take, drop, cond, refl, ap, sym, arith, length-drop, append_assoc, append-nil, true}
+use Rattle.std.proofs.Common.{false, ◌==◌, ◌&&◌, inl, inr, zero, suc, not, subst}
 use Rattle.std.proofs.lemmas.List.{take_rest, drop-map, length-map, map_more, length_push}
 use Rattle.std.proofs.lemmas.List.Sums.{prefix_len-le-length}
 use Rattle.std.specs.List.{prefix_len, AllByRecursion, list_any}
@@ -20,8 +20,8 @@ use Rattle.rec_check.specs.Descriptors.{rec_name, holds_index}
 use Rattle.rec_edit.specs.Script.{Layout, closed}
 use Rattle.rec_edit.specs.Effect.{between_fields}
 use Rattle.rec_text.proofs.lemmas.ListLemmas.{AllByRecursion-get_or, AllByRecursion-weaker, AllByRecursion-push}
-use Rattle.rec_edit.proofs.lemmas.records.FitLemmas.{length-part, Cut, IsOwn, passes_at, passes_at-drop, passes_at-part, KeepsAt, laid_at, laid_from-kept, list_any-closed, IsLaid, Fits,
-    laid_from-fails, between_fields-none, all_fine, EndsBy, BeginsFrom, LeavesOut, StandsBetween, IsInner, all_begin}
+use Rattle.rec_edit.proofs.lemmas.records.FitLemmas.{length-part, Cut, IsOwn, passes_at, passes_at-drop, passes_at-part, KeepsAt, laid_at, laid_from-kept, list_any-closed, IsLaid, Fits}
+use Rattle.rec_edit.proofs.lemmas.records.FitLemmas.{laid_from-fails, between_fields-none, all_fine, EndsBy, BeginsFrom, LeavesOut, StandsBetween, IsInner, all_begin}
 use Rattle.rec_edit.proofs.lemmas.records.MemberLemmas.{any_chosen, none_chosen, holds_index-before, holds_index-following, holds_index-in}
 use Rattle.rec_sex.proofs.lemmas.meaning.PlaceLemmas.{list_any-map}
 use Rattle.rec_edit.proofs.lemmas.scripts.LaidLemmas.{laid_from, closed-blank, closed-field}
@@ -112,7 +112,7 @@ comments_fail : (test : Piece → Bool) (lines : List (List ℕ)) → ((bytes : 
 comments_fail test [] fails = refl
 comments_fail test (line ∷ lines) fails =
     or_from (test (record { kind = Comment; bytes = 35 ∷ line })) (list_any test (map (λ line. record { kind = Comment; bytes = 35 ∷ line }) lines)) (fails (35 ∷ line))
-        (comments_fail test lines fails)
+    (comments_fail test lines fails)
 
 pub commented_fails : (test : Piece → Bool) (piece : Piece) → ((bytes : List ℕ) → test (record { kind = Comment; bytes = bytes }) ≡ false) → list_any test (comments_of piece.bytes) ≡ false
 commented_fails test piece fails = comments_fail test (physical_lines piece.bytes) fails
@@ -151,7 +151,7 @@ module _ (pieces : List Piece) (selected : List ℕ) (records : List (Range ℕ)
       (λ k piece low high fine.
       let own : is_own (filter_map (slice_get records) selected) k ≡ true =
       is_own-inside (commenting (filter_map (slice_get records) selected)) (λ own. []) before r following stands k low
-          (omega (arith, length-part pieces r.start r.end (omega (arith, stands.some)) stands.within, stands.some))
+      (omega (arith, length-part pieces r.start r.end (omega (arith, stands.some)) stands.within, stands.some))
       ∙ and_from (list_any (λ k. k == length before) selected) true takes refl in
       ap (λ b. list_any test (if b then comments_of (closed piece).bytes else closed piece ∷ [])) own ∙ commented_fails test (closed piece) fails)
       (λ k low high. refl)

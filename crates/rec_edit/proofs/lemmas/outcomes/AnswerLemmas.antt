@@ -1,6 +1,6 @@
 -- What holds of each step of an edit, and the refusals that an edit has at all.
-use Rattle.std.proofs.Common.{◌≡◌, inl, inr, Result, Ok, Err, sym, ap, subst, ◌≢◌, List, [], ◌==◌, ℕ, position, Option, Some, None, ◌∷◌, length, ℤ, Bool, true, false, cond, ◌++◌, map, filter_map,
-    slice_get, find, option_to_list}
+use Rattle.std.proofs.Common.{◌≡◌, inl, inr, Result, Ok, Err, sym, ap, subst, ◌≢◌, List, [], ◌==◌, ℕ, position, Option, Some, None, ◌∷◌, length, ℤ, Bool, true, false, cond, ◌++◌, map, filter_map}
+use Rattle.std.proofs.Common.{slice_get, find, option_to_list}
 use Rattle.std.specs.Option.{option_map_or}
 use Rattle.std.specs.declared.ops.Range.{Range}
 use Rattle.std.proofs.lemmas.Bool.{cond_both}
@@ -15,7 +15,7 @@ use Rattle.rec_edit.specs.Task.{Task, Pair, Wanted, NewRecord, of_pairs, of_text
 use Rattle.rec_edit.specs.Script.{Layout, new_pieces, edited_text}
 use Rattle.rec_edit.specs.proving.Parts.{script_of}
 use Rattle.rec_edit.specs.proving.Changes.{hunks_of}
-use Rattle.rec_edit.specs.Outcome.{allowed, AreChosen, AreRemovable, IsLaidOut, IsPutIn, EditScript, IsEditScript, none_of, IsSoundUnlessForced, IsEditOf, IsEditRefusal}
+use Rattle.rec_edit.specs.Outcome.{allowed, AreChosen, AreRemovable, IsLaidOutFor, IsPutIn, EditScript, IsEditScript, none_of, IsSoundUnlessForced, IsEditOf, IsEditRefusal}
 use Rattle.rec_edit.specs.Effect.{HasEffect}
 use Rattle.rec_sex.specs.declared.lists.field_list.Item.{Item}
 use Rattle.rec_edit.specs.declared.request.Action.TheVariants.{Add}
@@ -241,7 +241,7 @@ module _ (pieces : List Piece) where
 
 -- ---- one edit
 
-RefusesSo-laid : (pieces : List Piece) (chosen : List (Range ℕ)) (layout : Layout) → RefusesSo (IsLaidOut pieces chosen layout)
+RefusesSo-laid : {selected : Option ℕ} (pieces : List Piece) (chosen : List (Range ℕ)) (layout : Layout) → RefusesSo (IsLaidOutFor selected pieces chosen layout)
 RefusesSo-laid pieces chosen layout answer (script, is, e) = subst MayBe (sym e) tt
 
 RefusesSo-put : (pieces : List Piece) (sets : List Set_) (record_type : Option (List ℕ)) (fields : List Piece)
@@ -265,7 +265,7 @@ RefusesSo-step pieces schema force (set wanted list action) =
     RefusesSo-Then (AreChosen pieces schema.sets wanted) _ (RefusesSo-chosen pieces schema.sets wanted) (λ chosen. RefusesSo-laid pieces chosen (setting action items pieces chosen)))
 RefusesSo-step pieces schema force auto_fill = λ answer (records, are, is).
     RefusesSo-Then (AreFilledSets pieces records schema.sets schema.rules) _ (RefusesSo-filled_sets pieces records schema.sets schema.rules)
-        (λ filled. RefusesSo-laid pieces (map (λ one. one.range) filled) (filling filled)) answer is
+    (λ filled. RefusesSo-laid pieces (map (λ one. one.range) filled) (filling filled)) answer is
 
 -- ---- the edited text
 

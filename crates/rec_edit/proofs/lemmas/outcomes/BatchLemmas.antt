@@ -1,7 +1,7 @@
 -- Edits one after another: each text between is read, the steps lead from the first text to the last, and which edit is
 -- refused.
-use Rattle.std.proofs.Common.{◌≡◌, ◌∙◌, ℕ, zero, suc, ◌+◌, ◌<◌, length, map, take, drop, get_or, Bool, false, List, [], ◌∷◌, ◌++◌, refl, ap, ap₂, sym, subst, inl, inr, arith, append_assoc, append-nil,
-    Option, Some, None, Result, Ok, Err}
+use Rattle.std.proofs.Common.{◌≡◌, ◌∙◌, ℕ, zero, suc, ◌+◌, ◌<◌, length, map, take, drop, get_or, Bool, false, List, [], ◌∷◌, ◌++◌, refl, ap, ap₂, sym, subst, inl, inr, arith, append_assoc, append-nil}
+use Rattle.std.proofs.Common.{Option, Some, None, Result, Ok, Err}
 use Rattle.std.specs.Prelude.{IfOk, IfErr}
 use Rattle.std.specs.List.{AllByRecursion}
 use Rattle.std.proofs.lemmas.Int.{clamps}
@@ -27,7 +27,7 @@ use Rattle.rec_edit.specs.Task.{Task, task_of, tool_of, insert, replace, delete,
 use Rattle.rec_edit.specs.Script.{edited_text, new_pieces, old_pieces, TakesWhole}
 use Rattle.rec_edit.specs.proving.Changes.{hunks_of}
 use Rattle.rec_edit.specs.Outcome.{IsEditOf, IsSound, IsSoundUnlessForced, IsEditRefusal, PutsNoDescriptorIn}
-use Rattle.rec_edit.specs.Batch.{IsEditOn, step_with, at_most_greatest, with_first, AreSteps, IsBatchOutcome, fault_alone, IsRefusedAt, AreRefusedAt, AreWholeSteps, HaveEffects}
+use Rattle.rec_edit.specs.Batch.{IsEditOn, step_with, at_most_greatest, both_chosen, with_first, AreSteps, IsBatchOutcome, fault_alone, IsRefusedAt, AreRefusedAt, AreWholeSteps, HaveEffects}
 use Rattle.rec_edit.specs.Effect.{HasEffect}
 use Rattle.rec_edit.specs.proving.Batches.{untouched, after_edit}
 use Rattle.rec_edit.specs.proving.Edits.{edited_by, IsCarriedOut}
@@ -145,15 +145,26 @@ parts_of force task tasks text made steps =
     let others = Then-ok (AreSteps force tasks first.0.text) (λ rest answer. answer ≡ Ok (with_first task first.0 rest)) made first.2 in
     record { first = first.0; is = first.1; rest = others.0; are = others.1; joins = same_value made (with_first task first.0 others.0) others.2 }
 
-same_made : (a b : List EditStep) (text : List ℕ) (m n : ℕ) → a ≡ b → m ≡ n
-    → ◌≡◌ {A = Edited} (record { steps = a; text = text; changed = m }) (record { steps = b; text = text; changed = n })
-same_made a b text m n steps changed = ap₂ (λ s c. record { steps = s; text = text; changed = c }) steps changed
+same_made : (a b : List EditStep) (text : List ℕ) (m n : ℕ) (k l : Option ℕ) → a ≡ b → m ≡ n → k ≡ l
+    → ◌≡◌ {A = Edited} (record { steps = a; text = text; changed = m; chosen = k }) (record { steps = b; text = text; changed = n; chosen = l })
+same_made a b text m n k l steps changed chosen =
+    ap₂ (λ s c. record { steps = s; text = text; changed = c; chosen = k }) steps changed ∙ ap (λ c. record { steps = b; text = text; changed = n; chosen = c }) chosen
 
 sum_of_one : (a : ℕ) → at_most_greatest (a + 0) ≡ at_most_greatest (0 + a)
 sum_of_one a = omega (arith, clamps)
 
 sum_of_three : (a b c : ℕ) → at_most_greatest (a + at_most_greatest (b + c)) ≡ at_most_greatest (at_most_greatest (a + b) + c)
 sum_of_three a b c = omega (arith, clamps)
+
+chosen_of_one : (a : Option ℕ) → both_chosen a None ≡ a
+chosen_of_one None = refl
+chosen_of_one (Some n) = refl
+
+chosen_of_three : (a b c : Option ℕ) → both_chosen a (both_chosen b c) ≡ both_chosen (both_chosen a b) c
+chosen_of_three None b c = refl
+chosen_of_three (Some n) None c = refl
+chosen_of_three (Some n) (Some m) None = refl
+chosen_of_three (Some n) (Some m) (Some k) = ap Some (sum_of_three n m k)
 
 module _ (force : Bool) (task : Task) where
   -- edits with one more after them
@@ -165,7 +176,11 @@ module _ (force : Bool) (task : Task) where
       (inr (
         last,
         subst (λ (d : Edited). IsEditOn force task d.text (Ok last)) begun made,
-        inr (untouched last.text, refl, ap Ok (sym (same_made _ _ last.text _ _ (append-nil (step_with (tool_of task) last.patch)) (sum_of_one last.changed)))),
+        inr (
+          untouched last.text,
+          refl,
+          ap Ok (sym (same_made _ _ last.text _ _ _ _ (append-nil (step_with (tool_of task) last.patch)) (sum_of_one last.changed) (chosen_of_one last.chosen))),
+        ),
       ))
   with_last (one ∷ tasks) text done last is made =
       let parts = parts_of force one tasks text done is in
@@ -177,8 +192,8 @@ module _ (force : Bool) (task : Task) where
         inr (
           after_edit parts.rest (tool_of task) last,
           rest,
-          ap Ok (same_made _ _ last.text _ _ (append_assoc (step_with (tool_of one) parts.first.patch) parts.rest.steps (step_with (tool_of task) last.patch))
-              (sym (sum_of_three parts.first.changed parts.rest.changed last.changed))),
+          ap Ok (same_made _ _ last.text _ _ _ _ (append_assoc (step_with (tool_of one) parts.first.patch) parts.rest.steps (step_with (tool_of task) last.patch))
+              (sym (sum_of_three parts.first.changed parts.rest.changed last.changed)) (sym (chosen_of_three parts.first.chosen parts.rest.chosen last.chosen))),
         ),
       ))
 

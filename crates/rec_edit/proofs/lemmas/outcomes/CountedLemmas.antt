@@ -1,5 +1,6 @@
 -- The records that a layout changes are those of which its script makes something else.
-use Rattle.std.proofs.Common.{◌≡◌, ◌∙◌, ◌⊎◌, ℕ, zero, suc, ◌+◌, ◌<◌, ◌≤◌, Bool, true, false, cond, ◌==◌, List, [], ◌∷◌, ◌++◌, length, map, Some, None, Ok, refl, ap, ap₂, sym, subst, inl, inr, arith}
+use Rattle.std.proofs.Common.{◌≡◌, ◌∙◌, ◌⊎◌, ℕ, zero, suc, ◌+◌, ◌<◌, ◌≤◌, Bool, true, false, cond, ◌==◌, List, [], ◌∷◌, ◌++◌, length, map, Some, Option, None, Ok, refl, ap, ap₂, sym, subst, inl, inr}
+use Rattle.std.proofs.Common.{arith}
 use Rattle.std.specs.Prelude.{count_by, filter_map, flat_map, slice_get, if◌then◌else◌}
 use Rattle.std.specs.List.{AllByRecursion, fold}
 use Rattle.std.specs.declared.ops.Range.{Range}
@@ -23,7 +24,7 @@ use Rattle.rec_edit.specs.Wording.{AreItemsFor, IsNewRecord}
 use Rattle.rec_edit.specs.Automatic.{AreFilledOf}
 use Rattle.rec_edit.specs.Outcome.{AreChosen, AreRemovable, is_changed_by}
 use Rattle.rec_edit.specs.proving.Drafts.{is_changed}
-use Rattle.rec_edit.specs.proving.Edits.{laid_script, edit_script}
+use Rattle.rec_edit.specs.proving.Edits.{laid_script, laid_script_for, edit_script, edit_script_for}
 use Rattle.rec_edit.proofs.lemmas.records.MemberLemmas.{holds_index-before, holds_index-following}
 use Rattle.rec_edit.proofs.lemmas.outcomes.EffectLemmas.{AreMeant, chosen_meant, items_plain}
 use Rattle.rec_edit.proofs.lemmas.automatic.FilledLemmas.{IsFilled, all_from, auto_fill_fills, LaysNeatly-filling}
@@ -190,10 +191,10 @@ record IsLeft (pieces : List Piece) (layout : Layout) (r : Range ℕ) : Type 0 w
   is : IsRecord pieces r
   alone : StandsAlone layout r
 
-counts_of : (pieces : List Piece) (chosen : List (Range ℕ)) (layout : Layout) → LaysClosed layout pieces → AllByRecursion (IsLeft pieces layout) chosen
-    → laid_script pieces chosen layout ≡ edit_script pieces chosen layout
-counts_of pieces chosen layout lays left =
-    ap (λ n. record { script = script_of layout pieces; changed = n })
+counts_of : {selected : Option ℕ} (pieces : List Piece) (chosen : List (Range ℕ)) (layout : Layout) → LaysClosed layout pieces → AllByRecursion (IsLeft pieces layout) chosen
+    → laid_script_for selected pieces chosen layout ≡ edit_script_for selected pieces chosen layout
+counts_of {selected} pieces chosen layout lays left =
+    ap (λ n. record { script = script_of layout pieces; changed = n; chosen = selected })
     (count_by-same (is_changed layout pieces) (is_changed_by (script_of layout pieces)) chosen
     (AllByRecursion-weaker (IsLeft pieces layout) (λ r. is_changed layout pieces r ≡ is_changed_by (script_of layout pieces) r)
     (λ r one. is_changed-by layout pieces r one.is.some (let high = one.is.high in let within = one.is.is_paragraph.within in omega (arith, high, within)) one.alone lays.reopen lays.end) chosen left))
@@ -252,7 +253,7 @@ module _ (pieces : List Piece) (schema : Described) where
 
 pub filling_counted : (pieces : List Piece) (schema : Described) (records : List (Range ℕ)) (filled : List Filled) → IsSchema pieces (Ok schema) → AreRecords pieces records
     → AreFilledOf pieces records schema (Ok filled)
-    → laid_script pieces (map (λ one. one.range) filled) (filling filled) ≡ edit_script pieces (map (λ one. one.range) filled) (filling filled)
+    → laid_script_for None pieces (map (λ one. one.range) filled) (filling filled) ≡ edit_script_for None pieces (map (λ one. one.range) filled) (filling filled)
 filling_counted pieces schema records filled is_schema are found =
     let fills = auto_fill_fills pieces schema records filled is_schema are found in
     counts_of pieces (map (λ one. one.range) filled) (filling filled) (closed_neatly (filling filled) pieces (LaysNeatly-filling pieces records filled fills))

@@ -1,6 +1,6 @@
 -- What an edit makes of a text, by its kind; its hunks are its script's changes.
-use Rattle.std.proofs.Common.{◌≡◌, ◌≢◌, ◌∙◌, ℕ, ◌+◌, ◌<◌, ◌≤◌, Bool, true, false, List, [], ◌∷◌, ◌++◌, ◌==◌, length, map, flat_map, refl, ap, ap₂, sym, subst, inl, inr, arith, append-nil, Result, Ok,
-    Err, None, if◌then◌else◌}
+use Rattle.std.proofs.Common.{◌≡◌, ◌≢◌, ◌∙◌, ℕ, ◌+◌, ◌<◌, ◌≤◌, Bool, true, false, List, [], ◌∷◌, ◌++◌, ◌==◌, length, map, flat_map, refl, ap, ap₂, sym, subst, inl, inr, arith, append-nil, Result, Ok}
+use Rattle.std.proofs.Common.{Err, None, if◌then◌else◌}
 use Rattle.std.specs.List.{AllByRecursion}
 use Rattle.std.specs.Str.{bytes_eq}
 use Rattle.std.proofs.lemmas.Bool.{cases_Bool, eq-eqb, ne_eqb, cond_both}
@@ -276,7 +276,7 @@ module _ (pieces : List Piece) (schema : Described) (force : Bool) (task : Task)
 
   -- an edit comes to what the code makes of its script
   IsEditedBy-edited_by : (edit : EditScript) → IsEditScript pieces schema force task (Ok edit) → IsEditedBy edit (edited_by edit)
-  IsEditedBy-edited_by edit is = record { patch = changes_of_edit edit is; text = refl; changed = refl }
+  IsEditedBy-edited_by edit is = record { patch = changes_of_edit edit is; text = refl; changed = refl; chosen = refl }
 
   pub is_edited_by : (edit : EditScript) (edited : Patched) → IsEditScript pieces schema force task (Ok edit) → IsEditedBy edit edited → edited ≡ edited_by edit
   is_edited_by edit edited is by = same_edited edit edited (edited_by edit) by (IsEditedBy-edited_by edit is)

@@ -1,6 +1,6 @@
 -- What an edit means for the records of a text.
-use Rattle.std.proofs.Common.{◌≡◌, ◌∙◌, ℕ, suc, ◌+◌, ◌<◌, Bool, true, false, ◌==◌, List, [], ◌∷◌, ◌++◌, Some, None, Result, Ok, Err, length, map, take, drop, refl, ap, ap₂, sym, subst, inl, inr,
-    arith}
+use Rattle.std.proofs.Common.{◌≡◌, ◌∙◌, ℕ, suc, ◌+◌, ◌<◌, Bool, true, false, ◌==◌, List, [], ◌∷◌, ◌++◌, Some, None, Result, Ok, Err, length, map, take, drop, refl, ap, ap₂, sym, subst, inl, inr}
+use Rattle.std.proofs.Common.{arith}
 use Rattle.std.specs.Prelude.{filter, filter_map, find, is_some, option_map, slice_get, if◌then◌else◌}
 use Rattle.std.specs.Str.{bytes_eq}
 use Rattle.std.specs.List.{AllByRecursion, list_all, list_any}
@@ -33,8 +33,8 @@ use Rattle.rec_edit.specs.Script.{Layout, Part, closed, new_pieces, edited_text}
 use Rattle.rec_edit.specs.proving.Parts.{script_of}
 use Rattle.rec_edit.specs.Outcome.{AreChosen, AreRemovable, EditScript, IsEditScript}
 use Rattle.rec_edit.proofs.lemmas.records.TypedRecordLemmas.{closes, own_of, own_of-Spaced, AreTurned, described, none-type_of, own_of-map, remade-turned, same_descriptors, type_of-none}
-use Rattle.rec_edit.proofs.lemmas.records.FitLemmas.{Cut, Cut-AreRecords, own_of-records, records_there, ArePlain, AreTurned-Fits, Fits, Spaced-Fits, laid_at, Fits-inner, IsInner, BeginsFrom,
-    all_begin}
+use Rattle.rec_edit.proofs.lemmas.records.FitLemmas.{Cut, Cut-AreRecords, own_of-records, records_there, ArePlain, AreTurned-Fits, Fits, Spaced-Fits, laid_at, Fits-inner, IsInner, BeginsFrom}
+use Rattle.rec_edit.proofs.lemmas.records.FitLemmas.{all_begin}
 use Rattle.rec_edit.proofs.lemmas.scripts.LaidLemmas.{LaysNeatly, closed-blank, closed-field, closed-new_pieces, laid_from}
 use Rattle.rec_edit.proofs.lemmas.records.ClosedLemmas.{name_of-closed, named-closed, value_of-closed}
 use Rattle.rec_edit.proofs.lemmas.records.MemberLemmas.{NoneNamed, selected_plain, selected_once}
@@ -231,13 +231,13 @@ module _ (pieces : List Piece) (schema : Described) (is : IsDescribed pieces sch
   done_delete force wanted edit (inl (fault, refused, e)) = absurd (cc)
   done_delete force wanted edit (inr (chosen, are, same)) =
       subst (IsDone pieces schema (delete wanted)) (sym (script_is pieces chosen (deletion pieces chosen) edit same))
-          (delete_done wanted chosen (removable_meant pieces schema.sets wanted force chosen are))
+      (delete_done wanted chosen (removable_meant pieces schema.sets wanted force chosen are))
 
   pub done_comment : (force : Bool) (wanted : Wanted) (edit : EditScript) → IsEditScript pieces schema force (comment_out wanted) (Ok edit) → IsDone pieces schema (comment_out wanted) edit.script
   done_comment force wanted edit (inl (fault, refused, e)) = absurd (cc)
   done_comment force wanted edit (inr (chosen, are, same)) =
       subst (IsDone pieces schema (comment_out wanted)) (sym (script_is pieces chosen (commenting chosen) edit same))
-          (comment_done wanted chosen (removable_meant pieces schema.sets wanted force chosen are))
+      (comment_done wanted chosen (removable_meant pieces schema.sets wanted force chosen are))
 
   set_done : (wanted : Wanted) (list : List ℕ) (action : Action) (items : List Item) (chosen : List (Range ℕ)) → AreItemsFor action list (Ok items) → AreMeant pieces schema.sets wanted chosen
       → IsDone pieces schema (set wanted list action) (script_of (setting action items pieces chosen) pieces)

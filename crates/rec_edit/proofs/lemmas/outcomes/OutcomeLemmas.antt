@@ -1,6 +1,6 @@
 -- What an edit makes of a text are the elements of the edited text; and its outcome.
-use Rattle.std.proofs.Common.{◌≡◌, ◌∙◌, ℕ, ◌+◌, ◌≤◌, Bool, true, false, cond, if◌then◌else◌, ◌==◌, List, [], ◌∷◌, ◌++◌, ◌⊎◌, inl, inr, length, map, Some, Result, Ok, Err, refl, sym, ap, ap₂, subst,
-    arith, slice_get, ℤ, filter_map, position, Option, None}
+use Rattle.std.proofs.Common.{◌≡◌, ◌∙◌, ℕ, ◌+◌, ◌≤◌, Bool, true, false, cond, if◌then◌else◌, ◌==◌, List, [], ◌∷◌, ◌++◌, ◌⊎◌, inl, inr, length, map, Some, Result, Ok, Err, refl, sym, ap, ap₂, subst}
+use Rattle.std.proofs.Common.{arith, slice_get, ℤ, filter_map, position, Option, None}
 use Rattle.std.specs.List.{AllByRecursion, list_all, flat_map, AllZip}
 use Rattle.std.specs.declared.ops.Range.{Range}
 use Rattle.std.proofs.lemmas.Bool.{cond_both, and_parts, ne_eqb}
@@ -21,7 +21,7 @@ use Rattle.rec_edit.specs.proving.Parts.{script_of}
 use Rattle.rec_edit.specs.proving.Changes.{hunks_of}
 use Rattle.rec_edit.specs.Rules.{comments_of, is_own, is_picked, taking_out, deletion, commenting, replacement, setting, picked_becomes, added, with_blanks, fields_of}
 use Rattle.rec_edit.specs.Wording.{if_writable, unnumbered, names_of_action, values_of_action, AreItemsFor, pairs_of, IsRecordText, ArePairs, IsNewRecord}
-use Rattle.rec_edit.specs.Outcome.{EditScript, AreChosen, AreRemovable, IsLaidOut, IsPutIn, IsEditScript, none_of, IsSoundUnlessForced, IsEditedBy, IsEditOf}
+use Rattle.rec_edit.specs.Outcome.{EditScript, AreChosen, AreRemovable, IsLaidOut, IsLaidOutFor, IsPutIn, IsEditScript, none_of, IsSoundUnlessForced, IsEditedBy, IsEditOf}
 use Rattle.rec_edit.specs.proving.Edits.{insert_script}
 use Rattle.rec_text.specs.declared.violations.Violation.{Violation}
 use Rattle.rec_check.specs.declared.set.Set_.{Set_}
@@ -279,8 +279,9 @@ HasOne-removable pieces sets wanted force =
 
 -- ---- the script of a layout
 
-HasOne-laid : (pieces : List Piece) (chosen : List (Range ℕ)) (layout : Layout) → HasOne (IsLaidOut pieces chosen layout)
-HasOne-laid pieces chosen layout one other is is_too = laid_out-is pieces chosen layout one is ∙ sym (laid_out-is pieces chosen layout other is_too)
+HasOne-laid : {selected : Option ℕ} (pieces : List Piece) (chosen : List (Range ℕ)) (layout : Layout) → HasOne (IsLaidOutFor selected pieces chosen layout)
+HasOne-laid {selected} pieces chosen layout one other is is_too =
+    laid_out-is pieces {selected = selected} chosen layout one is ∙ sym (laid_out-is pieces {selected = selected} chosen layout other is_too)
 
 HasOne-put : (pieces : List Piece) (sets : List Set_) (record_type : Option (List ℕ)) (fields : List Piece)
     → HasOne (λ answer. (records : List (Range ℕ)) × AreRecords pieces records × IsPutIn pieces records sets record_type fields answer)
@@ -369,14 +370,14 @@ module _ (pieces : List Piece) where
 
   -- what is made of the automatic fields
   abbrev are_filled : List Set_ → List Rules → List (Range ℕ) → Result EditScript Fault → Type 0
-  are_filled sets rules records = Then (AreFilledSets pieces records sets rules) (λ filled. IsLaidOut pieces (map (λ one. one.range) filled) (filling filled))
+  are_filled sets rules records = Then (AreFilledSets pieces records sets rules) (λ filled. IsLaidOutFor None pieces (map (λ one. one.range) filled) (filling filled))
 
   AreOne-auto_fill : (sets : List Set_) (rules others : List Rules) → AllZip AreSameRules rules others
       → AreOne (λ answer. (records : List (Range ℕ)) × AreRecords pieces records × are_filled sets rules records answer)
       (λ answer. (records : List (Range ℕ)) × AreRecords pieces records × are_filled sets others records answer)
   AreOne-auto_fill sets rules others alike one other (records, are, is) (more, are_too, is_too) =
       let same : more ≡ records = OneListOfRecords-holds.records pieces more records are_too are in
-      let laid : List Filled → Result EditScript Fault → Type 0 = λ filled. IsLaidOut pieces (map (λ one. one.range) filled) (filling filled) in
+      let laid : List Filled → Result EditScript Fault → Type 0 = λ filled. IsLaidOutFor None pieces (map (λ one. one.range) filled) (filling filled) in
       AreOne-Then _ _ laid laid (AreOne-filled_sets records sets rules others alike) (λ filled _. HasOne-laid pieces (map (λ one. one.range) filled) (filling filled))
       one other is (subst (λ rs. are_filled sets others rs other) same is_too)
 
@@ -404,7 +405,7 @@ AreOne-step : (pieces : List Piece) (schema same : Described) (force : Bool) (ta
     → AreOne (IsEditScript pieces schema force task) (IsEditScript pieces same force task)
 AreOne-step pieces schema same force task (sets, rules) =
     subst (λ ss. AreOne (IsEditScript pieces schema force task) (IsEditScript pieces (ruled ss same.rules) force task)) sets
-        (AreOne-edit_script pieces schema.sets schema.rules same.rules force task rules)
+    (AreOne-edit_script pieces schema.sets schema.rules same.rules force task rules)
 
 pub HasOneBut-sound : (force : Bool) (text : List ℕ) → HasOneBut (IsSoundUnlessForced force text)
 HasOneBut-sound true text = HasOneBut-of _ (HasOne-same _)
@@ -414,9 +415,10 @@ HasOneBut-sound false text = HasOneBut-Then (AreViolationsOf text) _ (one_check 
 
 pub same_edited : (edit : EditScript) (one other : Patched) → IsEditedBy edit one → IsEditedBy edit other → one ≡ other
 same_edited edit one other by too =
-    let made : List Hunk → List ℕ → ℕ → Patched = λ patch text changed. record { patch = patch; text = text; changed = changed } in
-    ap (λ patch. made patch one.text one.changed) (one_list_of_changes edit.script one.patch other.patch by.patch too.patch)
-    ∙ ap₂ (made other.patch) (by.text ∙ sym too.text) (by.changed ∙ sym too.changed)
+    let made : List Hunk → List ℕ → ℕ → Option ℕ → Patched = λ patch text changed chosen. record { patch = patch; text = text; changed = changed; chosen = chosen } in
+    ap (λ patch. made patch one.text one.changed one.chosen) (one_list_of_changes edit.script one.patch other.patch by.patch too.patch)
+    ∙ ap₂ (λ text changed. made other.patch text changed one.chosen) (by.text ∙ sym too.text) (by.changed ∙ sym too.changed)
+    ∙ ap (made other.patch other.text other.changed) (by.chosen ∙ sym too.chosen)
 
 HasOne-edited : (edit : EditScript) → HasOne (λ answer. (edited : Patched) × IsEditedBy edit edited × (answer ≡ Ok edited))
 HasOne-edited edit one other (a, by, e) (b, by_too, k) = e ∙ ap Ok (same_edited edit a b by by_too) ∙ sym k

@@ -1,6 +1,6 @@
 -- A text without a descriptor breaks no rule, and an edit that puts none in leaves it so.
-use Rattle.std.proofs.Common.{Bool, List, Ok, ◌≡◌, ◌∙◌, ℕ, zero, suc, ◌+◌, ◌-◌, true, false, ◌==◌, [], ◌∷◌, ◌++◌, Option, Some, None, length, map, take, drop, refl, ap, sym, subst, arith, ◌&&◌, not,
-    inr}
+use Rattle.std.proofs.Common.{Bool, List, Ok, ◌≡◌, ◌∙◌, ℕ, zero, suc, ◌+◌, ◌-◌, true, false, ◌==◌, [], ◌∷◌, ◌++◌, Option, Some, None, length, map, take, drop, refl, ap, sym, subst, arith, ◌&&◌, not}
+use Rattle.std.proofs.Common.{inr}
 use Rattle.std.specs.Prelude.{filter_map, flat_map, replicate, is_some, slice_get, if◌then◌else◌, filter}
 use Rattle.std.specs.List.{AllByRecursion, AllZip, list_any, enumerate_from, cons_option}
 use Rattle.std.specs.Option.{option_map_or}

@@ -1,6 +1,6 @@
 -- A field has the same name and the same value with and without the newline at its end.
-use Rattle.std.proofs.Common.{◌≡◌, ◌∙◌, ℕ, suc, ◌+◌, ◌<◌, Bool, true, false, IsTrue, ◌==◌, ◌||◌, List, [], ◌∷◌, ◌++◌, Option, Some, None, length, map, take, drop, refl, ap, ap₂, sym, inl, inr, arith,
-    zero, ◌&&◌, not, subst}
+use Rattle.std.proofs.Common.{◌≡◌, ◌∙◌, ℕ, suc, ◌+◌, ◌<◌, Bool, true, false, IsTrue, ◌==◌, ◌||◌, List, [], ◌∷◌, ◌++◌, Option, Some, None, length, map, take, drop, refl, ap, ap₂, sym, inl, inr, arith}
+use Rattle.std.proofs.Common.{zero, ◌&&◌, not, subst}
 use Rattle.std.specs.Prelude.{if◌then◌else◌}
 use Rattle.std.specs.List.{AllByRecursion, list_any, join_with_byte}
 use Rattle.std.specs.Option.{option_map, option_map_or}
@@ -204,7 +204,7 @@ logical_lines-shut before (b ∷ bs) shut whole =
     let rest : EndShut (logical_lines b bs) = logical_lines-shut b bs (open_tail b bs shut) inner in
     elim (cases_Bool (b == 10 && not (before == 92))) [
       | inl cut ↦ subst (λ t. EndShut (if t then (b ∷ []) ∷ logical_lines b bs else on_first b (logical_lines b bs))) (sym cut)
-      (end_shut-cons (b ∷ []) (logical_lines b bs) (more_after before b bs cut shut) rest)
+          (end_shut-cons (b ∷ []) (logical_lines b bs) (more_after before b bs cut shut) rest)
       | inr on ↦ subst (λ t. EndShut (if t then (b ∷ []) ∷ logical_lines b bs else on_first b (logical_lines b bs))) (sym on) (on_first-shut b bs shut inner rest)
     ]
 

@@ -17,8 +17,8 @@ use Rattle.rec_text.proofs.lemmas.ListLemmas.{AllByRecursion-weaker, slice_get-d
 use Rattle.rec_text.proofs.lemmas.records.RangeLemmas.{LiesIn-cases, LiesIn-low, LiesIn-nil}
 use Rattle.rec_text.proofs.lemmas.records.RecordLemmas.{AreRecords-all_narrowed, field_is_full}
 use Rattle.rec_text.proofs.lemmas.records.RunLemmas.{AreRuns-runs_to}
-use Rattle.rec_edit.proofs.lemmas.records.TypedRecordLemmas.{kept, up_to_field, between_fields-up_to, Spaced, closes, with_own, own_of, own_of-Spaced, IsTurned, AreTurned, from_field-map,
-    up_to_field-map, type_of-none, between_fields-fails}
+use Rattle.rec_edit.proofs.lemmas.records.TypedRecordLemmas.{kept, up_to_field, between_fields-up_to, Spaced, closes, with_own, own_of, own_of-Spaced, IsTurned, AreTurned, from_field-map}
+use Rattle.rec_edit.proofs.lemmas.records.TypedRecordLemmas.{up_to_field-map, type_of-none, between_fields-fails}
 use Rattle.rec_edit.proofs.lemmas.scripts.LaidLemmas.{laid_from, laid_from-append, closed-blank, closed-field}
 
 -- ---- a text, cut at its records: what stands between them, by index

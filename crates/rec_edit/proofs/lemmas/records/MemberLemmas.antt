@@ -1,6 +1,6 @@
 -- The records that a selection takes, their ranges, and the sets that they belong to.
-use Rattle.std.proofs.Common.{◌≡◌, ◌∙◌, ℕ, zero, suc, ◌<◌, ◌≤◌, Bool, true, false, ◌==◌, ◌&&◌, ◌||◌, List, [], ◌∷◌, ◌++◌, Option, Some, None, length, get_or, refl, ap, ap₂, sym, subst, arith,
-    filter_map, slice_get, ◌+◌, take, drop, ◌-◌, Ok, replicate, inl, inr}
+use Rattle.std.proofs.Common.{◌≡◌, ◌∙◌, ℕ, zero, suc, ◌<◌, ◌≤◌, Bool, true, false, ◌==◌, ◌&&◌, ◌||◌, List, [], ◌∷◌, ◌++◌, Option, Some, None, length, get_or, refl, ap, ap₂, sym, subst, arith}
+use Rattle.std.proofs.Common.{filter_map, slice_get, ◌+◌, take, drop, ◌-◌, Ok, replicate, inl, inr}
 use Rattle.std.specs.Prelude.{AllPairs, flat_map, if◌then◌else◌, Contains, find, nat_lt}
 use Rattle.std.specs.List.{AllByRecursion, list_any, cons_option}
 use Rattle.std.specs.Option.{option_map_or, is_some}

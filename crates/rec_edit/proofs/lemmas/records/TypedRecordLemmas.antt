@@ -332,8 +332,10 @@ module _ (selected : List ℕ) (made : List Piece → List Piece) where
       ∙ ap (λ k. record { record_type = k; own = piece ∷ own } ∷ typed_records k owns) (sym kept_type)
 
   typed_record-same : (record_type : Option (List ℕ)) (own new : List Piece) → between_fields new ≡ between_fields own
-      → ◌≡◌ {A = Option TypedRecord} (typed_record record_type own) (elim (between_fields new) as (λ x. Option TypedRecord) [ [] ↦ None
-          | piece ∷ pieces ↦ Some (record { record_type = record_type; own = piece ∷ pieces }) ])
+      → ◌≡◌ {A = Option TypedRecord} (typed_record record_type own) (elim (between_fields new) as (λ x. Option TypedRecord) [
+        | [] ↦ None
+        | piece ∷ pieces ↦ Some (record { record_type = record_type; own = piece ∷ pieces })
+      ])
   typed_record-same record_type own new same = ap (λ l. elim l as (λ x. Option TypedRecord) [ [] ↦ None | piece ∷ pieces ↦ Some (record { record_type = record_type; own = piece ∷ pieces }) ])
       (sym same)
 

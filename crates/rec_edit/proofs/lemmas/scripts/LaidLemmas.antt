@@ -1,6 +1,6 @@
 -- The elements that a layout makes of those of a text, and the newlines at their ends.
-use Rattle.std.proofs.Common.{◌≡◌, ◌∙◌, ℕ, suc, ◌+◌, Bool, true, false, IsTrue, List, [], ◌∷◌, ◌++◌, not, length, map, refl, ap, ap₂, sym, subst, inl, inr, arith, if◌then◌else◌, zero, ◌<◌, eqb,
-    filter, drop, take, flat_map, Option, None, Some, ◌==◌}
+use Rattle.std.proofs.Common.{◌≡◌, ◌∙◌, ℕ, suc, ◌+◌, Bool, true, false, IsTrue, List, [], ◌∷◌, ◌++◌, not, length, map, refl, ap, ap₂, sym, subst, inl, inr, arith, if◌then◌else◌, zero, ◌<◌, eqb}
+use Rattle.std.proofs.Common.{filter, drop, take, flat_map, Option, None, Some, ◌==◌}
 use Rattle.std.specs.List.{AllByRecursion}
 use Rattle.std.proofs.lemmas.Bool.{cases_Bool, false≢true, and_parts, cond_both, cases_lt}
 use Rattle.std.proofs.lemmas.List.{append_assoc, append-nil, map-append, get_or_past, length-take}

@@ -1,6 +1,6 @@
 -- A script carried out element by element: what stands instead of a record, and elements that are changed as one.
-use Rattle.std.proofs.Common.{◌≡◌, ◌≢◌, ◌∙◌, ℕ, suc, zero, ◌+◌, ◌-◌, ◌<◌, true, false, IsTrue, not, ◌&&◌, List, [], ◌∷◌, ◌++◌, length, get_or, take, drop, refl, ap, sym, inl, inr, arith, append_assoc,
-    append-nil, ◌≤◌, Bool, map, subst, ◌⊎◌}
+use Rattle.std.proofs.Common.{◌≡◌, ◌≢◌, ◌∙◌, ℕ, suc, zero, ◌+◌, ◌-◌, ◌<◌, true, false, IsTrue, not, ◌&&◌, List, [], ◌∷◌, ◌++◌, length, get_or, take, drop, refl, ap, sym, inl, inr, arith, append_assoc}
+use Rattle.std.proofs.Common.{append-nil, ◌≤◌, Bool, map, subst, ◌⊎◌}
 use Rattle.std.specs.List.{AllByRecursion}
 use Rattle.std.proofs.lemmas.Bool.{cases_Bool, eqb-true, false≢true, false_from_ne_true}
 use Rattle.std.proofs.lemmas.List.{length-append, take_at, nil_from_length, length-map, length-drop, length-take-le, drop_all, take-append-drop, drop-append-le}
@@ -384,8 +384,13 @@ module _ (draft : Draft) (layout : Layout) (pieces : List Piece) where
 
   pub part_within : (part : Part) (rest : List Part) → IsDraft draft (part ∷ rest) (script_of layout pieces) → draft.at + length (text_of part.old) ≤ length (text_of pieces)
   part_within part rest is =
-      omega (arith, is.at, ap (λ p. length (text_of p)) (old_pieces-script_of layout pieces), ap length (text_of-append part.old (old_pieces rest)),
-          length-append (text_of part.old) (text_of (old_pieces rest)))
+      omega (
+        arith,
+        is.at,
+        ap (λ p. length (text_of p)) (old_pieces-script_of layout pieces),
+        ap length (text_of-append part.old (old_pieces rest)),
+        length-append (text_of part.old) (text_of (old_pieces rest)),
+      )
 
   pub element_within : (piece : Piece) (new : List Piece) (rest : List Part) → IsDraft draft ((record { old = piece ∷ []; new = new }) ∷ rest) (script_of layout pieces)
       → draft.at + length piece.bytes ≤ length (text_of pieces)

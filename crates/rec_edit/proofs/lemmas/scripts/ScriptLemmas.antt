@@ -134,7 +134,7 @@ Cuts-real_changes place (hunk ∷ hunks) pieces after (kept, old, following, res
           let Q : List ℕ → Type 0 = Cuts place (real_changes hunks) pieces in
           let before' : gone ++ following ≡ pieces = append_assoc kept old following ∙ sym before_is in
           let after' : text_of gone ++ rest ≡ after = ap (λ t. t ++ rest) gone_text ∙ append_assoc (text_of kept) (text_of old) rest ∙ ap (λ t. text_of kept ++ (t ++ rest)) (sym old_new)
-              ∙ sym after_is in
+          ∙ sym after_is in
           rw same (subst Q after' (subst P before' (Cuts-keep place gone (real_changes hunks) following rest (subst at_place (sym place') more))))
       | inr changes ↦ rw changes (kept, old, following, rest, place_is, before_is, old_is, after_is, more)
     ]

@@ -1,6 +1,6 @@
 -- A layout has one script: the single parts of a text are cut into tied runs in one way, which is that of the code.
-use Rattle.std.proofs.Common.{◌≡◌, ◌∙◌, ℕ, ◌+◌, Bool, true, false, List, [], ◌∷◌, ◌++◌, ◌⊎◌, inl, inr, length, map, flat_map, refl, ap, ap₂, sym, subst, arith, append_assoc, append-nil, Option,
-    Result, Ok}
+use Rattle.std.proofs.Common.{◌≡◌, ◌∙◌, ℕ, ◌+◌, Bool, true, false, List, [], ◌∷◌, ◌++◌, ◌⊎◌, inl, inr, length, map, flat_map, refl, ap, ap₂, sym, subst, arith, append_assoc, append-nil, Option, None}
+use Rattle.std.proofs.Common.{Result, Ok}
 use Rattle.std.specs.List.{AllByRecursion, enumerate_from}
 use Rattle.std.specs.Prelude.{count_by}
 use Rattle.std.specs.declared.ops.Range.{Range}
@@ -10,9 +10,9 @@ use Rattle.rec_text.specs.Elements.{Piece}
 use Rattle.rec_check.specs.declared.set.Set_.{Set_}
 use Rattle.rec_edit.specs.Script.{Part, Layout, closed, settled, as_one, Single, put_alone, changed_alone, AreTiedRuns, IsScriptOf, OneScript}
 use Rattle.rec_edit.specs.Insertions.{inserting, insertion_for}
-use Rattle.rec_edit.specs.Outcome.{EditScript, IsLaidOut, IsPutIn, is_changed_by}
+use Rattle.rec_edit.specs.Outcome.{EditScript, IsLaidOutFor, IsPutIn, is_changed_by}
 use Rattle.rec_edit.specs.proving.Parts.{putting, changing, parts_from, script_of}
-use Rattle.rec_edit.specs.proving.Edits.{edit_script, insert_script}
+use Rattle.rec_edit.specs.proving.Edits.{edit_script_for, insert_script}
 use Rattle.rec_text.proofs.lemmas.FaultLemmas.{same_value}
 
 -- ---- the parts that the code makes stand for tied runs
@@ -174,12 +174,13 @@ one_script layout pieces = (
 -- ---- what is laid out has the script that the code makes
 
 module _ (pieces : List Piece) where
-  pub laid_out : (chosen : List (Range ℕ)) (layout : Layout) → IsLaidOut pieces chosen layout (Ok (edit_script pieces chosen layout))
+  pub laid_out : {selected : Option ℕ} (chosen : List (Range ℕ)) (layout : Layout) → IsLaidOutFor selected pieces chosen layout (Ok (edit_script_for selected pieces chosen layout))
   laid_out chosen layout = (script_of layout pieces, IsScriptOf-script_of layout pieces, refl)
 
-  pub laid_out-is : (chosen : List (Range ℕ)) (layout : Layout) (answer : Result EditScript Fault) → IsLaidOut pieces chosen layout answer → answer ≡ Ok (edit_script pieces chosen layout)
-  laid_out-is chosen layout answer (script, is, e) =
-      let made : List Part → Result EditScript Fault = λ s. Ok (record { script = s; changed = count_by (is_changed_by s) chosen }) in
+  pub laid_out-is : {selected : Option ℕ} (chosen : List (Range ℕ)) (layout : Layout) (answer : Result EditScript Fault) → IsLaidOutFor selected pieces chosen layout answer
+      → answer ≡ Ok (edit_script_for selected pieces chosen layout)
+  laid_out-is {selected} chosen layout answer (script, is, e) =
+      let made : List Part → Result EditScript Fault = λ s. Ok (record { script = s; changed = count_by (is_changed_by s) chosen; chosen = selected }) in
       e ∙ ap made (same_script layout pieces script (script_of layout pieces) is (IsScriptOf-script_of layout pieces))
 
   module _ (records : List (Range ℕ)) (sets : List Set_) (record_type : Option (List ℕ)) (fields : List Piece) where
@@ -191,8 +192,10 @@ module _ (pieces : List Piece) where
     pub put_in-is : (answer : Result EditScript Fault) → IsPutIn pieces records sets record_type fields answer → answer ≡ Ok (insert_script pieces records sets record_type fields)
     put_in-is answer (script, is, e) =
         let layout : Layout = inserting (insertion_for pieces records sets record_type fields) in
-        let made : List Part → Result EditScript Fault = λ s. Ok (record { script = s; changed = 1 }) in
+        let made : List Part → Result EditScript Fault = λ s. Ok (record { script = s; changed = 1; chosen = None }) in
         e ∙ ap made (same_script layout pieces script (script_of layout pieces) is (IsScriptOf-script_of layout pieces))
 
-pub script_is : (pieces : List Piece) (chosen : List (Range ℕ)) (layout : Layout) (edit : EditScript) → IsLaidOut pieces chosen layout (Ok edit) → edit.script ≡ script_of layout pieces
-script_is pieces chosen layout edit laid = ap (λ s. s.script) (same_value edit (edit_script pieces chosen layout) (laid_out-is pieces chosen layout (Ok edit) laid))
+pub script_is : {selected : Option ℕ} (pieces : List Piece) (chosen : List (Range ℕ)) (layout : Layout) (edit : EditScript) → IsLaidOutFor selected pieces chosen layout (Ok edit)
+    → edit.script ≡ script_of layout pieces
+script_is {selected} pieces chosen layout edit laid =
+    ap (λ s. s.script) (same_value edit (edit_script_for selected pieces chosen layout) (laid_out-is pieces {selected = selected} chosen layout (Ok edit) laid))

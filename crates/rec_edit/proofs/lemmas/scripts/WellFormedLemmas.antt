@@ -1,17 +1,17 @@
 -- Well-formed elements: with a newline added or without it, commented, written anew and renamed; and the new elements of a script.
-use Rattle.std.proofs.Common.{◌≡◌, ◌∙◌, ℕ, suc, ◌+◌, ◌<◌, ◌≤◌, Bool, true, false, cond, not, ◌&&◌, ◌||◌, ◌==◌, List, [], ◌∷◌, ◌++◌, length, map, take, drop, Some, refl, sym, ap, append_assoc, arith,
-    subst, append-nil}
+use Rattle.std.proofs.Common.{◌≡◌, ◌∙◌, ℕ, suc, ◌+◌, ◌<◌, ◌≤◌, Bool, true, false, cond, not, ◌&&◌, ◌||◌, ◌==◌, List, [], ◌∷◌, ◌++◌, length, map, take, drop, Some, refl, sym, ap, append_assoc, arith}
+use Rattle.std.proofs.Common.{subst, append-nil}
 use Rattle.std.specs.Option.{option_map, option_map_or}
 use Rattle.std.specs.List.{AllByRecursion, list_all, slice_get}
-use Rattle.std.proofs.lemmas.Bool.{cond_both, cond-false, and_parts, and_from, and_left, and_right, or_left, or_right, or_from, or_parts, not-true, not_from_false, eqb-true, false≢true,
-    false_from_ne_true}
+use Rattle.std.proofs.lemmas.Bool.{cond_both, cond-false, and_parts, and_from, and_left, and_right, or_left, or_right, or_from, or_parts, not-true, not_from_false, eqb-true, false≢true}
+use Rattle.std.proofs.lemmas.Bool.{false_from_ne_true}
 use Rattle.std.proofs.lemmas.List.{take-append-drop, take-append-le, drop-append-le, drop_more, drop_at, length-map, length-drop}
 use Rattle.rec_text.specs.declared.element.Kind.{Kind}
 use Rattle.rec_text.specs.declared.element.Kind.TheVariants.{Blank, Comment, Field}
 use Rattle.rec_text.specs.Bytes.{is_blank, is_letter, is_nil, continues_name, ends_newline}
 use Rattle.rec_text.specs.Canonical.{is_plain_name, is_foldable, folded, field_of}
-use Rattle.rec_text.specs.Elements.{Piece, IsElement, is_element, is_line, is_blank_line, is_comment, is_field, is_body, is_joined, is_dangling, colon_of, name_of, EndInNewlines, AreElementsOf,
-    text_of}
+use Rattle.rec_text.specs.Elements.{Piece, IsElement, is_element, is_line, is_blank_line, is_comment, is_field, is_body, is_joined, is_dangling, colon_of, name_of, EndInNewlines, AreElementsOf}
+use Rattle.rec_text.specs.Elements.{text_of}
 use Rattle.rec_text.specs.Values.{on_first}
 use Rattle.rec_edit.specs.Script.{closed, without_newline, lacks_newline, Part, Layout, opened, settled, new_pieces, edited_text}
 use Rattle.rec_edit.specs.proving.Parts.{putting, changing, parts_from, script_of}

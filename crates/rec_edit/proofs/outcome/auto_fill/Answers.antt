@@ -17,5 +17,5 @@ filled_up-requires c =
 pub returns : goal.returns
 returns c = λ force.
     auto_fill-made c.args.file.now.pieces (described c.args.file.now.schema) force (filled_of c.in_ok-filled.filled.items) (filled_of c.deref.result.now)
-        (ranges_of (filled_of c.deref.result.now)) c.in_ok-filled_up.field-0
+    (ranges_of (filled_of c.deref.result.now)) c.in_ok-filled_up.field-0
     c.in_ok-filled.ensures.together c.in_ok-filled.ensures.filled (ap filled_of c.deref.ensures.value) (ap (λ f. ranges_of (filled_of f)) c.deref.ensures.value) c.in_ok-filled_up.ensures

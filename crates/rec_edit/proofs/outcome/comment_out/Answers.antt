@@ -13,7 +13,7 @@ returns-in_err-chosen c =
 pub returns : goal.returns
 returns c =
     comment_out-made c.args.file.now.pieces (described c.args.file.now.schema) c.args.force
-        (wanted_by c.args.selection.now) c.in_ok-chosen.chosen.items c.deref-2.result.now c.deref.result.now _ _ c.in_ok-carried_out.field-0
+    (wanted_by c.args.selection.now) c.in_ok-chosen.chosen.items c.deref-2.result.now c.deref.result.now _ _ c.in_ok-carried_out.field-0
     c.in_ok-chosen.ensures.found c.deref.ensures.value c.in_ok-layout.ensures.ranges c.in_ok-layout.ensures.comments c.deref-2.ensures.value c.in_ok-carried_out.ensures
 
 pub carried_out-requires-clause-lines : goal.carried_out-requires-clause-lines

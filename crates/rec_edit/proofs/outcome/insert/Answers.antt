@@ -31,16 +31,16 @@ pub returns-in_err-pairs : goal.returns-in_err-pairs
 returns-in_err-pairs c = λ force.
     rw (kept_error c.from_residual.ensures.1)
     (insert-no_record c.args.file.now.pieces (described c.args.file.now.schema) c.args.record_type.now
-        (fresh_by c.args.fresh.now) c.args.auto force c.in_err-pairs.field-0.0 c.in_err-pairs.ensures.refused)
+    (fresh_by c.args.fresh.now) c.args.auto force c.in_err-pairs.field-0.0 c.in_err-pairs.ensures.refused)
 
 pub returns-in_err-automatic : goal.returns-in_err-automatic
 returns-in_err-automatic c = λ force.
     let P : List Pair → Type 0 = λ pairs.
     IsMemoryOr c.in_err-automatic.field-0.0 (AreAutomatic c.args.file.now.pieces (described c.args.file.now.schema) c.args.record_type.now c.args.auto (map (λ pair. pair.name) pairs)
-        (Err c.in_err-automatic.field-0.0)) in
+    (Err c.in_err-automatic.field-0.0)) in
     rw (kept_error c.from_residual-in_err-automatic.ensures.1)
     (insert-no_number c.args.file.now.pieces (described c.args.file.now.schema) c.args.record_type.now
-        (fresh_by c.args.fresh.now) c.args.auto c.in_ok-pairs.pairs.items c.in_ok-pairs.ensures.found force
+    (fresh_by c.args.fresh.now) c.args.auto c.in_ok-pairs.pairs.items c.in_ok-pairs.ensures.found force
     c.in_err-automatic.field-0.0 (subst P c.deref.ensures.value c.in_err-automatic.ensures.refused))
 
 pub carried_out_on-requires : goal.carried_out_on-requires

@@ -24,6 +24,6 @@ pub returns : goal.returns
 returns c = λ force.
     let elements = c.database.ensures.elements in
     replace-made c.args.file.now.pieces (described c.args.file.now.schema) force (wanted_by c.args.selection.now)
-        (fresh_by c.args.fresh.now) c.in_ok-pairs.pairs.items c.in_ok-layout.layout.pairs.now c.in_ok-chosen.chosen.items
+    (fresh_by c.args.fresh.now) c.in_ok-pairs.pairs.items c.in_ok-layout.layout.pairs.now c.in_ok-chosen.chosen.items
     c.deref-3.result.now c.deref-2.result.now c.in_ok-layout.layout.own c.in_ok-carried_out.field-0 (rw elements at c.text-text.ensures.whole) c.in_ok-pairs.ensures.found c.in_ok-chosen.ensures.found
     (c.in_ok-layout.ensures.pairs ∙ c.deref.ensures.value) c.in_ok-layout.ensures.chosen c.deref-2.ensures.value c.deref-3.ensures.value c.in_ok-carried_out.ensures

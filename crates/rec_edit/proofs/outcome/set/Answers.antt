@@ -22,6 +22,6 @@ carried_out-requires-clause-lines c = LaysLines-setting c.in_ok-layout.layout.ac
 pub returns : goal.returns
 returns c = λ force.
     set-made c.args.file.now.pieces (described c.args.file.now.schema) force (wanted_by c.args.selection.now) c.args.list.now c.args.action.now c.in_ok-items.items c.in_ok-chosen.chosen.items
-        c.deref-2.result.now c.deref.result.now
+    c.deref-2.result.now c.deref.result.now
     c.in_ok-layout.layout c.in_ok-carried_out.field-0 c.in_ok-items.ensures c.in_ok-chosen.ensures.found c.in_ok-layout.ensures c.deref.ensures.value c.deref-2.ensures.value
-        c.in_ok-carried_out.ensures
+    c.in_ok-carried_out.ensures

@@ -10,7 +10,7 @@ loop-index-init g c = ap (λ (p : List Piece). c.args.out.now.items ++ text_of p
 pub loop-index-preserved : goal.loop-index-preserved
 loop-index-preserved g c =
     laying_next (g.P.Layout.layout c.args.layout.now) c.args.elements.now c.loop-index.index _ c.args.first c.loop-index.out.items _ _ c.loop-index-test.true c.loop-index.invariant
-        c.in_ok-lay_closed.ensures
+    c.in_ok-lay_closed.ensures
 
 pub returns : goal.returns
 returns g c = laying_end (g.P.Layout.layout c.args.layout.now) c.args.elements.now c.loop-index.index c.args.first c.loop-index.out.items _ c.loop-index-test.false c.loop-index.invariant

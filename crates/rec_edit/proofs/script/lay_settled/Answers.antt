@@ -30,4 +30,4 @@ returns-else-is_end g c =
     let some : length c.put.new.out.items ≢ 0 = omega (arith, size) in
     let something = laid_something _ _ (text_of following) c.clear.ensures.items c.in_ok-put.ensures some in
     laid_fresh _ _ (text_of (laying layout c.args.first pieces)) c.clear-2.ensures.items c.in_ok-lay_record.ensures
-        ∙ ap text_of (sym (settling-something following (laying layout c.args.first pieces) something))
+    ∙ ap text_of (sym (settling-something following (laying layout c.args.first pieces) something))

@@ -18,7 +18,7 @@ start : (c : After-into_iter-index-iterator)
 start c =
     let taken = ap (λ i. i.iter) c.into_iter-index-iterator.ensures.into_iter_gives ∙ c.take-index-items.ensures.source in
     none_chosen _ _ _ c.records.result _ _ _ (subst (λ pieces. AreRecords pieces c.records.result) c.database-database.ensures.elements c.records.ensures) (ap (λ i. i.count) taken
-        ∙ c.enumerate.ensures.count) (ap (λ i. i.iter) taken ∙ c.enumerate.ensures.source) c.new-selected.ensures.items
+    ∙ c.enumerate.ensures.count) (ap (λ i. i.iter) taken ∙ c.enumerate.ensures.source) c.new-selected.ensures.items
 
 passes : (c : In_ok-passes)
     → IsTrue c.in_ok-passes.field-0 ↔ Passes (filter_of c.args.selection.now.by) (elements_in c.args.file.now.pieces c.in-Some.record) (c.in-Some.index - c.in_ok-members.field-0.now.members.start)
@@ -98,9 +98,9 @@ returns-clause-selected c =
 pub returns-clause-only : goal.returns-clause-only
 returns-clause-only c = λ other is.
     sym (one_selection c.args.file.now.pieces c.args.file.now.schema.sets.items c.args.selection.now.kind (filter_of c.args.selection.now.by) (Ok c.loop-index.selected.items) other
-        (returns-clause-selected c) is)
+    (returns-clause-selected c) is)
 
 pub returns-clause-indexes : goal.returns-clause-indexes
 returns-clause-indexes c =
     selected_are_records c.args.file.now.pieces (described c.args.file.now.schema) c.args.selection.now.kind
-        (filter_of c.args.selection.now.by) c.loop-index.selected.items c.database-database.ensures.together (returns-clause-selected c)
+    (filter_of c.args.selection.now.by) c.loop-index.selected.items c.database-database.ensures.together (returns-clause-selected c)

@@ -13,4 +13,4 @@ returns-in_default c = record {
 pub returns-clause-has : goal.returns-clause-has
 returns-clause-has c =
     text_found (piece_of c.args.element.now) c.bytes.result.now c.args.text.now c.find.result c.is_some.result c.in-Field.is (c.bytes.ensures
-        ∙ c.in_ok-value.ensures.value) c.find.ensures c.is_some.ensures
+    ∙ c.in_ok-value.ensures.value) c.find.ensures c.is_some.ensures

@@ -81,7 +81,10 @@ no_records = refl
 
 -- an empty line stands between descriptors, and the last one gets its newline
 two_descriptors : info Descriptors text (range 2 3 ∷ range 6 7 ∷ [])
-    (record { kind = None; head = None; members = range 0 0 } ∷ record { kind = Some (codes "P"); head = Some 0; members = range 1 1 } ∷ record { kind = Some (codes "Q"); head = Some 1;
-        members = range 2 2 } ∷ [])
+    (record { kind = None; head = None; members = range 0 0 } ∷ record { kind = Some (codes "P"); head = Some 0; members = range 1 1 } ∷ record {
+      kind = Some (codes "Q");
+      head = Some 1;
+      members = range 2 2;
+    } ∷ [])
     ≡ (codes "%rec: P" ++ 10 ∷ []) ++ 10 ∷ (codes "N: 2" ++ 10 ∷ [])
 two_descriptors = refl

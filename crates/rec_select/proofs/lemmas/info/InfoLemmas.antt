@@ -1,6 +1,6 @@
 -- What is printed of record sets, put to a sink part by part.
-use Rattle.std.proofs.Common.{◌≡◌, ℕ, suc, Bool, true, false, cond, not, ◌==◌, if◌then◌else◌, nat_lt, ◌+◌, ◌-◌, ◌<◌, ◌≤◌, List, [], ◌∷◌, ◌++◌, Option, Some, None, Ok, Err, length, take, drop, get_or,
-    flat_map, map, refl, sym, ap, subst, ◌∙◌, inl, inr, append_assoc, append-nil, length-append, length-drop, drop-drop, add-one, drop-cons, arith}
+use Rattle.std.proofs.Common.{◌≡◌, ℕ, suc, Bool, true, false, cond, not, ◌==◌, if◌then◌else◌, nat_lt, ◌+◌, ◌-◌, ◌<◌, ◌≤◌, List, [], ◌∷◌, ◌++◌, Option, Some, None, Ok, Err, length, take, drop, get_or}
+use Rattle.std.proofs.Common.{flat_map, map, refl, sym, ap, subst, ◌∙◌, inl, inr, append_assoc, append-nil, length-append, length-drop, drop-drop, add-one, drop-cons, arith}
 use Rattle.std.specs.Iterator.{SkipsThenYields, Yields, YieldsFirst}
 use Rattle.std.specs.List.{filter, filter_map, find, join_with_byte, position, position_or_len, slice_get}
 use Rattle.std.specs.Option.{option_map_or}
@@ -309,7 +309,7 @@ module _ {S : Type 0} {contents : S → Option (List ℕ)} {failures : S → ℕ
 
   module _ {sets rest more : List Set_} {old mid : S} {passed : ℕ} {left later : List (Range ℕ)} {head : ℕ} {fields : Range ℕ}
       (so_far : AreHeadsTo pieces all contents failures old mid sets passed left rest) (next : IsNextHead pieces all passed head fields later rest more) (part same : List Piece) (is_part : part
-          ≡ elements_in same fields)
+      ≡ elements_in same fields)
       (is_same : same ≡ pieces) where
     block_is : gap (passed == 0) ++ block_of Blocks part ≡ gap (passed == 0) ++ block_of Blocks (elements_in pieces fields)
     block_is = ap (λ (pieces : List Piece). gap (passed == 0) ++ block_of Blocks pieces) (is_part ∙ ap (λ (pieces : List Piece). elements_in pieces fields) is_same)

@@ -1,6 +1,6 @@
 -- Elements that stand in a text one after another: their parts, and the text of each part.
-use Rattle.std.proofs.Common.{◌≡◌, ℕ, ◌+◌, ◌-◌, ◌<◌, ◌≤◌, Bool, true, false, List, [], ◌∷◌, ◌++◌, Option, Some, None, length, length-append, take, drop, get_or, suc, refl, sym, ap, subst, ◌∙◌, ◌⊎◌,
-    inl, inr, ◌==◌, append-nil, append_assoc, arith}
+use Rattle.std.proofs.Common.{◌≡◌, ℕ, ◌+◌, ◌-◌, ◌<◌, ◌≤◌, Bool, true, false, List, [], ◌∷◌, ◌++◌, Option, Some, None, length, length-append, take, drop, get_or, suc, refl, sym, ap, subst, ◌∙◌, ◌⊎◌}
+use Rattle.std.proofs.Common.{inl, inr, ◌==◌, append-nil, append_assoc, arith}
 use Rattle.std.specs.Prelude.{filter, flat_map, slice_get}
 use Rattle.std.specs.List.{AllByRecursion}
 use Rattle.std.proofs.lemmas.Bool.{false≢true}
@@ -263,7 +263,7 @@ module _ (pieces : List Piece) where
             ∙ append_assoc (fields_text (take start pieces)) (flat_map printed_element (run pieces start at)) (printed_element piece)
             ∙ ap (λ t. fields_text (take start pieces) ++ t)
             (sym (ap (flat_map printed_element) run_more ∙ flat_map-append printed_element (run pieces start at) (piece ∷ [])
-                ∙ ap (λ t. flat_map printed_element (run pieces start at) ++ t) (append-nil (printed_element piece))));
+            ∙ ap (λ t. flat_map printed_element (run pieces start at) ++ t) (append-nil (printed_element piece))));
       }
 
       pub whole_run : false ≡ is_field_piece piece → (part : List Piece) → part ≡ run pieces start at

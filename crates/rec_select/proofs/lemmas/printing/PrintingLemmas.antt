@@ -1,6 +1,6 @@
 -- What is printed of many records, block by block.
-use Rattle.std.proofs.Common.{◌≡◌, ℕ, ◌+◌, ◌<◌, Bool, true, false, not, List, [], ◌∷◌, ◌++◌, Ok, ◌⊎◌, inl, inr, length, get_or, take, drop, map, refl, sym, ap, subst, ◌∙◌, append-nil, append_assoc,
-    arith}
+use Rattle.std.proofs.Common.{◌≡◌, ℕ, ◌+◌, ◌<◌, Bool, true, false, not, List, [], ◌∷◌, ◌++◌, Ok, ◌⊎◌, inl, inr, length, get_or, take, drop, map, refl, sym, ap, subst, ◌∙◌, append-nil, append_assoc}
+use Rattle.std.proofs.Common.{arith}
 use Rattle.std.specs.Prelude.{flat_map}
 use Rattle.std.specs.List.{concat, join_with_byte, AllByRecursion}
 use Rattle.std.specs.declared.ops.Range.{Range}

@@ -1,6 +1,6 @@
 -- The set of a selection, its members one after another, and the one list of those that are selected.
-use Rattle.std.proofs.Common.{◌≡◌, ◌∙◌, ◌⊎◌, inl, inr, ℕ, zero, suc, ◌+◌, ◌-◌, ◌<◌, ◌≤◌, Bool, true, false, cond, List, [], ◌∷◌, ◌++◌, Option, Some, None, Result, Ok, Err, length, drop, get_or, refl,
-    ap, sym, subst, arith}
+use Rattle.std.proofs.Common.{◌≡◌, ◌∙◌, ◌⊎◌, inl, inr, ℕ, zero, suc, ◌+◌, ◌-◌, ◌<◌, ◌≤◌, Bool, true, false, cond, List, [], ◌∷◌, ◌++◌, Option, Some, None, Result, Ok, Err, length, drop, get_or, refl}
+use Rattle.std.proofs.Common.{ap, sym, subst, arith}
 use Rattle.std.specs.Prelude.{◌↔◌, IsTrue, AllPairs, Contains, find, position, slice_get}
 use Rattle.std.specs.List.{AllByRecursion, position_or_len}
 use Rattle.std.specs.Option.{option_map_or}
@@ -40,7 +40,7 @@ set_found record_type sets items place s found same is =
     position_or_len_is (is_of_type record_type) sets place s (omega arith)
     (λ k below. let early = position-Some (is_of_type record_type) sets place s (sym found) in early.2 k below) (λ _. at.1) in
     ap set_or_none (find_at (is_of_type record_type) sets ∙ ap (slice_get sets) first ∙ slice_get-get_or sets place s within ∙ ap (λ (l : List Set_). Some (get_or l place s)) (sym same)
-        ∙ ap Some (sym is))
+    ∙ ap Some (sym is))
 
 pub set_missing : (record_type : List ℕ) (sets : List Set_) → None ≡ position (is_of_type record_type) sets → set_of_type record_type sets ≡ Err NoSuchType
 set_missing record_type sets none =

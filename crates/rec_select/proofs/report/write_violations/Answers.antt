@@ -7,7 +7,7 @@ pub returns-in_err-write_violation-clause-printed : goal.returns-in_err-write_vi
 returns-in_err-write_violation-clause-printed g c =
     Prints-stopped c.from_residual.result c.from_residual.ensures.1
     (one_stopped report_line c.args.violations.now c.loop-violation.violation-index _ _ c.loop-violation.invariant c.loop-violation-test.true c.violation-item.is
-        c.in_err-write_violation.ensures.printed)
+    c.in_err-write_violation.ensures.printed)
 
 pub loop-violation-preserved : goal.loop-violation-preserved
 loop-violation-preserved g c =

@@ -15,4 +15,4 @@ returns-in_err-plan-clause-found c =
 pub returns-clause-found : goal.returns-clause-found
 returns-clause-found c =
     move-planned c.args.file.now c.args.journal.now c.args.direction _ c.in_ok-history.ensures _ c.in_ok-plan.ensures.plan.found
-    c.in_ok-plan.ensures.plan.safe _ c.in_ok-plan.ensures.number _ c.reply_of.ensures _ (ap outcome_of c.put_plan.ensures)
+    c.in_ok-plan.ensures.plan.safe _ _ c.in_ok-plan.ensures.nearest _ c.reply_of.ensures _ (ap outcome_of c.put_plan.ensures)

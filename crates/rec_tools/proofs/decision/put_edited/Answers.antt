@@ -11,4 +11,4 @@ returns-in_err-plan-clause-found c =
 pub returns-clause-found : goal.returns-clause-found
 returns-clause-found c =
     put-planned _ _ _ c.requires.opened c.args.tool c.args.edited c.requires.differs _ c.requires.steps.leads
-    c.in_ok-plan.ensures.found c.in_ok-plan.ensures.safe _ (ap outcome_of c.put_plan.ensures)
+    c.in_ok-plan.ensures.found c.in_ok-plan.ensures.safe _ _ c.next.ensures c.dropped.ensures _ (ap outcome_of c.put_plan.ensures)

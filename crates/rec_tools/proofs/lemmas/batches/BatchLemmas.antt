@@ -1,6 +1,6 @@
 -- Lemmas on the text of a batch.
-use Rattle.std.proofs.Common.{◌≡◌, ◌≢◌, ℕ, Bool, true, false, List, [], ◌∷◌, ◌++◌, Option, Some, None, map, take, codes, length, drop, get_or, zero, suc, ◌+◌, ◌<◌, inl, inr, arith, add-one,
-    if◌then◌else◌, ◌∙◌, refl, sym, ap, subst}
+use Rattle.std.proofs.Common.{◌≡◌, ◌≢◌, ℕ, Bool, true, false, List, [], ◌∷◌, ◌++◌, Option, Some, None, map, take, codes, length, drop, get_or, zero, suc, ◌+◌, ◌<◌, inl, inr, arith, add-one}
+use Rattle.std.proofs.Common.{if◌then◌else◌, ◌∙◌, refl, sym, ap, subst}
 use Rattle.std.specs.Prelude.{Result, Ok, Err, IfOk, IfErr, option_to_list}
 use Rattle.std.specs.List.{AllByRecursion, AllZip}
 use Rattle.std.specs.declared.ops.Range.{Range}
@@ -32,8 +32,8 @@ use Rattle.rec_tools.specs.declared.request.Pick.{Pick}
 use Rattle.rec_tools.specs.declared.request.EditRequest.{EditRequest}
 use Rattle.rec_tools.specs.declared.request.EditRequest.TheVariants.{Insert, Replace, Delete, CommentOut, Set}
 use Rattle.rec_tools.specs.proving.Finding.{FindsPart, AreEditsIn, unread_by}
-use Rattle.rec_tools.specs.Batches.{is_known, AsksFor, AsksTool, IsBy, IsEdit, HasOnly, HasWord, IsPickOf, IsFreshOf, IsAutoOf, IsActionOf, HasNoEditAt, IsUnreadAt, AreEditsOf, AreEdits, Agree,
-    HasOneAnswer}
+use Rattle.rec_tools.specs.Batches.{is_known, AsksFor, AsksTool, IsBy, IsEdit, HasOnly, HasWord, IsPickOf, IsFreshOf, IsAutoOf, IsActionOf, HasNoEditAt, IsUnreadAt, AreEditsOf, AreEdits, Agree}
+use Rattle.rec_tools.specs.Batches.{HasOneAnswer}
 
 -- ---- one value of a name
 

@@ -6,6 +6,7 @@ use Rattle.rec_journal.specs.declared.patch.Direction.{Direction}
 use Rattle.rec_journal.specs.declared.patch.Direction.TheVariants.{Forward, Backward}
 use Rattle.rec_journal.specs.declared.event.Tool.{Tool}
 use Rattle.rec_journal.specs.History.{Opened, Opens, IsRegular, open_at, spelled, start, newest_header}
+use Rattle.rec_journal.proofs.lemmas.histories.Countings.{settled-none_dropped}
 use Rattle.rec_journal.proofs.lemmas.histories.Headers.{length-header}
 use Rattle.rec_journal.proofs.lemmas.histories.Openings.{one_opening}
 use Rattle.rec_journal.proofs.lemmas.patches.StepLemmas.{edits_lead_to_one_text}
@@ -22,6 +23,7 @@ pub record StandsBy (o : Opened) (c : Contents) (s : State) : Type 0 where
   pub past : AreEntries Backward o.past s.past c.file
   pub future : AreEntries Forward o.future s.future c.file
   pub next : s.next ≡ o.next
+  pub none_dropped : o.dropped ≡ 0
 
 -- contents open in one way, so they stand by the history that they open with
 pub stands_by : (c : Contents) (s : State) (o : Opened) → Stands c s → Opens c.file c.journal o → StandsBy o c s
@@ -33,6 +35,7 @@ stands_by c s o stands opens =
       past = stands.past;
       future = stands.future;
       next = stands.next;
+      none_dropped = settled-none_dropped c.file c.journal stands.opened stands.opens stands.settled;
     })
 
 -- ---- one state

@@ -20,7 +20,7 @@ use Rattle.rec_tools.specs.Home.{Contents}
 use Rattle.rec_tools.specs.Steps.{Then}
 use Rattle.rec_tools.specs.Printouts.{Printout, history_text, printed_history}
 use Rattle.rec_tools.specs.Requests.{Edits, Asked, looking, listing, editing, moving, forgetting, asked_of}
-use Rattle.rec_tools.specs.Outcomes.{Outcome, IsRequestOutcome, IsPrinting, IsMade, IsEditOutcome, IsPlanned, IsMove, IsMoveOutcome, IsForgetting, Forgets, printing, reply_of}
+use Rattle.rec_tools.specs.Outcomes.{Outcome, IsRequestOutcome, IsPrinting, IsMade, IsEditOutcome, IsPlanned, IsMove, IsMoveOutcome, IsForgetting, Forgets, printing, putting, reply_of}
 use Rattle.rec_tools.specs.Machine.{Entry, State, AreEntries, Stands, IsMachineStep, IsMoveStep, Clashes, entries_on, state_history, state_after_edit, state_after_move, state_after_forgetting}
 use Rattle.rec_tools.specs.Guarantee.{StepsAsMachine, OutcomesAreSteps}
 use Rattle.rec_text.proofs.lemmas.FaultLemmas.{ok_is_no_err}
@@ -164,12 +164,12 @@ module _ (c : Contents) (s : State) (stands : Stands c s) where
         other : made.text ≢ s.present
         other same = differs (same ∙ stands.present)
 
-        step : IsMachineStep s (editing IsEdit) (Ok (EditedReply made.changed)) [] (state_after_edit s tool made.text)
+        step : IsMachineStep s (editing IsEdit) (Ok (EditedReply made.changed s.next 0)) [] (state_after_edit s tool made.text)
         step = (Ok (tool, made), on_present (Ok (tool, made)) is, inr (other, refl, refl), refl)
 
         clashes : ShareDigest c.file made.text → Clashes s (editing IsEdit)
         clashes same = record {
-          reply = EditedReply made.changed;
+          reply = EditedReply made.changed s.next 0;
           later = state_after_edit s tool made.text;
           step = step;
           differ = other;
@@ -203,7 +203,9 @@ module _ (c : Contents) (s : State) (stands : Stands c s) where
           subst (λ x. StepsAsMachine c s (editing IsEdit) (Ok x)) (sym e)
           (s, (Ok (tool, made), on_present (Ok (tool, made)) is, inl (same ∙ sym stands.present, refl, refl), refl), stands)
       edit_steps o (Ok outcome) opens (inr (differs, (plan, planned, e))) =
-          subst (λ x. StepsAsMachine c s (editing IsEdit) (Ok x)) (sym e)
+          let by = by_opening o opens in
+          let told : EditedReply made.changed o.next o.dropped ≡ EditedReply made.changed s.next 0 = ap₂ (EditedReply made.changed) (sym by.next) by.none_dropped in
+          subst (λ x. StepsAsMachine c s (editing IsEdit) (Ok x)) (sym (e ∙ ap (putting plan) told))
           (state_after_edit s tool made.text, step differs, stands_after_edit o plan opens planned)
       edit_steps o (Err fault) opens (differs, e, same) = inr (e, clashes differs same)
 
@@ -227,11 +229,12 @@ module _ (c : Contents) (s : State) (stands : Stands c s) where
     moved outcome m =
         let has = has_nearest direction o c s m.moves.nearest m.moves.others by m.moves.there in
         let t = state_after_move direction s has.entry has.entries in
-        let reply = reply_of direction m.moves.nearest.number in
+        let nearest = m.moves.nearest in
+        let reply = reply_of direction nearest.number nearest.tool in
         subst (λ x. StepsAsMachine c s (moving direction) (Ok x)) (sym m.is) (
           t,
           (
-            subst (λ es. IsMoveStep direction s es (Ok reply) t) (sym has.are) (ap (λ n. Ok (reply_of direction n)) has.number, refl),
+            subst (λ es. IsMoveStep direction s es (Ok reply) t) (sym has.are) (ap₂ (λ n tool. Ok (reply_of direction n tool)) has.number has.tool, refl),
             refl,
           ),
           stands_after_move direction o c (record { file = m.plan.file; journal = m.plan.journal }) s m.moves.nearest m.moves.others by has

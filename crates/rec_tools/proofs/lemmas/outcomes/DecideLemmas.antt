@@ -1,5 +1,5 @@
 -- What an edit and a move come to, once their history was opened and their text was found.
-use Rattle.std.proofs.Common.{◌≡◌, ◌≢◌, inl, inr, ℕ, Bool, false, List, [], ◌∷◌, ◌++◌, append-nil, Result, Ok, Err, sym, ap, subst, refl, ◌∙◌}
+use Rattle.std.proofs.Common.{◌≡◌, ◌≢◌, inl, inr, ℕ, Bool, false, List, [], ◌∷◌, ◌++◌, append-nil, Result, Ok, Err, sym, ap, ap₂, subst, refl, ◌∙◌}
 use Rattle.std.specs.List.{AllByRecursion}
 use Rattle.rec_text.specs.declared.fault.Fault.{Fault}
 use Rattle.rec_text.specs.declared.fault.Fault.TheVariants.{DigestClash}
@@ -15,7 +15,7 @@ use Rattle.rec_journal.specs.declared.plan.Plan.{Plan}
 use Rattle.rec_journal.specs.Event.{AreStepsBy}
 use Rattle.rec_journal.specs.History.{Opened, Opens, IsOpening}
 use Rattle.rec_journal.specs.Revisions.{single_step, is_batch, all_hunks, AreDone, LeadsBy}
-use Rattle.rec_journal.specs.Plans.{ShareDigest, IsEditPlan, IsMovePlan, IsNumberOfNearest, after_edit_plan, after_move, edits_on}
+use Rattle.rec_journal.specs.Plans.{ShareDigest, IsEditPlan, IsMovePlan, TellsNearest, after_edit_plan, after_move, edits_on}
 use Rattle.rec_journal.specs.Stops.{IsSafe}
 use Rattle.rec_journal.proofs.lemmas.histories.Countings.{Opens-digest}
 use Rattle.rec_edit.specs.declared.answer.Edited.{Edited}
@@ -209,8 +209,8 @@ module _ (file journal : List ℕ) (IsEdit : Result Edits Fault → Type 0) wher
         edit_ends : (r : Result Outcome Fault) → IsEditOutcome o on tool made r → IsRequestOutcome on (editing IsEdit) r
         edit_ends r h = inr (text, is, inr (o, opens, inr ((tool, made), subst (λ t. IsMade IsEdit t (Ok (tool, made))) same is_made, h)))
 
-        pub edit-unchanged : made.text ≡ file → IsRequestOutcome on (editing IsEdit) (Ok (staying Unchanged))
-        edit-unchanged alike = edit_ends (Ok (staying Unchanged)) (inl (alike, refl))
+        pub edit-unchanged : made.text ≡ file → IsRequestOutcome on (editing IsEdit) (Ok (staying (Unchanged made.chosen)))
+        edit-unchanged alike = edit_ends (Ok (staying (Unchanged made.chosen))) (inl (alike, refl))
 
         pub edit-put : (r : Result Decision Fault) → UnlessMemory r (λ answer. IsEditOutcome o on tool made (outcome_in answer)) → UnlessMemory r (Decides file journal (editing IsEdit))
         edit-put (Ok decision) h = edit_ends (Ok (outcome_of decision)) h
@@ -244,8 +244,10 @@ module _ (o : Opened) (file journal : List ℕ) (opens : IsOpening file journal 
 
   pub put-planned : (plan : Plan) → LeadsBy made.steps file made.text → IsEditPlan o journal tool made.steps made.text (Ok plan)
       → IsSafe file journal o (after_edit_plan o journal tool made.steps made.text) plan
-      → (outcome : Outcome) → outcome ≡ putting plan (EditedReply made.changed) → IsEditOutcome o contents_of tool made (Ok outcome)
-  put-planned plan leads planned safe outcome is = inr (other, (plan, record { leads = leads; planned = planned; safe = safe }, is))
+      → (number dropped : ℕ) → number ≡ o.next → dropped ≡ o.dropped
+      → (outcome : Outcome) → outcome ≡ putting plan (EditedReply made.changed number dropped) → IsEditOutcome o contents_of tool made (Ok outcome)
+  put-planned plan leads planned safe number dropped next gone outcome is =
+      inr (other, (plan, record { leads = leads; planned = planned; safe = safe }, is ∙ ap₂ (λ n k. putting plan (EditedReply made.changed n k)) next gone))
 
 -- ---- a move
 
@@ -265,9 +267,9 @@ module _ (file journal : List ℕ) (direction : Direction) where
 
     pub move-planned : (plan : Plan) → IsMovePlan direction o file journal (Ok plan)
         → ((e : Revision) (others : List Revision) → edits_on direction o ≡ e ∷ others → IsSafe file journal o (after_move direction o journal e others) plan)
-        → (number : ℕ) → IsNumberOfNearest direction o number → (reply : Reply) → reply ≡ reply_of direction number
+        → (number : ℕ) (tool : Tool) → TellsNearest direction o number tool → (reply : Reply) → reply ≡ reply_of direction number tool
         → (outcome : Outcome) → outcome ≡ putting plan reply → IsRequestOutcome contents (moving direction) (Ok outcome)
-    move-planned plan planned safe number (nearest, others, there, named) reply replied outcome put =
+    move-planned plan planned safe number tool (nearest, others, there, named, by) reply replied outcome put =
         let moves = planned.1 in
         let same : nearest ≡ moves.nearest = same_nearest (sym there ∙ moves.there) in
         inr (
@@ -279,7 +281,8 @@ module _ (file journal : List ℕ) (direction : Direction) where
               plan = plan;
               moves = moves;
               safe = safe moves.nearest moves.others moves.there;
-              is = put ∙ ap (putting plan) replied ∙ ap (λ n. putting plan (reply_of direction n)) (named ∙ ap (λ (e : Revision). e.number) same);
+              is = put ∙ ap (putting plan) replied ∙ ap₂ (λ n t. putting plan (reply_of direction n t)) named by
+                  ∙ ap (λ (e : Revision). putting plan (reply_of direction e.number e.tool)) same;
             },
           ),
         )

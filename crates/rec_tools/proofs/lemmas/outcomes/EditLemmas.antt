@@ -18,7 +18,7 @@ use Rattle.rec_select.specs.Selection.{Filter, IsSelection}
 use Rattle.rec_edit.specs.declared.request.Action.{Action}
 use Rattle.rec_edit.specs.declared.answer.Edited.{Edited}
 use Rattle.rec_edit.specs.declared.outcome.Patched.{Patched}
-use Rattle.rec_edit.specs.Batch.{IsEditOn, step_with, at_most_greatest, AreSteps, IsBatchOutcome}
+use Rattle.rec_edit.specs.Batch.{IsEditOn, step_with, at_most_greatest, both_chosen, AreSteps, IsBatchOutcome}
 use Rattle.rec_edit.specs.Task.{NewRecord, Wanted, Task, insert, replace, delete, comment_out, set, auto_fill, fresh_by, tool_of}
 use Rattle.rec_edit.specs.Wording.{AreItemsFor, IsNewRecord}
 use Rattle.rec_edit.specs.Outcome.{AreChosen, AreRemovable, allowed, EditScript, IsEditScript, none_of, IsSoundUnlessForced, IsEditOf}
@@ -177,6 +177,7 @@ joined_by tool step rest = record {
   steps = step_with tool step.patch ++ rest.steps;
   text = rest.text;
   changed = at_most_greatest (step.changed + rest.changed);
+  chosen = both_chosen step.chosen rest.chosen;
 }
 
 -- what becomes of a step and of those after it
@@ -294,7 +295,7 @@ no_store_edit_on force task text =
     (λ described. no_store_edit described force task)
 
 no_store_steps : (force : Bool) (tasks : List Task) (text : List ℕ) → AreSteps force tasks text (Err StoreFailed) → ⊥
-no_store_steps force [] text = ok_is_no_err (record { steps = []; text = text; changed = 0 }) StoreFailed ⊥
+no_store_steps force [] text = ok_is_no_err (record { steps = []; text = text; changed = 0; chosen = None }) StoreFailed ⊥
 no_store_steps force (task ∷ tasks) text =
     no_store_then (IsEditOn force task text) (Joins force (tool_of task) tasks) (no_store_edit_on force task text) (λ step.
     no_store_then (AreSteps force tasks step.text) (λ rest answer. answer ≡ Ok (joined_by (tool_of task) step rest))

@@ -167,7 +167,7 @@ module _ (o : Opened) (c : Contents) (opens : Opens c.file c.journal o) (tool : 
   HasOne-edit_outcome (Ok one) (Ok other) (inl (same, e)) (inr (differs, is_too)) = absurd (differs same)
   HasOne-edit_outcome (Ok one) (Ok other) (inr (differs, is)) (inl (same, k)) = absurd (differs same)
   HasOne-edit_outcome (Ok one) (Ok other) (inr (differs, (plan, planned, e))) (inr (differs_too, (also, planned_too, k))) =
-      ap Ok (e ∙ ap (λ p. putting p (EditedReply made.changed)) (same_plan_of c o tool made plan also planned planned_too) ∙ sym k)
+      ap Ok (e ∙ ap (λ p. putting p (EditedReply made.changed o.next o.dropped)) (same_plan_of c o tool made plan also planned planned_too) ∙ sym k)
   HasOne-edit_outcome (Ok one) (Err fault) (inl (same, e)) is_too = absurd (is_too.0 same)
   HasOne-edit_outcome (Ok one) (Err fault) (inr (differs, (plan, planned, e))) is_too = absurd (no_clash c o tool made plan opens planned is_too.2)
   HasOne-edit_outcome (Err fault) (Ok other) is (inl (same, k)) = absurd (is.0 same)
@@ -192,8 +192,8 @@ module _ (direction : Direction) (o : Opened) (c : Contents) where
       let n = is_too.1 in
       let plans = same_value m.plan n.plan (one_plan (Ok m.plan) (Ok n.plan) (is_planned one is) (is_planned other is_too)) in
       let nearest = same_first m.moves.nearest n.moves.nearest m.moves.others n.moves.others (sym m.moves.there ∙ n.moves.there) in
-      ap Ok (m.is ∙ ap (λ p. putting p (reply_of direction m.moves.nearest.number)) plans
-      ∙ ap (λ (e : Revision). putting n.plan (reply_of direction e.number)) nearest ∙ sym n.is)
+      ap Ok (m.is ∙ ap (λ p. putting p (reply_of direction m.moves.nearest.number m.moves.nearest.tool)) plans
+      ∙ ap (λ (e : Revision). putting n.plan (reply_of direction e.number e.tool)) nearest ∙ sym n.is)
   HasOne-move (Ok one) (Err fault) is is_too =
       absurd (no_both is.1.plan fault (one_plan (Ok is.1.plan) (Err fault) (is_planned one is) is_too))
   HasOne-move (Err fault) (Ok other) is is_too =

@@ -16,13 +16,16 @@ pub returns-in_err-write_records-clause-written : goal.returns-in_err-write_reco
 returns-in_err-write_records-clause-written g c =
     rw (kept_error c.from_residual-in_err-write_records.ensures.1) (refused_within c.in_err-write_records.ensures.written (PutsPrintout-err_shown (Unit {0}) _ _ _ _ _
     (show_of-printed (described_text c.args.file.now) c.args.wanted.now.selection.kind
-        (filter_of c.args.wanted.now.selection.by) c.args.wanted.now.shape c.args.collapse _ _ c.deref.ensures.value c.in_ok-selected.ensures.selected)))
+    (filter_of c.args.wanted.now.selection.by) c.args.wanted.now.shape c.args.collapse _ _ c.deref.ensures.value c.in_ok-selected.ensures.selected)))
 
 pub returns-clause-written : goal.returns-clause-written
 returns-clause-written g c =
     printed_all c.in_ok-write_records.ensures.written (λ printed. (
       printed.0,
-      (show_of-printed (described_text c.args.file.now) c.args.wanted.now.selection.kind
-          (filter_of c.args.wanted.now.selection.by) c.args.wanted.now.shape c.args.collapse _ _ c.deref.ensures.value c.in_ok-selected.ensures.selected _ printed.1, refl),
+      (
+        show_of-printed (described_text c.args.file.now) c.args.wanted.now.selection.kind
+            (filter_of c.args.wanted.now.selection.by) c.args.wanted.now.shape c.args.collapse _ _ c.deref.ensures.value c.in_ok-selected.ensures.selected _ printed.1,
+        refl,
+      ),
       printed.2,
     ))

@@ -9,7 +9,7 @@ returns-in_err-file-clause-attempts g c =
 pub returns-in_err-decision-clause-attempts : goal.returns-in_err-decision-clause-attempts
 returns-in_err-decision-clause-attempts g c =
     rw (refused_with _ _ c.from_residual-in_err-decision.ensures.1) (silently-refused _ _ _ _ _ _ _ _ _ (silent-reads_both _ c.requires) c.in_ok-file.ensures.calls c.as_slice.ensures
-        c.as_slice-2.ensures c.in_err-decision.ensures.found)
+    c.as_slice-2.ensures c.in_err-decision.ensures.found)
 
 pub returns-clause-attempts : goal.returns-clause-attempts
 returns-clause-attempts g c =

@@ -8,7 +8,7 @@ returns-clause-kept g c =
 pub returns-clause-store_failed : goal.returns-clause-store_failed
 returns-clause-store_failed g c =
     attempted-store_failed g.H.Home.goes g.S.Sink.contents g.S.Sink.failure_count g.H.Home.failure_count g.met.H.Home.counts _ _ c.args.out.now c.attempt.new.out c.args.request.now
-        _ c.attempt.ensures.attempts
+    _ c.attempt.ensures.attempts
 
 pub returns-clause-unchanged : goal.returns-clause-unchanged
 returns-clause-unchanged g c =

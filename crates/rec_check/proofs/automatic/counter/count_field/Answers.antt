@@ -16,4 +16,4 @@ returns-clause-counts c =
     field_counted (greatest_at c.args.greatest.now) (piece_of c.args.field.now) own c.name-name.ensures (greatest_at c.insert.new.self) c.in-Some.so_far c.in_ok-number.number
     (sym c.get.ensures.value ∙ sym c.copied.ensures ∙ c.in-Some.is) c.in_ok-number.ensures.reading
     (λ name. hash_map_updates_str own c.args.greatest.now c.insert.new.self _ c.in_ok-insert.ensures.updates name
-        ∙ ap (λ g. cond (bytes_eq own name) (Some g) (greatest_at c.args.greatest.now name)) c.greater.ensures)
+    ∙ ap (λ g. cond (bytes_eq own name) (Some g) (greatest_at c.args.greatest.now name)) c.greater.ensures)

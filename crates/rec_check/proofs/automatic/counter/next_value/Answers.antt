@@ -13,5 +13,5 @@ pub returns : goal.returns
 returns c =
     let name = c.args.name.now in
     next_in (rules_stored c.args.rules.now) name (readings (pieces_of c.args.elements.now) c.args.records.now name) _ c.number_after.result (sym c.in_ok-may_be_counter.ensures.counter
-        ∙ c.if-not-branch.false)
+    ∙ c.if-not-branch.false)
     (c.kept.ensures ∙ ap (λ kept. unwrap_or kept None) (c.in_ok-greatest.ensures.greatest name (among_itself name))) c.number_after.ensures

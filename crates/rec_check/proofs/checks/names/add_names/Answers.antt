@@ -10,4 +10,4 @@ loop-name-preserved c = λ name.
     has_more c.args.more.now c.loop-name.name-index c.as_slice.result.now c.name-item.result name (has_name c.args.names.now name) (has_name c.loop-name.names name) (has_name c.insert.new.self name)
     c.loop-name-test.true c.name-item.is c.as_slice.ensures (c.loop-name.invariant name)
     (has-put (λ one. one.now) c.loop-name.names c.insert.new.self c.as_slice.result c.in_ok-insert.field-0 c.in_ok-insert.ensures.keys
-        (λ old. not-false _ (sym c.in_ok-insert.ensures.added ∙ old)) name)
+    (λ old. not-false _ (sym c.in_ok-insert.ensures.added ∙ old)) name)

@@ -20,7 +20,7 @@ returns-clause-added c =
     let asked = rules_stored c.args.rules.now in
     on_ok_weaker c.check_records.result
     (λ added. AddsOfSet-joined (pieces_of c.args.lines.now.elements.now) c.args.records.now c.args.set.now asked c.args.found.now.items c.check_head.new.found.items c.check_records.new.found.items
-        c.in_ok-check_head.ensures.added
+    c.in_ok-check_head.ensures.added
     (subst (λ l. AddsOfRecords (pieces_of l) asked (members c.args.records.now c.args.set.now) c.check_head.new.found.items c.check_records.new.found.items) c.in_ok-check_head.ensures.elements added))
     c.check_records.ensures.added
 

@@ -24,7 +24,7 @@ turn : (c : In-Some) → (length c.loop-set.yielded < length c.args.sets.now) ×
 turn c =
     let at = goal.at.In-Some c in
     zip_turn c.args.sets.now c.args.rules.now c.loop-set.yielded c.into_iter-set-iterator.result c.loop-set.set-iterator c.next.new.self c.next.result (first_rest at.After-into_iter-set-iterator)
-        (second_rest at.After-into_iter-set-iterator)
+    (second_rest at.After-into_iter-set-iterator)
     c.loop-set.yielded_by (c.in-Some.set, c.in-Some.rules) c.in-Some.is c.next.ensures.steps
 
 pub check_set-requires : goal.check_set-requires
@@ -43,7 +43,7 @@ check_set-requires c =
           (no_size pieces sets c.args.rules.now c.requires place c.in-Some.set.now c.in-Some.rules.now turn.0));
       next =
           next_set pieces (pieces_of c.loop-set.lines.elements.now) records sets (map rules_stored c.args.rules.now) place c.loop-set.lines.passed c.loop-set.found.items c.loop-set.invariant
-              c.in-Some.set.now (turn.2 c.in-Some.set.now) turn.0 ends;
+          c.in-Some.set.now (turn.2 c.in-Some.set.now) turn.0 ends;
       within =
           records_within pieces sets c.args.rules.now c.requires records are (length c.loop-set.lines.elements.now)
           (omega (arith, length-map c.loop-set.lines.elements.now piece_of, ap length c.loop-set.invariant.elements));
@@ -63,13 +63,13 @@ loop-set-preserved c =
     let own_at : own ≡ get_or asked place own = ap rules_stored (turn.3 c.in-Some.rules.now) ∙ sym (get_or-map rules_stored c.args.rules.now place c.in-Some.rules.now own turn.1) in
     let step =
     reported_more pieces (pieces_of c.loop-set.lines.elements.now) records sets asked place c.loop-set.lines.passed c.loop-set.found.items c.loop-set.invariant c.in-Some.set.now
-        (turn.2 c.in-Some.set.now) turn.0
+    (turn.2 c.in-Some.set.now) turn.0
     own c.check_set.new.lines.passed (pieces_of c.check_set.new.lines.elements.now) c.check_set.new.found.items own_at
     (omega (arith, long, length-map c.args.rules.now rules_stored)) (ap pieces_of c.in_ok-check_set.ensures.elements)
     c.in_ok-check_set.ensures.ahead
     c.in_ok-check_set.ensures.added in
     subst (λ n. IsReported pieces (pieces_of c.check_set.new.lines.elements.now) records sets asked n c.check_set.new.lines.passed c.check_set.new.found.items)
-        (sym (length_push c.loop-set.yielded (c.in-Some.set, c.in-Some.rules))) step
+    (sym (length_push c.loop-set.yielded (c.in-Some.set, c.in-Some.rules))) step
 
 pub returns-clause-violations : goal.returns-clause-violations
 returns-clause-violations c =
@@ -78,10 +78,10 @@ returns-clause-violations c =
     let sets = c.args.sets.now in
     let end =
     zip_end sets c.args.rules.now c.loop-set.yielded c.into_iter-set-iterator.result c.loop-set.set-iterator c.next.new.self c.next.result (first_rest at.After-into_iter-set-iterator)
-        (second_rest at.After-into_iter-set-iterator)
+    (second_rest at.After-into_iter-set-iterator)
     c.loop-set.yielded_by c.in-None.is c.next.ensures.steps in
     let long = same_length pieces sets c.args.rules.now c.requires in
     let are : AreRecords pieces c.as_slice-records.result.now = subst (AreRecords pieces) (sym c.as_slice-records.ensures) c.records.ensures in
     all_reported pieces (pieces_of c.loop-set.lines.elements.now) c.as_slice-records.result.now sets (map rules_stored c.args.rules.now)
-        (length c.loop-set.yielded) c.loop-set.lines.passed c.loop-set.found.items are
+    (length c.loop-set.yielded) c.loop-set.lines.passed c.loop-set.found.items are
     (omega (arith, end, long)) (omega (arith, end, long, length-map c.args.rules.now rules_stored)) c.loop-set.invariant

@@ -17,7 +17,7 @@ loop-i-preserved c =
       found = unresolved_more (pieces_of c.args.lines.now.elements.now) resolved c.args.start c.args.fields.now c.loop-i.i no_element c.args.found.now.items c.loop-i.found.items
           c.check_field.new.found.items c.loop-i-test.true c.loop-i.invariant.found
           (c.in_ok-check_field.ensures.added ∙ ap (λ l. c.loop-i.found.items ++ option_to_list
-              (option_map (violation (line_at (pieces_of l) (c.args.start + c.loop-i.i)) Typedef) (unresolved_of resolved field))) c.loop-i.invariant.elements);
+          (option_map (violation (line_at (pieces_of l) (c.args.start + c.loop-i.i)) Typedef) (unresolved_of resolved field))) c.loop-i.invariant.elements);
       passed = omega (arith, c.in_ok-check_field.ensures.passed);
       elements = c.in_ok-check_field.ensures.elements ∙ c.loop-i.invariant.elements;
     }

@@ -14,4 +14,4 @@ returns c =
     let found = c.trim_start-found.result.now in
     let place = position_from_yields_List is_space _ _ _ c.position.ensures.ran (YieldsList-from_slice found cc) (λ x b q k. search (rules, tests)) in
     words-some c.args.text.now found c.trim_start-found.ensures c.position.result c.unwrap_or-len.result _ _ (grind (arith, nat_tests)) place c.unwrap_or-len.ensures c.split_at.ensures.front
-        c.split_at.ensures.back
+    c.split_at.ensures.back

@@ -8,16 +8,16 @@ use Rattle.rec_check.proofs.field_types.resolution.first_meaning.Goals as goal
 pub returns-then-is_known_kind : goal.returns-then-is_known_kind
 returns-then-is_known_kind c = λ definitions are.
     IsRight-known definitions (place_of c.args.places.now) are (definition_stored c.args.definition.now) (ap is_known_kind (sym c.as_slice-kind.ensures) ∙ sym c.is_known_kind.ensures
-        ∙ c.if-is_known_kind.true)
+    ∙ c.if-is_known_kind.true)
 
 pub returns-in-Some : goal.returns-in-Some
 returns-in-Some c = λ definitions are.
     IsRight-defined definitions (place_of c.args.places.now) are (definition_stored c.args.definition.now) c.in-Some.place.now (ap is_known_kind (sym c.as_slice-kind.ensures)
-        ∙ sym c.is_known_kind.ensures ∙ c.if-is_known_kind.false)
+    ∙ sym c.is_known_kind.ensures ∙ c.if-is_known_kind.false)
     (ap (place_of c.args.places.now) (sym c.as_slice-kind.ensures) ∙ sym c.in-Some.ensures.value)
 
 pub returns-in-None : goal.returns-in-None
 returns-in-None c = λ definitions are.
     IsRight-undefined definitions (place_of c.args.places.now) are (definition_stored c.args.definition.now) (ap is_known_kind (sym c.as_slice-kind.ensures) ∙ sym c.is_known_kind.ensures
-        ∙ c.if-is_known_kind.false)
+    ∙ c.if-is_known_kind.false)
     (ap (place_of c.args.places.now) (sym c.as_slice-kind.ensures) ∙ sym c.in-None.ensures.value)

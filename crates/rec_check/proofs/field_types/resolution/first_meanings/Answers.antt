@@ -10,7 +10,7 @@ loop-definition-init c = AreRightSoFar-nil (map definition_stored c.args.definit
 pub loop-definition-preserved : goal.loop-definition-preserved
 loop-definition-preserved c =
     AreRightSoFar-more (map definition_stored c.args.definitions.now) c.loop-definition.definition-index c.loop-definition.meanings.items _ (definition_stored c.definition-item.result)
-        c.first_meaning.result
+    c.first_meaning.result
     c.loop-definition.invariant
     (slice_get-map_at definition_stored c.args.definitions.now c.loop-definition.definition-index c.definition-item.result c.loop-definition-test.true c.definition-item.is)
     (c.first_meaning.ensures (map definition_stored c.args.definitions.now) c.requires)

@@ -1,6 +1,6 @@
 use Rattle.std.proofs.Common.{inl, inr, refl, sym}
-use Rattle.rec_check.proofs.lemmas.field_types.ResolvedLemmas.{AreAtWork-nil, AreAtWork-more, ArePlacesWithin-nil, ArePlacesWithin-more, StaySettled-more, settled_start, start_settled,
-    count_open-less}
+use Rattle.rec_check.proofs.lemmas.field_types.ResolvedLemmas.{AreAtWork-nil, AreAtWork-more, ArePlacesWithin-nil, ArePlacesWithin-more, StaySettled-more, settled_start, start_settled}
+use Rattle.rec_check.proofs.lemmas.field_types.ResolvedLemmas.{count_open-less}
 use Rattle.rec_check.proofs.field_types.resolution.follow.Goals as goal
 
 pub loop-next-init : goal.loop-next-init
@@ -15,7 +15,7 @@ pub loop-next-preserved : goal.loop-next-preserved
 loop-next-preserved c = record {
   work = λ definitions are.
       AreAtWork-more definitions c.loop-next.passed.items c.push.new.self.items c.loop-next.at c.in-Some.next c.loop-next.meanings _ (sym c.in-Some.ensures) c.in_ok-push.ensures.items refl
-          (c.loop-next.invariant.work definitions are);
+      (c.loop-next.invariant.work definitions are);
   start = inr (start_settled c.loop-next.meanings _ c.loop-next.at c.in-Some.next (sym c.in-Some.ensures) refl c.args.start c.loop-next.invariant.start);
   settled = StaySettled-more c.loop-next.meanings _ c.loop-next.at c.in-Some.next (sym c.in-Some.ensures) refl c.args.meanings.now c.loop-next.invariant.settled;
   within = ArePlacesWithin-more c.loop-next.meanings _ c.loop-next.at c.in-Some.next

@@ -12,7 +12,7 @@ loop-place-preserved c =
     AreLastPlaces-more so_far _ (definition_stored c.index-definitions-place.result) c.as_slice.result.now (place_of c.loop-place.places) (place_of c.insert.new.self) c.loop-place.place
     c.loop-place.invariant
     (map_more definition_stored c.args.definitions.now c.loop-place.place c.index-definitions-place.result c.loop-place-test.true
-        ∙ ap (λ d. so_far ++ definition_stored d ∷ []) (sym c.index-definitions-place.is))
+    ∙ ap (λ d. so_far ++ definition_stored d ∷ []) (sym c.index-definitions-place.is))
     (omega (arith, length-map (take c.loop-place.place c.args.definitions.now) definition_stored, length-take-le c.loop-place.place c.args.definitions.now (omega arith)))
     c.as_slice.ensures
     (hash_map_updates_str c.as_slice.result.now c.loop-place.places c.insert.new.self _ c.in_ok-insert.ensures.updates)

@@ -6,14 +6,14 @@ use Rattle.rec_check.proofs.field_types.resolution.settle.Goals as goal
 pub offset_bounds-meanings-place : goal.offset_bounds-meanings-place
 offset_bounds-meanings-place c =
     let below : get_or c.args.places.now c.loop-place.place-index 0 < length c.args.meanings.now =
-        ArePlacesWithin-at c.args.places.now c.args.meanings.now c.loop-place.place-index 0 c.requires c.loop-place-test.true in
+    ArePlacesWithin-at c.args.places.now c.args.meanings.now c.loop-place.place-index 0 c.requires c.loop-place-test.true in
     let same = c.loop-place.invariant.size in
     search (rules, below)
 
 pub bounds-meanings-place : goal.bounds-meanings-place
 bounds-meanings-place c =
     let below : get_or c.args.places.now c.loop-place.place-index 0 < length c.args.meanings.now =
-        ArePlacesWithin-at c.args.places.now c.args.meanings.now c.loop-place.place-index 0 c.requires c.loop-place-test.true in
+    ArePlacesWithin-at c.args.places.now c.args.meanings.now c.loop-place.place-index 0 c.requires c.loop-place-test.true in
     let same = c.loop-place.invariant.size in
     omega arith
 

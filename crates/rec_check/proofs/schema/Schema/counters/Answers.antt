@@ -15,5 +15,5 @@ returns-clause-counters c =
     let own = c.index.result.now in
     let few = place_of_rules c.args.database.now c.args.self.now.sets.items rules c.args.set c.requires.schema c.requires.place in
     counters_at c.args.database.now _ (described c.args.self.now) c.args.set
-        (rules_stored own) c.members-records.result.now c.counters_of.result c.elements.ensures.pieces c.members-records.ensures.members
+    (rules_stored own) c.members-records.result.now c.counters_of.result c.elements.ensures.pieces c.members-records.ensures.members
     (slice_get-map rules_stored rules c.args.set ∙ ap (option_map rules_stored) (slice_get-get_or rules c.args.set own few ∙ ap Some (sym c.index.ensures))) c.counters_of.ensures.counters

@@ -23,7 +23,7 @@ members_of-requires-clause-within c =
     let at = goal.at.members_of-requires-clause-within c in
     subst (λ (s : Set_). s.members.end ≤ length c.as_slice.result.now) (sym c.index.ensures)
     (set_within c.args.database.now c.args.self.now.sets.items c.args.self.now.rules.items c.requires.schema c.as_slice.result.now
-        (are_records at.After-index) c.args.set c.index.result.now c.requires.place)
+    (are_records at.After-index) c.args.set c.index.result.now c.requires.place)
 
 pub returns-clause-members : goal.returns-clause-members
 returns-clause-members c = λ records s are is_set.

@@ -42,7 +42,7 @@ add-requires-clause-places c =
     rw c.elements_in-fields.ensures.elements
     (fields_within c.args.database.now _ _ (drafted c.loop-index.draft) c.in-Some.record _ c.in-Some.ensures.steps.0 c.loop-index.invariant.so_far
     c.elements-elements.result.now c.elements-elements.ensures.pieces c.loop-index.draft.types
-        (record_types-HaveTypes c.loop-index.draft.sets.items c.loop-index.draft.types c.loop-index.invariant.typed) c.elements-elements.ensures.places)
+    (record_types-HaveTypes c.loop-index.draft.sets.items c.loop-index.draft.types c.loop-index.invariant.typed) c.elements-elements.ensures.places)
 
 pub loop-index-preserved : goal.loop-index-preserved
 loop-index-preserved c =
@@ -50,7 +50,7 @@ loop-index-preserved c =
     let short = few_pieces c.args.database.now c.elements-elements.result.now (2 ^ 64) c.elements-elements.ensures.pieces (omega arith) in
     let so_far = schema_more c.args.database.now _ _ (drafted c.loop-index.draft) c.in-Some.record _ steps.0 c.loop-index.invariant.so_far
     c.elements-elements.result.now c.elements-elements.ensures.pieces c.loop-index.draft.types
-        (record_types-HaveTypes c.loop-index.draft.sets.items c.loop-index.draft.types c.loop-index.invariant.typed)
+    (record_types-HaveTypes c.loop-index.draft.sets.items c.loop-index.draft.types c.loop-index.invariant.typed)
     c.in-Some.index c.next.new.self.count (drafted c.add.new.self) steps.1 steps.2 (rw c.elements_in-fields.ensures.elements at c.in_ok-add.ensures.added) in
     record { can = (tt, tt, inl (countable _ _ _ _ (2 ^ 64) so_far short)); finite = tt; so_far = so_far; typed = c.in_ok-add.ensures.typed }
 
@@ -61,8 +61,8 @@ returns-in_err-add-clause-refused c =
     rw (kept_error c.from_residual-in_err-add.ensures.1)
     (schema_fault c.args.database.now _ _ (drafted c.loop-index.draft) c.in-Some.record _ c.in-Some.ensures.steps.0 c.loop-index.invariant.so_far
     c.elements-elements.result.now c.elements-elements.ensures.pieces c.loop-index.draft.types
-        (record_types-HaveTypes c.loop-index.draft.sets.items c.loop-index.draft.types c.loop-index.invariant.typed) c.elements-elements.ensures.places c.in_err-add.field-0.0
-        (subst P c.elements_in-fields.ensures.elements c.in_err-add.ensures.refused))
+    (record_types-HaveTypes c.loop-index.draft.sets.items c.loop-index.draft.types c.loop-index.invariant.typed) c.elements-elements.ensures.places c.in_err-add.field-0.0
+    (subst P c.elements_in-fields.ensures.elements c.in_err-add.ensures.refused))
 
 pub returns-clause-found : goal.returns-clause-found
 returns-clause-found c =

@@ -25,7 +25,7 @@ returns-in_err-given-clause-refused c = λ rules numbers are.
     let fault = c.in_err-given.field-0.0 in
     rw (kept_error c.from_residual.ensures.1) (memory_or_weaker fault _ _
     (one_refused pieces rules numbers records (filled_of c.args.filled.now.items) i (filled_of c.loop-record.filled.items) c.loop-record.counters one
-        (names_of (pieces_of c.elements_in-fields.result.now)) c.loop-record-test.true
+    (names_of (pieces_of c.elements_in-fields.result.now)) c.loop-record-test.true
     (sym (get_or_default records i none one c.loop-record-test.true)) (ap names_of c.elements_in-fields.ensures.pieces) so_far fault)
     (c.in_err-given.ensures.refused rules so_far.now so_far.counters_are))
 
@@ -39,13 +39,13 @@ loop-record-preserved c = λ rules numbers are.
     let so_far = c.loop-record.invariant rules numbers are in
     let typed : FilledRecord → Filled = λ o. record { range = o.range; given = numbered o.given.items } in
     one_filled pieces rules numbers records (filled_of c.args.filled.now.items) i (filled_of c.loop-record.filled.items) c.loop-record.counters one
-        (names_of (pieces_of c.elements_in-fields.result.now)) c.loop-record-test.true
+    (names_of (pieces_of c.elements_in-fields.result.now)) c.loop-record-test.true
     (sym (get_or_default records i none one c.loop-record-test.true)) (ap names_of c.elements_in-fields.ensures.pieces) so_far (numbered c.in_ok-given.given.items) c.fill_record.new.counters
-        (filled_of c.push.new.self.items)
+    (filled_of c.push.new.self.items)
     (c.in_ok-given.ensures.given rules so_far.now so_far.counters_are)
     (ap filled_of c.in_ok-push.ensures.items ∙ map_push typed c.loop-record.filled.items (record { range = one; given = c.in_ok-given.given }))
 
 pub returns-clause-filled : goal.returns-clause-filled
 returns-clause-filled c = λ rules numbers are.
     all_filled (pieces_of c.args.elements.now) rules numbers c.args.records.now (filled_of c.args.filled.now.items) c.loop-record.record-index
-        (filled_of c.loop-record.filled.items) c.loop-record.counters c.loop-record-test.false (c.loop-record.invariant rules numbers are)
+    (filled_of c.loop-record.filled.items) c.loop-record.counters c.loop-record-test.false (c.loop-record.invariant rules numbers are)

@@ -63,7 +63,7 @@ loop-place-preserved c = λ records are.
     let s = get_or (sets at) i no_set in
     let asked = get_or (rules at) i no_rules in
     one_set_filled c.args.file.now.pieces records (sets at) (rules at) i (filled_of c.loop-place.filled.items) within (long at) s asked (sym (get_or_default (sets at) i no_set s within))
-        (sym (get_or_default (rules at) i no_rules asked ruled))
+    (sym (get_or_default (rules at) i no_rules asked ruled))
     (c.loop-place.invariant records are) (filled_of c.fill_set.new.filled.items)
     (c.in_ok-fill_set.ensures.filled records s asked (are, slice_get-get_or (sets at) i no_set within, slice_get-get_or (rules at) i no_rules ruled))
 
@@ -72,9 +72,12 @@ returns-clause-filled c =
     let at = (goal.at.returns-clause-filled c).After-sets-place-end in
     let records = c.schema.ensures.together.records in
     let are = c.schema.ensures.together.are in
-    let past : length (sets at) ≤ c.loop-place.place = omega (arith, count at, c.loop-place-test.false) in
-    (records, are, all_sets_filled c.args.file.now.pieces records (sets at) (rules at) c.loop-place.place (filled_of c.loop-place.filled.items) past (omega (arith, long at))
-        (c.loop-place.invariant records are))
+    let past : length (sets at) ≤ c.loop-place.place = omega (arith, count at, c.loop-place-test.false) in (
+      records,
+      are,
+      all_sets_filled c.args.file.now.pieces records (sets at) (rules at) c.loop-place.place (filled_of c.loop-place.filled.items) past (omega (arith, long at))
+          (c.loop-place.invariant records are),
+    )
 
 pub returns-clause-ranges : goal.returns-clause-ranges
 returns-clause-ranges c =
@@ -83,4 +86,4 @@ returns-clause-ranges c =
     let past : length (sets at) ≤ c.loop-place.place = omega (arith, count at, c.loop-place-test.false) in
     AreRanges-filled c.args.file.now.pieces (described c.args.file.now.schema) is (filled_of c.loop-place.filled.items)
     (all_sets_filled c.args.file.now.pieces is.records (sets at) (rules at) c.loop-place.place (filled_of c.loop-place.filled.items) past (omega (arith, long at))
-        (c.loop-place.invariant is.records is.are))
+    (c.loop-place.invariant is.records is.are))

@@ -16,10 +16,10 @@ loop-field-preserved c = λ name.
       | then-is_field+in_ok-insert w ↦
           ap (λ names. has_name names name) w.names-is
           ∙ field_named fields i no_element name so_far c.loop-field-test.true (c.loop-field.invariant name) w.name.result.now (has_name w.insert.new.self name) (sym c.is_field.ensures
-              ∙ w.if-is_field.true) w.name.ensures
+          ∙ w.if-is_field.true) w.name.ensures
           (has-put (λ one. one.now) c.loop-field.names w.insert.new.self w.name.result w.in_ok-insert.field-0 w.in_ok-insert.ensures.keys
-              (λ old. not-false _ (sym w.in_ok-insert.ensures.added ∙ old)) name)
+          (λ old. not-false _ (sym w.in_ok-insert.ensures.added ∙ old)) name)
       | else-is_field w ↦
           ap (λ names. has_name names name) w.names-is ∙ no_field_named fields i no_element name so_far c.loop-field-test.true (c.loop-field.invariant name) (sym c.is_field.ensures
-              ∙ w.if-is_field.false)
+          ∙ w.if-is_field.false)
     ]

@@ -31,5 +31,5 @@ loop-place-preserved c =
       | else-not-is_empty w ↦
           subst (λ p. ArePlaces p (take (k + 1) (filled_of filled))) (sym (ap (λ v. v.items) w.places-is))
           (placed_nothing (filled_of filled) k (typed one) within at c.loop-place.places.items so_far
-              (ap numbered (none_there one.given.items (omega (arith, one.given.ok.0, eqb-true _ _ (sym c.is_empty.ensures ∙ w.if-not-is_empty.false))))))
+          (ap numbered (none_there one.given.items (omega (arith, one.given.ok.0, eqb-true _ _ (sym c.is_empty.ensures ∙ w.if-not-is_empty.false))))))
     ])

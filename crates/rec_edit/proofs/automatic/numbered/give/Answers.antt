@@ -30,7 +30,7 @@ pub loop-i-preserved-then-contains : goal.loop-i-preserved-then-contains
 loop-i-preserved-then-contains c = λ rules numbers own are named.
     let at = (goal.at.loop-i-preserved-then-contains c).After-contains in
     none_lacking rules numbers own c.args.counters.now c.loop-i.counters c.loop-i.i (numbered c.loop-i.given.items) (omega arith) (c.loop-i.invariant rules numbers own are named) (own_counter at)
-        (here at)
+    (here at)
     (sym (named (own_counter at).name.now) ∙ among at true own named c.if-contains.true)
 
 pub returns-in_err-number-clause-refused : goal.returns-in_err-number-clause-refused
@@ -54,7 +54,7 @@ loop-i-preserved c = λ asked numbers own are named.
     let one : NumberedField = record { name = c.name-name.result; number = number } in
     let more : numbered c.push.new.self.items ≡ numbered given ++ record { name = (own_counter at).name.now; number = number } ∷ [] =
     ap numbered c.in_ok-push.ensures.items ∙ ap (λ z. numbered (given ++ record { name = c.name-name.result; number = z } ∷ [])) (to_z-of_z w64 number fits) ∙ map_push typed given one
-        ∙ ap (λ n. numbered given ++ record { name = n; number = number } ∷ []) c.name-name.ensures in
+    ∙ ap (λ n. numbered given ++ record { name = n; number = number } ∷ []) c.name-name.ensures in
     subst (IsGivenUpTo asked numbers own c.args.counters.now _ _) (sym more)
     (one_given asked numbers own c.args.counters.now c.loop-i.counters c.loop-i.i (numbered given) (omega arith) so_far (own_counter at) (here at) c.next_number.new.self number
     (sym (named (own_counter at).name.now) ∙ among at false own named c.if-contains.false) (c.in_ok-number.ensures.next asked (numbers (own_counter at).name.now) counted)

@@ -12,5 +12,5 @@ pub returns : goal.returns
 returns c =
     let elements = c.args.elements.now in
     let counted = count_from_yields_List _ _ c.count.ensures.ran (YieldsList-from_take_while _ (λ e. is_full (piece_of e))
-        (YieldsList-from_slice elements cc) c.take_while.ensures.closure c.take_while.ensures.done (λ x b q k. search (rules, tests))) in
+    (YieldsList-from_slice elements cc) c.take_while.ensures.closure c.take_while.ensures.done (λ x b q k. search (rules, tests))) in
     counted ∙ length-prefix_len (λ e. is_full (piece_of e)) elements ∙ prefix_len-pieces is_full elements

@@ -15,7 +15,7 @@ pub loop-at-preserved : goal.loop-at-preserved
 loop-at-preserved g c = elim c.if-not-is_field.branch [
   | then-not-is_field+in_ok-write w ↦
       let whole = whole_run c.args.self.now c.loop-at.start c.loop-at.at c.loop-at.invariant.run c.self.inside.elements.now _ c.self.view_is c.loop-at-test.true w.if-not-is_field.ensures w.part.result
-          w.part.ensures in
+      w.part.ensures in
       rw (w.start-is, w.out-is) (record {
         run = no_run c.args.self.now (c.loop-at.at + 1);
         printed = HasTaken-as whole (HasTaken-append c.loop-at.invariant.printed w.in_ok-write.ensures.printed);

@@ -12,5 +12,5 @@ loop-field-preserved c = elim c.if-refuses.branch [
   | else-refuses w ↦
       w.names-is
       ∙ others_passed (allows c.args.self.now) c.args.fields.now c.loop-field.field-index no_element c.loop-field.names c.loop-field-test.true c.loop-field.invariant (sym c.refuses.ensures
-          ∙ w.if-refuses.false)
+      ∙ w.if-refuses.false)
 ]

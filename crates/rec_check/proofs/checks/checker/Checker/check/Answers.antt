@@ -21,16 +21,16 @@ returns-clause-added c = λ rules earlier ready.
     let own = c.args.self.now in
     on_ok_weaker c.check-8.result
     (AddsOfRecord-joined (pieces_of c.args.lines.now.elements.now) rules earlier c.args.range.now c.line_of-line.result (pieces_of c.elements_in-fields.result.now) c.line_of-line.ensures.line
-        (fields_are at.After-elements_in-fields)
+    (fields_are at.After-elements_in-fields)
     c.args.found.now.items c.check.new.found.items c.check-2.new.found.items c.check-3.new.found.items c.check-4.new.found.items c.check-5.new.found.items c.check-6.new.found.items
-        c.check-7.new.found.items c.check-8.new.found.items
+    c.check-7.new.found.items c.check-8.new.found.items
     own.key.name.now own.mandatory.rule own.prohibited.rule own.unique.rule own.mandatory.names own.prohibited.names own.unique.names
     (allows own.allowed) (type_in own.types) (terms_in own.constraints)
     ready.key ready.mandatory.0 ready.mandatory.1 ready.prohibited.0 ready.prohibited.1 ready.unique.0 ready.unique.1 ready.allowed ready.types ready.constraints
     (c.in_ok-check.ensures.added earlier ready.after) c.in_ok-check-2.ensures.added c.in_ok-check-3.ensures.added c.in_ok-check-4.ensures.added
-        (c.in_ok-check-5.ensures.added rules.singular earlier ready.singular) c.in_ok-check-6.ensures.added
+    (c.in_ok-check-5.ensures.added rules.singular earlier ready.singular) c.in_ok-check-6.ensures.added
     (c.in_ok-check-7.ensures.added ∙ ap (λ l. c.check-6.new.found.items ++ type_violations (pieces_of l) (type_in own.types) c.args.range.now.start (pieces_of c.elements_in-fields.result.now))
-        c.line_of-line.ensures.same))
+    c.line_of-line.ensures.same))
     c.check-8.ensures.added
 
 pub returns-clause-ready : goal.returns-clause-ready

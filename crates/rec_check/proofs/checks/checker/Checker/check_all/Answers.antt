@@ -20,10 +20,10 @@ loop-record-preserved c =
     record {
       ready = λ rules first. subst (λ l. IsReady rules l c.check.new.self) (ap (λ l. earlier ++ elements_in (pieces_of l) one ∷ []) c.loop-record.invariant.elements
           ∙ sym (map_more (elements_in pieces) records i (record { start = 0; end = 0 }) c.loop-record-test.true))
-              (c.in_ok-check.ensures.ready rules earlier (c.loop-record.invariant.ready rules first));
+          (c.in_ok-check.ensures.ready rules earlier (c.loop-record.invariant.ready rules first));
       added = λ rules first. AddsOfRecords-more pieces rules records i one c.args.found.now.items c.loop-record.found.items c.check.new.found.items c.loop-record-test.true at
           (c.loop-record.invariant.added rules first) (subst (λ l. AddsOfRecord (pieces_of l) rules earlier one c.loop-record.found.items c.check.new.found.items) c.loop-record.invariant.elements
-              (c.in_ok-check.ensures.added rules earlier (c.loop-record.invariant.ready rules first)));
+          (c.in_ok-check.ensures.added rules earlier (c.loop-record.invariant.ready rules first)));
       here = here_more records i one c.loop-record-test.true at c.loop-record.lines.passed c.check.new.lines.passed c.in_ok-check.ensures.passed c.loop-record.invariant.here;
       ahead = λ rest ahead. ahead_more records i one c.loop-record-test.true at c.loop-record.lines.passed c.check.new.lines.passed rest c.in_ok-check.ensures.passed
           (c.loop-record.invariant.ahead rest ahead);

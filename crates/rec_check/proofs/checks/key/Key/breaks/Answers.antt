@@ -25,7 +25,7 @@ returns-in_ok-value-in-Some-clause-breaks c =
 pub returns-in_ok-value-in-Some-clause-taken : goal.returns-in_ok-value-in-Some-clause-taken
 returns-in_ok-value-in-Some-clause-taken c =
     subst (λ key. OnOk c.take.result ((other : List ℕ) → has_taken c.take.new.self other ≡ (has_taken c.args.self.now other || option_map_or (bytes_eq other) key false)))
-        (some_key c) c.take.ensures.taken
+    (some_key c) c.take.ensures.taken
 
 pub returns-in-None-clause-breaks : goal.returns-in-None-clause-breaks
 returns-in-None-clause-breaks c = ap (λ key. option_map_or (has_taken c.args.self.now) key true) (no_key c)

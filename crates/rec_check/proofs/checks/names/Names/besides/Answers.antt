@@ -15,7 +15,7 @@ loop-place-preserved c =
       | then-not-contains+in_ok-push w ↦
           ap (λ vec. texts vec.items) w.names-is
           ∙ beside_added c.args.places.now.keys all found i nothing c.loop-place-test.true c.loop-place.invariant w.push.new.self.items (sym c.contains.ensures
-              ∙ w.if-not-contains.true) w.in_ok-push.ensures.items
+          ∙ w.if-not-contains.true) w.in_ok-push.ensures.items
       | else-not-contains w ↦
           ap (λ vec. texts vec.items) w.names-is
           ∙ beside_passed c.args.places.now.keys all found i nothing c.loop-place-test.true c.loop-place.invariant (sym c.contains.ensures ∙ w.if-not-contains.false)

@@ -23,4 +23,4 @@ returns-clause-names c = λ once.
     let own = c.args.self.now in
     subst (λ own. IfOk c.at-in-Single.result (λ names. texts names.items ≡ own))
     (breaking_at own.rule own.names (pieces_of c.args.fields.now) 2 c.in_ok-seen.seen.again.keys (c.in_ok-seen.ensures.seen once).again (ap breaks_occurrence_rule c.in-Single.is))
-        c.at-in-Single.ensures.names
+    c.at-in-Single.ensures.names

@@ -43,6 +43,6 @@ loop-field-preserved c =
           (seen_own own.names piece name value listed (has_seen_at own) (has_seen_at new) item.0 at
           (λ value place.
           seen-put (λ one. one.0) (λ one. cow_slice_items one.1) own.seen c.insert.new.self item c.in_ok-insert.field-0 c.in_ok-insert.ensures.keys
-              (λ old. not-false _ (sym c.in_ok-insert.ensures.added ∙ old)) value place
+          (λ old. not-false _ (sym c.in_ok-insert.ensures.added ∙ old)) value place
           ∙ ap (λ bytes. has_seen_at own value place || (eqb place item.0 && bytes_eq value bytes)) value_is));
     }

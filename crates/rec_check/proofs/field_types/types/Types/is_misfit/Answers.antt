@@ -22,6 +22,6 @@ returns-clause-misfit c =
     (λ answer is. misfits-typed (type_in c.args.self.now) (piece_of c.args.element.now) c.in-Field.is c.name.result.now c.name.ensures
     (slice_get (map type_tested c.deref_mut.result.now) c.in-Some.place.now) c.bytes.result.now answer
     (ap (option_and_then (slice_get (map type_tested c.args.self.now.tests.items))) (sym c.in-Some.ensures.value)
-        ∙ ap (λ tests. slice_get (map type_tested tests) c.in-Some.place.now) (sym c.deref_mut.ensures.value))
+    ∙ ap (λ tests. slice_get (map type_tested tests) c.in-Some.place.now) (sym c.deref_mut.ensures.value))
     (c.bytes.ensures ∙ c.in_ok-value.ensures.value) is)
     c.fails_at.ensures.fails

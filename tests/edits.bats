@@ -322,7 +322,8 @@ tells() {
     tells 'drifted¶' db.rec
     refuses 'the file was changed outside' undo db.rec
     refuses 'the file was changed outside' redo db.rec
-    does recset -n 0 -f A -s 8 db.rec
+    recu 0 recset -n 0 -f A -s 8 db.rec
+    prints '' "db.rec: it was changed outside; 1 edit before that can't be undone any more¶"
     tells 'done 2 recset¶' db.rec
     does undo db.rec
     has db.rec 'A: 7¶'

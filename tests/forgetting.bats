@@ -239,7 +239,8 @@ with_batch() {
     has db.rec 'A: 7¶'
     has db.rec.journal < before
     only before db.rec db.rec.journal
-    sets 8
+    recu 0 recset -f A -s 8 db.rec
+    prints '' "db.rec: it was changed outside; 2 edits before that can't be undone any more¶"
     tells 'done 3 recset¶' db.rec
     does forget 0 db.rec
     has db.rec.journal "$header"
@@ -251,7 +252,9 @@ with_batch() {
     put db.rec 'A: 1¶'
     sets 2 3
     put db.rec 'A: 7¶'
-    sets 8 9
+    recu 0 recset -f A -s 8 db.rec
+    prints '' "db.rec: it was changed outside; 2 edits before that can't be undone any more¶"
+    sets 9
     tells 'done 3 recset¶done 4 recset¶' db.rec
     forgets_nothing forget 2 db.rec
     does forget 1 db.rec

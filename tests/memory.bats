@@ -410,6 +410,12 @@ says_on_a_terminal() {
     fast says_on_a_terminal 1 recfix db.rec
 }
 
+@test "memory for what is said on a terminal of what was done" {
+    put db.rec "$three"
+    # the file has the value already
+    fast says_on_a_terminal 0 recset -n 0 -f A -s 1 db.rec
+}
+
 @test "memory for standard input that is a terminal" {
     fast says_on_a_terminal 0 recsel -c
 }

@@ -1,5 +1,6 @@
-//! What is said of a refusal before its line: what it is about, and what can be done; and of a report, in which records what it
-//! reports stands. All of it is for people, and `docs/refusals.md` says what they are told.
+//! What is said of a refusal before its line: what it is about, and what can be done; of a report, in which records what it
+//! reports stands; and of a command that succeeded, what it did. All of it is for people, and `docs/refusals.md` and
+//! `docs/editing.md` say what they are told.
 #![tactic(auto)]
 
 mod about;
@@ -9,6 +10,7 @@ mod descriptors;
 mod explanation;
 mod files;
 mod lines;
+mod notes;
 mod refusal;
 mod reports;
 mod requests;
@@ -16,6 +18,7 @@ mod waiting;
 
 pub use about::About;
 pub use lines::line_endings::explain_endings;
+pub use notes::explain_done;
 pub use refusal::explain;
 pub use reports::reported::explain_report;
 pub use waiting::explain_waiting;

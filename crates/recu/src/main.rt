@@ -2,7 +2,7 @@
 #![tactic(auto)]
 
 use rec_command::{CommandLine, Order, Refusal, finish, parse, words};
-use rec_explain::{About, explain, explain_endings, explain_report, explain_waiting};
+use rec_explain::{About, explain, explain_done, explain_endings, explain_report, explain_waiting};
 use rec_files::{
     Access, FileHome, StandardOutput, access_of, batch_text, explain_output, room_for,
 };
@@ -113,7 +113,7 @@ fn say_waiting(rt: &HostRuntime, request: &Request) {
     }
 }
 
-/// Says on standard error what a refusal is about, or what is said of a report.
+/// Says on standard error what a refusal is about, or what is said of a report and of what was done.
 fn say_more(
     rt: &HostRuntime,
     home: &FileHome<'_, HostRuntime>,
@@ -122,7 +122,10 @@ fn say_more(
     answer: &Result<Reply, Fault>,
 ) {
     match answer {
-        Ok(reply) => explain_reply(rt, home, request, batch, reply),
+        Ok(reply) => {
+            explain_reply(rt, home, request, batch, reply);
+            say_done(rt, home, reply);
+        }
         Err(fault) => {
             let text = text_for(rt, home, fault);
             let about = about(home, batch, &text);
@@ -154,6 +157,15 @@ fn explain_reply(
         say(rt, &explain_report(rt.alloc(), &about));
     }
     say(rt, &explain_endings(rt.alloc(), &about));
+}
+
+/// Says what was done: on a terminal, and that earlier edits can't be undone any more always.
+fn say_done(rt: &HostRuntime, home: &FileHome<'_, HostRuntime>, reply: &Reply) {
+    let on_terminal = rt.stderr().is_terminal();
+    say(
+        rt,
+        &explain_done(rt.alloc(), home.path(Which::Base), reply, on_terminal),
+    );
 }
 
 /// Prints the report for which an edit was refused, and gives the text of the file, where a refusal can be about it.

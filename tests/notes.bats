@@ -1,0 +1,66 @@
+# What is said on standard error of a command that succeeded.
+
+load helpers
+
+@test "what is said on a terminal of what was done" {
+    # told LINE WORD..: on a terminal standard error gets this line, and standard output no other text than elsewhere
+    told() {
+        local line=$1
+        shift
+        TERM=dumb script -qec "'$recu' $* > printed" /dev/null > seen
+        has seen "${line:+$line\x0D¶}"
+    }
+    put f 'A: 1¶¶A: 2¶'
+    told '2 records changed (edit 1)' recset -f A -s 3 f
+    has printed ''
+    told 'nothing changed' recset -f A -s 3 f
+    told 'no record is selected' recset -n 7 -f A -s 4 f
+    told 'no record is selected' recdel -n 7 f
+    told '1 record changed (edit 2)' recdel -n 1 f
+    told 'undone: edit 2, recdel' undo f
+    told 'redone: edit 2, recdel' redo f
+    told '1 edit forgotten' forget 1 f
+    told 'nothing forgotten' forget 1 f
+    put b 'Tool: recins¶Field: A¶Value: 5¶¶Tool: recset¶Fields: A¶Set: 6¶'
+    told '3 records changed (edit 2)' batch -b b f
+    told 'undone: edit 2, batch' undo f
+    told '' history f
+    told '' recsel f
+}
+
+@test "nothing is said of it in scripts and pipes" {
+    put f 'A: 1¶'
+    recu 0 recset -f A -s 2 f
+    prints '' ''
+    recu 0 recset -n 7 -f A -s 2 f
+    prints '' ''
+    recu 0 undo f
+    prints '' ''
+    recu 0 redo f
+    prints '' ''
+    recu 0 forget 0 f
+    prints '' ''
+}
+
+@test "edits that can't be undone any more are told of always" {
+    local said='it was changed outside'
+    put f 'A: 1¶'
+    does recset -f A -s 2 f
+    put f 'A: 3¶'
+    recu 0 recset -f A -s 4 f
+    prints '' "f: $said; 1 edit before that can't be undone any more¶"
+    does recset -f A -s 5 f
+    put f 'A: 6¶'
+    # nothing is lost by an edit that changes nothing, or is refused
+    does recset -f A -s 6 f
+    refuses 'no selection given, use --force' recdel f
+    recu 0 recins -f A -v 7 f
+    prints '' "f: $said; 2 edits before that can't be undone any more¶"
+    # the text before the last edit: that edit alone doesn't count any more, and is no change of another program
+    does recset -n 0 -f A -s 8 f
+    put f 'A: 6¶¶A: 7¶'
+    does recset -n 0 -f A -s 9 f
+    put f 'A: 6¶¶A: 7¶'
+    TERM=dumb script -qec "'$recu' recdel -n 1 f" /dev/null > seen
+    has seen '1 record changed (edit 5)\x0D¶'
+}

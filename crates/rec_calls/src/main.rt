@@ -24,6 +24,7 @@ macro_rules! again {
 }
 
 mod checks;
+mod diffs;
 mod edits;
 mod expressions;
 mod journals;
@@ -56,6 +57,7 @@ fn run(alloc: Global, log: &mut Log) {
     journals::patches::run(alloc, log);
     journals::hashes::run(alloc, log);
     journals::texts::run(alloc, log);
+    diffs::run(alloc, log);
     edits::run(alloc, log);
     edits::batches::run(alloc, log);
     edits::options::run(alloc, log);

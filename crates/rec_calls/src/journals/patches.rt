@@ -14,7 +14,7 @@ pub fn run(alloc: Global, log: &mut Log) {
 }
 
 /// The place of a hunk, its old text and its new one.
-type Row = (usize, &'static [u8], &'static [u8]);
+pub type Row = (usize, &'static [u8], &'static [u8]);
 
 fn hunk(alloc: Global, at: usize, old: &[u8], new: &[u8]) -> Result<Hunk, AllocError> {
     let old = Bytes::copy_of(alloc, old)?;
@@ -35,7 +35,7 @@ pub fn patch_at(alloc: Global, at: usize, old: &[u8], new: &[u8]) -> Result<Patc
 }
 
 /// The patch of these hunks, if they are those of one.
-fn patch_of(alloc: Global, rows: &[Row]) -> Result<Option<Patch>, AllocError> {
+pub fn patch_of(alloc: Global, rows: &[Row]) -> Result<Option<Patch>, AllocError> {
     let mut hunks = Vec::new(alloc);
     for (at, old, new) in rows {
         hunks.push(hunk(alloc, *at, old, new)?)?;

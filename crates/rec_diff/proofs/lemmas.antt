@@ -1,0 +1,11 @@
+pub mod composing
+pub mod ChangeLemmas
+pub mod LineLemmas
+pub mod ShareLemmas
+pub mod PartLemmas
+pub mod PlaceLemmas
+pub mod LiningLemmas
+pub mod CutLemmas
+pub mod HeadingLemmas
+pub mod RestLemmas
+pub mod PrintedExamples

@@ -1,0 +1,9 @@
+-- what changes of a text are, and what several patches do, one after another
+pub mod Changes
+pub mod Composing
+-- a change in whole lines, and its printed text
+pub mod Lines
+pub mod WholeLines
+pub mod Diff
+-- what serves proofs
+pub mod proving

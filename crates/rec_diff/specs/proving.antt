@@ -1,0 +1,4 @@
+-- What serves proofs.
+pub mod Runs
+pub mod Turns
+pub mod Headings

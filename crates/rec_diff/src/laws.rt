@@ -1,0 +1,29 @@
+//! Laws of the definitions.
+ghost use Rattle.rec_diff.specs.Changes.{HunksSplice};
+ghost use Rattle.rec_diff.specs.Composing.{OneComposition, ComposesSplices, ComposesItself};
+ghost use Rattle.rec_diff.specs.WholeLines.{OneChange};
+
+/// The hunks of parts lead from the text before to the text after.
+pub fn hunks_splice()
+    ensures { HunksSplice }
+{}
+
+/// Patches have one composition.
+pub fn one_composition()
+    ensures { OneComposition }
+{}
+
+/// Where steps lead from one text to another, so does their composition.
+pub fn composes_splices()
+    ensures { ComposesSplices }
+{}
+
+/// A patch alone is its composition.
+pub fn composes_itself()
+    ensures { ComposesItself }
+{}
+
+/// A patch makes one change of a text.
+pub fn one_change()
+    ensures { OneChange }
+{}

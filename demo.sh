@@ -1,5 +1,5 @@
 #!/usr/bin/env bash
-# Builds recu, and edits copies of the files in sample/: an edit, a refused one, undo, redo, the history, and the rules.
+# Builds recu, and edits copies of the files in sample/: an edit, tried first, a refused one, undo, redo, the history, and the rules.
 # RECU=PROGRAM shows the session with that program, and builds none.
 set -euo pipefail
 recu=$(realpath -m "${RECU:-$(dirname "$0")/crates/recu/out/recu}")
@@ -29,12 +29,14 @@ show() {
 }
 show contacts.rec
 try recsel -e "#Phone || Note ~ 'second'" -P Name contacts.rec
+try recdel --dry-run -n 1 contacts.rec
 try recdel -n 1 contacts.rec
+try show contacts.rec
 show contacts.rec
 try undo contacts.rec
 cmp contacts.rec "$OLDPWD/sample/contacts.rec"
 try redo contacts.rec
-try history contacts.rec
+try history --patch contacts.rec
 
 echo
 show library.rec

@@ -58,10 +58,12 @@ _recu() {
             esac
         done
     done
-    if [[ $tool == forget ]]; then
-        specs+=(':N: ')
-    fi
-    specs+=(':FILE:_files')
+    case $tool in
+        forget) specs+=(':N: ' ':FILE:_files') ;;
+        # (N may be left out)
+        show) specs+=(':FILE:_files' '::FILE:_files') ;;
+        *) specs+=(':FILE:_files') ;;
+    esac
 
     # The file is the first word that is one, and no option's value.
     local recu_file recu_type

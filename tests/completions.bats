@@ -65,12 +65,12 @@ END
     done
 }
 
-tools=(recsel recinf recfix recins recdel recset batch undo redo history forget)
+tools=(recsel recinf recfix recins recdel recset batch undo redo history show forget)
 
 # in_table TOOL: letters, names and values of a tool's options, as the tables of rec_command give them: a line for each
 in_table() {
     local table=${1^^}
-    case $1 in undo | redo | history) table=PATHS ;; esac
+    case $1 in undo | redo) table=MOVES ;; esac
     awk -v wanted="$table" '
         # (an option stands in a table, or under a name of its own that tables list)
         /^(pub )?(static|const) [A-Z_]+:/ {

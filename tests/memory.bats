@@ -322,6 +322,67 @@ REC
     cmp db.rec.journal start/db.rec.journal
 }
 
+# with_a_history: the folder start has a file with an edit that can be undone, a batch, and one that can be redone
+with_a_history() {
+    mkdir start
+    put start/db.rec 'A: 1¶¶B: 2¶¶C: 3'
+    put changes 'Tool: recset¶Number: 0¶Fields: A¶Set: 5¶¶Tool: recset¶Number: 0¶Fields: A¶Set: 6¶'
+    (cd start && "$program" recdel -n 1 db.rec && "$program" batch -b ../changes db.rec)
+    (cd start && "$program" recset -n 0 -f A -s 2 db.rec && "$program" undo db.rec)
+}
+
+@test "memory for what an edit changed" {
+    local wanted=0
+    with_a_history
+    put printed '--- db.rec¶+++ db.rec¶@@ -3,2 +2,0 @@¶-B: 2¶-¶'
+    fast each_allocation is_printed show 1 db.rec
+    put printed '--- db.rec¶+++ db.rec¶@@ -1,1 +1,1 @@¶-A: 1¶+A: 6¶'
+    fast each_allocation is_printed show db.rec
+    cmp db.rec.journal start/db.rec.journal
+}
+
+@test "memory for what all edits changed" {
+    local wanted=0
+    with_a_history
+    put printed <<'DIFFS'
+done 1 recdel
+--- db.rec
++++ db.rec
+@@ -3,2 +2,0 @@
+-B: 2
+-
+done 2 batch
+--- db.rec
++++ db.rec
+@@ -1,1 +1,1 @@
+-A: 1
++A: 6
+undone 3 recset
+--- db.rec
++++ db.rec
+@@ -1,1 +1,1 @@
+-A: 6
++A: 2
+DIFFS
+    fast each_allocation is_printed history --patch db.rec
+    cmp db.rec.journal start/db.rec.journal
+}
+
+@test "memory for dry runs" {
+    local wanted=0
+    with_a_history
+    put printed '--- db.rec¶+++ db.rec¶@@ -3,1 +2,0 @@¶-C: 3¶\ No newline at end of file¶'
+    fast each_allocation is_printed recdel --dry-run -n 1 db.rec
+    put printed '--- db.rec¶+++ db.rec¶@@ -1,1 +1,1 @@¶-A: 6¶+A: 5¶'
+    put changes 'Tool: recset¶Number: 0¶Fields: A¶Set: 4¶¶Tool: recset¶Number: 0¶Fields: A¶Set: 5¶'
+    fast each_allocation is_printed batch --dry-run -b changes db.rec
+    put printed '--- db.rec¶+++ db.rec¶@@ -1,1 +1,1 @@¶-A: 6¶+A: 1¶'
+    fast each_allocation is_printed undo --dry-run db.rec
+    put printed '--- db.rec¶+++ db.rec¶@@ -1,1 +1,1 @@¶-A: 6¶+A: 2¶'
+    fast each_allocation is_printed redo --dry-run db.rec
+    cmp db.rec.journal start/db.rec.journal
+}
+
 # is_told WORD..: judges a run that prints the files printed and said, and ends with the status $wanted
 is_told() {
     case "$status/$(tail -n 1 err)" in
@@ -412,8 +473,17 @@ says_on_a_terminal() {
 
 @test "memory for what is said on a terminal of what was done" {
     put db.rec "$three"
+    fast says_on_a_terminal 0 recset --dry-run -n 0 -f A -s 2 db.rec
     # the file has the value already
     fast says_on_a_terminal 0 recset -n 0 -f A -s 1 db.rec
+}
+
+@test "memory for an edit that there isn't" {
+    local wanted=1
+    with_a_history
+    put printed ''
+    put said 'db.rec.journal: it has edits 1 to 3¶recu: no such edit¶'
+    fast each_allocation is_told show 7 db.rec
 }
 
 @test "memory for standard input that is a terminal" {

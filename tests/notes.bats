@@ -11,13 +11,18 @@ load helpers
         has seen "${line:+$line\x0D¶}"
     }
     put f 'A: 1¶¶A: 2¶'
+    told '2 records would change' recset --dry-run -f A -s 3 f
+    has printed '--- f¶+++ f¶@@ -1,1 +1,1 @@¶-A: 1¶+A: 3¶@@ -3,1 +3,1 @@¶-A: 2¶+A: 3¶'
     told '2 records changed (edit 1)' recset -f A -s 3 f
     has printed ''
     told 'nothing changed' recset -f A -s 3 f
+    told 'nothing would change' recset --dry-run -f A -s 3 f
     told 'no record is selected' recset -n 7 -f A -s 4 f
-    told 'no record is selected' recdel -n 7 f
+    told 'no record is selected' recdel --dry-run -n 7 f
     told '1 record changed (edit 2)' recdel -n 1 f
+    told 'it would undo edit 2, recdel' undo --dry-run f
     told 'undone: edit 2, recdel' undo f
+    told 'it would redo edit 2, recdel' redo --dry-run f
     told 'redone: edit 2, recdel' redo f
     told '1 edit forgotten' forget 1 f
     told 'nothing forgotten' forget 1 f
@@ -25,6 +30,7 @@ load helpers
     told '3 records changed (edit 2)' batch -b b f
     told 'undone: edit 2, batch' undo f
     told '' history f
+    told '' show f
     told '' recsel f
 }
 
@@ -47,6 +53,8 @@ load helpers
     put f 'A: 1¶'
     does recset -f A -s 2 f
     put f 'A: 3¶'
+    recu 0 recset --dry-run -f A -s 4 f
+    prints '--- f¶+++ f¶@@ -1,1 +1,1 @@¶-A: 3¶+A: 4¶' ''
     recu 0 recset -f A -s 4 f
     prints '' "f: $said; 1 edit before that can't be undone any more¶"
     does recset -f A -s 5 f

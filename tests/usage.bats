@@ -19,9 +19,10 @@ silent() {
 
 @test "help" {
     local words
-    for words in --help -h help 'help recins' 'help recdel' 'help recset' 'help batch' 'help undo' 'help redo' 'help history' 'help forget' \
+    for words in --help -h help 'help recins' 'help recdel' 'help recset' 'help batch' 'help undo' 'help redo' 'help history' 'help show' 'help forget' \
         'recins --help' 'recins -h' 'recdel --help' 'recdel -h' 'recset --help' 'recset -h' 'batch --help' 'batch -h' 'undo --help' 'undo -h' \
-        'undo f -hx' 'redo --help' 'redo -h' 'history --help' 'history -h' 'forget --help' 'forget -h' 'forget 1 -h'; do
+        'undo f -hx' 'redo --help' 'redo -h' 'history --help' 'history -h' 'show --help' 'show -h' 'show 1 f -h' \
+        'forget --help' 'forget -h' 'forget 1 -h'; do
         recu 0 $words
         out | grep -q 'Usage: recu' || fail "recu $words prints no usage"
         out | grep -q 'FILE.new' || fail "recu $words does not name FILE.new"
@@ -44,7 +45,7 @@ silent() {
     done
     for words in 'recsel --version' 'recsel -V' 'recinf --version' 'recinf -V' 'recfix --version' 'recfix -V' \
         'recins --version' 'recins -V' 'recdel --version' 'recdel -V' 'recset --version' 'recset -V' 'batch --version' 'batch -V' 'undo --version' \
-        'undo -V' 'redo --version' 'redo -V' 'history --version' 'history -V' 'forget --version' 'forget -V'; do
+        'undo -V' 'redo --version' 'redo -V' 'history --version' 'history -V' 'show --version' 'show -V' 'forget --version' 'forget -V'; do
         recu 0 $words
         [ -n "$(out)" ] || fail "recu $words prints no version"
         silent
@@ -65,14 +66,14 @@ example() {
     cp -- "$top/sample/library.rec" "$top/sample/contacts.rec" "$top/sample/changes.rec" .
     [[ $2 != *' --journal '* ]] || journal=(--journal edits.rec)
     case $1 in
-        undo | redo | history | forget) does recset -n 0 -f Name -s Ada "${journal[@]}" contacts.rec ;;
+        undo | redo | history | show | forget) does recset -n 0 -f Name -s Ada "${journal[@]}" contacts.rec ;;
     esac
     [ "$1" != redo ] || does undo "${journal[@]}" contacts.rec
     cp contacts.rec contacts.rec.before
     eval "recu 0 ${2#  recu }"
     silent
     case $1 in
-        recsel | recinf | history) [ -n "$(out)" ] || fail "$2 prints nothing" ;;
+        recsel | recinf | history | show) [ -n "$(out)" ] || fail "$2 prints nothing" ;;
         recins | recdel | recset | batch | undo | redo)
             ! cmp -s contacts.rec contacts.rec.before || ! cmp -s library.rec "$top/sample/library.rec" || fail "$2 changes nothing"
             ;;
@@ -85,7 +86,7 @@ example() {
 
 @test "the examples of help" {
     local tool line number
-    for tool in recsel recinf recfix recins recdel recset batch undo redo history forget; do
+    for tool in recsel recinf recfix recins recdel recset batch undo redo history show forget; do
         recu 0 help "$tool"
         out > help
         tail -n 1 help | grep -q '^  recu ' || fail "the help of $tool ends with no example"
@@ -102,7 +103,7 @@ example() {
 
 @test "help fits 80 columns" {
     local tool words
-    for tool in '' recsel recinf recfix recins recdel recset batch undo redo history forget; do
+    for tool in '' recsel recinf recfix recins recdel recset batch undo redo history show forget; do
         for words in "$tool --help" "$tool -h" "help $tool"; do
             recu 0 $words
             ! out | LC_ALL=C.UTF-8 grep -E '.{81}' || fail "a line of recu $words has more than 80 characters"
@@ -172,7 +173,8 @@ hints() {
     prints '' "error: unexpected argument 'b.rec' found¶¶Usage: recu recsel [OPTIONS] [FILE]¶¶For more information, try '--help'.¶hint: a command takes one FILE¶recu: bad usage¶"
     for words in 'recsel -c a.rec b.rec a.rec' 'recsel -- a.rec b.rec' 'recinf a.rec b.rec' 'recfix a.rec b.rec' 'recfix --auto a.rec b.rec' \
         'recins -f A -v 1 a.rec b.rec' 'recdel -n 0 a.rec b.rec' 'recset -f A -d a.rec b.rec' 'recset -n 0 -f A -s Ada Lovelace a.rec' \
-        'batch -b c.rec a.rec b.rec' 'undo a.rec b.rec' 'redo a.rec b.rec' 'history a.rec b.rec' 'forget 1 a.rec b.rec' 'forget 1 2 a.rec' \
+        'batch -b c.rec a.rec b.rec' 'undo a.rec b.rec' 'redo a.rec b.rec' 'history a.rec b.rec' 'history --patch a.rec b.rec' 'show 1 a.rec b.rec' \
+        'undo --dry-run a.rec b.rec' 'forget 1 a.rec b.rec' 'forget 1 2 a.rec' \
         'recset -f A a.rec b.rec -s -5'; do
         recu 1 $words
         is_bad_usage
@@ -389,6 +391,12 @@ is_cut() {
     does recset -n 1 -f N -s c --force f
     does undo f
     fast is_cut 0 'done 1 recset¶undone 2 recset¶' history f
+    local one='--- f¶+++ f¶@@ -5,2 +5,1 @@ N: a¶-M: x\¶-y¶+M: z¶' two='--- f¶+++ f¶@@ -7,1 +7,1 @@¶-N: b¶+N: c¶'
+    fast is_cut 0 "$one" show f
+    fast is_cut 0 "$two" show 2 f
+    fast is_cut 0 "done 1 recset¶${one}undone 2 recset¶$two" history --patch f
+    fast is_cut 0 "$two" redo --dry-run f
+    fast is_cut 0 "$two" recset --dry-run -n 1 -f N -s c --force f
     has f '%rec: P¶%mandatory: X¶¶N: a¶M: z¶¶N: b¶'
     only f f.journal
 }

@@ -3,7 +3,7 @@ use Rattle.std.specs.Prelude.{true, List, [], ◌∷◌, ◌++◌, codes, Some, 
 use Rattle.clap.specs.Words.{App, Rule, Text, new_app, new_rule, with_rule, with_subcommand}
 use Rattle.rec_command.specs.declared.tools.Tool.{Tool}
 use Rattle.rec_command.specs.declared.tools.Tool.TheVariants.{RecSel, RecInf, RecFix, RecIns, RecDel, RecSet}
-use Rattle.rec_command.specs.declared.tools.Tool.TheVariants.{Batch, Undo, Redo, History, Forget}
+use Rattle.rec_command.specs.declared.tools.Tool.TheVariants.{Batch, Undo, Redo, History, Show, Forget}
 use Rattle.clap.specs.declared.builder.action.ArgAction.TheVariants.{SetTrue, Append}
 
 -- `-x VALUE` or `--name VALUE`; without a letter the second alone
@@ -32,6 +32,10 @@ batch_option = record (new_rule (codes "batch")) {
   short = slice_get (codes "b") 0;
   value_names = 1;
 }
+
+-- `--dry-run`
+abbrev pub dry_run : Rule
+dry_run = flag [] (codes "dry-run")
 
 -- `--journal PATH`
 abbrev pub journal_option : Rule
@@ -84,6 +88,7 @@ usage_of RecFix = tool_with (codes "recfix") (
     flag [] (codes "check")
     ∷ flag [] (codes "auto")
     ∷ flag [] (codes "force")
+    ∷ dry_run
     ∷ journal_option
     ∷ word (codes "file")
     ∷ [])
@@ -94,11 +99,13 @@ usage_of RecIns = tool_with (codes "recins") (
     ∷ valued (codes "r") (codes "record")
     ∷ flag [] (codes "no-auto")
     ∷ flag [] (codes "force")
+    ∷ dry_run
     ∷ paths)
 usage_of RecDel = tool_with (codes "recdel") (
     selecting
     ++ flag (codes "c") (codes "comment")
     ∷ flag [] (codes "force")
+    ∷ dry_run
     ∷ paths)
 usage_of RecSet = tool_with (codes "recset") (
     selecting
@@ -110,11 +117,14 @@ usage_of RecSet = tool_with (codes "recset") (
     ∷ flag (codes "d") (codes "delete")
     ∷ flag (codes "c") (codes "comment")
     ∷ flag [] (codes "force")
+    ∷ dry_run
     ∷ paths)
-usage_of Batch = tool_with (codes "batch") (batch_option ∷ flag [] (codes "force") ∷ paths)
-usage_of Undo = tool_with (codes "undo") paths
-usage_of Redo = tool_with (codes "redo") paths
-usage_of History = tool_with (codes "history") paths
+usage_of Batch = tool_with (codes "batch") (batch_option ∷ flag [] (codes "force") ∷ dry_run ∷ paths)
+usage_of Undo = tool_with (codes "undo") (dry_run ∷ paths)
+usage_of Redo = tool_with (codes "redo") (dry_run ∷ paths)
+usage_of History = tool_with (codes "history") (flag [] (codes "patch") ∷ paths)
+-- clap wants the word that has to be there first, so which of the two is N is said in `Words`
+usage_of Show = tool_with (codes "show") (paths ++ word (codes "second") ∷ [])
 usage_of Forget = tool_with (codes "forget") (
     journal_option ∷ needed_word (codes "n") ∷ needed_word (codes "file") ∷ [])
 
@@ -125,7 +135,7 @@ name_of tool = (usage_of tool).top.name
 -- the tools, in the order in which help lists them
 abbrev pub tools : List Tool
 tools =
-    RecSel ∷ RecInf ∷ RecFix ∷ RecIns ∷ RecDel ∷ RecSet ∷ Batch ∷ Undo ∷ Redo ∷ History ∷ Forget ∷ []
+    RecSel ∷ RecInf ∷ RecFix ∷ RecIns ∷ RecDel ∷ RecSet ∷ Batch ∷ Undo ∷ Redo ∷ History ∷ Show ∷ Forget ∷ []
 
 -- the words are those after the program's name, and the first of them is a tool
 abbrev pub plain_usage : App

@@ -1,5 +1,5 @@
 -- What a command line asks for, and the paths that it names.
-use Rattle.std.specs.Prelude.{◌≡◌, ◌≢◌, ℕ, ◌^◌, ◌<◌, Bool, true, false, not, List, [], codes, string_bytes}
+use Rattle.std.specs.Prelude.{◌≡◌, ◌≢◌, ◌⊎◌, ℕ, ◌^◌, ◌<◌, Bool, true, false, not, List, [], codes, string_bytes}
 use Rattle.std.specs.Prelude.{Option, Some, None, option_map}
 use Rattle.std.specs.Option.{option_map_or, unwrap_or}
 use Rattle.std.specs.Str.{bytes_eq}
@@ -17,9 +17,9 @@ use Rattle.rec_tools.specs.declared.request.Form.TheVariants.{Blocks, Print, Val
 use Rattle.rec_tools.specs.declared.request.Pick.{Pick}
 use Rattle.rec_tools.specs.declared.request.EditRequest.{EditRequest}
 use Rattle.rec_tools.specs.declared.request.EditRequest.TheVariants.{Insert, Replace, Delete, CommentOut, Set, AutoFill}
-use Rattle.rec_tools.specs.declared.request.Request.{Request}
-use Rattle.rec_tools.specs.declared.request.Request.TheVariants.{Show, Info, Check, Edit, Batch}
-use Rattle.rec_tools.specs.declared.request.Request.TheVariants.{Undo, Redo, Forget, History}
+use Rattle.rec_tools.specs.declared.request.Request.{Request, Show, Info, Check, Edit, Batch, Undo, Redo, Forget}
+use Rattle.rec_tools.specs.declared.request.Request.{History}
+use Rattle.rec_tools.specs.declared.request.Request.{Diff, Log, Preview'}
 use Rattle.rec_tools.specs.Asking.{selection_for}
 use Rattle.rec_files.specs.Paths.{journal_of, AreApart}
 use Rattle.rec_command.specs.declared.args.Order.{Order}
@@ -28,7 +28,7 @@ use Rattle.rec_command.specs.declared.args.CommandLine.{CommandLine}
 use Rattle.rec_command.specs.declared.tools.Tool.{Tool}
 use Rattle.rec_command.specs.declared.tools.Tool.TheVariants.{RecSel, RecInf, RecFix, RecIns, RecDel, RecSet}
 use Rattle.rec_command.specs.declared.tools.Tool.TheVariants.{Batch as ByBatch, Undo as ByUndo, Redo as ByRedo}
-use Rattle.rec_command.specs.declared.tools.Tool.TheVariants.{History as ByHistory, Forget as ByForget}
+use Rattle.rec_command.specs.declared.tools.Tool.TheVariants.{History as ByHistory, Show as ByShow, Forget as ByForget}
 use Rattle.rec_command.specs.Usage.{name_of, usage}
 
 -- ---- the options
@@ -101,9 +101,31 @@ new_record_given options = (
   first_of (codes "record") options,
 )
 
--- the decimal digits, one or more, write this number of 32 bits
-abbrev pub IsNumber : Text → ℕ → Type 0
-IsNumber digits n = IsNumeral 10 digits × (digits_value 10 digits ≡ n) × (n < 2 ^ 32)
+-- the decimal digits, one or more, write this number of at most `bits` bits
+abbrev pub IsNumber : ℕ → Text → ℕ → Type 0
+IsNumber bits digits n = IsNumeral 10 digits × (digits_value 10 digits ≡ n) × (n < 2 ^ bits)
+
+-- ---- the words in their places
+
+-- N and FILE, by the first and the second word: of two words the first is N. No tool but `show` takes two
+abbrev pub number_and_file : Option Text → Option Text → Option Text × Option Text
+number_and_file first None = (None, first)
+number_and_file first (Some second) = (first, Some second)
+
+abbrev pub words_given : List Row → Option Text × Option Text
+words_given options = number_and_file (first_of (codes "file") options) (first_of (codes "second") options)
+
+-- N of `show`
+abbrev pub number_given : List Row → Option Text
+number_given options = (words_given options).0
+
+abbrev pub file_given : List Row → Option Text
+file_given options = (words_given options).1
+
+-- the number of an edit, from 1 on; or none is given
+abbrev pub IsEditGiven : Option Text → Option ℕ → Type 0
+IsEditGiven None number = number ≡ None
+IsEditGiven (Some digits) number = (n : ℕ) × (number ≡ Some n) × IsNumber 64 digits n × (0 < n)
 
 -- ---- what is asked for
 
@@ -124,28 +146,56 @@ AsksEdit tool options (Set pick list action) =
 AsksEdit tool options AutoFill =
     (tool ≡ RecFix) × (has_flag (codes "auto") options ≡ true) × (has_flag (codes "check") options ≡ false)
 
--- the request that they give whole: no batch
+-- the request that they give whole: no batch, and no dry run
 abbrev pub Asks : Tool → List Row → Request → Type 0
 Asks tool options (Show pick form collapse) =
     (tool ≡ RecSel) × IsPick options pick × (form_for form ≡ form_given options)
     × (collapse ≡ has_flag (codes "collapse") options)
 Asks tool options (Info record_type form) =
     (tool ≡ RecInf) × (record_type ≡ first_of (codes "type") options) × (info_form_for form ≡ info_form_given options)
-Asks tool options Check = (tool ≡ RecFix) × (has_flag (codes "auto") options ≡ false)
+Asks tool options Check =
+    (tool ≡ RecFix) × (has_flag (codes "auto") options ≡ false) × (has_flag (codes "dry-run") options ≡ false)
 Asks tool options (Edit edit force) = AsksEdit tool options edit × (force ≡ has_flag (codes "force") options)
 Asks tool options (Batch text force) = ⊥
 Asks tool options Undo = tool ≡ ByUndo
 Asks tool options Redo = tool ≡ ByRedo
 Asks tool options (Forget n) =
-    (tool ≡ ByForget) × ((digits : Text) × (first_of (codes "n") options ≡ Some digits) × IsNumber digits n)
-Asks tool options History = tool ≡ ByHistory
+    (tool ≡ ByForget) × ((digits : Text) × (first_of (codes "n") options ≡ Some digits) × IsNumber 32 digits n)
+Asks tool options History = (tool ≡ ByHistory) × (has_flag (codes "patch") options ≡ false)
+Asks tool options (Log name) =
+    (tool ≡ ByHistory) × (has_flag (codes "patch") options ≡ true) × (file_given options ≡ Some name)
+Asks tool options (Diff number name) =
+    (tool ≡ ByShow) × IsEditGiven (number_given options) number × (file_given options ≡ Some name)
+Asks tool options (Preview' shape own name) = ⊥
 
--- a request, or a batch whose text stands in the file that `-b` names
+-- a request, or a batch whose text stands in the file that `-b` names; no dry run
 abbrev pub Orders : Tool → List Row → Order → Type 0
 Orders tool options (Whole request) = Asks tool options request
-Orders tool options (BatchAt path force) =
+Orders tool options (BatchAt path force preview) =
     (tool ≡ ByBatch) × (first_of (codes "batch") options ≡ Some (string_bytes path))
-    × (force ≡ has_flag (codes "force") options)
+    × (force ≡ has_flag (codes "force") options) × (preview ≡ None)
+
+-- the preview of a request, of a file of this name
+abbrev pub IsPreview : Text → Request → Request → Type 0
+IsPreview name own (Preview' shape held given) = (held ≡ own) × (given ≡ name)
+IsPreview name own request = ⊥
+
+-- the preview of an order
+abbrev pub Previews : Text → Order → Order → Type 0
+Previews name order (Whole request) = (own : Request) × (order ≡ Whole own) × IsPreview name own request
+Previews name order (BatchAt path force preview) = (order ≡ BatchAt path force None) × (preview ≡ Some name)
+
+-- what the options order but for `--dry-run`, or with that the preview of it
+abbrev pub OrdersOrPreviews : Tool → List Row → Order → Type 0
+OrdersOrPreviews tool options order =
+    ((has_flag (codes "dry-run") options ≡ false) × Orders tool options order)
+    ⊎ ((has_flag (codes "dry-run") options ≡ true) × ((own : Order) × (name : Text)
+    × (file_given options ≡ Some name) × Orders tool options own × Previews name own order))
+
+-- the request of a batch with this text, or with the name of FILE the preview of it
+abbrev pub IsBatchOf : Text → Bool → Option Text → Request → Type 0
+IsBatchOf text force None request = request ≡ Batch text force
+IsBatchOf text force (Some name) request = IsPreview name (Batch text force) request
 
 -- ---- the paths
 
@@ -172,9 +222,9 @@ IsJournal _ file given journal = IsEditJournal file given journal
 
 -- what a tool and its options ask for
 pub record IsAskedBy (tool : Tool) (options : List Row) (line : CommandLine) : Type 0 where
-  pub order : Orders tool options line.order
-  pub file : option_map string_bytes line.file ≡ first_of (codes "file") options
-  pub journal : IsJournal line.order (first_of (codes "file") options) (first_of (codes "journal") options)
+  pub order : OrdersOrPreviews tool options line.order
+  pub file : option_map string_bytes line.file ≡ file_given options
+  pub journal : IsJournal line.order (file_given options) (first_of (codes "journal") options)
       (option_map string_bytes line.journal)
 
 -- what the words ask for: what the tool that they name does, with its options

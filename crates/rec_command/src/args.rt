@@ -9,8 +9,10 @@ mod forgetting;
 mod found;
 pub mod help;
 mod paths;
+mod previewing;
 mod refusal;
 mod selecting;
+mod showing;
 mod usage;
 
 use crate::tools::Tool;
@@ -18,9 +20,12 @@ use clap::ArgMatches;
 use editing::{batch_order, deletion, edit_order, insertion, recfix_order, setting};
 use forgetting::forget_order;
 use paths::{Paths, paths_of};
-use rec_tools::{Fault, Request};
+pub use previewing::batch_request;
+use previewing::or_preview;
+use rec_tools::{Bytes, Fault, Request};
 pub use refusal::Refusal;
 use selecting::{recinf_order, recsel_order};
+use showing::{history_order, show_order};
 use std::alloc::Global;
 use std::convert::AsStr;
 use std::rt::Env;
@@ -40,8 +45,12 @@ pub struct CommandLine {
 pub enum Order {
     /// A request that the words give whole.
     Whole(Request),
-    /// A batch, whose text is that of the file of this path.
-    BatchAt { path: String, force: bool },
+    /// A batch, whose text is that of the file of this path. A dry run of it has the name of FILE for what it prints.
+    BatchAt {
+        path: String,
+        force: bool,
+        preview: Option<Bytes>,
+    },
 }
 
 /// The words after the program's name.
@@ -76,7 +85,7 @@ pub fn parse<S: AsStr>(alloc: Global, words: &[S]) -> Result<CommandLine, Refusa
 fn asked_by(alloc: Global, tool: Tool, options: &ArgMatches) -> Result<CommandLine, Refusal>
     ensures { IfOk result (IsAskedBy tool (rows_of (found_of options.now))) }
 {
-    let order = order_of(alloc, tool, options)?;
+    let order = or_preview(alloc, order_of(alloc, tool, options)?, options)?;
     let Paths { file, journal } = paths_of(alloc, &order, options)?;
     Ok(CommandLine {
         order,
@@ -96,7 +105,7 @@ pub fn request_of<S: AsStr>(alloc: Global, words: &[S]) -> Result<CommandLine, F
     }
 }
 
-/// What a tool is asked for, by the options that were found.
+/// What a tool is asked for, by the options that were found, but for a dry run.
 fn order_of(alloc: Global, tool: Tool, options: &ArgMatches) -> Result<Order, Refusal>
     ensures { IfOk result (Orders tool (rows_of (found_of options.now))) }
 {
@@ -110,7 +119,8 @@ fn order_of(alloc: Global, tool: Tool, options: &ArgMatches) -> Result<Order, Re
         Tool::Batch => batch_order(alloc, options),
         Tool::Undo => Ok(Order::Whole(Request::Undo)),
         Tool::Redo => Ok(Order::Whole(Request::Redo)),
-        Tool::History => Ok(Order::Whole(Request::History)),
+        Tool::History => history_order(alloc, options),
+        Tool::Show => show_order(alloc, options),
         Tool::Forget => forget_order(options),
     }
 }

@@ -75,6 +75,13 @@ const FORCE: Argument = Argument {
     help: "Make the edit even if the file then breaks its rules",
 };
 
+const DRY_RUN: Argument = Argument {
+    written: Written::Name,
+    name: "dry-run",
+    takes: Takes::Nothing,
+    help: "Print what would change, and change nothing",
+};
+
 const JOURNAL: Argument = Argument {
     written: Written::Name,
     name: "journal",
@@ -157,7 +164,7 @@ pub static RECINF: [Argument; 4] = [
     INPUT,
 ];
 
-pub static RECFIX: [Argument; 5] = [
+pub static RECFIX: [Argument; 6] = [
     Argument {
         written: Written::Name,
         name: "check",
@@ -171,11 +178,12 @@ pub static RECFIX: [Argument; 5] = [
         help: "Give all records the automatic fields that they lack",
     },
     FORCE,
+    DRY_RUN,
     JOURNAL,
     INPUT,
 ];
 
-pub static RECINS: [Argument; 12] = [
+pub static RECINS: [Argument; 13] = [
     Argument {
         written: Written::Both('t'),
         name: "type",
@@ -211,11 +219,12 @@ pub static RECINS: [Argument; 12] = [
         help: "Add no automatic fields",
     },
     FORCE,
+    DRY_RUN,
     JOURNAL,
     FILE,
 ];
 
-pub static RECDEL: [Argument; 9] = [
+pub static RECDEL: [Argument; 10] = [
     TYPE,
     EXPRESSION,
     NUMBER,
@@ -233,11 +242,12 @@ pub static RECDEL: [Argument; 9] = [
         takes: Takes::Nothing,
         help: "Delete even without a selection, or if rules break",
     },
+    DRY_RUN,
     JOURNAL,
     FILE,
 ];
 
-pub static RECSET: [Argument; 15] = [
+pub static RECSET: [Argument; 16] = [
     TYPE,
     EXPRESSION,
     NUMBER,
@@ -286,11 +296,12 @@ pub static RECSET: [Argument; 15] = [
         help: "Comment the fields out",
     },
     FORCE,
+    DRY_RUN,
     JOURNAL,
     FILE,
 ];
 
-pub static BATCH: [Argument; 4] = [
+pub static BATCH: [Argument; 5] = [
     Argument {
         written: Written::Letter('b'),
         name: "batch",
@@ -303,12 +314,36 @@ pub static BATCH: [Argument; 4] = [
         takes: Takes::Nothing,
         help: "Make them even without a selection, or if rules break",
     },
+    DRY_RUN,
     JOURNAL,
     FILE,
 ];
 
-/// What undo, redo and history take.
-pub static PATHS: [Argument; 2] = [JOURNAL, FILE];
+/// What undo and redo take.
+pub static MOVES: [Argument; 3] = [DRY_RUN, JOURNAL, FILE];
+
+pub static HISTORY: [Argument; 3] = [
+    Argument {
+        written: Written::Name,
+        name: "patch",
+        takes: Takes::Nothing,
+        help: "Print under each line what that edit changed",
+    },
+    JOURNAL,
+    FILE,
+];
+
+/// A word that has to be there comes first here, and so help lists it; where there are two, the first is N all the same.
+pub static SHOW: [Argument; 3] = [
+    JOURNAL,
+    FILE,
+    Argument {
+        written: Written::Word,
+        name: "second",
+        takes: Takes::Value("N"),
+        help: "The number of an edit [default: that of the newest]",
+    },
+];
 
 pub static FORGET: [Argument; 3] = [
     JOURNAL,

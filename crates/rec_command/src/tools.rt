@@ -6,10 +6,11 @@ ghost use Rattle.rec_command.specs.proving.Tools.{usage_in};
 use crate::args::help::{
     BATCH_ABOUT, BATCH_HELP, BATCH_USAGE, FORGET_ABOUT, FORGET_HELP, HISTORY_HELP, RECDEL_ABOUT,
     RECDEL_HELP, RECFIX_ABOUT, RECFIX_HELP, RECINF_HELP, RECINS_ABOUT, RECINS_HELP, RECINS_USAGE,
-    RECSEL_HELP, RECSET_ABOUT, RECSET_HELP, RECSET_USAGE, REDO_HELP, UNDO_HELP,
+    RECSEL_HELP, RECSET_ABOUT, RECSET_HELP, RECSET_USAGE, REDO_HELP, SHOW_ABOUT, SHOW_HELP,
+    SHOW_USAGE, UNDO_HELP,
 };
 use crate::options::{
-    Argument, BATCH, FORGET, PATHS, RECDEL, RECFIX, RECINF, RECINS, RECSEL, RECSET,
+    Argument, BATCH, FORGET, HISTORY, MOVES, RECDEL, RECFIX, RECINF, RECINS, RECSEL, RECSET, SHOW,
 };
 
 /// A tool.
@@ -25,11 +26,12 @@ pub enum Tool {
     Undo,
     Redo,
     History,
+    Show,
     Forget,
 }
 
 /// All tools, in the order of help.
-pub static TOOLS: [Tool; 11] = [
+pub static TOOLS: [Tool; 12] = [
     Tool::RecSel,
     Tool::RecInf,
     Tool::RecFix,
@@ -40,6 +42,7 @@ pub static TOOLS: [Tool; 11] = [
     Tool::Undo,
     Tool::Redo,
     Tool::History,
+    Tool::Show,
     Tool::Forget,
 ];
 
@@ -124,7 +127,7 @@ impl Tool {
             },
             Tool::Undo => Usage {
                 name: "undo",
-                arguments: PATHS.as_slice(),
+                arguments: MOVES.as_slice(),
                 about: "Undoes the newest edit",
                 long_about: None,
                 usage: None,
@@ -132,7 +135,7 @@ impl Tool {
             },
             Tool::Redo => Usage {
                 name: "redo",
-                arguments: PATHS.as_slice(),
+                arguments: MOVES.as_slice(),
                 about: "Redoes the edit that was undone last",
                 long_about: None,
                 usage: None,
@@ -140,11 +143,19 @@ impl Tool {
             },
             Tool::History => Usage {
                 name: "history",
-                arguments: PATHS.as_slice(),
+                arguments: HISTORY.as_slice(),
                 about: "Prints the edits that can be undone and redone",
                 long_about: None,
                 usage: None,
                 after_help: HISTORY_HELP,
+            },
+            Tool::Show => Usage {
+                name: "show",
+                arguments: SHOW.as_slice(),
+                about: "Prints what an edit changed",
+                long_about: Some(SHOW_ABOUT),
+                usage: Some(SHOW_USAGE),
+                after_help: SHOW_HELP,
             },
             Tool::Forget => Usage {
                 name: "forget",

@@ -9,3 +9,5 @@ pub mod CutLemmas
 pub mod HeadingLemmas
 pub mod RestLemmas
 pub mod PrintedExamples
+pub mod DiffLemmas
+pub mod BackLemmas

@@ -5,5 +5,7 @@ pub mod Composing
 pub mod Lines
 pub mod WholeLines
 pub mod Diff
+-- the diff of an edit
+pub mod Diffs
 -- what serves proofs
 pub mod proving

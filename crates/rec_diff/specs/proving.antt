@@ -2,3 +2,4 @@
 pub mod Runs
 pub mod Turns
 pub mod Headings
+pub mod Backs

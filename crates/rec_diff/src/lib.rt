@@ -3,6 +3,7 @@
 #![tactic(auto)]
 
 mod composing;
+mod diffs;
 mod head;
 mod heading;
 mod label;
@@ -15,6 +16,7 @@ mod printing;
 mod turn;
 
 pub use composing::compose;
+pub use diffs::{one_diff, write_diff};
 pub use laws::{composes_itself, composes_splices, hunks_splice, one_change, one_composition};
 pub use printing::write_change;
 pub use rec_journal::{Hunk, Patch};

@@ -9,6 +9,8 @@ pub struct About<'a> {
     pub journal: &'a str,
     /// The text of the file as it is now. There is none where it can't be read again, as standard input.
     pub text: Option<&'a [u8]>,
+    /// The history, as `history` prints it, where a refusal is about one of its edits.
+    pub history: Option<&'a [u8]>,
     /// Whether the file was not found.
     pub is_missing: bool,
 }

@@ -7,6 +7,7 @@ mod about;
 mod batches;
 mod counters;
 mod descriptors;
+mod edit_numbers;
 mod explanation;
 mod files;
 mod lines;

@@ -5,18 +5,35 @@ ghost use Rattle.rec_explain.specs.Lines.{IsShown};
 use crate::explanation::Explanation;
 use crate::lines::shown::plain;
 use itoa::Buffer;
-use rec_tools::Reply;
-use std::alloc::Global;
+use rec_tools::{Reply, Request, Tool};
+use std::alloc::{AllocError, Global};
+use std::str;
 
 /// What is said of a command that succeeded: always that it ended the undo of earlier edits, where it did, and on a terminal
-/// what it did.
-pub fn explain_done(alloc: Global, file: &str, reply: &Reply, on_terminal: bool) -> Vec<u8>
+/// what it did, or what it would do where it is a dry run.
+pub fn explain_done(
+    alloc: Global,
+    file: &str,
+    request: &Request,
+    reply: &Reply,
+    on_terminal: bool,
+) -> Vec<u8>
     ensures shown { All IsShown result.items }
 {
     let mut said = Explanation::new(alloc);
-    say_what_was_dropped(file, reply, &mut said);
+    let is_tried = matches!(request, Request::Preview(_, _));
+    if !is_tried {
+        say_what_was_dropped(file, reply, &mut said);
+    }
     if on_terminal {
-        say_what_was_done(reply, &mut said);
+        say(
+            if is_tried {
+                would(alloc, reply)
+            } else {
+                done(alloc, reply)
+            },
+            &mut said,
+        );
     }
     said.into_lines()
 }
@@ -39,55 +56,73 @@ fn say_what_was_dropped(file: &str, reply: &Reply, said: &mut Explanation) {
     ]);
 }
 
-fn say_what_was_done(reply: &Reply, said: &mut Explanation) {
+/// Says a line, if it was made and is none that is empty.
+fn say(line: Result<String, AllocError>, said: &mut Explanation) {
+    if let Ok(line) = line
+        && !line.is_empty()
+    {
+        said.add(&[line.as_str()]);
+    }
+}
+
+/// What was done. Nothing is said of what only prints.
+fn done(alloc: Global, reply: &Reply) -> Result<String, AllocError> {
     match reply {
         Reply::Edited {
             changed,
             number,
             ..
-        } => say_edited(*changed, *number, said),
-        Reply::Unchanged { chosen } => said.add(&[unchanged(*chosen)]),
-        Reply::Undone(number, tool) => say_moved("undone: edit ", *number, tool.name(), said),
-        Reply::Redone(number, tool) => say_moved("redone: edit ", *number, tool.name(), said),
-        Reply::Forgotten(count) => say_forgotten(*count, said),
-        Reply::Shown | Reply::Violated(_) => {}
+        } => format!(in alloc; "{changed} {} changed (edit {number})", records(*changed)),
+        Reply::Unchanged { chosen } => String::from_str(
+            alloc,
+            unchanged(*chosen, "nothing changed"),
+        ),
+        Reply::Undone(number, tool) => format!(in alloc;
+            "undone: edit {number}, {}",
+            name_of(*tool)
+        ),
+        Reply::Redone(number, tool) => format!(in alloc;
+            "redone: edit {number}, {}",
+            name_of(*tool)
+        ),
+        Reply::Forgotten(0) => String::from_str(alloc, "nothing forgotten"),
+        Reply::Forgotten(1) => String::from_str(alloc, "1 edit forgotten"),
+        Reply::Forgotten(count) => format!(in alloc; "{count} edits forgotten"),
+        Reply::Shown | Reply::Violated(_) => Ok(String::new(alloc)),
     }
 }
 
-fn say_edited(changed: usize, number: usize, said: &mut Explanation) {
-    let mut count = Buffer::new();
-    let mut digits = Buffer::new();
-    said.add(&[
-        count.format(changed),
-        records(changed),
-        " changed (edit ",
-        digits.format(number),
-        ")",
-    ]);
-}
-
-fn say_moved<'x>(what: &'x str, number: usize, tool: &'x [u8], said: &mut Explanation) {
-    let mut digits = Buffer::new();
-    said.add(&[what, digits.format(number), ", ", plain(tool).unwrap_or("")]);
-}
-
-fn say_forgotten(count: usize, said: &mut Explanation) {
-    let mut digits = Buffer::new();
-    match count {
-        0 => said.add(&["nothing forgotten"]),
-        1 => said.add(&["1 edit forgotten"]),
-        _ => said.add(&[digits.format(count), " edits forgotten"]),
+/// What would be done.
+fn would(alloc: Global, reply: &Reply) -> Result<String, AllocError> {
+    match reply {
+        Reply::Edited { changed, .. } => {
+            format!(in alloc; "{changed} {} would change", records(*changed))
+        }
+        Reply::Unchanged { chosen } => {
+            String::from_str(alloc, unchanged(*chosen, "nothing would change"))
+        }
+        Reply::Undone(number, tool) => {
+            format!(in alloc; "it would undo edit {number}, {}", name_of(*tool))
+        }
+        Reply::Redone(number, tool) => {
+            format!(in alloc; "it would redo edit {number}, {}", name_of(*tool))
+        }
+        Reply::Shown | Reply::Violated(_) | Reply::Forgotten(_) => Ok(String::new(alloc)),
     }
 }
 
-/// Why an edit changed nothing.
-fn unchanged(chosen: Option<usize>) -> &'static str {
+/// Why an edit changes nothing: no record is selected, or what is said of others.
+fn unchanged(chosen: Option<usize>, other: &'static str) -> &'static str {
     match chosen {
         Some(0) => "no record is selected",
-        _ => "nothing changed",
+        _ => other,
     }
 }
 
 fn records(count: usize) -> &'static str {
-    if count == 1 { " record" } else { " records" }
+    if count == 1 { "record" } else { "records" }
+}
+
+fn name_of(tool: Tool) -> &'static str {
+    str::from_utf8(tool.name()).unwrap_or("")
 }

@@ -7,6 +7,7 @@ use crate::batches::explain_batch;
 use crate::counters::explain_counter;
 use crate::descriptors::fields::{explain_descriptor, explain_unsupported};
 use crate::descriptors::patterns::explain_pattern;
+use crate::edit_numbers::explain_numbers;
 use crate::explanation::Explanation;
 use crate::files::{explain_drift, explain_history, explain_missing};
 use crate::lines::bad_lines::{explain_bad_line, explain_open_line};
@@ -23,8 +24,16 @@ pub fn explain(alloc: Global, about: &About<'_>, request: &Request, fault: &Faul
     ensures shown { All IsShown result.items }
 {
     let mut said = Explanation::new(alloc);
-    explain_fault(alloc, about, request, fault, &mut said);
+    explain_fault(alloc, about, tried(request), fault, &mut said);
     said.into_lines()
+}
+
+/// What a dry run tries, which is refused for the same reasons; or the request itself.
+fn tried(request: &Request) -> &Request {
+    match request {
+        Request::Preview(own, _) => own,
+        _ => request,
+    }
 }
 
 fn explain_fault(
@@ -40,6 +49,7 @@ fn explain_fault(
         }
         (Fault::StoreFailed, _) => explain_missing(about, request, said),
         (Fault::Drifted, _) => explain_drift(about, request, said),
+        (Fault::NoSuchEdit, _) => explain_numbers(alloc, about, said),
         (_, Request::Edit { edit, .. }) => explain_edit(alloc, about, edit, fault, said),
         (_, Request::Batch { text, force }) => {
             explain_batch(alloc, about, text.as_slice(), *force, fault, said);

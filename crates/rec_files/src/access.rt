@@ -18,9 +18,13 @@ pub fn access_of(request: &Request) -> Access
     ensures change { result ≢ Access.Look → ¬ WritesNothing (asked_of request.now) }
 {
     match request {
-        Request::Show { .. } | Request::Info { .. } | Request::Check | Request::History => {
-            Access::Look
-        }
+        Request::Show { .. }
+        | Request::Info { .. }
+        | Request::Check
+        | Request::History
+        | Request::Diff(_, _)
+        | Request::Log(_)
+        | Request::Preview(_, _) => Access::Look,
         Request::Edit { .. }
         | Request::Batch { .. }
         | Request::Undo

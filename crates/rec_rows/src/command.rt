@@ -1,7 +1,7 @@
 //! The requests of lines such as `recdel -t P -n 0 --force`: the words of the command line without a path, each of which is
 //! a cell.
 use crate::cells::bytes_in;
-use rec_command::{CommandLine, Order, request_of as request_of_words};
+use rec_command::{CommandLine, Order, batch_request, request_of as request_of_words};
 use rec_tools::{Action, Ask, Bytes, EditRequest, Fault, Form, NewRecord, Pick, Request};
 use std::alloc::{AllocError, Global};
 use std::str;
@@ -118,8 +118,15 @@ impl<'w> Cells<'w> {
         }
     }
 
-    /// The cells of a request become what they stand for.
+    /// The cells of a request become what they stand for, of a dry run those of what it tries.
     fn read_request(&self, request: &mut Request) -> Result<(), AllocError> {
+        match request {
+            Request::Preview(own, _) => self.read_own(own),
+            own => self.read_own(own),
+        }
+    }
+
+    fn read_own(&self, request: &mut Request) -> Result<(), AllocError> {
         match request {
             Request::Show { pick, form, .. } => {
                 self.read_pick(pick)?;
@@ -132,7 +139,10 @@ impl<'w> Cells<'w> {
             | Request::Undo
             | Request::Redo
             | Request::Forget(_)
-            | Request::History => Ok(()),
+            | Request::History
+            | Request::Diff(_, _)
+            | Request::Log(_)
+            | Request::Preview(_, _) => Ok(()),
         }
     }
 }
@@ -142,10 +152,14 @@ fn request_in(alloc: Global, words: &[&str]) -> Result<Request, Fault> {
     let CommandLine { order, .. } = request_of_words(alloc, words)?;
     match order {
         Order::Whole(request) => Ok(request),
-        Order::BatchAt { path, force } => Ok(Request::Batch {
-            text: Bytes::copy_of(alloc, path.as_bytes())?,
+        Order::BatchAt {
+            path,
             force,
-        }),
+            preview,
+        } => {
+            let text = Bytes::copy_of(alloc, path.as_bytes())?;
+            Ok(batch_request(alloc, text, force, preview)?)
+        }
     }
 }
 

@@ -30,7 +30,10 @@ fn tool_of(request: &Request) -> &'static str {
         | Request::Undo
         | Request::Redo
         | Request::Forget(_)
-        | Request::History => "",
+        | Request::History
+        | Request::Diff(_, _)
+        | Request::Log(_)
+        | Request::Preview(_, _) => "",
     }
 }
 
@@ -209,7 +212,8 @@ impl Plain {
         self.answers.push_str(answer)?;
         self.answers.push('\n')?;
         self.prints.extend_from_slice(tester.printed())?;
-        if answer.starts_with("edited ") {
+        let is_tried = matches!(request, Request::Preview(_, _));
+        if answer.starts_with("edited ") && !is_tried {
             self.keep(tool_of(request), tester.home.file())?;
         }
         Ok(())
@@ -237,7 +241,7 @@ impl Plain {
         Ok(log.expect("the edits of the batch, one by one", is)?)
     }
 
-    /// Runs any other request on the present text alone.
+    /// Runs any other request on the present text alone: one that needs no history.
     fn run(&mut self, request: &Request, log: &mut Log) -> Result<(), Fault> {
         let mut tester = self.fresh()?;
         self.run_on(&mut tester, request, log)
@@ -266,7 +270,10 @@ impl Plain {
             | Request::Info { .. }
             | Request::Check
             | Request::Edit { .. }
-            | Request::Batch { .. } => self.run(request, log),
+            | Request::Batch { .. }
+            | Request::Diff(_, _)
+            | Request::Log(_)
+            | Request::Preview(_, _) => self.run(request, log),
         }
     }
 }

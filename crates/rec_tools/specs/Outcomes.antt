@@ -1,15 +1,16 @@
 -- What a request comes to on any two contents: its refusals in their order, or what it prints, what it writes, and its
 -- reply.
-use Rattle.std.specs.Prelude.{◌≡◌, ◌≢◌, ◌⊎◌, ℕ, ◌-◌, ◌≤◌, ◌<◌, true, false, List, [], length, Some, None, Result, Ok}
-use Rattle.std.specs.Prelude.{Err}
+use Rattle.std.specs.Prelude.{◌≡◌, ◌≢◌, ◌⊎◌, ℕ, ◌-◌, ◌≤◌, ◌<◌, true, false, List, [], ◌∷◌, length, Option, Some, None}
+use Rattle.std.specs.Prelude.{option_map, Result, Ok, Err}
 use Rattle.rec_text.specs.declared.fault.Fault.{Fault}
 use Rattle.rec_text.specs.declared.fault.Fault.TheVariants.{BadPattern, DigestClash, Drifted}
 use Rattle.rec_journal.specs.declared.patch.Direction.{Direction}
 use Rattle.rec_journal.specs.declared.patch.Direction.TheVariants.{Forward, Backward}
+use Rattle.rec_journal.specs.declared.event.Revision.{Revision}
 use Rattle.rec_journal.specs.declared.event.Tool.{Tool}
 use Rattle.rec_journal.specs.declared.plan.Plan.{Plan}
 use Rattle.rec_journal.specs.History.{Opened, Opens, IsOpening, IsRegular}
-use Rattle.rec_journal.specs.Revisions.{LeadsBy}
+use Rattle.rec_journal.specs.Revisions.{LeadsBy, Leads}
 use Rattle.rec_journal.specs.Plans.{ShareDigest, IsEditPlan, after_edit_plan, MovesByNearest, after_move, IsMovePlan}
 use Rattle.rec_journal.specs.Stops.{IsSafe}
 use Rattle.rec_journal.specs.Forgetting.{forgotten_journal, after_forgetting}
@@ -22,10 +23,12 @@ use Rattle.rec_tools.specs.declared.request.Request.{Request}
 use Rattle.rec_tools.specs.declared.request.Reply.{Reply}
 use Rattle.rec_tools.specs.declared.request.Reply.TheVariants.{Shown, Edited as EditedReply, Unchanged, Undone, Redone}
 use Rattle.rec_tools.specs.declared.request.Reply.TheVariants.{Forgotten}
-use Rattle.rec_tools.specs.Home.{Contents, Write, writes_by}
+use Rattle.rec_tools.specs.Home.{Contents, Write, writes_by, written}
 use Rattle.rec_tools.specs.Steps.{Then}
-use Rattle.rec_tools.specs.Printouts.{Printout, printed_history}
-use Rattle.rec_tools.specs.Requests.{Edits, Asked, looking, listing, editing, moving, forgetting, asked_of}
+use Rattle.rec_diff.specs.Diffs.{IsDiff}
+use Rattle.rec_tools.specs.Printouts.{Printout, IsShownText, printed_history, IsShownEdit, IsWholeLog}
+use Rattle.rec_tools.specs.Requests.{Edits, Asked, looking, listing, showing, listing_changes, editing, moving}
+use Rattle.rec_tools.specs.Requests.{forgetting, previewing, asked_of}
 
 -- ---- outcomes
 
@@ -43,14 +46,22 @@ printing text reply = record { text = text; writes = []; reply = reply }
 abbrev pub staying : Reply → Outcome
 staying reply = printing [] reply
 
--- a decision as an outcome
-abbrev pub outcome_of : Decision → Outcome
-outcome_of (Stay reply) = staying reply
-outcome_of (Put journal file reply) = record { text = []; writes = writes_by journal file; reply = reply }
+-- these are put in place
+abbrev pub replacing : List ℕ → Option (List ℕ) → Reply → Outcome
+replacing journal file reply = record { text = []; writes = writes_by journal file; reply = reply }
 
 -- a plan is put in place
 abbrev pub putting : Plan → Reply → Outcome
-putting plan reply = outcome_of (Put plan.journal (Some plan.file) reply)
+putting plan reply = replacing plan.journal (Some plan.file) reply
+
+-- a decision as an outcome
+abbrev pub outcome_of : Decision → Outcome
+outcome_of (Stay reply) = staying reply
+outcome_of (Put journal file reply) = replacing journal (option_map (λ change. change.text) file) reply
+
+-- its reply
+abbrev pub reply_in : Decision → Reply
+reply_in decision = (outcome_of decision).reply
 
 -- ---- edits
 
@@ -107,7 +118,7 @@ IsMove direction o c (Err fault) = IsMovePlan direction o c.file c.journal (Err 
 pub record Forgets (n : ℕ) (o : Opened) (c : Contents) (outcome : Outcome) : Type 0 where
   pub opens : Opens c.file (forgotten_journal n o) (after_forgetting n o)
   pub regular : IsRegular (forgotten_journal n o)
-  pub is : outcome ≡ outcome_of (Put (forgotten_journal n o) None (Forgotten (length o.past - n)))
+  pub is : outcome ≡ replacing (forgotten_journal n o) None (Forgotten (length o.past - n))
 
 -- refused where the file has drifted; where no more than n edits can be taken back, nothing is written
 abbrev pub IsForgetting : ℕ → Opened → Contents → Result Outcome Fault → Type 0
@@ -115,12 +126,44 @@ IsForgetting n o c (Ok outcome) = (o.drifted ≡ false)
     × (((length o.past ≤ n) × (outcome ≡ staying (Forgotten 0))) ⊎ ((n < length o.past) × Forgets n o c outcome))
 IsForgetting n o c (Err fault) = (fault ≡ Drifted) × (o.drifted ≡ true)
 
--- ---- requests
+-- ---- a look
 
 -- what is printed, with nothing written
 abbrev pub IsPrinting : (Result Printout Fault → Type 0) → Result Outcome Fault → Type 0
 IsPrinting IsText (Ok outcome) = (p : Printout) × IsText (Ok p) × (outcome ≡ printing p.text p.reply)
 IsPrinting IsText (Err fault) = IsText (Err fault)
+
+-- ---- what would change
+
+-- of the edits to take back one is new on top of the others; or it was there, and is gone
+abbrev pub OnTop : {X : Type 0} → Direction → X → List X → List X → Type 0
+OnTop Forward x old new = new ≡ x ∷ old
+OnTop Backward x old new = old ≡ x ∷ new
+
+-- by this edit, which is made or taken back, the one file leads to the other
+pub record LeadsAcross (direction : Direction) (e : Revision) (c d : Contents) : Type 0 where
+  pub differ : d.file ≢ c.file
+  pub here : Opened
+  pub opens_here : Opens c.file c.journal here
+  pub there : Opened
+  pub opens_there : Opens d.file d.journal there
+  pub on_top : OnTop direction e here.past there.past
+  pub leads : Leads direction e c.file d.file
+
+-- what is printed of the way from the one contents to the others, under a name: nothing where the files are the same
+abbrev pub IsPreviewText : List ℕ → Contents → Contents → List ℕ → Type 0
+IsPreviewText name c d printed =
+    ((d.file ≡ c.file) × (printed ≡ []))
+    ⊎ ((direction : Direction) × (e : Revision) × LeadsAcross direction e c d
+    × IsDiff direction name e.steps c.file d.file (Ok printed))
+
+-- what is asked for is printed as a change, and not done
+pub record IsPreviewOf (name : List ℕ) (c : Contents) (would outcome : Outcome) : Type 0 where
+  pub text : IsPreviewText name c (written c would.writes) outcome.text
+  pub writes : outcome.writes ≡ []
+  pub reply : outcome.reply ≡ would.reply
+
+-- ---- requests
 
 -- what is asked for comes to this on the contents
 abbrev pub IsRequestOutcome : Contents → Asked → Result Outcome Fault → Type 0
@@ -134,6 +177,12 @@ IsRequestOutcome c (editing IsEdit) answer =
     IsEditOutcome o c tool made))) answer
 IsRequestOutcome c (moving direction) answer = Then (IsOpening c.file c.journal) (λ o. IsMove direction o c) answer
 IsRequestOutcome c (forgetting n) answer = Then (IsOpening c.file c.journal) (λ o. IsForgetting n o c) answer
+IsRequestOutcome c (showing number name) answer =
+    IsPrinting (IsShownText (IsShownEdit number name c.file c.journal)) answer
+IsRequestOutcome c (listing_changes name) answer = IsPrinting (IsShownText (IsWholeLog name c.file c.journal)) answer
+IsRequestOutcome c (previewing name asked) (Ok outcome) =
+    (would : Outcome) × IsRequestOutcome c asked (Ok would) × IsPreviewOf name c would outcome
+IsRequestOutcome c (previewing name asked) (Err fault) = IsRequestOutcome c asked (Err fault)
 
 -- an answer with the decision as an outcome
 abbrev pub outcome_in : Result Decision Fault → Result Outcome Fault

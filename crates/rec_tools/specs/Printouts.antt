@@ -1,14 +1,17 @@
 -- What a request prints of a file, with its reply, or why it is refused.
-use Rattle.std.specs.Prelude.{◌≡◌, ◌⊎◌, ℕ, ◌≤◌, Bool, List, [], ◌∷◌, ◌++◌, length, map, reverse, codes, decimal, Option}
-use Rattle.std.specs.Prelude.{Result, Ok, Err, if◌then◌else◌}
+use Rattle.std.specs.Prelude.{◌≡◌, ◌⊎◌, ℕ, ◌≤◌, Bool, true, false, List, [], ◌∷◌, ◌++◌, length, map, reverse, codes}
+use Rattle.std.specs.Prelude.{decimal, Option, Result, Ok, Err, if◌then◌else◌}
 use Rattle.std.specs.List.{flat_map}
 use Rattle.std.specs.Io.KnownBytes.{Appends, Keeps}
 use Rattle.rec_text.specs.declared.fault.Fault.{Fault}
-use Rattle.rec_text.specs.declared.fault.Fault.TheVariants.{OutOfMemory, StoreFailed}
+use Rattle.rec_text.specs.declared.fault.Fault.TheVariants.{OutOfMemory, Drifted, StoreFailed}
 use Rattle.rec_text.specs.declared.violations.Violation.{Violation}
 use Rattle.rec_text.specs.Ascii.{newline, space}
 use Rattle.rec_text.specs.Sink.{AppendsPrefix}
 use Rattle.rec_journal.specs.declared.event.Tool.{Tool}
+use Rattle.rec_journal.specs.declared.event.EditStep.{EditStep}
+use Rattle.rec_journal.specs.declared.patch.Direction.TheVariants.{Forward}
+use Rattle.rec_journal.specs.EditTexts.{WithTexts, IsEditTexts, AreEditTexts}
 use Rattle.rec_journal.specs.Event.{tool_name}
 use Rattle.rec_journal.specs.History.{Opened, IsOpening}
 use Rattle.rec_select.specs.declared.info.InfoForm.{InfoForm}
@@ -17,6 +20,7 @@ use Rattle.rec_select.specs.Printing.{IsPrinted}
 use Rattle.rec_select.specs.Report.{report}
 use Rattle.rec_select.specs.declared.records.Shape.{Shape}
 use Rattle.rec_select.specs.Selection.{Filter, IsSelection}
+use Rattle.rec_diff.specs.Diffs.{IsDiff}
 use Rattle.rec_tools.specs.declared.request.Form.{Form}
 use Rattle.rec_tools.specs.declared.request.Pick.{Pick}
 use Rattle.rec_tools.specs.declared.request.Reply.{Reply}
@@ -85,6 +89,10 @@ abbrev pub history_text : List (ℕ × Tool) → List (ℕ × Tool) → List ℕ
 history_text past future =
     flat_map (step_line (codes "done")) (reverse past) ++ flat_map (step_line (codes "undone")) future
 
+-- the word of an edit in the history
+abbrev pub word_of : Bool → List ℕ
+word_of done = if done then codes "done" else codes "undone"
+
 -- the history that a file and its journal stand for
 abbrev pub printed_history : Opened → List ℕ
 printed_history o =
@@ -94,6 +102,52 @@ printed_history o =
 -- the history of a file and its journal, or why there is none
 abbrev pub IsHistory : List ℕ → List ℕ → Result (List ℕ) Fault → Type 0
 IsHistory file journal = Then (IsOpening file journal) (λ o answer. answer ≡ Ok (printed_history o))
+
+-- ---- what edits made
+
+-- what the edit of a number made of a file, or the newest that can be undone, as a diff under a name
+abbrev pub IsShownEdit : Option ℕ → List ℕ → List ℕ → List ℕ → Result (List ℕ) Fault → Type 0
+IsShownEdit number name file journal =
+    Then (IsOpening file journal) (λ o.
+    Then (IsEditTexts o file number) (λ made. IsDiff Forward name made.edit.steps made.before made.after))
+
+-- an edit of the history with its texts
+pub record Told : Type 0 where
+  pub done : Bool
+  pub number : ℕ
+  pub tool : Tool
+  pub steps : List EditStep
+  pub before : List ℕ
+  pub after : List ℕ
+
+abbrev pub told_of : WithTexts → Told
+told_of made = record {
+  done = made.done;
+  number = made.edit.number;
+  tool = made.edit.tool;
+  steps = made.edit.steps;
+  before = made.before;
+  after = made.after;
+}
+
+-- of each edit its line in the history, and after it what it made, under a name
+abbrev pub IsLog : List ℕ → List Told → List ℕ → Type 0
+IsLog name [] printed = printed ≡ []
+IsLog name (e ∷ edits) printed = (diff rest : List ℕ)
+    × IsDiff Forward name e.steps e.before e.after (Ok diff) × IsLog name edits rest
+    × (printed ≡ step_line (word_of e.done) (e.number, e.tool) ++ (diff ++ rest))
+
+-- the same of the edits of a history; refused where the file doesn't lead to all their texts
+abbrev pub IsLogOf : List ℕ → List ℕ → Opened → Result (List ℕ) Fault → Type 0
+IsLogOf name file o (Ok printed) =
+    ((o.drifted ≡ true) × (printed ≡ codes "drifted\n"))
+    ⊎ ((o.drifted ≡ false) × ((all : List WithTexts) × AreEditTexts o file all × IsLog name (map told_of all) printed))
+IsLogOf name file o (Err fault) =
+    (fault ≡ Drifted) × (o.drifted ≡ false) × ((all : List WithTexts) → AreEditTexts o file all → ⊥)
+
+-- the history with what its edits made, or why there is none
+abbrev pub IsWholeLog : List ℕ → List ℕ → List ℕ → Result (List ℕ) Fault → Type 0
+IsWholeLog name file journal = Then (IsOpening file journal) (IsLogOf name file)
 
 -- ---- what went out
 

@@ -1,6 +1,7 @@
--- What each request asks for: a look at the file or at its history, an edit, a move through the history, or that old
--- edits are forgotten. Each kind has one case in what follows, and each request one row here.
-use Rattle.std.specs.Prelude.{◌≡◌, ℕ, Bool, List, [], ◌∷◌, Result, Ok}
+-- What each request asks for: a look at the file, at its history or at what an edit made, an edit, a move through the
+-- history, that old edits are forgotten, or what one of these would change. Each kind has one case in what follows, and
+-- each request one row here.
+use Rattle.std.specs.Prelude.{◌≡◌, ℕ, Bool, List, [], ◌∷◌, Option, Result, Ok}
 use Rattle.rec_text.specs.declared.fault.Fault.{Fault}
 use Rattle.rec_journal.specs.declared.patch.Direction.{Direction}
 use Rattle.rec_journal.specs.declared.patch.Direction.TheVariants.{Forward, Backward}
@@ -12,9 +13,8 @@ use Rattle.rec_tools.specs.declared.home.Which.TheVariants.{Base as TheFile, Jou
 use Rattle.rec_tools.specs.declared.request.Pick.{Pick}
 use Rattle.rec_tools.specs.declared.request.EditRequest.{EditRequest}
 use Rattle.rec_tools.specs.declared.request.EditRequest.TheVariants.{Insert, Replace, Delete, CommentOut, Set, AutoFill}
-use Rattle.rec_tools.specs.declared.request.Request.{Request}
-use Rattle.rec_tools.specs.declared.request.Request.TheVariants.{Show, Info, Check, Edit, Batch, Undo, Redo, Forget}
-use Rattle.rec_tools.specs.declared.request.Request.TheVariants.{History}
+use Rattle.rec_tools.specs.declared.request.Request.{Request, Show, Info, Check, Edit, Batch, Undo, Redo, Forget}
+use Rattle.rec_tools.specs.declared.request.Request.{History, Diff, Log, Preview'}
 use Rattle.rec_check.specs.Violations.{AreViolationsOf}
 use Rattle.rec_tools.specs.Steps.{Then}
 use Rattle.rec_tools.specs.Asking.{IsFilter}
@@ -33,12 +33,18 @@ pub data Asked : Type 1 where
   looking : (List ℕ → Result Printout Fault → Type 0) → Asked
   -- the history is printed
   listing : Asked
+  -- what an edit made is printed, that of this number or the newest that can be taken back, under this name
+  showing : Option ℕ → List ℕ → Asked
+  -- the history is printed, and after each edit what it made, under this name
+  listing_changes : List ℕ → Asked
   -- these edits are made, unless they can't be told
   editing : (Result Edits Fault → Type 0) → Asked
   -- the nearest edit that way is taken back or made again
   moving : Direction → Asked
   -- all but the newest n of the edits that can be taken back are forgotten
   forgetting : ℕ → Asked
+  -- nothing is done of what is asked for; what it would change of the file is printed, under this name
+  previewing : List ℕ → Asked → Asked
 
 -- ---- edits
 
@@ -91,6 +97,9 @@ asked_of Undo = moving Backward
 asked_of Redo = moving Forward
 asked_of (Forget n) = forgetting n
 asked_of History = listing
+asked_of (Diff number name) = showing number name
+asked_of (Log name) = listing_changes name
+asked_of (Preview' shape request name) = previewing name (asked_of request)
 
 -- the contents that are read for it, in this order
 abbrev pub reads_of : Asked → List Which
@@ -98,7 +107,10 @@ reads_of (looking IsText) = TheFile ∷ []
 reads_of listing = TheFile ∷ TheJournal ∷ []
 reads_of (editing IsEdit) = TheFile ∷ TheJournal ∷ []
 reads_of (moving direction) = TheFile ∷ TheJournal ∷ []
+reads_of (showing number name) = TheFile ∷ TheJournal ∷ []
+reads_of (listing_changes name) = TheFile ∷ TheJournal ∷ []
 reads_of (forgetting n) = TheFile ∷ TheJournal ∷ []
+reads_of (previewing name asked) = reads_of asked
 
 -- nothing is printed for it
 abbrev pub IsSilent : Asked → Type 0
@@ -106,7 +118,10 @@ IsSilent (looking IsText) = ⊥
 IsSilent listing = ⊥
 IsSilent (editing IsEdit) = Unit {0}
 IsSilent (moving direction) = Unit {0}
+IsSilent (showing number name) = ⊥
+IsSilent (listing_changes name) = ⊥
 IsSilent (forgetting n) = Unit {0}
+IsSilent (previewing name asked) = ⊥
 
 -- nothing is written for it
 abbrev pub WritesNothing : Asked → Type 0
@@ -114,4 +129,7 @@ WritesNothing (looking IsText) = Unit {0}
 WritesNothing listing = Unit {0}
 WritesNothing (editing IsEdit) = ⊥
 WritesNothing (moving direction) = ⊥
+WritesNothing (showing number name) = Unit {0}
+WritesNothing (listing_changes name) = Unit {0}
 WritesNothing (forgetting n) = ⊥
+WritesNothing (previewing name asked) = Unit {0}

@@ -1,5 +1,7 @@
 -- What serves proofs.
 pub mod Editing
 pub mod Listed
+pub mod Courses
+pub mod Logs
 pub mod Silently
 pub mod Finding

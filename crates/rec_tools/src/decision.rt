@@ -7,6 +7,7 @@ ghost use Rattle.rec_tools.specs.Steps.{IsRefusal};
 ghost use Rattle.rec_tools.specs.Requests.{editing, moving, forgetting, asked_of, IsSilent};
 ghost use Rattle.rec_tools.specs.Outcomes.{IsMade, IsEditOutcome, Decides, outcome_in, reply_of};
 ghost use Rattle.rec_tools.specs.declared.decision.Decision.TheVariants.{Put};
+ghost use Rattle.rec_tools.specs.proving.Courses.{HasCourse};
 ghost use Rattle.rec_tools.specs.proving.Editing.{AreEditsFrom, HasSteps};
 
 use crate::batches::batch_edits;
@@ -16,11 +17,19 @@ use crate::request::{EditRequest, Reply, Request};
 use rec_check::RecFile;
 use rec_edit::Edited;
 use rec_journal::{
-    Direction, Hashed, History, MovePlan, Plan, Tool, plan_forget, plan_move, plan_steps,
+    Direction, EditSteps, Hashed, History, MovePlan, Plan, Tool, plan_forget, plan_move, plan_steps,
 };
 use rec_text::{Bytes, Fault};
 use std::alloc::Global;
 use std::slice;
+
+/// The new text of a file, and the steps by which the file leads there, forward, or from which it leads back.
+#[derive(Drop)]
+pub struct Change {
+    pub text: Bytes,
+    pub direction: Direction,
+    pub steps: EditSteps,
+}
 
 /// A reply, and what is to be put in place first: nothing, or a journal and, where it changes, the file.
 #[derive(Drop)]
@@ -28,19 +37,50 @@ pub enum Decision {
     Stay(Reply),
     Put {
         journal: Bytes,
-        file: Option<Bytes>,
+        file: Option<Change>,
         reply: Reply,
     },
 }
 
-/// Both contents of a plan are to be put in place.
-fn put_plan(plan: Plan, reply: Reply) -> Decision
-    ensures { result ≡ Put plan.journal (Some plan.file) reply }
+impl Decision {
+    ghost use Rattle.std.specs.Prelude.{◌≡◌, option_copied};
+    ghost use Rattle.rec_tools.specs.Outcomes.{reply_in};
+    ghost use Rattle.rec_tools.specs.proving.Courses.{change_in};
+
+    /// What changes of the file, if anything.
+    pub(crate) fn change(&self) -> Option<&Change>
+        ensures { option_copied result ≡ change_in self.now }
+    {
+        match self {
+            Decision::Stay(_) => None,
+            Decision::Put { file, .. } => file.as_ref(),
+        }
+    }
+
+    /// The reply.
+    pub fn reply(&self) -> Reply
+        ensures { result ≡ reply_in self.now }
+    {
+        match self {
+            Decision::Stay(reply) => *reply,
+            Decision::Put { reply, .. } => *reply,
+        }
+    }
+}
+
+/// Both contents of a plan are to be put in place, the file by these steps.
+fn put_plan(plan: Plan, direction: Direction, steps: EditSteps, reply: Reply) -> Decision
+    ensures { result ≡ Put plan.journal
+        (Some (record { text = plan.file; direction = direction; steps = steps })) reply }
 {
     let Plan { journal, file } = plan;
     Decision::Put {
         journal,
-        file: Some(file),
+        file: Some(Change {
+            text: file,
+            direction,
+            steps,
+        }),
         reply,
     }
 }
@@ -91,6 +131,7 @@ fn put_edited(
     requires differs { edited.text ≢ file.now }
     ensures found { UnlessMemory result (λ answer. IsEditOutcome history.now
         (record { file = file.now; journal = journal.now }) tool edited (outcome_in answer)) }
+    ensures course { IfOk result (HasCourse file.now journal.now) }
     ensures refusals { IfErr result IsRefusal }
 {
     let Edited {
@@ -105,7 +146,7 @@ fn put_edited(
         number: history.next(),
         dropped: history.dropped(),
     };
-    Ok(put_plan(plan, reply))
+    Ok(put_plan(plan, Direction::Forward, steps, reply))
 }
 
 /// Decides an edit on a file that was hashed and a journal. The elements of the file are let go before the edited text is
@@ -118,6 +159,7 @@ fn decide_on(
     force: bool,
 ) -> Result<Decision, Fault>
     ensures found { UnlessMemory result (Decides file.now journal.now (editing (AreEditsFrom source.entry force))) }
+    ensures course { IfOk result (HasCourse file.now journal.now) }
     ensures refusals { IfErr result IsRefusal }
 {
     let read = RecFile::read(alloc, file.text())?;
@@ -139,6 +181,7 @@ fn decide_edit(
     force: bool,
 ) -> Result<Decision, Fault>
     ensures found { UnlessMemory result (Decides file.now journal.now (editing (AreEditsFrom source.entry force))) }
+    ensures course { IfOk result (HasCourse file.now journal.now) }
     ensures refusals { IfErr result IsRefusal }
 {
     let hashed = Hashed::of(alloc, file)?;
@@ -163,11 +206,16 @@ fn decide_move(
     direction: Direction,
 ) -> Result<Decision, Fault>
     ensures found { UnlessMemory result (Decides file.now journal.now (moving direction)) }
+    ensures course { IfOk result (HasCourse file.now journal.now) }
     ensures refusals { IfErr result IsRefusal }
 {
     let history = history_of(alloc, file, journal)?;
     let MovePlan { plan, number, tool } = plan_move(alloc, direction, &history, file, journal)?;
-    Ok(put_plan(plan, reply_of(direction, number, tool)))
+    let reply = reply_of(direction, number, tool);
+    match history.into_steps(direction) {
+        Some(steps) => Ok(put_plan(plan, direction, steps, reply)),
+        None => unreachable!(),
+    }
 }
 
 /// Decides what is forgotten, on a file and a journal.
@@ -178,6 +226,7 @@ fn decide_forgetting(
     n: usize,
 ) -> Result<Decision, Fault>
     ensures found { UnlessMemory result (Decides file.now journal.now (forgetting n)) }
+    ensures course { IfOk result (HasCourse file.now journal.now) }
     ensures refusals { IfErr result IsRefusal }
 {
     let history = history_of(alloc, file, journal)?;
@@ -205,6 +254,9 @@ pub fn decide(
 ) -> Result<Decision, Fault>
     requires { IsSilent (asked_of request.now) }
     ensures found { UnlessMemory result (Decides file.now journal.now (asked_of request.now)) }
+
+    // A new file comes of an edit that is made or taken back, by these steps.
+    ensures course { IfOk result (HasCourse file.now journal.now) }
     ensures refusals { IfErr result IsRefusal }
 {
     match request {
@@ -218,8 +270,12 @@ pub fn decide(
         Request::Undo => decide_move(alloc, file, journal, Direction::Backward),
         Request::Redo => decide_move(alloc, file, journal, Direction::Forward),
         Request::Forget(n) => decide_forgetting(alloc, file, journal, *n as usize),
-        Request::Show { .. } | Request::Info { .. } | Request::Check | Request::History => {
-            unreachable!()
-        }
+        Request::Show { .. }
+        | Request::Info { .. }
+        | Request::Check
+        | Request::History
+        | Request::Diff(_, _)
+        | Request::Log(_)
+        | Request::Preview(_, _) => unreachable!(),
     }
 }

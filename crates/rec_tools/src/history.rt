@@ -23,7 +23,7 @@ pub fn history_of(alloc: Global, file: &[u8], journal: &[u8]) -> Result<History,
 }
 
 /// Prints an edit, in a line.
-fn write_step<S: Sink>(step: Step, out: &mut S) -> Result<(), Fault>
+pub(crate) fn write_step<S: Sink>(step: Step, out: &mut S) -> Result<(), Fault>
     ensures printed { Prints S.contents S.failure_count out.old out.new (line_of step) result }
     ensures refusals { IsOkUnless result Fault.StoreFailed }
 {

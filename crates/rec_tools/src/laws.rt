@@ -3,7 +3,7 @@ ghost use Rattle.rec_tools.specs.Outcomes.{OneOutcome};
 ghost use Rattle.std.specs.Prelude.{[]};
 ghost use Rattle.rec_journal.specs.History.{IsRegular};
 ghost use Rattle.rec_tools.specs.Guarantee.{OutcomesAreSteps, StopsAreSteps, WritesAreRegular};
-ghost use Rattle.rec_tools.specs.Laws.{OneStep, OneState, FirstStands, OutsideIsNoticed};
+ghost use Rattle.rec_tools.specs.Laws.{OneStep, OneState, FirstStands, PreviewIsShowAfter, OutsideIsNoticed};
 
 /// A request comes to one outcome on two contents at most.
 pub fn one_outcome()
@@ -36,6 +36,11 @@ pub fn outcomes_are_steps()
 pub fn stops_are_steps()
     ensures stops { StopsAreSteps }
     ensures writes { WritesAreRegular }
+{}
+
+/// The preview of a request that makes an edit, or makes one again, prints what is shown of the newest edit afterwards.
+pub fn preview_is_show_after()
+    ensures { PreviewIsShowAfter }
 {}
 
 /// A file that was changed outside is noticed: nothing is taken back or made again, and an edit begins the history anew.

@@ -9,17 +9,20 @@ mod history;
 mod home;
 mod laws;
 mod memory;
+mod nowhere;
+mod preview;
 mod printing;
 mod request;
 mod runner;
 mod selecting;
+mod showing;
 
 pub use batches::{batch_edits, names_for, tool_by};
 pub use editing::make;
 pub use home::{Home, Which};
 pub use laws::{
     first_stands, one_outcome, one_state, one_step, outcomes_are_steps, outside_is_noticed,
-    stops_are_steps,
+    preview_is_show_after, stops_are_steps,
 };
 pub use memory::MemoryHome;
 pub use rec_check::RecFile;

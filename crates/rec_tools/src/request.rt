@@ -153,6 +153,38 @@ pub enum Request {
     /// Prints the edits: those that stand, the oldest first, and then those that can be made again, the nearest first; or
     /// that the file was changed outside.
     History,
+    /// Prints what an edit of the history made, that of this number or the newest that can be taken back, as a diff of a file
+    /// of this name.
+    Diff(Option<usize>, Bytes),
+    /// Prints the edits as for `History`, and after each of them what it made.
+    Log(Bytes),
+    /// Prints what a request would change, as a diff of a file of this name, and does nothing.
+    Preview(Box<Request>, Bytes),
+}
+
+impl Request {
+    ghost use Rattle.rec_tools.specs.Requests.{asked_of};
+    ghost use Rattle.rec_tools.specs.proving.Silently.{PrintsOrWrites};
+
+    /// Whether nothing is printed for it; else nothing is written.
+    pub(crate) fn prints_nothing(&self) -> bool
+        ensures { PrintsOrWrites (asked_of self.now) result }
+    {
+        match self {
+            Request::Edit { .. }
+            | Request::Batch { .. }
+            | Request::Undo
+            | Request::Redo
+            | Request::Forget(_) => true,
+            Request::Show { .. }
+            | Request::Info { .. }
+            | Request::Check
+            | Request::History
+            | Request::Diff(_, _)
+            | Request::Log(_)
+            | Request::Preview(_, _) => false,
+        }
+    }
 }
 
 /// The answer to a request that isn't refused.

@@ -1,23 +1,27 @@
 //! Runs requests on a home.
-ghost use Rattle.std.specs.Prelude.{◌≡◌, ◌⊎◌, ◌≤◌, ℕ, List, Option, Some, IfOk, IfErr, IfSome, IsErrOf, IsOkUnless, option_copied};
+ghost use Rattle.std.specs.Prelude.{◌≡◌, ◌⊎◌, ◌≤◌, ℕ, List, Option, Some, IfOk, IfErr, IfSome, IsErrOf, IsOkUnless};
+ghost use Rattle.std.specs.Prelude.{option_copied, option_map};
 ghost use Rattle.std.specs.List.{AllByRecursion};
 ghost use Rattle.rec_text.specs.Faults.{IsOkUnlessEither};
 ghost use Rattle.rec_journal.specs.History.{IsRegular};
 ghost use Rattle.rec_tools.specs.Home.{Call, HasFailed, left_by_all, Rose};
 ghost use Rattle.rec_tools.specs.Steps.{IsRefusal};
 ghost use Rattle.rec_tools.specs.Printouts.{Printed, WentOut};
-ghost use Rattle.rec_tools.specs.Requests.{listing, asked_of, IsSilent, WritesNothing};
+ghost use Rattle.rec_tools.specs.Requests.{listing, showing, listing_changes, previewing, asked_of, IsSilent, WritesNothing};
 ghost use Rattle.rec_tools.specs.Outcomes.{outcome_of};
 ghost use Rattle.rec_tools.specs.Attempts.{AreRead, IsAnswered, IsCutShort, Attempts, AttemptsAll};
 ghost use Rattle.rec_tools.specs.Machine.{State, Stands};
 ghost use Rattle.rec_tools.specs.Guarantee.{RunsAsMachine};
-ghost use Rattle.rec_tools.specs.proving.Silently.{ByCalls, DoesSilently};
+ghost use Rattle.rec_tools.specs.proving.Silently.{ByCalls, DoesSilently, IsLook};
 
-use crate::decision::{Decision, decide};
+use crate::decision::{Change, Decision, decide};
 use crate::history::print_history;
 use crate::home::{Home, Which};
+use crate::nowhere::Nowhere;
+use crate::preview::print_preview;
 use crate::printing::{check, inform, show};
 use crate::request::{Reply, Request};
+use crate::showing::{print_edit, print_log};
 use rec_text::{Bytes, Fault, Sink};
 use std::alloc::Global;
 
@@ -32,11 +36,11 @@ fn read_both<H: Home>(alloc: Global, home: &mut H) -> Result<(Bytes, Bytes), Fau
 }
 
 /// The bytes of a new file, if there is one.
-fn slice_of(file: &Option<Bytes>) -> Option<&[u8]>
-    ensures { option_copied result ≡ file.now }
+fn slice_of(file: &Option<Change>) -> Option<&[u8]>
+    ensures { option_copied result ≡ option_map (λ change. change.text) file.now }
 {
     match file {
-        Some(file) => Some(file.as_slice()),
+        Some(change) => Some(change.text.as_slice()),
         None => None,
     }
 }
@@ -81,18 +85,89 @@ fn tell_history<H: Home, S: Sink>(alloc: Global, home: &mut H, out: &mut S) -> R
     print_history(alloc, file.as_slice(), journal.as_slice(), out)
 }
 
-/// Reads the contents that a request needs, and prints, or decides and puts a plan in place.
-fn attempt<H: Home, S: Sink>(
+/// Reads both contents, and prints what an edit made.
+fn tell_edit<H: Home, S: Sink>(
+    alloc: Global,
+    home: &mut H,
+    out: &mut S,
+    number: Option<usize>,
+    name: &Bytes,
+) -> Result<Reply, Fault>
+    ensures attempts { (calls : List Call) × (p : Printed) × WentOut S.contents S.failure_count out.old out.new p
+        × Attempts H.goes home.old home.new (showing number name.now) result calls p }
+    ensures counted { S.failure_count out.old ≤ S.failure_count out.new }
+    ensures refusals { IfErr result IsRefusal }
+{
+    let (file, journal) = read_both(alloc, home)?;
+    print_edit(
+        alloc,
+        file.as_slice(),
+        journal.as_slice(),
+        number,
+        name.as_slice(),
+        out,
+    )
+}
+
+/// Reads both contents, and prints the history with what its edits made.
+fn tell_log<H: Home, S: Sink>(
+    alloc: Global,
+    home: &mut H,
+    out: &mut S,
+    name: &Bytes,
+) -> Result<Reply, Fault>
+    ensures attempts { (calls : List Call) × (p : Printed) × WentOut S.contents S.failure_count out.old out.new p
+        × Attempts H.goes home.old home.new (listing_changes name.now) result calls p }
+    ensures counted { S.failure_count out.old ≤ S.failure_count out.new }
+    ensures refusals { IfErr result IsRefusal }
+{
+    let (file, journal) = read_both(alloc, home)?;
+    print_log(
+        alloc,
+        file.as_slice(),
+        journal.as_slice(),
+        name.as_slice(),
+        out,
+    )
+}
+
+/// Reads both contents, and prints what a request would change.
+fn tell_preview<H: Home, S: Sink>(
+    alloc: Global,
+    home: &mut H,
+    out: &mut S,
+    previewed: &Request,
+    name: &Bytes,
+) -> Result<Reply, Fault>
+    requires { IsSilent (asked_of previewed.now) }
+    ensures attempts { (calls : List Call) × (p : Printed) × WentOut S.contents S.failure_count out.old out.new p
+        × Attempts H.goes home.old home.new (previewing name.now (asked_of previewed.now)) result calls p }
+    ensures counted { S.failure_count out.old ≤ S.failure_count out.new }
+    ensures refusals { IfErr result IsRefusal }
+{
+    let (file, journal) = read_both(alloc, home)?;
+    print_preview(
+        alloc,
+        file.as_slice(),
+        journal.as_slice(),
+        previewed,
+        name.as_slice(),
+        out,
+    )
+}
+
+/// Reads the contents that a look needs, and prints.
+fn look<H: Home, S: Sink>(
     alloc: Global,
     home: &mut H,
     out: &mut S,
     request: &Request,
 ) -> Result<Reply, Fault>
+    requires { IsLook request.now }
     ensures attempts { (calls : List Call) × (p : Printed) × WentOut S.contents S.failure_count out.old out.new p
         × Attempts H.goes home.old home.new (asked_of request.now) result calls p }
     ensures counted { S.failure_count out.old ≤ S.failure_count out.new }
     ensures refusals { IfErr result IsRefusal }
-    ensures silent { IsSilent (asked_of request.now) → out.new ≡ out.old }
 {
     match request {
         Request::Show {
@@ -112,11 +187,91 @@ fn attempt<H: Home, S: Sink>(
             check(alloc, file.as_slice(), out)
         }
         Request::History => tell_history(alloc, home, out),
+        Request::Diff(number, name) => tell_edit(alloc, home, out, *number, name),
+        Request::Log(name) => tell_log(alloc, home, out, name),
+        Request::Edit { .. }
+        | Request::Batch { .. }
+        | Request::Undo
+        | Request::Redo
+        | Request::Forget(_)
+        | Request::Preview(_, _) => unreachable!(),
+    }
+}
+
+/// The reply to a request that writes nothing, of which nothing is printed.
+fn reply_alone<H: Home>(alloc: Global, home: &mut H, request: &Request) -> Result<Reply, Fault>
+    requires { WritesNothing (asked_of request.now) }
+    ensures attempts { (name : List ℕ)
+        → DoesSilently H.goes home.old home.new (previewing name (asked_of request.now)) result }
+    ensures refusals { IfErr result IsRefusal }
+{
+    match request {
+        Request::Preview(boxed, name) => {
+            let previewed: &Request = boxed;
+            if previewed.prints_nothing() {
+                return tell_preview(alloc, home, &mut Nowhere, previewed, name);
+            }
+            reply_alone(alloc, home, previewed)
+        }
+        Request::Show { .. }
+        | Request::Info { .. }
+        | Request::Check
+        | Request::History
+        | Request::Diff(_, _)
+        | Request::Log(_) => look(alloc, home, &mut Nowhere, request),
+        Request::Edit { .. }
+        | Request::Batch { .. }
+        | Request::Undo
+        | Request::Redo
+        | Request::Forget(_) => unreachable!(),
+    }
+}
+
+/// Prints what a request would change; of one that changes nothing no more than the reply is given.
+fn preview<H: Home, S: Sink>(
+    alloc: Global,
+    home: &mut H,
+    out: &mut S,
+    previewed: &Request,
+    name: &Bytes,
+) -> Result<Reply, Fault>
+    ensures attempts { (calls : List Call) × (p : Printed) × WentOut S.contents S.failure_count out.old out.new p
+        × Attempts H.goes home.old home.new (previewing name.now (asked_of previewed.now)) result calls p }
+    ensures counted { S.failure_count out.old ≤ S.failure_count out.new }
+    ensures refusals { IfErr result IsRefusal }
+{
+    if previewed.prints_nothing() {
+        return tell_preview(alloc, home, out, previewed, name);
+    }
+    reply_alone(alloc, home, previewed)
+}
+
+/// Reads the contents that a request needs, and prints, or decides and puts a plan in place.
+fn attempt<H: Home, S: Sink>(
+    alloc: Global,
+    home: &mut H,
+    out: &mut S,
+    request: &Request,
+) -> Result<Reply, Fault>
+    ensures attempts { (calls : List Call) × (p : Printed) × WentOut S.contents S.failure_count out.old out.new p
+        × Attempts H.goes home.old home.new (asked_of request.now) result calls p }
+    ensures counted { S.failure_count out.old ≤ S.failure_count out.new }
+    ensures refusals { IfErr result IsRefusal }
+    ensures silent { IsSilent (asked_of request.now) → out.new ≡ out.old }
+{
+    match request {
         Request::Edit { .. }
         | Request::Batch { .. }
         | Request::Undo
         | Request::Redo
         | Request::Forget(_) => make_change(alloc, home, request),
+        Request::Preview(previewed, name) => preview(alloc, home, out, previewed, name),
+        Request::Show { .. }
+        | Request::Info { .. }
+        | Request::Check
+        | Request::History
+        | Request::Diff(_, _)
+        | Request::Log(_) => look(alloc, home, out, request),
     }
 }
 

@@ -1,7 +1,7 @@
 //! The program. It runs the request of the command line on a file and its journal, and says what was refused.
 #![tactic(auto)]
 
-use rec_command::{CommandLine, Order, Refusal, finish, parse, words};
+use rec_command::{CommandLine, Order, Refusal, batch_request, finish, parse, words};
 use rec_explain::{About, explain, explain_done, explain_endings, explain_report, explain_waiting};
 use rec_files::{
     Access, FileHome, StandardOutput, access_of, batch_text, explain_output, room_for,
@@ -99,9 +99,14 @@ fn run_with(
 fn request_of(rt: &HostRuntime, order: Order) -> Result<(Request, Option<String>), Fault> {
     match order {
         Order::Whole(request) => Ok((request, None)),
-        Order::BatchAt { path, force } => {
+        Order::BatchAt {
+            path,
+            force,
+            preview,
+        } => {
             let text = batch_text(rt, path.as_str())?;
-            Ok((Request::Batch { text, force }, Some(path)))
+            let request = batch_request(rt.alloc(), text, force, preview)?;
+            Ok((request, Some(path)))
         }
     }
 }
@@ -124,11 +129,12 @@ fn say_more(
     match answer {
         Ok(reply) => {
             explain_reply(rt, home, request, batch, reply);
-            say_done(rt, home, reply);
+            say_done(rt, home, request, reply);
         }
         Err(fault) => {
             let text = text_for(rt, home, fault);
-            let about = about(home, batch, &text);
+            let history = history_for(rt, home, fault);
+            let about = about(home, batch, &text, &history);
             say(rt, &explain(rt.alloc(), &about, request, fault));
         }
     }
@@ -152,7 +158,7 @@ fn explain_reply(
         return;
     }
     let text = home.text_again(rt.alloc());
-    let about = about(home, batch, &text);
+    let about = about(home, batch, &text, &None);
     if is_report && rt.stdout().is_terminal() {
         say(rt, &explain_report(rt.alloc(), &about));
     }
@@ -160,11 +166,12 @@ fn explain_reply(
 }
 
 /// Says what was done: on a terminal, and that earlier edits can't be undone any more always.
-fn say_done(rt: &HostRuntime, home: &FileHome<'_, HostRuntime>, reply: &Reply) {
+fn say_done(rt: &HostRuntime, home: &FileHome<'_, HostRuntime>, request: &Request, reply: &Reply) {
+    let file = home.path(Which::Base);
     let on_terminal = rt.stderr().is_terminal();
     say(
         rt,
-        &explain_done(rt.alloc(), home.path(Which::Base), reply, on_terminal),
+        &explain_done(rt.alloc(), file, request, reply, on_terminal),
     );
 }
 
@@ -184,16 +191,38 @@ fn text_for(rt: &HostRuntime, home: &FileHome<'_, HostRuntime>, fault: &Fault) -
     }
 }
 
+/// The history, as `history` prints it, where a refusal is that an edit isn't one of it.
+fn history_for(
+    rt: &HostRuntime,
+    home: &FileHome<'_, HostRuntime>,
+    fault: &Fault,
+) -> Option<Vec<u8>> {
+    let Fault::NoSuchEdit = fault else {
+        return None;
+    };
+    let file = String::from_str(rt.alloc(), home.path(Which::Base)).ok()?;
+    let journal = String::from_str(rt.alloc(), home.path(Which::Journal)).ok()?;
+    let mut again = FileHome::new(rt, Some(file), Some(journal), Access::Look);
+    let mut out = Output {
+        writer: Vec::new(rt.alloc()),
+        failed: 0,
+    };
+    rec_tools::run(rt.alloc(), &mut again, &mut out, &Request::History).ok()?;
+    Some(out.writer)
+}
+
 fn about<'a>(
     home: &'a FileHome<'_, HostRuntime>,
     batch: &'a Option<String>,
     text: &'a Option<Vec<u8>>,
+    history: &'a Option<Vec<u8>>,
 ) -> About<'a> {
     About {
         batch: batch.as_deref(),
         file: home.path(Which::Base),
         journal: home.path(Which::Journal),
         text: text.as_deref(),
+        history: history.as_deref(),
         is_missing: home.is_missing(),
     }
 }

@@ -1,10 +1,10 @@
 //! What recfix, recins, recdel, recset and batch are asked for.
-ghost use Rattle.std.specs.Prelude.{◌≡◌, IfOk};
+ghost use Rattle.std.specs.Prelude.{◌≡◌, false, IfOk, codes};
 ghost use Rattle.clap.specs.Words.{found_of, rows_of};
 ghost use Rattle.rec_edit.specs.Options.{action_for, new_record_for};
 ghost use Rattle.rec_command.specs.declared.tools.Tool.{Tool as ToolOf};
 ghost use Rattle.rec_command.specs.declared.tools.Tool.TheVariants.{RecFix, RecIns, RecDel, RecSet, Batch};
-ghost use Rattle.rec_command.specs.Words.{action_given, new_record_given, AsksEdit, Orders};
+ghost use Rattle.rec_command.specs.Words.{action_given, has_flag, new_record_given, AsksEdit, Orders};
 
 use super::Order;
 use super::found::{given, is_given, text, texts};
@@ -28,12 +28,23 @@ pub fn recfix_order(options: &ArgMatches) -> Result<Order, Refusal>
     ensures { IfOk result (Orders RecFix (rows_of (found_of options.now))) }
 {
     if !is_given(options, "auto") {
-        return Ok(Order::Whole(Request::Check));
+        return check_order(options);
     }
     if is_given(options, "check") {
         return Err(Refusal::Rule("only one of --check and --auto can be given"));
     }
     Ok(edit_order(EditRequest::AutoFill, options))
+}
+
+/// What recfix is asked for without `--auto`: to check, of which there is no dry run.
+fn check_order(options: &ArgMatches) -> Result<Order, Refusal>
+    requires { has_flag (codes "auto") (rows_of (found_of options.now)) ≡ false }
+    ensures { IfOk result (Orders RecFix (rows_of (found_of options.now))) }
+{
+    if is_given(options, "dry-run") {
+        return Err(Refusal::Rule("recfix: --dry-run needs --auto"));
+    }
+    Ok(Order::Whole(Request::Check))
 }
 
 /// What recins is asked for: to put a record in, or instead of each that is selected.
@@ -123,6 +134,7 @@ pub fn batch_order(alloc: Global, options: &ArgMatches) -> Result<Order, Refusal
         Some(path) => Ok(Order::BatchAt {
             path: String::from_str(alloc, path)?,
             force: is_given(options, "force"),
+            preview: None,
         }),
         None => Err(Refusal::Rule("batch: -b is needed")),
     }

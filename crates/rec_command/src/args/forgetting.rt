@@ -27,7 +27,7 @@ pub fn forget_order(options: &ArgMatches) -> Result<Order, Refusal>
 
 /// The number that decimal digits write.
 fn number_of(digits: &str) -> Option<u32>
-    ensures { MatchOption result ((n : ℕ) → ¬ IsNumber digits.now n) (IsNumber digits.now) }
+    ensures { MatchOption result ((n : ℕ) → ¬ IsNumber 32 digits.now n) (IsNumber 32 digits.now) }
 {
     // `parse` would take a plus sign before them.
     if digits.starts_with('+') {

@@ -1,8 +1,9 @@
 //! What the words give of an option.
-ghost use Rattle.std.specs.Prelude.{◌≡◌, map, IfOk, option_map};
+ghost use Rattle.std.specs.Prelude.{◌≡◌, map, IfOk, Some, option_map};
 ghost use Rattle.clap.specs.Words.{first_of, found_of, rows_of};
-ghost use Rattle.rec_command.specs.Words.{has_flag, texts_given};
+ghost use Rattle.rec_command.specs.Words.{file_given, has_flag, number_given, texts_given};
 
+use super::refusal::Refusal;
 use clap::ArgMatches;
 use rec_tools::Bytes;
 use std::alloc::{AllocError, Global};
@@ -12,6 +13,36 @@ pub fn given<'m>(options: &'m ArgMatches, name: &str) -> Option<&'m str>
     ensures { option_map (λ text. text.now) result ≡ first_of name.now (rows_of (found_of options.now)) }
 {
     options.get_str(name)
+}
+
+/// N, where it stands before FILE.
+pub fn number<'m>(options: &'m ArgMatches) -> Option<&'m str>
+    ensures { option_map (λ text. text.now) result ≡ number_given (rows_of (found_of options.now)) }
+{
+    match given(options, "second") {
+        Some(_) => given(options, "file"),
+        None => None,
+    }
+}
+
+/// FILE, as it stands there.
+pub fn file<'m>(options: &'m ArgMatches) -> Option<&'m str>
+    ensures { option_map (λ text. text.now) result ≡ file_given (rows_of (found_of options.now)) }
+{
+    match given(options, "second") {
+        Some(second) => Some(second),
+        None => given(options, "file"),
+    }
+}
+
+/// The name of FILE for what is printed: as it stands there.
+pub fn file_name(alloc: Global, options: &ArgMatches) -> Result<Bytes, Refusal>
+    ensures { IfOk result (λ name. file_given (rows_of (found_of options.now)) ≡ Some name) }
+{
+    match file(options) {
+        Some(file) => Ok(Bytes::copy_of(alloc, file.as_bytes())?),
+        None => Err(Refusal::Rule("FILE is needed")),
+    }
 }
 
 /// A copy of the text of an option.

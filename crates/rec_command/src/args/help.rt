@@ -5,7 +5,7 @@ pub const VERSION: &str = "0.1.0";
 pub const ABOUT: &str = "Prints, checks and edits rec files, and undoes edits";
 
 pub const PROGRAM_HELP: &str =
-    "A file begins empty (touch new.rec). A record in it is a line NAME: VALUE for\neach field, and an empty line ends it. An edit that was wrong is taken back by\nrecu undo FILE, and made again by recu redo FILE; recu history FILE prints which\nedits there are. A change by another program ends that history. One command at a\ntime edits a file: a second one is refused, and doesn't wait.\n\nFILE.new and the journal's .new are working names of recu: each file is written\nunder its own before it takes its place. What an interrupted recu left there is\nremoved; with any other file there the command is refused, and the file stays.\n\nExamples:\n  recu recsel -e \"#Phone\" contacts.rec\n  recu recdel -n 1 contacts.rec\n  recu undo contacts.rec";
+    "A file begins empty (touch new.rec). A record in it is a line NAME: VALUE for\neach field, and an empty line ends it. An edit that was wrong is taken back by\nrecu undo FILE, and made again by recu redo FILE; recu history FILE prints which\nedits there are, and recu show FILE what the newest changed. With --dry-run a\ncommand prints what it would change, and changes nothing. A change by another\nprogram ends that history. One command at a time edits a file: a second one is\nrefused, and doesn't wait.\n\nFILE.new and the journal's .new are working names of recu: each file is written\nunder its own before it takes its place. What an interrupted recu left there is\nremoved; with any other file there the command is refused, and the file stays.\n\nExamples:\n  recu recsel -e \"#Phone\" contacts.rec\n  recu recdel -n 1 contacts.rec\n  recu undo contacts.rec";
 
 pub const RECSEL_HELP: &str =
     "By default -t takes the records of no type, or else those of the only type. Only\none of -e, -n, -q and --where can be given, and only one of -p, -P, -R and -c.\n\nExamples:\n  recu recsel -e \"#Phone || Note ~ 'second'\" -P Name contacts.rec\n  recu recsel -n 0,2 -p Name,Email contacts.rec\n  recu recsel -t Book -q Austen library.rec\n  recu recsel --where 'Name=Ada Lovelace' contacts.rec";
@@ -51,13 +51,21 @@ pub const BATCH_HELP: &str =
     "PATH is a rec file, and each of its records is an edit:\n\n  Tool: recset\n  Expression: Name ~ 'Ada'\n  Fields: Phone\n  SetAdd: 555 0199\n\n  Tool: recdel\n  Number: 1\n\nTool is recins, recdel, recset, or recfix, which gives automatic fields. The\nother fields are named like the tool's options: Type and one of Expression,\nNumber and Quick; for recins Field and Value, or Record, and Auto: no; for\nrecdel Comment: yes; for recset Fields and one of Set, Add, SetAdd, Rename,\nDelete: yes and Comment: yes. With --force it is forced as a whole.\n\nExamples:\n  recu batch -b changes.rec contacts.rec\n  recu batch -b changes.rec --force --journal edits.rec contacts.rec";
 
 pub const UNDO_HELP: &str =
-    "recu history FILE prints which edits there are, and recu redo FILE makes again\nwhat was undone. After a change by another program nothing can be undone.\n\nExamples:\n  recu undo contacts.rec\n  recu undo --journal edits.rec contacts.rec";
+    "recu history FILE prints which edits there are, recu show FILE what the newest\nchanged, and recu redo FILE makes again what was undone. After a change by\nanother program nothing can be undone.\n\nExamples:\n  recu undo contacts.rec\n  recu undo --journal edits.rec contacts.rec";
 
 pub const REDO_HELP: &str =
     "Examples:\n  recu redo contacts.rec\n  recu redo --journal edits.rec contacts.rec";
 
 pub const HISTORY_HELP: &str =
-    "Prints a line done NUMBER TOOL for each edit that can be undone, the oldest\nfirst, and then a line undone NUMBER TOOL for each that can be redone, the\nnearest first. For a file that was changed by another program it prints only\ndrifted: nothing can be undone then, and the next edit begins a new history.\n\nExamples:\n  recu history contacts.rec\n  recu history --journal edits.rec contacts.rec";
+    "Prints a line done NUMBER TOOL for each edit that can be undone, the oldest\nfirst, and then a line undone NUMBER TOOL for each that can be redone, the\nnearest first. For a file that was changed by another program it prints only\ndrifted: nothing can be undone then, and the next edit begins a new history.\n--patch prints under each line what recu show NUMBER FILE prints.\n\nExamples:\n  recu history contacts.rec\n  recu history --patch contacts.rec\n  recu history --journal edits.rec contacts.rec";
+
+pub const SHOW_USAGE: &str = "recu show [OPTIONS] [N] FILE";
+
+pub const SHOW_ABOUT: &str =
+    "Prints what an edit changed: that with the number N, which recu history FILE\nprints, or without N the newest that can be undone.";
+
+pub const SHOW_HELP: &str =
+    "N stands before FILE. What was undone can be shown too, as long as it can be\nredone. What is printed is a unified diff without context: patch -p0 and\ngit apply -p0 --unidiff-zero make the change, and with -R they take it back.\n\nExamples:\n  recu show contacts.rec\n  recu show 1 --journal edits.rec contacts.rec";
 
 pub const FORGET_ABOUT: &str =
     "Forgets all but the newest N of the edits that can be undone, which makes the\njournal shorter. FILE stays as it is. What is forgotten can't be undone any\nmore, and nothing brings it back.";

@@ -2,10 +2,10 @@
 ghost use Rattle.std.specs.Prelude.{◌≡◌, IfOk, codes, string_bytes, option_map};
 ghost use Rattle.clap.specs.Words.{first_of, found_of, rows_of};
 ghost use Rattle.rec_files.specs.Paths.{AreApart};
-ghost use Rattle.rec_command.specs.Words.{IsJournal};
+ghost use Rattle.rec_command.specs.Words.{file_given, IsJournal};
 
 use super::Order;
-use super::found::given;
+use super::found::{file, given};
 use super::refusal::Refusal;
 use clap::ArgMatches;
 use rec_files::{are_apart, journal_path};
@@ -24,11 +24,11 @@ pub struct Paths {
 /// The paths that the options give an order.
 pub fn paths_of(alloc: Global, order: &Order, options: &ArgMatches) -> Result<Paths, Refusal>
     ensures file { IfOk result (λ paths. option_map string_bytes paths.file
-        ≡ first_of (codes "file") (rows_of (found_of options.now))) }
-    ensures journal { IfOk result (λ paths. IsJournal order.now (first_of (codes "file") (rows_of (found_of options.now)))
+        ≡ file_given (rows_of (found_of options.now))) }
+    ensures journal { IfOk result (λ paths. IsJournal order.now (file_given (rows_of (found_of options.now)))
         (first_of (codes "journal") (rows_of (found_of options.now))) (option_map string_bytes paths.journal)) }
 {
-    let file = given(options, "file");
+    let file = file(options);
     let journal = journal(alloc, order, file, given(options, "journal"))?;
     let file = copied(alloc, file)?;
     Ok(Paths { file, journal })

@@ -1,4 +1,6 @@
 pub mod StandsLemmas
 pub mod ForgettingLemmas
+pub mod ToldLemmas
+pub mod ShowingLemmas
 pub mod StepLemmas
 pub mod MachineLemmas

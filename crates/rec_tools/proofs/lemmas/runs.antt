@@ -3,3 +3,5 @@ pub mod StopLemmas
 pub mod OutsideLemmas
 pub mod GuaranteeLemmas
 pub mod RunAllLemmas
+pub mod PreviewLemmas
+pub mod ShowAfterLemmas

@@ -1,7 +1,7 @@
 use Rattle.std.proofs.Common.{ap}
 use Rattle.rec_tools.specs.Outcomes.{outcome_of}
 use Rattle.rec_text.proofs.lemmas.ErrorLemmas.{kept_error}
-use Rattle.rec_tools.proofs.lemmas.outcomes.DecideLemmas.{move-no_opening, move-refused, move-planned}
+use Rattle.rec_tools.proofs.lemmas.outcomes.DecideLemmas.{move-no_opening, move-refused, move-planned, move-course, move-has_edit}
 use Rattle.rec_tools.proofs.decision.decide_move.Goals as goal
 
 pub returns-in_err-history-clause-found : goal.returns-in_err-history-clause-found
@@ -15,4 +15,14 @@ returns-in_err-plan-clause-found c =
 pub returns-clause-found : goal.returns-clause-found
 returns-clause-found c =
     move-planned c.args.file.now c.args.journal.now c.args.direction _ c.in_ok-history.ensures _ c.in_ok-plan.ensures.plan.found
-    c.in_ok-plan.ensures.plan.safe _ _ c.in_ok-plan.ensures.nearest _ c.reply_of.ensures _ (ap outcome_of c.put_plan.ensures)
+    c.in_ok-plan.ensures.plan.safe _ _ c.in_ok-plan.ensures.nearest _ c.reply_of-reply.ensures _ (ap outcome_of c.put_plan.ensures)
+
+pub returns-clause-course : goal.returns-clause-course
+returns-clause-course c =
+    let (e, nearest, steps) = c.in-Some.ensures in
+    move-course c.args.file.now c.args.journal.now c.args.direction _ c.in_ok-history.ensures _ c.in_ok-plan.ensures.plan.found
+    c.in_ok-plan.ensures.plan.safe _ e nearest steps _ _ c.put_plan.ensures
+
+pub unreachable-requires : goal.unreachable-requires
+unreachable-requires c =
+    move-has_edit c.args.file.now c.args.journal.now c.args.direction _ c.in_ok-history.ensures _ c.in_ok-plan.ensures.plan.found c.in-None.ensures

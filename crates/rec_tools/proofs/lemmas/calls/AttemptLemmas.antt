@@ -2,11 +2,10 @@
 use Rattle.std.proofs.Common.{◌≡◌, ◌⊎◌, inl, inr, ℕ, ◌≤◌, List, [], ◌∷◌, length, Option, Some, None, Result, Ok, Err, IsErrAnd, ap, sym, subst, refl, ◌∙◌}
 use Rattle.rec_text.specs.declared.fault.Fault.{Fault}
 use Rattle.rec_text.specs.declared.fault.Fault.TheVariants.{OutOfMemory, StoreFailed}
-use Rattle.rec_tools.specs.declared.decision.Decision.TheVariants.{Put}
 use Rattle.rec_tools.specs.declared.home.Which.{Which}
 use Rattle.rec_tools.specs.declared.request.Reply.{Reply}
 use Rattle.rec_tools.specs.Home.{writes_by, Call, got, put_all, put_some, read_call, IsPutCall}
-use Rattle.rec_tools.specs.Outcomes.{outcome_of}
+use Rattle.rec_tools.specs.Outcomes.{replacing}
 use Rattle.rec_tools.specs.Attempts.{puts, StopsReading, StopsWriting, IsAnswered}
 use Rattle.rec_tools.specs.proving.Silently.{ByCalls}
 use Rattle.rec_tools.proofs.lemmas.calls.CallLemmas.{one_call}
@@ -65,13 +64,13 @@ module _ {H : Type 0} (goes : H → Call → H → Type 0) (old new : H) (journa
   known result put = subst (λ j. IsPutBy goes old new j file result) same (subst (λ f. IsPutBy goes old new bytes f result) same_too put)
 
   pub put-stopped : (X : Type 0) (fault : Fault) → fault ≡ StoreFailed → IsPutBy {X = X} goes old new bytes given (Err fault)
-      → ByCalls goes old new (IsAnswered (outcome_of (Put journal file reply)) (Err fault))
+      → ByCalls goes old new (IsAnswered (replacing journal file reply) (Err fault))
   put-stopped X fault why put =
       let (call, (k, le, e), step) = known {X = X} (Err fault) put in
       (call ∷ [], one_call goes old new call step, inr (ap Err why, stops_put journal file k call le e))
 
   pub put-made : (X : Type 0) (x : X) → IsPutBy goes old new bytes given (Ok x)
-      → ByCalls goes old new (IsAnswered (outcome_of (Put journal file reply)) (Ok reply))
+      → ByCalls goes old new (IsAnswered (replacing journal file reply) (Ok reply))
   put-made X x put =
       let (call, e, step) = known (Ok x) put in
       (call ∷ [], one_call goes old new call step, inl (refl, ap (λ made. made ∷ []) e ∙ puts_all journal file))

@@ -13,7 +13,7 @@ use Rattle.rec_tools.specs.declared.decision.Decision.TheVariants.{Stay, Put}
 use Rattle.rec_tools.specs.declared.home.Which.TheVariants.{Base as TheFile, Journal as TheJournal}
 use Rattle.rec_tools.specs.Home.{Contents, Write, Call, got, TellAll, Went}
 use Rattle.rec_tools.specs.Printouts.{Printout, Printed, PutsPrintout, WentOut, IsSilence, IsShownText, IsHistory, printed_history}
-use Rattle.rec_tools.specs.Requests.{Asked, looking, listing, editing, moving, forgetting, reads_of, IsSilent}
+use Rattle.rec_tools.specs.Requests.{Asked, looking, listing, showing, listing_changes, editing, moving, forgetting, previewing, reads_of, IsSilent, WritesNothing}
 use Rattle.rec_tools.specs.Outcomes.{Outcome, printing, outcome_of, IsPrinting, IsRequestOutcome}
 use Rattle.rec_tools.specs.proving.Silently.{ByCalls, DoesSilently}
 use Rattle.rec_tools.specs.Attempts.{Answer, gots, puts, IsPrefix, StopsReading, StopsWriting, IsAnswered, Does, Attempts}
@@ -69,6 +69,9 @@ stopped-tells listing calls fault stops = stopped-tells_both calls fault stops
 stopped-tells (editing IsEdit) calls fault stops = stopped-tells_both calls fault stops
 stopped-tells (moving direction) calls fault stops = stopped-tells_both calls fault stops
 stopped-tells (forgetting n) calls fault stops = stopped-tells_both calls fault stops
+stopped-tells (showing number name) calls fault stops = stopped-tells_both calls fault stops
+stopped-tells (listing_changes name) calls fault stops = stopped-tells_both calls fault stops
+stopped-tells (previewing name asked) calls fault stops = stopped-tells asked calls fault stops
 
 module _ {H : Type 0} (goes : H → Call → H → Type 0) where
   pub silently-unread : (old new : H) (asked : Asked) (fault : Fault) → ByCalls goes old new (λ calls. StopsReading (reads_of asked) calls fault)
@@ -154,7 +157,7 @@ module _ (asked : Asked) (calls : List Call) (Tells : Contents → Type 0) (IsTe
   )
 
 -- the history that is printed of a file and its journal is the outcome that is asked for
-listed-outcome : (file journal : List ℕ) (r : Result Outcome Fault) → IsPrinting (IsShownText (IsHistory file journal)) r
+pub listed-outcome : (file journal : List ℕ) (r : Result Outcome Fault) → IsPrinting (IsShownText (IsHistory file journal)) r
     → IsRequestOutcome (record { file = file; journal = journal }) listing r
 listed-outcome file journal (Ok outcome) (p, (inl (fault, refused, e), shown), is) = ok_is_no_err p.text fault _ (sym e)
 listed-outcome file journal (Ok outcome) (p, (inr (o, opens, e), shown), is) =
@@ -180,7 +183,10 @@ silent-reads_both (looking IsText) silent = absurd silent
 silent-reads_both listing silent = absurd silent
 silent-reads_both (editing IsEdit) silent = refl
 silent-reads_both (moving direction) silent = refl
+silent-reads_both (showing number name) silent = absurd silent
+silent-reads_both (listing_changes name) silent = absurd silent
 silent-reads_both (forgetting n) silent = refl
+silent-reads_both (previewing name asked) silent = absurd silent
 
 does-refused : (asked : Asked) (c : Contents) (fault : Fault) (p : Printed) → ReadsBoth asked → IsMemoryOr fault (IsRequestOutcome c asked (Err fault)) → IsSilence p
     → Does c asked (Err fault) (got TheFile c.file ∷ got TheJournal c.journal ∷ []) p
@@ -238,24 +244,34 @@ module _ {H S : Type 0} (goes : H → Call → H → Type 0) (told : S → Optio
         (one_call goes old new _ step, (file_alone bytes, (refl, tt)), λ c tells. done.2 c tells.0),
       )
 
-  pub attempted-listed : (old new : H) (out out_new : S) (file journal f j : List ℕ) (answer : Answer)
-      → ByCalls goes old new (λ calls. calls ≡ got TheFile file ∷ got TheJournal journal ∷ []) → f ≡ file → j ≡ journal
-      → PrintsAndCounts told failures out out_new (PutsPrintout (IsShownText (IsHistory f j))) answer
-      → Attempted goes told failures old new out out_new listing answer
-  attempted-listed old new out out_new file journal f j answer read e h written =
-      let calls : List Call = got TheFile file ∷ got TheJournal journal ∷ [] in
-      let both : Contents = record { file = file; journal = journal } in
-      let on : PutsPrintout (IsShownText (IsHistory file journal)) (told out) (told out_new) answer =
-      subst (λ b. PutsPrintout (IsShownText (IsHistory file b)) (told out) (told out_new) answer) h
-      (subst (λ b. PutsPrintout (IsShownText (IsHistory b j)) (told out) (told out_new) answer) e written.printed) in
-      let done = printed_of listing calls (λ c. both ≡ c) (IsShownText (IsHistory file journal))
-      (λ c same. ap (λ (d : Contents). gots d (reads_of listing)) same) (λ c same r is. subst (λ d. IsRequestOutcome d listing r) same (listed-outcome file journal r is))
-      (told out) (told out_new) (failures out) (failures out_new) answer on written.told written.store_failed in (
-        calls,
-        record { text = done.0; before = failures out; after = failures out_new },
-        (done.1, refl, refl),
-        (subst (λ calls. Went goes old calls new) read.2 read.1, (both, (refl, (refl, tt))), λ c tells. done.2 c (both_got file journal [] c tells)),
-      )
+  -- a text was printed of both contents
+  module _ (asked : Asked) (IsText : List ℕ → List ℕ → Result Printout Fault → Type 0) (both : ReadsBoth asked)
+      (is : (file journal : List ℕ) (r : Result Outcome Fault) → IsPrinting (IsText file journal) r → IsRequestOutcome (record { file = file; journal = journal }) asked r) where
+    pub attempted-both : (old new : H) (out out_new : S) (file journal f j : List ℕ) (answer : Answer)
+        → ByCalls goes old new (λ calls. calls ≡ got TheFile file ∷ got TheJournal journal ∷ []) → f ≡ file → j ≡ journal
+        → PrintsAndCounts told failures out out_new (PutsPrintout (IsText f j)) answer
+        → Attempted goes told failures old new out out_new asked answer
+    attempted-both old new out out_new file journal f j answer read e h written =
+        let calls : List Call = got TheFile file ∷ got TheJournal journal ∷ [] in
+        let here : Contents = record { file = file; journal = journal } in
+        let on : PutsPrintout (IsText file journal) (told out) (told out_new) answer =
+        subst (λ b. PutsPrintout (IsText file b) (told out) (told out_new) answer) h
+        (subst (λ b. PutsPrintout (IsText b j) (told out) (told out_new) answer) e written.printed) in
+        let done = printed_of asked calls (λ c. here ≡ c) (IsText file journal)
+        (λ c same. ap (λ (d : Contents). got TheFile d.file ∷ got TheJournal d.journal ∷ []) same ∙ ap (gots c) (sym both))
+        (λ c same r text. subst (λ d. IsRequestOutcome d asked r) same (is file journal r text))
+        (told out) (told out_new) (failures out) (failures out_new) answer on written.told written.store_failed in (
+          calls,
+          record { text = done.0; before = failures out; after = failures out_new },
+          (done.1, refl, refl),
+          (subst (λ calls. Went goes old calls new) read.2 read.1, (here, (refl, (refl, tt))), λ c tells. done.2 c (both_got file journal [] c tells)),
+        )
+
+  -- the two contents weren't read for it
+  pub attempted-unread_both : (old new : H) (out : S) (asked : Asked) (fault : Fault) → ReadsBoth asked
+      → ByCalls goes old new (λ calls. StopsReading (TheFile ∷ TheJournal ∷ []) calls fault) → Attempted goes told failures old new out out asked (Err fault)
+  attempted-unread_both old new out asked fault both read =
+      attempted-unread goes told failures old new out asked fault (read.0, read.1, subst (λ whiches. StopsReading whiches read.0 fault) (sym both) read.2)
 
 module _ {H : Type 0} (goes : H → Call → H → Type 0) where
   -- the two contents weren't read

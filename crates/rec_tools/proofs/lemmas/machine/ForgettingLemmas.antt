@@ -50,7 +50,7 @@ module _ (direction : Direction) where
   as_many_edits [] [] here are = refl
   as_many_edits [] (entry ∷ entries) here are = absurd are
   as_many_edits (e ∷ es) [] here are = absurd are
-  as_many_edits (e ∷ es) (entry ∷ entries) here are = ap suc (as_many_edits es entries entry.text are.3)
+  as_many_edits (e ∷ es) (entry ∷ entries) here are = ap suc (as_many_edits es entries entry.text are.4)
 
   take-entries : (n : ℕ) (es : List Revision) (entries : List Entry) (here : List ℕ) → AreEntries direction es entries here
       → AreEntries direction (take n es) (take n entries) here
@@ -58,7 +58,7 @@ module _ (direction : Direction) where
   take-entries (suc n) [] [] here are = tt
   take-entries (suc n) [] (entry ∷ entries) here are = absurd are
   take-entries (suc n) (e ∷ es) [] here are = absurd are
-  take-entries (suc n) (e ∷ es) (entry ∷ entries) here are = (are.0, are.1, are.2, take-entries n es entries entry.text are.3)
+  take-entries (suc n) (e ∷ es) (entry ∷ entries) here are = (are.0, are.1, are.2, are.3, take-entries n es entries entry.text are.4)
 
   entries_numbered_from : (n : ℕ) (es : List Revision) (entries : List Entry) (here : List ℕ) → AreEntries direction es entries here
       → AreEntries direction (numbered_from numbered_edit n es) (numbered_from numbered_entry n entries) here
@@ -66,7 +66,7 @@ module _ (direction : Direction) where
   entries_numbered_from n [] (entry ∷ entries) here are = absurd are
   entries_numbered_from n (e ∷ es) [] here are = absurd are
   entries_numbered_from n (e ∷ es) (entry ∷ entries) here are =
-      (refl, are.1, leads_numbered direction n e here entry.text are.2, entries_numbered_from (n + 1) es entries entry.text are.3)
+      (refl, are.1, are.2, leads_numbered direction n e here entry.text are.3, entries_numbered_from (n + 1) es entries entry.text are.4)
 
   entries_numbered_up : (n : ℕ) (es : List Revision) (entries : List Entry) (here : List ℕ) → AreEntries direction es entries here
       → AreEntries direction (numbered_up numbered_edit n es) (numbered_up numbered_entry n entries) here
@@ -74,10 +74,11 @@ module _ (direction : Direction) where
   entries_numbered_up n [] (entry ∷ entries) here are = absurd are
   entries_numbered_up n (e ∷ es) [] here are = absurd are
   entries_numbered_up n (e ∷ es) (entry ∷ entries) here are = (
-    ap (λ k. n + k) (as_many_edits es entries entry.text are.3),
+    ap (λ k. n + k) (as_many_edits es entries entry.text are.4),
     are.1,
-    leads_numbered direction (n + length es) e here entry.text are.2,
-    entries_numbered_up n es entries entry.text are.3,
+    are.2,
+    leads_numbered direction (n + length es) e here entry.text are.3,
+    entries_numbered_up n es entries entry.text are.4,
   )
 
 -- ---- the state after it

@@ -1,20 +1,24 @@
 -- The machine's step is a function of the state and the request.
-use Rattle.std.proofs.Common.{arith, ◌≡◌, ◌≢◌, inl, inr, ℕ, List, [], ◌∷◌, Result, Ok, Err, sym, subst, ◌∙◌}
+use Rattle.std.proofs.Common.{arith, ◌≡◌, ◌≢◌, inl, inr, ℕ, List, [], ◌∷◌, length, Option, Some, None, Result, Ok, Err, ap, sym, subst, ◌∙◌}
 use Rattle.rec_text.specs.declared.fault.Fault.{Fault}
 use Rattle.rec_text.specs.declared.fault.Fault.TheVariants.{BadPattern}
 use Rattle.rec_journal.specs.declared.event.Tool.{Tool}
 use Rattle.rec_edit.specs.declared.answer.Edited.{Edited}
 use Rattle.rec_journal.specs.declared.patch.Direction.{Direction}
-use Rattle.rec_tools.specs.Printouts.{Printout, ComesOut}
-use Rattle.rec_tools.specs.Requests.{Asked, looking, listing, editing, moving, forgetting, asked_of}
+use Rattle.rec_journal.specs.declared.patch.Direction.TheVariants.{Forward, Backward}
+use Rattle.rec_diff.specs.Diffs.{IsDiff}
+use Rattle.rec_diff.proofs.lemmas.DiffLemmas.{one_diff}
+use Rattle.rec_tools.specs.Printouts.{Printout, ComesOut, Told}
+use Rattle.rec_tools.specs.Requests.{Asked, looking, listing, showing, listing_changes, editing, moving, forgetting, previewing, asked_of}
 use Rattle.rec_tools.specs.Outcomes.{IsMade}
 use Rattle.rec_tools.specs.Attempts.{Answer}
-use Rattle.rec_tools.specs.Machine.{Entry, State, IsMachineStep, IsEditStep, IsMoveStep, IsForgettingStep, entries_on}
+use Rattle.rec_tools.specs.Machine.{Entry, State, IsMachineStep, IsEditStep, IsMoveStep, IsForgettingStep, IsShowingStep, IsStepDiff, entries_on, told_edit, told_in}
 use Rattle.rec_tools.specs.Laws.{OneStep}
 use Rattle.rec_text.proofs.lemmas.FaultLemmas.{no_both}
 use Rattle.rec_text.proofs.lemmas.StepLemmas.{refused_too}
 use Rattle.rec_tools.proofs.lemmas.outcomes.EditLemmas.{one_made}
-use Rattle.rec_tools.proofs.lemmas.outcomes.OutcomeLemmas.{MeansOne, one_meaning, HasOneBut-once_read}
+use Rattle.rec_tools.proofs.lemmas.outcomes.OutcomeLemmas.{MeansOne, one_meaning, HasOneBut-once_read, same_top}
+use Rattle.rec_tools.proofs.lemmas.printing.LogLemmas.{one_log}
 
 -- ---- a text is shown in one way
 
@@ -60,30 +64,64 @@ one_forgetting_step n s one other t u (inl is) (inr is_too) = absurd (omega (ari
 one_forgetting_step n s one other t u (inr is) (inl is_too) = absurd (omega (arith, is.0, is_too.0))
 one_forgetting_step n s one other t u (inr is) (inr is_too) = (is.1 ∙ sym is_too.1, is.2 ∙ sym is_too.2)
 
+-- ---- what edits made is printed in one way
+
+one_showing : (number : Option ℕ) (name : List ℕ) (found : Option Told) (one other : Answer) (text printed : List ℕ)
+    → IsShowingStep number name found one text → IsShowingStep number name found other printed → (one ≡ other) × (text ≡ printed)
+one_showing number name None one other text printed is is_too = (is.0 ∙ sym is_too.0, is.1 ∙ sym is_too.1)
+one_showing number name (Some e) one other text printed is is_too =
+    (is.0 ∙ sym is_too.0, one_diff Forward name e.steps e.before e.after text printed is.1 is_too.1)
+
+not_both_ways : {X : Type 0} (x y : X) (old new : List X) → new ≡ x ∷ old → old ≡ y ∷ new → ⊥
+not_both_ways x y old new is is_too = omega (arith, ap length is, ap length is_too)
+
+one_step_diff : (name : List ℕ) (s t : State) (one other : List ℕ) → IsStepDiff name s t one → IsStepDiff name s t other → one ≡ other
+one_step_diff name s t one other (inl is) (inl is_too) = is.1 ∙ sym is_too.1
+one_step_diff name s t one other (inl is) (inr is_too) = absurd (is_too.0 is.0)
+one_step_diff name s t one other (inr is) (inl is_too) = absurd (is.0 is_too.0)
+one_step_diff name s t one other (inr (differs, (Forward, entry, top, diff))) (inr (differs_too, (Forward, also, top_too, diff_too))) =
+    one_diff Forward name also.steps s.present t.present one other
+    (subst (λ (e : Entry). IsDiff Forward name e.steps s.present t.present (Ok one)) (same_top Forward entry also s.past t.past top top_too) diff) diff_too
+one_step_diff name s t one other (inr (differs, (Backward, entry, top, diff))) (inr (differs_too, (Backward, also, top_too, diff_too))) =
+    one_diff Backward name also.steps s.present t.present one other
+    (subst (λ (e : Entry). IsDiff Backward name e.steps s.present t.present (Ok one)) (same_top Backward entry also s.past t.past top top_too) diff) diff_too
+one_step_diff name s t one other (inr (differs, (Forward, entry, top, diff))) (inr (differs_too, (Backward, also, top_too, diff_too))) =
+    absurd (not_both_ways entry also s.past t.past top top_too)
+one_step_diff name s t one other (inr (differs, (Backward, entry, top, diff))) (inr (differs_too, (Forward, also, top_too, diff_too))) =
+    absurd (not_both_ways also entry s.past t.past top_too top)
+
 -- ---- one step
 
-module _ (s : State) (one other : Answer) (text printed : List ℕ) (t u : State) (built : one ≢ Err BadPattern) (built_too : other ≢ Err BadPattern) where
+module _ (s : State) (one other : Answer) (built : one ≢ Err BadPattern) (built_too : other ≢ Err BadPattern) where
   -- what is asked for has one step
-  one_step_of : (asked : Asked) → MeansOne asked → IsMachineStep s asked one text t → IsMachineStep s asked other printed u
+  one_step_of : (asked : Asked) (text printed : List ℕ) (t u : State) → MeansOne asked → IsMachineStep s asked one text t → IsMachineStep s asked other printed u
       → (one ≡ other) × (text ≡ printed) × (t ≡ u)
-  one_step_of (looking IsText) means (outcome, is, shown, e) (also, is_too, shown_too, k) =
+  one_step_of (looking IsText) text printed t u means (outcome, is, shown, e) (also, is_too, shown_too, k) =
       let same = means s.present outcome also is is_too
       (shown_of_built outcome one text shown built) (shown_of_built also other printed shown_too built_too) in
       let both = one_shown also one other text printed (subst (λ r. ComesOut r one text) same shown) shown_too in
       (both.0, both.1, e ∙ sym k)
-  one_step_of listing means is is_too = (is.0 ∙ sym is_too.0, is.1 ∙ sym is_too.1, is.2 ∙ sym is_too.2)
-  one_step_of (editing IsEdit) means (outcome, is, step, e) (also, is_too, step_too, k) =
+  one_step_of (showing number name) text printed t u means (step, e) (step_too, k) =
+      let both = one_showing number name (told_edit number s) one other text printed step step_too in
+      (both.0, both.1, e ∙ sym k)
+  one_step_of (listing_changes name) text printed t u means (is, log, e) (is_too, log_too, k) =
+      (is ∙ sym is_too, one_log name (told_in s) text printed log log_too, e ∙ sym k)
+  one_step_of (previewing name asked) text printed t u means (own, next, step, diff, e) (also, later, step_too, diff_too, k) =
+      let same = one_step_of asked own also next later means step step_too in
+      (same.0, one_step_diff name s later text printed (subst (λ v. IsStepDiff name s v text) same.2 diff) diff_too, e ∙ sym k)
+  one_step_of listing text printed t u means is is_too = (is.0 ∙ sym is_too.0, is.1 ∙ sym is_too.1, is.2 ∙ sym is_too.2)
+  one_step_of (editing IsEdit) text printed t u means (outcome, is, step, e) (also, is_too, step_too, k) =
       let same = HasOneBut-once_read s.present (IsMade IsEdit s.present) (one_made IsEdit means s.present) outcome also is is_too
       (edit_of_built s outcome one t step built) (edit_of_built s also other u step_too built_too) in
       let both = one_edit_step s also one other t u (subst (λ r. IsEditStep s r one t) same step) step_too in
       (both.0, e ∙ sym k, both.1)
-  one_step_of (moving direction) means (step, e) (step_too, k) =
+  one_step_of (moving direction) text printed t u means (step, e) (step_too, k) =
       let both = one_move_step direction s (entries_on direction s) one other t u step step_too in
       (both.0, e ∙ sym k, both.1)
-  one_step_of (forgetting n) means (step, e) (step_too, k) =
+  one_step_of (forgetting n) text printed t u means (step, e) (step_too, k) =
       let both = one_forgetting_step n s one other t u step step_too in
       (both.0, e ∙ sym k, both.1)
 
 pub one_step : OneStep
 one_step s request one other text printed t u is is_too built built_too =
-    one_step_of s one other text printed t u built built_too (asked_of request) (one_meaning request) is is_too
+    one_step_of s one other built built_too (asked_of request) text printed t u (one_meaning request) is is_too

@@ -1,11 +1,13 @@
 -- Contents stand for one state at most, and a file and an empty journal stand for the first.
-use Rattle.std.proofs.Common.{arith, ◌≡◌, ◌≢◌, inr, ℕ, false, List, [], ◌∷◌, ◌++◌, length, length-append, Ok, sym, ap, ap₂, subst, refl, ◌∙◌}
-use Rattle.rec_text.proofs.lemmas.FaultLemmas.{same_value}
+use Rattle.std.proofs.Common.{arith, ◌≡◌, ◌≢◌, inr, ℕ, false, List, [], ◌∷◌, ◌++◌, length, length-append, Ok, Err, sym, ap, ap₂, subst, refl, ◌∙◌}
+use Rattle.rec_text.specs.declared.fault.Fault.{Fault}
+use Rattle.rec_text.proofs.lemmas.FaultLemmas.{ok_is_no_err, same_value}
+use Rattle.rec_journal.specs.declared.event.EditStep.{EditStep}
 use Rattle.rec_journal.specs.declared.event.Revision.{Revision}
 use Rattle.rec_journal.specs.declared.patch.Direction.{Direction}
 use Rattle.rec_journal.specs.declared.patch.Direction.TheVariants.{Forward, Backward}
 use Rattle.rec_journal.specs.declared.event.Tool.{Tool}
-use Rattle.rec_journal.specs.History.{Opened, Opens, IsRegular, open_at, spelled, start, newest_header}
+use Rattle.rec_journal.specs.History.{Opened, Opens, IsOpening, IsRegular, open_at, spelled, start, newest_header}
 use Rattle.rec_journal.proofs.lemmas.histories.Countings.{settled-none_dropped}
 use Rattle.rec_journal.proofs.lemmas.histories.Headers.{length-header}
 use Rattle.rec_journal.proofs.lemmas.histories.Openings.{one_opening}
@@ -38,14 +40,18 @@ stands_by c s o stands opens =
       none_dropped = settled-none_dropped c.file c.journal stands.opened stands.opens stands.settled;
     })
 
+-- they can be opened
+pub can_be_opened : (c : Contents) (s : State) → Stands c s → (fault : Fault) → IsOpening c.file c.journal (Err fault) → ⊥
+can_be_opened c s stands fault refused = ok_is_no_err stands.opened fault ⊥ (one_opening c.file c.journal (Err fault) (Ok stands.opened) refused stands.opens)
+
 -- ---- one state
 
-same_entry : (one other : Entry) → one.number ≡ other.number → one.tool ≡ other.tool → one.text ≡ other.text → one ≡ other
-same_entry one other number tool text =
-    let made : ℕ → Tool → List ℕ → Entry = λ n t x. record { number = n; tool = t; text = x } in
-    ap (λ n. made n one.tool one.text) number ∙ ap (λ t. made other.number t one.text) tool ∙ ap (made other.number other.tool) text
+same_entry : (one other : Entry) → one.number ≡ other.number → one.tool ≡ other.tool → one.steps ≡ other.steps → one.text ≡ other.text → one ≡ other
+same_entry one other number tool steps text =
+    let made : ℕ → Tool → List EditStep → List ℕ → Entry = λ n t ss x. record { number = n; tool = t; steps = ss; text = x } in
+    ap₂ (λ n t. made n t one.steps one.text) number tool ∙ ap₂ (made other.number other.tool) steps text
 
-one_list_of_entries : (direction : Direction) (es : List Revision) (one other : List Entry) (here : List ℕ)
+pub one_list_of_entries : (direction : Direction) (es : List Revision) (one other : List Entry) (here : List ℕ)
     → AreEntries direction es one here → AreEntries direction es other here → one ≡ other
 one_list_of_entries direction [] [] [] here are are_too = refl
 one_list_of_entries direction [] [] (y ∷ ys) here are are_too = absurd are_too
@@ -53,10 +59,10 @@ one_list_of_entries direction [] (x ∷ xs) other here are are_too = absurd are
 one_list_of_entries direction (e ∷ es) [] other here are are_too = absurd are
 one_list_of_entries direction (e ∷ es) (x ∷ xs) [] here are are_too = absurd are_too
 one_list_of_entries direction (e ∷ es) (x ∷ xs) (y ∷ ys) here are are_too =
-    let text = edits_lead_to_one_text direction e here x.text y.text are.2 are_too.2 in
-    let following = subst (λ t. AreEntries direction es ys t) (sym text) are_too.3 in
-    ap₂ (λ z zs. z ∷ zs) (same_entry x y (sym are.0 ∙ are_too.0) (sym are.1 ∙ are_too.1) text)
-    (one_list_of_entries direction es xs ys x.text are.3 following)
+    let text = edits_lead_to_one_text direction e here x.text y.text are.3 are_too.3 in
+    let following = subst (λ t. AreEntries direction es ys t) (sym text) are_too.4 in
+    ap₂ (λ z zs. z ∷ zs) (same_entry x y (sym are.0 ∙ are_too.0) (sym are.1 ∙ are_too.1) (sym are.2 ∙ are_too.2) text)
+    (one_list_of_entries direction es xs ys x.text are.4 following)
 
 same_state : (one other : State) → one.past ≡ other.past → one.present ≡ other.present → one.future ≡ other.future → one.next ≡ other.next
     → one ≡ other

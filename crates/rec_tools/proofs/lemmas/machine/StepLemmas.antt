@@ -19,12 +19,13 @@ use Rattle.rec_tools.specs.declared.request.Reply.TheVariants.{Shown, Edited as 
 use Rattle.rec_tools.specs.Home.{Contents}
 use Rattle.rec_tools.specs.Steps.{Then}
 use Rattle.rec_tools.specs.Printouts.{Printout, history_text, printed_history}
-use Rattle.rec_tools.specs.Requests.{Edits, Asked, looking, listing, editing, moving, forgetting, asked_of}
+use Rattle.rec_tools.specs.Requests.{Edits, Asked, looking, listing, showing, listing_changes, editing, moving, forgetting, previewing, asked_of}
 use Rattle.rec_tools.specs.Outcomes.{Outcome, IsRequestOutcome, IsPrinting, IsMade, IsEditOutcome, IsPlanned, IsMove, IsMoveOutcome, IsForgetting, Forgets, printing, putting, reply_of}
 use Rattle.rec_tools.specs.Machine.{Entry, State, AreEntries, Stands, IsMachineStep, IsMoveStep, Clashes, entries_on, state_history, state_after_edit, state_after_move, state_after_forgetting}
 use Rattle.rec_tools.specs.Guarantee.{StepsAsMachine, OutcomesAreSteps}
 use Rattle.rec_text.proofs.lemmas.FaultLemmas.{ok_is_no_err}
-use Rattle.rec_tools.proofs.lemmas.machine.StandsLemmas.{StandsBy, stands_by}
+use Rattle.rec_tools.proofs.lemmas.machine.StandsLemmas.{StandsBy, stands_by, can_be_opened}
+use Rattle.rec_tools.proofs.lemmas.machine.ShowingLemmas.{shows_step, logs_step, previews_step}
 use Rattle.rec_tools.proofs.lemmas.outcomes.OpeningLemmas.{edit_leads_back, leads_on, leads_back}
 use Rattle.rec_tools.proofs.lemmas.machine.ForgettingLemmas.{as_many_edits, stands_after_forgetting}
 
@@ -46,7 +47,7 @@ printed_alike direction [] [] here are = refl
 printed_alike direction [] (entry ∷ entries) here are = absurd are
 printed_alike direction (e ∷ es) [] here are = absurd are
 printed_alike direction (e ∷ es) (entry ∷ entries) here are =
-    ap₂ (λ x xs. x ∷ xs) (ap₂ pair are.0 are.1) (printed_alike direction es entries entry.text are.3)
+    ap₂ (λ x xs. x ∷ xs) (ap₂ pair are.0 are.1) (printed_alike direction es entries entry.text are.4)
 
 -- ---- the nearest entry that way
 
@@ -57,6 +58,7 @@ pub record HasNearest (direction : Direction) (s : State) (here : List ℕ) (nea
   pub are : entries_on direction s ≡ entry ∷ entries
   pub number : nearest.number ≡ entry.number
   pub tool : nearest.tool ≡ entry.tool
+  pub steps : nearest.steps ≡ entry.steps
   pub leads : Leads direction nearest here entry.text
   pub after : AreEntries direction others entries entry.text
 
@@ -64,7 +66,7 @@ nearest_of : (direction : Direction) (s : State) (here : List ℕ) (nearest : Re
     → entries_on direction s ≡ entries → AreEntries direction (nearest ∷ others) entries here → HasNearest direction s here nearest others
 nearest_of direction s here nearest others [] e are = absurd are
 nearest_of direction s here nearest others (entry ∷ entries) e are =
-    record { entry = entry; entries = entries; are = e; number = are.0; tool = are.1; leads = are.2; after = are.3 }
+    record { entry = entry; entries = entries; are = e; number = are.0; tool = are.1; steps = are.2; leads = are.3; after = are.4 }
 
 no_entries : (direction : Direction) (entries : List Entry) (here : List ℕ) → AreEntries direction [] entries here → entries ≡ []
 no_entries direction [] here are = refl
@@ -96,6 +98,7 @@ stands_after_move Backward o c after s nearest others by has text opens = record
   future = (
     has.number,
     has.tool,
+    has.steps,
     subst (λ t. Leads Forward nearest t s.present) (sym text)
         (subst (λ t. Leads Forward nearest has.entry.text t) (sym by.present) (leads_on nearest c.file has.entry.text has.leads)),
     subst (λ t. AreEntries Forward o.future s.future t) (sym by.present) by.future,
@@ -110,6 +113,7 @@ stands_after_move Forward o c after s nearest others by has text opens = record 
   past = (
     has.number,
     has.tool,
+    has.steps,
     subst (λ t. Leads Backward nearest t s.present) (sym text)
         (subst (λ t. Leads Backward nearest has.entry.text t) (sym by.present) (leads_back nearest c.file has.entry.text has.leads)),
     subst (λ t. AreEntries Backward o.past s.past t) (sym by.present) by.past,
@@ -121,9 +125,8 @@ stands_after_move Forward o c after s nearest others by has text opens = record 
 -- ---- what is asked for, on contents that stand for a state
 
 module _ (c : Contents) (s : State) (stands : Stands c s) where
-  -- contents that stand for a state can be opened
   no_refusal : (fault : Fault) → IsOpening c.file c.journal (Err fault) → ⊥
-  no_refusal fault refused = ok_is_no_err stands.opened fault ⊥ (one_opening c.file c.journal (Err fault) (Ok stands.opened) refused stands.opens)
+  no_refusal = can_be_opened c s stands
 
   by_opening : (o : Opened) → Opens c.file c.journal o → StandsBy o c s
   by_opening o opens = stands_by c s o stands opens
@@ -164,20 +167,20 @@ module _ (c : Contents) (s : State) (stands : Stands c s) where
         other : made.text ≢ s.present
         other same = differs (same ∙ stands.present)
 
-        step : IsMachineStep s (editing IsEdit) (Ok (EditedReply made.changed s.next 0)) [] (state_after_edit s tool made.text)
+        step : IsMachineStep s (editing IsEdit) (Ok (EditedReply made.changed s.next 0)) [] (state_after_edit s tool made.steps made.text)
         step = (Ok (tool, made), on_present (Ok (tool, made)) is, inr (other, refl, refl), refl)
 
         clashes : ShareDigest c.file made.text → Clashes s (editing IsEdit)
         clashes same = record {
           reply = EditedReply made.changed s.next 0;
-          later = state_after_edit s tool made.text;
+          later = state_after_edit s tool made.steps made.text;
           step = step;
           differ = other;
           same_digest = subst (λ t. ShareDigest t made.text) (sym stands.present) same;
         }
 
       stands_after_edit : (o : Opened) (plan : Plan) → Opens c.file c.journal o → IsPlanned o c tool made plan
-          → Stands (record { file = plan.file; journal = plan.journal }) (state_after_edit s tool made.text)
+          → Stands (record { file = plan.file; journal = plan.journal }) (state_after_edit s tool made.steps made.text)
       stands_after_edit o plan opens planned =
           let by = by_opening o opens in
           let edit = edit_to o tool made.text made.steps in
@@ -188,6 +191,7 @@ module _ (c : Contents) (s : State) (stands : Stands c s) where
             present = sym planned.planned.1;
             past = (
               sym by.next,
+              refl,
               refl,
               subst (λ t. Leads Backward edit t s.present) (sym planned.planned.1)
                   (subst (λ t. Leads Backward edit made.text t) (sym by.present) (edit_leads_back c o tool made plan opens planned)),
@@ -206,7 +210,7 @@ module _ (c : Contents) (s : State) (stands : Stands c s) where
           let by = by_opening o opens in
           let told : EditedReply made.changed o.next o.dropped ≡ EditedReply made.changed s.next 0 = ap₂ (EditedReply made.changed) (sym by.next) by.none_dropped in
           subst (λ x. StepsAsMachine c s (editing IsEdit) (Ok x)) (sym (e ∙ ap (putting plan) told))
-          (state_after_edit s tool made.text, step differs, stands_after_edit o plan opens planned)
+          (state_after_edit s tool made.steps made.text, step differs, stands_after_edit o plan opens planned)
       edit_steps o (Err fault) opens (differs, e, same) = inr (e, clashes differs same)
 
     edits_step : (r : Result Outcome Fault)
@@ -294,6 +298,9 @@ pub outcomes_are_steps : (c : Contents) (s : State) (asked : Asked) (r : Result 
     → Stands c s → IsRequestOutcome c asked r → StepsAsMachine c s asked r
 outcomes_are_steps c s (looking IsText) r stands is = looks_step c s stands IsText r is
 outcomes_are_steps c s listing r stands is = lists_step c s stands r is
+outcomes_are_steps c s (showing number name) r stands is = shows_step c s stands number name r is
+outcomes_are_steps c s (listing_changes name) r stands is = logs_step c s stands name r is
+outcomes_are_steps c s (previewing name asked) r stands is = previews_step c s stands name asked (λ r is. outcomes_are_steps c s asked r stands is) r is
 outcomes_are_steps c s (editing IsEdit) r stands is = edits_step c s stands IsEdit r is
 outcomes_are_steps c s (moving direction) r stands is = moves_step c s stands direction r is
 outcomes_are_steps c s (forgetting n) r stands is = forgets_step c s stands n r is

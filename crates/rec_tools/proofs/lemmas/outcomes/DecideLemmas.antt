@@ -1,5 +1,5 @@
 -- What an edit and a move come to, once their history was opened and their text was found.
-use Rattle.std.proofs.Common.{◌≡◌, ◌≢◌, inl, inr, ℕ, Bool, false, List, [], ◌∷◌, ◌++◌, append-nil, Result, Ok, Err, sym, ap, ap₂, subst, refl, ◌∙◌}
+use Rattle.std.proofs.Common.{◌≡◌, ◌≢◌, inl, inr, ℕ, Bool, false, List, [], ◌∷◌, ◌++◌, append-nil, Some, Result, Ok, Err, sym, ap, ap₂, subst, refl, ◌∙◌}
 use Rattle.std.specs.List.{AllByRecursion}
 use Rattle.rec_text.specs.declared.fault.Fault.{Fault}
 use Rattle.rec_text.specs.declared.fault.Fault.TheVariants.{DigestClash}
@@ -7,6 +7,7 @@ use Rattle.rec_text.specs.Elements.{text_of}
 use Rattle.rec_text.specs.Faults.{IsMemoryOr, UnlessMemory}
 use Rattle.rec_journal.specs.declared.patch.Hunk.{Hunk}
 use Rattle.rec_journal.specs.declared.patch.Direction.{Direction}
+use Rattle.rec_journal.specs.declared.patch.Direction.TheVariants.{Forward, Backward}
 use Rattle.rec_journal.specs.declared.event.EditStep.{EditStep}
 use Rattle.rec_journal.specs.declared.event.Revision.{Revision}
 use Rattle.rec_journal.specs.declared.event.Tool.{Tool}
@@ -14,8 +15,8 @@ use Rattle.rec_journal.specs.declared.event.Tool.TheVariants.{Batch as ByBatch}
 use Rattle.rec_journal.specs.declared.plan.Plan.{Plan}
 use Rattle.rec_journal.specs.Event.{AreStepsBy}
 use Rattle.rec_journal.specs.History.{Opened, Opens, IsOpening}
-use Rattle.rec_journal.specs.Revisions.{single_step, is_batch, all_hunks, AreDone, LeadsBy}
-use Rattle.rec_journal.specs.Plans.{ShareDigest, IsEditPlan, IsMovePlan, TellsNearest, after_edit_plan, after_move, edits_on}
+use Rattle.rec_journal.specs.Revisions.{single_step, is_batch, all_hunks, AreDone, LeadsBy, Leads}
+use Rattle.rec_journal.specs.Plans.{ShareDigest, IsEditPlan, IsMovePlan, IsNearest, TellsNearest, edit_to, after_edit_plan, after_move, edits_on}
 use Rattle.rec_journal.specs.Stops.{IsSafe}
 use Rattle.rec_journal.proofs.lemmas.histories.Countings.{Opens-digest}
 use Rattle.rec_edit.specs.declared.answer.Edited.{Edited}
@@ -25,6 +26,7 @@ use Rattle.rec_edit.specs.Batch.{IsEditOn, AreSteps, IsBatchOutcome, step_with}
 use Rattle.rec_edit.specs.Outcome.{IsSoundUnlessForced}
 use Rattle.rec_check.specs.DescribedTexts.{DescribedText, IsDescribedText}
 use Rattle.rec_tools.specs.declared.decision.Decision.{Decision}
+use Rattle.rec_tools.specs.declared.decision.Decision.TheVariants.{Put}
 use Rattle.rec_tools.specs.declared.request.EditRequest.{EditRequest}
 use Rattle.rec_tools.specs.declared.request.Reply.{Reply}
 use Rattle.rec_tools.specs.declared.request.Reply.TheVariants.{Edited as EditedReply, Unchanged}
@@ -33,10 +35,12 @@ use Rattle.rec_tools.specs.Steps.{Then}
 use Rattle.rec_tools.specs.Batches.{AreEdits}
 use Rattle.rec_tools.specs.Requests.{Edits, editing, moving, IsTaskOf, AreTasks, IsOneEdit, IsBatch}
 use Rattle.rec_tools.specs.Making.{AreMade}
-use Rattle.rec_tools.specs.Outcomes.{Outcome, IsMade, IsEditOutcome, IsRequestOutcome, Decides, staying, putting, outcome_of, outcome_in, reply_of}
+use Rattle.rec_tools.specs.Outcomes.{Outcome, IsMade, IsEditOutcome, IsRequestOutcome, OnTop, Decides, staying, putting, outcome_of, outcome_in, reply_of}
+use Rattle.rec_tools.specs.proving.Courses.{HasCourse}
 use Rattle.rec_tools.specs.proving.Editing.{HasSteps}
 use Rattle.rec_text.proofs.lemmas.FaultLemmas.{memory_or_weaker, no_both, ok_is_no_err, same_fault, same_value}
 use Rattle.rec_text.proofs.lemmas.StepLemmas.{Then-ok}
+use Rattle.rec_tools.proofs.lemmas.outcomes.OpeningLemmas.{move_differs}
 
 -- ---- the steps of edits that are one
 
@@ -249,6 +253,27 @@ module _ (o : Opened) (file journal : List ℕ) (opens : IsOpening file journal 
   put-planned plan leads planned safe number dropped next gone outcome is =
       inr (other, (plan, record { leads = leads; planned = planned; safe = safe }, is ∙ ap₂ (λ n k. putting plan (EditedReply made.changed n k)) next gone))
 
+  -- the edit is the newest of the history that is put in place
+  pub put-course : (plan : Plan) → LeadsBy made.steps file made.text → IsEditPlan o journal tool made.steps made.text (Ok plan)
+      → IsSafe file journal o (after_edit_plan o journal tool made.steps made.text) plan → (reply : Reply)
+      → (decision : Decision) → decision ≡ Put plan.journal (Some (record { text = plan.file; direction = Forward; steps = made.steps })) reply → HasCourse file journal decision
+  put-course plan leads planned safe reply decision is =
+      let edit : Revision = edit_to o tool made.text made.steps in
+      let related : Leads Forward edit file made.text = record { leads = leads; digest_before = sym (Opens-digest file journal o opens); digest_after = refl } in
+      subst (HasCourse file journal) (sym is) (
+        edit,
+        record {
+          differ = λ same. other (sym planned.1 ∙ same);
+          here = o;
+          opens_here = opens;
+          there = after_edit_plan o journal tool made.steps made.text;
+          opens_there = safe.next;
+          on_top = refl;
+          leads = subst (Leads Forward edit file) (sym planned.1) related;
+        },
+        refl,
+      )
+
 -- ---- a move
 
 same_nearest : {x y : Revision} {xs ys : List Revision} → x ∷ xs ≡ y ∷ ys → x ≡ y
@@ -264,6 +289,36 @@ module _ (file journal : List ℕ) (direction : Direction) where
   module _ (o : Opened) (opens : IsOpening file journal (Ok o)) where
     pub move-refused : (fault : Fault) → IsMemoryOr fault (IsMovePlan direction o file journal (Err fault)) → IsMemoryOr fault (IsRequestOutcome contents (moving direction) (Err fault))
     move-refused fault h = memory_or_weaker fault _ _ (λ refused. inr (o, opens, refused)) h
+
+    -- where a move is planned, there is an edit that way
+    pub move-has_edit : (plan : Plan) → IsMovePlan direction o file journal (Ok plan) → edits_on direction o ≡ [] → ⊥
+    move-has_edit plan planned none = let there = planned.1.there in cc
+
+    -- the nearest edit that way comes on top of the edits to take back, or goes from there
+    pub move-course : (plan : Plan) → IsMovePlan direction o file journal (Ok plan)
+        → ((e : Revision) (others : List Revision) → edits_on direction o ≡ e ∷ others → IsSafe file journal o (after_move direction o journal e others) plan)
+        → (steps : List EditStep) (e : Revision) → IsNearest direction o e → steps ≡ e.steps → (reply : Reply)
+        → (decision : Decision) → decision ≡ Put plan.journal (Some (record { text = plan.file; direction = direction; steps = steps })) reply → HasCourse file journal decision
+    move-course plan planned safe steps e (others, there) of_edit reply decision is =
+        let moves = planned.1 in
+        let same : e ≡ moves.nearest = same_nearest (sym there ∙ moves.there) in
+        subst (HasCourse file journal) (sym is) (
+          moves.nearest,
+          record {
+            differ = move_differs file journal o opens direction moves.nearest moves.others moves.there plan.file moves.leads;
+            here = o;
+            opens_here = opens;
+            there = after_move direction o journal moves.nearest moves.others;
+            opens_there = (safe moves.nearest moves.others moves.there).next;
+            on_top = on_top direction moves.nearest moves.others moves.there;
+            leads = moves.leads;
+          },
+          of_edit ∙ ap (λ (x : Revision). x.steps) same,
+        )
+      where
+        on_top : (direction : Direction) (e : Revision) (others : List Revision) → edits_on direction o ≡ e ∷ others → OnTop direction e o.past (after_move direction o journal e others).past
+        on_top Backward e others there = there
+        on_top Forward e others there = refl
 
     pub move-planned : (plan : Plan) → IsMovePlan direction o file journal (Ok plan)
         → ((e : Revision) (others : List Revision) → edits_on direction o ≡ e ∷ others → IsSafe file journal o (after_move direction o journal e others) plan)

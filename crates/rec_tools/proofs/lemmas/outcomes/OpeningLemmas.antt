@@ -1,13 +1,16 @@
 -- Where an edit that is planned leads.
-use Rattle.std.proofs.Common.{◌≡◌, ◌∙◌, ℕ, List, refl, ap, sym}
+use Rattle.std.proofs.Common.{◌≡◌, ◌≢◌, ◌∙◌, ℕ, List, ◌∷◌, refl, ap, sym, subst}
 use Rattle.rec_journal.specs.declared.event.Revision.{Revision}
+use Rattle.rec_journal.specs.declared.patch.Direction.{Direction}
 use Rattle.rec_journal.specs.declared.patch.Direction.TheVariants.{Forward, Backward}
 use Rattle.rec_journal.specs.declared.plan.Plan.{Plan}
 use Rattle.rec_journal.specs.declared.event.Tool.{Tool}
 use Rattle.rec_journal.specs.History.{Opened, Opens}
 use Rattle.rec_journal.specs.Revisions.{Leads}
-use Rattle.rec_journal.specs.Plans.{ShareDigest, edit_to}
+use Rattle.rec_journal.specs.Plans.{ShareDigest, edit_to, edits_on}
 use Rattle.rec_journal.proofs.lemmas.histories.Countings.{Opens-digest}
+use Rattle.rec_journal.proofs.lemmas.plans.KeptLemmas.{Opens-counts}
+use Rattle.rec_journal.proofs.lemmas.plans.PlanLemmas.{nearest_differs}
 use Rattle.rec_edit.specs.declared.answer.Edited.{Edited}
 use Rattle.rec_tools.specs.Home.{Contents}
 use Rattle.rec_tools.specs.Outcomes.{IsPlanned}
@@ -37,6 +40,16 @@ pub edit_leads_back : (c : Contents) (o : Opened) (tool : Tool) (made : Edited) 
     → IsPlanned o c tool made plan → Leads Backward (edit_to o tool made.text made.steps) made.text c.file
 edit_leads_back c o tool made plan opens planned =
     record { leads = planned.leads; digest_before = sym (Opens-digest c.file c.journal o opens); digest_after = refl }
+
+-- an edit of a history changes the text, either way
+apart : (direction : Direction) (e : Revision) (file text : List ℕ) → Leads direction e file text → text ≡ file → e.before ≡ e.after
+apart Backward e file text leads same = sym (subst (λ t. Leads Backward e file t) same leads).digest_before ∙ leads.digest_after
+apart Forward e file text leads same = sym leads.digest_before ∙ (subst (λ t. Leads Forward e file t) same leads).digest_after
+
+pub move_differs : (file journal : List ℕ) (o : Opened) → Opens file journal o → (direction : Direction) (e : Revision) (others : List Revision) → edits_on direction o ≡ e ∷ others
+    → (text : List ℕ) → Leads direction e file text → text ≢ file
+move_differs file journal o opens direction e others there text leads same =
+    nearest_differs file journal o (Opens-counts file journal o opens) direction e others there (apart direction e file text leads same)
 
 -- what leads back leads on from there
 pub leads_on : (e : Revision) (here there : List ℕ) → Leads Backward e here there → Leads Forward e there here

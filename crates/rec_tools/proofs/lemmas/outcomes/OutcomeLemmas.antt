@@ -1,7 +1,8 @@
 -- A request comes to one outcome on two contents at most.
-use Rattle.std.proofs.Common.{arith, ◌≡◌, inl, inr, ℕ, Bool, Option, List, ◌∷◌, Result, Ok, Err, sym, ap, ◌∙◌}
+use Rattle.std.proofs.Common.{arith, ◌≡◌, inl, inr, ℕ, Bool, Option, List, ◌∷◌, length, map, Result, Ok, Err, sym, ap, ap₂, subst, ◌∙◌}
 use Rattle.std.proofs.lemmas.Bool.{false≢true}
 use Rattle.rec_text.specs.declared.fault.Fault.{Fault}
+use Rattle.rec_text.specs.declared.fault.Fault.TheVariants.{BadPattern}
 use Rattle.rec_text.specs.declared.violations.Violation.{Violation}
 use Rattle.rec_text.specs.Elements.{Piece}
 use Rattle.rec_text.proofs.lemmas.records.RecordLemmas.{OneListOfRecords-holds}
@@ -20,32 +21,39 @@ use Rattle.rec_select.specs.Report.{report}
 use Rattle.rec_select.specs.Selection.{IsSelection}
 use Rattle.rec_select.proofs.lemmas.selection.SelectionLemmas.{one_selection}
 use Rattle.rec_journal.specs.declared.event.Revision.{Revision}
+use Rattle.rec_journal.specs.declared.event.EditStep.{EditStep}
 use Rattle.rec_journal.specs.declared.patch.Direction.{Direction}
+use Rattle.rec_journal.specs.declared.patch.Direction.TheVariants.{Forward, Backward}
 use Rattle.rec_journal.specs.declared.event.Tool.{Tool}
 use Rattle.rec_journal.specs.declared.plan.Plan.{Plan}
+use Rattle.rec_journal.specs.EditTexts.{IsEditTexts}
 use Rattle.rec_journal.specs.History.{Opened, Opens, IsOpening}
 use Rattle.rec_journal.specs.Plans.{IsMovePlan}
 use Rattle.rec_journal.proofs.lemmas.plans.PlanLemmas.{one_move_plan}
 use Rattle.rec_journal.proofs.lemmas.histories.Openings.{one_opening}
+use Rattle.rec_journal.proofs.lemmas.texts.AllLemmas.{one_list_of_texts}
+use Rattle.rec_journal.proofs.lemmas.texts.WayLemmas.{one_edit_texts}
+use Rattle.rec_diff.specs.Diffs.{IsDiff}
+use Rattle.rec_diff.proofs.lemmas.DiffLemmas.{no_refused_diff, one_diff}
 use Rattle.rec_edit.specs.declared.answer.Edited.{Edited}
 use Rattle.rec_tools.specs.declared.request.Form.{Form}
 use Rattle.rec_tools.specs.declared.request.Form.TheVariants.{Blocks, Print, Values, Row, Count}
 use Rattle.rec_tools.specs.declared.request.Pick.{Pick}
-use Rattle.rec_tools.specs.declared.request.Request.{Request}
-use Rattle.rec_tools.specs.declared.request.Request.TheVariants.{Show, Info, Check, Edit, Batch, Undo, Redo, Forget, History}
+use Rattle.rec_tools.specs.declared.request.Request.{Request, Show, Info, Check, Edit, Batch, Undo, Redo, Forget, History, Diff, Log, Preview'}
 use Rattle.rec_tools.specs.declared.request.Reply.{Reply}
 use Rattle.rec_tools.specs.declared.request.Reply.TheVariants.{Shown, Edited as EditedReply}
-use Rattle.rec_tools.specs.Home.{Contents}
+use Rattle.rec_tools.specs.Home.{Contents, Write, written}
 use Rattle.rec_tools.specs.Steps.{Then}
 use Rattle.rec_tools.specs.Asking.{IsFilter, IsListed, IsShape}
-use Rattle.rec_tools.specs.Printouts.{Printout, printed_history, IsShow, IsInfoOf, IsShownText, IsReportText, verdict}
-use Rattle.rec_tools.specs.Requests.{Edits, Asked, looking, listing, editing, moving, forgetting, asked_of}
-use Rattle.rec_tools.specs.Outcomes.{Outcome, IsRequestOutcome, IsPrinting, IsMade, IsEditOutcome, IsMove, IsForgetting, OneOutcome, printing, putting, reply_of}
+use Rattle.rec_tools.specs.Printouts.{Printout, printed_history, told_of, IsLog, IsShownEdit, IsLogOf, IsWholeLog, IsShow, IsInfoOf, IsShownText, IsReportText, verdict}
+use Rattle.rec_tools.specs.Requests.{Edits, Asked, looking, listing, showing, listing_changes, editing, moving, forgetting, previewing, asked_of}
+use Rattle.rec_tools.specs.Outcomes.{Outcome, IsRequestOutcome, IsPrinting, IsMade, IsEditOutcome, IsMove, IsForgetting, OnTop, LeadsAcross, IsPreviewText, OneOutcome, printing, putting, reply_of}
 use Rattle.rec_text.proofs.lemmas.FaultLemmas.{same_fault, same_value}
 use Rattle.rec_tools.proofs.lemmas.outcomes.OpeningLemmas.{no_clash, same_plan_of}
 use Rattle.rec_tools.proofs.lemmas.outcomes.EditLemmas.{AreEditsAlike, agree_on_one, agree_on_batch, one_made}
 use Rattle.rec_text.proofs.lemmas.FaultLemmas.{no_both}
 use Rattle.rec_text.proofs.lemmas.StepLemmas.{HasOne, HasOneBut, HasOneBut-of, HasOneBut-Then, AgreeLike, one_value, no_value, one_fault, HasOne-Then, Then-first, Then-next}
+use Rattle.rec_tools.proofs.lemmas.printing.LogLemmas.{one_log}
 use Rattle.rec_tools.proofs.lemmas.outcomes.AnswerLemmas.{HasOneBut-filter, HasOneBut-text, agree_by_sets, same_selection}
 
 -- ---- printed texts
@@ -142,7 +150,10 @@ MeansOne (looking IsText) = (file : List ℕ) → HasOneBut (IsText file)
 MeansOne listing = Unit {0}
 MeansOne (editing IsEdit) = AgreeLike AreEditsAlike IsEdit IsEdit
 MeansOne (moving direction) = Unit {0}
+MeansOne (showing number name) = Unit {0}
+MeansOne (listing_changes name) = Unit {0}
 MeansOne (forgetting n) = Unit {0}
+MeansOne (previewing name asked) = MeansOne asked
 
 pub one_meaning : (request : Request) → MeansOne (asked_of request)
 one_meaning (Show pick form collapse) = λ file. HasOneBut-shown _ (HasOneBut-show file pick form collapse)
@@ -154,6 +165,9 @@ one_meaning Undo = tt
 one_meaning Redo = tt
 one_meaning (Forget n) = tt
 one_meaning History = tt
+one_meaning (Diff number name) = tt
+one_meaning (Log name) = tt
+one_meaning (Preview' shape request name) = one_meaning request
 
 -- ---- an edit
 
@@ -212,6 +226,76 @@ module _ (n : ℕ) (o : Opened) (c : Contents) where
   HasOne-forgetting (Err fault) (Ok other) is is_too = absurd (false≢true (sym is_too.0 ∙ is.1))
   HasOne-forgetting (Err fault) (Err other) is is_too = ap Err (is.0 ∙ sym is_too.0)
 
+-- ---- what edits made
+
+HasOne-diff : (direction : Direction) (name : List ℕ) (steps : List EditStep) (here there : List ℕ) → HasOne (IsDiff direction name steps here there)
+HasOne-diff direction name steps here there (Ok one) (Ok other) is is_too = ap Ok (one_diff direction name steps here there one other is is_too)
+HasOne-diff direction name steps here there (Ok one) (Err fault) is is_too = absurd (no_refused_diff direction name steps here there fault is_too)
+HasOne-diff direction name steps here there (Err fault) other is is_too = absurd (no_refused_diff direction name steps here there fault is)
+
+HasOne-shown_edit : (number : Option ℕ) (name file journal : List ℕ) → HasOne (IsShownEdit number name file journal)
+HasOne-shown_edit number name file journal =
+    HasOne-Then (IsOpening file journal) _ (one_opening file journal) (λ o opens.
+    HasOne-Then (IsEditTexts o file number) _ (one_edit_texts file journal o number opens) (λ made _.
+    HasOne-diff Forward name made.edit.steps made.before made.after))
+
+HasOne-log_of : (name file journal : List ℕ) (o : Opened) → HasOne (IsLogOf name file o)
+HasOne-log_of name file journal o (Ok one) (Ok other) (inl (drifted, e)) (inl (drifted_too, k)) = ap Ok (e ∙ sym k)
+HasOne-log_of name file journal o (Ok one) (Ok other) (inl (drifted, e)) (inr (settled, is)) = absurd (false≢true (sym settled ∙ drifted))
+HasOne-log_of name file journal o (Ok one) (Ok other) (inr (settled, is)) (inl (drifted, k)) = absurd (false≢true (sym settled ∙ drifted))
+HasOne-log_of name file journal o (Ok one) (Ok other) (inr (settled, (all, are, log))) (inr (settled_too, (others, are_too, log_too))) =
+    let same = (one_list_of_texts file o others settled are_too).only all are in
+    ap Ok (one_log name (map told_of others) one other (subst (λ es. IsLog name (map told_of es) one) same log) log_too)
+HasOne-log_of name file journal o (Ok one) (Err fault) (inl (drifted, e)) (is_too, settled, none) = absurd (false≢true (sym settled ∙ drifted))
+HasOne-log_of name file journal o (Ok one) (Err fault) (inr (settled, (all, are, log))) (is_too, settled_too, none) = absurd (none all are)
+HasOne-log_of name file journal o (Err fault) (Ok other) (is, settled, none) (inl (drifted, k)) = absurd (false≢true (sym settled ∙ drifted))
+HasOne-log_of name file journal o (Err fault) (Ok other) (is, settled, none) (inr (settled_too, (all, are, log))) = absurd (none all are)
+HasOne-log_of name file journal o (Err fault) (Err other) is is_too = ap Err (is.0 ∙ sym is_too.0)
+
+HasOne-whole_log : (name file journal : List ℕ) → HasOne (IsWholeLog name file journal)
+HasOne-whole_log name file journal =
+    HasOne-Then (IsOpening file journal) (IsLogOf name file) (one_opening file journal) (λ o _. HasOne-log_of name file journal o)
+
+-- ---- what would change
+
+-- on top of the same list there is the same
+pub same_top : {X : Type 0} (direction : Direction) (x y : X) (old new : List X) → OnTop direction x old new → OnTop direction y old new → x ≡ y
+same_top Forward x y old new is is_too = let e = sym is ∙ is_too in cc
+same_top Backward x y old new is is_too = let e = sym is ∙ is_too in cc
+
+module _ (name : List ℕ) (c d : Contents) where
+  -- the edit that leads across is one
+  same_across : (direction : Direction) (e f : Revision) → LeadsAcross direction e c d → LeadsAcross direction f c d → e ≡ f
+  same_across direction e f is is_too =
+      let here = same_value is.here is_too.here (one_opening c.file c.journal (Ok is.here) (Ok is_too.here) is.opens_here is_too.opens_here) in
+      let there = same_value is.there is_too.there (one_opening d.file d.journal (Ok is.there) (Ok is_too.there) is.opens_there is_too.opens_there) in
+      same_top direction e f is_too.here.past is_too.there.past
+      (subst (λ (o : Opened). OnTop direction e o.past is_too.there.past) here (subst (λ (p : Opened). OnTop direction e is.here.past p.past) there is.on_top)) is_too.on_top
+
+  not_back_and_forth : (e f : Revision) → LeadsAcross Forward e c d → LeadsAcross Backward f c d → ⊥
+  not_back_and_forth e f is is_too =
+      let here = same_value is.here is_too.here (one_opening c.file c.journal (Ok is.here) (Ok is_too.here) is.opens_here is_too.opens_here) in
+      let there = same_value is.there is_too.there (one_opening d.file d.journal (Ok is.there) (Ok is_too.there) is.opens_there is_too.opens_there) in
+      omega (arith, ap length is.on_top, ap length is_too.on_top, ap (λ (o : Opened). length o.past) here, ap (λ (o : Opened). length o.past) there)
+
+  one_preview_text : (one other : List ℕ) → IsPreviewText name c d one → IsPreviewText name c d other → one ≡ other
+  one_preview_text one other (inl is) (inl is_too) = is.1 ∙ sym is_too.1
+  one_preview_text one other (inl is) (inr (direction, e, across, diff)) = absurd (across.differ is.0)
+  one_preview_text one other (inr (direction, e, across, diff)) (inl is_too) = absurd (across.differ is_too.0)
+  one_preview_text one other (inr (Forward, e, across, diff)) (inr (Forward, f, across_too, diff_too)) =
+      one_diff Forward name f.steps c.file d.file one other
+      (subst (λ (x : Revision). IsDiff Forward name x.steps c.file d.file (Ok one)) (same_across Forward e f across across_too) diff) diff_too
+  one_preview_text one other (inr (Backward, e, across, diff)) (inr (Backward, f, across_too, diff_too)) =
+      one_diff Backward name f.steps c.file d.file one other
+      (subst (λ (x : Revision). IsDiff Backward name x.steps c.file d.file (Ok one)) (same_across Backward e f across across_too) diff) diff_too
+  one_preview_text one other (inr (Forward, e, across, diff)) (inr (Backward, f, across_too, diff_too)) = absurd (not_back_and_forth e f across across_too)
+  one_preview_text one other (inr (Backward, e, across, diff)) (inr (Forward, f, across_too, diff_too)) = absurd (not_back_and_forth f e across_too across)
+
+same_outcome : (one other : Outcome) → one.text ≡ other.text → one.writes ≡ other.writes → one.reply ≡ other.reply → one ≡ other
+same_outcome one other text writes reply =
+    let made : List ℕ → List Write → Reply → Outcome = λ t ws r. record { text = t; writes = ws; reply = r } in
+    ap₂ (λ t ws. made t ws one.reply) text writes ∙ ap (made other.text other.writes) reply
+
 -- ---- outcomes
 
 module _ (c : Contents) where
@@ -231,6 +315,20 @@ module _ (c : Contents) where
   one_outcome_of listing means one other is is_too built built_too =
       HasOne-Then (IsOpening c.file c.journal) (λ o given. given ≡ Ok (printing (printed_history o) Shown)) (one_opening c.file c.journal)
       (λ o _ a b e k. e ∙ sym k) one other is is_too
+  one_outcome_of (showing number name) means one other is is_too built built_too =
+      HasOneBut-printing _ (HasOneBut-shown _ (HasOneBut-of _ (HasOne-shown_edit number name c.file c.journal))) one other is is_too built built_too
+  one_outcome_of (listing_changes name) means one other is is_too built built_too =
+      HasOneBut-printing _ (HasOneBut-shown _ (HasOneBut-of _ (HasOne-whole_log name c.file c.journal))) one other is is_too built built_too
+  one_outcome_of (previewing name asked) means (Ok one) (Ok other) (would, is, preview) (also, is_too, preview_too) built built_too =
+      let same = same_value would also (one_outcome_of asked means (Ok would) (Ok also) is is_too (no_both would BadPattern) (no_both also BadPattern)) in
+      ap Ok (same_outcome one other
+      (one_preview_text name c (written c also.writes) one.text other.text (subst (λ (w : Outcome). IsPreviewText name c (written c w.writes) one.text) same preview.text) preview_too.text)
+      (preview.writes ∙ sym preview_too.writes) (preview.reply ∙ ap (λ (w : Outcome). w.reply) same ∙ sym preview_too.reply))
+  one_outcome_of (previewing name asked) means (Ok one) (Err fault) (would, is, preview) is_too built built_too =
+      absurd (no_both would fault (one_outcome_of asked means (Ok would) (Err fault) is is_too (no_both would BadPattern) built_too))
+  one_outcome_of (previewing name asked) means (Err fault) (Ok other) is (would, is_too, preview) built built_too =
+      absurd (no_both would fault (one_outcome_of asked means (Ok would) (Err fault) is_too is (no_both would BadPattern) built))
+  one_outcome_of (previewing name asked) means (Err fault) (Err other) is is_too built built_too = one_outcome_of asked means (Err fault) (Err other) is is_too built built_too
   one_outcome_of (editing IsEdit) means one other is is_too built built_too = HasOneBut-edit IsEdit means one other is is_too built built_too
   one_outcome_of (moving direction) means one other is is_too built built_too =
       HasOne-Then (IsOpening c.file c.journal) (λ o. IsMove direction o c) (one_opening c.file c.journal) (λ o _. HasOne-move direction o c)

@@ -1,20 +1,21 @@
 -- What is asked for is never refused because a store failed: that comes of calls alone.
-use Rattle.std.proofs.Common.{◌≡◌, inl, inr, ℕ, Result, Ok, Err}
+use Rattle.std.proofs.Common.{◌≡◌, inl, inr, ℕ, List, Option, Some, None, Result, Ok, Err}
 use Rattle.rec_text.specs.declared.fault.Fault.{Fault}
 use Rattle.rec_text.specs.declared.fault.Fault.TheVariants.{StoreFailed}
 use Rattle.rec_journal.specs.declared.event.Tool.{Tool}
+use Rattle.rec_journal.specs.EditTexts.{WithTexts, IsEditTexts, none_such}
 use Rattle.rec_journal.specs.History.{Opened, IsOpening}
 use Rattle.rec_edit.specs.declared.answer.Edited.{Edited}
+use Rattle.rec_diff.specs.Diffs.{IsDiff}
 use Rattle.rec_tools.specs.declared.request.Reply.TheVariants.{Shown}
-use Rattle.rec_tools.specs.declared.request.Request.{Request}
-use Rattle.rec_tools.specs.declared.request.Request.TheVariants.{Show, Info, Check, Edit, Batch, Undo, Redo, Forget, History}
+use Rattle.rec_tools.specs.declared.request.Request.{Request, Show, Info, Check, Edit, Batch, Undo, Redo, Forget, History, Diff, Log, Preview'}
 use Rattle.rec_tools.specs.Home.{Contents}
 use Rattle.rec_tools.specs.Steps.{Then}
 use Rattle.rec_journal.specs.declared.patch.Direction.{Direction}
 use Rattle.rec_journal.specs.declared.patch.Direction.TheVariants.{Forward, Backward}
 use Rattle.rec_journal.specs.Plans.{nothing_there}
 use Rattle.rec_check.specs.DescribedTexts.{IsDescribedText}
-use Rattle.rec_tools.specs.Printouts.{printed_history}
+use Rattle.rec_tools.specs.Printouts.{printed_history, IsShownEdit, IsLogOf, IsWholeLog}
 use Rattle.rec_select.specs.Info.{IsInfo}
 use Rattle.rec_tools.specs.Requests.{Edits, IsOneEdit, IsBatch, editing, moving, forgetting, asked_of}
 use Rattle.rec_tools.specs.Outcomes.{Outcome, IsMade, IsEditOutcome, IsMove, IsForgetting, IsRequestOutcome, printing}
@@ -59,6 +60,25 @@ no_store_forgetting n o c h = let e = h.0 in cc
 never_forgets : (n : ℕ) (c : Contents) → IsRequestOutcome c (forgetting n) (Err StoreFailed) → ⊥
 never_forgets n c = no_store_then (IsOpening c.file c.journal) (λ o. IsForgetting n o c) (λ h. h) (λ o. no_store_forgetting n o c)
 
+-- ---- what edits made
+
+none_such-no_store : (number : Option ℕ) → StoreFailed ≡ none_such number → ⊥
+none_such-no_store None e = cc
+none_such-no_store (Some n) e = cc
+
+no_store_texts : (number : Option ℕ) (file : List ℕ) (o : Opened) → IsEditTexts o file number (Err StoreFailed) → ⊥
+no_store_texts number file o (inl drifted) = let e = drifted.0 in cc
+no_store_texts number file o (inr none) = none_such-no_store number none.0
+
+pub no_store_shown : (number : Option ℕ) (name file journal : List ℕ) → IsShownEdit number name file journal (Err StoreFailed) → ⊥
+no_store_shown number name file journal =
+    let diff : WithTexts → Result (List ℕ) Fault → Type 0 = λ made. IsDiff Forward name made.edit.steps made.before made.after in
+    no_store_then (IsOpening file journal) (λ o. Then (IsEditTexts o file number) diff) (λ h. h) (λ o.
+    no_store_then (IsEditTexts o file number) diff (no_store_texts number file o) (λ made h. h))
+
+pub no_store_log : (name file journal : List ℕ) → IsWholeLog name file journal (Err StoreFailed) → ⊥
+no_store_log name file journal = no_store_then (IsOpening file journal) (IsLogOf name file) (λ h. h) (λ o h. let e = h.0 in cc)
+
 -- ---- requests
 
 pub never_store : (request : Request) (c : Contents) → IsRequestOutcome c (asked_of request) (Err StoreFailed) → ⊥
@@ -71,6 +91,9 @@ never_store (Batch text force) c is = never_edits c (IsBatch text force) (no_sto
 never_store Undo c is = never_moves Backward c is
 never_store Redo c is = never_moves Forward c is
 never_store (Forget n) c is = never_forgets n c is
+never_store (Diff number name) c is = no_store_shown number name c.file c.journal is
+never_store (Log name) c is = no_store_log name c.file c.journal is
+never_store (Preview' shape request name) c is = never_store request c is
 never_store History c is =
     no_store_then (IsOpening c.file c.journal) (λ o given. given ≡ Ok (printing (printed_history o) Shown)) (λ h. h)
     (λ o. ok_is_no_err (printing (printed_history o) Shown) StoreFailed ⊥) is

@@ -1,5 +1,5 @@
 -- The history that is printed: its text, line by line, and what goes out of it.
-use Rattle.std.proofs.Common.{◌≡◌, inl, inr, ℕ, true, false, List, [], ◌∷◌, ◌++◌, map, flat_map, reverse, Option, Ok, Err, sym, ap, ap₂, refl, ◌∙◌, arith}
+use Rattle.std.proofs.Common.{◌≡◌, inl, inr, ℕ, true, false, List, [], ◌∷◌, ◌++◌, map, flat_map, reverse, Option, Result, Ok, Err, sym, ap, ap₂, refl, ◌∙◌, arith}
 use Rattle.std.specs.Prelude.{codes, if◌then◌else◌}
 use Rattle.std.proofs.lemmas.List.{map-append, reverse-append}
 use Rattle.std.proofs.lemmas.List.Folds.{flat_map-map}
@@ -23,7 +23,7 @@ use Rattle.rec_tools.proofs.lemmas.printing.PutsLemmas.{PutsPrintout-err_shown, 
 
 -- ---- the text
 
-reverse-map : {A B : Type 0} (f : A → B) (xs : List A) → reverse (map f xs) ≡ map f (reverse xs)
+pub reverse-map : {A B : Type 0} (f : A → B) (xs : List A) → reverse (map f xs) ≡ map f (reverse xs)
 reverse-map f [] = refl
 reverse-map f (x ∷ xs) =
     reverse-append (f x ∷ []) (map f xs)
@@ -72,19 +72,19 @@ module _ {S : Type 0} {contents : S → Option (List ℕ)} {failures : S → ℕ
       (no_store_then (IsOpening file journal) (λ o answer. answer ≡ Ok (printed_history o)) (λ h. h) (λ o e. ok_is_no_err (printed_history o) StoreFailed ⊥ e))
       (memory_or_weaker fault _ _ (λ refused. inl (fault, refused, refl)) h)
 
-  module _ (o : Opened) (opens : IsOpening file journal (Ok o)) {old new : S} where
-    pub history-cut_short : {fault : Fault} → HasStopped contents failures old new (printed_history o) fault
-        → PrintsAndCounts contents failures old new (PutsPrintout (IsShownText (IsHistory file journal))) (Err fault)
-    history-cut_short {fault} stopped =
-        refused_within
-        (PrintsAndCounts-prints {X = Unit {0}} contents failures old new (printed_history o) (IsHistory file journal) (inr (o, opens, refl)) (Err fault) stopped)
-        (PutsPrintout-err_shown (Unit {0}) (IsHistory file journal) (IsHistory file journal) (contents old) (contents new) fault (λ r h. h))
+-- ---- what goes out of a text that is shown
 
-    pub history-printed : HasTaken contents failures old new (printed_history o)
-        → PrintsAndCounts contents failures old new (PutsPrintout (IsShownText (IsHistory file journal))) (Ok Shown)
-    history-printed taken = record {
-      printed = (printed_history o, (inr (o, opens, refl), refl), taken.whole);
-      counted = omega (arith, taken.sound);
-      told = inr taken.sound;
-      store_failed = λ failed. cc;
-    }
+module _ {S : Type 0} {contents : S → Option (List ℕ)} {failures : S → ℕ} {old new : S} (IsText : Result (List ℕ) Fault → Type 0) (text : List ℕ) (is : IsText (Ok text)) where
+  pub shown-cut_short : {fault : Fault} → HasStopped contents failures old new text fault → PrintsAndCounts contents failures old new (PutsPrintout (IsShownText IsText)) (Err fault)
+  shown-cut_short {fault} stopped =
+      refused_within
+      (PrintsAndCounts-prints {X = Unit {0}} contents failures old new text IsText is (Err fault) stopped)
+      (PutsPrintout-err_shown (Unit {0}) IsText IsText (contents old) (contents new) fault (λ r h. h))
+
+  pub shown-whole : HasTaken contents failures old new text → PrintsAndCounts contents failures old new (PutsPrintout (IsShownText IsText)) (Ok Shown)
+  shown-whole taken = record {
+    printed = (text, (is, refl), taken.whole);
+    counted = omega (arith, taken.sound);
+    told = inr taken.sound;
+    store_failed = λ failed. cc;
+  }

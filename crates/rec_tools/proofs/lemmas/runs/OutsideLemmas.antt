@@ -1,11 +1,12 @@
 -- A file that was changed outside, and what requests then come to.
-use Rattle.std.proofs.Common.{◌≡◌, ◌⊎◌, inl, inr, ℕ, true, false, [], Result, Ok, Err, sym, ap, subst, refl, ◌∙◌}
+use Rattle.std.proofs.Common.{◌≡◌, ◌⊎◌, inl, inr, ℕ, true, false, List, [], Result, Ok, Err, sym, ap, subst, refl, ◌∙◌}
 use Rattle.std.specs.Prelude.{codes, if◌then◌else◌, map}
 use Rattle.std.proofs.lemmas.Bool.{false≢true}
 use Rattle.rec_text.specs.declared.fault.Fault.{Fault}
 use Rattle.rec_text.specs.declared.fault.Fault.TheVariants.{Drifted}
 use Rattle.rec_journal.specs.declared.patch.Direction.{Direction}
 use Rattle.rec_journal.specs.declared.patch.Direction.TheVariants.{Forward, Backward}
+use Rattle.rec_journal.specs.declared.event.EditStep.{EditStep}
 use Rattle.rec_journal.specs.declared.event.Revision.{Revision}
 use Rattle.rec_journal.specs.declared.event.Tool.{Tool}
 use Rattle.rec_journal.specs.declared.plan.Plan.{Plan}
@@ -18,7 +19,7 @@ use Rattle.rec_edit.specs.declared.answer.Edited.{Edited}
 use Rattle.rec_tools.specs.declared.request.Reply.TheVariants.{Shown}
 use Rattle.rec_tools.specs.Home.{Contents, written}
 use Rattle.rec_tools.specs.Printouts.{history_text}
-use Rattle.rec_tools.specs.Requests.{Asked, looking, listing, editing, moving, forgetting, asked_of}
+use Rattle.rec_tools.specs.Requests.{Asked, looking, listing, showing, listing_changes, editing, moving, forgetting, previewing, asked_of}
 use Rattle.rec_tools.specs.Outcomes.{Outcome, IsRequestOutcome, IsPlanned, printing}
 use Rattle.rec_tools.specs.Machine.{AreEntries, Stands}
 use Rattle.rec_tools.specs.Laws.{outside_state, OutsideIsNoticed}
@@ -54,7 +55,7 @@ module _ (c : Contents) (o : Opened) (opens : Opens c.file c.journal o) (drifted
       e ∙ ap (λ b. Ok (printing (if b then codes "drifted\n" else history_text (map (λ (x : Revision). (x.number, x.tool)) p.past) (map (λ (x : Revision). (x.number, x.tool)) p.future)) Shown)) is
 
   -- the history after an edit has that edit alone
-  begun : (tool : Tool) (made : Edited) (plan : Plan) → IsPlanned o c tool made plan → Stands (record { file = plan.file; journal = plan.journal }) (outside_state c o tool plan.file)
+  begun : (tool : Tool) (made : Edited) (plan : Plan) → IsPlanned o c tool made plan → Stands (record { file = plan.file; journal = plan.journal }) (outside_state c o tool made.steps plan.file)
   begun tool made plan planned =
       let edit : Revision = edit_to o tool made.text made.steps in
       record {
@@ -65,6 +66,7 @@ module _ (c : Contents) (o : Opened) (opens : Opens c.file c.journal o) (drifted
         past = (
           refl,
           refl,
+          refl,
           subst (λ t. Leads Backward edit t c.file) (sym planned.planned.1) (edit_leads_back c o tool made plan opens planned),
           subst (λ es. AreEntries Backward es [] c.file) (sym (drifted-empty c.file c.journal o opens drifted).0) tt,
         );
@@ -73,16 +75,19 @@ module _ (c : Contents) (o : Opened) (opens : Opens c.file c.journal o) (drifted
       }
 
   begins_anew : (asked : Asked) (outcome : Outcome) → IsRequestOutcome c asked (Ok outcome)
-      → (outcome.writes ≡ []) ⊎ ((tool : Tool) × Stands (written c outcome.writes) (outside_state c o tool (written c outcome.writes).file))
+      → (outcome.writes ≡ []) ⊎ ((tool : Tool) × (steps : List EditStep) × Stands (written c outcome.writes) (outside_state c o tool steps (written c outcome.writes).file))
   begins_anew (looking IsText) outcome is = inl (writes_nothing c (looking IsText) outcome tt is)
   begins_anew listing outcome is = inl (writes_nothing c listing outcome tt is)
+  begins_anew (showing number name) outcome is = inl (writes_nothing c (showing number name) outcome tt is)
+  begins_anew (listing_changes name) outcome is = inl (writes_nothing c (listing_changes name) outcome tt is)
+  begins_anew (previewing name asked) outcome is = inl (writes_nothing c (previewing name asked) outcome tt is)
   begins_anew (editing IsEdit) outcome (inl refused) = let e = refused.2 in cc
   begins_anew (editing IsEdit) outcome (inr (text, is, inl refused)) = let e = refused.2 in cc
   begins_anew (editing IsEdit) outcome (inr (text, is, inr (p, opened, inl refused))) = let e = refused.2 in cc
   begins_anew (editing IsEdit) outcome (inr (text, is, inr (p, opened, inr (made, done, inl (same, e))))) = inl (ap (λ (x : Outcome). x.writes) e)
   begins_anew (editing IsEdit) outcome (inr (text, is, inr (p, opened, inr ((tool, made), done, inr (differs, (plan, planned, e)))))) =
       let here : IsPlanned o c tool made plan = subst (λ x. IsPlanned x c tool made plan) (same_opening p opened) planned in
-      inr (tool, subst (λ ws. Stands (written c ws) (outside_state c o tool (written c ws).file)) (sym (ap (λ (x : Outcome). x.writes) e)) (begun tool made plan here))
+      inr (tool, made.steps, subst (λ ws. Stands (written c ws) (outside_state c o tool made.steps (written c ws).file)) (sym (ap (λ (x : Outcome). x.writes) e)) (begun tool made plan here))
   begins_anew (moving direction) outcome is = absurd (ok_is_no_err outcome Drifted ⊥ (sym (no_move direction (Ok outcome) is)))
   begins_anew (forgetting n) outcome is = absurd (ok_is_no_err outcome Drifted ⊥ (sym (nothing_forgotten n (Ok outcome) is)))
 

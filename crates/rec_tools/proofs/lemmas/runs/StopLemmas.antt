@@ -8,7 +8,7 @@ use Rattle.rec_journal.specs.Forgetting.{forgotten_journal}
 use Rattle.rec_tools.specs.declared.home.Which.TheVariants.{Journal as TheJournal}
 use Rattle.rec_tools.specs.Home.{Contents, Write, writes_by, written, Call, left_by_all}
 use Rattle.rec_tools.specs.Printouts.{Printed}
-use Rattle.rec_tools.specs.Requests.{Asked, looking, listing, editing, moving, forgetting, asked_of, reads_of}
+use Rattle.rec_tools.specs.Requests.{Asked, looking, listing, showing, listing_changes, editing, moving, forgetting, previewing, asked_of, reads_of}
 use Rattle.rec_tools.specs.Outcomes.{Outcome, IsRequestOutcome}
 use Rattle.rec_tools.specs.Attempts.{Answer, StopsWriting, IsAnswered, IsCarriedOut, Does}
 use Rattle.rec_tools.specs.Machine.{State, IsOldOrNext, Stands}
@@ -88,6 +88,9 @@ module _ (c : Contents) (regular : IsRegular c.journal) where
   leaves : (asked : Asked) (outcome : Outcome) → IsRequestOutcome c asked (Ok outcome) → Leaves c outcome.writes
   leaves (looking IsText) outcome is = leaves-nothing outcome.writes (writes_nothing c (looking IsText) outcome tt is)
   leaves listing outcome is = leaves-nothing outcome.writes (writes_nothing c listing outcome tt is)
+  leaves (showing number name) outcome is = leaves-nothing outcome.writes (writes_nothing c (showing number name) outcome tt is)
+  leaves (listing_changes name) outcome is = leaves-nothing outcome.writes (writes_nothing c (listing_changes name) outcome tt is)
+  leaves (previewing name asked) outcome is = leaves-nothing outcome.writes (writes_nothing c (previewing name asked) outcome tt is)
   leaves (editing IsEdit) outcome (inl refused) = let e = refused.2 in cc
   leaves (editing IsEdit) outcome (inr (text, is, inl refused)) = let e = refused.2 in cc
   leaves (editing IsEdit) outcome (inr (text, is, inr (o, opens, inl refused))) = let e = refused.2 in cc

@@ -1,0 +1,55 @@
+//! What is asked for as a dry run.
+ghost use Rattle.std.specs.Prelude.{IfOk};
+ghost use Rattle.clap.specs.Words.{found_of, rows_of};
+ghost use Rattle.rec_command.specs.declared.tools.Tool.{Tool as ToolOf};
+ghost use Rattle.rec_command.specs.Words.{IsBatchOf, IsPreview, Orders, OrdersOrPreviews};
+
+use super::Order;
+use super::found::{file_name, is_given};
+use super::refusal::Refusal;
+use clap::ArgMatches;
+use rec_tools::{Bytes, Request};
+use std::alloc::{AllocError, Global};
+
+/// An order, or the preview of it where the options ask for a dry run.
+pub fn or_preview(alloc: Global, order: Order, options: &ArgMatches) -> Result<Order, Refusal>
+    ensures { (tool : ToolOf) → Orders tool (rows_of (found_of options.now)) order
+        → IfOk result (OrdersOrPreviews tool (rows_of (found_of options.now))) }
+{
+    if !is_given(options, "dry-run") {
+        return Ok(order);
+    }
+    let name = file_name(alloc, options)?;
+    match order {
+        Order::Whole(request) => Ok(Order::Whole(preview_of(alloc, request, name)?)),
+        Order::BatchAt { path, force, .. } => Ok(Order::BatchAt {
+            path,
+            force,
+            preview: Some(name),
+        }),
+    }
+}
+
+/// The preview of a request, of a file of this name.
+fn preview_of(alloc: Global, own: Request, name: Bytes) -> Result<Request, AllocError>
+    ensures { IfOk result (IsPreview name own) }
+{
+    let own = Box::new(alloc, own)?;
+    Ok(Request::Preview(own, name))
+}
+
+/// The request of a batch with this text, or the preview of it where the name of FILE is given for that.
+pub fn batch_request(
+    alloc: Global,
+    text: Bytes,
+    force: bool,
+    preview: Option<Bytes>,
+) -> Result<Request, AllocError>
+    ensures request { IfOk result (IsBatchOf text force preview) }
+{
+    let batch = Request::Batch { text, force };
+    match preview {
+        Some(name) => preview_of(alloc, batch, name),
+        None => Ok(batch),
+    }
+}

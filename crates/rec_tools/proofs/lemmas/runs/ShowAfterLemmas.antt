@@ -1,0 +1,121 @@
+-- A preview prints what is shown of the edit once it is made.
+use Rattle.std.proofs.Common.{arith, ◌≡◌, ◌≢◌, inl, inr, ℕ, ◌+◌, true, false, List, [], ◌∷◌, length, None, Ok, Err, sym, ap, subst, refl, ◌∙◌}
+use Rattle.std.proofs.lemmas.Bool.{cases_Bool}
+use Rattle.rec_text.specs.declared.fault.Fault.TheVariants.{BadPattern}
+use Rattle.rec_journal.specs.declared.event.Revision.{Revision}
+use Rattle.rec_journal.specs.declared.patch.Direction.TheVariants.{Forward, Backward}
+use Rattle.rec_journal.specs.EditTexts.{WithTexts, Way, with_texts}
+use Rattle.rec_journal.specs.History.{Opened, Opens}
+use Rattle.rec_journal.specs.Plans.{after_edit_plan, after_move}
+use Rattle.rec_journal.proofs.lemmas.histories.Countings.{drifted-empty}
+use Rattle.rec_journal.proofs.lemmas.histories.Openings.{one_opening}
+use Rattle.rec_tools.specs.declared.request.Reply.{Reply}
+use Rattle.rec_tools.specs.declared.request.Reply.TheVariants.{Shown}
+use Rattle.rec_tools.specs.declared.request.Request.{Request}
+use Rattle.rec_tools.specs.Home.{Contents, written}
+use Rattle.rec_tools.specs.Requests.{Asked, looking, listing, showing, listing_changes, editing, moving, forgetting, previewing, asked_of, WritesNothing}
+use Rattle.rec_tools.specs.Outcomes.{Outcome, IsRequestOutcome, IsPreviewText, LeadsAcross, printing}
+use Rattle.rec_tools.specs.Laws.{MadeAnEdit, PreviewIsShowAfter}
+use Rattle.rec_text.proofs.lemmas.FaultLemmas.{no_both, ok_is_no_err, same_value}
+use Rattle.rec_tools.proofs.lemmas.outcomes.OpeningLemmas.{move_differs}
+use Rattle.rec_tools.proofs.lemmas.outcomes.OutcomeLemmas.{one_outcome}
+
+-- the file is another one, and an edit more can be taken back
+record GrewByOne (c d : Contents) : Type 0 where
+  differ : d.file ≢ c.file
+  before : Opened
+  opens_before : Opens c.file c.journal before
+  after : Opened
+  opens_after : Opens d.file d.journal after
+  one_more : length after.past ≡ length before.past + 1
+
+-- so it can after what made an edit, or made one again
+grew : (c : Contents) (asked : Asked) (done : Outcome) → (WritesNothing asked → ⊥) → MadeAnEdit done.reply → IsRequestOutcome c asked (Ok done) → GrewByOne c (written c done.writes)
+grew c (looking IsText) done writes made is = absurd (writes tt)
+grew c listing done writes made is = absurd (writes tt)
+grew c (showing number name) done writes made is = absurd (writes tt)
+grew c (listing_changes name) done writes made is = absurd (writes tt)
+grew c (previewing name asked) done writes made is = absurd (writes tt)
+grew c (editing IsEdit) done writes made (inl (fault, refused, e)) = absurd (no_both done fault e)
+grew c (editing IsEdit) done writes made (inr (text, is, inl (fault, refused, e))) = absurd (no_both done fault e)
+grew c (editing IsEdit) done writes made (inr (text, is, inr (o, opens, inl (fault, refused, e)))) = absurd (no_both done fault e)
+grew c (editing IsEdit) done writes made (inr (text, is, inr (o, opens, inr (told, is_made, inl (same, e))))) = absurd (subst (λ (x : Outcome). MadeAnEdit x.reply) e made)
+grew c (editing IsEdit) done writes made (inr (text, is, inr (o, opens, inr ((tool, edited), is_made, inr (differs, (plan, planned, e)))))) =
+    subst (λ (x : Outcome). GrewByOne c (written c x.writes)) (sym e) (record {
+      differ = λ same. differs (sym planned.planned.1 ∙ same);
+      before = o;
+      opens_before = opens;
+      after = after_edit_plan o c.journal tool edited.steps edited.text;
+      opens_after = planned.safe.next;
+      one_more = omega arith;
+    })
+grew c (moving direction) done writes made (inl (fault, refused, e)) = absurd (no_both done fault e)
+grew c (moving Backward) done writes made (inr (o, opens, (settled, m))) = absurd (subst (λ (x : Outcome). MadeAnEdit x.reply) m.is made)
+grew c (moving Forward) done writes made (inr (o, opens, (settled, m))) =
+    subst (λ (x : Outcome). GrewByOne c (written c x.writes)) (sym m.is) (record {
+      differ = move_differs c.file c.journal o opens Forward m.moves.nearest m.moves.others m.moves.there m.plan.file m.moves.leads;
+      before = o;
+      opens_before = opens;
+      after = after_move Forward o c.journal m.moves.nearest m.moves.others;
+      opens_after = m.safe.next;
+      one_more = omega arith;
+    })
+grew c (forgetting n) done writes made (inl (fault, refused, e)) = absurd (no_both done fault e)
+grew c (forgetting n) done writes made (inr (o, opens, (settled, inl (few, e)))) = absurd (subst (λ (x : Outcome). MadeAnEdit x.reply) e made)
+grew c (forgetting n) done writes made (inr (o, opens, (settled, inr (more, f)))) = absurd (subst (λ (x : Outcome). MadeAnEdit x.reply) f.is made)
+
+-- a history with an edit hasn't drifted
+not_drifted : (file journal : List ℕ) (o : Opened) (e : Revision) (others : List Revision) → Opens file journal o → o.past ≡ e ∷ others → o.drifted ≡ false
+not_drifted file journal o e others opens past =
+    elim (cases_Bool o.drifted) [
+      | inl drifted ↦ (let none = sym (drifted-empty file journal o opens drifted).0 ∙ past in cc)
+      | inr settled ↦ settled
+    ]
+
+module _ (c d : Contents) (name text : List ℕ) (grows : GrewByOne c d) where
+  same_before : (o : Opened) → Opens c.file c.journal o → o ≡ grows.before
+  same_before o opens = same_value o grows.before (one_opening c.file c.journal (Ok o) (Ok grows.before) opens grows.opens_before)
+
+  same_after : (o : Opened) → Opens d.file d.journal o → o ≡ grows.after
+  same_after o opens = same_value o grows.after (one_opening d.file d.journal (Ok o) (Ok grows.after) opens grows.opens_after)
+
+  -- then it is the newest, and is shown so
+  shown_after : IsPreviewText name c d text → IsRequestOutcome d (showing None name) (Ok (printing text Shown))
+  shown_after (inr (Forward, e, across, diff)) =
+      let made : WithTexts = with_texts Backward e d.file c.file in
+      let way : Way = record { direction = Backward; nearer = []; edit = e; farther = across.here.past } in (
+        record { text = text; reply = Shown },
+        (
+          inr (
+            across.there,
+            across.opens_there,
+            inr (
+              made,
+              (
+                not_drifted d.file d.journal across.there e across.here.past across.opens_there across.on_top,
+                way,
+                record { there = across.on_top; for = (refl, refl) },
+                record { here = d.file; there = c.file; over = refl; leads = across.leads; is = refl },
+              ),
+              diff,
+            ),
+          ),
+          refl,
+        ),
+        refl,
+      )
+  shown_after (inr (Backward, e, across, diff)) =
+      absurd (omega (
+        arith,
+        grows.one_more,
+        ap length across.on_top,
+        ap (λ (o : Opened). length o.past) (same_before across.here across.opens_here),
+        ap (λ (o : Opened). length o.past) (same_after across.there across.opens_there),
+      ))
+  shown_after (inl (same, none)) = absurd (grows.differ same)
+
+pub preview_is_show_after : PreviewIsShowAfter
+preview_is_show_after c request name done previewed writes made is (would, is_too, preview) =
+    let same = same_value would done (one_outcome c request (Ok would) (Ok done) is_too is (no_both would BadPattern) (no_both done BadPattern)) in
+    shown_after c (written c done.writes) name previewed.text (grew c (asked_of request) done writes made is)
+    (subst (λ (w : Outcome). IsPreviewText name c (written c w.writes) previewed.text) same preview.text)

@@ -1,0 +1,50 @@
+-- How a decision's new file comes of the old one, and what is printed of it.
+use Rattle.std.specs.Prelude.{◌≡◌, ℕ, List, [], Option, Some, None, Result, Ok, Err}
+use Rattle.rec_text.specs.declared.fault.Fault.{Fault}
+use Rattle.rec_journal.specs.declared.event.Revision.{Revision}
+use Rattle.rec_journal.specs.Direction.{Along}
+use Rattle.rec_journal.specs.Revisions.{LeadsBy}
+use Rattle.rec_diff.specs.Diffs.{IsDiff}
+use Rattle.rec_tools.specs.declared.decision.Change.{Change}
+use Rattle.rec_tools.specs.declared.decision.Decision.{Decision}
+use Rattle.rec_tools.specs.declared.decision.Decision.TheVariants.{Stay, Put}
+use Rattle.rec_tools.specs.Home.{Contents}
+use Rattle.rec_tools.specs.Printouts.{Printout}
+use Rattle.rec_tools.specs.Requests.{Asked, previewing}
+use Rattle.rec_tools.specs.Outcomes.{LeadsAcross, IsRequestOutcome, printing}
+
+abbrev pub contents : List ℕ → List ℕ → Contents
+contents file journal = record { file = file; journal = journal }
+
+-- a new file comes of an edit that is made or taken back, by its steps
+abbrev pub HasCourse : List ℕ → List ℕ → Decision → Type 0
+HasCourse file journal (Stay reply) = Unit {0}
+HasCourse file journal (Put new None reply) = Unit {0}
+HasCourse file journal (Put new (Some change) reply) = (e : Revision)
+    × LeadsAcross change.direction e (contents file journal) (contents change.text new) × (change.steps ≡ e.steps)
+
+-- the new file of a decision, if there is one
+abbrev pub change_in : Decision → Option Change
+change_in (Stay reply) = None
+change_in (Put new change reply) = change
+
+-- its steps lead from the file, or back to it
+abbrev pub LeadsFromFile : List ℕ → Option Change → Type 0
+LeadsFromFile file None = Unit {0}
+LeadsFromFile file (Some change) = Along change.direction (LeadsBy change.steps) file change.text
+
+-- what is printed of it
+abbrev pub IsTextOfChange : List ℕ → List ℕ → Option Change → Result (List ℕ) Fault → Type 0
+IsTextOfChange name file None answer = answer ≡ Ok []
+IsTextOfChange name file (Some change) answer =
+    IsDiff change.direction name change.steps file change.text answer
+
+-- what is printed of a decision on a file
+abbrev pub IsDecisionText : List ℕ → List ℕ → Decision → Result (List ℕ) Fault → Type 0
+IsDecisionText name file decision = IsTextOfChange name file (change_in decision)
+
+-- what is printed for a preview, with its reply, or why there is none
+abbrev pub IsPreviewed : List ℕ → List ℕ → List ℕ → Asked → Result Printout Fault → Type 0
+IsPreviewed name file journal asked (Ok p) =
+    IsRequestOutcome (contents file journal) (previewing name asked) (Ok (printing p.text p.reply))
+IsPreviewed name file journal asked (Err fault) = IsRequestOutcome (contents file journal) asked (Err fault)

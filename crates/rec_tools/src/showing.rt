@@ -1,0 +1,136 @@
+//! Prints what edits made.
+ghost use Rattle.std.specs.Prelude.{◌≡◌, List, false, codes, map, Ok, IfErr, IsOkUnless};
+ghost use Rattle.rec_text.specs.Faults.{IsOkUnlessEither};
+ghost use Rattle.rec_journal.specs.EditTexts.{WithTexts, GoesOver};
+ghost use Rattle.rec_journal.specs.History.{IsOpening};
+ghost use Rattle.rec_select.specs.Taken.{PrintsAndCounts};
+ghost use Rattle.rec_tools.specs.Steps.{IsRefusal};
+ghost use Rattle.rec_tools.specs.Printouts.{told_of, IsLog, IsShownEdit, IsLogOf, IsWholeLog, IsShownText, PutsPrintout};
+ghost use Rattle.rec_tools.specs.proving.Logs.{HasSteps, HaveSteps, IsEditDiff, IsLogged, PrintsThe};
+
+use crate::history::{history_of, write_step};
+use crate::request::Reply;
+use rec_diff::write_diff;
+use rec_journal::{Direction, EditTexts, EditWalk, History, edit_texts};
+use rec_text::{Fault, Sink, put_all};
+use std::alloc::Global;
+
+/// Prints an edit as a diff of a file of this name.
+fn write_edit<S: Sink>(
+    alloc: Global,
+    made: &EditTexts<'_>,
+    name: &[u8],
+    out: &mut S,
+) -> Result<(), Fault>
+    requires { HasSteps made.now }
+    ensures printed { PrintsThe S.contents S.failure_count out.old out.new (IsEditDiff name.now made.now) result }
+    ensures refusals { IsOkUnlessEither result Fault.OutOfMemory Fault.StoreFailed }
+{
+    let steps = made.steps();
+    let before = made.before();
+    let after = made.after();
+    write_diff(alloc, out, name, Direction::Forward, steps, before, after)
+}
+
+/// Prints what the edit of a number made, or the newest that can be taken back.
+pub fn print_edit<S: Sink>(
+    alloc: Global,
+    file: &[u8],
+    journal: &[u8],
+    number: Option<usize>,
+    name: &[u8],
+    out: &mut S,
+) -> Result<Reply, Fault>
+    ensures written { PrintsAndCounts S.contents S.failure_count out.old out.new
+        (PutsPrintout (IsShownText (IsShownEdit number name.now file.now journal.now))) result }
+    ensures refusals { IfErr result IsRefusal }
+{
+    let history = history_of(alloc, file, journal)?;
+    let made = edit_texts(alloc, &history, file, journal, number)?;
+    write_edit(alloc, &made, name, out)?;
+    Ok(Reply::Shown)
+}
+
+/// Prints an edit's line in the history, and after it what it made.
+fn write_line<S: Sink>(
+    alloc: Global,
+    made: &EditTexts<'_>,
+    name: &[u8],
+    out: &mut S,
+) -> Result<(), Fault>
+    requires { HasSteps made.now }
+    ensures printed { PrintsThe S.contents S.failure_count out.old out.new (IsLogged name.now made.now) result }
+    ensures refusals { IsOkUnlessEither result Fault.OutOfMemory Fault.StoreFailed }
+{
+    write_step(made.step(), out)?;
+    write_edit(alloc, made, name, out)
+}
+
+/// The same of each edit of a walk.
+fn write_lines<S: Sink>(
+    alloc: Global,
+    walk: Option<EditWalk<'_>>,
+    name: &[u8],
+    out: &mut S,
+) -> Result<(), Fault>
+    requires { HaveSteps walk }
+    ensures printed { (all : List WithTexts) → GoesOver walk.entry all
+        → PrintsThe S.contents S.failure_count out.old out.new (IsLog name.now (map told_of all)) result }
+    ensures refusals { IsOkUnlessEither result Fault.OutOfMemory Fault.StoreFailed }
+{
+    let mut walk = walk;
+    while let Some(here) = walk {
+        write_line(alloc, here.texts(), name, out)?;
+        walk = here.next(alloc)?;
+    }
+    Ok(())
+}
+
+/// Prints that the file was changed outside.
+fn print_drifted<S: Sink>(out: &mut S) -> Result<Reply, Fault>
+    ensures printed { PrintsAndCounts S.contents S.failure_count out.old out.new
+        (PutsPrintout (IsShownText (λ answer. answer ≡ Ok (codes "drifted\n")))) result }
+    ensures refusals { IsOkUnless result Fault.StoreFailed }
+{
+    put_all(out, b"drifted\n")?;
+    Ok(Reply::Shown)
+}
+
+/// Prints the edits of a history, and after each of them what it made.
+fn print_edits<S: Sink>(
+    alloc: Global,
+    history: &History,
+    file: &[u8],
+    journal: &[u8],
+    name: &[u8],
+    out: &mut S,
+) -> Result<Reply, Fault>
+    requires opened { IsOpening file.now journal.now (Ok history.now) }
+    requires settled { history.now.drifted ≡ false }
+    ensures written { PrintsAndCounts S.contents S.failure_count out.old out.new
+        (PutsPrintout (IsShownText (IsLogOf name.now file.now history.now))) result }
+    ensures refusals { IfErr result IsRefusal }
+{
+    let walk = EditWalk::begin(alloc, history, file, journal)?;
+    write_lines(alloc, walk, name, out)?;
+    Ok(Reply::Shown)
+}
+
+/// Prints the history, and after each of its edits what that made.
+pub fn print_log<S: Sink>(
+    alloc: Global,
+    file: &[u8],
+    journal: &[u8],
+    name: &[u8],
+    out: &mut S,
+) -> Result<Reply, Fault>
+    ensures written { PrintsAndCounts S.contents S.failure_count out.old out.new
+        (PutsPrintout (IsShownText (IsWholeLog name.now file.now journal.now))) result }
+    ensures refusals { IfErr result IsRefusal }
+{
+    let history = history_of(alloc, file, journal)?;
+    if history.is_drifted() {
+        return print_drifted(out);
+    }
+    print_edits(alloc, &history, file, journal, name, out)
+}

@@ -71,7 +71,7 @@ abbrev pub OneChange : Type 0
 OneChange = (patch : List Hunk) (before after : List ℕ) (parts others : List Stretch)
     → IsChange patch before after parts → IsChange patch before after others → parts ≡ others
 
--- ---- what of it has to be believed
+-- ---- what it comes to; that it does is not proved yet, and no contract says it
 
 -- of each of these texts that isn't the last nothing is open of a line
 abbrev pub AreLines : List (List ℕ) → Type 0

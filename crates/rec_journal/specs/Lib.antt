@@ -6,6 +6,7 @@ pub mod Event
 pub mod History
 pub mod Listing
 pub mod Plans
+pub mod Numbers
 pub mod EditTexts
 pub mod Stops
 pub mod Bound

@@ -27,6 +27,7 @@ pub use plan::{
     MovePlan, Plan, plan_batch, plan_edit, plan_move, plan_redo, plan_steps, plan_undo,
 };
 pub use rec_text::{Bytes, Fault};
-pub use texts::edit_texts;
 pub use texts::edit_walk::EditWalk;
 pub use texts::pair::EditTexts;
+pub use texts::standing::StandingEdit;
+pub use texts::{edit_texts, standing_edit};

@@ -7,3 +7,4 @@ pub mod Countings
 pub mod Openings
 pub mod Chains
 pub mod Growths
+pub mod NumberLemmas

@@ -3,6 +3,8 @@ pub mod ChangeLemmas
 pub mod LineLemmas
 pub mod ShareLemmas
 pub mod PartLemmas
+pub mod TrimLemmas
+pub mod WholeLineLemmas
 pub mod PlaceLemmas
 pub mod LiningLemmas
 pub mod CutLemmas
@@ -11,3 +13,4 @@ pub mod RestLemmas
 pub mod PrintedExamples
 pub mod DiffLemmas
 pub mod BackLemmas
+pub mod reverting

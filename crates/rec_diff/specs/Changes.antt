@@ -1,5 +1,5 @@
 -- Changes of a text: what stays of it, and what another text takes the place of.
-use Rattle.std.specs.Prelude.{ℕ, ◌+◌, List, [], ◌∷◌, ◌++◌, length}
+use Rattle.std.specs.Prelude.{ℕ, ◌+◌, ◌-◌, List, [], ◌∷◌, ◌++◌, length, take, drop}
 use Rattle.std.specs.List.{flat_map}
 use Rattle.rec_journal.specs.declared.patch.Hunk.{Hunk}
 use Rattle.rec_journal.specs.Patch.{Splices}
@@ -33,6 +33,13 @@ abbrev pub hunks_at : ℕ → List Stretch → List Hunk
 hunks_at at [] = []
 hunks_at at (stays t ∷ parts) = hunks_at (at + length t) parts
 hunks_at at (turns old new ∷ parts) = record { at = at; old = old; new = new } ∷ hunks_at (at + length old) parts
+
+-- the hunks of a patch, and what stays of a text before, between and after them
+abbrev pub cut_from : ℕ → List Hunk → List ℕ → List Stretch
+cut_from place [] text = stays text ∷ []
+cut_from place (h ∷ hunks) text =
+    stays (take (h.at - place) text) ∷ turns h.old h.new
+    ∷ cut_from (h.at + length h.old) hunks (drop (h.at - place + length h.old) text)
 
 -- a part before others, one with the next where both are of a kind; an empty one is none
 abbrev pub put_stays : List ℕ → List Stretch → List Stretch

@@ -7,5 +7,7 @@ pub mod WholeLines
 pub mod Diff
 -- the diff of an edit
 pub mod Diffs
+-- one change taken back
+pub mod Reverts
 -- what serves proofs
 pub mod proving

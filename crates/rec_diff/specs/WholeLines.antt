@@ -71,12 +71,22 @@ abbrev pub OneChange : Type 0
 OneChange = (patch : List Hunk) (before after : List ℕ) (parts others : List Stretch)
     → IsChange patch before after parts → IsChange patch before after others → parts ≡ others
 
--- ---- what it comes to; that it does is not proved yet, and no contract says it
+-- ---- what it comes to
 
 -- of each of these texts that isn't the last nothing is open of a line
 abbrev pub AreLines : List (List ℕ) → Type 0
 AreLines [] = Unit {0}
 AreLines (t ∷ ts) = (flat_map (λ later. later) ts ≢ [] → IsTrue (at_line t)) × AreLines ts
+
+-- the first ones of these lines differ, where there are any in both
+abbrev pub BeginApart : List (List ℕ) → List (List ℕ) → Type 0
+BeginApart (line ∷ rest) (other ∷ others) = line ≢ other
+BeginApart rest others = Unit {0}
+
+-- of what turns, no first line is the same in both texts, and no last one
+abbrev pub IsShort : Stretch → Type 0
+IsShort (stays t) = Unit {0}
+IsShort (turns old new) = BeginApart (lines old) (lines new) × BeginApart (reverse (lines old)) (reverse (lines new))
 
 -- the parts lead from the one text to the other, by whole lines, and are as short as can be
 pub record LeadsByLines (before after : List ℕ) (parts : List Stretch) : Type 0 where
@@ -85,8 +95,9 @@ pub record LeadsByLines (before after : List ℕ) (parts : List Stretch) : Type 
   pub old_lines : AreLines (map old_of parts)
   pub new_lines : AreLines (map new_of parts)
   pub apart : joined parts ≡ parts
-  pub short : AllByRecursion (λ part. joined (trimmed part) ≡ part ∷ []) parts
+  pub short : AllByRecursion IsShort parts
 
+-- each change does
 abbrev pub ChangesLeadByLines : Type 0
 ChangesLeadByLines = (patch : List Hunk) (before after : List ℕ) (parts : List Stretch)
     → IsChange patch before after parts → LeadsByLines before after parts

@@ -3,3 +3,4 @@ pub mod Runs
 pub mod Turns
 pub mod Headings
 pub mod Backs
+pub mod Weaving

@@ -1,7 +1,7 @@
 //! Laws of the definitions.
 ghost use Rattle.rec_diff.specs.Changes.{HunksSplice};
 ghost use Rattle.rec_diff.specs.Composing.{OneComposition, ComposesSplices, ComposesItself};
-ghost use Rattle.rec_diff.specs.WholeLines.{OneChange};
+ghost use Rattle.rec_diff.specs.WholeLines.{OneChange, ChangesLeadByLines};
 
 /// The hunks of parts lead from the text before to the text after.
 pub fn hunks_splice()
@@ -26,4 +26,9 @@ pub fn composes_itself()
 /// A patch makes one change of a text.
 pub fn one_change()
     ensures { OneChange }
+{}
+
+/// A change leads from the text before to the text after by whole lines, and is as short as can be.
+pub fn changes_lead_by_lines()
+    ensures { ChangesLeadByLines }
 {}

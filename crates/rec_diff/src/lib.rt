@@ -1,5 +1,5 @@
-//! What edits changed: several patches as one, and the text that shows a change, in whole lines.
-//! `specs/` defines both, from `Changes` on.
+//! What edits changed: several patches as one, the text that shows a change, in whole lines, and one change taken back.
+//! `specs/` defines them, from `Changes` on.
 #![tactic(auto)]
 
 mod composing;
@@ -13,11 +13,16 @@ mod lining;
 mod marked;
 mod passed;
 mod printing;
+mod reverting;
 mod turn;
 
-pub use composing::compose;
+pub use composing::{compose, compose_all};
 pub use diffs::{one_diff, write_diff};
-pub use laws::{composes_itself, composes_splices, hunks_splice, one_change, one_composition};
+pub use laws::{
+    changes_lead_by_lines, composes_itself, composes_splices, hunks_splice, one_change,
+    one_composition,
+};
 pub use printing::write_change;
 pub use rec_journal::{Hunk, Patch};
 pub use rec_text::{Bytes, Fault, Sink};
+pub use reverting::{one_revert, revert, reverts_leave_the_rest};

@@ -1,10 +1,9 @@
 //! Widens hunks to whole lines.
-ghost use Rattle.std.specs.Prelude.{◌≡◌, [], IfOk};
-ghost use Rattle.std.specs.List.{flat_map};
+ghost use Rattle.std.specs.Prelude.{◌≡◌, [], map, IfOk};
 ghost use Rattle.rec_journal.specs.Patch.{Splices};
-ghost use Rattle.rec_diff.specs.Diff.{hunks as hunks_text};
+ghost use Rattle.rec_diff.specs.Changes.{cut_from};
 ghost use Rattle.rec_diff.specs.WholeLines.{whole_lines};
-ghost use Rattle.rec_diff.specs.proving.Turns.{AreIn, cut_from, turn_text};
+ghost use Rattle.rec_diff.specs.proving.Turns.{AreIn, site_of, sites};
 
 use crate::lines::{at_line, open_start, same_end, same_start};
 use crate::turn::{Place, Texts, Turn};
@@ -228,8 +227,8 @@ impl Lining {
 /// The turns of whole lines that hunks make of a text.
 pub(crate) fn turns_of(alloc: Global, hunks: &[Hunk], texts: Texts) -> Result<Vec<Turn>, AllocError>
     requires { Splices hunks.now texts.before.now texts.after.now }
-    ensures text { IfOk result (λ turns. flat_map (turn_text texts.entry.before.now texts.entry.after.now) turns.items
-        ≡ hunks_text [] [] (whole_lines (cut_from 0 hunks.now texts.entry.before.now))) }
+    ensures places { IfOk result (λ turns. map (site_of texts.entry.before.now texts.entry.after.now) turns.items
+        ≡ sites [] [] (whole_lines (cut_from 0 hunks.now texts.entry.before.now))) }
     ensures order { IfOk result (λ turns. AreIn texts.entry.before.now texts.entry.after.now 0 0 turns.items) }
 {
     let mut lining = Lining::new(alloc);

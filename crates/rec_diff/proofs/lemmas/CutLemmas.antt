@@ -7,11 +7,11 @@ use Rattle.std.specs.Prelude.{Ok}
 use Rattle.rec_journal.specs.declared.patch.Hunk.{Hunk}
 use Rattle.rec_journal.specs.Patch.{Splices, SplicesFrom}
 use Rattle.rec_diff.specs.declared.lining.Lining.{Lining}
-use Rattle.rec_diff.specs.Changes.{Stretch, stays, turns, hunks_at, before_of, after_of, joined}
+use Rattle.rec_diff.specs.Changes.{Stretch, stays, turns, cut_from, hunks_at, before_of, after_of, joined}
 use Rattle.rec_diff.specs.Lines.{at_line}
 use Rattle.rec_diff.specs.WholeLines.{IsChange, OneChange, lined_stay, lined_turn, lined_from, closed, trimmed, whole_lines}
 use Rattle.rec_diff.specs.Diff.{IsChangeText, hunks, named}
-use Rattle.rec_diff.specs.proving.Turns.{IsLining, LeadsFrom, Reads, ReadsHunk, Turns, cut_from, open_new, open_old, so_far}
+use Rattle.rec_diff.specs.proving.Turns.{IsLining, LeadsFrom, Reads, ReadsHunk, Turns, open_new, open_old, so_far}
 use Rattle.rec_diff.proofs.lemmas.PlaceLemmas.{Stands}
 use Rattle.rec_diff.proofs.lemmas.LiningLemmas.{StandsInBoth, lined_stay-append}
 
@@ -118,9 +118,9 @@ reads_hunk before after l mid new h kept stands one two =
     let place : new.here.old ≡ h.at + length h.old = two.old_here ∙ ap (λ n. n + length h.old) one.old_here ∙ place_is l h kept stands in
     record {
       sound = two.sound;
-      printed = λ hunks.
-          two.printed (lined_from (cut_from new.here.old hunks (drop new.here.old before)))
-          ∙ one.printed (lined_from (turns h.old h.new ∷ cut_from new.here.old hunks (drop new.here.old before)))
+      found = λ hunks.
+          two.found (lined_from (cut_from new.here.old hunks (drop new.here.old before)))
+          ∙ one.found (lined_from (turns h.old h.new ∷ cut_from new.here.old hunks (drop new.here.old before)))
           ∙ ap (λ cs. so_far before after l (joined (lined_from cs (open_old before after l) (open_new before after l)))) (cut_here l new h kept stands place hunks);
       leads = λ hunks leads. next_leads l mid new h kept stands one two hunks leads;
     }

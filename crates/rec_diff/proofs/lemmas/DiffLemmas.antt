@@ -1,5 +1,5 @@
 -- The printed diff of an edit: steps make one, and where they lead there is one.
-use Rattle.std.proofs.Common.{arith, ◌≡◌, inl, inr, ◌∙◌, ℕ, ◌+◌, ◌-◌, ◌<◌, ◌^◌, List, [], ◌∷◌, ◌++◌, length, Option, Result, Ok, Err, refl, sym, ap, subst}
+use Rattle.std.proofs.Common.{arith, ◌≡◌, inl, inr, ◌∙◌, ℕ, ◌+◌, ◌-◌, ◌<◌, ◌^◌, List, [], ◌∷◌, length, Option, Result, Ok, Err, refl, sym, ap, subst}
 use Rattle.rec_text.specs.declared.fault.Fault.{Fault}
 use Rattle.rec_text.specs.declared.fault.Fault.TheVariants.{OutOfMemory, StoreFailed}
 use Rattle.rec_journal.specs.declared.patch.Direction.{Direction}
@@ -10,12 +10,11 @@ use Rattle.rec_journal.specs.Direction.{that_way, Along}
 use Rattle.rec_journal.specs.Patch.{Splices, SplicesFrom}
 use Rattle.rec_journal.specs.Revisions.{LeadsBy}
 use Rattle.rec_select.specs.Taken.{PrintsAndCounts, Puts}
-use Rattle.rec_diff.specs.Changes.{Stretch}
+use Rattle.rec_diff.specs.Changes.{cut_from}
 use Rattle.rec_diff.specs.Composing.{ComposesAll, patches_of, all_deeds, deed_hunks}
 use Rattle.rec_diff.specs.Diff.{IsChangeText, diff_text}
-use Rattle.rec_diff.specs.Diffs.{turned_from, turned_hunks, IsDiffBy, IsDiffBack, IsDiff, OneDiff}
+use Rattle.rec_diff.specs.Diffs.{turned_from, turned_hunks, IsDiff, OneDiff}
 use Rattle.rec_diff.specs.WholeLines.{whole_lines}
-use Rattle.rec_diff.specs.proving.Turns.{cut_from}
 use Rattle.rec_diff.proofs.lemmas.CutLemmas.{is_change, one_change}
 use Rattle.rec_diff.proofs.lemmas.composing.LeadingLemmas.{composes_splices}
 

@@ -1,11 +1,10 @@
 -- Hunks are widened to whole lines.
-use Rattle.std.proofs.Common.{◌≡◌, ◌≢◌, ◌∙◌, ℕ, ◌+◌, ◌-◌, ◌≤◌, true, false, cond, not, eqb, ◌&&◌, List, [], ◌∷◌, ◌++◌, length, take, drop, refl, sym, ap, ap₂, subst, inl, inr}
+use Rattle.std.proofs.Common.{◌≡◌, ◌≢◌, ◌∙◌, ℕ, ◌+◌, ◌-◌, ◌≤◌, true, false, cond, not, eqb, ◌&&◌, List, [], ◌∷◌, ◌++◌, length, map, take, drop, refl, sym, ap, ap₂, subst, inl, inr}
 use Rattle.std.proofs.Common.{append_assoc, append-nil, length-append, length-drop, arith}
-use Rattle.std.specs.List.{flat_map, between}
+use Rattle.std.specs.List.{between}
 use Rattle.std.specs.Str.{bytes_eq}
 use Rattle.std.proofs.lemmas.Bool.{and_cases, cases_Bool, cond-true, cond-false, eq-eqb, ne_eqb, false≢true}
-use Rattle.std.proofs.lemmas.Grind.{flat_map-append}
-use Rattle.std.proofs.lemmas.List.{length-take-le, take-append-drop}
+use Rattle.std.proofs.lemmas.List.{length-take-le, map-append, take-append-drop}
 use Rattle.std.proofs.lemmas.List.Edits.{between_none, length-between}
 use Rattle.rec_text.specs.Bytes.{is_nil, ends_newline}
 use Rattle.rec_text.specs.Lines.{HasNoNewline, BeginsWithLine}
@@ -16,12 +15,11 @@ use Rattle.rec_diff.specs.declared.lining.Lining.{Lining}
 use Rattle.rec_diff.specs.Changes.{Stretch, put_stays, put_turns, joined}
 use Rattle.rec_diff.specs.Lines.{at_line}
 use Rattle.rec_diff.specs.WholeLines.{closed, lined_stay, lined_turn, same_start, same_end}
-use Rattle.rec_diff.specs.Diff.{hunk}
-use Rattle.rec_diff.specs.proving.Turns.{AreAll, AreIn, Closes, IsLining, IsOpenFrom, IsTrimmed, PutsTurn, Reads, Turns, hunk_if, moved, open_new, open_old}
-use Rattle.rec_diff.specs.proving.Turns.{printed_from, shown, so_far, turn_text}
+use Rattle.rec_diff.specs.proving.Turns.{AreAll, AreIn, Closes, IsLining, IsOpenFrom, IsTrimmed, PutsTurn, Reads, Turns, moved, open_new, open_old, site, site_if, site_of}
+use Rattle.rec_diff.specs.proving.Turns.{Site, sites_from, so_far, turn_sites}
 use Rattle.rec_diff.proofs.lemmas.ShareLemmas.{starts_share, ends_share, start_fits, start_fits_new, start_same, end_fits, end_fits_new}
 use Rattle.rec_diff.proofs.lemmas.PlaceLemmas.{take_then, between_then, between_from, cut_order, cut_prefix, cut_part, Stands, stands_first, stands_next}
-use Rattle.rec_diff.proofs.lemmas.PartLemmas.{shown_is, put_stays-put_stays, put_turns-put_turns, printed_turn_stays, printed_turn_end, joined-closed_same}
+use Rattle.rec_diff.proofs.lemmas.PartLemmas.{turn_sites_is, put_stays-put_stays, put_turns-put_turns, sites_turn_stays, sites_turn_end, joined-closed_same}
 use Rattle.rec_diff.proofs.lemmas.PartLemmas.{joined-closed_apart}
 
 -- ---- parts of whole lines
@@ -67,10 +65,10 @@ lines_stay (b ∷ bs) rest ends = joined-lines (b ∷ bs) [] rest ends
 
 -- ---- places
 
-printed_turn_some : (f g o n t : List ℕ) (cs : List Stretch) → is_nil t ≡ false
-    → printed_from f g (put_turns o n (put_stays t cs)) ≡ shown f g o n ++ printed_from ((f ++ o) ++ t) ((g ++ n) ++ t) cs
-printed_turn_some f g o n [] cs some = absurd (false≢true (sym some))
-printed_turn_some f g o n (b ∷ bs) cs some = printed_turn_stays f g o n b bs cs
+sites_turn_some : (f g o n t : List ℕ) (cs : List Stretch) → is_nil t ≡ false
+    → sites_from f g (put_turns o n (put_stays t cs)) ≡ turn_sites f g o n ++ sites_from ((f ++ o) ++ t) ((g ++ n) ++ t) cs
+sites_turn_some f g o n [] cs some = absurd (false≢true (sym some))
+sites_turn_some f g o n (b ∷ bs) cs some = sites_turn_stays f g o n b bs cs
 
 module _ (before after : List ℕ) where
   pub AreIn-weaker : (old new old_to new_to : ℕ) → old ≤ old_to → new ≤ new_to → (ts : List Turn) → AreIn before after old_to new_to ts → AreIn before after old new ts
@@ -103,28 +101,28 @@ module _ (before after : List ℕ) where
         start_new = omega arith;
         order_new = cut_order start.new line.new k m after new new_fits k_new m_new;
         end_new = omega arith;
-        text = trimmed_text start line old old_fits new new_fits k m k_is m_is k_old k_new m_old m_new same;
+        found = trimmed_site start line old old_fits new new_fits k m k_is m_is k_old k_new m_old m_new same;
       }
     where
-      trimmed_text : (start line : Place) (old : start.old ≤ line.old) (old_fits : line.old ≤ length before) (new : start.new ≤ line.new) (new_fits : line.new ≤ length after) (k m : ℕ)
+      trimmed_site : (start line : Place) (old : start.old ≤ line.old) (old_fits : line.old ≤ length before) (new : start.new ≤ line.new) (new_fits : line.new ≤ length after) (k m : ℕ)
           → k ≡ same_start (between start.old line.old before) (between start.new line.new after)
           → m ≡ same_end (drop k (between start.old line.old before)) (drop k (between start.new line.new after))
           → k ≤ length (between start.old line.old before) → k ≤ length (between start.new line.new after)
           → m ≤ length (drop k (between start.old line.old before)) → m ≤ length (drop k (between start.new line.new after))
           → take k (between start.old line.old before) ≡ take k (between start.new line.new after)
-          → shown (take start.old before) (take start.new after) (between start.old line.old before) (between start.new line.new after)
-          ≡ hunk_if (take (start.old + k) before) (take (start.new + k) after) (between (start.old + k) (line.old - m) before) (between (start.new + k) (line.new - m) after)
-      trimmed_text start line old old_fits new new_fits k m k_is m_is k_old k_new m_old m_new same =
+          → turn_sites (take start.old before) (take start.new after) (between start.old line.old before) (between start.new line.new after)
+          ≡ site_if (take (start.old + k) before) (take (start.new + k) after) (between (start.old + k) (line.old - m) before) (between (start.new + k) (line.new - m) after)
+      trimmed_site start line old old_fits new new_fits k m k_is m_is k_old k_new m_old m_new same =
           let o = between start.old line.old before in
           let n = between start.new line.new after in
           let f = take start.old before in
           let g = take start.new after in
-          let P : ℕ → ℕ → List ℕ = λ x y. hunk_if (f ++ take x o) (g ++ take x o) (take (length (drop x o) - y) (drop x o)) (take (length (drop x n) - y) (drop x n)) in
-          shown_is o n f g ∙ ap (λ y. P (same_start o n) y) (sym (m_is ∙ ap (λ x. same_end (drop x o) (drop x n)) k_is)) ∙ ap (λ x. P x m) (sym k_is)
-          ∙ ap₂ (λ x y. hunk_if x y (take (length (drop k o) - m) (drop k o)) (take (length (drop k n) - m) (drop k n)))
+          let P : ℕ → ℕ → List Site = λ x y. site_if (f ++ take x o) (g ++ take x o) (take (length (drop x o) - y) (drop x o)) (take (length (drop x n) - y) (drop x n)) in
+          turn_sites_is o n f g ∙ ap (λ y. P (same_start o n) y) (sym (m_is ∙ ap (λ x. same_end (drop x o) (drop x n)) k_is)) ∙ ap (λ x. P x m) (sym k_is)
+          ∙ ap₂ (λ x y. site_if x y (take (length (drop k o) - m) (drop k o)) (take (length (drop k n) - m) (drop k n)))
           (sym (cut_prefix start.old line.old k m before old old_fits k_old m_old))
           (ap (g ++◌) same ∙ sym (cut_prefix start.new line.new k m after new new_fits k_new m_new))
-          ∙ ap₂ (hunk_if (take (start.old + k) before) (take (start.new + k) after))
+          ∙ ap₂ (site_if (take (start.old + k) before) (take (start.new + k) after))
           (sym (cut_part start.old line.old k m before old old_fits k_old m_old)) (sym (cut_part start.new line.new k m after new new_fits k_new m_new))
 
   nothing_between : (i j : ℕ) (t : List ℕ) → i ≡ j → between i j t ≡ []
@@ -135,9 +133,9 @@ module _ (before after : List ℕ) where
       → PutsTurn before after l l
   puts_none l t sound is old new =
       record {
-        text =
-            sym (ap (flat_map (turn_text before after) l.turns.items ++◌)
-            (is.text ∙ ap₂ (hunk_if (take t.start.old before) (take t.start.new after)) (nothing_between _ _ before old) (nothing_between _ _ after new))
+        found =
+            sym (ap (map (site_of before after) l.turns.items ++◌)
+            (is.found ∙ ap₂ (site_if (take t.start.old before) (take t.start.new after)) (nothing_between _ _ before old) (nothing_between _ _ after new))
             ∙ append-nil _);
         order = λ more are. sound.turns more (AreIn-weaker _ _ _ _ sound.start_old sound.start_new more are);
         start = refl;
@@ -149,11 +147,11 @@ module _ (before after : List ℕ) where
   nil_of_length [] some = absurd (omega arith)
   nil_of_length (b ∷ bs) some = refl
 
-  some_old : (f g o n : List ℕ) → is_nil o ≡ false → hunk_if f g o n ≡ hunk f g o n
+  some_old : (f g o n : List ℕ) → is_nil o ≡ false → site_if f g o n ≡ site f g o n ∷ []
   some_old f g [] n some = absurd (false≢true (sym some))
   some_old f g (b ∷ bs) n some = refl
 
-  some_new : (f g o n : List ℕ) → is_nil n ≡ false → hunk_if f g o n ≡ hunk f g o n
+  some_new : (f g o n : List ℕ) → is_nil n ≡ false → site_if f g o n ≡ site f g o n ∷ []
   some_new f g [] [] some = absurd (false≢true (sym some))
   some_new f g [] (b ∷ bs) some = refl
   some_new f g (b ∷ bs) n some = refl
@@ -165,7 +163,7 @@ module _ (before after : List ℕ) where
 
   -- something of the turn is left
   pub some_turn : (l : Lining) (t : Turn) → IsLining before after l → IsTrimmed before after l.start l.line t → (eqb t.start.old t.end.old && eqb t.start.new t.end.new) ≡ false
-      → hunk_if (take t.start.old before) (take t.start.new after) (between t.start.old t.end.old before) (between t.start.new t.end.new after) ≡ turn_text before after t
+      → site_if (take t.start.old before) (take t.start.new after) (between t.start.old t.end.old before) (between t.start.new t.end.new after) ≡ site_of before after t ∷ []
   some_turn l t sound is apart =
       let a = is.end_old in
       let b = is.end_new in
@@ -184,7 +182,7 @@ module _ (before after : List ℕ) where
 
   -- the turn is put
   pub puts_one : (l new : Lining) (t : Turn) → IsLining before after l → IsTrimmed before after l.start l.line t
-      → hunk_if (take t.start.old before) (take t.start.new after) (between t.start.old t.end.old before) (between t.start.new t.end.new after) ≡ turn_text before after t
+      → site_if (take t.start.old before) (take t.start.new after) (between t.start.old t.end.old before) (between t.start.new t.end.new after) ≡ site_of before after t ∷ []
       → new.turns.items ≡ l.turns.items ++ t ∷ [] → new.start ≡ l.start → new.line ≡ l.line → new.here ≡ l.here → PutsTurn before after l new
   puts_one l new t sound is some items start line here =
       let end_old = is.end_old in
@@ -194,9 +192,9 @@ module _ (before after : List ℕ) where
       let line_new = sound.line_new in
       let here_new = sound.here_new in
       record {
-        text =
-            ap (flat_map (turn_text before after)) items ∙ flat_map-append (turn_text before after) l.turns.items (t ∷ [])
-            ∙ ap (flat_map (turn_text before after) l.turns.items ++◌) (append-nil (turn_text before after t) ∙ sym (is.text ∙ some));
+        found =
+            ap (map (site_of before after)) items ∙ map-append (site_of before after) l.turns.items (t ∷ [])
+            ∙ ap (map (site_of before after) l.turns.items ++◌) (sym (is.found ∙ some));
         order = λ more are.
             subst (λ ts. AreIn before after 0 0 (ts ++ more)) (sym items)
             (subst (AreIn before after 0 0) (sym (append_assoc l.turns.items (t ∷ []) more))
@@ -209,8 +207,8 @@ module _ (before after : List ℕ) where
         here = here;
       }
 
-  abbrev turns_part : Lining → List ℕ
-  turns_part l = flat_map (turn_text before after) l.turns.items
+  abbrev turns_so_far : Lining → List Site
+  turns_so_far l = map (site_of before after) l.turns.items
 
   -- the open line is the same in both texts
   pub closes_alike : (l put new : Lining) → IsLining before after l → PutsTurn before after l put
@@ -243,25 +241,25 @@ module _ (before after : List ℕ) where
         };
         line = line_is;
         here = here_is;
-        printed = λ parts. new_text l put new sound puts items start_is line_is (joined parts) ∙ sym (old_text l sound same some parts);
+        found = λ parts. new_sites l put new sound puts items start_is line_is (joined parts) ∙ sym (old_sites l sound same some parts);
       }
     where
-      new_text : (l put new : Lining) → IsLining before after l → PutsTurn before after l put → new.turns.items ≡ put.turns.items → new.start ≡ l.here → new.line ≡ l.here → (cs : List Stretch)
+      new_sites : (l put new : Lining) → IsLining before after l → PutsTurn before after l put → new.turns.items ≡ put.turns.items → new.start ≡ l.here → new.line ≡ l.here → (cs : List Stretch)
           → so_far before after new cs
-          ≡ turns_part l ++ (shown (take l.start.old before) (take l.start.new after) (between l.start.old l.line.old before) (between l.start.new l.line.new after)
-          ++ printed_from (take l.here.old before) (take l.here.new after) cs)
-      new_text l put new sound puts items start line cs =
-          let text : List Turn → Place → Place → List ℕ =
-          λ ts s e. flat_map (turn_text before after) ts ++ printed_from (take s.old before) (take s.new after) (put_turns (between s.old e.old before) (between s.new e.new after) cs) in
+          ≡ turns_so_far l ++ (turn_sites (take l.start.old before) (take l.start.new after) (between l.start.old l.line.old before) (between l.start.new l.line.new after)
+          ++ sites_from (take l.here.old before) (take l.here.new after) cs)
+      new_sites l put new sound puts items start line cs =
+          let text : List Turn → Place → Place → List Site =
+          λ ts s e. map (site_of before after) ts ++ sites_from (take s.old before) (take s.new after) (put_turns (between s.old e.old before) (between s.new e.new after) cs) in
           ap (λ ts. text ts new.start new.line) items ∙ ap₂ (text put.turns.items) start line
-          ∙ ap₂ (λ x y. x ++ printed_from (take l.here.old before) (take l.here.new after) y) puts.text (ap₂ (λ x y. put_turns x y cs) (between_none before l.here.old) (between_none after l.here.new))
-          ∙ append_assoc (turns_part l) _ _
+          ∙ ap₂ (λ x y. x ++ sites_from (take l.here.old before) (take l.here.new after) y) puts.found (ap₂ (λ x y. put_turns x y cs) (between_none before l.here.old) (between_none after l.here.new))
+          ∙ append_assoc (turns_so_far l) _ _
 
-      old_text : (l : Lining) → IsLining before after l → bytes_eq (open_old before after l) (open_new before after l) ≡ true → is_nil (open_old before after l) ≡ false → (parts : List Stretch)
+      old_sites : (l : Lining) → IsLining before after l → bytes_eq (open_old before after l) (open_new before after l) ≡ true → is_nil (open_old before after l) ≡ false → (parts : List Stretch)
           → so_far before after l (joined (closed (open_old before after l) (open_new before after l) parts))
-          ≡ turns_part l ++ (shown (take l.start.old before) (take l.start.new after) (between l.start.old l.line.old before) (between l.start.new l.line.new after)
-          ++ printed_from (take l.here.old before) (take l.here.new after) (joined parts))
-      old_text l sound same some parts =
+          ≡ turns_so_far l ++ (turn_sites (take l.start.old before) (take l.start.new after) (between l.start.old l.line.old before) (between l.start.new l.line.new after)
+          ++ sites_from (take l.here.old before) (take l.here.new after) (joined parts))
+      old_sites l sound same some parts =
           let o = between l.start.old l.line.old before in
           let n = between l.start.new l.line.new after in
           let f = take l.start.old before in
@@ -272,9 +270,9 @@ module _ (before after : List ℕ) where
           let to_new : (g ++ n) ++ t ≡ take l.here.new after =
           ap₂ (λ x y. x ++ y) (take_then l.start.new l.line.new after sound.start_new) (same_bytes t (open_new before after l) same)
           ∙ take_then l.line.new l.here.new after sound.line_new in
-          ap (turns_part l ++◌)
-          (ap (λ x. printed_from f g (put_turns o n x)) (joined-closed_same t (open_new before after l) parts same)
-          ∙ printed_turn_some f g o n t (joined parts) some ∙ ap (shown f g o n ++◌) (ap₂ (λ x y. printed_from x y (joined parts)) to_old to_new))
+          ap (turns_so_far l ++◌)
+          (ap (λ x. sites_from f g (put_turns o n x)) (joined-closed_same t (open_new before after l) parts same)
+          ∙ sites_turn_some f g o n t (joined parts) some ∙ ap (turn_sites f g o n ++◌) (ap₂ (λ x y. sites_from x y (joined parts)) to_old to_new))
 
   no_part : (o n : List ℕ) → (bytes_eq o n && not (is_nil o)) ≡ false → (cs : List Stretch) → joined (closed o n cs) ≡ put_turns o n (joined cs)
   no_part [] [] other cs = refl
@@ -314,21 +312,21 @@ module _ (before after : List ℕ) where
         };
         line = line;
         here = here;
-        printed = λ parts. apart_text l new sound other items start line parts;
+        found = λ parts. apart_sites l new sound other items start line parts;
       }
     where
-      apart_text : (l new : Lining) → IsLining before after l → (bytes_eq (open_old before after l) (open_new before after l) && not (is_nil (open_old before after l))) ≡ false
+      apart_sites : (l new : Lining) → IsLining before after l → (bytes_eq (open_old before after l) (open_new before after l) && not (is_nil (open_old before after l))) ≡ false
           → new.turns.items ≡ l.turns.items → new.start ≡ l.start → new.line ≡ l.here → (parts : List Stretch)
           → so_far before after new (joined parts) ≡ so_far before after l (joined (closed (open_old before after l) (open_new before after l) parts))
-      apart_text l new sound other items start line parts =
-          let text : List Turn → Place → Place → List ℕ =
-          λ ts s e. flat_map (turn_text before after) ts ++ printed_from (take s.old before) (take s.new after) (put_turns (between s.old e.old before) (between s.new e.new after) (joined parts)) in
+      apart_sites l new sound other items start line parts =
+          let text : List Turn → Place → Place → List Site =
+          λ ts s e. map (site_of before after) ts ++ sites_from (take s.old before) (take s.new after) (put_turns (between s.old e.old before) (between s.new e.new after) (joined parts)) in
           let o = between l.start.old l.line.old before in
           let n = between l.start.new l.line.new after in
           let part = no_part (open_old before after l) (open_new before after l) other parts
           in
           ap (λ ts. text ts new.start new.line) items ∙ ap₂ (text l.turns.items) start line
-          ∙ sym (ap (λ x. turns_part l ++ printed_from (take l.start.old before) (take l.start.new after) x)
+          ∙ sym (ap (λ x. turns_so_far l ++ sites_from (take l.start.old before) (take l.start.new after) x)
           (ap (put_turns o n) part ∙ put_turns-put_turns o n (open_old before after l) (open_new before after l) (joined parts)
           ∙ ap₂ (λ x y. put_turns x y (joined parts)) (between_then l.start.old l.line.old l.here.old before sound.start_old sound.line_old)
           (between_then l.start.new l.line.new l.here.new after sound.start_new sound.line_new)))
@@ -363,7 +361,7 @@ module _ (before after : List ℕ) where
     sound = moved_sound l (length t) (length t) sound stands.old_fits stands.new_fits;
     old_here = refl;
     new_here = refl;
-    printed = λ rest.
+    found = λ rest.
         ap (λ x. so_far before after l (joined x))
         (ap₂ rest (open_old-moved l t (length t) sound stands.old) (open_new-moved l t (length t) sound stands.new)
         ∙ sym (lined_stay-plain t plain rest (open_old before after l) (open_new before after l)));
@@ -378,12 +376,12 @@ module _ (before after : List ℕ) where
   closed_here l new t closes = (ap (λ p. p.old) closes.here, ap (λ p. p.new) closes.here)
 
   -- lines are read, and the last of them is closed
-  closed_text : (l new : Lining) (t : List ℕ) → IsLining before after l → StandsInBoth l t → Closes before after (moved (length t) (length t) l) new
+  closed_sites : (l new : Lining) (t : List ℕ) → IsLining before after l → StandsInBoth l t → Closes before after (moved (length t) (length t) l) new
       → (rest : List ℕ → List ℕ → List Stretch) → so_far before after new (joined (rest (open_old before after new) (open_new before after new)))
       ≡ so_far before after l (joined (closed (open_old before after l ++ t) (open_new before after l ++ t) (rest [] [])))
-  closed_text l new t sound stands closes rest =
+  closed_sites l new t sound stands closes rest =
       let none = nothing_open (moved (length t) (length t) l) new closes in
-      ap (λ x. so_far before after new (joined x)) (ap₂ rest none.0 none.1) ∙ closes.printed (rest [] [])
+      ap (λ x. so_far before after new (joined x)) (ap₂ rest none.0 none.1) ∙ closes.found (rest [] [])
       ∙ ap (λ x. so_far before after l (joined x)) (ap₂ (λ x y. closed x y (rest [] [])) (open_old-moved l t (length t) sound stands.old) (open_new-moved l t (length t) sound stands.new))
 
   pub reads_line : (l new : Lining) (line : List ℕ) → IsLining before after l → StandsInBoth l (line ++ 10 ∷ []) → HasNoNewline line
@@ -394,8 +392,8 @@ module _ (before after : List ℕ) where
         sound = closes.sound;
         old_here = at.0;
         new_here = at.1;
-        printed = λ rest.
-            closed_text l new (line ++ 10 ∷ []) sound stands closes rest
+        found = λ rest.
+            closed_sites l new (line ++ 10 ∷ []) sound stands closes rest
             ∙ ap (λ x. so_far before after l (joined x)) (sym (lined_stay-line line plain rest (open_old before after l) (open_new before after l)));
       }
 
@@ -409,8 +407,8 @@ module _ (before after : List ℕ) where
         sound = closes.sound;
         old_here = at.0;
         new_here = at.1;
-        printed = λ rest.
-            closed_text l new t sound stands closes rest
+        found = λ rest.
+            closed_sites l new t sound stands closes rest
             ∙ ap (so_far before after l)
             (ap₂ (λ x y. joined (closed (x ++ t) (y ++ t) (rest [] []))) none_old none_new ∙ joined-closed_same t t (rest [] []) (bytes_eq-self t)
             ∙ sym (lines_stay t rest ends) ∙ ap₂ (λ x y. joined (lined_stay t rest x y)) (sym none_old) (sym none_new));
@@ -421,8 +419,8 @@ module _ (before after : List ℕ) where
     sound = two.sound;
     old_here = two.old_here ∙ ap (λ n. n + length u) one.old_here ∙ more l.here.old t u;
     new_here = two.new_here ∙ ap (λ n. n + length u) one.new_here ∙ more l.here.new t u;
-    printed = λ rest.
-        two.printed rest ∙ one.printed (lined_stay u rest)
+    found = λ rest.
+        two.found rest ∙ one.found (lined_stay u rest)
         ∙ ap (λ x. so_far before after l (joined x)) (sym (lined_stay-append t u rest (open_old before after l) (open_new before after l)));
   }
     where
@@ -464,8 +462,8 @@ module _ (before after : List ℕ) where
         sound = closes.sound;
         old_here = ap (λ p. p.old) closes.here;
         new_here = ap (λ p. p.new) closes.here;
-        printed = λ rest.
-            ap (λ x. so_far before after new (joined x)) (ap₂ rest none.0 none.1) ∙ closes.printed (rest [] [])
+        found = λ rest.
+            ap (λ x. so_far before after new (joined x)) (ap₂ rest none.0 none.1) ∙ closes.found (rest [] [])
             ∙ ap (λ x. so_far before after l (joined x)) (sym (cond-true _ _ _ ends) ∙ ap₂ (lined_turn rest) old_is new_is);
       }
 
@@ -480,18 +478,18 @@ module _ (before after : List ℕ) where
         sound = moved_sound l (length o) (length n) sound old_fits new_fits;
         old_here = refl;
         new_here = refl;
-        printed = λ rest. ap (λ x. so_far before after l (joined x)) (sym (cond-false _ _ _ ends) ∙ ap₂ (lined_turn rest) old_is new_is);
+        found = λ rest. ap (λ x. so_far before after l (joined x)) (sym (cond-false _ _ _ ends) ∙ ap₂ (lined_turn rest) old_is new_is);
       }
 
   -- ---- all turns
 
   pub are_all : (l closed_one put : Lining) → Closes before after l closed_one → PutsTurn before after closed_one put → AreAll before after l put.turns.items
   are_all l one put closes puts = record {
-    text =
-        puts.text
-        ∙ ap (flat_map (turn_text before after) one.turns.items ++◌)
-        (sym (printed_turn_end (take one.start.old before) (take one.start.new after) (between one.start.old one.line.old before) (between one.start.new one.line.new after)))
-        ∙ closes.printed [];
+    found =
+        puts.found
+        ∙ ap (map (site_of before after) one.turns.items ++◌)
+        (sym (sites_turn_end (take one.start.old before) (take one.start.new after) (between one.start.old one.line.old before) (between one.start.new one.line.new after)))
+        ∙ closes.found [];
     order = subst (AreIn before after 0 0) (append-nil put.turns.items) (puts.order [] tt);
   }
 

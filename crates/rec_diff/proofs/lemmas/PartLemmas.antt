@@ -1,4 +1,4 @@
--- Parts that are put before others, and what is printed of them.
+-- Parts that are put before others, and where their turns stand.
 use Rattle.std.proofs.Common.{◌≡◌, ◌∙◌, ℕ, ◌-◌, true, false, ◌&&◌, List, [], ◌∷◌, ◌++◌, length, take, drop, refl, sym, ap, ap₂, append_assoc, append-nil}
 use Rattle.std.specs.List.{flat_map}
 use Rattle.std.specs.Str.{bytes_eq}
@@ -7,8 +7,7 @@ use Rattle.std.proofs.lemmas.List.{take-append-drop}
 use Rattle.rec_text.specs.Bytes.{is_nil}
 use Rattle.rec_diff.specs.Changes.{Stretch, stays, turns, put_stays, put_turns, joined}
 use Rattle.rec_diff.specs.WholeLines.{closed, trimmed, same_start, same_end}
-use Rattle.rec_diff.specs.Diff.{hunks}
-use Rattle.rec_diff.specs.proving.Turns.{hunk_if, printed_from, shown}
+use Rattle.rec_diff.specs.proving.Turns.{site_if, sites, sites_from, turn_sites}
 use Rattle.rec_diff.proofs.lemmas.ShareLemmas.{starts_share, ends_share, start_same, end_same}
 
 -- ---- one part after another
@@ -21,12 +20,12 @@ put_stays-put_stays (x ∷ xs) (y ∷ ys) (stays u ∷ cs) = ap (λ t. stays (x 
 put_stays-put_stays (x ∷ xs) (y ∷ ys) (turns o n ∷ cs) = refl
 
 -- what turns, before other parts
-abbrev on_turns : List ℕ → List ℕ → List Stretch → List Stretch
+abbrev pub on_turns : List ℕ → List ℕ → List Stretch → List Stretch
 on_turns a b [] = turns a b ∷ []
 on_turns a b (stays u ∷ cs) = turns a b ∷ stays u ∷ cs
 on_turns a b (turns o n ∷ cs) = turns (a ++ o) (b ++ n) ∷ cs
 
-some_turns : (a b : List ℕ) (cs : List Stretch) → (is_nil a && is_nil b) ≡ false → put_turns a b cs ≡ on_turns a b cs
+pub some_turns : (a b : List ℕ) (cs : List Stretch) → (is_nil a && is_nil b) ≡ false → put_turns a b cs ≡ on_turns a b cs
 some_turns [] [] cs some = absurd (false≢true (sym some))
 some_turns [] (y ∷ ys) [] some = refl
 some_turns [] (y ∷ ys) (stays u ∷ cs) some = refl
@@ -40,7 +39,7 @@ on_turns-on_turns a b o n [] = refl
 on_turns-on_turns a b o n (stays u ∷ cs) = refl
 on_turns-on_turns a b o n (turns p q ∷ cs) = ap₂ (λ x y. turns x y ∷ cs) (sym (append_assoc a o p)) (sym (append_assoc b n q))
 
-some-append : (a b o n : List ℕ) → (is_nil a && is_nil b) ≡ false → (is_nil (a ++ o) && is_nil (b ++ n)) ≡ false
+pub some-append : (a b o n : List ℕ) → (is_nil a && is_nil b) ≡ false → (is_nil (a ++ o) && is_nil (b ++ n)) ≡ false
 some-append [] [] o n some = absurd (false≢true (sym some))
 some-append [] (y ∷ ys) [] n some = refl
 some-append [] (y ∷ ys) (z ∷ zs) n some = refl
@@ -63,13 +62,13 @@ put_turns-put_turns (x ∷ xs) b (z ∷ zs) n cs =
     some_turns (x ∷ xs) b (put_turns (z ∷ zs) n cs) refl ∙ ap (on_turns (x ∷ xs) b) (some_turns (z ∷ zs) n cs refl)
     ∙ on_turns-on_turns (x ∷ xs) b (z ∷ zs) n cs ∙ sym (some_turns ((x ∷ xs) ++ z ∷ zs) (b ++ n) cs refl)
 
--- ---- what is printed
+-- ---- the places of turns
 
-pub hunks-put_stays : (f g t : List ℕ) (cs : List Stretch) → hunks f g (put_stays t cs) ≡ hunks (f ++ t) (g ++ t) cs
-hunks-put_stays f g [] cs = ap₂ (λ x y. hunks x y cs) (sym (append-nil f)) (sym (append-nil g))
-hunks-put_stays f g (b ∷ bs) [] = refl
-hunks-put_stays f g (b ∷ bs) (stays u ∷ cs) = ap₂ (λ x y. hunks x y cs) (sym (append_assoc f (b ∷ bs) u)) (sym (append_assoc g (b ∷ bs) u))
-hunks-put_stays f g (b ∷ bs) (turns o n ∷ cs) = refl
+pub sites-put_stays : (f g t : List ℕ) (cs : List Stretch) → sites f g (put_stays t cs) ≡ sites (f ++ t) (g ++ t) cs
+sites-put_stays f g [] cs = ap₂ (λ x y. sites x y cs) (sym (append-nil f)) (sym (append-nil g))
+sites-put_stays f g (b ∷ bs) [] = refl
+sites-put_stays f g (b ∷ bs) (stays u ∷ cs) = ap₂ (λ x y. sites x y cs) (sym (append_assoc f (b ∷ bs) u)) (sym (append_assoc g (b ∷ bs) u))
+sites-put_stays f g (b ∷ bs) (turns o n ∷ cs) = refl
 
 -- no turn comes first
 abbrev pub NotTurns : List Stretch → Type 0
@@ -88,34 +87,34 @@ stays_first b bs [] = tt
 stays_first b bs (stays u ∷ cs) = tt
 stays_first b bs (turns o n ∷ cs) = tt
 
-hunks-put_turns : (f g o n : List ℕ) (cs : List Stretch) → NotTurns cs → hunks f g (put_turns o n cs) ≡ hunk_if f g o n ++ hunks (f ++ o) (g ++ n) cs
-hunks-put_turns f g [] [] cs h = ap₂ (λ x y. hunks x y cs) (sym (append-nil f)) (sym (append-nil g))
-hunks-put_turns f g [] (y ∷ ys) [] h = refl
-hunks-put_turns f g [] (y ∷ ys) (stays u ∷ cs) h = refl
-hunks-put_turns f g (x ∷ xs) n [] h = refl
-hunks-put_turns f g (x ∷ xs) n (stays u ∷ cs) h = refl
-hunks-put_turns f g [] (y ∷ ys) (turns p q ∷ cs) h = absurd h
-hunks-put_turns f g (x ∷ xs) n (turns p q ∷ cs) h = absurd h
+sites-put_turns : (f g o n : List ℕ) (cs : List Stretch) → NotTurns cs → sites f g (put_turns o n cs) ≡ site_if f g o n ++ sites (f ++ o) (g ++ n) cs
+sites-put_turns f g [] [] cs h = ap₂ (λ x y. sites x y cs) (sym (append-nil f)) (sym (append-nil g))
+sites-put_turns f g [] (y ∷ ys) [] h = refl
+sites-put_turns f g [] (y ∷ ys) (stays u ∷ cs) h = refl
+sites-put_turns f g (x ∷ xs) n [] h = refl
+sites-put_turns f g (x ∷ xs) n (stays u ∷ cs) h = refl
+sites-put_turns f g [] (y ∷ ys) (turns p q ∷ cs) h = absurd h
+sites-put_turns f g (x ∷ xs) n (turns p q ∷ cs) h = absurd h
 
-pub printed-put_stays : (f g t : List ℕ) (cs : List Stretch) → printed_from f g (put_stays t cs) ≡ printed_from (f ++ t) (g ++ t) cs
-printed-put_stays f g [] cs = ap₂ (λ x y. printed_from x y cs) (sym (append-nil f)) (sym (append-nil g))
-printed-put_stays f g (b ∷ bs) [] = refl
-printed-put_stays f g (b ∷ bs) (stays u ∷ cs) =
+pub sites_from-put_stays : (f g t : List ℕ) (cs : List Stretch) → sites_from f g (put_stays t cs) ≡ sites_from (f ++ t) (g ++ t) cs
+sites_from-put_stays f g [] cs = ap₂ (λ x y. sites_from x y cs) (sym (append-nil f)) (sym (append-nil g))
+sites_from-put_stays f g (b ∷ bs) [] = refl
+sites_from-put_stays f g (b ∷ bs) (stays u ∷ cs) =
     let later = joined (flat_map trimmed cs) in
-    hunks-put_stays f g (b ∷ bs ++ u) later
-    ∙ ap₂ (λ x y. hunks x y later) (sym (append_assoc f (b ∷ bs) u)) (sym (append_assoc g (b ∷ bs) u))
-    ∙ sym (hunks-put_stays (f ++ b ∷ bs) (g ++ b ∷ bs) u later)
-printed-put_stays f g (b ∷ bs) (turns o n ∷ cs) = hunks-put_stays f g (b ∷ bs) (joined (flat_map trimmed (turns o n ∷ cs)))
+    sites-put_stays f g (b ∷ bs ++ u) later
+    ∙ ap₂ (λ x y. sites x y later) (sym (append_assoc f (b ∷ bs) u)) (sym (append_assoc g (b ∷ bs) u))
+    ∙ sym (sites-put_stays (f ++ b ∷ bs) (g ++ b ∷ bs) u later)
+sites_from-put_stays f g (b ∷ bs) (turns o n ∷ cs) = sites-put_stays f g (b ∷ bs) (joined (flat_map trimmed (turns o n ∷ cs)))
 
 -- a turn between what stays of it
 around : (f g a o n b : List ℕ) (cs : List Stretch) → NotTurns cs
-    → hunks f g (put_stays a (put_turns o n (put_stays b cs))) ≡ hunk_if (f ++ a) (g ++ a) o n ++ hunks (f ++ (a ++ (o ++ b))) (g ++ (a ++ (n ++ b))) cs
+    → sites f g (put_stays a (put_turns o n (put_stays b cs))) ≡ site_if (f ++ a) (g ++ a) o n ++ sites (f ++ (a ++ (o ++ b))) (g ++ (a ++ (n ++ b))) cs
 around f g a o n b cs h =
     let four : (s t u w : List ℕ) → ((s ++ t) ++ u) ++ w ≡ s ++ (t ++ (u ++ w)) = λ s t u w. append_assoc (s ++ t) u w ∙ append_assoc s t (u ++ w) in
-    hunks-put_stays f g a (put_turns o n (put_stays b cs))
-    ∙ hunks-put_turns (f ++ a) (g ++ a) o n (put_stays b cs) (NotTurns-put_stays b cs h)
-    ∙ ap (hunk_if (f ++ a) (g ++ a) o n ++◌)
-    (hunks-put_stays ((f ++ a) ++ o) ((g ++ a) ++ n) b cs ∙ ap₂ (λ x y. hunks x y cs) (four f a o b) (four g a n b))
+    sites-put_stays f g a (put_turns o n (put_stays b cs))
+    ∙ sites-put_turns (f ++ a) (g ++ a) o n (put_stays b cs) (NotTurns-put_stays b cs h)
+    ∙ ap (site_if (f ++ a) (g ++ a) o n ++◌)
+    (sites-put_stays ((f ++ a) ++ o) ((g ++ a) ++ n) b cs ∙ ap₂ (λ x y. sites x y cs) (four f a o b) (four g a n b))
 
 -- the parts of a turn: what stays at its start, what goes and what comes, and what stays at its end
 module _ (o n : List ℕ) where
@@ -142,28 +141,28 @@ module _ (o n : List ℕ) where
       ap₂ (λ x y. x ++ (come ++ y)) (start_same (starts_share o n)) (end_same (ends_share (drop first o) (drop first n)))
       ∙ ap (take first n ++◌) (take-append-drop (length (drop first n) - last) (drop first n)) ∙ take-append-drop first n
 
-  turn_printed : (f g : List ℕ) (cs : List Stretch) → NotTurns (joined (flat_map trimmed cs))
-      → printed_from f g (turns o n ∷ cs) ≡ hunk_if (f ++ take first o) (g ++ take first o) gone come ++ printed_from (f ++ o) (g ++ n) cs
-  turn_printed f g cs h =
+  sites_from-turns : (f g : List ℕ) (cs : List Stretch) → NotTurns (joined (flat_map trimmed cs))
+      → sites_from f g (turns o n ∷ cs) ≡ site_if (f ++ take first o) (g ++ take first o) gone come ++ sites_from (f ++ o) (g ++ n) cs
+  sites_from-turns f g cs h =
       around f g (take first o) gone come end_part (joined (flat_map trimmed cs)) h
-      ∙ ap (hunk_if (f ++ take first o) (g ++ take first o) gone come ++◌) (ap₂ (λ x y. hunks (f ++ x) (g ++ y) (joined (flat_map trimmed cs))) old_parts new_parts)
+      ∙ ap (site_if (f ++ take first o) (g ++ take first o) gone come ++◌) (ap₂ (λ x y. sites (f ++ x) (g ++ y) (joined (flat_map trimmed cs))) old_parts new_parts)
 
-  -- what is printed of it
-  pub shown_is : (f g : List ℕ) → shown f g o n ≡ hunk_if (f ++ take first o) (g ++ take first o) gone come
-  shown_is f g = around f g (take first o) gone come end_part [] tt ∙ append-nil _
+  -- where it stands
+  pub turn_sites_is : (f g : List ℕ) → turn_sites f g o n ≡ site_if (f ++ take first o) (g ++ take first o) gone come
+  turn_sites_is f g = around f g (take first o) gone come end_part [] tt ∙ append-nil _
 
-  turn_shown : (f g : List ℕ) (cs : List Stretch) → NotTurns (joined (flat_map trimmed cs)) → printed_from f g (turns o n ∷ cs) ≡ shown f g o n ++ printed_from (f ++ o) (g ++ n) cs
-  turn_shown f g cs h = turn_printed f g cs h ∙ ap (◌++ printed_from (f ++ o) (g ++ n) cs) (sym (shown_is f g))
+  sites_from-turn_sites : (f g : List ℕ) (cs : List Stretch) → NotTurns (joined (flat_map trimmed cs)) → sites_from f g (turns o n ∷ cs) ≡ turn_sites f g o n ++ sites_from (f ++ o) (g ++ n) cs
+  sites_from-turn_sites f g cs h = sites_from-turns f g cs h ∙ ap (◌++ sites_from (f ++ o) (g ++ n) cs) (sym (turn_sites_is f g))
 
-pub printed-put_turns : (f g o n : List ℕ) (cs : List Stretch) → NotTurns cs → NotTurns (joined (flat_map trimmed cs))
-    → printed_from f g (put_turns o n cs) ≡ shown f g o n ++ printed_from (f ++ o) (g ++ n) cs
-printed-put_turns f g [] [] cs h later = ap₂ (λ x y. printed_from x y cs) (sym (append-nil f)) (sym (append-nil g))
-printed-put_turns f g [] (y ∷ ys) [] h later = turn_shown [] (y ∷ ys) f g [] later
-printed-put_turns f g [] (y ∷ ys) (stays u ∷ cs) h later = turn_shown [] (y ∷ ys) f g (stays u ∷ cs) later
-printed-put_turns f g (x ∷ xs) n [] h later = turn_shown (x ∷ xs) n f g [] later
-printed-put_turns f g (x ∷ xs) n (stays u ∷ cs) h later = turn_shown (x ∷ xs) n f g (stays u ∷ cs) later
-printed-put_turns f g [] (y ∷ ys) (turns p q ∷ cs) h later = absurd h
-printed-put_turns f g (x ∷ xs) n (turns p q ∷ cs) h later = absurd h
+pub sites_from-put_turns : (f g o n : List ℕ) (cs : List Stretch) → NotTurns cs → NotTurns (joined (flat_map trimmed cs))
+    → sites_from f g (put_turns o n cs) ≡ turn_sites f g o n ++ sites_from (f ++ o) (g ++ n) cs
+sites_from-put_turns f g [] [] cs h later = ap₂ (λ x y. sites_from x y cs) (sym (append-nil f)) (sym (append-nil g))
+sites_from-put_turns f g [] (y ∷ ys) [] h later = sites_from-turn_sites [] (y ∷ ys) f g [] later
+sites_from-put_turns f g [] (y ∷ ys) (stays u ∷ cs) h later = sites_from-turn_sites [] (y ∷ ys) f g (stays u ∷ cs) later
+sites_from-put_turns f g (x ∷ xs) n [] h later = sites_from-turn_sites (x ∷ xs) n f g [] later
+sites_from-put_turns f g (x ∷ xs) n (stays u ∷ cs) h later = sites_from-turn_sites (x ∷ xs) n f g (stays u ∷ cs) later
+sites_from-put_turns f g [] (y ∷ ys) (turns p q ∷ cs) h later = absurd h
+sites_from-put_turns f g (x ∷ xs) n (turns p q ∷ cs) h later = absurd h
 
 trimmed_stays_first : (b : ℕ) (bs : List ℕ) (cs : List Stretch) → NotTurns (joined (flat_map trimmed (put_stays (b ∷ bs) cs)))
 trimmed_stays_first b bs [] = tt
@@ -171,15 +170,15 @@ trimmed_stays_first b bs (stays u ∷ cs) = stays_first b (bs ++ u) (joined (fla
 trimmed_stays_first b bs (turns o n ∷ cs) = stays_first b bs (joined (flat_map trimmed (turns o n ∷ cs)))
 
 -- a turn, and then what stays
-pub printed_turn_stays : (f g o n : List ℕ) (b : ℕ) (bs : List ℕ) (cs : List Stretch)
-    → printed_from f g (put_turns o n (put_stays (b ∷ bs) cs)) ≡ shown f g o n ++ printed_from ((f ++ o) ++ b ∷ bs) ((g ++ n) ++ b ∷ bs) cs
-printed_turn_stays f g o n b bs cs =
-    printed-put_turns f g o n (put_stays (b ∷ bs) cs) (stays_first b bs cs) (trimmed_stays_first b bs cs)
-    ∙ ap (shown f g o n ++◌) (printed-put_stays (f ++ o) (g ++ n) (b ∷ bs) cs)
+pub sites_turn_stays : (f g o n : List ℕ) (b : ℕ) (bs : List ℕ) (cs : List Stretch)
+    → sites_from f g (put_turns o n (put_stays (b ∷ bs) cs)) ≡ turn_sites f g o n ++ sites_from ((f ++ o) ++ b ∷ bs) ((g ++ n) ++ b ∷ bs) cs
+sites_turn_stays f g o n b bs cs =
+    sites_from-put_turns f g o n (put_stays (b ∷ bs) cs) (stays_first b bs cs) (trimmed_stays_first b bs cs)
+    ∙ ap (turn_sites f g o n ++◌) (sites_from-put_stays (f ++ o) (g ++ n) (b ∷ bs) cs)
 
 -- a turn at the end
-pub printed_turn_end : (f g o n : List ℕ) → printed_from f g (put_turns o n []) ≡ shown f g o n
-printed_turn_end f g o n = printed-put_turns f g o n [] tt tt ∙ append-nil _
+pub sites_turn_end : (f g o n : List ℕ) → sites_from f g (put_turns o n []) ≡ turn_sites f g o n
+sites_turn_end f g o n = sites_from-put_turns f g o n [] tt tt ∙ append-nil _
 
 -- ---- closed lines
 

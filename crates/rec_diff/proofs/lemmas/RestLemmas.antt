@@ -1,5 +1,5 @@
 -- From one hunk to the next, and to the end of both texts.
-use Rattle.std.proofs.Common.{◌≡◌, ◌∙◌, ℕ, ◌+◌, ◌-◌, ◌<◌, ◌≤◌, zero, suc, eqb, Bool, true, false, not, List, [], ◌∷◌, ◌++◌, length, take, drop, get_or, refl, sym, ap, ap₂, subst}
+use Rattle.std.proofs.Common.{◌≡◌, ◌∙◌, ℕ, ◌+◌, ◌-◌, ◌<◌, ◌≤◌, zero, suc, eqb, Bool, true, false, not, List, [], ◌∷◌, ◌++◌, length, map, take, drop, get_or, refl, sym, ap, ap₂, subst}
 use Rattle.std.proofs.Common.{length-drop, arith, Result, Ok, Err, OnOk}
 use Rattle.std.specs.Prelude.{IfOk}
 use Rattle.std.specs.List.{flat_map, between}
@@ -10,10 +10,10 @@ use Rattle.rec_journal.specs.declared.patch.Hunk.{Hunk}
 use Rattle.rec_diff.specs.declared.turn.Place.{Place}
 use Rattle.rec_diff.specs.declared.turn.Turn.{Turn}
 use Rattle.rec_diff.specs.declared.lining.Lining.{Lining}
-use Rattle.rec_diff.specs.Changes.{stays, joined}
+use Rattle.rec_diff.specs.Changes.{Stretch, stays, turns, cut_from, joined}
 use Rattle.rec_diff.specs.WholeLines.{lined_from, whole_lines}
 use Rattle.rec_diff.specs.Diff.{hunk, hunks, named, names}
-use Rattle.rec_diff.specs.proving.Turns.{AreAll, AreIn, Closes, IsLining, IsNext, IsOpenFrom, LeadsFrom, Reads, ReadsHunk, Turns, cut_from, moved, open_new, open_old, so_far, turn_text}
+use Rattle.rec_diff.specs.proving.Turns.{AreAll, AreIn, Closes, IsLining, IsNext, IsOpenFrom, LeadsFrom, Reads, ReadsHunk, Turns, moved, open_new, open_old, site_of, site_text, sites, so_far, turn_text}
 use Rattle.rec_diff.proofs.lemmas.PlaceLemmas.{between_from}
 use Rattle.rec_diff.proofs.lemmas.LiningLemmas.{AreIn-weaker, in_lines, stands_both, stay_lines}
 use Rattle.rec_diff.proofs.lemmas.CutLemmas.{hunk_stands, reads_hunk}
@@ -112,22 +112,22 @@ module _ (before after : List ℕ) where
   pub is_next : (patch : List Hunk) (i : ℕ) (l : Lining) (h : Hunk) → LeadsFrom before after l (drop i patch) → i < length patch → h ≡ get_or patch i h → IsNext before after h l
   is_next patch i l h leads there is = record { later = drop (i + 1) patch; leads = subst (LeadsFrom before after l) (next_hunk patch i h there is) leads }
 
-  abbrev pub AllPrinted : List Hunk → List Hunk → Lining → Type 0
-  AllPrinted patch rest l =
+  abbrev pub AllFound : List Hunk → List Hunk → Lining → Type 0
+  AllFound patch rest l =
       so_far before after l (joined (lined_from (cut_from l.here.old rest (drop l.here.old before)) (open_old before after l) (open_new before after l)))
-      ≡ hunks [] [] (whole_lines (cut_from 0 patch before))
+      ≡ sites [] [] (whole_lines (cut_from 0 patch before))
 
-  pub next_read : (patch : List Hunk) (i : ℕ) (l new : Lining) (h : Hunk) → LeadsFrom before after l (drop i patch) → AllPrinted patch (drop i patch) l
+  pub next_read : (patch : List Hunk) (i : ℕ) (l new : Lining) (h : Hunk) → LeadsFrom before after l (drop i patch) → AllFound patch (drop i patch) l
       → i < length patch → h ≡ get_or patch i h → ReadsHunk before after h l new
-      → IsLining before after new × LeadsFrom before after new (drop (i + 1) patch) × AllPrinted patch (drop (i + 1) patch) new
-  next_read patch i l new h leads printed there is reads = (
+      → IsLining before after new × LeadsFrom before after new (drop (i + 1) patch) × AllFound patch (drop (i + 1) patch) new
+  next_read patch i l new h leads found there is reads = (
     reads.sound,
     reads.leads (drop (i + 1) patch) (subst (LeadsFrom before after l) (next_hunk patch i h there is) leads),
-    reads.printed (drop (i + 1) patch)
+    reads.found (drop (i + 1) patch)
         ∙ ap
         (λ hs. so_far before after l (joined (lined_from (cut_from l.here.old hs (drop l.here.old before)) (open_old before after l) (open_new before after l))))
         (sym (next_hunk patch i h there is))
-        ∙ printed,
+        ∙ found,
   )
 
   nothing_left : (patch : List Hunk) (i : ℕ) (l : Lining) → LeadsFrom before after l (drop i patch) → length patch ≤ i → drop l.here.old before ≡ drop l.here.new after
@@ -147,19 +147,31 @@ module _ (before after : List ℕ) where
       let b = sound.here_new in
       record { old = omega arith; new = omega arith; same = ap (take (length before - l.here.old)) left }
 
-  pub all_read : (patch : List Hunk) (i : ℕ) (l last : Lining) (ts : List Turn) → AllPrinted patch (drop i patch) l → length patch ≤ i
+  pub all_read : (patch : List Hunk) (i : ℕ) (l last : Lining) (ts : List Turn) → AllFound patch (drop i patch) l → length patch ≤ i
       → Reads before after l last (take (length before - l.here.old) (drop l.here.old before)) → AreAll before after last ts
-      → flat_map (turn_text before after) ts ≡ hunks [] [] (whole_lines (cut_from 0 patch before))
-  all_read patch i l last ts printed all reads are =
+      → map (site_of before after) ts ≡ sites [] [] (whole_lines (cut_from 0 patch before))
+  all_read patch i l last ts found all reads are =
       let rest : take (length before - l.here.old) (drop l.here.old before) ≡ drop l.here.old before =
       take_all _ (drop l.here.old before) (omega (arith, length-drop l.here.old before)) in
       let none : drop i patch ≡ [] = drop_all i patch all in
-      are.text ∙ reads.printed (lined_from [])
+      are.found ∙ reads.found (lined_from [])
       ∙ ap (λ t. so_far before after l (joined (lined_from (stays t ∷ []) (open_old before after l) (open_new before after l)))) rest
       ∙ ap (λ hs. so_far before after l (joined (lined_from (cut_from l.here.old hs (drop l.here.old before)) (open_old before after l) (open_new before after l)))) (sym none)
-      ∙ printed
+      ∙ found
 
   -- ---- what is printed of turns
+
+  turns_text : (ts : List Turn) → flat_map (turn_text before after) ts ≡ flat_map site_text (map (site_of before after) ts)
+  turns_text [] = refl
+  turns_text (t ∷ ts) = ap (turn_text before after t ++◌) (turns_text ts)
+
+  sites_text : (f g : List ℕ) (parts : List Stretch) → flat_map site_text (sites f g parts) ≡ hunks f g parts
+  sites_text f g [] = refl
+  sites_text f g (stays t ∷ parts) = sites_text (f ++ t) (g ++ t) parts
+  sites_text f g (turns old new ∷ parts) = ap (hunk f g old new ++◌) (sites_text (f ++ old) (g ++ new) parts)
+
+  pub all_text : (ts : List Turn) (parts : List Stretch) → map (site_of before after) ts ≡ sites [] [] parts → flat_map (turn_text before after) ts ≡ hunks [] [] parts
+  all_text ts parts found = turns_text ts ∙ ap (flat_map site_text) found ∙ sites_text [] [] parts
 
   pub turn_text_is : (t : Turn) (place : Place) (old new : List ℕ) → place ≡ t.start → old ≡ between t.start.old t.end.old before → new ≡ between t.start.new t.end.new after
       → hunk (take place.old before) (take place.new after) old new ≡ turn_text before after t

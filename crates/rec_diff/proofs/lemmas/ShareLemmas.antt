@@ -59,7 +59,7 @@ lines_share (x ∷ xs) (y ∷ ys) = elim (cases_Bool (bytes_eq x y)) [
   | inr e ↦ record { common = []; s_rest = x ++ text_of xs; t_rest = y ++ text_of ys; s_is = refl; t_is = refl; count = sym (cond-false (bytes_eq x y) _ _ e) }
 ]
 
-text_of-reverse : (x : List ℕ) (xs : List (List ℕ)) → text_of (reverse (x ∷ xs)) ≡ text_of (reverse xs) ++ x
+pub text_of-reverse : (x : List ℕ) (xs : List (List ℕ)) → text_of (reverse (x ∷ xs)) ≡ text_of (reverse xs) ++ x
 text_of-reverse x xs =
     ap text_of (reverse-append (x ∷ []) xs) ∙ flat_map-append (λ line. line) (reverse xs) (x ∷ []) ∙ ap (text_of (reverse xs) ++◌) (append-nil x)
 

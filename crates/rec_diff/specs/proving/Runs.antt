@@ -1,6 +1,8 @@
--- Deeds in runs of one kind, as the code holds them.
+-- Steps that are looked at, and deeds in runs of one kind, as the code holds them.
 use Rattle.std.specs.Prelude.{◌≡◌, ℕ, ◌+◌, ◌<◌, List, [], ◌∷◌, ◌++◌, length, map, replicate}
+use Rattle.std.specs.Borrow.{Bor}
 use Rattle.std.specs.List.{flat_map}
+use Rattle.rec_journal.specs.declared.event.EditStep.{EditStep}
 use Rattle.rec_journal.specs.declared.patch.Hunk.{Hunk}
 use Rattle.rec_diff.specs.declared.composing.run.Run.{Run}
 use Rattle.rec_diff.specs.declared.composing.run.Run.TheVariants.{Kept, Removed, Added}
@@ -8,6 +10,10 @@ use Rattle.rec_diff.specs.declared.composing.merging.Ahead.{Ahead}
 use Rattle.rec_diff.specs.declared.composing.merging.Meeting.{Meeting}
 use Rattle.rec_diff.specs.declared.composing.turning.Turning.{Turning}
 use Rattle.rec_diff.specs.Composing.{Deed, keeps, removes, adds, then_others, hunks_after}
+
+-- the steps to which these references lead
+abbrev pub steps_at : List (Bor EditStep) → List EditStep
+steps_at references = map (λ one. one.now) references
 
 -- how many bytes a run has
 abbrev pub run_length : Run → ℕ

@@ -1,5 +1,5 @@
 -- Turns by their places in both texts, and how they are found.
-use Rattle.std.specs.Prelude.{◌≡◌, ℕ, ◌+◌, ◌-◌, ◌≤◌, Bool, true, false, ◌&&◌, not, List, [], ◌∷◌, ◌++◌, length, take}
+use Rattle.std.specs.Prelude.{◌≡◌, ℕ, ◌+◌, ◌≤◌, Bool, true, false, ◌&&◌, not, List, [], ◌∷◌, ◌++◌, length, map, take}
 use Rattle.std.specs.Prelude.{drop, if◌then◌else◌}
 use Rattle.std.specs.List.{flat_map, between}
 use Rattle.std.specs.Str.{bytes_eq}
@@ -10,10 +10,10 @@ use Rattle.rec_text.specs.Lines.{HasNoNewline}
 use Rattle.rec_diff.specs.declared.turn.Place.{Place}
 use Rattle.rec_diff.specs.declared.turn.Turn.{Turn}
 use Rattle.rec_diff.specs.declared.lining.Lining.{Lining}
-use Rattle.rec_diff.specs.Changes.{Stretch, stays, turns, put_turns, joined}
+use Rattle.rec_diff.specs.Changes.{Stretch, stays, turns, cut_from, put_turns, joined}
 use Rattle.rec_diff.specs.Lines.{at_line, lines}
 use Rattle.rec_diff.specs.WholeLines.{trimmed, same_lines, same_end, lined_stay, lined_turn, lined_from, closed}
-use Rattle.rec_diff.specs.Diff.{hunk, hunks}
+use Rattle.rec_diff.specs.Diff.{hunk}
 
 -- ---- lines at the ends of a text
 
@@ -46,34 +46,48 @@ pub record EndAlike (old new old_rest new_rest : List ℕ) : Type 0 where
   pub more : same_end old new + length old_rest ≡ length old + same_end old_rest new_rest
   pub less : length old_rest + 1 ≤ length old
 
--- ---- the parts between hunks
-
--- the hunks of a patch, and what stays of a text before, between and after them
-abbrev pub cut_from : ℕ → List Hunk → List ℕ → List Stretch
-cut_from place [] text = stays text ∷ []
-cut_from place (h ∷ hunks) text =
-    stays (take (h.at - place) text) ∷ turns h.old h.new
-    ∷ cut_from (h.at + length h.old) hunks (drop (h.at - place + length h.old) text)
-
 -- ---- turns
 
--- what is printed of parts of whole lines, after these texts
-abbrev pub printed_from : List ℕ → List ℕ → List Stretch → List ℕ
-printed_from before after parts = hunks before after (joined (flat_map trimmed parts))
+-- a turn, and what stands before it in both texts
+pub record Site : Type 0 where
+  pub before : List ℕ
+  pub after : List ℕ
+  pub old : List ℕ
+  pub new : List ℕ
 
--- a hunk, where anything turns
-abbrev pub hunk_if : List ℕ → List ℕ → List ℕ → List ℕ → List ℕ
-hunk_if before after old new = if is_nil old && is_nil new then [] else hunk before after old new
+abbrev pub site : List ℕ → List ℕ → List ℕ → List ℕ → Site
+site before after old new = record { before = before; after = after; old = old; new = new }
 
--- what is printed of one turn
-abbrev pub shown : List ℕ → List ℕ → List ℕ → List ℕ → List ℕ
-shown before after old new = hunks before after (joined (trimmed (turns old new)))
+-- the turns of parts, after these texts
+abbrev pub sites : List ℕ → List ℕ → List Stretch → List Site
+sites before after [] = []
+sites before after (stays t ∷ parts) = sites (before ++ t) (after ++ t) parts
+sites before after (turns old new ∷ parts) = site before after old new ∷ sites (before ++ old) (after ++ new) parts
+
+-- the turns of parts of whole lines, without the lines at their ends that are the same in both
+abbrev pub sites_from : List ℕ → List ℕ → List Stretch → List Site
+sites_from before after parts = sites before after (joined (flat_map trimmed parts))
+
+-- a turn, where anything turns
+abbrev pub site_if : List ℕ → List ℕ → List ℕ → List ℕ → List Site
+site_if before after old new = if is_nil old && is_nil new then [] else site before after old new ∷ []
+
+-- what is left of one turn
+abbrev pub turn_sites : List ℕ → List ℕ → List ℕ → List ℕ → List Site
+turn_sites before after old new = sites before after (joined (trimmed (turns old new)))
+
+-- what is printed of a turn
+abbrev pub site_text : Site → List ℕ
+site_text s = hunk s.before s.after s.old s.new
 
 module _ (before after : List ℕ) where
-  abbrev pub turn_text : Turn → List ℕ
-  turn_text t =
-      hunk (take t.start.old before) (take t.start.new after)
+  abbrev pub site_of : Turn → Site
+  site_of t =
+      site (take t.start.old before) (take t.start.new after)
       (between t.start.old t.end.old before) (between t.start.new t.end.new after)
+
+  abbrev pub turn_text : Turn → List ℕ
+  turn_text t = site_text (site_of t)
 
   -- a turn within the texts, not before these places
   pub record IsIn (old new : ℕ) (t : Turn) : Type 0 where
@@ -104,10 +118,10 @@ module _ (before after : List ℕ) where
   is_at_line l = at_line (open_old l) && at_line (open_new l)
 
   -- the turns that are found, the one that may still grow, and then parts
-  abbrev pub so_far : Lining → List Stretch → List ℕ
+  abbrev pub so_far : Lining → List Stretch → List Site
   so_far l parts =
-      flat_map turn_text l.turns.items
-      ++ printed_from (take l.start.old before) (take l.start.new after)
+      map site_of l.turns.items
+      ++ sites_from (take l.start.old before) (take l.start.new after)
       (put_turns (between l.start.old l.line.old before) (between l.start.new l.line.new after) parts)
 
   -- its places are in order
@@ -128,17 +142,17 @@ module _ (before after : List ℕ) where
     pub start_new : start.new ≤ t.start.new
     pub order_new : t.start.new ≤ t.end.new
     pub end_new : t.end.new ≤ line.new
-    pub text :
-        shown (take start.old before) (take start.new after)
+    pub found :
+        turn_sites (take start.old before) (take start.new after)
         (between start.old line.old before) (between start.new line.new after)
-        ≡ hunk_if (take t.start.old before) (take t.start.new after)
+        ≡ site_if (take t.start.old before) (take t.start.new after)
         (between t.start.old t.end.old before) (between t.start.new t.end.new after)
 
   -- the turn that ends at the line is put
   pub record PutsTurn (old new : Lining) : Type 0 where
-    pub text : flat_map turn_text new.turns.items
-        ≡ flat_map turn_text old.turns.items
-        ++ shown (take old.start.old before) (take old.start.new after)
+    pub found : map site_of new.turns.items
+        ≡ map site_of old.turns.items
+        ++ turn_sites (take old.start.old before) (take old.start.new after)
         (between old.start.old old.line.old before) (between old.start.new old.line.new after)
     pub order : (more : List Turn) → AreIn old.line.old old.line.new more → AreIn 0 0 (new.turns.items ++ more)
     pub start : new.start ≡ old.start
@@ -150,7 +164,7 @@ module _ (before after : List ℕ) where
     pub sound : IsLining new
     pub line : new.line ≡ old.here
     pub here : new.here ≡ old.here
-    pub printed : (parts : List Stretch)
+    pub found : (parts : List Stretch)
         → so_far new (joined parts) ≡ so_far old (joined (closed (open_old old) (open_new old) parts))
 
   -- bytes that stay are read
@@ -158,7 +172,7 @@ module _ (before after : List ℕ) where
     pub sound : IsLining new
     pub old_here : new.here.old ≡ old.here.old + length text
     pub new_here : new.here.new ≡ old.here.new + length text
-    pub printed : (rest : List ℕ → List ℕ → List Stretch)
+    pub found : (rest : List ℕ → List ℕ → List Stretch)
         → so_far new (joined (rest (open_old new) (open_new new)))
         ≡ so_far old (joined (lined_stay text rest (open_old old) (open_new old)))
 
@@ -167,7 +181,7 @@ module _ (before after : List ℕ) where
     pub sound : IsLining new
     pub old_here : new.here.old ≡ old.here.old + length old_text
     pub new_here : new.here.new ≡ old.here.new + length new_text
-    pub printed : (rest : List ℕ → List ℕ → List Stretch)
+    pub found : (rest : List ℕ → List ℕ → List Stretch)
         → so_far new (joined (rest (open_old new) (open_new new)))
         ≡ so_far old (joined (lined_turn rest (open_old old ++ old_text) (open_new old ++ new_text)))
 
@@ -183,7 +197,7 @@ module _ (before after : List ℕ) where
   -- a hunk is read, and what stays before it
   pub record ReadsHunk (h : Hunk) (old new : Lining) : Type 0 where
     pub sound : IsLining new
-    pub printed : (hunks : List Hunk)
+    pub found : (hunks : List Hunk)
         → so_far new
         (joined (lined_from (cut_from new.here.old hunks (drop new.here.old before)) (open_old new) (open_new new)))
         ≡ so_far old (joined
@@ -192,7 +206,7 @@ module _ (before after : List ℕ) where
 
   -- these are all turns, where both texts end
   pub record AreAll (l : Lining) (turns : List Turn) : Type 0 where
-    pub text : flat_map turn_text turns ≡ so_far l (joined (closed (open_old l) (open_new l) []))
+    pub found : map site_of turns ≡ so_far l (joined (closed (open_old l) (open_new l) []))
     pub order : AreIn 0 0 turns
 
 -- further on in both texts

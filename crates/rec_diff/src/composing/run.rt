@@ -54,14 +54,27 @@ pub(crate) fn push<'a>(runs: &mut Vec<Run<'a>>, run: &Run<'a>) -> Result<(), All
     Ok(())
 }
 
+/// Appends bytes that are kept, then some that are removed, and some that are added.
+pub(crate) fn push_change<'a>(
+    runs: &mut Vec<Run<'a>>,
+    kept: usize,
+    old: &'a [u8],
+    new: &'a [u8],
+) -> Result<(), AllocError>
+    ensures { OnOk result (run_deeds runs.new.items
+        ≡ run_deeds runs.old.items ++ (replicate kept keeps ++ (map removes old.now ++ map adds new.now))) }
+{
+    push(runs, &Run::Kept(kept))?;
+    push(runs, &Run::Removed(old))?;
+    push(runs, &Run::Added(new))
+}
+
 /// Appends what a hunk does, after bytes that are kept.
 fn push_hunk<'a>(runs: &mut Vec<Run<'a>>, kept: usize, hunk: &'a Hunk) -> Result<(), AllocError>
     ensures { OnOk result (run_deeds runs.new.items
         ≡ run_deeds runs.old.items ++ (replicate kept keeps ++ (map removes hunk.now.old ++ map adds hunk.now.new))) }
 {
-    push(runs, &Run::Kept(kept))?;
-    push(runs, &Run::Removed(hunk.old.as_slice()))?;
-    push(runs, &Run::Added(hunk.new.as_slice()))
+    push_change(runs, kept, hunk.old.as_slice(), hunk.new.as_slice())
 }
 
 /// What a patch does.

@@ -1,0 +1,128 @@
+-- One change of a text, made before later ones, is taken back alone.
+use Rattle.std.specs.Prelude.{◌≡◌, ◌≢◌, ℕ, ◌+◌, Bool, true, false, List, [], ◌∷◌, length, map, if◌then◌else◌}
+use Rattle.std.specs.List.{flat_map, AllByRecursion}
+use Rattle.std.specs.Str.{bytes_eq}
+use Rattle.rec_journal.specs.declared.patch.Hunk.{Hunk}
+use Rattle.rec_journal.specs.Patch.{Splices, IsPatch}
+use Rattle.rec_diff.specs.Changes.{Stretch, stays, turns, turned, new_of, hunks_at, cut_from}
+use Rattle.rec_diff.specs.Composing.{deeds_of, deed_hunks}
+use Rattle.rec_diff.specs.WholeLines.{AreLines, IsChange}
+
+-- ---- a change, and later ones
+
+-- what one of four texts has in its place: the text before the change or after it, with the later ones or without them
+pub data Strand : Type 0 where
+  -- a text that neither changes
+  same : List ℕ → Strand
+  -- what this change does
+  mine : List ℕ → List ℕ → Strand
+  -- what the later ones do
+  later : List ℕ → List ℕ → Strand
+
+-- the text of a strand, with this change made or not, and with the later ones or not
+abbrev pub woven_one : Bool → Bool → Strand → List ℕ
+woven_one made then_made (same t) = t
+woven_one made then_made (mine old new) = if made then new else old
+woven_one made then_made (later old new) = if then_made then new else old
+
+abbrev pub woven : Bool → Bool → List Strand → List ℕ
+woven made then_made strands = flat_map (woven_one made then_made) strands
+
+-- what this change does, with the later ones made or not
+abbrev pub mine_part : Bool → Strand → Stretch
+mine_part then_made (mine old new) = turns old new
+mine_part then_made strand = stays (woven_one true then_made strand)
+
+-- what the later ones do, with this change made or not
+abbrev pub later_part : Bool → Strand → Stretch
+later_part made (later old new) = turns old new
+later_part made strand = stays (woven_one made true strand)
+
+-- the hunks that take parts back
+abbrev pub hunks_back : List Stretch → List Hunk
+hunks_back parts = hunks_at 0 (map turned parts)
+
+-- Where the change only took out, a later hunk that puts something doesn't begin or end: which of the two comes first,
+-- nobody knows. Both hunks are of the text between the change and the later ones.
+abbrev pub DontMeet : Hunk → Hunk → Type 0
+DontMeet back other = back.old ≡ [] → other.new ≢ []
+    → (other.at ≢ back.at) × (other.at + length other.old ≢ back.at)
+
+abbrev pub AreSettled : List Hunk → List Hunk → Type 0
+AreSettled backs others = AllByRecursion (λ back. AllByRecursion (DontMeet back) others) backs
+
+-- The text between is cut into strands: these hunks lead from it back to the text before the change, and the others
+-- lead on from it. So no two of them overlap.
+pub record AreWoven (backs others : List Hunk) (between : List ℕ) (strands : List Strand) : Type 0 where
+  pub mine_is : hunks_back (map (mine_part false) strands) ≡ backs
+  pub later_is : hunks_at 0 (map (later_part true) strands) ≡ others
+  pub text : woven true false strands ≡ between
+  pub settled : AreSettled backs others
+
+-- ---- what takes the change back
+
+-- without the hunks that change nothing
+abbrev pub changing : List Hunk → List Hunk
+changing [] = []
+changing (h ∷ hunks) = if bytes_eq h.old h.new then changing hunks else h ∷ changing hunks
+
+-- those that touch are one
+abbrev pub as_patch : List Hunk → List Hunk
+as_patch hunks = changing (deed_hunks (deeds_of hunks))
+
+-- from the text that has both to the one that has the later ones alone
+abbrev pub hunks_without : List Strand → List Hunk
+hunks_without strands = as_patch (hunks_back (map (mine_part true) strands))
+
+-- hunks leave no line without its end before others
+abbrev pub LeaveLines : List Hunk → List ℕ → Type 0
+LeaveLines hunks text = AreLines (map new_of (cut_from 0 hunks text))
+
+-- the hunks take a change back out of the text here, to which later ones led on from it
+pub record Reverts
+    (change : List Hunk) (before after : List ℕ) (later : List Hunk) (here : List ℕ) (hunks : List Hunk) : Type 0 where
+  pub parts : List Stretch
+  pub change_is : IsChange change before after parts
+  pub others : List Stretch
+  pub later_is : IsChange later after here others
+  pub strands : List Strand
+  pub woven : AreWoven (hunks_back parts) (hunks_at 0 others) after strands
+  pub is : hunks ≡ hunks_without strands
+  pub lines : LeaveLines hunks here
+
+-- nothing does: a later change overlaps this one, or nobody knows which comes first, or a line would lack its end
+abbrev pub NothingReverts : List Hunk → List ℕ → List ℕ → List Hunk → List ℕ → Type 0
+NothingReverts change before after others here = (hunks : List Hunk) → Reverts change before after others here hunks → ⊥
+
+-- ---- laws
+
+-- there is one way
+abbrev pub OneRevert : Type 0
+OneRevert = (change : List Hunk) (before after : List ℕ) (later : List Hunk) (here : List ℕ) (one other : List Hunk)
+    → Reverts change before after later here one → Reverts change before after later here other → one ≡ other
+
+-- the texts that hunks take out and put in, one hunk after another
+abbrev pub texts_of : List Hunk → List Stretch
+texts_of hunks = map (λ (h : Hunk). turns h.old h.new) hunks
+
+-- The later ones, with the same texts out and in, lead from the text before the change to what is left; and the change,
+-- with the same texts, leads from there to the text here.
+pub record IsWithout (change later : List Hunk) (before left here : List ℕ) : Type 0 where
+  pub later_ones : List Hunk
+  pub same_later : texts_of later_ones ≡ texts_of later
+  pub later_lead : Splices later_ones before left
+  pub mine : List Hunk
+  pub same_mine : texts_of mine ≡ texts_of change
+  pub mine_leads : Splices mine left here
+
+-- what is taken back is a patch, and leaves what there is without the change
+pub record LeavesTheRest (change later : List Hunk) (before here : List ℕ) (hunks : List Hunk) : Type 0 where
+  pub left : List ℕ
+  pub leads : Splices hunks here left
+  pub is_patch : IsPatch hunks
+  pub without : IsWithout change later before left here
+
+abbrev pub RevertsLeaveTheRest : Type 0
+RevertsLeaveTheRest = (change : List Hunk) (before after : List ℕ) (later : List Hunk) (here : List ℕ)
+    (hunks : List Hunk) → (reverts : Reverts change before after later here hunks)
+    → LeavesTheRest (hunks_at 0 reverts.parts) (hunks_at 0 reverts.others) before here hunks

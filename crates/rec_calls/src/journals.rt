@@ -6,6 +6,7 @@ ghost use Rattle.rec_journal.specs.History.{IsOpening};
 
 pub mod hashes;
 pub mod patches;
+pub mod standing;
 pub mod texts;
 
 use crate::journals::patches::patch_at;

@@ -57,6 +57,7 @@ fn run(alloc: Global, log: &mut Log) {
     journals::patches::run(alloc, log);
     journals::hashes::run(alloc, log);
     journals::texts::run(alloc, log);
+    journals::standing::run(alloc, log);
     diffs::run(alloc, log);
     edits::run(alloc, log);
     edits::batches::run(alloc, log);

@@ -1,13 +1,17 @@
 //! Calls of `rec_tools` that no request makes, or of which none tells all. A home in memory is asked again where a growth was
 //! refused, as `tests/growth.bats` has it of each growth in turn.
 use crate::log::Log;
-use rec_text::{Bytes, Fault};
-use rec_tools::{Ask, EditRequest, Home, MemoryHome, Pick, RecFile, Which, make};
+use rec_text::{Bytes, Fault, Output};
+use rec_tools::{
+    Ask, Direction, EditRequest, Home, MemoryHome, Pick, RecFile, Reply, Request, Through, Which,
+    make, run as run_request, run_through,
+};
 use std::alloc::{AllocError, Global};
 
 pub fn run(alloc: Global, log: &mut Log) {
     cases!(alloc, log:
         growth_of_memory_home,
+        growth_of_moves_through_an_edit,
         one_selection_is_asked_for,
         words_are_read_before_edits_are_made);
 }
@@ -50,6 +54,77 @@ fn growth_of_memory_home(alloc: Global, log: &mut Log) -> Result<(), Fault> {
         Ok(mut home) => check_home(alloc, log, &mut home),
         Err(_) => Ok(()),
     }
+}
+
+/// A sink that keeps what it takes.
+fn sink(alloc: Global) -> Output<Vec<u8>> {
+    Output {
+        writer: Vec::new(alloc),
+        failed: 0,
+    }
+}
+
+/// Deletes the first record.
+fn delete_first(alloc: Global, home: &mut MemoryHome) -> Result<Reply, Fault> {
+    let by = Ask::Index(Bytes::copy_of(alloc, b"0")?);
+    let request = Request::Edit {
+        edit: deletion(by),
+        force: false,
+    };
+    run_request(alloc, home, &mut sink(alloc), &request)
+}
+
+/// A home of a file from which three edits deleted a record each.
+fn home_with_edits(alloc: Global) -> Result<MemoryHome, Fault> {
+    let mut home = home_of(alloc, b"A: 1\n\nA: 2\n\nA: 3\n\nA: 4\n")?;
+    for _ in 0..3 {
+        delete_first(alloc, &mut home)?;
+    }
+    Ok(home)
+}
+
+/// The first edit that was moved, the last, and the number of a refusal.
+type Told = (Option<usize>, Option<usize>, Option<u8>);
+
+fn told(through: &Through) -> Told {
+    let refused = through.answer.as_ref().err().map(|fault| fault.number());
+    (through.first, through.last, refused)
+}
+
+/// Whether a growth was refused: memory ran out, or the home had no room.
+fn ran_short(answer: &Result<Reply, Fault>) -> bool {
+    matches!(answer, Err(Fault::OutOfMemory) | Err(Fault::StoreFailed))
+}
+
+/// Moves through an edit, and again where a growth was refused on the way.
+fn moves(alloc: Global, home: &mut MemoryHome, direction: Direction, number: usize) -> Told {
+    let mut out = sink(alloc);
+    let begun = run_through(alloc, home, &mut out, direction, number);
+    if !ran_short(&begun.answer) {
+        return told(&begun);
+    }
+    let (first, last, refused) = told(&run_through(alloc, home, &mut out, direction, number));
+    (begun.first.or(first), last, refused)
+}
+
+fn growth_of_moves_through_an_edit(alloc: Global, log: &mut Log) -> Result<(), Fault> {
+    let mut home = match home_with_edits(alloc) {
+        Ok(home) => home,
+        Err(_) => home_with_edits(alloc)?,
+    };
+    log.same("three edits", home.file(), b"A: 4\n");
+    let refused = moves(alloc, &mut home, Direction::Forward, 2);
+    log.holds("none to make again", refused == (None, None, Some(21)));
+    let refused = moves(alloc, &mut home, Direction::Backward, 7);
+    log.holds("no edit 7", refused == (None, None, Some(26)));
+    log.same("as it was", home.file(), b"A: 4\n");
+    let undone = moves(alloc, &mut home, Direction::Backward, 2);
+    log.holds("edits 3 and 2", undone == (Some(3), Some(2), None));
+    log.same("edit 1 is left", home.file(), b"A: 2\n\nA: 3\n\nA: 4\n");
+    let redone = moves(alloc, &mut home, Direction::Forward, 3);
+    log.holds("edits 2 and 3", redone == (Some(2), Some(3), None));
+    log.same("all three again", home.file(), b"A: 4\n");
+    Ok(())
 }
 
 fn check_places(log: &mut Log, by: &Option<Ask>) {

@@ -136,8 +136,8 @@ impl<'w> Cells<'w> {
             Request::Edit { edit, .. } => self.read_edit(edit),
             Request::Batch { text, .. } => self.read(text),
             Request::Check
-            | Request::Undo
-            | Request::Redo
+            | Request::Undo(_)
+            | Request::Redo(_)
             | Request::Forget(_)
             | Request::History
             | Request::Diff(_, _)

@@ -42,8 +42,8 @@ impl Move {
         let mut requests = Vec::new(alloc);
         for _ in 0..=n {
             requests.push(match self {
-                Move::Undo => Request::Undo,
-                Move::Redo => Request::Redo,
+                Move::Undo => Request::Undo(None),
+                Move::Redo => Request::Redo(None),
             })?;
         }
         Ok(requests)

@@ -27,8 +27,8 @@ fn tool_of(request: &Request) -> &'static str {
         Request::Show { .. }
         | Request::Info { .. }
         | Request::Check
-        | Request::Undo
-        | Request::Redo
+        | Request::Undo(_)
+        | Request::Redo(_)
         | Request::Forget(_)
         | Request::History
         | Request::Diff(_, _)
@@ -59,6 +59,14 @@ fn put_step(
 ) -> Result<(), AllocError> {
     let line = format!(in alloc; "{word} {} {}\n", step.number, step.tool)?;
     prints.extend_from_slice(line.as_bytes())
+}
+
+/// Whether there are steps, and none of them has the number that is named.
+fn lacks(steps: &[Step], named: Option<usize>) -> bool {
+    match named {
+        Some(number) => !steps.is_empty() && steps.iter().all(|step| step.number != number),
+        None => false,
+    }
 }
 
 /// The same steps.
@@ -124,7 +132,10 @@ impl Plain {
         Ok(step)
     }
 
-    fn undo(&mut self) -> Result<(), AllocError> {
+    fn undo(&mut self, through: Option<usize>) -> Result<(), AllocError> {
+        if lacks(&self.past, through) {
+            return self.answers.push_str("26 no such edit\n");
+        }
         let Some(step) = self.past.pop() else {
             return self.answers.push_str("20 nothing to undo\n");
         };
@@ -133,7 +144,10 @@ impl Plain {
         Ok(())
     }
 
-    fn redo(&mut self) -> Result<(), AllocError> {
+    fn redo(&mut self, through: Option<usize>) -> Result<(), AllocError> {
+        if lacks(&self.future, through) {
+            return self.answers.push_str("26 no such edit\n");
+        }
         let Some(step) = self.future.pop() else {
             return self.answers.push_str("21 nothing to redo\n");
         };
@@ -262,8 +276,8 @@ impl Plain {
     pub fn take(&mut self, request: &Request, log: &mut Log) -> Result<(), Fault> {
         log.count();
         match request {
-            Request::Undo => Ok(self.undo()?),
-            Request::Redo => Ok(self.redo()?),
+            Request::Undo(through) => Ok(self.undo(*through)?),
+            Request::Redo(through) => Ok(self.redo(*through)?),
             Request::History => Ok(self.print_history()?),
             Request::Forget(n) => Ok(self.forget(*n as usize)?),
             Request::Show { .. }

@@ -150,8 +150,8 @@ impl Run {
         let mut home = self.tester.copy_of_home()?;
         for _ in 0..=self.plain.undos() {
             self.plain.answers.clear();
-            self.plain.take(&Request::Undo, log)?;
-            let answer = home.answer(&Request::Undo, usize::MAX)?;
+            self.plain.take(&Request::Undo(None), log)?;
+            let answer = home.answer(&Request::Undo(None), usize::MAX)?;
             compare_answer(self.alloc, &answer, &self.plain, log)?;
         }
         Ok(log.compare(

@@ -237,14 +237,14 @@ impl Trial {
     /// Takes the newest edit back.
     fn take_back(&mut self, log: &mut Log) -> Result<(), Fault> {
         let undone = format!(in self.alloc; "undone {}", self.number())?;
-        self.tester.ask(&Request::Undo, undone.as_str(), log)?;
+        self.tester.ask(&Request::Undo(None), undone.as_str(), log)?;
         self.is_as_before(true, log)
     }
 
     /// Makes the newest edit again, whose text is this one.
     fn make_again(&mut self, after: &[u8], log: &mut Log) -> Result<(), Fault> {
         let redone = format!(in self.alloc; "redone {}", self.number())?;
-        self.tester.ask(&Request::Redo, redone.as_str(), log)?;
+        self.tester.ask(&Request::Redo(None), redone.as_str(), log)?;
         Ok(log.compare("made again", self.tester.home.file(), after)?)
     }
 
@@ -264,7 +264,7 @@ impl Trial {
         self.is_as_before(false, log)?;
         let number = index.saturating_mul(2).saturating_add(1);
         let undone = format!(in self.alloc; "undone {number}")?;
-        self.tester.ask(&Request::Undo, undone.as_str(), log)?;
+        self.tester.ask(&Request::Undo(None), undone.as_str(), log)?;
         self.is_as_before(true, log)
     }
 

@@ -1,5 +1,5 @@
 -- Laws of the machine, of what contents stand for, and of files that were changed outside.
-use Rattle.std.specs.Prelude.{◌≡◌, ◌≢◌, ◌⊎◌, ℕ, ◌+◌, true, List, [], ◌∷◌, codes, None, Result, Ok, Err}
+use Rattle.std.specs.Prelude.{◌≡◌, ◌≢◌, ◌⊎◌, ℕ, ◌+◌, true, List, [], ◌∷◌, codes, Option, None, Result, Ok, Err}
 use Rattle.rec_text.specs.declared.fault.Fault.{Fault}
 use Rattle.rec_text.specs.declared.fault.Fault.TheVariants.{BadPattern, Drifted}
 use Rattle.rec_journal.specs.declared.event.EditStep.{EditStep}
@@ -60,8 +60,10 @@ outside_state c o tool steps text = record {
 
 -- nothing is taken back, made again or forgotten, and the history says so; an edit that changes the text begins it anew
 pub record IsNoticed (c : Contents) (o : Opened) : Type 0 where
-  pub undo : (r : Result Outcome Fault) → IsRequestOutcome c (asked_of Undo) r → r ≡ Err Drifted
-  pub redo : (r : Result Outcome Fault) → IsRequestOutcome c (asked_of Redo) r → r ≡ Err Drifted
+  pub undo : (through : Option ℕ) (r : Result Outcome Fault) → IsRequestOutcome c (asked_of (Undo through)) r
+      → r ≡ Err Drifted
+  pub redo : (through : Option ℕ) (r : Result Outcome Fault) → IsRequestOutcome c (asked_of (Redo through)) r
+      → r ≡ Err Drifted
   pub forgetting : (n : ℕ) (r : Result Outcome Fault) → IsRequestOutcome c (asked_of (Forget n)) r → r ≡ Err Drifted
   pub history : (r : Result Outcome Fault) → IsRequestOutcome c (asked_of History) r
       → r ≡ Ok (printing (codes "drifted\n") Shown)

@@ -10,6 +10,7 @@ pub mod Outcomes
 pub mod Attempts
 pub mod Machine
 pub mod Guarantee
+pub mod Through
 pub mod Laws
 pub mod Memory
 -- what serves proofs

@@ -3,7 +3,7 @@
 use Rattle.std.specs.Prelude.{◌≡◌, ◌≢◌, ◌⊎◌, ℕ, ◌-◌, ◌≤◌, ◌<◌, true, false, List, [], ◌∷◌, length, Option, Some, None}
 use Rattle.std.specs.Prelude.{option_map, Result, Ok, Err}
 use Rattle.rec_text.specs.declared.fault.Fault.{Fault}
-use Rattle.rec_text.specs.declared.fault.Fault.TheVariants.{BadPattern, DigestClash, Drifted}
+use Rattle.rec_text.specs.declared.fault.Fault.TheVariants.{BadPattern, DigestClash, Drifted, NoSuchEdit}
 use Rattle.rec_journal.specs.declared.patch.Direction.{Direction}
 use Rattle.rec_journal.specs.declared.patch.Direction.TheVariants.{Forward, Backward}
 use Rattle.rec_journal.specs.declared.event.Revision.{Revision}
@@ -12,6 +12,7 @@ use Rattle.rec_journal.specs.declared.plan.Plan.{Plan}
 use Rattle.rec_journal.specs.History.{Opened, Opens, IsOpening, IsRegular}
 use Rattle.rec_journal.specs.Revisions.{LeadsBy, Leads}
 use Rattle.rec_journal.specs.Plans.{ShareDigest, IsEditPlan, after_edit_plan, MovesByNearest, after_move, IsMovePlan}
+use Rattle.rec_journal.specs.Numbers.{numbers_on, is_missing}
 use Rattle.rec_journal.specs.Stops.{IsSafe}
 use Rattle.rec_journal.specs.Forgetting.{forgotten_journal, after_forgetting}
 use Rattle.rec_tools.specs.declared.decision.Decision.{Decision}
@@ -106,11 +107,14 @@ pub record IsMoveOutcome (direction : Direction) (o : Opened) (c : Contents) (ou
   pub safe : IsSafe c.file c.journal o (after_move direction o c.journal moves.nearest moves.others) plan
   pub is : outcome ≡ putting plan (reply_of direction moves.nearest.number moves.nearest.tool)
 
--- refused as its plan is: where the file has drifted, else where there is no edit that way, else where the nearest
--- leads nowhere
-abbrev pub IsMove : Direction → Opened → Contents → Result Outcome Fault → Type 0
-IsMove direction o c (Ok outcome) = (o.drifted ≡ false) × IsMoveOutcome direction o c outcome
-IsMove direction o c (Err fault) = IsMovePlan direction o c.file c.journal (Err fault)
+-- Refused where the file has drifted, else where there is no edit that way, else where none of them has the number that
+-- is named, else where the nearest leads nowhere.
+abbrev pub IsMove : Direction → Option ℕ → Opened → Contents → Result Outcome Fault → Type 0
+IsMove direction through o c (Ok outcome) = (o.drifted ≡ false)
+    × (is_missing through (numbers_on direction o) ≡ false) × IsMoveOutcome direction o c outcome
+IsMove direction through o c (Err fault) =
+    ((fault ≡ NoSuchEdit) × (o.drifted ≡ false) × (is_missing through (numbers_on direction o) ≡ true))
+    ⊎ ((is_missing through (numbers_on direction o) ≡ false) × IsMovePlan direction o c.file c.journal (Err fault))
 
 -- ---- forgetting
 
@@ -175,7 +179,8 @@ IsRequestOutcome c (editing IsEdit) answer =
     Then (IsOpening c.file c.journal) (λ o.
     Then (IsMade IsEdit c.file) (λ (tool, made).
     IsEditOutcome o c tool made))) answer
-IsRequestOutcome c (moving direction) answer = Then (IsOpening c.file c.journal) (λ o. IsMove direction o c) answer
+IsRequestOutcome c (moving direction through) answer =
+    Then (IsOpening c.file c.journal) (λ o. IsMove direction through o c) answer
 IsRequestOutcome c (forgetting n) answer = Then (IsOpening c.file c.journal) (λ o. IsForgetting n o c) answer
 IsRequestOutcome c (showing number name) answer =
     IsPrinting (IsShownText (IsShownEdit number name c.file c.journal)) answer

@@ -39,8 +39,8 @@ pub data Asked : Type 1 where
   listing_changes : List ℕ → Asked
   -- these edits are made, unless they can't be told
   editing : (Result Edits Fault → Type 0) → Asked
-  -- the nearest edit that way is taken back or made again
-  moving : Direction → Asked
+  -- the nearest edit that way is taken back or made again; where a number is named, only if one that way has it
+  moving : Direction → Option ℕ → Asked
   -- all but the newest n of the edits that can be taken back are forgotten
   forgetting : ℕ → Asked
   -- nothing is done of what is asked for; what it would change of the file is printed, under this name
@@ -93,8 +93,8 @@ asked_of (Info record_type form) = looking (λ file. IsShownText (IsInfoOf file 
 asked_of Check = looking (λ file. IsReportText (AreViolationsOf file))
 asked_of (Edit edit force) = editing (IsOneEdit edit force)
 asked_of (Batch text force) = editing (IsBatch text force)
-asked_of Undo = moving Backward
-asked_of Redo = moving Forward
+asked_of (Undo through) = moving Backward through
+asked_of (Redo through) = moving Forward through
 asked_of (Forget n) = forgetting n
 asked_of History = listing
 asked_of (Diff number name) = showing number name
@@ -106,7 +106,7 @@ abbrev pub reads_of : Asked → List Which
 reads_of (looking IsText) = TheFile ∷ []
 reads_of listing = TheFile ∷ TheJournal ∷ []
 reads_of (editing IsEdit) = TheFile ∷ TheJournal ∷ []
-reads_of (moving direction) = TheFile ∷ TheJournal ∷ []
+reads_of (moving direction through) = TheFile ∷ TheJournal ∷ []
 reads_of (showing number name) = TheFile ∷ TheJournal ∷ []
 reads_of (listing_changes name) = TheFile ∷ TheJournal ∷ []
 reads_of (forgetting n) = TheFile ∷ TheJournal ∷ []
@@ -117,7 +117,7 @@ abbrev pub IsSilent : Asked → Type 0
 IsSilent (looking IsText) = ⊥
 IsSilent listing = ⊥
 IsSilent (editing IsEdit) = Unit {0}
-IsSilent (moving direction) = Unit {0}
+IsSilent (moving direction through) = Unit {0}
 IsSilent (showing number name) = ⊥
 IsSilent (listing_changes name) = ⊥
 IsSilent (forgetting n) = Unit {0}
@@ -128,7 +128,7 @@ abbrev pub WritesNothing : Asked → Type 0
 WritesNothing (looking IsText) = Unit {0}
 WritesNothing listing = Unit {0}
 WritesNothing (editing IsEdit) = ⊥
-WritesNothing (moving direction) = ⊥
+WritesNothing (moving direction through) = ⊥
 WritesNothing (showing number name) = Unit {0}
 WritesNothing (listing_changes name) = Unit {0}
 WritesNothing (forgetting n) = ⊥

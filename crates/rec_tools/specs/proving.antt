@@ -4,4 +4,5 @@ pub mod Listed
 pub mod Courses
 pub mod Logs
 pub mod Silently
+pub mod Moving
 pub mod Finding

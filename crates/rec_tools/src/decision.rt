@@ -204,12 +204,16 @@ fn decide_move(
     file: &[u8],
     journal: &[u8],
     direction: Direction,
+    through: Option<usize>,
 ) -> Result<Decision, Fault>
-    ensures found { UnlessMemory result (Decides file.now journal.now (moving direction)) }
+    ensures found { UnlessMemory result (Decides file.now journal.now (moving direction through)) }
     ensures course { IfOk result (HasCourse file.now journal.now) }
     ensures refusals { IfErr result IsRefusal }
 {
     let history = history_of(alloc, file, journal)?;
+    if history.lacks(direction, through) {
+        return Err(Fault::NoSuchEdit);
+    }
     let MovePlan { plan, number, tool } = plan_move(alloc, direction, &history, file, journal)?;
     let reply = reply_of(direction, number, tool);
     match history.into_steps(direction) {
@@ -267,8 +271,8 @@ pub fn decide(
             let text = text.as_slice();
             decide_edit(alloc, file, journal, Source::Listed(text), *force)
         }
-        Request::Undo => decide_move(alloc, file, journal, Direction::Backward),
-        Request::Redo => decide_move(alloc, file, journal, Direction::Forward),
+        Request::Undo(through) => decide_move(alloc, file, journal, Direction::Backward, *through),
+        Request::Redo(through) => decide_move(alloc, file, journal, Direction::Forward, *through),
         Request::Forget(n) => decide_forgetting(alloc, file, journal, *n as usize),
         Request::Show { .. }
         | Request::Info { .. }

@@ -4,6 +4,7 @@ ghost use Rattle.std.specs.Prelude.{[]};
 ghost use Rattle.rec_journal.specs.History.{IsRegular};
 ghost use Rattle.rec_tools.specs.Guarantee.{OutcomesAreSteps, StopsAreSteps, WritesAreRegular};
 ghost use Rattle.rec_tools.specs.Laws.{OneStep, OneState, FirstStands, PreviewIsShowAfter, OutsideIsNoticed};
+ghost use Rattle.rec_tools.specs.Through.{MovesLeadThere};
 
 /// A request comes to one outcome on two contents at most.
 pub fn one_outcome()
@@ -46,4 +47,10 @@ pub fn preview_is_show_after()
 /// A file that was changed outside is noticed: nothing is taken back or made again, and an edit begins the history anew.
 pub fn outside_is_noticed()
     ensures { OutsideIsNoticed }
+{}
+
+/// Moves through an edit take back, or make again, each edit as far as that one and no further; where it doesn't lie that
+/// way, none.
+pub fn moves_lead_there()
+    ensures { MovesLeadThere }
 {}

@@ -16,19 +16,21 @@ mod request;
 mod runner;
 mod selecting;
 mod showing;
+mod through;
 
 pub use batches::{batch_edits, names_for, tool_by};
 pub use editing::make;
 pub use home::{Home, Which};
 pub use laws::{
-    first_stands, one_outcome, one_state, one_step, outcomes_are_steps, outside_is_noticed,
-    preview_is_show_after, stops_are_steps,
+    first_stands, moves_lead_there, one_outcome, one_state, one_step, outcomes_are_steps,
+    outside_is_noticed, preview_is_show_after, stops_are_steps,
 };
 pub use memory::MemoryHome;
 pub use rec_check::RecFile;
 pub use rec_edit::{Action, Edited, NewRecord, Pair, RefusedEdit};
-pub use rec_journal::Tool;
+pub use rec_journal::{Direction, Tool};
 pub use rec_select::InfoForm;
 pub use rec_text::{Bytes, Fault, Output, Rule, Sink, Violation, Violations};
 pub use request::{Ask, EditRequest, Form, Pick, Reply, Request};
 pub use runner::{run, run_all};
+pub use through::{Through, run_through};

@@ -144,10 +144,11 @@ pub enum Request {
         text: Bytes,
         force: bool,
     },
-    /// Takes the newest edit back.
-    Undo,
-    /// Makes the edit that was taken back last again.
-    Redo,
+    /// Takes the newest edit back, where a number is named only if the edit of that number can be taken back too.
+    Undo(Option<usize>),
+    /// Makes the edit that was taken back last again, where a number is named only if the edit of that number can be made
+    /// again too.
+    Redo(Option<usize>),
     /// Forgets all but the newest n of the edits that can be taken back; those that can be made again stay.
     Forget(u32),
     /// Prints the edits: those that stand, the oldest first, and then those that can be made again, the nearest first; or
@@ -173,8 +174,8 @@ impl Request {
         match self {
             Request::Edit { .. }
             | Request::Batch { .. }
-            | Request::Undo
-            | Request::Redo
+            | Request::Undo(_)
+            | Request::Redo(_)
             | Request::Forget(_) => true,
             Request::Show { .. }
             | Request::Info { .. }

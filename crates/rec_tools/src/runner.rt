@@ -191,8 +191,8 @@ fn look<H: Home, S: Sink>(
         Request::Log(name) => tell_log(alloc, home, out, name),
         Request::Edit { .. }
         | Request::Batch { .. }
-        | Request::Undo
-        | Request::Redo
+        | Request::Undo(_)
+        | Request::Redo(_)
         | Request::Forget(_)
         | Request::Preview(_, _) => unreachable!(),
     }
@@ -221,8 +221,8 @@ fn reply_alone<H: Home>(alloc: Global, home: &mut H, request: &Request) -> Resul
         | Request::Log(_) => look(alloc, home, &mut Nowhere, request),
         Request::Edit { .. }
         | Request::Batch { .. }
-        | Request::Undo
-        | Request::Redo
+        | Request::Undo(_)
+        | Request::Redo(_)
         | Request::Forget(_) => unreachable!(),
     }
 }
@@ -262,8 +262,8 @@ fn attempt<H: Home, S: Sink>(
     match request {
         Request::Edit { .. }
         | Request::Batch { .. }
-        | Request::Undo
-        | Request::Redo
+        | Request::Undo(_)
+        | Request::Redo(_)
         | Request::Forget(_) => make_change(alloc, home, request),
         Request::Preview(previewed, name) => preview(alloc, home, out, previewed, name),
         Request::Show { .. }

@@ -17,12 +17,12 @@ pub fn run(alloc: Global, log: &mut Log) {
 }
 
 /// The file as it is.
-const FILE: &[u8] = b"A: 2\nB: 3\n";
+pub const FILE: &[u8] = b"A: 2\nB: 3\n";
 
 /// The texts that it had: a field is set, one is added, and the first is deleted, which is undone.
 const TEXTS: [&[u8]; 4] = [b"A: 1\n", b"A: 2\n", FILE, b"B: 3\n"];
 
-const JOURNAL: &[u8] = b"%rec: RecEdit
+pub const JOURNAL: &[u8] = b"%rec: RecEdit
 %doc: recu journal, format 2
 %key: Number
 
@@ -64,14 +64,14 @@ After: 2e6b6ed18e3f7c87e4bca3d98cb9296fb89624e9a5a43fec65209e3abe6aaf2d
 ";
 
 /// The history of a file, which is hashed first.
-fn loaded(alloc: Global, file: &[u8], journal: &[u8]) -> Result<History, Fault>
+pub fn loaded(alloc: Global, file: &[u8], journal: &[u8]) -> Result<History, Fault>
     ensures { IfOk result (λ history. IsOpening file.now journal.now (Ok history)) }
 {
     History::load(alloc, &Hashed::of(alloc, file)?, journal)
 }
 
 /// What an edit of the history made: its number, its tool, whether it stands, and the place of its text before.
-type Row = (usize, Tool, bool, usize);
+pub type Row = (usize, Tool, bool, usize);
 
 const ROWS: [Row; 3] = [
     (1, Tool::RecSet, true, 0),
@@ -80,7 +80,7 @@ const ROWS: [Row; 3] = [
 ];
 
 /// Texts are those of a row.
-fn check_texts(log: &mut Log, texts: &EditTexts<'_>, row: &Row) {
+pub fn check_texts(log: &mut Log, texts: &EditTexts<'_>, row: &Row) {
     let (number, tool, done, at) = *row;
     let step = texts.step();
     log.at_number(number);

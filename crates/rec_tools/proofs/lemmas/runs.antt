@@ -5,3 +5,6 @@ pub mod GuaranteeLemmas
 pub mod RunAllLemmas
 pub mod PreviewLemmas
 pub mod ShowAfterLemmas
+pub mod ThroughLemmas
+pub mod LeadingLemmas
+pub mod ReachedLemmas

@@ -1,28 +1,33 @@
-use Rattle.std.proofs.Common.{ap}
+use Rattle.std.proofs.Common.{ap, sym, ◌∙◌}
 use Rattle.rec_tools.specs.Outcomes.{outcome_of}
 use Rattle.rec_text.proofs.lemmas.ErrorLemmas.{kept_error}
-use Rattle.rec_tools.proofs.lemmas.outcomes.DecideLemmas.{move-no_opening, move-refused, move-planned, move-course, move-has_edit}
+use Rattle.rec_tools.proofs.lemmas.outcomes.DecideLemmas.{move-no_opening, move-missing, move-refused, move-planned, move-course, move-has_edit}
 use Rattle.rec_tools.proofs.decision.decide_move.Goals as goal
 
 pub returns-in_err-history-clause-found : goal.returns-in_err-history-clause-found
 returns-in_err-history-clause-found c =
-    rw (kept_error c.from_residual.ensures.1) (move-no_opening c.args.file.now c.args.journal.now c.args.direction _ c.in_err-history.ensures)
+    rw (kept_error c.from_residual.ensures.1) (move-no_opening c.args.file.now c.args.journal.now c.args.direction c.args.through _ c.in_err-history.ensures)
+
+pub returns-then-lacks-clause-found : goal.returns-then-lacks-clause-found
+returns-then-lacks-clause-found c =
+    move-missing c.args.file.now c.args.journal.now c.args.direction c.args.through _ c.in_ok-history.ensures (sym c.if-lacks.true ∙ c.lacks.ensures)
 
 pub returns-in_err-plan-clause-found : goal.returns-in_err-plan-clause-found
 returns-in_err-plan-clause-found c =
-    rw (kept_error c.from_residual-in_err-plan.ensures.1) (move-refused c.args.file.now c.args.journal.now c.args.direction _ c.in_ok-history.ensures _ c.in_err-plan.ensures.plan.found)
+    rw (kept_error c.from_residual-in_err-plan.ensures.1) (move-refused c.args.file.now c.args.journal.now c.args.direction c.args.through _ c.in_ok-history.ensures
+    (sym c.lacks.ensures ∙ c.if-lacks.false) _ c.in_err-plan.ensures.plan.found)
 
 pub returns-clause-found : goal.returns-clause-found
 returns-clause-found c =
-    move-planned c.args.file.now c.args.journal.now c.args.direction _ c.in_ok-history.ensures _ c.in_ok-plan.ensures.plan.found
-    c.in_ok-plan.ensures.plan.safe _ _ c.in_ok-plan.ensures.nearest _ c.reply_of-reply.ensures _ (ap outcome_of c.put_plan.ensures)
+    move-planned c.args.file.now c.args.journal.now c.args.direction c.args.through _ c.in_ok-history.ensures (sym c.lacks.ensures ∙ c.if-lacks.false)
+    _ c.in_ok-plan.ensures.plan.found c.in_ok-plan.ensures.plan.safe _ _ c.in_ok-plan.ensures.nearest _ c.reply_of-reply.ensures _ (ap outcome_of c.put_plan.ensures)
 
 pub returns-clause-course : goal.returns-clause-course
 returns-clause-course c =
     let (e, nearest, steps) = c.in-Some.ensures in
-    move-course c.args.file.now c.args.journal.now c.args.direction _ c.in_ok-history.ensures _ c.in_ok-plan.ensures.plan.found
+    move-course c.args.file.now c.args.journal.now c.args.direction c.args.through _ c.in_ok-history.ensures _ c.in_ok-plan.ensures.plan.found
     c.in_ok-plan.ensures.plan.safe _ e nearest steps _ _ c.put_plan.ensures
 
 pub unreachable-requires : goal.unreachable-requires
 unreachable-requires c =
-    move-has_edit c.args.file.now c.args.journal.now c.args.direction _ c.in_ok-history.ensures _ c.in_ok-plan.ensures.plan.found c.in-None.ensures
+    move-has_edit c.args.file.now c.args.journal.now c.args.direction c.args.through _ c.in_ok-history.ensures _ c.in_ok-plan.ensures.plan.found c.in-None.ensures

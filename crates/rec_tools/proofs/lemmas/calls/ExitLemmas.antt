@@ -67,7 +67,7 @@ stopped-tells : (asked : Asked) (calls : List Call) (fault : Fault) → StopsRea
 stopped-tells (looking IsText) calls fault stops = stopped-tells_one calls fault stops
 stopped-tells listing calls fault stops = stopped-tells_both calls fault stops
 stopped-tells (editing IsEdit) calls fault stops = stopped-tells_both calls fault stops
-stopped-tells (moving direction) calls fault stops = stopped-tells_both calls fault stops
+stopped-tells (moving direction through) calls fault stops = stopped-tells_both calls fault stops
 stopped-tells (forgetting n) calls fault stops = stopped-tells_both calls fault stops
 stopped-tells (showing number name) calls fault stops = stopped-tells_both calls fault stops
 stopped-tells (listing_changes name) calls fault stops = stopped-tells_both calls fault stops
@@ -182,7 +182,7 @@ pub silent-reads_both : (asked : Asked) → IsSilent asked → ReadsBoth asked
 silent-reads_both (looking IsText) silent = absurd silent
 silent-reads_both listing silent = absurd silent
 silent-reads_both (editing IsEdit) silent = refl
-silent-reads_both (moving direction) silent = refl
+silent-reads_both (moving direction through) silent = refl
 silent-reads_both (showing number name) silent = absurd silent
 silent-reads_both (listing_changes name) silent = absurd silent
 silent-reads_both (forgetting n) silent = refl

@@ -1,5 +1,6 @@
 -- The machine's step is a function of the state and the request.
 use Rattle.std.proofs.Common.{arith, ◌≡◌, ◌≢◌, inl, inr, ℕ, List, [], ◌∷◌, length, Option, Some, None, Result, Ok, Err, ap, sym, subst, ◌∙◌}
+use Rattle.std.proofs.lemmas.Bool.{false≢true}
 use Rattle.rec_text.specs.declared.fault.Fault.{Fault}
 use Rattle.rec_text.specs.declared.fault.Fault.TheVariants.{BadPattern}
 use Rattle.rec_journal.specs.declared.event.Tool.{Tool}
@@ -50,10 +51,13 @@ module _ (s : State) where
 
 -- ---- a move steps in one way
 
-one_move_step : (direction : Direction) (s : State) (entries : List Entry) (one other : Answer) (t u : State)
-    → IsMoveStep direction s entries one t → IsMoveStep direction s entries other u → (one ≡ other) × (t ≡ u)
-one_move_step direction s [] one other t u is is_too = (is.0 ∙ sym is_too.0, is.1 ∙ sym is_too.1)
-one_move_step direction s (nearest ∷ others) one other t u is is_too = (is.0 ∙ sym is_too.0, is.1 ∙ sym is_too.1)
+one_move_step : (direction : Direction) (through : Option ℕ) (s : State) (entries : List Entry) (one other : Answer) (t u : State)
+    → IsMoveStep direction through s entries one t → IsMoveStep direction through s entries other u → (one ≡ other) × (t ≡ u)
+one_move_step direction through s [] one other t u is is_too = (is.0 ∙ sym is_too.0, is.1 ∙ sym is_too.1)
+one_move_step direction through s (nearest ∷ others) one other t u (inl is) (inl is_too) = (is.1 ∙ sym is_too.1, is.2 ∙ sym is_too.2)
+one_move_step direction through s (nearest ∷ others) one other t u (inl is) (inr is_too) = absurd (false≢true (sym is_too.0 ∙ is.0))
+one_move_step direction through s (nearest ∷ others) one other t u (inr is) (inl is_too) = absurd (false≢true (sym is.0 ∙ is_too.0))
+one_move_step direction through s (nearest ∷ others) one other t u (inr is) (inr is_too) = (is.1 ∙ sym is_too.1, is.2 ∙ sym is_too.2)
 
 -- ---- forgetting steps in one way
 
@@ -115,8 +119,8 @@ module _ (s : State) (one other : Answer) (built : one ≢ Err BadPattern) (buil
       (edit_of_built s outcome one t step built) (edit_of_built s also other u step_too built_too) in
       let both = one_edit_step s also one other t u (subst (λ r. IsEditStep s r one t) same step) step_too in
       (both.0, e ∙ sym k, both.1)
-  one_step_of (moving direction) text printed t u means (step, e) (step_too, k) =
-      let both = one_move_step direction s (entries_on direction s) one other t u step step_too in
+  one_step_of (moving direction through) text printed t u means (step, e) (step_too, k) =
+      let both = one_move_step direction through s (entries_on direction s) one other t u step step_too in
       (both.0, e ∙ sym k, both.1)
   one_step_of (forgetting n) text printed t u means (step, e) (step_too, k) =
       let both = one_forgetting_step n s one other t u step step_too in

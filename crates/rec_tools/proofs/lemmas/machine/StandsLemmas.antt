@@ -64,7 +64,7 @@ one_list_of_entries direction (e ∷ es) (x ∷ xs) (y ∷ ys) here are are_too 
     ap₂ (λ z zs. z ∷ zs) (same_entry x y (sym are.0 ∙ are_too.0) (sym are.1 ∙ are_too.1) (sym are.2 ∙ are_too.2) text)
     (one_list_of_entries direction es xs ys x.text are.4 following)
 
-same_state : (one other : State) → one.past ≡ other.past → one.present ≡ other.present → one.future ≡ other.future → one.next ≡ other.next
+pub same_state : (one other : State) → one.past ≡ other.past → one.present ≡ other.present → one.future ≡ other.future → one.next ≡ other.next
     → one ≡ other
 same_state one other past present future next =
     let made : List Entry → List ℕ → List Entry → ℕ → State = λ p t f n. record { past = p; present = t; future = f; next = n } in

@@ -1,8 +1,9 @@
 -- What a request comes to on contents that stand for a state is what the machine does in that state.
-use Rattle.std.proofs.Common.{arith, ◌≡◌, ◌≢◌, ◌⊎◌, inl, inr, ℕ, ◌+◌, ◌-◌, ◌<◌, Bool, List, [], ◌∷◌, length, map, Result, Ok, Err, sym, ap, ap₂, subst, refl, ◌∙◌}
+use Rattle.std.proofs.Common.{arith, ◌≡◌, ◌≢◌, ◌⊎◌, inl, inr, ℕ, ◌+◌, ◌-◌, ◌<◌, Bool, List, [], ◌∷◌, length, map, Option, Result, Ok, Err, sym, ap, ap₂, subst, refl, ◌∙◌}
 use Rattle.std.proofs.lemmas.Bool.{false≢true}
 use Rattle.std.specs.Prelude.{true, false, codes, if◌then◌else◌}
 use Rattle.rec_text.specs.declared.fault.Fault.{Fault}
+use Rattle.rec_text.specs.declared.fault.Fault.TheVariants.{NoSuchEdit}
 use Rattle.rec_journal.specs.declared.event.Revision.{Revision}
 use Rattle.rec_journal.specs.declared.patch.Direction.{Direction}
 use Rattle.rec_journal.specs.declared.patch.Direction.TheVariants.{Forward, Backward}
@@ -11,6 +12,7 @@ use Rattle.rec_journal.specs.declared.plan.Plan.{Plan}
 use Rattle.rec_journal.specs.History.{Opened, Opens, IsOpening}
 use Rattle.rec_journal.specs.Revisions.{Leads}
 use Rattle.rec_journal.specs.Plans.{ShareDigest, edit_to, after_edit_plan, edits_on, after_move, LeadsNowhere}
+use Rattle.rec_journal.specs.Numbers.{numbers_on, is_missing}
 use Rattle.rec_journal.proofs.lemmas.histories.Openings.{one_opening}
 use Rattle.rec_journal.proofs.lemmas.patches.StepLemmas.{edits_lead_to_one_text}
 use Rattle.rec_check.specs.DescribedTexts.{IsDescribedText}
@@ -21,12 +23,12 @@ use Rattle.rec_tools.specs.Steps.{Then}
 use Rattle.rec_tools.specs.Printouts.{Printout, history_text, printed_history}
 use Rattle.rec_tools.specs.Requests.{Edits, Asked, looking, listing, showing, listing_changes, editing, moving, forgetting, previewing, asked_of}
 use Rattle.rec_tools.specs.Outcomes.{Outcome, IsRequestOutcome, IsPrinting, IsMade, IsEditOutcome, IsPlanned, IsMove, IsMoveOutcome, IsForgetting, Forgets, printing, putting, reply_of}
-use Rattle.rec_tools.specs.Machine.{Entry, State, AreEntries, Stands, IsMachineStep, IsMoveStep, Clashes, entries_on, state_history, state_after_edit, state_after_move, state_after_forgetting}
+use Rattle.rec_tools.specs.Machine.{Entry, State, AreEntries, Stands, IsMachineStep, IsMoveStep, Clashes, entries_on, numbers_in, state_history, state_after_edit, state_after_move, state_after_forgetting}
 use Rattle.rec_tools.specs.Guarantee.{StepsAsMachine, OutcomesAreSteps}
 use Rattle.rec_text.proofs.lemmas.FaultLemmas.{ok_is_no_err}
 use Rattle.rec_tools.proofs.lemmas.machine.StandsLemmas.{StandsBy, stands_by, can_be_opened}
 use Rattle.rec_tools.proofs.lemmas.machine.ShowingLemmas.{shows_step, logs_step, previews_step}
-use Rattle.rec_tools.proofs.lemmas.outcomes.OpeningLemmas.{edit_leads_back, leads_on, leads_back}
+use Rattle.rec_tools.proofs.lemmas.outcomes.OpeningLemmas.{edit_leads_back, leads_on, leads_back, none_missing}
 use Rattle.rec_tools.proofs.lemmas.machine.ForgettingLemmas.{as_many_edits, stands_after_forgetting}
 
 -- ---- the history that is printed
@@ -48,6 +50,20 @@ printed_alike direction [] (entry ∷ entries) here are = absurd are
 printed_alike direction (e ∷ es) [] here are = absurd are
 printed_alike direction (e ∷ es) (entry ∷ entries) here are =
     ap₂ (λ x xs. x ∷ xs) (ap₂ pair are.0 are.1) (printed_alike direction es entries entry.text are.4)
+
+-- and have the same numbers
+pub numbered_alike : (direction : Direction) (es : List Revision) (entries : List Entry) (here : List ℕ) → AreEntries direction es entries here
+    → map (λ (e : Revision). e.number) es ≡ numbers_in entries
+numbered_alike direction [] [] here are = refl
+numbered_alike direction [] (entry ∷ entries) here are = absurd are
+numbered_alike direction (e ∷ es) [] here are = absurd are
+numbered_alike direction (e ∷ es) (entry ∷ entries) here are = ap₂ (λ n ns. n ∷ ns) are.0 (numbered_alike direction es entries entry.text are.4)
+
+-- where the number that is named is missing, the machine refuses the move
+missing_step : (direction : Direction) (through : Option ℕ) (s : State) (entries : List Entry) (fault : Fault)
+    → is_missing through (numbers_in entries) ≡ true → fault ≡ NoSuchEdit → IsMoveStep direction through s entries (Err fault) s
+missing_step direction through s [] fault missing e = absurd (none_missing through missing)
+missing_step direction through s (nearest ∷ others) fault missing e = inl (missing, ap Err e, refl)
 
 -- ---- the nearest entry that way
 
@@ -225,20 +241,28 @@ module _ (c : Contents) (s : State) (stands : Stands c s) where
 
   -- ---- a move
 
-  module _ (direction : Direction) (o : Opened) (opens : Opens c.file c.journal o) where
+  module _ (direction : Direction) (through : Option ℕ) (o : Opened) (opens : Opens c.file c.journal o) where
     by : StandsBy o c s
     by = by_opening o opens
 
-    moved : (outcome : Outcome) → IsMoveOutcome direction o c outcome → StepsAsMachine c s (moving direction) (Ok outcome)
-    moved outcome m =
+    same_numbers : numbers_on direction o ≡ numbers_in (entries_on direction s)
+    same_numbers = numbered_alike direction (edits_on direction o) (entries_on direction s) c.file (are_on direction o c s by)
+
+    moved : (outcome : Outcome) → is_missing through (numbers_on direction o) ≡ false → IsMoveOutcome direction o c outcome
+        → StepsAsMachine c s (moving direction through) (Ok outcome)
+    moved outcome here m =
         let has = has_nearest direction o c s m.moves.nearest m.moves.others by m.moves.there in
         let t = state_after_move direction s has.entry has.entries in
         let nearest = m.moves.nearest in
         let reply = reply_of direction nearest.number nearest.tool in
-        subst (λ x. StepsAsMachine c s (moving direction) (Ok x)) (sym m.is) (
+        subst (λ x. StepsAsMachine c s (moving direction through) (Ok x)) (sym m.is) (
           t,
           (
-            subst (λ es. IsMoveStep direction s es (Ok reply) t) (sym has.are) (ap₂ (λ n tool. Ok (reply_of direction n tool)) has.number has.tool, refl),
+            subst (λ es. IsMoveStep direction through s es (Ok reply) t) (sym has.are) (inr (
+              subst (λ ns. is_missing through ns ≡ false) (same_numbers ∙ ap numbers_in has.are) here,
+              ap₂ (λ n tool. Ok (reply_of direction n tool)) has.number has.tool,
+              refl,
+            )),
             refl,
           ),
           stands_after_move direction o c (record { file = m.plan.file; journal = m.plan.journal }) s m.moves.nearest m.moves.others by has
@@ -251,19 +275,21 @@ module _ (c : Contents) (s : State) (stands : Stands c s) where
         let has = has_nearest direction o c s nowhere.nearest nowhere.others by nowhere.there in
         nowhere.none has.entry.text has.leads
 
-    move_steps : (r : Result Outcome Fault) → IsMove direction o c r → StepsAsMachine c s (moving direction) r
-    move_steps (Ok outcome) (settled, m) = moved outcome m
-    move_steps (Err fault) (inl (e, drifted)) = absurd (no_drift drifted)
-    move_steps (Err fault) (inr (e, settled, nothing)) =
+    move_steps : (r : Result Outcome Fault) → IsMove direction through o c r → StepsAsMachine c s (moving direction through) r
+    move_steps (Ok outcome) (settled, here, m) = moved outcome here m
+    move_steps (Err fault) (inl (e, settled, missing)) =
+        inl (missing_step direction through s (entries_on direction s) fault (subst (λ ns. is_missing through ns ≡ true) same_numbers missing) e, refl)
+    move_steps (Err fault) (inr (here, inl (e, drifted))) = absurd (no_drift drifted)
+    move_steps (Err fault) (inr (here, inr (e, settled, nothing))) =
         let none : entries_on direction s ≡ [] =
         no_entries direction (entries_on direction s) c.file
         (subst (λ es. AreEntries direction es (entries_on direction s) c.file) nothing (are_on direction o c s by)) in
-        inl (subst (λ es. IsMoveStep direction s es (Err fault) s) (sym none) (ap Err e, refl), refl)
+        inl (subst (λ es. IsMoveStep direction through s es (Err fault) s) (sym none) (ap Err e, refl), refl)
 
-  moves_step : (direction : Direction) (r : Result Outcome Fault) → Then (IsOpening c.file c.journal) (λ o. IsMove direction o c) r
-      → StepsAsMachine c s (moving direction) r
-  moves_step direction r (inl (fault, refused, e)) = absurd (no_refusal fault refused)
-  moves_step direction r (inr (o, opens, move)) = move_steps direction o opens r move
+  moves_step : (direction : Direction) (through : Option ℕ) (r : Result Outcome Fault) → Then (IsOpening c.file c.journal) (λ o. IsMove direction through o c) r
+      → StepsAsMachine c s (moving direction through) r
+  moves_step direction through r (inl (fault, refused, e)) = absurd (no_refusal fault refused)
+  moves_step direction through r (inr (o, opens, move)) = move_steps direction through o opens r move
 
   -- ---- forgetting
 
@@ -302,7 +328,7 @@ outcomes_are_steps c s (showing number name) r stands is = shows_step c s stands
 outcomes_are_steps c s (listing_changes name) r stands is = logs_step c s stands name r is
 outcomes_are_steps c s (previewing name asked) r stands is = previews_step c s stands name asked (λ r is. outcomes_are_steps c s asked r stands is) r is
 outcomes_are_steps c s (editing IsEdit) r stands is = edits_step c s stands IsEdit r is
-outcomes_are_steps c s (moving direction) r stands is = moves_step c s stands direction r is
+outcomes_are_steps c s (moving direction through) r stands is = moves_step c s stands direction through r is
 outcomes_are_steps c s (forgetting n) r stands is = forgets_step c s stands n r is
 
 pub of_requests : OutcomesAreSteps

@@ -1,8 +1,9 @@
 -- What an edit and a move come to, once their history was opened and their text was found.
-use Rattle.std.proofs.Common.{◌≡◌, ◌≢◌, inl, inr, ℕ, Bool, false, List, [], ◌∷◌, ◌++◌, append-nil, Some, Result, Ok, Err, sym, ap, ap₂, subst, refl, ◌∙◌}
+use Rattle.std.proofs.Common.{◌≡◌, ◌≢◌, inl, inr, ℕ, Bool, true, false, List, [], ◌∷◌, ◌++◌, map, append-nil, Option, Some, Result, Ok, Err, sym, ap, ap₂, subst, refl, ◌∙◌}
 use Rattle.std.specs.List.{AllByRecursion}
+use Rattle.std.proofs.lemmas.Bool.{cases_Bool}
 use Rattle.rec_text.specs.declared.fault.Fault.{Fault}
-use Rattle.rec_text.specs.declared.fault.Fault.TheVariants.{DigestClash}
+use Rattle.rec_text.specs.declared.fault.Fault.TheVariants.{DigestClash, NoSuchEdit}
 use Rattle.rec_text.specs.Elements.{text_of}
 use Rattle.rec_text.specs.Faults.{IsMemoryOr, UnlessMemory}
 use Rattle.rec_journal.specs.declared.patch.Hunk.{Hunk}
@@ -17,8 +18,9 @@ use Rattle.rec_journal.specs.Event.{AreStepsBy}
 use Rattle.rec_journal.specs.History.{Opened, Opens, IsOpening}
 use Rattle.rec_journal.specs.Revisions.{single_step, is_batch, all_hunks, AreDone, LeadsBy, Leads}
 use Rattle.rec_journal.specs.Plans.{ShareDigest, IsEditPlan, IsMovePlan, IsNearest, TellsNearest, edit_to, after_edit_plan, after_move, edits_on}
+use Rattle.rec_journal.specs.Numbers.{numbers_on, is_missing}
 use Rattle.rec_journal.specs.Stops.{IsSafe}
-use Rattle.rec_journal.proofs.lemmas.histories.Countings.{Opens-digest}
+use Rattle.rec_journal.proofs.lemmas.histories.Countings.{Opens-digest, drifted-empty}
 use Rattle.rec_edit.specs.declared.answer.Edited.{Edited}
 use Rattle.rec_edit.specs.declared.outcome.Patched.{Patched}
 use Rattle.rec_edit.specs.Task.{Task, insert, replace, delete, comment_out, set, auto_fill, tool_of}
@@ -40,7 +42,7 @@ use Rattle.rec_tools.specs.proving.Courses.{HasCourse}
 use Rattle.rec_tools.specs.proving.Editing.{HasSteps}
 use Rattle.rec_text.proofs.lemmas.FaultLemmas.{memory_or_weaker, no_both, ok_is_no_err, same_fault, same_value}
 use Rattle.rec_text.proofs.lemmas.StepLemmas.{Then-ok}
-use Rattle.rec_tools.proofs.lemmas.outcomes.OpeningLemmas.{move_differs}
+use Rattle.rec_tools.proofs.lemmas.outcomes.OpeningLemmas.{move_differs, none_missing}
 
 -- ---- the steps of edits that are one
 
@@ -279,16 +281,31 @@ module _ (o : Opened) (file journal : List ℕ) (opens : IsOpening file journal 
 same_nearest : {x y : Revision} {xs ys : List Revision} → x ∷ xs ≡ y ∷ ys → x ≡ y
 same_nearest e = cc
 
-module _ (file journal : List ℕ) (direction : Direction) where
+module _ (file journal : List ℕ) (direction : Direction) (through : Option ℕ) where
   abbrev contents : Contents
   contents = record { file = file; journal = journal }
 
-  pub move-no_opening : (fault : Fault) → IsMemoryOr fault (IsOpening file journal (Err fault)) → IsMemoryOr fault (IsRequestOutcome contents (moving direction) (Err fault))
+  pub move-no_opening : (fault : Fault) → IsMemoryOr fault (IsOpening file journal (Err fault)) → IsMemoryOr fault (IsRequestOutcome contents (moving direction through) (Err fault))
   move-no_opening fault h = memory_or_weaker fault _ _ (λ none. inl (fault, none, refl)) h
 
   module _ (o : Opened) (opens : IsOpening file journal (Ok o)) where
-    pub move-refused : (fault : Fault) → IsMemoryOr fault (IsMovePlan direction o file journal (Err fault)) → IsMemoryOr fault (IsRequestOutcome contents (moving direction) (Err fault))
-    move-refused fault h = memory_or_weaker fault _ _ (λ refused. inr (o, opens, refused)) h
+    -- a history in which the number that is named is missing has an edit, and so it hasn't drifted
+    missing-settled : is_missing through (numbers_on direction o) ≡ true → o.drifted ≡ false
+    missing-settled missing =
+        elim (cases_Bool o.drifted) [
+          | inl drifted ↦ absurd (none_missing through (subst (λ ns. is_missing through ns ≡ true) (ap (map (λ (e : Revision). e.number)) (no_edits direction drifted)) missing))
+          | inr settled ↦ settled
+        ]
+      where
+        no_edits : (direction : Direction) → o.drifted ≡ true → edits_on direction o ≡ []
+        no_edits Backward drifted = (drifted-empty file journal o opens drifted).0
+        no_edits Forward drifted = (drifted-empty file journal o opens drifted).1
+
+    pub move-missing : true ≡ is_missing through (numbers_on direction o) → IsRequestOutcome contents (moving direction through) (Err NoSuchEdit)
+    move-missing missing = inr (o, opens, inl (refl, missing-settled (sym missing), sym missing))
+
+    pub move-refused : is_missing through (numbers_on direction o) ≡ false → (fault : Fault) → IsMemoryOr fault (IsMovePlan direction o file journal (Err fault)) → IsMemoryOr fault (IsRequestOutcome contents (moving direction through) (Err fault))
+    move-refused here fault h = memory_or_weaker fault _ _ (λ refused. inr (o, opens, inr (here, refused))) h
 
     -- where a move is planned, there is an edit that way
     pub move-has_edit : (plan : Plan) → IsMovePlan direction o file journal (Ok plan) → edits_on direction o ≡ [] → ⊥
@@ -320,11 +337,11 @@ module _ (file journal : List ℕ) (direction : Direction) where
         on_top Backward e others there = there
         on_top Forward e others there = refl
 
-    pub move-planned : (plan : Plan) → IsMovePlan direction o file journal (Ok plan)
+    pub move-planned : is_missing through (numbers_on direction o) ≡ false → (plan : Plan) → IsMovePlan direction o file journal (Ok plan)
         → ((e : Revision) (others : List Revision) → edits_on direction o ≡ e ∷ others → IsSafe file journal o (after_move direction o journal e others) plan)
         → (number : ℕ) (tool : Tool) → TellsNearest direction o number tool → (reply : Reply) → reply ≡ reply_of direction number tool
-        → (outcome : Outcome) → outcome ≡ putting plan reply → IsRequestOutcome contents (moving direction) (Ok outcome)
-    move-planned plan planned safe number tool (nearest, others, there, named, by) reply replied outcome put =
+        → (outcome : Outcome) → outcome ≡ putting plan reply → IsRequestOutcome contents (moving direction through) (Ok outcome)
+    move-planned here plan planned safe number tool (nearest, others, there, named, by) reply replied outcome put =
         let moves = planned.1 in
         let same : nearest ≡ moves.nearest = same_nearest (sym there ∙ moves.there) in
         inr (
@@ -332,6 +349,7 @@ module _ (file journal : List ℕ) (direction : Direction) where
           opens,
           (
             planned.0,
+            here,
             record {
               plan = plan;
               moves = moves;

@@ -1,5 +1,6 @@
 -- Where an edit that is planned leads.
-use Rattle.std.proofs.Common.{◌≡◌, ◌≢◌, ◌∙◌, ℕ, List, ◌∷◌, refl, ap, sym, subst}
+use Rattle.std.proofs.Common.{◌≡◌, ◌≢◌, ◌∙◌, ℕ, true, Option, Some, None, List, [], ◌∷◌, refl, ap, sym, subst}
+use Rattle.std.proofs.lemmas.Bool.{false≢true}
 use Rattle.rec_journal.specs.declared.event.Revision.{Revision}
 use Rattle.rec_journal.specs.declared.patch.Direction.{Direction}
 use Rattle.rec_journal.specs.declared.patch.Direction.TheVariants.{Forward, Backward}
@@ -8,12 +9,18 @@ use Rattle.rec_journal.specs.declared.event.Tool.{Tool}
 use Rattle.rec_journal.specs.History.{Opened, Opens}
 use Rattle.rec_journal.specs.Revisions.{Leads}
 use Rattle.rec_journal.specs.Plans.{ShareDigest, edit_to, edits_on}
+use Rattle.rec_journal.specs.Numbers.{is_missing}
 use Rattle.rec_journal.proofs.lemmas.histories.Countings.{Opens-digest}
 use Rattle.rec_journal.proofs.lemmas.plans.KeptLemmas.{Opens-counts}
 use Rattle.rec_journal.proofs.lemmas.plans.PlanLemmas.{nearest_differs}
 use Rattle.rec_edit.specs.declared.answer.Edited.{Edited}
 use Rattle.rec_tools.specs.Home.{Contents}
 use Rattle.rec_tools.specs.Outcomes.{IsPlanned}
+
+-- where there is no edit, none is missing
+pub none_missing : (through : Option ℕ) → is_missing through [] ≡ true → ⊥
+none_missing None e = false≢true e
+none_missing (Some number) e = false≢true e
 
 -- ---- the plan of an edit
 

@@ -1,5 +1,5 @@
 -- A request comes to one outcome on two contents at most.
-use Rattle.std.proofs.Common.{arith, ◌≡◌, inl, inr, ℕ, Bool, Option, List, ◌∷◌, length, map, Result, Ok, Err, sym, ap, ap₂, subst, ◌∙◌}
+use Rattle.std.proofs.Common.{arith, ◌≡◌, inl, inr, ℕ, Bool, true, false, Option, List, ◌∷◌, length, map, Result, Ok, Err, sym, ap, ap₂, subst, ◌∙◌}
 use Rattle.std.proofs.lemmas.Bool.{false≢true}
 use Rattle.rec_text.specs.declared.fault.Fault.{Fault}
 use Rattle.rec_text.specs.declared.fault.Fault.TheVariants.{BadPattern}
@@ -29,6 +29,7 @@ use Rattle.rec_journal.specs.declared.plan.Plan.{Plan}
 use Rattle.rec_journal.specs.EditTexts.{IsEditTexts}
 use Rattle.rec_journal.specs.History.{Opened, Opens, IsOpening}
 use Rattle.rec_journal.specs.Plans.{IsMovePlan}
+use Rattle.rec_journal.specs.Numbers.{numbers_on, is_missing}
 use Rattle.rec_journal.proofs.lemmas.plans.PlanLemmas.{one_move_plan}
 use Rattle.rec_journal.proofs.lemmas.histories.Openings.{one_opening}
 use Rattle.rec_journal.proofs.lemmas.texts.AllLemmas.{one_list_of_texts}
@@ -149,7 +150,7 @@ abbrev pub MeansOne : Asked → Type 0
 MeansOne (looking IsText) = (file : List ℕ) → HasOneBut (IsText file)
 MeansOne listing = Unit {0}
 MeansOne (editing IsEdit) = AgreeLike AreEditsAlike IsEdit IsEdit
-MeansOne (moving direction) = Unit {0}
+MeansOne (moving direction through) = Unit {0}
 MeansOne (showing number name) = Unit {0}
 MeansOne (listing_changes name) = Unit {0}
 MeansOne (forgetting n) = Unit {0}
@@ -161,8 +162,8 @@ one_meaning (Info record_type form) = λ file. HasOneBut-shown _ (HasOneBut-info
 one_meaning Check = λ file. HasOneBut-reported _ (HasOneBut-check file)
 one_meaning (Edit edit force) = agree_on_one edit force
 one_meaning (Batch text force) = agree_on_batch text force
-one_meaning Undo = tt
-one_meaning Redo = tt
+one_meaning (Undo through) = tt
+one_meaning (Redo through) = tt
 one_meaning (Forget n) = tt
 one_meaning History = tt
 one_meaning (Diff number name) = tt
@@ -193,26 +194,34 @@ module _ (o : Opened) (c : Contents) (opens : Opens c.file c.journal o) (tool : 
 same_first : (one other : Revision) (rest others : List Revision) → one ∷ rest ≡ other ∷ others → one ≡ other
 same_first one other rest others e = cc
 
-module _ (direction : Direction) (o : Opened) (c : Contents) where
-  is_planned : (outcome : Outcome) (is : IsMove direction o c (Ok outcome)) → IsMovePlan direction o c.file c.journal (Ok is.1.plan)
-  is_planned outcome (settled, m) = (settled, m.moves)
+module _ (direction : Direction) (through : Option ℕ) (o : Opened) (c : Contents) where
+  is_planned : (outcome : Outcome) (is : IsMove direction through o c (Ok outcome)) → IsMovePlan direction o c.file c.journal (Ok is.2.plan)
+  is_planned outcome (settled, here, m) = (settled, m.moves)
+
+  not_both : is_missing through (numbers_on direction o) ≡ false → is_missing through (numbers_on direction o) ≡ true → ⊥
+  not_both here missing = false≢true (sym here ∙ missing)
 
   one_plan : (one other : Result Plan Fault) → IsMovePlan direction o c.file c.journal one → IsMovePlan direction o c.file c.journal other → one ≡ other
   one_plan one other is is_too = one_move_plan direction o c.file c.journal one other is is_too
 
-  HasOne-move : HasOne (IsMove direction o c)
+  HasOne-move : HasOne (IsMove direction through o c)
   HasOne-move (Ok one) (Ok other) is is_too =
-      let m = is.1 in
-      let n = is_too.1 in
+      let m = is.2 in
+      let n = is_too.2 in
       let plans = same_value m.plan n.plan (one_plan (Ok m.plan) (Ok n.plan) (is_planned one is) (is_planned other is_too)) in
       let nearest = same_first m.moves.nearest n.moves.nearest m.moves.others n.moves.others (sym m.moves.there ∙ n.moves.there) in
       ap Ok (m.is ∙ ap (λ p. putting p (reply_of direction m.moves.nearest.number m.moves.nearest.tool)) plans
       ∙ ap (λ (e : Revision). putting n.plan (reply_of direction e.number e.tool)) nearest ∙ sym n.is)
-  HasOne-move (Ok one) (Err fault) is is_too =
-      absurd (no_both is.1.plan fault (one_plan (Ok is.1.plan) (Err fault) (is_planned one is) is_too))
-  HasOne-move (Err fault) (Ok other) is is_too =
-      absurd (no_both is_too.1.plan fault (one_plan (Ok is_too.1.plan) (Err fault) (is_planned other is_too) is))
-  HasOne-move (Err fault) (Err other) is is_too = ap Err (same_fault fault other (one_plan (Err fault) (Err other) is is_too))
+  HasOne-move (Ok one) (Err fault) is (inl (e, settled, missing)) = absurd (not_both is.1 missing)
+  HasOne-move (Ok one) (Err fault) is (inr (here, refused)) =
+      absurd (no_both is.2.plan fault (one_plan (Ok is.2.plan) (Err fault) (is_planned one is) refused))
+  HasOne-move (Err fault) (Ok other) (inl (e, settled, missing)) is_too = absurd (not_both is_too.1 missing)
+  HasOne-move (Err fault) (Ok other) (inr (here, refused)) is_too =
+      absurd (no_both is_too.2.plan fault (one_plan (Ok is_too.2.plan) (Err fault) (is_planned other is_too) refused))
+  HasOne-move (Err fault) (Err other) (inl (e, settled, missing)) (inl (k, settled_too, missing_too)) = ap Err (e ∙ sym k)
+  HasOne-move (Err fault) (Err other) (inl (e, settled, missing)) (inr (here, refused)) = absurd (not_both here missing)
+  HasOne-move (Err fault) (Err other) (inr (here, refused)) (inl (k, settled, missing)) = absurd (not_both here missing)
+  HasOne-move (Err fault) (Err other) (inr (here, is)) (inr (here_too, is_too)) = ap Err (same_fault fault other (one_plan (Err fault) (Err other) is is_too))
 
 -- ---- forgetting
 
@@ -330,8 +339,8 @@ module _ (c : Contents) where
       absurd (no_both would fault (one_outcome_of asked means (Ok would) (Err fault) is_too is (no_both would BadPattern) built))
   one_outcome_of (previewing name asked) means (Err fault) (Err other) is is_too built built_too = one_outcome_of asked means (Err fault) (Err other) is is_too built built_too
   one_outcome_of (editing IsEdit) means one other is is_too built built_too = HasOneBut-edit IsEdit means one other is is_too built built_too
-  one_outcome_of (moving direction) means one other is is_too built built_too =
-      HasOne-Then (IsOpening c.file c.journal) (λ o. IsMove direction o c) (one_opening c.file c.journal) (λ o _. HasOne-move direction o c)
+  one_outcome_of (moving direction through) means one other is is_too built built_too =
+      HasOne-Then (IsOpening c.file c.journal) (λ o. IsMove direction through o c) (one_opening c.file c.journal) (λ o _. HasOne-move direction through o c)
       one other is is_too
   one_outcome_of (forgetting n) means one other is is_too built built_too =
       HasOne-Then (IsOpening c.file c.journal) (λ o. IsForgetting n o c) (one_opening c.file c.journal) (λ o _. HasOne-forgetting n o c)

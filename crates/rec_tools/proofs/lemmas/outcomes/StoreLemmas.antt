@@ -45,12 +45,14 @@ no_store_there : (direction : Direction) → StoreFailed ≡ nothing_there direc
 no_store_there Backward e = cc
 no_store_there Forward e = cc
 
-no_store_move : (direction : Direction) (o : Opened) (c : Contents) → IsMove direction o c (Err StoreFailed) → ⊥
-no_store_move direction o c (inl drifted) = let e = drifted.0 in cc
-no_store_move direction o c (inr none) = no_store_there direction none.0
+no_store_move : (direction : Direction) (through : Option ℕ) (o : Opened) (c : Contents) → IsMove direction through o c (Err StoreFailed) → ⊥
+no_store_move direction through o c (inl missing) = let e = missing.0 in cc
+no_store_move direction through o c (inr (here, inl drifted)) = let e = drifted.0 in cc
+no_store_move direction through o c (inr (here, inr none)) = no_store_there direction none.0
 
-never_moves : (direction : Direction) (c : Contents) → IsRequestOutcome c (moving direction) (Err StoreFailed) → ⊥
-never_moves direction c = no_store_then (IsOpening c.file c.journal) (λ o. IsMove direction o c) (λ h. h) (λ o. no_store_move direction o c)
+never_moves : (direction : Direction) (through : Option ℕ) (c : Contents) → IsRequestOutcome c (moving direction through) (Err StoreFailed) → ⊥
+never_moves direction through c =
+    no_store_then (IsOpening c.file c.journal) (λ o. IsMove direction through o c) (λ h. h) (λ o. no_store_move direction through o c)
 
 -- ---- forgetting
 
@@ -88,8 +90,8 @@ never_store (Info record_type form) c is =
 never_store Check c is = no_store_report c.file is
 never_store (Edit edit force) c is = never_edits c (IsOneEdit edit force) (no_store_one edit force) is
 never_store (Batch text force) c is = never_edits c (IsBatch text force) (no_store_listed text force) is
-never_store Undo c is = never_moves Backward c is
-never_store Redo c is = never_moves Forward c is
+never_store (Undo through) c is = never_moves Backward through c is
+never_store (Redo through) c is = never_moves Forward through c is
 never_store (Forget n) c is = never_forgets n c is
 never_store (Diff number name) c is = no_store_shown number name c.file c.journal is
 never_store (Log name) c is = no_store_log name c.file c.journal is

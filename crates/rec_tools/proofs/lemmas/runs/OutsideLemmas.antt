@@ -1,5 +1,5 @@
 -- A file that was changed outside, and what requests then come to.
-use Rattle.std.proofs.Common.{◌≡◌, ◌⊎◌, inl, inr, ℕ, true, false, List, [], Result, Ok, Err, sym, ap, subst, refl, ◌∙◌}
+use Rattle.std.proofs.Common.{◌≡◌, ◌⊎◌, inl, inr, ℕ, true, false, List, [], Option, Result, Ok, Err, sym, ap, subst, refl, ◌∙◌}
 use Rattle.std.specs.Prelude.{codes, if◌then◌else◌, map}
 use Rattle.std.proofs.lemmas.Bool.{false≢true}
 use Rattle.rec_text.specs.declared.fault.Fault.{Fault}
@@ -37,11 +37,12 @@ module _ (c : Contents) (o : Opened) (opens : Opens c.file c.journal o) (drifted
   not_settled : (p : Opened) → Opens c.file c.journal p → p.drifted ≡ false → ⊥
   not_settled p opened settled = false≢true (sym settled ∙ ap (λ (x : Opened). x.drifted) (same_opening p opened) ∙ drifted)
 
-  no_move : (direction : Direction) (r : Result Outcome Fault) → IsRequestOutcome c (moving direction) r → r ≡ Err Drifted
-  no_move direction r (inl (fault, refused, e)) = absurd (no_refusal fault refused)
-  no_move direction (Ok outcome) (inr (p, opened, (settled, m))) = absurd (not_settled p opened settled)
-  no_move direction (Err fault) (inr (p, opened, inl (is, why))) = ap Err is
-  no_move direction (Err fault) (inr (p, opened, inr (is, settled, none))) = absurd (not_settled p opened settled)
+  no_move : (direction : Direction) (through : Option ℕ) (r : Result Outcome Fault) → IsRequestOutcome c (moving direction through) r → r ≡ Err Drifted
+  no_move direction through r (inl (fault, refused, e)) = absurd (no_refusal fault refused)
+  no_move direction through (Ok outcome) (inr (p, opened, (settled, here, m))) = absurd (not_settled p opened settled)
+  no_move direction through (Err fault) (inr (p, opened, inl (is, settled, missing))) = absurd (not_settled p opened settled)
+  no_move direction through (Err fault) (inr (p, opened, inr (here, inl (is, why)))) = ap Err is
+  no_move direction through (Err fault) (inr (p, opened, inr (here, inr (is, settled, none)))) = absurd (not_settled p opened settled)
 
   nothing_forgotten : (n : ℕ) (r : Result Outcome Fault) → IsRequestOutcome c (forgetting n) r → r ≡ Err Drifted
   nothing_forgotten n r (inl (fault, refused, e)) = absurd (no_refusal fault refused)
@@ -88,7 +89,7 @@ module _ (c : Contents) (o : Opened) (opens : Opens c.file c.journal o) (drifted
   begins_anew (editing IsEdit) outcome (inr (text, is, inr (p, opened, inr ((tool, made), done, inr (differs, (plan, planned, e)))))) =
       let here : IsPlanned o c tool made plan = subst (λ x. IsPlanned x c tool made plan) (same_opening p opened) planned in
       inr (tool, made.steps, subst (λ ws. Stands (written c ws) (outside_state c o tool made.steps (written c ws).file)) (sym (ap (λ (x : Outcome). x.writes) e)) (begun tool made plan here))
-  begins_anew (moving direction) outcome is = absurd (ok_is_no_err outcome Drifted ⊥ (sym (no_move direction (Ok outcome) is)))
+  begins_anew (moving direction through) outcome is = absurd (ok_is_no_err outcome Drifted ⊥ (sym (no_move direction through (Ok outcome) is)))
   begins_anew (forgetting n) outcome is = absurd (ok_is_no_err outcome Drifted ⊥ (sym (nothing_forgotten n (Ok outcome) is)))
 
 pub outside_is_noticed : OutsideIsNoticed

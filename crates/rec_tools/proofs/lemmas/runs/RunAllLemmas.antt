@@ -45,7 +45,7 @@ module _ {H : Type 0} (goes : H → Call → H → Type 0) where
   AttemptsAll-counted old new (request ∷ requests) [] calls p done = absurd done
 
   -- the calls of all
-  AttemptsAll-went : (old new : H) (requests : List Request) (answers : List Answer) (calls : List Call) (p : Printed) → AttemptsAll goes old new requests answers calls p → Went goes old calls new
+  pub AttemptsAll-went : (old new : H) (requests : List Request) (answers : List Answer) (calls : List Call) (p : Printed) → AttemptsAll goes old new requests answers calls p → Went goes old calls new
   AttemptsAll-went old new [] [] calls p done = subst (λ made. Went goes old made new) (sym done.1) done.0
   AttemptsAll-went old new (request ∷ requests) (answer ∷ answers) calls p (mid, now, later, first, rest, are, parts, tried, tried_later) =
       subst (λ made. Went goes old made new) (sym are) (went_on goes old mid new now later tried.0 (AttemptsAll-went mid new requests answers later rest tried_later))

@@ -91,7 +91,7 @@ writes_nothing c (looking IsText) o nothing is = ap (λ (x : Outcome). x.writes)
 writes_nothing c listing o nothing (inl refused) = let e = refused.2 in cc
 writes_nothing c listing o nothing (inr listed) = ap (λ (x : Outcome). x.writes) (same_value o _ listed.2)
 writes_nothing c (editing IsEdit) o nothing is = absurd nothing
-writes_nothing c (moving direction) o nothing is = absurd nothing
+writes_nothing c (moving direction through) o nothing is = absurd nothing
 writes_nothing c (forgetting n) o nothing is = absurd nothing
 writes_nothing c (showing number name) o nothing is = ap (λ (x : Outcome). x.writes) is.2
 writes_nothing c (listing_changes name) o nothing is = ap (λ (x : Outcome). x.writes) is.2

@@ -49,9 +49,9 @@ grew c (editing IsEdit) done writes made (inr (text, is, inr (o, opens, inr ((to
       opens_after = planned.safe.next;
       one_more = omega arith;
     })
-grew c (moving direction) done writes made (inl (fault, refused, e)) = absurd (no_both done fault e)
-grew c (moving Backward) done writes made (inr (o, opens, (settled, m))) = absurd (subst (λ (x : Outcome). MadeAnEdit x.reply) m.is made)
-grew c (moving Forward) done writes made (inr (o, opens, (settled, m))) =
+grew c (moving direction through) done writes made (inl (fault, refused, e)) = absurd (no_both done fault e)
+grew c (moving Backward through) done writes made (inr (o, opens, (settled, here, m))) = absurd (subst (λ (x : Outcome). MadeAnEdit x.reply) m.is made)
+grew c (moving Forward through) done writes made (inr (o, opens, (settled, here, m))) =
     subst (λ (x : Outcome). GrewByOne c (written c x.writes)) (sym m.is) (record {
       differ = move_differs c.file c.journal o opens Forward m.moves.nearest m.moves.others m.moves.there m.plan.file m.moves.leads;
       before = o;

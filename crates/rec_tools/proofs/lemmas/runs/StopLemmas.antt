@@ -98,8 +98,8 @@ module _ (c : Contents) (regular : IsRegular c.journal) where
       leaves-nothing outcome.writes (ap (λ (x : Outcome). x.writes) e)
   leaves (editing IsEdit) outcome (inr (text, is, inr (o, opens, inr (made, done, inr (differs, (plan, planned, e)))))) =
       subst (λ (x : Outcome). Leaves c x.writes) (sym e) (leaves-plan o _ opens plan planned.safe)
-  leaves (moving direction) outcome (inl refused) = let e = refused.2 in cc
-  leaves (moving direction) outcome (inr (o, opens, (settled, m))) =
+  leaves (moving direction through) outcome (inl refused) = let e = refused.2 in cc
+  leaves (moving direction through) outcome (inr (o, opens, (settled, here, m))) =
       subst (λ (x : Outcome). Leaves c x.writes) (sym m.is) (leaves-plan o _ opens m.plan m.safe)
   leaves (forgetting n) outcome (inl refused) = let e = refused.2 in cc
   leaves (forgetting n) outcome (inr (o, opens, (settled, inl (few, e)))) = leaves-nothing outcome.writes (ap (λ (x : Outcome). x.writes) e)

@@ -1,0 +1,232 @@
+-- Moves through the edit of a number, one after another: the answers so far, and what is told of them at the end.
+use Rattle.std.proofs.Common.{◌≡◌, ◌∙◌, ℕ, ◌-◌, ◌<◌, ◌≤◌, ◌^◌, true, false, Option, Some, None, List, [], ◌∷◌, ◌++◌, length, length-append, replicate, reverse, append-nil, ap, sym, subst, refl, arith}
+use Rattle.std.specs.Prelude.{IfSome, slice_get, nat_lt}
+use Rattle.std.specs.List.{cons_option}
+use Rattle.std.specs.Option.{option_or}
+use Rattle.std.proofs.lemmas.Bool.{false≢true, ltb-true, and_parts}
+use Rattle.std.proofs.lemmas.List.{replicate_more, reverse-append}
+use Rattle.std.proofs.lemmas.List.Elements.{filter_map-append}
+use Rattle.rec_journal.specs.declared.patch.Direction.{Direction}
+use Rattle.rec_journal.specs.declared.patch.Direction.TheVariants.{Forward, Backward}
+use Rattle.rec_journal.specs.History.{IsRegular}
+use Rattle.rec_tools.specs.declared.request.Request.{Request}
+use Rattle.rec_tools.specs.declared.through.Through.{Through}
+use Rattle.rec_tools.specs.Home.{Contents, Call, left_by, left_by_all, TellsOf, HasFailed}
+use Rattle.rec_tools.specs.Printouts.{Printed, WentOut}
+use Rattle.rec_tools.specs.Requests.{asked_of, IsSilent}
+use Rattle.rec_tools.specs.Attempts.{Answer, AttemptsAll}
+use Rattle.rec_tools.specs.Machine.{State, Stands}
+use Rattle.rec_tools.specs.Guarantee.{RunsAsMachine}
+use Rattle.rec_tools.specs.Through.{move_through, moves_through, moved_by, leads_on, LeadThrough, all_moved, EndsThrough}
+use Rattle.rec_tools.specs.proving.Moving.{GoesThrough}
+use Rattle.rec_tools.proofs.lemmas.calls.ExitLemmas.{Attempted}
+use Rattle.rec_tools.proofs.lemmas.runs.RunAllLemmas.{AttemptedAll, RanAsMachine, RanWithFailures, attempted_all-none, attempted_all-more, attempted_all-runs, attempted_all-fails}
+
+-- nothing is printed for a move
+pub silent_move : (direction : Direction) (number : ℕ) → IsSilent (asked_of (move_through direction number))
+silent_move Backward number = tt
+silent_move Forward number = tt
+
+-- ---- answers that lead on
+
+-- the last edit that was moved, after these answers
+abbrev pub led_to : Option ℕ → List Answer → Option ℕ
+led_to last [] = last
+led_to last (answer ∷ answers) = led_to (moved_by answer) answers
+
+led_to-more : (last : Option ℕ) (answers : List Answer) (answer : Answer) → led_to last (answers ++ answer ∷ []) ≡ moved_by answer
+led_to-more last [] answer = refl
+led_to-more last (a ∷ answers) answer = led_to-more (moved_by a) answers answer
+
+module _ (direction : Direction) (number : ℕ) where
+  -- each of them does
+  abbrev pub AllLeadOn : Option ℕ → List Answer → Type 0
+  AllLeadOn last [] = Unit {0}
+  AllLeadOn last (answer ∷ answers) = (leads_on direction number last (moved_by answer) ≡ true) × AllLeadOn (moved_by answer) answers
+
+  AllLeadOn-more : (last : Option ℕ) (answers : List Answer) (answer : Answer) → AllLeadOn last answers
+      → leads_on direction number (led_to last answers) (moved_by answer) ≡ true → AllLeadOn last (answers ++ answer ∷ [])
+  AllLeadOn-more last [] answer led leads = (leads, tt)
+  AllLeadOn-more last (a ∷ answers) answer led leads = (led.0, AllLeadOn-more (moved_by a) answers answer led.1 leads)
+
+  LeadThrough-end : (last : Option ℕ) (answers : List Answer) (answer : Answer) → AllLeadOn last answers
+      → leads_on direction number (led_to last answers) (moved_by answer) ≡ false → LeadThrough direction number last (answers ++ answer ∷ [])
+  LeadThrough-end last [] answer led ends = ends
+  LeadThrough-end last (a ∷ []) answer led ends = (led.0, ends)
+  LeadThrough-end last (a ∷ (b ∷ answers)) answer led ends = (led.0, LeadThrough-end (moved_by a) (b ∷ answers) answer led.1 ends)
+
+-- ---- the first and the last edit that was moved
+
+first_of_more : (numbers : List ℕ) (moved : Option ℕ) → option_or (slice_get numbers 0) moved ≡ slice_get (numbers ++ cons_option moved []) 0
+first_of_more [] None = refl
+first_of_more [] (Some n) = refl
+first_of_more (m ∷ numbers) moved = refl
+
+last_of_more : (numbers : List ℕ) (moved : Option ℕ) → option_or moved (slice_get (reverse numbers) 0) ≡ slice_get (reverse (numbers ++ cons_option moved [])) 0
+last_of_more numbers None = ap (λ ns. slice_get (reverse ns) 0) (sym (append-nil numbers))
+last_of_more numbers (Some n) = ap (λ ns. slice_get ns 0) (sym (reverse-append numbers (n ∷ [])))
+
+module _ (answers : List Answer) (answer : Answer) where
+  all_moved-more : all_moved (answers ++ answer ∷ []) ≡ all_moved answers ++ cons_option (moved_by answer) []
+  all_moved-more = filter_map-append moved_by answers (answer ∷ [])
+
+  first_more : option_or (slice_get (all_moved answers) 0) (moved_by answer) ≡ slice_get (all_moved (answers ++ answer ∷ [])) 0
+  first_more = first_of_more (all_moved answers) (moved_by answer) ∙ ap (λ ns. slice_get ns 0) (sym all_moved-more)
+
+  last_more : option_or (moved_by answer) (slice_get (reverse (all_moved answers)) 0) ≡ slice_get (reverse (all_moved (answers ++ answer ∷ []))) 0
+  last_more = last_of_more (all_moved answers) (moved_by answer) ∙ ap (λ ns. slice_get (reverse ns) 0) (sym all_moved-more)
+
+  last_answer : Some answer ≡ slice_get (reverse (answers ++ answer ∷ [])) 0
+  last_answer = ap (λ (all : List Answer). slice_get all 0) (sym (reverse-append answers (answer ∷ [])))
+
+  replicate_one_more : (request : Request) → replicate (length answers) request ++ request ∷ [] ≡ replicate (length (answers ++ answer ∷ [])) request
+  replicate_one_more request = replicate_more (length answers) request ∙ ap (λ n. replicate n request) (sym (length-append answers (answer ∷ [])))
+
+-- the last edit that was moved is that of the last answer, where it leads on
+led-last : (direction : Direction) (number : ℕ) (last moved : Option ℕ) → leads_on direction number last moved ≡ true → option_or moved last ≡ moved
+led-last direction number last None leads = absurd (false≢true leads)
+led-last direction number last (Some n) leads = refl
+
+-- ---- on a home and a sink
+
+module _ {H S : Type 0} (goes : H → Call → H → Type 0) (told : S → Option (List ℕ)) (sink_failures : S → ℕ) where
+  -- moves through the edit of a number were asked for, and each led on
+  pub record SoFar (direction : Direction) (number : ℕ) (old home : H) (out now : S) (first last : Option ℕ) : Type 0 where
+    pub answers : List Answer
+    pub led : AllLeadOn direction number None answers
+    pub to : last ≡ led_to None answers
+    pub first_is : first ≡ slice_get (all_moved answers) 0
+    pub last_is : last ≡ slice_get (reverse (all_moved answers)) 0
+    pub silent : now ≡ out
+    pub done : AttemptedAll goes told sink_failures old home out now (replicate (length answers) (move_through direction number)) answers
+
+  pub none_so_far : (direction : Direction) (number : ℕ) (home : H) (out : S) → SoFar direction number home home out out None None
+  none_so_far direction number home out = record {
+    answers = [];
+    led = tt;
+    to = refl;
+    first_is = refl;
+    last_is = refl;
+    silent = refl;
+    done = attempted_all-none goes told sink_failures home out;
+  }
+
+  module _ (direction : Direction) (number : ℕ) (old home new : H) (out mid now : S) (first last moved : Option ℕ) (answer : Answer)
+      (so_far : SoFar direction number old home out mid first last) (is : moved ≡ moved_by answer) (silent : now ≡ mid)
+      (tried : Attempted goes told sink_failures home new mid now (asked_of (move_through direction number)) answer) where
+    abbrev all_answers : List Answer
+    all_answers = so_far.answers ++ answer ∷ []
+
+    abbrev the_request : Request
+    the_request = move_through direction number
+
+    done_more : AttemptedAll goes told sink_failures old new out now (replicate (length all_answers) the_request) all_answers
+    done_more =
+        subst (λ requests. AttemptedAll goes told sink_failures old new out now requests all_answers) (replicate_one_more so_far.answers answer the_request)
+        (attempted_all-more goes told sink_failures out mid now (omega (arith, ap sink_failures so_far.silent)) (omega (arith, ap sink_failures silent))
+        old home new (replicate (length so_far.answers) the_request) so_far.answers the_request answer so_far.done tried)
+
+    the_first : option_or first moved ≡ slice_get (all_moved all_answers) 0
+    the_first = ap (λ f. option_or f moved) so_far.first_is ∙ ap (option_or (slice_get (all_moved so_far.answers) 0)) is ∙ first_more so_far.answers answer
+
+    the_last : option_or moved last ≡ slice_get (reverse (all_moved all_answers)) 0
+    the_last = ap (option_or moved) so_far.last_is ∙ ap (λ m. option_or m (slice_get (reverse (all_moved so_far.answers)) 0)) is ∙ last_more so_far.answers answer
+
+    leads_here : leads_on direction number last moved ≡ leads_on direction number (led_to None so_far.answers) (moved_by answer)
+    leads_here = ap (λ l. leads_on direction number l moved) so_far.to ∙ ap (leads_on direction number (led_to None so_far.answers)) is
+
+    pub one_led : leads_on direction number last moved ≡ true → SoFar direction number old new out now (option_or first moved) (option_or moved last)
+    one_led leads = record {
+      answers = all_answers;
+      led = AllLeadOn-more direction number None so_far.answers answer so_far.led (sym leads_here ∙ leads);
+      to = led-last direction number last moved leads ∙ is ∙ sym (led_to-more None so_far.answers answer);
+      first_is = the_first;
+      last_is = the_last;
+      silent = silent ∙ so_far.silent;
+      done = done_more;
+    }
+
+    pub one_ended : leads_on direction number last moved ≡ false
+        → GoesThrough goes told sink_failures direction number old new out now (record { first = option_or first moved; last = option_or moved last; answer = answer })
+    one_ended ends = (
+      all_answers,
+      record {
+        lead = LeadThrough-end direction number None so_far.answers answer so_far.led (sym leads_here ∙ ends);
+        first = the_first;
+        last = the_last;
+        answer = last_answer so_far.answers answer;
+      },
+      done_more.0,
+      done_more.1,
+      done_more.2,
+      done_more.3,
+    )
+
+  -- ---- the machine
+
+  module _ (direction : Direction) (number : ℕ) (old new : H) (out now : S) (ended : Through) where
+    -- from contents that stand for a state the moves ran as the machine, where no call failed
+    abbrev pub RanThrough : Option Contents → Option Contents → Type 0
+    RanThrough known known_new = IfSome known (λ c. (s : State) → Stands c s → (answers : List Answer) × EndsThrough direction number answers ended
+        × (calls : List Call) × (p : Printed) × WentOut told sink_failures out now p
+        × AttemptsAll goes old new (moves_through direction number answers) answers calls p × (known_new ≡ Some (left_by_all c calls))
+        × ((HasFailed calls → ⊥) → (t : State) × RunsAsMachine c s (moves_through direction number answers) answers calls p t))
+
+    -- the same whatever fails, from a regular journal, which stays so
+    abbrev pub FailedThrough : Option Contents → Option Contents → Type 0
+    FailedThrough known known_new =
+        IfSome known (λ c. (s : State) → Stands c s → IsRegular c.journal → (answers : List Answer) × EndsThrough direction number answers ended
+        × (calls : List Call) × (p : Printed) × (t : State) × WentOut told sink_failures out now p
+        × AttemptsAll goes old new (moves_through direction number answers) answers calls p × (known_new ≡ Some (left_by_all c calls))
+        × RunsAsMachine c s (moves_through direction number answers) answers calls p t × IsRegular (left_by_all c calls).journal)
+
+    module _ (answers : List Answer) (ends : EndsThrough direction number answers ended) where
+      ran_through : (known known_new : Option Contents)
+          → RanAsMachine goes told sink_failures known known_new old new out now (moves_through direction number answers) answers → RanThrough known known_new
+      ran_through None known_new ran = tt
+      ran_through (Some c) known_new ran = λ s stands. let r = ran s stands in (answers, ends, r.0, r.1, r.2, r.3, r.4, r.5)
+
+      failed_through : (known known_new : Option Contents)
+          → RanWithFailures goes told sink_failures known known_new old new out now (moves_through direction number answers) answers → FailedThrough known known_new
+      failed_through None known_new ran = tt
+      failed_through (Some c) known_new ran = λ s stands regular.
+          let r = ran s stands regular in (answers, ends, r.0, r.1, r.2, r.3, r.4, r.5, r.6, r.7)
+
+    module _ (contents : H → Option Contents)
+        (follows : (one other : H) (call : Call) → goes one call other → IfSome (contents one) (λ c. TellsOf c call × (contents other ≡ Some (left_by c call)))) where
+      pub ended-runs : GoesThrough goes told sink_failures direction number old new out now ended → RanThrough (contents old) (contents new)
+      ended-runs (answers, ends, calls, p, went_out, done) =
+          ran_through answers ends (contents old) (contents new)
+          (attempted_all-runs goes told sink_failures contents follows old new out now (moves_through direction number answers) answers (calls, p, went_out, done))
+
+      pub ended-fails : GoesThrough goes told sink_failures direction number old new out now ended → FailedThrough (contents old) (contents new)
+      ended-fails (answers, ends, calls, p, went_out, done) =
+          failed_through answers ends (contents old) (contents new)
+          (attempted_all-fails goes told sink_failures contents follows old new out now (moves_through direction number answers) answers (calls, p, went_out, done))
+
+-- ---- the moves end
+
+-- how far it is from the last edit that was moved
+abbrev pub left_to_go : Direction → ℕ → Option ℕ → ℕ
+left_to_go direction number None = 2 ^ 64
+left_to_go Backward number (Some last) = last - number
+left_to_go Forward number (Some last) = number - last
+
+pub less_to_go : (direction : Direction) (number : ℕ) (last moved : Option ℕ) → number < 2 ^ 64 → IfSome moved (λ n. n < 2 ^ 64)
+    → leads_on direction number last moved ≡ true → left_to_go direction number (option_or moved last) < left_to_go direction number last
+less_to_go direction number last None small within leads = absurd (false≢true leads)
+less_to_go Backward number None (Some n) small within leads =
+    let bounded : n < 2 ^ 64 = within in
+    let less : n - number < 2 ^ 64 = omega (arith, bounded) in
+    less
+less_to_go Forward number None (Some n) small within leads =
+    let less : number - n < 2 ^ 64 = omega (arith, small) in
+    less
+less_to_go Backward number (Some last) (Some n) small within leads =
+    let both = and_parts (nat_lt n last) (nat_lt number n) leads in
+    let less : n - number < last - number = omega (arith, ltb-true n last both.0, ltb-true number n both.1) in
+    less
+less_to_go Forward number (Some last) (Some n) small within leads =
+    let both = and_parts (nat_lt last n) (nat_lt n number) leads in
+    let less : number - n < number - last = omega (arith, ltb-true last n both.0, ltb-true n number both.1) in
+    less

@@ -69,9 +69,7 @@ tools=(recsel recinf recfix recins recdel recset batch undo redo history show fo
 
 # in_table TOOL: letters, names and values of a tool's options, as the tables of rec_command give them: a line for each
 in_table() {
-    local table=${1^^}
-    case $1 in undo | redo) table=MOVES ;; esac
-    awk -v wanted="$table" '
+    awk -v wanted="${1^^}" '
         # (an option stands in a table, or under a name of its own that tables list)
         /^(pub )?(static|const) [A-Z_]+:/ {
             table = $0
@@ -109,9 +107,9 @@ in_manual() {
         awk '{
             letter = name = value = "-"
             for (i = 1; i <= NF; i++) {
-                if ($i ~ /^-./) name = "-" $i
+                if ($i == "Ar") value = toupper($(++i))
+                else if ($i ~ /^-./) name = "-" $i
                 else if ($i ~ /^.$/ && $i != ",") letter = "-" $i
-                if ($i == "Ar") value = toupper($(i + 1))
             }
             print letter, name, value
         }'

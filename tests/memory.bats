@@ -109,6 +109,75 @@ is_edited() {
     fast each_allocation is_edited redo db.rec
 }
 
+# is_moved WORD..: judges a run of moves that gives the file after.rec, and passes passed.rec first
+is_moved() {
+    case "$status/$(tail -n 1 err)" in
+        0/) cmp -s db.rec after.rec || wrong 'another file' ;;
+        '1/recu: out of memory')
+            if cmp -s db.rec passed.rec; then
+                [ "$(head -n 1 err)" = "$told" ] || wrong 'the first move is not told'
+            else
+                cmp -s db.rec start/db.rec || wrong 'another file'
+                ! grep -qx "$told" err || wrong 'a move is told that was not made'
+            fi
+            ;;
+        '1/recu: a file could not be read or written')
+            cmp -s db.rec start/db.rec || cmp -s db.rec passed.rec || cmp -s db.rec after.rec || wrong 'another file'
+            ;;
+        1/) cmp -s db.rec start/db.rec || cmp -s db.rec passed.rec || wrong 'another file' ;;
+        *) wrong 'no such end' ;;
+    esac
+    [ ! -e db.rec.new ] && [ ! -e db.rec.journal.new ] || wrong 'a working file is left'
+    if [ ! -e hit ]; then
+        [ "$status" = 0 ] || wrong 'refused without a failing allocation'
+    elif ! cmp -s db.rec after.rec; then
+        "$program" "$@" > out 2> err || wrong 'the same again is refused'
+        cmp -s db.rec after.rec || wrong 'the same again gives another file'
+    fi
+}
+
+@test "memory for several undos" {
+    local told='undone: edit 2'
+    mkdir start
+    put start/db.rec "$three"
+    put after.rec "$three"
+    put passed.rec 'A: 1¶¶C: 3¶'
+    (cd start && "$program" recdel -n 1 db.rec && "$program" recdel -n 1 db.rec)
+    fast each_allocation is_moved undo --through 1 db.rec
+}
+
+@test "memory for several redos" {
+    local told='redone: edit 1'
+    mkdir start
+    put start/db.rec "$three"
+    put passed.rec 'A: 1¶¶C: 3¶'
+    put after.rec 'A: 1¶¶'
+    (cd start && "$program" recdel -n 1 db.rec && "$program" recdel -n 1 db.rec && "$program" undo --through 1 db.rec)
+    fast each_allocation is_moved redo --through 2 db.rec
+}
+
+# is_told_of_moves WORD..: judges a run of moves that are refused after passed.rec, of which the file `said` has what is said
+is_told_of_moves() {
+    case "$status/$(tail -n 1 err)" in
+        "1/$(tail -n 1 said)") cmp -s db.rec passed.rec || wrong 'another file' ;;
+        '1/recu: out of memory' | '1/recu: a file could not be read or written' | 1/) ;;
+        *) wrong 'no such end' ;;
+    esac
+    [ "$(grep -cvxFf said err)" -le 2 ] || wrong 'it says more'
+    [ -e hit ] || cmp -s err said || wrong 'it says something else'
+}
+
+@test "memory for what is said of several moves" {
+    mkdir start
+    put start/db.rec 'A: 1¶'
+    put passed.rec 'A: 2¶'
+    (cd start && "$program" recset -f A -s 2 db.rec && "$program" recset -f A -s 3 db.rec)
+    # edit 1 doesn't fit any more
+    sed -i '0,/^New: A: 2/ s//New: A: 7/' start/db.rec.journal
+    put said 'undone: edit 2¶db.rec: if the text of the last edit is brought back to the byte, it can be undone; the next edit begins a new history¶recu: the file was changed outside¶'
+    fast each_allocation is_told_of_moves undo --through 1 db.rec
+}
+
 @test "memory for a record that is put in" {
     mkdir start
     put start/db.rec '%rec: P¶%key: Id¶%auto: Id No¶¶Id: 7¶N: a\¶b'

@@ -24,6 +24,14 @@ load helpers
     told 'undone: edit 2, recdel' undo f
     told 'it would redo edit 2, recdel' redo --dry-run f
     told 'redone: edit 2, recdel' redo f
+    told 'undone: edits 2 to 1' undo --through 1 f
+    has printed ''
+    told 'redone: edit 1, recset' redo --through 1 f
+    told 'redone: edit 2, recdel' redo --through 2 f
+    told 'undone: edit 2, recdel' undo --through 2 f
+    told 'undone: edit 1, recset' undo f
+    told 'redone: edits 1 to 2' redo --through 2 f
+    has printed ''
     told '1 edit forgotten' forget 1 f
     told 'nothing forgotten' forget 1 f
     put b 'Tool: recins¶Field: A¶Value: 5¶¶Tool: recset¶Fields: A¶Set: 6¶'
@@ -43,6 +51,11 @@ load helpers
     recu 0 undo f
     prints '' ''
     recu 0 redo f
+    prints '' ''
+    recu 0 recset -f A -s 3 f
+    recu 0 undo --through 1 f
+    prints '' ''
+    recu 0 redo --through 4 f
     prints '' ''
     recu 0 forget 0 f
     prints '' ''
@@ -71,4 +84,16 @@ load helpers
     put f 'A: 6¶¶A: 7¶'
     TERM=dumb script -qec "'$recu' recdel -n 1 f" /dev/null > seen
     has seen '1 record changed (edit 5)\x0D¶'
+}
+
+@test "on a terminal too it is said how far several moves went before a refusal" {
+    local status=0
+    put f 'A: 1¶'
+    does recset -f A -s 2 f
+    does recset -f A -s 3 f
+    sed -i '0,/^New: A: 2/ s//New: A: 7/' f.journal
+    TERM=dumb script -qec "'$recu' undo --through 1 f" /dev/null > seen || status=$?
+    [ "$status" = 1 ]
+    has seen "undone: edit 2\x0D¶f: if the text of the last edit is brought back to the byte, it can be undone; the next edit begins a new history\x0D¶recu: the file was changed outside\x0D¶"
+    has f 'A: 2¶'
 }

@@ -138,6 +138,38 @@ both_stand() {
     fast each_pause another_recu both_stand
 }
 
+# moves_stand: the rival came before both moves, between them or after them, or was refused. Between them it finds both files
+# unlocked; its edit is undone too, and ends the moves.
+moves_stand() {
+    local history
+    history=$("$program" history db.rec | tr '\n' ' ')
+    case $status/$rival_status/$history in
+        '0/0/undone 1 recset undone 2 recset undone 3 recdel ' | '0/0/done 5 recdel ' | '0/1/undone 1 recset undone 2 recset ') ;;
+        '1/0/done 1 recset undone 4 recdel ')
+            fast has err "undone: edit 2 first, and edit 4 last¶db.rec: edited by another program meanwhile¶$store_failed"
+            between=$((between + 1))
+            ;;
+        *) wrong "the rival's status is $rival_status, the history: $history" ;;
+    esac
+    can_be_taken_back "$three"
+}
+
+each_between() {
+    local between=0
+    each_pause another_recu moves_stand
+    [ "$between" -gt 0 ] || fail 'the rival never came between two moves'
+}
+
+@test "another recu edits the file while several edits are undone" {
+    put db.rec "$three"
+    does recset -n 0 -f A -s 8 db.rec
+    does recset -n 0 -f A -s 9 db.rec
+    mkdir start
+    cp db.rec db.rec.journal start
+    words=(undo --through 1)
+    fast each_between
+}
+
 @test "another recu edits the file while a batch is made" {
     as_batch
     fast each_pause another_recu both_stand

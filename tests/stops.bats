@@ -1,5 +1,6 @@
-# An edit, a batch, an undo, a redo, a first edit and forgetting, whose calls of the system fail or find no room, or at which the
-# program ends: the next command finds the history before or the one after, and both contents are whole. A file system without room, a file of
+# An edit, a batch, an undo, a redo, several of them, a first edit and forgetting, whose calls of the system fail or find no room,
+# or at which the program ends: the next command finds the history before or the one after, of several moves the one after some of
+# them, and both contents are whole. A file system without room, a file of
 # several MB, and a closed pipe. A loop over the numbers of calls.c ends with a run that has no such call.
 
 load helpers
@@ -45,8 +46,10 @@ state() {
 }
 
 # The words of each command, its contents before and after, and the first text. The file `rest` has what follows the field.
+# Several moves pass the states that `passed` names.
 prepare() {
     local digit events first=1
+    passed=()
     [ -e rest ] || put rest '¶B: 2¶¶C: 3¶'
     for digit in 1 8 9; do
         { bytes "A: $digit¶" && cat rest; } > "$digit"
@@ -80,6 +83,24 @@ prepare() {
             events=$old_header$(edit 1 1 8 'A: 1' 'A: 8')$(edit 2 8 9 'A: 8' 'A: 9')$(move 3 undo 2 9 8)
             state before 8 "$events" 'done 1 recset¶undone 2 recset¶'
             state after 9 "$events$(move 4 redo 2 8 9)" 'done 1 recset¶done 2 recset¶'
+            ;;
+        undo_through)
+            words=(undo --through 1)
+            passed=(passed)
+            events=$header$(edit 1 1 8 'A: 1' 'A: 8')$(edit 2 8 9 'A: 8' 'A: 9')
+            state before 9 "$events" 'done 1 recset¶done 2 recset¶'
+            events+=$(move 3 undo 2 9 8)
+            state passed 8 "$events" 'done 1 recset¶undone 2 recset¶'
+            state after 1 "$events$(move 4 undo 1 8 1)" 'undone 1 recset¶undone 2 recset¶'
+            ;;
+        redo_through)
+            words=(redo --through 2)
+            passed=(passed)
+            events=$header$(edit 1 1 8 'A: 1' 'A: 8')$(edit 2 8 9 'A: 8' 'A: 9')$(move 3 undo 2 9 8)$(move 4 undo 1 8 1)
+            state before 1 "$events" 'undone 1 recset¶undone 2 recset¶'
+            events+=$(move 5 redo 1 1 8)
+            state passed 8 "$events" 'done 1 recset¶undone 2 recset¶'
+            state after 9 "$events$(move 6 redo 2 8 9)" 'done 1 recset¶done 2 recset¶'
             ;;
         forget)
             # what was forgotten can't be undone
@@ -123,9 +144,36 @@ are() {
     if [ -e "$1/db.rec.journal" ]; then cmp -s db.rec.journal "$1/db.rec.journal"; else [ ! -s db.rec.journal ]; fi
 }
 
-# are_stopped: the journal alone has the command's event, and the history is the one before
+# are_stopped STATE STATE: the journal alone has the event that leads from the one to the other, and the history is that of the one
 are_stopped() {
-    cmp -s db.rec "$before/db.rec" && cmp -s history "$before/history" && cmp -s db.rec.journal "$after/db.rec.journal"
+    cmp -s db.rec "$1/db.rec" && cmp -s history "$1/history" && cmp -s db.rec.journal "$2/db.rec.journal"
+}
+
+# are_on_the_way: both contents and the history are those before the command or of a state that it passes, or the move from there
+# is stopped
+are_on_the_way() {
+    local state from=$before
+    for state in "${passed[@]}" "$after"; do
+        if are "$from" || are_stopped "$from" "$state"; then return 0; fi
+        from=$state
+    done
+    return 1
+}
+
+# is_told: a command that passed a state says so, where it wasn't ended
+is_told() {
+    local said
+    case ${words[0]} in
+        undo) said='undone: edit 2' ;;
+        redo) said='redone: edit 1' ;;
+    esac
+    if [ "$status" = 0 ]; then
+        [ ! -s err ] || wrong 'something is said'
+    elif are "$before" || are_stopped "$before" passed; then
+        ! grep -q '^undone\|^redone' err || wrong 'nothing was moved'
+    else
+        [ "$(head -n 1 err)" = "$said" ] || grep -q 'the edit is done, but' err || wrong 'the first move is not told'
+    fi
 }
 
 # judge WHAT: what stands after a run is the state before or the one after; the next edit goes through, and leaves nothing else
@@ -134,7 +182,7 @@ judge() {
     "$program" history db.rec > history 2> err.history || wrong "the history is refused: $(cat err.history)"
     if are "$after"; then
         stands=after
-    elif ! are "$before" && ! are_stopped; then
+    elif ! are_on_the_way; then
         wrong "neither the state before nor the one after, the history is: $(cat history)"
     fi
     [ "$status" != 0 ] || [ "$stands" = after ] || wrong 'what was done is lost'
@@ -142,6 +190,7 @@ judge() {
         end/* | half/* | */unlink) ;;
         *) cleared 'left over' ;;
     esac
+    [ "${#passed[@]}" = 0 ] || [ "$1" = end ] || [ "$1" = half ] || is_told
     if [ "$stands" = before ]; then
         "$program" "${words[@]}" db.rec > out 2> err || wrong 'the same again is refused'
         "$program" history db.rec > history
@@ -203,6 +252,11 @@ each_call() {
     fast each_call redo 5
 }
 
+@test "each call of several moves fails" {
+    fast each_call undo_through 5 30
+    fast each_call redo_through 5 30
+}
+
 @test "each call of forgetting fails" {
     fast each_call forget 5
     fast each_call forget_redone 5
@@ -226,6 +280,11 @@ each_call() {
 
 @test "there is no room at each call of a redo" {
     fast each_call redo 28
+}
+
+@test "there is no room at each call of several moves" {
+    fast each_call undo_through 28 30
+    fast each_call redo_through 28 30
 }
 
 @test "there is no room at each call of forgetting" {
@@ -253,6 +312,11 @@ each_call() {
     fast each_call redo end
 }
 
+@test "the program ends at each call of several moves" {
+    fast each_call undo_through end 30
+    fast each_call redo_through end 30
+}
+
 @test "the program ends at each call of forgetting" {
     fast each_call forget end
     fast each_call forget_redone end
@@ -260,14 +324,14 @@ each_call() {
 
 @test "each call in two folders fails" {
     local command folders=2
-    for command in first edit undo forget; do
+    for command in first edit undo undo_through forget; do
         fast each_call "$command" 5
     done
 }
 
 @test "the program ends at each call in two folders" {
     local command folders=2
-    for command in first edit undo forget; do
+    for command in first edit undo undo_through forget; do
         fast each_call "$command" end
     done
 }
@@ -281,6 +345,9 @@ each_half() {
     local command
     for command in first edit batch undo redo; do
         fast each_half "$command"
+    done
+    for command in undo_through redo_through; do
+        fast each_half "$command" 4
     done
     for command in forget forget_redone; do
         fast each_half "$command" 1
@@ -326,8 +393,8 @@ in_small_room() {
     prepare edit
     export work=$PWD before=$PWD/before after=$PWD/after program
     {
-        declare -f fail wrong begin are are_stopped judge cleared undone each_room in_small_room
-        declare -p words
+        declare -f fail wrong begin are are_stopped are_on_the_way judge cleared undone each_room in_small_room
+        declare -p words passed
         echo in_small_room
     } > script
     unshare "$flags" bash script > said 2>&1 3>&- || status=$?

@@ -33,6 +33,10 @@ batch_option = record (new_rule (codes "batch")) {
   value_names = 1;
 }
 
+-- `--through N`
+abbrev pub through_option : Rule
+through_option = valued [] (codes "through")
+
 -- `--dry-run`
 abbrev pub dry_run : Rule
 dry_run = flag [] (codes "dry-run")
@@ -120,8 +124,8 @@ usage_of RecSet = tool_with (codes "recset") (
     ∷ dry_run
     ∷ paths)
 usage_of Batch = tool_with (codes "batch") (batch_option ∷ flag [] (codes "force") ∷ dry_run ∷ paths)
-usage_of Undo = tool_with (codes "undo") (dry_run ∷ paths)
-usage_of Redo = tool_with (codes "redo") (dry_run ∷ paths)
+usage_of Undo = tool_with (codes "undo") (through_option ∷ dry_run ∷ paths)
+usage_of Redo = tool_with (codes "redo") (through_option ∷ dry_run ∷ paths)
 usage_of History = tool_with (codes "history") (flag [] (codes "patch") ∷ paths)
 -- clap wants the word that has to be there first, so which of the two is N is said in `Words`
 usage_of Show = tool_with (codes "show") (paths ++ word (codes "second") ∷ [])

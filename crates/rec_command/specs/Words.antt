@@ -105,6 +105,17 @@ new_record_given options = (
 abbrev pub IsNumber : ℕ → Text → ℕ → Type 0
 IsNumber bits digits n = IsNumeral 10 digits × (digits_value 10 digits ≡ n) × (n < 2 ^ bits)
 
+-- the number of an edit, from 1 on; or none is given
+abbrev pub IsEditGiven : Option Text → Option ℕ → Type 0
+IsEditGiven None number = number ≡ None
+IsEditGiven (Some digits) number = (n : ℕ) × (number ≡ Some n) × IsNumber 64 digits n × (0 < n)
+
+-- the number of `--through`, with which no dry run is asked for; or none is given
+abbrev pub IsThroughGiven : List Row → Option ℕ → Type 0
+IsThroughGiven options number =
+    IsEditGiven (first_of (codes "through") options) number
+    × ((number ≡ None) ⊎ (has_flag (codes "dry-run") options ≡ false))
+
 -- ---- the words in their places
 
 -- N and FILE, by the first and the second word: of two words the first is N. No tool but `show` takes two
@@ -121,11 +132,6 @@ number_given options = (words_given options).0
 
 abbrev pub file_given : List Row → Option Text
 file_given options = (words_given options).1
-
--- the number of an edit, from 1 on; or none is given
-abbrev pub IsEditGiven : Option Text → Option ℕ → Type 0
-IsEditGiven None number = number ≡ None
-IsEditGiven (Some digits) number = (n : ℕ) × (number ≡ Some n) × IsNumber 64 digits n × (0 < n)
 
 -- ---- what is asked for
 
@@ -157,8 +163,8 @@ Asks tool options Check =
     (tool ≡ RecFix) × (has_flag (codes "auto") options ≡ false) × (has_flag (codes "dry-run") options ≡ false)
 Asks tool options (Edit edit force) = AsksEdit tool options edit × (force ≡ has_flag (codes "force") options)
 Asks tool options (Batch text force) = ⊥
-Asks tool options Undo = tool ≡ ByUndo
-Asks tool options Redo = tool ≡ ByRedo
+Asks tool options (Undo number) = (tool ≡ ByUndo) × IsThroughGiven options number
+Asks tool options (Redo number) = (tool ≡ ByRedo) × IsThroughGiven options number
 Asks tool options (Forget n) =
     (tool ≡ ByForget) × ((digits : Text) × (first_of (codes "n") options ≡ Some digits) × IsNumber 32 digits n)
 Asks tool options History = (tool ≡ ByHistory) × (has_flag (codes "patch") options ≡ false)

@@ -8,6 +8,8 @@ mod editing;
 mod forgetting;
 mod found;
 pub mod help;
+mod moving;
+mod numbers;
 mod paths;
 mod previewing;
 mod refusal;
@@ -19,6 +21,7 @@ use crate::tools::Tool;
 use clap::ArgMatches;
 use editing::{batch_order, deletion, edit_order, insertion, recfix_order, setting};
 use forgetting::forget_order;
+use moving::{redo_order, undo_order};
 use paths::{Paths, paths_of};
 pub use previewing::batch_request;
 use previewing::or_preview;
@@ -117,8 +120,8 @@ fn order_of(alloc: Global, tool: Tool, options: &ArgMatches) -> Result<Order, Re
         Tool::RecDel => Ok(edit_order(deletion(alloc, options)?, options)),
         Tool::RecSet => Ok(edit_order(setting(alloc, options)?, options)),
         Tool::Batch => batch_order(alloc, options),
-        Tool::Undo => Ok(Order::Whole(Request::Undo)),
-        Tool::Redo => Ok(Order::Whole(Request::Redo)),
+        Tool::Undo => undo_order(options),
+        Tool::Redo => redo_order(options),
         Tool::History => history_order(alloc, options),
         Tool::Show => show_order(alloc, options),
         Tool::Forget => forget_order(options),

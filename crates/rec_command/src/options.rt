@@ -319,8 +319,29 @@ pub static BATCH: [Argument; 5] = [
     FILE,
 ];
 
-/// What undo and redo take.
-pub static MOVES: [Argument; 3] = [DRY_RUN, JOURNAL, FILE];
+pub static UNDO: [Argument; 4] = [
+    Argument {
+        written: Written::Name,
+        name: "through",
+        takes: Takes::Value("N"),
+        help: "Undo every edit from the newest down to edit N",
+    },
+    DRY_RUN,
+    JOURNAL,
+    FILE,
+];
+
+pub static REDO: [Argument; 4] = [
+    Argument {
+        written: Written::Name,
+        name: "through",
+        takes: Takes::Value("N"),
+        help: "Redo every edit from the nearest up to edit N",
+    },
+    DRY_RUN,
+    JOURNAL,
+    FILE,
+];
 
 pub static HISTORY: [Argument; 3] = [
     Argument {

@@ -10,7 +10,8 @@ use crate::args::help::{
     SHOW_USAGE, UNDO_HELP,
 };
 use crate::options::{
-    Argument, BATCH, FORGET, HISTORY, MOVES, RECDEL, RECFIX, RECINF, RECINS, RECSEL, RECSET, SHOW,
+    Argument, BATCH, FORGET, HISTORY, RECDEL, RECFIX, RECINF, RECINS, RECSEL, RECSET, REDO, SHOW,
+    UNDO,
 };
 
 /// A tool.
@@ -127,16 +128,16 @@ impl Tool {
             },
             Tool::Undo => Usage {
                 name: "undo",
-                arguments: MOVES.as_slice(),
-                about: "Undoes the newest edit",
+                arguments: UNDO.as_slice(),
+                about: "Undoes the newest edit, or several",
                 long_about: None,
                 usage: None,
                 after_help: UNDO_HELP,
             },
             Tool::Redo => Usage {
                 name: "redo",
-                arguments: MOVES.as_slice(),
-                about: "Redoes the edit that was undone last",
+                arguments: REDO.as_slice(),
+                about: "Redoes the edit that was undone last, or several",
                 long_about: None,
                 usage: None,
                 after_help: REDO_HELP,

@@ -1,6 +1,7 @@
-//! Which edits a history has.
+//! Which edits a history has, where a request names one that it hasn't.
 use crate::about::About;
 use crate::explanation::Explanation;
+use rec_tools::Request;
 use std::alloc::{AllocError, Global};
 use std::str;
 
@@ -14,31 +15,76 @@ struct Run {
     last: u64,
 }
 
-/// Says which edits the history has, where it is known.
-pub fn explain_numbers(alloc: Global, about: &About<'_>, said: &mut Explanation) {
+/// Which edits of a history a request can name.
+#[derive(Clone, Copy)]
+enum Named {
+    Any,
+    Done,
+    Undone,
+}
+
+impl Named {
+    fn by(request: &Request) -> Named {
+        match request {
+            Request::Undo(_) => Named::Done,
+            Request::Redo(_) => Named::Undone,
+            _ => Named::Any,
+        }
+    }
+
+    /// Whether those are among them that `history` prints after this word.
+    fn has(self, word: &[u8]) -> bool {
+        match self {
+            Named::Any => true,
+            Named::Done => word == b"done".as_slice(),
+            Named::Undone => word == b"undone".as_slice(),
+        }
+    }
+
+    /// What is said before and after their numbers.
+    fn words(self) -> (&'static str, &'static str) {
+        match self {
+            Named::Any => ("it has ", ""),
+            Named::Done => ("", " can be undone"),
+            Named::Undone => ("", " can be redone"),
+        }
+    }
+}
+
+/// Says which edits of the history the request can name, where it is known.
+pub fn explain_numbers(
+    alloc: Global,
+    about: &About<'_>,
+    request: &Request,
+    said: &mut Explanation,
+) {
+    let named = Named::by(request);
     if let Some(history) = about.history
-        && let Ok(runs) = runs_of(alloc, history)
-        && let Ok(edits) = edits_of(alloc, &runs)
+        && let Ok(runs) = runs_of(alloc, history, named)
+        && let Ok(edits) = edits_of(alloc, &runs, named)
     {
         said.add(&[about.journal, ": ", edits.as_str()]);
     }
 }
 
-/// The numbers of the edits, from a text as `history` prints it, with each a line: there they ascend.
-fn runs_of(alloc: Global, history: &[u8]) -> Result<Vec<Run>, AllocError> {
+/// The numbers of the edits that are named so, from a text as `history` prints it, with each a line: there they ascend.
+fn runs_of(alloc: Global, history: &[u8], named: Named) -> Result<Vec<Run>, AllocError> {
     let mut runs = Vec::new(alloc);
     for line in history.split(|byte| *byte == b'\n') {
-        if let Some(number) = number_in(line) {
+        if let Some(number) = number_in(line, named) {
             add_number(&mut runs, number)?;
         }
     }
     Ok(runs)
 }
 
-/// The number in a line such as `done 3 recset`.
-fn number_in(line: &[u8]) -> Option<u64> {
-    let word = line.split(|byte| *byte == b' ').nth(1)?;
-    str::from_utf8(word).ok()?.parse().ok()
+/// The number in a line such as `done 3 recset`, if its edit is named so.
+fn number_in(line: &[u8], named: Named) -> Option<u64> {
+    let mut words = line.split(|byte| *byte == b' ');
+    if !named.has(words.next()?) {
+        return None;
+    }
+    str::from_utf8(words.next()?).ok()?.parse().ok()
 }
 
 fn add_number(runs: &mut Vec<Run>, number: u64) -> Result<(), AllocError> {
@@ -56,24 +102,26 @@ fn add_number(runs: &mut Vec<Run>, number: u64) -> Result<(), AllocError> {
 }
 
 /// What is said of these numbers.
-fn edits_of(alloc: Global, runs: &[Run]) -> Result<String, AllocError> {
+fn edits_of(alloc: Global, runs: &[Run], named: Named) -> Result<String, AllocError> {
+    let (before, after) = named.words();
     let (Some(first), Some(last)) = (runs.first(), runs.last()) else {
-        return String::from_str(alloc, "it has no edit");
+        return format!(in alloc; "{before}no edit{after}");
     };
     if first.first == last.last {
-        return format!(in alloc; "it has edit {}", first.first);
+        return format!(in alloc; "{before}edit {}{after}", first.first);
     }
     if runs.len() > LISTED {
         return format!(in alloc;
-            "it has edits from {} to {}, and not all between",
+            "{before}edits from {} to {}{after}, and not all between",
             first.first, last.last
         );
     }
-    list_of(alloc, runs)
+    let list = list_of(alloc, runs)?;
+    format!(in alloc; "{before}edits {list}{after}")
 }
 
 fn list_of(alloc: Global, runs: &[Run]) -> Result<String, AllocError> {
-    let mut list = String::from_str(alloc, "it has edits ")?;
+    let mut list = String::new(alloc);
     for (index, run) in runs.iter().enumerate() {
         if index > 0 {
             list.push_str(", ")?;

@@ -1,6 +1,6 @@
 //! What is said of a refusal before its line: what it is about, and what can be done; of a report, in which records what it
-//! reports stands; and of a command that succeeded, what it did. All of it is for people, and `docs/refusals.md` and
-//! `docs/editing.md` say what they are told.
+//! reports stands; of a command that succeeded, what it did; and of several moves, how far they went. All of it is for people,
+//! and `docs/refusals.md` and `docs/editing.md` say what they are told.
 #![tactic(auto)]
 
 mod about;
@@ -11,6 +11,7 @@ mod edit_numbers;
 mod explanation;
 mod files;
 mod lines;
+mod moves;
 mod notes;
 mod refusal;
 mod reports;
@@ -19,6 +20,7 @@ mod waiting;
 
 pub use about::About;
 pub use lines::line_endings::explain_endings;
+pub use moves::explain_through;
 pub use notes::explain_done;
 pub use refusal::explain;
 pub use reports::reported::explain_report;

@@ -25,7 +25,7 @@ pub fn explain_done(
     if !is_tried {
         say_what_was_dropped(file, reply, &mut said);
     }
-    if on_terminal {
+    if on_terminal && !is_of_several(request) {
         say(
             if is_tried {
                 would(alloc, reply)
@@ -36,6 +36,11 @@ pub fn explain_done(
         );
     }
     said.into_lines()
+}
+
+/// Whether `explain_through` says what was done.
+fn is_of_several(request: &Request) -> bool {
+    matches!(request, Request::Undo(Some(_)) | Request::Redo(Some(_)))
 }
 
 /// Says how many edits can't be undone any more, since the file was changed outside.
@@ -57,7 +62,7 @@ fn say_what_was_dropped(file: &str, reply: &Reply, said: &mut Explanation) {
 }
 
 /// Says a line, if it was made and is none that is empty.
-fn say(line: Result<String, AllocError>, said: &mut Explanation) {
+pub fn say(line: Result<String, AllocError>, said: &mut Explanation) {
     if let Ok(line) = line
         && !line.is_empty()
     {
@@ -66,7 +71,7 @@ fn say(line: Result<String, AllocError>, said: &mut Explanation) {
 }
 
 /// What was done. Nothing is said of what only prints.
-fn done(alloc: Global, reply: &Reply) -> Result<String, AllocError> {
+pub fn done(alloc: Global, reply: &Reply) -> Result<String, AllocError> {
     match reply {
         Reply::Edited {
             changed,

@@ -49,7 +49,7 @@ fn explain_fault(
         }
         (Fault::StoreFailed, _) => explain_missing(about, request, said),
         (Fault::Drifted, _) => explain_drift(about, request, said),
-        (Fault::NoSuchEdit, _) => explain_numbers(alloc, about, said),
+        (Fault::NoSuchEdit, _) => explain_numbers(alloc, about, request, said),
         (_, Request::Edit { edit, .. }) => explain_edit(alloc, about, edit, fault, said),
         (_, Request::Batch { text, force }) => {
             explain_batch(alloc, about, text.as_slice(), *force, fault, said);

@@ -27,8 +27,8 @@ pub fn access_of(request: &Request) -> Access
         | Request::Preview(_, _) => Access::Look,
         Request::Edit { .. }
         | Request::Batch { .. }
-        | Request::Undo
-        | Request::Redo
+        | Request::Undo(_)
+        | Request::Redo(_)
         | Request::Forget(_) => Access::Change,
     }
 }

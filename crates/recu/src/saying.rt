@@ -1,0 +1,141 @@
+//! What is said on standard error beside the line of a refusal.
+use rec_explain::{
+    About, explain, explain_done, explain_endings, explain_report, explain_through, explain_waiting,
+};
+use rec_files::{Access, FileHome};
+use rec_select::write_report;
+use rec_tools::{Direction, Fault, Output, Reply, Request, Through, Which};
+use std::io::{IsTerminal, Write};
+use std::rt::Runtime;
+
+/// Says on standard error that standard input is read, where both are a terminal.
+pub fn say_waiting(rt: &HostRuntime, request: &Request) {
+    if rt.stdin().is_terminal() && rt.stderr().is_terminal() {
+        say(rt, &explain_waiting(rt.alloc(), request));
+    }
+}
+
+/// Says how far moves to the edit of a number went: on a terminal, and always where they didn't come to it.
+pub fn say_how_far(
+    rt: &HostRuntime,
+    home: &FileHome<'_, HostRuntime>,
+    direction: Direction,
+    number: usize,
+    through: &Through,
+) {
+    let file = home.path(Which::Base);
+    let on_terminal = rt.stderr().is_terminal();
+    say(
+        rt,
+        &explain_through(rt.alloc(), file, direction, number, through, on_terminal),
+    );
+}
+
+/// Says on standard error what a refusal is about, or what is said of a report and of what was done.
+pub fn say_more(
+    rt: &HostRuntime,
+    home: &FileHome<'_, HostRuntime>,
+    request: &Request,
+    batch: &Option<String>,
+    answer: &Result<Reply, Fault>,
+) {
+    match answer {
+        Ok(reply) => {
+            explain_reply(rt, home, request, batch, reply);
+            say_done(rt, home, request, reply);
+        }
+        Err(fault) => {
+            let text = text_for(rt, home, fault);
+            let history = history_for(rt, home, fault);
+            let about = about(home, batch, &text, &history);
+            say(rt, &explain(rt.alloc(), &about, request, fault));
+        }
+    }
+}
+
+fn say(rt: &HostRuntime, lines: &[u8]) {
+    let _ = rt.stderr().write_all(lines);
+}
+
+/// Says on a terminal in which records stands what was reported, and that lines end in CR LF: where nothing was reported, on
+/// a terminal alone.
+fn explain_reply(
+    rt: &HostRuntime,
+    home: &FileHome<'_, HostRuntime>,
+    request: &Request,
+    batch: &Option<String>,
+    reply: &Reply,
+) {
+    let is_report = matches!(reply, Reply::Violated(_));
+    if !is_report && !(matches!(request, Request::Check) && rt.stderr().is_terminal()) {
+        return;
+    }
+    let text = home.text_again(rt.alloc());
+    let about = about(home, batch, &text, &None);
+    if is_report && rt.stdout().is_terminal() {
+        say(rt, &explain_report(rt.alloc(), &about));
+    }
+    say(rt, &explain_endings(rt.alloc(), &about));
+}
+
+/// Says what was done: on a terminal, and that earlier edits can't be undone any more always.
+fn say_done(rt: &HostRuntime, home: &FileHome<'_, HostRuntime>, request: &Request, reply: &Reply) {
+    let file = home.path(Which::Base);
+    let on_terminal = rt.stderr().is_terminal();
+    say(
+        rt,
+        &explain_done(rt.alloc(), file, request, reply, on_terminal),
+    );
+}
+
+/// Prints the report for which an edit was refused, and gives the text of the file, where a refusal can be about it.
+fn text_for(rt: &HostRuntime, home: &FileHome<'_, HostRuntime>, fault: &Fault) -> Option<Vec<u8>> {
+    match fault {
+        Fault::OutOfMemory | Fault::StoreFailed => None,
+        Fault::Integrity(violations) => {
+            let mut err = Output {
+                writer: rt.stderr(),
+                failed: 0,
+            };
+            let _ = write_report(violations.as_slice(), &mut err);
+            home.text_again(rt.alloc())
+        }
+        _ => home.text_again(rt.alloc()),
+    }
+}
+
+/// The history, as `history` prints it, where a refusal is that an edit isn't one of it.
+fn history_for(
+    rt: &HostRuntime,
+    home: &FileHome<'_, HostRuntime>,
+    fault: &Fault,
+) -> Option<Vec<u8>> {
+    let Fault::NoSuchEdit = fault else {
+        return None;
+    };
+    let file = String::from_str(rt.alloc(), home.path(Which::Base)).ok()?;
+    let journal = String::from_str(rt.alloc(), home.path(Which::Journal)).ok()?;
+    let mut again = FileHome::new(rt, Some(file), Some(journal), Access::Look);
+    let mut out = Output {
+        writer: Vec::new(rt.alloc()),
+        failed: 0,
+    };
+    rec_tools::run(rt.alloc(), &mut again, &mut out, &Request::History).ok()?;
+    Some(out.writer)
+}
+
+fn about<'a>(
+    home: &'a FileHome<'_, HostRuntime>,
+    batch: &'a Option<String>,
+    text: &'a Option<Vec<u8>>,
+    history: &'a Option<Vec<u8>>,
+) -> About<'a> {
+    About {
+        batch: batch.as_deref(),
+        file: home.path(Which::Base),
+        journal: home.path(Which::Journal),
+        text: text.as_deref(),
+        history: history.as_deref(),
+        is_missing: home.is_missing(),
+    }
+}

@@ -1,0 +1,342 @@
+# Several moves, `undo --through` and `redo --through`: both contents, byte for byte; how far they go where one is refused or
+# fails, or another program comes in between; and what is said of it.
+
+load helpers
+load calls
+
+setup_file() {
+    need_program
+    build_calls
+}
+
+# digest TEXT
+digest() {
+    bytes "$1" | sha256sum | cut -d ' ' -f 1
+}
+
+# edit NUMBER OLD NEW: the event of an edit that leads from a file of the one line to a file of the other
+edit() {
+    echo "Number: $1¶Kind: edit¶Tool: recset¶Before: $(digest "$2¶")¶After: $(digest "$3¶")¶At: 0¶Old: $2\$¶+ \$¶New: $3\$¶+ \$¶¶"
+}
+
+# move NUMBER KIND OF OLD NEW: that of an undo or of a redo, which leads from the one line to the other
+move() {
+    echo "Number: $1¶Kind: $2¶Of: $3¶Before: $(digest "$4¶")¶After: $(digest "$5¶")¶¶"
+}
+
+# The events of three edits, of their undos from the newest, and of the redos of two.
+three_edits=$(edit 1 'A: 1' 'A: 2')$(edit 2 'A: 2' 'A: 3')$(edit 3 'A: 3' 'A: 4')
+two_undone=$(move 4 undo 3 'A: 4' 'A: 3')$(move 5 undo 2 'A: 3' 'A: 2')
+two_redone=$(move 6 redo 2 'A: 2' 'A: 3')$(move 7 redo 3 'A: 3' 'A: 4')
+
+# begin: the file after three edits
+begin() {
+    put db.rec 'A: 4¶'
+    put db.rec.journal "$header$three_edits"
+}
+
+# stands FILE EVENTS: both contents are these, and nothing else stands in the folder
+stands() {
+    has db.rec "$1"
+    has db.rec.journal "$header$2"
+    only db.rec db.rec.journal
+}
+
+# tells HISTORY: what history prints
+tells() {
+    recu 0 history db.rec
+    prints "$1" ''
+}
+
+# stays EXPLANATION REFUSAL WORD..: recu refuses it so, and both contents stay
+stays() {
+    cp db.rec "$BATS_TEST_TMPDIR/file"
+    [ ! -e db.rec.journal ] || cp db.rec.journal "$BATS_TEST_TMPDIR/journal"
+    explains "$@"
+    has db.rec < "$BATS_TEST_TMPDIR/file"
+    [ ! -e db.rec.journal ] || has db.rec.journal < "$BATS_TEST_TMPDIR/journal"
+}
+
+@test "edits are undone one after another, and redone, each by an event of its own" {
+    begin
+    does undo --through 2 db.rec
+    stands 'A: 2¶' "$three_edits$two_undone"
+    does redo --through=3 db.rec
+    stands 'A: 4¶' "$three_edits$two_undone$two_redone"
+    tells 'done 1 recset¶done 2 recset¶done 3 recset¶'
+}
+
+@test "the nearest edit alone is moved as without a number" {
+    begin
+    does undo --through 003 db.rec
+    stands 'A: 3¶' "$three_edits$(move 4 undo 3 'A: 4' 'A: 3')"
+    does redo --through 3 db.rec
+    stands 'A: 4¶' "$three_edits$(move 4 undo 3 'A: 4' 'A: 3')$(move 5 redo 3 'A: 3' 'A: 4')"
+}
+
+@test "all edits are undone and redone" {
+    begin
+    does undo --through 1 db.rec
+    tells 'undone 1 recset¶undone 2 recset¶undone 3 recset¶'
+    has db.rec 'A: 1¶'
+    does redo --through 3 db.rec
+    tells 'done 1 recset¶done 2 recset¶done 3 recset¶'
+    has db.rec 'A: 4¶'
+}
+
+@test "it leads where as many commands without a number lead" {
+    begin
+    mkdir one
+    cp db.rec db.rec.journal one
+    (cd one && "$program" undo db.rec && "$program" undo db.rec)
+    does undo --through 2 db.rec
+    cmp db.rec one/db.rec
+    cmp db.rec.journal one/db.rec.journal
+    (cd one && "$program" redo db.rec && "$program" redo db.rec)
+    does redo --through 3 db.rec
+    cmp db.rec one/db.rec
+    cmp db.rec.journal one/db.rec.journal
+}
+
+@test "a batch among the edits is undone whole, and untidy texts come back" {
+    put db.rec '# c¶A:\x091¶¶¶B: x\\¶y¶C: \xFF'
+    cp db.rec before
+    put changes 'Tool: recset¶Number: 0¶Fields: A¶Set: 7¶¶Tool: recdel¶Number: 1¶'
+    does recset -n 0 -f A -s 6 db.rec
+    does batch -b changes db.rec
+    does recins -f D -v 1 db.rec
+    cp db.rec after
+    does undo --through 1 db.rec
+    has db.rec < before
+    does redo --through 2 db.rec
+    tells 'done 1 recset¶done 2 batch¶undone 3 recins¶'
+    does redo --through 3 db.rec
+    has db.rec < after
+}
+
+@test "a link that leads to a file that is no rec file, and a journal in another folder" {
+    mkdir d e
+    put d/real 'not\xFF'
+    put e/j "$header$(edit 1 'no: 1' 'no 2')$(edit 2 'no 2' 'not\xFF')"
+    put d/real 'not\xFF¶'
+    ln -s real d/db.rec
+    does undo --through 1 --journal e/j d/db.rec
+    has d/real 'no: 1¶'
+    does redo --journal e/j --through 2 d/db.rec
+    has d/real 'not\xFF¶'
+    [ -L d/db.rec ]
+}
+
+@test "numbers of edits that are no neighbours" {
+    put db.rec 'A: 1¶'
+    does recset -f A -s 2 db.rec
+    does recset -f A -s 3 db.rec
+    does undo db.rec
+    does recset -f A -s 5 db.rec
+    does recset -f A -s 6 db.rec
+    tells 'done 1 recset¶done 4 recset¶done 5 recset¶'
+    stays 'db.rec.journal: edits 1, 4 to 5 can be undone' 'no such edit' undo --through 2 db.rec
+    stays 'db.rec.journal: edits 1, 4 to 5 can be undone' 'no such edit' undo --through 3 db.rec
+    does undo --through 4 db.rec
+    has db.rec 'A: 2¶'
+    stays 'db.rec.journal: edits 4 to 5 can be redone' 'no such edit' redo --through 6 db.rec
+    does redo --through 5 db.rec
+    has db.rec 'A: 6¶'
+}
+
+@test "an edit that doesn't lie that way is refused before anything is done" {
+    begin
+    stays 'db.rec.journal: edits 1 to 3 can be undone' 'no such edit' undo --through 4 db.rec
+    stays 'db.rec.journal: edits 1 to 3 can be undone' 'no such edit' undo --through 18446744073709551615 db.rec
+    stays 'db.rec.journal: no edit is left to redo: an edit after an undo drops those that were undone' 'nothing to redo' redo --through 1 db.rec
+    does undo --through 2 db.rec
+    stays 'db.rec.journal: edit 1 can be undone' 'no such edit' undo --through 2 db.rec
+    stays 'db.rec.journal: edit 1 can be undone' 'no such edit' undo --through 3 db.rec
+    stays 'db.rec.journal: edits 2 to 3 can be redone' 'no such edit' redo --through 1 db.rec
+    stays 'db.rec.journal: edits 2 to 3 can be redone' 'no such edit' redo --through 4 db.rec
+    does undo --through 1 db.rec
+    stays 'db.rec.journal: no edit is left to undo' 'nothing to undo' undo --through 1 db.rec
+    stays 'db.rec.journal: edits 1 to 3 can be redone' 'no such edit' redo --through 7 db.rec
+}
+
+@test "the other refusals come before anything is done too" {
+    local outside='db.rec: if the text of the last edit is brought back to the byte, it can be undone; the next edit begins a new history'
+    put db.rec 'A: 4¶'
+    stays 'db.rec.journal: no edit is left to undo' 'nothing to undo' undo --through 1 db.rec
+    only db.rec
+    begin
+    put db.rec 'A: 5¶'
+    stays "$outside" 'the file was changed outside' undo --through 1 db.rec
+    stays "$outside" 'the file was changed outside' undo --through 9 db.rec
+    stays "$outside" 'the file was changed outside' redo --through 1 db.rec
+    put db.rec.journal 'hello¶'
+    refuses 'journal line 1: not a journal of recu' undo --through 1 db.rec
+    fails_to_store 'nothing: No such file or directory (os error 2)' undo --through 1 nothing
+    only db.rec db.rec.journal
+}
+
+@test "how far it went is said where an edit on the way doesn't fit its texts" {
+    local outside='db.rec: if the text of the last edit is brought back to the byte, it can be undone; the next edit begins a new history'
+    local events
+    begin
+    # the text that edit 1 put in, changed by hand
+    events=${three_edits/New: A: 2/New: A: 7}
+    put db.rec.journal "$header$events"
+    explains "undone: edits 3 to 2¶$outside" 'the file was changed outside' undo --through 1 db.rec
+    stands 'A: 2¶' "$events$two_undone"
+    stays "$outside" 'the file was changed outside' undo --through 1 db.rec
+    does redo db.rec
+    explains "undone: edit 2¶$outside" 'the file was changed outside' undo --through 1 db.rec
+    has db.rec 'A: 2¶'
+    # the one that edit 3 took out
+    events=${three_edits/Old: A: 3/Old: A: 7}$(move 4 undo 3 'A: 4' 'A: 3')$(move 5 undo 2 'A: 3' 'A: 2')$(move 6 undo 1 'A: 2' 'A: 1')
+    put db.rec 'A: 1¶'
+    put db.rec.journal "$header$events"
+    explains "redone: edits 1 to 2¶$outside" 'the file was changed outside' redo --through 3 db.rec
+    stands 'A: 3¶' "$events$(move 7 redo 1 'A: 1' 'A: 2')$(move 8 redo 2 'A: 2' 'A: 3')"
+    does undo db.rec
+    explains "redone: edit 2¶$outside" 'the file was changed outside' redo --through 3 db.rec
+    has db.rec 'A: 3¶'
+}
+
+# fails AT ERROR WORD..: the sync of this number fails so. Of each move the first two are those of the new files, the third
+# is the folder's after the journal's rename, and the fourth the folder's after the file's.
+fails() {
+    local status=0
+    ONLY=fsync at "$1" "$2" "${@:3}" || status=$?
+    met || fail "there is no sync $1"
+    [ "$status" = 1 ] || fail "it ends with status $status: $(< err)"
+    has out ''
+    rm out
+}
+
+@test "how far it went is said where a file can't be written" {
+    local error='Input/output error (os error 5)'
+    local undone='the edit is done, but its folder could not be synced, so a power cut may undo it'
+    begin
+    fails 5 5 undo --through 1 db.rec
+    has err "undone: edit 3¶db.rec.journal: $error¶$store_failed"
+    rm err
+    stands 'A: 3¶' "$three_edits$(move 4 undo 3 'A: 4' 'A: 3')"
+    # the journal is in place, and its event doesn't count
+    fails 7 5 undo --through 1 db.rec
+    has err "undone: edit 2¶db.rec.journal: $error¶$store_failed"
+    rm err
+    stands 'A: 2¶' "$three_edits$two_undone$(move 6 undo 1 'A: 2' 'A: 1')"
+    tells 'done 1 recset¶undone 2 recset¶undone 3 recset¶'
+    fails 4 5 redo --through 3 db.rec
+    has err "db.rec: $undone: $error¶$store_failed"
+    rm err
+    tells 'done 1 recset¶done 2 recset¶undone 3 recset¶'
+    does redo db.rec
+    fails 12 5 undo --through 1 db.rec
+    has err "undone: edits 3 to 2¶db.rec: $undone: $error¶$store_failed"
+    tells 'undone 1 recset¶undone 2 recset¶undone 3 recset¶'
+    has db.rec 'A: 1¶'
+}
+
+@test "it takes no more than single moves, and closes what it opened" {
+    local number
+    put db.rec 'A: 0¶'
+    for ((number = 1; number <= 40; number++)); do
+        "$program" recset -f A -s "$number" db.rec
+    done
+    # open files are few, however many moves there are
+    (ulimit -n 16 && "$program" undo --through 1 db.rec) || fail 'too many open files'
+    has db.rec 'A: 0¶'
+    (ulimit -n 16 && "$program" redo --through 40 db.rec) || fail 'too many open files'
+    has db.rec 'A: 40¶'
+    only db.rec db.rec.journal
+}
+
+# between CALL NUMBER WORD..: the words are run while `undo --through 1` is held up at its call of this name and number, and then
+# it goes on
+between() {
+    local pid tries
+    rm -f paused go hit
+    ONLY=$1 at "$2" pause undo --through 1 db.rec &
+    pid=$!
+    for ((tries = 0; tries < 4000; tries++)); do
+        if [ -e paused ] || ! kill -0 "$pid" 2> /dev/null; then break; fi
+        sleep 0.002
+    done
+    [ -e paused ] || fail "there is no $1 $2"
+    fast "${@:3}" > rival 2>&1 3>&- || true
+    : > go
+    status=0
+    wait "$pid" || status=$?
+    rm -f paused go hit
+}
+
+# ends_so STATUS SAID RIVAL: so it ended, this was said, and this of the other program
+ends_so() {
+    [ "$status" = "$1" ] || fail "it ends with status $status: $(< err)"
+    has out ''
+    has err "$2"
+    has rival "$3"
+    rm -f out err rival
+    [ ! -e db.rec.new ] && [ ! -e db.rec.journal.new ] || fail 'a working file is left'
+}
+
+# A move locks the file, the journal, and then the two new files: so the fifth lock is the first of the second move.
+@test "between two moves another recu finds both unlocked" {
+    begin
+    between flock 5 "$program" undo db.rec
+    ends_so 0 '' ''
+    tells 'undone 1 recset¶undone 2 recset¶undone 3 recset¶'
+    has db.rec 'A: 1¶'
+    begin
+    between flock 5 "$program" undo --through 1 db.rec
+    ends_so 1 'undone: edit 3¶db.rec.journal: no edit is left to undo¶recu: nothing to undo¶' ''
+    has db.rec 'A: 1¶'
+}
+
+@test "an edit that another recu makes between two moves ends them" {
+    begin
+    between flock 5 "$program" recset -f A -s 9 db.rec
+    ends_so 1 "undone: edit 3 first, and edit 5 last¶db.rec: edited by another program meanwhile¶$store_failed" ''
+    tells 'done 1 recset¶done 2 recset¶undone 5 recset¶'
+    has db.rec 'A: 3¶'
+    does redo db.rec
+    has db.rec 'A: 9¶'
+}
+
+@test "an edit that another recu redoes between two moves ends them" {
+    begin
+    between flock 9 "$program" redo db.rec
+    ends_so 1 "undone: edit 3 first, and edit 2 last¶db.rec: edited by another program meanwhile¶$store_failed" ''
+    tells 'done 1 recset¶undone 2 recset¶undone 3 recset¶'
+    has db.rec 'A: 2¶'
+}
+
+@test "a save of another program between two moves is noticed" {
+    local outside='db.rec: if the text of the last edit is brought back to the byte, it can be undone; the next edit begins a new history'
+    begin
+    between flock 5 put db.rec 'A: 8¶'
+    ends_so 1 "undone: edit 3¶$outside¶recu: the file was changed outside¶" ''
+    has db.rec 'A: 8¶'
+    begin
+    between flock 9 rm db.rec
+    ends_so 1 "undone: edits 3 to 2¶db.rec: No such file or directory (os error 2)¶$store_failed" ''
+}
+
+@test "a file that another program has locked between two moves" {
+    begin
+    between flock 5 eval 'flock -o db.rec sleep 20 & echo $! > holder; until ! flock -n db.rec true; do sleep 0.002; done'
+    kill "$(< holder)"
+    rm holder
+    ends_so 1 "undone: edit 3¶db.rec: in use by another recu¶$store_failed" ''
+    has db.rec 'A: 3¶'
+}
+
+@test "each move holds both locks to its end" {
+    local number
+    # the rename of the journal and of the file, in each of three moves
+    for number in 1 2 3 4 5 6; do
+        begin
+        between rename "$number" "$program" recset -f A -s 9 db.rec
+        ends_so 0 '' "db.rec: in use by another recu¶$store_failed"
+        has db.rec 'A: 1¶'
+        tells 'undone 1 recset¶undone 2 recset¶undone 3 recset¶'
+    done
+}

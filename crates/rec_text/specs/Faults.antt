@@ -6,7 +6,7 @@ use Rattle.rec_text.specs.declared.fault.Fault.TheVariants.{BadExpression, BadPa
 use Rattle.rec_text.specs.declared.fault.Fault.TheVariants.{NoSelection, TypeNeeded, NoSuchType, BadName, BadValue}
 use Rattle.rec_text.specs.declared.fault.Fault.TheVariants.{BadRecord, Integrity, AutoImpossible, DigestClash}
 use Rattle.rec_text.specs.declared.fault.Fault.TheVariants.{BadJournal, NothingToUndo, NothingToRedo, Drifted}
-use Rattle.rec_text.specs.declared.fault.Fault.TheVariants.{StoreFailed, BadUsage, BadBatch, NoSuchEdit}
+use Rattle.rec_text.specs.declared.fault.Fault.TheVariants.{StoreFailed, BadUsage, BadBatch, NoSuchEdit, ChangedLater}
 
 abbrev pub number_of : Fault → ℕ
 number_of OutOfMemory = 1
@@ -35,6 +35,7 @@ number_of StoreFailed = 23
 number_of BadUsage = 24
 number_of (BadBatch line) = 25
 number_of NoSuchEdit = 26
+number_of ChangedLater = 27
 
 -- a fact of a fault, unless it is that memory ran out
 abbrev pub IsMemoryOr : Fault → Type 0 → Type 0

@@ -61,10 +61,12 @@ pub enum Fault {
     BadBatch { line: usize },
     #[error("no such edit")]
     NoSuchEdit,
+    #[error("a later edit changed the same lines")]
+    ChangedLater,
 }
 
 impl Fault {
-    /// The number of the refusal, from 1 to 26.
+    /// The number of the refusal, from 1 to 27.
     pub fn number(&self) -> u8
         ensures { result ≡ number_of self.now }
     {
@@ -95,6 +97,7 @@ impl Fault {
             Fault::BadUsage => 24,
             Fault::BadBatch { .. } => 25,
             Fault::NoSuchEdit => 26,
+            Fault::ChangedLater => 27,
         }
     }
 }

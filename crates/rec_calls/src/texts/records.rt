@@ -51,7 +51,8 @@ the file was changed outside
 a file could not be read or written
 bad usage
 batch line 8: not an edit
-no such edit";
+no such edit
+a later edit changed the same lines";
 
 fn fault_of_number(alloc: Global, number: usize) -> Result<Option<Fault>, Fault> {
     Ok(Some(match number {
@@ -81,6 +82,7 @@ fn fault_of_number(alloc: Global, number: usize) -> Result<Option<Fault>, Fault>
         24 => Fault::BadUsage,
         25 => Fault::BadBatch { line: 8 },
         26 => Fault::NoSuchEdit,
+        27 => Fault::ChangedLater,
         _ => return Ok(None),
     }))
 }

@@ -23,3 +23,4 @@ pub use rec_journal::{EditStep, EditSteps, Patch, Tool};
 pub use rec_select::{By, Selection};
 pub use rec_text::{Bytes, Fault};
 pub use request::{Action, Edit, NewRecord, Pair};
+pub use sound::require_rules;

@@ -41,14 +41,23 @@ pub(crate) fn keep_rules(file: &RecFile, edits: &[Edit], force: bool) -> bool
     }
 }
 
-/// Refuses a text that breaks the rules of its record sets, with all its violations.
-pub(crate) fn require_sound(alloc: Global, text: &[u8]) -> Result<(), Fault>
-    ensures { UnlessMemory result (IsSound text.now) }
+/// Refuses a file that breaks the rules of its record sets, with all its violations.
+pub fn require_rules(alloc: Global, file: &RecFile) -> Result<(), Fault>
+    ensures { UnlessMemory result (IsSound (text_of file.now.pieces)) }
 {
-    let file = RecFile::read(alloc, text)?;
+    // These are the elements of a text.
+    let _text = file.database().text();
     let found = file.schema().violations(alloc, file.database())?;
     if !found.is_empty() {
         return Err(Fault::Integrity(Violations::from_vec(found)));
     }
     Ok(())
+}
+
+/// The same of a text that is read for it.
+pub(crate) fn require_sound(alloc: Global, text: &[u8]) -> Result<(), Fault>
+    ensures { UnlessMemory result (IsSound text.now) }
+{
+    let file = RecFile::read(alloc, text)?;
+    require_rules(alloc, &file)
 }

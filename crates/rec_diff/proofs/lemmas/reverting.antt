@@ -4,5 +4,8 @@ pub mod PatchLemmas
 pub mod RevertLemmas
 pub mod StandingLemmas
 pub mod EndLemmas
+pub mod KeepLemmas
+pub mod SetLemmas
+pub mod RecordLemmas
 pub mod RevertExamples
 pub mod FoundLemmas

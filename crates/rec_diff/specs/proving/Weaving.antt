@@ -1,5 +1,5 @@
 -- How the turns of a change and those of later ones are told apart.
-use Rattle.std.specs.Prelude.{◌≡◌, ℕ, ◌+◌, ◌-◌, ◌≤◌, Bool, true, false, ◌&&◌, ◌||◌, not, ◌==◌, nat_le}
+use Rattle.std.specs.Prelude.{◌≡◌, ◌≢◌, ℕ, ◌+◌, ◌-◌, ◌≤◌, Bool, true, false, ◌&&◌, ◌||◌, not, ◌==◌, nat_le}
 use Rattle.std.specs.Prelude.{List, [], ◌∷◌, length, Option, Some, None, if◌then◌else◌}
 use Rattle.std.specs.List.{between}
 use Rattle.rec_text.specs.Bytes.{is_nil}
@@ -8,7 +8,10 @@ use Rattle.rec_diff.specs.declared.turn.Place.{Place}
 use Rattle.rec_diff.specs.declared.turn.Turn.{Turn}
 use Rattle.rec_diff.specs.declared.reverting.standing.Ahead.{Ahead}
 use Rattle.rec_diff.specs.declared.reverting.standing.Back.{Back}
+use Rattle.rec_diff.specs.Changes.{Stretch}
 use Rattle.rec_diff.specs.Lines.{at_line}
+use Rattle.rec_diff.specs.Reverts.{KeepPlaces, LeaveLines}
+use Rattle.rec_diff.specs.Reverts.{begin_with_blank, begin_with_set, keep_records, keep_sets}
 
 -- ---- hunks
 
@@ -122,3 +125,25 @@ pub record Passes (last : Place) (turn : Turn) (ahead next : Ahead) : Type 0 whe
 abbrev pub are_ended : Bool → List (List ℕ) → Bool
 are_ended ended [] = true
 are_ended ended (t ∷ ts) = if is_nil t then are_ended ended ts else ended && are_ended (at_line t) ts
+
+-- ---- sets
+
+-- parts keep their sets, and begin with one where that is wanted
+abbrev pub keep_on : Bool → List Stretch → Bool
+keep_on wanted parts = (not wanted || begin_with_set parts) && keep_sets parts
+
+-- ---- records
+
+-- parts begin with a blank line where that is wanted
+abbrev pub blank_on : Bool → List Stretch → Bool
+blank_on wanted parts = not wanted || begin_with_blank parts
+
+-- and keep their records
+abbrev pub records_on : Bool → List Stretch → Bool
+records_on wanted parts = blank_on wanted parts && keep_records parts
+
+-- ---- the whole
+
+-- no line is left without its end before others, and after later hunks what stays is left in its place
+abbrev pub LeaveTheRest : List Hunk → List Hunk → List ℕ → Type 0
+LeaveTheRest later hunks text = LeaveLines hunks text × (later ≢ [] → KeepPlaces hunks text)

@@ -7,7 +7,7 @@ use Rattle.std.proofs.lemmas.List.{drop_more, drop_all, drop_at}
 use Rattle.rec_journal.specs.declared.patch.Hunk.{Hunk}
 use Rattle.rec_journal.specs.Patch.{Splices, SplicesFrom}
 use Rattle.rec_diff.specs.declared.reverting.standing.Back.{Back}
-use Rattle.rec_diff.specs.Changes.{new_of, cut_from}
+use Rattle.rec_diff.specs.Changes.{Stretch, stays, turns, new_of, cut_from}
 use Rattle.rec_diff.specs.Composing.{keeps, removes, adds, deeds_from}
 use Rattle.rec_diff.specs.Lines.{at_line}
 use Rattle.rec_diff.specs.Reverts.{LeaveLines}
@@ -96,12 +96,12 @@ module _ (text : List ℕ) (place : ℕ) (h : Hunk) (hunks : List Hunk) (lead : 
         fits = hunk_ends;
       }
 
-  pub texts_next : map new_of (cut_from place (h ∷ hunks) (drop place text))
-      ≡ between place h.at text ∷ h.new ∷ map new_of (cut_from (h.at + length h.old) hunks (drop (h.at + length h.old) text))
-  texts_next =
+  pub parts_next : cut_from place (h ∷ hunks) (drop place text)
+      ≡ stays (between place h.at text) ∷ turns h.old h.new ∷ cut_from (h.at + length h.old) hunks (drop (h.at + length h.old) text)
+  parts_next =
       let far = hunk_after in
       let count : place + (h.at - place + length h.old) ≡ h.at + length h.old = omega (arith, far) in
-      ap (λ t. between place h.at text ∷ h.new ∷ map new_of (cut_from (h.at + length h.old) hunks t))
+      ap (λ t. stays (between place h.at text) ∷ turns h.old h.new ∷ cut_from (h.at + length h.old) hunks t)
       (drop-drop (h.at - place + length h.old) place text ∙ ap (λ n. drop n text) count)
 
   pub deeds_next : deeds_from place (h ∷ hunks) ≡ (replicate (h.at - place) keeps ++ (map removes h.old ++ map adds h.new)) ++ deeds_from (h.at + length h.old) hunks
@@ -129,8 +129,7 @@ ends_both ended first kept new one (Some next) two = λ rest. one (new ∷ rest)
 
 -- ---- a hunk after those that were looked at
 
-module _ (hunks : List Hunk) (text : List ℕ) (i : ℕ) (h : Hunk) (place : ℕ) (ended : Bool) (there : i < length hunks) (is : h ≡ get_or hunks i h) (lead : LeadOn text place (drop i hunks))
-    (so_far : are_ended true (map new_of (cut_from 0 hunks text)) ≡ are_ended ended (map new_of (cut_from place (drop i hunks) (drop place text)))) where
+module _ (hunks : List Hunk) (text : List ℕ) (i : ℕ) (h : Hunk) (place : ℕ) (there : i < length hunks) (is : h ≡ get_or hunks i h) (lead : LeadOn text place (drop i hunks)) where
   lead_here : LeadOn text place (h ∷ drop (i + 1) hunks)
   lead_here = subst (LeadOn text place) (next_hunk hunks i h h there is) lead
 
@@ -143,24 +142,25 @@ module _ (hunks : List Hunk) (text : List ℕ) (i : ℕ) (h : Hunk) (place : ℕ
   pub end_fits : h.at + length h.old ≤ length text
   end_fits = hunk_ends text place h (drop (i + 1) hunks) lead_here
 
-  abbrev left : List (List ℕ)
-  left = map new_of (cut_from (h.at + length h.old) (drop (i + 1) hunks) (drop (h.at + length h.old) text))
+  abbrev pub parts_left : List Stretch
+  parts_left = cut_from (h.at + length h.old) (drop (i + 1) hunks) (drop (h.at + length h.old) text)
 
-  goes : are_ended true (map new_of (cut_from 0 hunks text)) ≡ are_ended ended (between place h.at text ∷ h.new ∷ left)
-  goes =
-      so_far ∙ ap (λ hs. are_ended ended (map new_of (cut_from place hs (drop place text)))) (next_hunk hunks i h h there is)
-      ∙ ap (are_ended ended) (texts_next text place h (drop (i + 1) hunks) lead_here)
+  pub parts_here : cut_from place (drop i hunks) (drop place text) ≡ stays (between place h.at text) ∷ turns h.old h.new ∷ parts_left
+  parts_here = ap (λ hs. cut_from place hs (drop place text)) (next_hunk hunks i h h there is) ∙ parts_next text place h (drop (i + 1) hunks) lead_here
 
-  module _ (kept new : List ℕ) (kept_is : kept ≡ between place h.at text) (new_is : new ≡ h.new) where
-    goes_on : are_ended true (map new_of (cut_from 0 hunks text)) ≡ are_ended ended (kept ∷ new ∷ left)
-    goes_on = goes ∙ ap₂ (λ x y. are_ended ended (x ∷ y ∷ left)) (sym kept_is) (sym new_is)
+  module _ (ended : Bool) (so_far : are_ended true (map new_of (cut_from 0 hunks text)) ≡ are_ended ended (map new_of (cut_from place (drop i hunks) (drop place text))))
+      (kept new : List ℕ) (kept_is : kept ≡ between place h.at text) (new_is : new ≡ h.new) where
+    goes_on : are_ended true (map new_of (cut_from 0 hunks text)) ≡ are_ended ended (kept ∷ new ∷ map new_of parts_left)
+    goes_on =
+        so_far ∙ ap (λ ps. are_ended ended (map new_of ps)) parts_here
+        ∙ ap₂ (λ x y. are_ended ended (x ∷ y ∷ map new_of parts_left)) (sym kept_is) (sym new_is)
 
     pub lacks_end : ((rest : List (List ℕ)) → are_ended ended (kept ∷ new ∷ rest) ≡ false) → LeaveLines hunks text → ⊥
-    lacks_end open_line lines = false≢true (sym (goes_on ∙ open_line left) ∙ lines_ended (map new_of (cut_from 0 hunks text)) lines)
+    lacks_end open_line lines = false≢true (sym (goes_on ∙ open_line (map new_of parts_left)) ∙ lines_ended (map new_of (cut_from 0 hunks text)) lines)
 
     pub ended_then : (next : Bool) → ((rest : List (List ℕ)) → are_ended ended (kept ∷ new ∷ rest) ≡ are_ended next rest)
-        → are_ended true (map new_of (cut_from 0 hunks text)) ≡ are_ended next left
-    ended_then next on = goes_on ∙ on left
+        → are_ended true (map new_of (cut_from 0 hunks text)) ≡ are_ended next (map new_of parts_left)
+    ended_then next on = goes_on ∙ on (map new_of parts_left)
 
 -- after all hunks
 pub all_ended : (hunks : List Hunk) (text : List ℕ) (i place : ℕ) (ended : Bool) (last : List ℕ) (answer : Option Bool) (some : Bool) → length hunks ≤ i

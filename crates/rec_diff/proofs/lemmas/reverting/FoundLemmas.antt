@@ -6,12 +6,12 @@ use Rattle.rec_diff.specs.declared.turn.Place.{Place}
 use Rattle.rec_diff.specs.declared.turn.Turn.{Turn}
 use Rattle.rec_diff.specs.declared.reverting.standing.Back.{Back}
 use Rattle.rec_diff.specs.Changes.{cut_from, hunks_at}
-use Rattle.rec_diff.specs.Reverts.{LeaveLines, NothingReverts, Reverts, as_patch, hunks_back}
+use Rattle.rec_diff.specs.Reverts.{NothingReverts, Reverts, as_patch, hunks_back}
 use Rattle.rec_diff.specs.WholeLines.{whole_lines}
 use Rattle.rec_diff.specs.proving.Turns.{AreIn, site_of, sites}
-use Rattle.rec_diff.specs.proving.Weaving.{AreInStep, at_start, back_hunk, stand, turns_stand}
+use Rattle.rec_diff.specs.proving.Weaving.{AreInStep, LeaveTheRest, at_start, back_hunk, stand, turns_stand}
 use Rattle.rec_diff.proofs.lemmas.reverting.PatchLemmas.{as_patch_leads}
-use Rattle.rec_diff.proofs.lemmas.reverting.RevertLemmas.{change_from, change_to, found_leads, found_reverts, none_reverts, open_reverts, others_are}
+use Rattle.rec_diff.proofs.lemmas.reverting.RevertLemmas.{change_from, change_to, found_leads, found_reverts, none_reverts, others_are, unkept_reverts}
 use Rattle.rec_diff.proofs.lemmas.reverting.StandingLemmas.{hunks_back_are, hunks_on_are, others_in_step, stand_is}
 
 -- these are the turns of both changes
@@ -67,8 +67,8 @@ module _ {change : List Hunk} {before after : List ℕ} {later_hunks : List Hunk
       pub patch_leads : (left : List ℕ) × Splices hunks here left
       patch_leads = (backs_lead.0, subst (λ hs. Splices hs here backs_lead.0) (sym hunks_are) (as_patch_leads (map back_hunk all) here backs_lead.0 backs_lead.1))
 
-      pub patch_reverts : LeaveLines hunks here → Reverts change before after later_hunks here hunks
-      patch_reverts lines = found_reverts change before after later_hunks here are.leads are.later_lead (map back_hunk all) hunks all_stand hunks_are lines
+      pub patch_reverts : LeaveTheRest later_hunks hunks here → Reverts change before after later_hunks here hunks
+      patch_reverts = found_reverts change before after later_hunks here are.leads are.later_lead (map back_hunk all) hunks all_stand hunks_are
 
-      pub no_patch_reverts : (LeaveLines hunks here → ⊥) → NothingReverts change before after later_hunks here
-      no_patch_reverts not_lines = open_reverts change before after later_hunks here are.leads are.later_lead (map back_hunk all) hunks all_stand hunks_are not_lines
+      pub no_patch_reverts : (LeaveTheRest later_hunks hunks here → ⊥) → NothingReverts change before after later_hunks here
+      no_patch_reverts = unkept_reverts change before after later_hunks here are.leads are.later_lead (map back_hunk all) hunks all_stand hunks_are

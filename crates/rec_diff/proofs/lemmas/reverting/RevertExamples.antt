@@ -1,10 +1,11 @@
 -- Changes of small texts, taken back.
 use Rattle.std.specs.Prelude.{codes}
 use Rattle.std.proofs.Common.{ℕ, List, [], ◌∷◌, refl}
+use Rattle.std.proofs.lemmas.Bool.{false≢true}
 use Rattle.rec_journal.specs.declared.patch.Hunk.{Hunk}
 use Rattle.rec_diff.specs.Changes.{stays, turns}
-use Rattle.rec_diff.specs.Reverts.{NothingReverts, Reverts, same, mine, later}
-use Rattle.rec_diff.proofs.lemmas.reverting.RevertLemmas.{none_reverts}
+use Rattle.rec_diff.specs.Reverts.{KeepRecords, KeepSets, KeepValues, NothingReverts, Reverts, same, mine, later}
+use Rattle.rec_diff.proofs.lemmas.reverting.RevertLemmas.{none_reverts, unkept_reverts}
 
 abbrev hunk : ℕ → List ℕ → List ℕ → Hunk
 hunk at old new = record { at = at; old = old; new = new }
@@ -21,6 +22,7 @@ moved_by_a_later_line = record {
   woven = record { mine_is = refl; later_is = refl; text = refl; settled = ((λ none. absurd cc, tt), tt) };
   is = refl;
   lines = (λ some. refl, (λ some. refl, (λ some. refl, tt)));
+  places = λ some. (refl, refl, refl);
 }
 
 -- a line was put, and then another right after it: either can be taken back
@@ -34,6 +36,7 @@ beside_a_later_line = record {
   woven = record { mine_is = refl; later_is = refl; text = refl; settled = ((λ none. absurd cc, tt), tt) };
   is = refl;
   lines = (λ some. refl, (λ some. refl, (λ some. refl, tt)));
+  places = λ some. (refl, refl, refl);
 }
 
 -- two lines were put, and later the line between them went: both are taken back by one hunk
@@ -48,7 +51,59 @@ two_are_one = record {
   woven = record { mine_is = refl; later_is = refl; text = refl; settled = ((λ none. absurd cc, tt), ((λ none. absurd cc, tt), tt)) };
   is = refl;
   lines = (λ some. refl, (λ some. refl, (λ some. refl, tt)));
+  places = λ some. (refl, refl, refl);
 }
+
+-- a set was put at the end, and later another one after it: it goes with its record
+pub set_and_its_record : Reverts (hunk 5 [] (codes "\n%rec: B\n\nb: 1\n") ∷ []) (codes "a: 1\n") (codes "a: 1\n\n%rec: B\n\nb: 1\n") (hunk 20 [] (codes "\n%rec: C\n\nc: 1\n") ∷ [])
+    (codes "a: 1\n\n%rec: B\n\nb: 1\n\n%rec: C\n\nc: 1\n") (hunk 5 (codes "\n%rec: B\n\nb: 1\n") [] ∷ [])
+set_and_its_record = record {
+  parts = stays (codes "a: 1\n") ∷ turns [] (codes "\n%rec: B\n\nb: 1\n") ∷ [];
+  change_is = record { cut = stays (codes "a: 1\n") ∷ turns [] (codes "\n%rec: B\n\nb: 1\n") ∷ []; by_patch = refl; from = refl; to = refl; lined = refl };
+  others = stays (codes "a: 1\n\n%rec: B\n\nb: 1\n") ∷ turns [] (codes "\n%rec: C\n\nc: 1\n") ∷ [];
+  later_is = record { cut = stays (codes "a: 1\n\n%rec: B\n\nb: 1\n") ∷ turns [] (codes "\n%rec: C\n\nc: 1\n") ∷ []; by_patch = refl; from = refl; to = refl; lined = refl };
+  strands = same (codes "a: 1\n") ∷ mine [] (codes "\n%rec: B\n\nb: 1\n") ∷ later [] (codes "\n%rec: C\n\nc: 1\n") ∷ [];
+  woven = record { mine_is = refl; later_is = refl; text = refl; settled = ((λ none. absurd cc, tt), tt) };
+  is = refl;
+  lines = (λ some. refl, (λ some. refl, (λ some. refl, tt)));
+  places = λ some. (refl, refl, refl);
+}
+
+-- a record was put at the end, and later another one after it: either can be taken back
+pub beside_a_later_record : Reverts (hunk 5 [] (codes "\nB: 2\n") ∷ []) (codes "A: 1\n") (codes "A: 1\n\nB: 2\n") (hunk 11 [] (codes "\nC: 3\n") ∷ []) (codes "A: 1\n\nB: 2\n\nC: 3\n")
+    (hunk 5 (codes "\nB: 2\n") [] ∷ [])
+beside_a_later_record = record {
+  parts = stays (codes "A: 1\n") ∷ turns [] (codes "\nB: 2\n") ∷ [];
+  change_is = record { cut = stays (codes "A: 1\n") ∷ turns [] (codes "\nB: 2\n") ∷ []; by_patch = refl; from = refl; to = refl; lined = refl };
+  others = stays (codes "A: 1\n\nB: 2\n") ∷ turns [] (codes "\nC: 3\n") ∷ [];
+  later_is = record { cut = stays (codes "A: 1\n\nB: 2\n") ∷ turns [] (codes "\nC: 3\n") ∷ []; by_patch = refl; from = refl; to = refl; lined = refl };
+  strands = same (codes "A: 1\n") ∷ mine [] (codes "\nB: 2\n") ∷ later [] (codes "\nC: 3\n") ∷ [];
+  woven = record { mine_is = refl; later_is = refl; text = refl; settled = ((λ none. absurd cc, tt), tt) };
+  is = refl;
+  lines = (λ some. refl, (λ some. refl, (λ some. refl, tt)));
+  places = λ some. (refl, refl, refl);
+}
+
+-- a field of the record above goes, or the first one of a record, or a record comes back
+pub a_field_of_the_record : KeepRecords (hunk 5 (codes "B: 2\n") [] ∷ []) (codes "A: 1\nB: 2\nC: 3\n")
+a_field_of_the_record = refl
+
+pub the_first_field : KeepRecords (hunk 6 (codes "B: 2\n") [] ∷ []) (codes "A: 1\n\nB: 2\nC: 3\n")
+the_first_field = refl
+
+pub a_record_comes_back : KeepRecords (hunk 5 [] (codes "\nB: 2\n") ∷ []) (codes "A: 1\n\nC: 3\n")
+a_record_comes_back = refl
+
+-- a line comes back among those of a value, or the first line of it is changed back
+pub a_line_of_the_value : KeepValues (hunk 8 [] (codes "+ x\n") ∷ []) (codes "Note: a\n+ b\n")
+a_line_of_the_value = refl
+
+pub the_first_line_of_the_value : KeepValues (hunk 0 (codes "Note: a\n") (codes "Note: x\n") ∷ []) (codes "Note: a\n+ b\n")
+the_first_line_of_the_value = refl
+
+-- comments and blank lines are of no set
+pub comments_are_of_no_set : KeepSets (hunk 0 (codes "%rec: A\n") [] ∷ []) (codes "%rec: A\n# a note\n \n")
+comments_are_of_no_set = refl
 
 -- ---- nothing takes it back
 
@@ -63,3 +118,25 @@ pub a_later_one_puts_beside : NothingReverts (hunk 0 (codes "a\n") [] ∷ []) (c
 a_later_one_puts_beside =
     none_reverts (hunk 0 (codes "a\n") [] ∷ []) (codes "a\nz\n") (codes "z\n") (hunk 0 [] (codes "b\n") ∷ []) (codes "b\nz\n") ([], codes "z\n", codes "z\n", refl, refl, refl, refl)
     ([], codes "z\n", codes "z\n", refl, refl, refl, refl) refl
+
+-- a set was put at the end, and later another record in it
+pub a_later_record_of_the_set : NothingReverts (hunk 5 [] (codes "\n%rec: B\n\nb: 1\n") ∷ []) (codes "a: 1\n") (codes "a: 1\n\n%rec: B\n\nb: 1\n") (hunk 20 [] (codes "\nb: 2\n") ∷ [])
+    (codes "a: 1\n\n%rec: B\n\nb: 1\n\nb: 2\n")
+a_later_record_of_the_set =
+    unkept_reverts (hunk 5 [] (codes "\n%rec: B\n\nb: 1\n") ∷ []) (codes "a: 1\n") (codes "a: 1\n\n%rec: B\n\nb: 1\n") (hunk 20 [] (codes "\nb: 2\n") ∷ [])
+    (codes "a: 1\n\n%rec: B\n\nb: 1\n\nb: 2\n") (codes "a: 1\n", [], [], refl, refl, refl, refl) (codes "a: 1\n\n%rec: B\n\nb: 1\n", [], [], refl, refl, refl, refl)
+    (hunk 5 (codes "\n%rec: B\n\nb: 1\n") [] ∷ []) (hunk 5 (codes "\n%rec: B\n\nb: 1\n") [] ∷ []) refl refl (λ kept. false≢true (kept.1 (λ none. cc)).0)
+
+-- a record was put at the end, and later another field in it
+pub a_later_field_of_the_record : NothingReverts (hunk 5 [] (codes "\nB: 2\n") ∷ []) (codes "A: 1\n") (codes "A: 1\n\nB: 2\n") (hunk 11 [] (codes "C: 3\n") ∷ []) (codes "A: 1\n\nB: 2\nC: 3\n")
+a_later_field_of_the_record =
+    unkept_reverts (hunk 5 [] (codes "\nB: 2\n") ∷ []) (codes "A: 1\n") (codes "A: 1\n\nB: 2\n") (hunk 11 [] (codes "C: 3\n") ∷ []) (codes "A: 1\n\nB: 2\nC: 3\n")
+    (codes "A: 1\n", [], [], refl, refl, refl, refl) (codes "A: 1\n\nB: 2\n", [], [], refl, refl, refl, refl)
+    (hunk 5 (codes "\nB: 2\n") [] ∷ []) (hunk 5 (codes "\nB: 2\n") [] ∷ []) refl refl (λ kept. false≢true (kept.1 (λ none. cc)).1)
+
+-- a field was put, and later another line of its value
+pub a_later_line_of_the_value : NothingReverts (hunk 5 [] (codes "B: 2\n") ∷ []) (codes "A: 1\n") (codes "A: 1\nB: 2\n") (hunk 10 [] (codes "+ 3\n") ∷ []) (codes "A: 1\nB: 2\n+ 3\n")
+a_later_line_of_the_value =
+    unkept_reverts (hunk 5 [] (codes "B: 2\n") ∷ []) (codes "A: 1\n") (codes "A: 1\nB: 2\n") (hunk 10 [] (codes "+ 3\n") ∷ []) (codes "A: 1\nB: 2\n+ 3\n")
+    (codes "A: 1\n", [], [], refl, refl, refl, refl) (codes "A: 1\nB: 2\n", [], [], refl, refl, refl, refl)
+    (hunk 5 (codes "B: 2\n") [] ∷ []) (hunk 5 (codes "B: 2\n") [] ∷ []) refl refl (λ kept. false≢true (kept.1 (λ none. cc)).2)

@@ -6,9 +6,9 @@ use Rattle.rec_journal.specs.Patch.{Splices}
 use Rattle.rec_journal.proofs.lemmas.patches.SplicingLemmas.{leads_to_one_text}
 use Rattle.rec_diff.specs.Changes.{Stretch, stays, turns, turned, old_of, new_of, before_of, after_of, hunks_at, cut_from, joined}
 use Rattle.rec_diff.specs.WholeLines.{IsChange, lined_from, trimmed, whole_lines}
-use Rattle.rec_diff.specs.Reverts.{AreSettled, AreWoven, IsWithout, LeaveLines, NothingReverts, OneRevert, Reverts, RevertsLeaveTheRest, Strand, as_patch, hunks_back}
+use Rattle.rec_diff.specs.Reverts.{AreSettled, AreWoven, IsWithout, NothingReverts, OneRevert, Reverts, RevertsLeaveTheRest, Strand, as_patch, hunks_back}
 use Rattle.rec_diff.specs.Reverts.{same, mine, later, later_part, mine_part, texts_of, woven, woven_one}
-use Rattle.rec_diff.specs.proving.Weaving.{AreSpaced, stand}
+use Rattle.rec_diff.specs.proving.Weaving.{AreSpaced, LeaveTheRest, stand}
 use Rattle.rec_diff.proofs.lemmas.ChangeLemmas.{hunks_splice}
 use Rattle.rec_diff.proofs.lemmas.CutLemmas.{is_change, one_change}
 use Rattle.rec_diff.proofs.lemmas.WholeLineLemmas.{changes_lead_by_lines}
@@ -241,9 +241,9 @@ module _ (change : List Hunk) (before after : List ℕ) (later_hunks : List Hunk
             (standing_leads change before after later_hunks here parts_of others_of parts_are others_are w.strands (strands_woven found is w)),
       )
 
-  pub found_reverts : (found hunks : List Hunk) → stand (hunks_back parts_of) (hunks_at 0 others_of) 0 0 ≡ Some found → hunks ≡ as_patch found → LeaveLines hunks here
-      → Reverts change before after later_hunks here hunks
-  found_reverts found hunks is hunks_is lines =
+  pub found_reverts : (found hunks : List Hunk) → stand (hunks_back parts_of) (hunks_at 0 others_of) 0 0 ≡ Some found → hunks ≡ as_patch found
+      → LeaveTheRest later_hunks hunks here → Reverts change before after later_hunks here hunks
+  found_reverts found hunks is hunks_is (lines, places) =
       let w = found_woven found is in
       record {
         parts = parts_of;
@@ -254,15 +254,17 @@ module _ (change : List Hunk) (before after : List ℕ) (later_hunks : List Hunk
         woven = strands_woven found is w;
         is = hunks_is ∙ ap as_patch (sym w.found_is);
         lines = lines;
+        places = places;
       }
 
   pub none_reverts : stand (hunks_back parts_of) (hunks_at 0 others_of) 0 0 ≡ None → NothingReverts change before after later_hunks here
   none_reverts is = λ hunks reverts.
       let found : None ≡ Some (standing_at 0 reverts.strands) = sym is ∙ reverts_found change before after later_hunks here hunks parts_of others_of parts_are others_are reverts in cc
 
-  pub open_reverts : (found hunks : List Hunk) → stand (hunks_back parts_of) (hunks_at 0 others_of) 0 0 ≡ Some found → hunks ≡ as_patch found → (LeaveLines hunks here → ⊥)
-      → NothingReverts change before after later_hunks here
-  open_reverts found hunks is hunks_is not_lines = λ other reverts.
+  pub unkept_reverts : (found hunks : List Hunk) → stand (hunks_back parts_of) (hunks_at 0 others_of) 0 0 ≡ Some found → hunks ≡ as_patch found
+      → (LeaveTheRest later_hunks hunks here → ⊥) → NothingReverts change before after later_hunks here
+  unkept_reverts found hunks is hunks_is unkept = λ other reverts.
       let both : Some found ≡ Some (standing_at 0 reverts.strands) = sym is ∙ reverts_found change before after later_hunks here other parts_of others_of parts_are others_are reverts in
       let same : found ≡ standing_at 0 reverts.strands = cc in
-      not_lines (subst (λ hs. LeaveLines hs here) (reverts.is ∙ ap as_patch (sym same) ∙ sym hunks_is) reverts.lines)
+      let others : other ≡ hunks = reverts.is ∙ ap as_patch (sym same) ∙ sym hunks_is in
+      unkept (subst (λ hs. LeaveTheRest later_hunks hs here) others (reverts.lines, reverts.places))

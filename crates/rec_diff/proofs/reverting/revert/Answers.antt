@@ -25,8 +25,8 @@ patch_of-requires c =
     let lead = backs_lead are c.in-Some.backs.items c.deref-3.result.now c.deref-3.ensures.value (rw c.in-Some.is at c.in_ok-backs.ensures) in
     record { leads = (c.args.here.now, lead.0, omega arith, lead.1) }
 
-pub leave_lines-requires : goal.leave_lines-requires
-leave_lines-requires c =
+pub leave_the_rest-requires : goal.leave_the_rest-requires
+leave_the_rest-requires c =
     let are = are_turns c.args.change.now c.args.before.now c.args.after.now c.args.later.now c.args.here.now c.deref.result.now
     c.in_ok-turns.turns.items c.deref-2.result.now c.in_ok-others.others.items c.deref.ensures.value c.deref-2.ensures.value c.requires.change c.requires.later c.in_ok-turns.ensures.order
     c.in_ok-others.ensures.order c.in_ok-turns.ensures.places c.in_ok-others.ensures.places in
@@ -34,14 +34,14 @@ leave_lines-requires c =
     (c.deref-4.ensures.value ∙ c.in_ok-hunks.ensures) in
     record { leads = lead }
 
-pub returns-then-leave_lines : goal.returns-then-leave_lines
-returns-then-leave_lines c =
+pub returns-then-leave_the_rest : goal.returns-then-leave_the_rest
+returns-then-leave_the_rest c =
     let are = are_turns c.args.change.now c.args.before.now c.args.after.now c.args.later.now c.args.here.now c.deref.result.now
     c.in_ok-turns.turns.items c.deref-2.result.now c.in_ok-others.others.items c.deref.ensures.value c.deref-2.ensures.value c.requires.change c.requires.later c.in_ok-turns.ensures.order
     c.in_ok-others.ensures.order c.in_ok-turns.ensures.places c.in_ok-others.ensures.places in
     record {
       hunks = patch_reverts are c.in-Some.backs.items c.deref-3.result.now c.deref-3.ensures.value (rw c.in-Some.is at c.in_ok-backs.ensures) c.in_ok-hunks.hunks.items c.in_ok-hunks.ensures
-          (rw c.deref-4.ensures.value at (c.leave_lines.ensures.0 c.if-leave_lines.true));
+          (rw c.deref-4.ensures.value at (c.leave_the_rest.ensures.0 c.if-leave_the_rest.true));
     }
 
 pub returns : goal.returns
@@ -51,5 +51,5 @@ returns c =
     c.in_ok-others.ensures.order c.in_ok-turns.ensures.places c.in_ok-others.ensures.places in
     record {
       hunks = no_patch_reverts are c.in-Some.backs.items c.deref-3.result.now c.deref-3.ensures.value (rw c.in-Some.is at c.in_ok-backs.ensures) c.deref-4.result.now
-          (c.deref-4.ensures.value ∙ c.in_ok-hunks.ensures) (λ lines. false≢true (sym c.if-leave_lines.false ∙ c.leave_lines.ensures.1 lines));
+          (c.deref-4.ensures.value ∙ c.in_ok-hunks.ensures) (λ both. false≢true (sym c.if-leave_the_rest.false ∙ c.leave_the_rest.ensures.1 both));
     }

@@ -9,7 +9,7 @@ returns-in_default c =
     let inv = c.loop-hunk.invariant in (
       λ yes. absurd (false≢true yes),
       λ lines. absurd
-          (lacks_end c.args.hunks.now c.args.text.now c.loop-hunk.hunk-index c.hunk-item.result c.loop-hunk.place c.loop-hunk.ended c.loop-hunk-test.true c.hunk-item.is inv.leads inv.ended _ _ refl
+          (lacks_end c.args.hunks.now c.args.text.now c.loop-hunk.hunk-index c.hunk-item.result c.loop-hunk.place c.loop-hunk-test.true c.hunk-item.is inv.leads c.loop-hunk.ended inv.ended _ _ refl
           c.as_slice.ensures (rw c.in_default.is at c.ends_after_both.ensures) lines),
     )
 
@@ -18,8 +18,8 @@ loop-hunk-preserved c =
     let inv = c.loop-hunk.invariant in
     rw c.as_slice-in-loop-hunk.ensures
     (record {
-      leads = leads_then c.args.hunks.now c.args.text.now c.loop-hunk.hunk-index c.hunk-item.result c.loop-hunk.place c.loop-hunk.ended c.loop-hunk-test.true c.hunk-item.is inv.leads inv.ended;
-      ended = ended_then c.args.hunks.now c.args.text.now c.loop-hunk.hunk-index c.hunk-item.result c.loop-hunk.place c.loop-hunk.ended c.loop-hunk-test.true c.hunk-item.is inv.leads inv.ended
+      leads = leads_then c.args.hunks.now c.args.text.now c.loop-hunk.hunk-index c.hunk-item.result c.loop-hunk.place c.loop-hunk-test.true c.hunk-item.is inv.leads;
+      ended = ended_then c.args.hunks.now c.args.text.now c.loop-hunk.hunk-index c.hunk-item.result c.loop-hunk.place c.loop-hunk-test.true c.hunk-item.is inv.leads c.loop-hunk.ended inv.ended
           _ _ refl c.as_slice.ensures c.in-Some.next (rw c.in-Some.is at c.ends_after_both.ensures);
     })
 

@@ -1,13 +1,13 @@
 -- Laws of the machine, of what contents stand for, and of files that were changed outside.
-use Rattle.std.specs.Prelude.{◌≡◌, ◌≢◌, ◌⊎◌, ℕ, ◌+◌, true, List, [], ◌∷◌, codes, Option, None, Result, Ok, Err}
+use Rattle.std.specs.Prelude.{◌≡◌, ◌≢◌, ◌⊎◌, ℕ, ◌+◌, Bool, true, List, [], ◌∷◌, codes, Option, None, Result, Ok, Err}
 use Rattle.rec_text.specs.declared.fault.Fault.{Fault}
 use Rattle.rec_text.specs.declared.fault.Fault.TheVariants.{BadPattern, Drifted}
 use Rattle.rec_journal.specs.declared.event.EditStep.{EditStep}
 use Rattle.rec_journal.specs.declared.event.Tool.{Tool}
 use Rattle.rec_journal.specs.History.{Opened, Opens}
 use Rattle.rec_tools.specs.declared.request.Reply.{Reply}
-use Rattle.rec_tools.specs.declared.request.Reply.TheVariants.{Shown, Edited as EditedReply, Redone}
-use Rattle.rec_tools.specs.declared.request.Request.{Request, Undo, Redo, Forget, History}
+use Rattle.rec_tools.specs.declared.request.Reply.TheVariants.{Shown, Edited as EditedReply, Redone, Reverted}
+use Rattle.rec_tools.specs.declared.request.Request.{Request, Undo, Redo, Revert, Forget, History}
 use Rattle.rec_tools.specs.Home.{Contents, written}
 use Rattle.rec_tools.specs.Requests.{showing, previewing, asked_of, WritesNothing}
 use Rattle.rec_tools.specs.Outcomes.{Outcome, IsRequestOutcome, printing}
@@ -32,10 +32,11 @@ FirstStands = (file : List ℕ) → Stands (record { file = file; journal = [] }
 
 -- ---- a preview
 
--- the reply to a request that made an edit, or made one again
+-- the reply to a request that made an edit, of which a revert is one too, or made one again
 abbrev pub MadeAnEdit : Reply → Type 0
 MadeAnEdit (EditedReply changed number dropped) = Unit {0}
 MadeAnEdit (Redone number tool) = Unit {0}
+MadeAnEdit (Reverted edit tool number) = Unit {0}
 MadeAnEdit _ = ⊥
 
 -- The preview of a request that makes an edit, or makes one again, prints what is shown of the newest edit once the
@@ -58,12 +59,15 @@ outside_state c o tool steps text = record {
   next = o.next + 1;
 }
 
--- nothing is taken back, made again or forgotten, and the history says so; an edit that changes the text begins it anew
+-- nothing is taken back, made again, reverted or forgotten, and the history says so; an edit that changes the text begins
+-- it anew
 pub record IsNoticed (c : Contents) (o : Opened) : Type 0 where
   pub undo : (through : Option ℕ) (r : Result Outcome Fault) → IsRequestOutcome c (asked_of (Undo through)) r
       → r ≡ Err Drifted
   pub redo : (through : Option ℕ) (r : Result Outcome Fault) → IsRequestOutcome c (asked_of (Redo through)) r
       → r ≡ Err Drifted
+  pub revert : (number : ℕ) (force : Bool) (outcome : Outcome)
+      → IsRequestOutcome c (asked_of (Revert number force)) (Ok outcome) → ⊥
   pub forgetting : (n : ℕ) (r : Result Outcome Fault) → IsRequestOutcome c (asked_of (Forget n)) r → r ≡ Err Drifted
   pub history : (r : Result Outcome Fault) → IsRequestOutcome c (asked_of History) r
       → r ≡ Ok (printing (codes "drifted\n") Shown)

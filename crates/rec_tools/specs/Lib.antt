@@ -6,6 +6,7 @@ pub mod Printouts
 pub mod Batches
 pub mod Requests
 pub mod Making
+pub mod Reverting
 pub mod Outcomes
 pub mod Attempts
 pub mod Machine

@@ -23,13 +23,14 @@ use Rattle.rec_check.specs.DescribedTexts.{IsDescribedText}
 use Rattle.rec_tools.specs.declared.request.Request.{Request}
 use Rattle.rec_tools.specs.declared.request.Reply.{Reply}
 use Rattle.rec_tools.specs.declared.request.Reply.TheVariants.{Shown, Edited as EditedReply, Unchanged, Undone, Redone}
-use Rattle.rec_tools.specs.declared.request.Reply.TheVariants.{Forgotten}
+use Rattle.rec_tools.specs.declared.request.Reply.TheVariants.{Reverted, Forgotten}
 use Rattle.rec_tools.specs.Home.{Contents, Write, writes_by, written}
+use Rattle.rec_tools.specs.Reverting.{IsRevertOf}
 use Rattle.rec_tools.specs.Steps.{Then}
 use Rattle.rec_diff.specs.Diffs.{IsDiff}
 use Rattle.rec_tools.specs.Printouts.{Printout, IsShownText, printed_history, IsShownEdit, IsWholeLog}
 use Rattle.rec_tools.specs.Requests.{Edits, Asked, looking, listing, showing, listing_changes, editing, moving}
-use Rattle.rec_tools.specs.Requests.{forgetting, previewing, asked_of}
+use Rattle.rec_tools.specs.Requests.{reverting, forgetting, previewing, asked_of}
 
 -- ---- outcomes
 
@@ -81,16 +82,31 @@ pub record IsPlanned (o : Opened) (c : Contents) (tool : Tool) (made : Edited) (
   pub planned : IsEditPlan o c.journal tool made.steps made.text (Ok plan)
   pub safe : IsSafe c.file c.journal o (after_edit_plan o c.journal tool made.steps made.text) plan
 
--- an edit that leaves the text as it is writes nothing; every other one is put in place, unless the two texts share a
--- digest
-abbrev pub IsEditOutcome : Opened → Contents → Tool → Edited → Result Outcome Fault → Type 0
-IsEditOutcome o c tool made (Ok outcome) =
+-- an edit that leaves the text as it is writes nothing; every other one is put in place, with this reply, unless the two
+-- texts share a digest
+abbrev pub IsEditOutcome : Opened → Contents → Tool → Edited → Reply → Result Outcome Fault → Type 0
+IsEditOutcome o c tool made reply (Ok outcome) =
     ((made.text ≡ c.file) × (outcome ≡ staying (Unchanged made.chosen)))
-    ⊎ ((made.text ≢ c.file)
-    × ((plan : Plan) × IsPlanned o c tool made plan
-    × (outcome ≡ putting plan (EditedReply made.changed o.next o.dropped))))
-IsEditOutcome o c tool made (Err fault) =
+    ⊎ ((made.text ≢ c.file) × ((plan : Plan) × IsPlanned o c tool made plan × (outcome ≡ putting plan reply)))
+IsEditOutcome o c tool made reply (Err fault) =
     (made.text ≢ c.file) × (fault ≡ DigestClash) × ShareDigest c.file made.text
+
+-- the reply to an edit that is made, by the number of its event and how many edits are dropped
+abbrev pub edit_reply : ℕ → ℕ → Tool → Edited → Reply
+edit_reply number dropped tool made = EditedReply made.changed number dropped
+
+-- the reply to a revert of an edit, by the number of its own event
+abbrev pub revert_reply : ℕ → ℕ → Tool → Edited → Reply
+revert_reply edit number tool made = Reverted edit tool number
+
+-- what is made of a file that reads and of its history is put in place
+abbrev pub IsPutBy : (Opened → Result (Tool × Edited) Fault → Type 0) → (Opened → Tool → Edited → Reply) → Contents
+    → Result Outcome Fault → Type 0
+IsPutBy MakesOf reply_for c =
+    Then (IsDescribedText c.file) (λ _.
+    Then (IsOpening c.file c.journal) (λ o.
+    Then (MakesOf o) (λ (tool, made).
+    IsEditOutcome o c tool made (reply_for o tool made))))
 
 -- ---- a move
 
@@ -175,10 +191,9 @@ IsRequestOutcome c (looking IsText) answer = IsPrinting (IsText c.file) answer
 IsRequestOutcome c listing answer =
     Then (IsOpening c.file c.journal) (λ o given. given ≡ Ok (printing (printed_history o) Shown)) answer
 IsRequestOutcome c (editing IsEdit) answer =
-    Then (IsDescribedText c.file) (λ _.
-    Then (IsOpening c.file c.journal) (λ o.
-    Then (IsMade IsEdit c.file) (λ (tool, made).
-    IsEditOutcome o c tool made))) answer
+    IsPutBy (λ _. IsMade IsEdit c.file) (λ o. edit_reply o.next o.dropped) c answer
+IsRequestOutcome c (reverting number force) answer =
+    IsPutBy (λ o. IsRevertOf number force o c.file) (λ o. revert_reply number o.next) c answer
 IsRequestOutcome c (moving direction through) answer =
     Then (IsOpening c.file c.journal) (λ o. IsMove direction through o c) answer
 IsRequestOutcome c (forgetting n) answer = Then (IsOpening c.file c.journal) (λ o. IsForgetting n o c) answer

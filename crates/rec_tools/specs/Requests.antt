@@ -14,7 +14,7 @@ use Rattle.rec_tools.specs.declared.request.Pick.{Pick}
 use Rattle.rec_tools.specs.declared.request.EditRequest.{EditRequest}
 use Rattle.rec_tools.specs.declared.request.EditRequest.TheVariants.{Insert, Replace, Delete, CommentOut, Set, AutoFill}
 use Rattle.rec_tools.specs.declared.request.Request.{Request, Show, Info, Check, Edit, Batch, Undo, Redo, Forget}
-use Rattle.rec_tools.specs.declared.request.Request.{History, Diff, Log, Preview'}
+use Rattle.rec_tools.specs.declared.request.Request.{Revert, History, Diff, Log, Preview'}
 use Rattle.rec_check.specs.Violations.{AreViolationsOf}
 use Rattle.rec_tools.specs.Steps.{Then}
 use Rattle.rec_tools.specs.Asking.{IsFilter}
@@ -41,6 +41,8 @@ pub data Asked : Type 1 where
   editing : (Result Edits Fault → Type 0) → Asked
   -- the nearest edit that way is taken back or made again; where a number is named, only if one that way has it
   moving : Direction → Option ℕ → Asked
+  -- the edit of a number is taken back alone, with force or without
+  reverting : ℕ → Bool → Asked
   -- all but the newest n of the edits that can be taken back are forgotten
   forgetting : ℕ → Asked
   -- nothing is done of what is asked for; what it would change of the file is printed, under this name
@@ -95,6 +97,7 @@ asked_of (Edit edit force) = editing (IsOneEdit edit force)
 asked_of (Batch text force) = editing (IsBatch text force)
 asked_of (Undo through) = moving Backward through
 asked_of (Redo through) = moving Forward through
+asked_of (Revert number force) = reverting number force
 asked_of (Forget n) = forgetting n
 asked_of History = listing
 asked_of (Diff number name) = showing number name
@@ -109,6 +112,7 @@ reads_of (editing IsEdit) = TheFile ∷ TheJournal ∷ []
 reads_of (moving direction through) = TheFile ∷ TheJournal ∷ []
 reads_of (showing number name) = TheFile ∷ TheJournal ∷ []
 reads_of (listing_changes name) = TheFile ∷ TheJournal ∷ []
+reads_of (reverting number force) = TheFile ∷ TheJournal ∷ []
 reads_of (forgetting n) = TheFile ∷ TheJournal ∷ []
 reads_of (previewing name asked) = reads_of asked
 
@@ -120,6 +124,7 @@ IsSilent (editing IsEdit) = Unit {0}
 IsSilent (moving direction through) = Unit {0}
 IsSilent (showing number name) = ⊥
 IsSilent (listing_changes name) = ⊥
+IsSilent (reverting number force) = Unit {0}
 IsSilent (forgetting n) = Unit {0}
 IsSilent (previewing name asked) = ⊥
 
@@ -131,5 +136,6 @@ WritesNothing (editing IsEdit) = ⊥
 WritesNothing (moving direction through) = ⊥
 WritesNothing (showing number name) = Unit {0}
 WritesNothing (listing_changes name) = Unit {0}
+WritesNothing (reverting number force) = ⊥
 WritesNothing (forgetting n) = ⊥
 WritesNothing (previewing name asked) = Unit {0}

@@ -6,3 +6,4 @@ pub mod Logs
 pub mod Silently
 pub mod Moving
 pub mod Finding
+pub mod Reverting

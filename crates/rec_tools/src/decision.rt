@@ -1,10 +1,10 @@
 //! What a request makes of a file and a journal, before anything is put in place.
-ghost use Rattle.std.specs.Prelude.{◌≡◌, ◌≢◌, Some, Ok, IfOk, IfErr};
+ghost use Rattle.std.specs.Prelude.{◌≡◌, Some, Ok, IfOk, IfErr};
 ghost use Rattle.rec_text.specs.Elements.{text_of};
 ghost use Rattle.rec_text.specs.Faults.{UnlessMemory};
 ghost use Rattle.rec_journal.specs.History.{IsOpening};
 ghost use Rattle.rec_tools.specs.Steps.{IsRefusal};
-ghost use Rattle.rec_tools.specs.Requests.{editing, moving, forgetting, asked_of, IsSilent};
+ghost use Rattle.rec_tools.specs.Requests.{editing, moving, reverting, forgetting, asked_of, IsSilent};
 ghost use Rattle.rec_tools.specs.Outcomes.{IsMade, IsEditOutcome, Decides, outcome_in, reply_of};
 ghost use Rattle.rec_tools.specs.declared.decision.Decision.TheVariants.{Put};
 ghost use Rattle.rec_tools.specs.proving.Courses.{HasCourse};
@@ -14,6 +14,7 @@ use crate::batches::batch_edits;
 use crate::editing::make;
 use crate::history::history_of;
 use crate::request::{EditRequest, Reply, Request};
+use crate::reverting::reverted;
 use rec_check::RecFile;
 use rec_edit::Edited;
 use rec_journal::{
@@ -117,7 +118,7 @@ fn made_from(
     }
 }
 
-/// Plans what edits made of a file.
+/// Plans what edits made of a file, with the reply to that. Where it's the same text, nothing is planned.
 fn put_edited(
     alloc: Global,
     history: &History,
@@ -125,27 +126,21 @@ fn put_edited(
     journal: &[u8],
     tool: Tool,
     edited: Edited,
+    reply: Reply,
 ) -> Result<Decision, Fault>
     requires opened { IsOpening file.now journal.now (Ok history.now) }
     requires steps { HasSteps file.now (tool, edited) }
-    requires differs { edited.text ≢ file.now }
     ensures found { UnlessMemory result (λ answer. IsEditOutcome history.now
-        (record { file = file.now; journal = journal.now }) tool edited (outcome_in answer)) }
+        (record { file = file.now; journal = journal.now }) tool edited reply (outcome_in answer)) }
     ensures course { IfOk result (HasCourse file.now journal.now) }
     ensures refusals { IfErr result IsRefusal }
 {
-    let Edited {
-        steps,
-        text,
-        changed,
-        ..
-    } = edited;
+    if edited.text.as_slice() == file.text() {
+        let chosen = edited.chosen;
+        return Ok(Decision::Stay(Reply::Unchanged { chosen }));
+    }
+    let Edited { steps, text, .. } = edited;
     let plan = plan_steps(alloc, history, file, journal, tool, &steps, text)?;
-    let reply = Reply::Edited {
-        changed,
-        number: history.next(),
-        dropped: history.dropped(),
-    };
     Ok(put_plan(plan, Direction::Forward, steps, reply))
 }
 
@@ -165,11 +160,12 @@ fn decide_on(
     let read = RecFile::read(alloc, file.text())?;
     let history = History::load(alloc, file, journal)?;
     let (tool, edited) = made_from(alloc, read, source, force)?;
-    if edited.text.as_slice() == file.text() {
-        let chosen = edited.chosen;
-        return Ok(Decision::Stay(Reply::Unchanged { chosen }));
-    }
-    put_edited(alloc, &history, file, journal, tool, edited)
+    let reply = Reply::Edited {
+        changed: edited.changed,
+        number: history.next(),
+        dropped: history.dropped(),
+    };
+    put_edited(alloc, &history, file, journal, tool, edited, reply)
 }
 
 /// Decides an edit on a file and a journal.
@@ -186,6 +182,45 @@ fn decide_edit(
 {
     let hashed = Hashed::of(alloc, file)?;
     decide_on(alloc, &hashed, journal, source, force)
+}
+
+/// Decides a revert on a file that was hashed and a journal. The elements of the file are let go at once: it only has to read.
+fn decide_revert_on(
+    alloc: Global,
+    file: &Hashed<'_>,
+    journal: &[u8],
+    number: usize,
+    force: bool,
+) -> Result<Decision, Fault>
+    ensures found { UnlessMemory result (Decides file.now journal.now (reverting number force)) }
+    ensures course { IfOk result (HasCourse file.now journal.now) }
+    ensures refusals { IfErr result IsRefusal }
+{
+    RecFile::read(alloc, file.text())?;
+    let history = History::load(alloc, file, journal)?;
+    let (tool, edited) = reverted(alloc, &history, file.text(), journal, number, force)?;
+    let reply = Reply::Reverted {
+        edit: number,
+        tool,
+        number: history.next(),
+    };
+    put_edited(alloc, &history, file, journal, tool, edited, reply)
+}
+
+/// Decides a revert on a file and a journal.
+fn decide_revert(
+    alloc: Global,
+    file: &[u8],
+    journal: &[u8],
+    number: usize,
+    force: bool,
+) -> Result<Decision, Fault>
+    ensures found { UnlessMemory result (Decides file.now journal.now (reverting number force)) }
+    ensures course { IfOk result (HasCourse file.now journal.now) }
+    ensures refusals { IfErr result IsRefusal }
+{
+    let hashed = Hashed::of(alloc, file)?;
+    decide_revert_on(alloc, &hashed, journal, number, force)
 }
 
 /// The reply to a move by the edit of this number and tool.
@@ -273,6 +308,9 @@ pub fn decide(
         }
         Request::Undo(through) => decide_move(alloc, file, journal, Direction::Backward, *through),
         Request::Redo(through) => decide_move(alloc, file, journal, Direction::Forward, *through),
+        Request::Revert { number, force } => {
+            decide_revert(alloc, file, journal, *number, *force)
+        }
         Request::Forget(n) => decide_forgetting(alloc, file, journal, *n as usize),
         Request::Show { .. }
         | Request::Info { .. }

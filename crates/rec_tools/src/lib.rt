@@ -13,6 +13,7 @@ mod nowhere;
 mod preview;
 mod printing;
 mod request;
+mod reverting;
 mod runner;
 mod selecting;
 mod showing;

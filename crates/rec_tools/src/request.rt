@@ -149,6 +149,12 @@ pub enum Request {
     /// Makes the edit that was taken back last again, where a number is named only if the edit of that number can be made
     /// again too.
     Redo(Option<usize>),
+    /// Takes the edit of this number back and leaves the later ones, as an edit of its own. Only with `force` may the file break
+    /// the rules of its record sets afterwards.
+    Revert {
+        number: usize,
+        force: bool,
+    },
     /// Forgets all but the newest n of the edits that can be taken back; those that can be made again stay.
     Forget(u32),
     /// Prints the edits: those that stand, the oldest first, and then those that can be made again, the nearest first; or
@@ -176,6 +182,7 @@ impl Request {
             | Request::Batch { .. }
             | Request::Undo(_)
             | Request::Redo(_)
+            | Request::Revert { .. }
             | Request::Forget(_) => true,
             Request::Show { .. }
             | Request::Info { .. }
@@ -213,6 +220,14 @@ pub enum Reply {
     Undone(usize, Tool),
     /// The edit of this number, by this tool, was made again.
     Redone(usize, Tool),
+    /// The edit of a number was taken back alone.
+    Reverted {
+        /// Its number.
+        edit: usize,
+        tool: Tool,
+        /// The number of the edit by which it was.
+        number: usize,
+    },
     /// The number of edits that were forgotten.
     Forgotten(usize),
 }

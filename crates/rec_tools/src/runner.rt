@@ -193,6 +193,7 @@ fn look<H: Home, S: Sink>(
         | Request::Batch { .. }
         | Request::Undo(_)
         | Request::Redo(_)
+        | Request::Revert { .. }
         | Request::Forget(_)
         | Request::Preview(_, _) => unreachable!(),
     }
@@ -223,6 +224,7 @@ fn reply_alone<H: Home>(alloc: Global, home: &mut H, request: &Request) -> Resul
         | Request::Batch { .. }
         | Request::Undo(_)
         | Request::Redo(_)
+        | Request::Revert { .. }
         | Request::Forget(_) => unreachable!(),
     }
 }
@@ -264,6 +266,7 @@ fn attempt<H: Home, S: Sink>(
         | Request::Batch { .. }
         | Request::Undo(_)
         | Request::Redo(_)
+        | Request::Revert { .. }
         | Request::Forget(_) => make_change(alloc, home, request),
         Request::Preview(previewed, name) => preview(alloc, home, out, previewed, name),
         Request::Show { .. }

@@ -17,5 +17,5 @@ AreEditsFrom (Listed text) force = IsBatch text.now force
 -- the steps lead from a text to the edited one, and where that is another one they are the steps of an edit by the tool
 pub record HasSteps (text : List ℕ) (told : Tool × Edited) : Type 0 where
   pub leads : LeadsBy (told.1).steps text (told.1).text
-  pub changes : AreDone (told.1).steps
+  pub changes : (told.1).text ≢ text → AreDone (told.1).steps
   pub by_tool : (told.1).text ≢ text → AreStepsBy told.0 (told.1).steps

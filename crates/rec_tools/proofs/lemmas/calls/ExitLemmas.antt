@@ -13,7 +13,7 @@ use Rattle.rec_tools.specs.declared.decision.Decision.TheVariants.{Stay, Put}
 use Rattle.rec_tools.specs.declared.home.Which.TheVariants.{Base as TheFile, Journal as TheJournal}
 use Rattle.rec_tools.specs.Home.{Contents, Write, Call, got, TellAll, Went}
 use Rattle.rec_tools.specs.Printouts.{Printout, Printed, PutsPrintout, WentOut, IsSilence, IsShownText, IsHistory, printed_history}
-use Rattle.rec_tools.specs.Requests.{Asked, looking, listing, showing, listing_changes, editing, moving, forgetting, previewing, reads_of, IsSilent, WritesNothing}
+use Rattle.rec_tools.specs.Requests.{Asked, looking, listing, showing, listing_changes, editing, moving, reverting, forgetting, previewing, reads_of, IsSilent, WritesNothing}
 use Rattle.rec_tools.specs.Outcomes.{Outcome, printing, outcome_of, IsPrinting, IsRequestOutcome}
 use Rattle.rec_tools.specs.proving.Silently.{ByCalls, DoesSilently}
 use Rattle.rec_tools.specs.Attempts.{Answer, gots, puts, IsPrefix, StopsReading, StopsWriting, IsAnswered, Does, Attempts}
@@ -68,6 +68,7 @@ stopped-tells (looking IsText) calls fault stops = stopped-tells_one calls fault
 stopped-tells listing calls fault stops = stopped-tells_both calls fault stops
 stopped-tells (editing IsEdit) calls fault stops = stopped-tells_both calls fault stops
 stopped-tells (moving direction through) calls fault stops = stopped-tells_both calls fault stops
+stopped-tells (reverting number force) calls fault stops = stopped-tells_both calls fault stops
 stopped-tells (forgetting n) calls fault stops = stopped-tells_both calls fault stops
 stopped-tells (showing number name) calls fault stops = stopped-tells_both calls fault stops
 stopped-tells (listing_changes name) calls fault stops = stopped-tells_both calls fault stops
@@ -185,6 +186,7 @@ silent-reads_both (editing IsEdit) silent = refl
 silent-reads_both (moving direction through) silent = refl
 silent-reads_both (showing number name) silent = absurd silent
 silent-reads_both (listing_changes name) silent = absurd silent
+silent-reads_both (reverting number force) silent = refl
 silent-reads_both (forgetting n) silent = refl
 silent-reads_both (previewing name asked) silent = absurd silent
 

@@ -1,5 +1,5 @@
 -- The machine's step is a function of the state and the request.
-use Rattle.std.proofs.Common.{arith, ◌≡◌, ◌≢◌, inl, inr, ℕ, List, [], ◌∷◌, length, Option, Some, None, Result, Ok, Err, ap, sym, subst, ◌∙◌}
+use Rattle.std.proofs.Common.{arith, ◌≡◌, ◌≢◌, inl, inr, ℕ, Bool, List, [], ◌∷◌, length, Option, Some, None, Result, Ok, Err, ap, sym, subst, ◌∙◌}
 use Rattle.std.proofs.lemmas.Bool.{false≢true}
 use Rattle.rec_text.specs.declared.fault.Fault.{Fault}
 use Rattle.rec_text.specs.declared.fault.Fault.TheVariants.{BadPattern}
@@ -9,16 +9,20 @@ use Rattle.rec_journal.specs.declared.patch.Direction.{Direction}
 use Rattle.rec_journal.specs.declared.patch.Direction.TheVariants.{Forward, Backward}
 use Rattle.rec_diff.specs.Diffs.{IsDiff}
 use Rattle.rec_diff.proofs.lemmas.DiffLemmas.{one_diff}
+use Rattle.rec_tools.specs.declared.request.Reply.{Reply}
 use Rattle.rec_tools.specs.Printouts.{Printout, ComesOut, Told}
-use Rattle.rec_tools.specs.Requests.{Asked, looking, listing, showing, listing_changes, editing, moving, forgetting, previewing, asked_of}
-use Rattle.rec_tools.specs.Outcomes.{IsMade}
+use Rattle.rec_tools.specs.Requests.{Asked, looking, listing, showing, listing_changes, editing, moving, reverting, forgetting, previewing, asked_of}
+use Rattle.rec_tools.specs.Reverting.{Standing}
+use Rattle.rec_tools.specs.Outcomes.{IsMade, edit_reply, revert_reply}
 use Rattle.rec_tools.specs.Attempts.{Answer}
-use Rattle.rec_tools.specs.Machine.{Entry, State, IsMachineStep, IsEditStep, IsMoveStep, IsForgettingStep, IsShowingStep, IsStepDiff, entries_on, told_edit, told_in}
+use Rattle.rec_tools.specs.Machine.{Entry, State, IsMachineStep, IsEditStep, IsMadeStep, IsRevertIn, standing_at, IsMoveStep, IsForgettingStep, IsShowingStep, IsStepDiff, entries_on, told_edit, told_in}
 use Rattle.rec_tools.specs.Laws.{OneStep}
 use Rattle.rec_text.proofs.lemmas.FaultLemmas.{no_both}
-use Rattle.rec_text.proofs.lemmas.StepLemmas.{refused_too}
+use Rattle.rec_text.proofs.lemmas.StepLemmas.{HasOneBut, refused_too}
 use Rattle.rec_tools.proofs.lemmas.outcomes.EditLemmas.{one_made}
-use Rattle.rec_tools.proofs.lemmas.outcomes.OutcomeLemmas.{MeansOne, one_meaning, HasOneBut-once_read, same_top}
+use Rattle.rec_tools.proofs.lemmas.outcomes.OutcomeLemmas.{MeansOne, one_meaning, same_top}
+use Rattle.rec_tools.proofs.lemmas.outcomes.AnswerLemmas.{HasOneBut-once_read}
+use Rattle.rec_tools.proofs.lemmas.outcomes.RevertLemmas.{one_reverted}
 use Rattle.rec_tools.proofs.lemmas.printing.LogLemmas.{one_log}
 
 -- ---- a text is shown in one way
@@ -36,18 +40,29 @@ shown_of_built (Err fault) answer printed is built = refused_too answer fault is
 -- ---- an edit steps in one way
 
 module _ (s : State) where
-  one_edit_step : (outcome : Result (Tool × Edited) Fault) (one other : Answer) (t u : State)
-      → IsEditStep s outcome one t → IsEditStep s outcome other u → (one ≡ other) × (t ≡ u)
-  one_edit_step (Err fault) one other t u is is_too = (is.0 ∙ sym is_too.0, is.1 ∙ sym is_too.1)
-  one_edit_step (Ok made) one other t u (inl is) (inl is_too) = (is.1 ∙ sym is_too.1, is.2 ∙ sym is_too.2)
-  one_edit_step (Ok made) one other t u (inl is) (inr is_too) = absurd (is_too.0 is.0)
-  one_edit_step (Ok made) one other t u (inr is) (inl is_too) = absurd (is.0 is_too.0)
-  one_edit_step (Ok made) one other t u (inr is) (inr is_too) = (is.1 ∙ sym is_too.1, is.2 ∙ sym is_too.2)
+  one_edit_step : (reply_for : Tool → Edited → Reply) (outcome : Result (Tool × Edited) Fault) (one other : Answer) (t u : State)
+      → IsEditStep s reply_for outcome one t → IsEditStep s reply_for outcome other u → (one ≡ other) × (t ≡ u)
+  one_edit_step reply_for (Err fault) one other t u is is_too = (is.0 ∙ sym is_too.0, is.1 ∙ sym is_too.1)
+  one_edit_step reply_for (Ok made) one other t u (inl is) (inl is_too) = (is.1 ∙ sym is_too.1, is.2 ∙ sym is_too.2)
+  one_edit_step reply_for (Ok made) one other t u (inl is) (inr is_too) = absurd (is_too.0 is.0)
+  one_edit_step reply_for (Ok made) one other t u (inr is) (inl is_too) = absurd (is.0 is_too.0)
+  one_edit_step reply_for (Ok made) one other t u (inr is) (inr is_too) = (is.1 ∙ sym is_too.1, is.2 ∙ sym is_too.2)
 
-  edit_of_built : (outcome : Result (Tool × Edited) Fault) (answer : Answer) (t : State) → IsEditStep s outcome answer t
+  edit_of_built : (reply_for : Tool → Edited → Reply) (outcome : Result (Tool × Edited) Fault) (answer : Answer) (t : State) → IsEditStep s reply_for outcome answer t
       → answer ≢ Err BadPattern → outcome ≢ Err BadPattern
-  edit_of_built (Ok made) answer t is built = no_both made BadPattern
-  edit_of_built (Err fault) answer t is built = refused_too answer fault is.0 built
+  edit_of_built reply_for (Ok made) answer t is built = no_both made BadPattern
+  edit_of_built reply_for (Err fault) answer t is built = refused_too answer fault is.0 built
+
+  one_made_step : (reply_for : Tool → Edited → Reply) (Makes : Result (Tool × Edited) Fault → Type 0) → HasOneBut Makes → (one other : Answer) (t u : State)
+      → one ≢ Err BadPattern → other ≢ Err BadPattern → IsMadeStep s reply_for Makes one t → IsMadeStep s reply_for Makes other u → (one ≡ other) × (t ≡ u)
+  one_made_step reply_for Makes has_one one other t u built built_too (outcome, is, step) (also, is_too, step_too) =
+      let same = HasOneBut-once_read s.present Makes has_one outcome also is is_too
+      (edit_of_built reply_for outcome one t step built) (edit_of_built reply_for also other u step_too built_too) in
+      one_edit_step reply_for also one other t u (subst (λ r. IsEditStep s reply_for r one t) same step) step_too
+
+  one_revert_in : (force : Bool) (found : Option Standing) → HasOneBut (IsRevertIn force s.present found)
+  one_revert_in force None = λ one other e k _ _. e ∙ sym k
+  one_revert_in force (Some e) = one_reverted force s.present e
 
 -- ---- a move steps in one way
 
@@ -114,10 +129,12 @@ module _ (s : State) (one other : Answer) (built : one ≢ Err BadPattern) (buil
       let same = one_step_of asked own also next later means step step_too in
       (same.0, one_step_diff name s later text printed (subst (λ v. IsStepDiff name s v text) same.2 diff) diff_too, e ∙ sym k)
   one_step_of listing text printed t u means is is_too = (is.0 ∙ sym is_too.0, is.1 ∙ sym is_too.1, is.2 ∙ sym is_too.2)
-  one_step_of (editing IsEdit) text printed t u means (outcome, is, step, e) (also, is_too, step_too, k) =
-      let same = HasOneBut-once_read s.present (IsMade IsEdit s.present) (one_made IsEdit means s.present) outcome also is is_too
-      (edit_of_built s outcome one t step built) (edit_of_built s also other u step_too built_too) in
-      let both = one_edit_step s also one other t u (subst (λ r. IsEditStep s r one t) same step) step_too in
+  one_step_of (editing IsEdit) text printed t u means (step, e) (step_too, k) =
+      let both = one_made_step s (edit_reply s.next 0) (IsMade IsEdit s.present) (one_made IsEdit means s.present) one other t u built built_too step step_too in
+      (both.0, e ∙ sym k, both.1)
+  one_step_of (reverting number force) text printed t u means (step, e) (step_too, k) =
+      let both = one_made_step s (revert_reply number s.next) (IsRevertIn force s.present (standing_at number s)) (one_revert_in s force (standing_at number s)) one other t u
+      built built_too step step_too in
       (both.0, e ∙ sym k, both.1)
   one_step_of (moving direction through) text printed t u means (step, e) (step_too, k) =
       let both = one_move_step direction through s (entries_on direction s) one other t u step step_too in

@@ -17,16 +17,20 @@ use Rattle.rec_journal.proofs.lemmas.histories.Openings.{one_opening}
 use Rattle.rec_journal.proofs.lemmas.patches.StepLemmas.{edits_lead_to_one_text}
 use Rattle.rec_check.specs.DescribedTexts.{IsDescribedText}
 use Rattle.rec_edit.specs.declared.answer.Edited.{Edited}
-use Rattle.rec_tools.specs.declared.request.Reply.TheVariants.{Shown, Edited as EditedReply, Forgotten}
+use Rattle.rec_tools.specs.declared.request.Reply.{Reply}
+use Rattle.rec_tools.specs.declared.request.Reply.TheVariants.{Shown, Edited as EditedReply, Unchanged, Reverted, Forgotten}
 use Rattle.rec_tools.specs.Home.{Contents}
 use Rattle.rec_tools.specs.Steps.{Then}
 use Rattle.rec_tools.specs.Printouts.{Printout, history_text, printed_history}
-use Rattle.rec_tools.specs.Requests.{Edits, Asked, looking, listing, showing, listing_changes, editing, moving, forgetting, previewing, asked_of}
-use Rattle.rec_tools.specs.Outcomes.{Outcome, IsRequestOutcome, IsPrinting, IsMade, IsEditOutcome, IsPlanned, IsMove, IsMoveOutcome, IsForgetting, Forgets, printing, putting, reply_of}
-use Rattle.rec_tools.specs.Machine.{Entry, State, AreEntries, Stands, IsMachineStep, IsMoveStep, Clashes, entries_on, numbers_in, state_history, state_after_edit, state_after_move, state_after_forgetting}
+use Rattle.rec_tools.specs.Requests.{Edits, Asked, looking, listing, showing, listing_changes, editing, moving, reverting, forgetting, previewing, asked_of}
+use Rattle.rec_tools.specs.Reverting.{IsRevertOf}
+use Rattle.rec_tools.specs.Outcomes.{Outcome, IsRequestOutcome, IsPrinting, IsMade, IsEditOutcome, IsPutBy, edit_reply, revert_reply, IsPlanned, IsMove, IsMoveOutcome, IsForgetting, Forgets, printing, putting, reply_of}
+use Rattle.rec_tools.specs.Machine.{Entry, State, AreEntries, Stands, IsMachineStep, IsMadeStep, IsRevertIn, standing_at, IsMoveStep, Clashes, itself, entries_on, numbers_in, state_history, state_after_edit, state_after_move, state_after_forgetting}
 use Rattle.rec_tools.specs.Guarantee.{StepsAsMachine, OutcomesAreSteps}
 use Rattle.rec_text.proofs.lemmas.FaultLemmas.{ok_is_no_err}
 use Rattle.rec_tools.proofs.lemmas.machine.StandsLemmas.{StandsBy, stands_by, can_be_opened}
+use Rattle.rec_tools.specs.Attempts.{Answer}
+use Rattle.rec_tools.proofs.lemmas.machine.StandingLemmas.{reverts_alike}
 use Rattle.rec_tools.proofs.lemmas.machine.ShowingLemmas.{shows_step, logs_step, previews_step}
 use Rattle.rec_tools.proofs.lemmas.outcomes.OpeningLemmas.{edit_leads_back, leads_on, leads_back, none_missing}
 use Rattle.rec_tools.proofs.lemmas.machine.ForgettingLemmas.{as_many_edits, stands_after_forgetting}
@@ -169,28 +173,29 @@ module _ (c : Contents) (s : State) (stands : Stands c s) where
 
   -- ---- an edit
 
-  module _ (IsEdit : Result Edits Fault → Type 0) where
-    -- what the edit makes of the file it makes of the state's text
-    on_present : (r : Result (Tool × Edited) Fault) → Then (IsDescribedText c.file) (λ _. IsMade IsEdit c.file) r
-        → Then (IsDescribedText s.present) (λ _. IsMade IsEdit s.present) r
-    on_present r is = subst (λ text. Then (IsDescribedText text) (λ _. IsMade IsEdit text) r) (sym stands.present) is
+  read_present : {A : Type 0} (next : Result A Fault → Type 0) (r : Result A Fault) → Then (IsDescribedText c.file) (λ _. next) r → Then (IsDescribedText s.present) (λ _. next) r
+  read_present next r is = subst (λ text. Then (IsDescribedText text) (λ _. next) r) (sym stands.present) is
 
-    edit_refused : (fault : Fault) → Then (IsDescribedText c.file) (λ _. IsMade IsEdit c.file) (Err fault) → StepsAsMachine c s (editing IsEdit) (Err fault)
-    edit_refused fault is = inl (Err fault, on_present (Err fault) is, (refl, refl), refl)
+  -- where what is asked for is a step by what is made of the state's text
+  module _ (asked : Asked) (Makes : Result (Tool × Edited) Fault → Type 0) (reply_for : Tool → Edited → Reply)
+      (steps : (answer : Answer) (t : State) → IsMadeStep s reply_for Makes answer t → IsMachineStep s asked answer [] t)
+      (steps_itself : (answer : Answer) (t : State) → IsMadeStep s reply_for Makes answer t → IsMachineStep s (itself asked) answer [] t) where
+    made_refused : (fault : Fault) → Then (IsDescribedText s.present) (λ _. Makes) (Err fault) → StepsAsMachine c s asked (Err fault)
+    made_refused fault is = inl (steps (Err fault) s (Err fault, is, (refl, refl)))
 
-    module _ (tool : Tool) (made : Edited) (is : Then (IsDescribedText c.file) (λ _. IsMade IsEdit c.file) (Ok (tool, made))) where
+    module _ (tool : Tool) (made : Edited) (is : Then (IsDescribedText s.present) (λ _. Makes) (Ok (tool, made))) where
       module _ (differs : made.text ≢ c.file) where
         other : made.text ≢ s.present
         other same = differs (same ∙ stands.present)
 
-        step : IsMachineStep s (editing IsEdit) (Ok (EditedReply made.changed s.next 0)) [] (state_after_edit s tool made.steps made.text)
-        step = (Ok (tool, made), on_present (Ok (tool, made)) is, inr (other, refl, refl), refl)
+        step : IsMadeStep s reply_for Makes (Ok (reply_for tool made)) (state_after_edit s tool made.steps made.text)
+        step = (Ok (tool, made), is, inr (other, refl, refl))
 
-        clashes : ShareDigest c.file made.text → Clashes s (editing IsEdit)
+        clashes : ShareDigest c.file made.text → Clashes s asked
         clashes same = record {
-          reply = EditedReply made.changed s.next 0;
+          reply = reply_for tool made;
           later = state_after_edit s tool made.steps made.text;
-          step = step;
+          step = steps_itself (Ok (reply_for tool made)) (state_after_edit s tool made.steps made.text) step;
           differ = other;
           same_digest = subst (λ t. ShareDigest t made.text) (sym stands.present) same;
         }
@@ -217,27 +222,43 @@ module _ (c : Contents) (s : State) (stands : Stands c s) where
             next = ap (λ n. n + 1) by.next;
           }
 
-      edit_steps : (o : Opened) (r : Result Outcome Fault) → Opens c.file c.journal o → IsEditOutcome o c tool made r
-          → StepsAsMachine c s (editing IsEdit) r
-      edit_steps o (Ok outcome) opens (inl (same, e)) =
-          subst (λ x. StepsAsMachine c s (editing IsEdit) (Ok x)) (sym e)
-          (s, (Ok (tool, made), on_present (Ok (tool, made)) is, inl (same ∙ sym stands.present, refl, refl), refl), stands)
-      edit_steps o (Ok outcome) opens (inr (differs, (plan, planned, e))) =
-          let by = by_opening o opens in
-          let told : EditedReply made.changed o.next o.dropped ≡ EditedReply made.changed s.next 0 = ap₂ (EditedReply made.changed) (sym by.next) by.none_dropped in
-          subst (λ x. StepsAsMachine c s (editing IsEdit) (Ok x)) (sym (e ∙ ap (putting plan) told))
-          (state_after_edit s tool made.steps made.text, step differs, stands_after_edit o plan opens planned)
-      edit_steps o (Err fault) opens (differs, e, same) = inr (e, clashes differs same)
+      edit_steps : (o : Opened) (reply : Reply) → reply ≡ reply_for tool made → (r : Result Outcome Fault) → Opens c.file c.journal o → IsEditOutcome o c tool made reply r
+          → StepsAsMachine c s asked r
+      edit_steps o reply told (Ok outcome) opens (inl (same, e)) =
+          subst (λ x. StepsAsMachine c s asked (Ok x)) (sym e)
+          (s, steps (Ok (Unchanged made.chosen)) s (Ok (tool, made), is, inl (same ∙ sym stands.present, refl, refl)), stands)
+      edit_steps o reply told (Ok outcome) opens (inr (differs, (plan, planned, e))) =
+          let after : State = state_after_edit s tool made.steps made.text in
+          subst (λ x. StepsAsMachine c s asked (Ok x)) (sym (e ∙ ap (putting plan) told))
+          (after, steps (Ok (reply_for tool made)) after (step differs), stands_after_edit o plan opens planned)
+      edit_steps o reply told (Err fault) opens (differs, e, same) = inr (e, clashes differs same)
 
-    edits_step : (r : Result Outcome Fault)
-        → Then (IsDescribedText c.file) (λ _. Then (IsOpening c.file c.journal) (λ o. Then (IsMade IsEdit c.file) (λ told. IsEditOutcome o c told.0 told.1))) r
-        → StepsAsMachine c s (editing IsEdit) r
-    edits_step r (inl (fault, refused, e)) =
-        subst (λ x. StepsAsMachine c s (editing IsEdit) x) (sym e) (edit_refused fault (inl (fault, refused, refl)))
-    edits_step r (inr (text, is, inl (fault, refused, e))) = absurd (no_refusal fault refused)
-    edits_step r (inr (text, is, inr (o, opens, inl (fault, refused, e)))) =
-        subst (λ x. StepsAsMachine c s (editing IsEdit) x) (sym e) (edit_refused fault (inr (text, is, refused)))
-    edits_step r (inr (text, is, inr (o, opens, inr ((tool, made), done, last)))) = edit_steps tool made (inr (text, is, done)) o r opens last
+    -- it is what is put in place, by the history for which the contents stand
+    module _ (MakesOf : Opened → Result (Tool × Edited) Fault → Type 0) (replies : Opened → Tool → Edited → Reply)
+        (goes : (o : Opened) → Opens c.file c.journal o → (r : Result (Tool × Edited) Fault) → MakesOf o r → Makes r)
+        (alike : (o : Opened) → Opens c.file c.journal o → (tool : Tool) (made : Edited) → replies o tool made ≡ reply_for tool made) where
+      made_step : (r : Result Outcome Fault) → IsPutBy MakesOf replies c r → StepsAsMachine c s asked r
+      made_step r (inl (fault, refused, e)) =
+          subst (λ x. StepsAsMachine c s asked x) (sym e) (made_refused fault (read_present Makes (Err fault) (inl (fault, refused, refl))))
+      made_step r (inr (text, is, inl (fault, refused, e))) = absurd (no_refusal fault refused)
+      made_step r (inr (text, is, inr (o, opens, inl (fault, refused, e)))) =
+          subst (λ x. StepsAsMachine c s asked x) (sym e) (made_refused fault (read_present Makes (Err fault) (inr (text, is, goes o opens (Err fault) refused))))
+      made_step r (inr (text, is, inr (o, opens, inr ((tool, made), done, last)))) =
+          edit_steps tool made (read_present Makes (Ok (tool, made)) (inr (text, is, goes o opens (Ok (tool, made)) done))) o (replies o tool made) (alike o opens tool made) r opens last
+
+  edits_step : (IsEdit : Result Edits Fault → Type 0) (r : Result Outcome Fault) → IsRequestOutcome c (editing IsEdit) r → StepsAsMachine c s (editing IsEdit) r
+  edits_step IsEdit r is =
+      made_step (editing IsEdit) (IsMade IsEdit s.present) (edit_reply s.next 0) (λ answer t h. (h, refl)) (λ answer t h. (h, refl))
+      (λ _. IsMade IsEdit c.file) (λ o. edit_reply o.next o.dropped)
+      (λ o opens made h. subst (λ text. IsMade IsEdit text made) (sym stands.present) h)
+      (λ o opens tool made. (let by = by_opening o opens in ap₂ (EditedReply made.changed) (sym by.next) by.none_dropped)) r is
+
+  reverts_step : (number : ℕ) (force : Bool) (r : Result Outcome Fault) → IsRequestOutcome c (reverting number force) r → StepsAsMachine c s (reverting number force) r
+  reverts_step number force r is =
+      made_step (reverting number force) (IsRevertIn force s.present (standing_at number s)) (revert_reply number s.next) (λ answer t h. (h, refl)) (λ answer t h. (h, refl))
+      (λ o. IsRevertOf number force o c.file) (λ o. revert_reply number o.next)
+      (λ o opens made h. reverts_alike o c s (by_opening o opens) opens number force made h)
+      (λ o opens tool made. ap (Reverted number tool) (sym (by_opening o opens).next)) r is
 
   -- ---- a move
 
@@ -329,6 +350,7 @@ outcomes_are_steps c s (listing_changes name) r stands is = logs_step c s stands
 outcomes_are_steps c s (previewing name asked) r stands is = previews_step c s stands name asked (λ r is. outcomes_are_steps c s asked r stands is) r is
 outcomes_are_steps c s (editing IsEdit) r stands is = edits_step c s stands IsEdit r is
 outcomes_are_steps c s (moving direction through) r stands is = moves_step c s stands direction through r is
+outcomes_are_steps c s (reverting number force) r stands is = reverts_step c s stands number force r is
 outcomes_are_steps c s (forgetting n) r stands is = forgets_step c s stands n r is
 
 pub of_requests : OutcomesAreSteps

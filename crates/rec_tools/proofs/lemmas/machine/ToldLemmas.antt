@@ -15,6 +15,7 @@ use Rattle.rec_journal.specs.EditTexts.{WithTexts, Way, IsWayTo, IsEditAt, IsEdi
 use Rattle.rec_journal.specs.History.{Opened, Opens}
 use Rattle.rec_journal.specs.Listing.{step_of, steps_of}
 use Rattle.rec_journal.specs.Plans.{edits_on}
+use Rattle.rec_journal.proofs.lemmas.patches.StepLemmas.{Leads-steps}
 use Rattle.rec_journal.proofs.lemmas.texts.AllLemmas.{one_list_of_texts}
 use Rattle.rec_journal.proofs.lemmas.texts.WayLemmas.{one_edit_texts}
 use Rattle.rec_tools.specs.Home.{Contents}
@@ -144,7 +145,7 @@ texts_at direction (one ∷ nearer) farther e (entry ∷ entries) here are way i
     let next = texts_at direction nearer farther e entries entry.text are.4 (record { direction = direction; nearer = nearer; edit = e; farther = farther }) refl in
     subst (λ w. (made : WithTexts) × IsEditAt here w made) (sym is) (
       next.0,
-      record { here = next.1.here; there = next.1.there; over = (entry.text, are.3, next.1.over); leads = next.1.leads; is = next.1.is },
+      record { here = next.1.here; there = next.1.there; over = (entry.text, Leads-steps direction one here entry.text are.3, next.1.over); leads = next.1.leads; is = next.1.is },
     )
 
 module _ (o : Opened) (c : Contents) (s : State) (by : StandsBy o c s) (opens : Opens c.file c.journal o) where

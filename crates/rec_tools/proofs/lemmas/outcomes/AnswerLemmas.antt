@@ -160,6 +160,10 @@ HasOneBut-text file next agree one other is is_too =
     (λ pieces _. HasOneBut-elements pieces next (agree pieces)) one other
     (Then-parts (IsReading file) AreDescribed next one is) (Then-parts (IsReading file) AreDescribed next other is_too)
 
+-- a step that doesn't ask for what was read of a text has one answer after it
+pub HasOneBut-once_read : {A : Type 0} (file : List ℕ) (step : Result A Fault → Type 0) → HasOneBut step → HasOneBut (Then (IsDescribedText file) (λ _. step))
+HasOneBut-once_read file step has_one = HasOneBut-text file (λ _. step) (λ pieces schema same is is_too. has_one)
+
 -- a step that asks of the schema only its sets gives the same for each schema of the elements
 pub agree_by_sets : {B : Type 0} (next : List Piece → List Set_ → Result B Fault → Type 0)
     → ((pieces : List Piece) (sets : List Set_) → HasOneBut (next pieces sets))

@@ -31,13 +31,12 @@ use Rattle.rec_tools.specs.declared.decision.Decision.{Decision}
 use Rattle.rec_tools.specs.declared.decision.Decision.TheVariants.{Put}
 use Rattle.rec_tools.specs.declared.request.EditRequest.{EditRequest}
 use Rattle.rec_tools.specs.declared.request.Reply.{Reply}
-use Rattle.rec_tools.specs.declared.request.Reply.TheVariants.{Edited as EditedReply, Unchanged}
 use Rattle.rec_tools.specs.Home.{Contents}
 use Rattle.rec_tools.specs.Steps.{Then}
 use Rattle.rec_tools.specs.Batches.{AreEdits}
-use Rattle.rec_tools.specs.Requests.{Edits, editing, moving, IsTaskOf, AreTasks, IsOneEdit, IsBatch}
+use Rattle.rec_tools.specs.Requests.{moving, IsTaskOf, AreTasks, IsOneEdit, IsBatch}
 use Rattle.rec_tools.specs.Making.{AreMade}
-use Rattle.rec_tools.specs.Outcomes.{Outcome, IsMade, IsEditOutcome, IsRequestOutcome, OnTop, Decides, staying, putting, outcome_of, outcome_in, reply_of}
+use Rattle.rec_tools.specs.Outcomes.{Outcome, IsMade, IsEditOutcome, IsPutBy, IsRequestOutcome, OnTop, putting, outcome_of, outcome_in, reply_of}
 use Rattle.rec_tools.specs.proving.Courses.{HasCourse}
 use Rattle.rec_tools.specs.proving.Editing.{HasSteps}
 use Rattle.rec_text.proofs.lemmas.FaultLemmas.{memory_or_weaker, no_both, ok_is_no_err, same_fault, same_value}
@@ -136,7 +135,7 @@ module _ (force : Bool) (text : List ℕ) where
           let (patched, steps) = steps_of_one force task text made (made_by_steps force (task ∷ []) text made here) in
           record {
             leads = leads;
-            changes = done;
+            changes = λ _. done;
             by_tool = λ other.
                 subst (λ t. AreStepsBy t made.steps) (sym (by task told))
                 (subst (AreStepsBy (tool_of task)) (sym steps)
@@ -169,7 +168,7 @@ module _ (force : Bool) (text : List ℕ) where
   pub batch-steps : (made : Edited) → LeadsBy made.steps text made.text → AreDone made.steps → HasSteps text (ByBatch, made)
   batch-steps made leads done = record {
     leads = leads;
-    changes = done;
+    changes = λ _. done;
     by_tool = λ other. (some_steps made.steps text made.text leads other, each_by_one made.steps done);
   }
 
@@ -191,36 +190,32 @@ module _ (text file : List ℕ) (same : text ≡ file) where
       of_read (inr (pieces, elements, inl (fault, refused, e))) = ok_is_no_err read fault _ (sym e)
       of_read (inr (pieces, elements, inr (schema, is, e))) = ap (λ (t : DescribedText). text_of t.pieces) (same_value read _ e) ∙ elements.joined
 
--- ---- an edit of a file with its history
+-- ---- what is made of a file with its history
 
-module _ (file journal : List ℕ) (IsEdit : Result Edits Fault → Type 0) where
+module _ (file journal : List ℕ) (MakesOf : Opened → Result (Tool × Edited) Fault → Type 0) (reply_for : Opened → Tool → Edited → Reply) where
   abbrev on : Contents
   on = record { file = file; journal = journal }
 
-  pub edit-no_text : (fault : Fault) → IsMemoryOr fault (IsDescribedText file (Err fault)) → IsMemoryOr fault (IsRequestOutcome on (editing IsEdit) (Err fault))
-  edit-no_text fault h = memory_or_weaker fault _ _ (λ none. inl (fault, none, refl)) h
+  pub made-no_text : (fault : Fault) → IsMemoryOr fault (IsDescribedText file (Err fault)) → IsMemoryOr fault (IsPutBy MakesOf reply_for on (Err fault))
+  made-no_text fault h = memory_or_weaker fault _ _ (λ none. inl (fault, none, refl)) h
 
   module _ (text : DescribedText) (is : IsDescribedText file (Ok text)) where
-    pub edit-no_opening : (fault : Fault) → IsMemoryOr fault (IsOpening file journal (Err fault)) → IsMemoryOr fault (IsRequestOutcome on (editing IsEdit) (Err fault))
-    edit-no_opening fault h = memory_or_weaker fault _ _ (λ none. inr (text, is, inl (fault, none, refl))) h
+    pub made-no_opening : (fault : Fault) → IsMemoryOr fault (IsOpening file journal (Err fault)) → IsMemoryOr fault (IsPutBy MakesOf reply_for on (Err fault))
+    made-no_opening fault h = memory_or_weaker fault _ _ (λ none. inr (text, is, inl (fault, none, refl))) h
 
-    module _ (o : Opened) (opens : IsOpening file journal (Ok o)) (here : List ℕ) (same : here ≡ file) where
-      pub edit-refused : (fault : Fault) → IsMemoryOr fault (IsMade IsEdit here (Err fault)) → IsMemoryOr fault (IsRequestOutcome on (editing IsEdit) (Err fault))
-      edit-refused fault h =
-          memory_or_weaker fault _ _ (λ none. inr (text, is, inr (o, opens, inl (fault, none, refl))))
-          (subst (λ t. IsMemoryOr fault (IsMade IsEdit t (Err fault))) same h)
+    module _ (o : Opened) (opens : IsOpening file journal (Ok o)) where
+      pub made-refused : (fault : Fault) → IsMemoryOr fault (MakesOf o (Err fault)) → IsMemoryOr fault (IsPutBy MakesOf reply_for on (Err fault))
+      made-refused fault h = memory_or_weaker fault _ _ (λ none. inr (text, is, inr (o, opens, inl (fault, none, refl)))) h
 
-      module _ (tool : Tool) (made : Edited) (is_made : IsMade IsEdit here (Ok (tool, made))) where
-        -- what becomes of the edit
-        edit_ends : (r : Result Outcome Fault) → IsEditOutcome o on tool made r → IsRequestOutcome on (editing IsEdit) r
-        edit_ends r h = inr (text, is, inr (o, opens, inr ((tool, made), subst (λ t. IsMade IsEdit t (Ok (tool, made))) same is_made, h)))
+      -- what becomes of it
+      module _ (tool : Tool) (made : Edited) (is_made : MakesOf o (Ok (tool, made))) (reply : Reply) (replied : reply ≡ reply_for o tool made) where
+        made_ends : (r : Result Outcome Fault) → IsEditOutcome o on tool made reply r → IsPutBy MakesOf reply_for on r
+        made_ends r h = inr (text, is, inr (o, opens, inr ((tool, made), is_made, subst (λ y. IsEditOutcome o on tool made y r) replied h)))
 
-        pub edit-unchanged : made.text ≡ file → IsRequestOutcome on (editing IsEdit) (Ok (staying (Unchanged made.chosen)))
-        edit-unchanged alike = edit_ends (Ok (staying (Unchanged made.chosen))) (inl (alike, refl))
-
-        pub edit-put : (r : Result Decision Fault) → UnlessMemory r (λ answer. IsEditOutcome o on tool made (outcome_in answer)) → UnlessMemory r (Decides file journal (editing IsEdit))
-        edit-put (Ok decision) h = edit_ends (Ok (outcome_of decision)) h
-        edit-put (Err fault) h = memory_or_weaker fault _ _ (edit_ends (Err fault)) h
+        pub made-put : (r : Result Decision Fault) → UnlessMemory r (λ answer. IsEditOutcome o on tool made reply (outcome_in answer))
+            → UnlessMemory r (λ answer. IsPutBy MakesOf reply_for on (outcome_in answer))
+        made-put (Ok decision) h = made_ends (Ok (outcome_of decision)) h
+        made-put (Err fault) h = memory_or_weaker fault _ _ (made_ends (Err fault)) h
 
 -- ---- the plan of an edit
 
@@ -232,11 +227,11 @@ only-clash : (o : Opened) (journal : List ℕ) (tool : Tool) (steps : List EditS
 only-clash o journal tool steps text DigestClash h = refl
 only-clash o journal tool steps text _ h = absurd h
 
-module _ (o : Opened) (file journal : List ℕ) (opens : IsOpening file journal (Ok o)) (tool : Tool) (made : Edited) (other : made.text ≢ file) where
+module _ (o : Opened) (file journal : List ℕ) (opens : IsOpening file journal (Ok o)) (tool : Tool) (made : Edited) (reply : Reply) (other : made.text ≢ file) where
   abbrev contents_of : Contents
   contents_of = record { file = file; journal = journal }
 
-  clashing : (fault : Fault) → IsEditPlan o journal tool made.steps made.text (Err fault) → IsEditOutcome o contents_of tool made (Err fault)
+  clashing : (fault : Fault) → IsEditPlan o journal tool made.steps made.text (Err fault) → IsEditOutcome o contents_of tool made reply (Err fault)
   clashing fault refused =
       let e = only-clash o journal tool made.steps made.text fault refused in (
         other,
@@ -245,21 +240,19 @@ module _ (o : Opened) (file journal : List ℕ) (opens : IsOpening file journal 
       )
 
   pub put-clash : (fault : Fault) → IsMemoryOr fault (IsEditPlan o journal tool made.steps made.text (Err fault))
-      → IsMemoryOr fault (IsEditOutcome o contents_of tool made (Err fault))
+      → IsMemoryOr fault (IsEditOutcome o contents_of tool made reply (Err fault))
   put-clash fault h = memory_or_weaker fault _ _ (clashing fault) h
 
   pub put-planned : (plan : Plan) → LeadsBy made.steps file made.text → IsEditPlan o journal tool made.steps made.text (Ok plan)
       → IsSafe file journal o (after_edit_plan o journal tool made.steps made.text) plan
-      → (number dropped : ℕ) → number ≡ o.next → dropped ≡ o.dropped
-      → (outcome : Outcome) → outcome ≡ putting plan (EditedReply made.changed number dropped) → IsEditOutcome o contents_of tool made (Ok outcome)
-  put-planned plan leads planned safe number dropped next gone outcome is =
-      inr (other, (plan, record { leads = leads; planned = planned; safe = safe }, is ∙ ap₂ (λ n k. putting plan (EditedReply made.changed n k)) next gone))
+      → (outcome : Outcome) → outcome ≡ putting plan reply → IsEditOutcome o contents_of tool made reply (Ok outcome)
+  put-planned plan leads planned safe outcome is = inr (other, (plan, record { leads = leads; planned = planned; safe = safe }, is))
 
   -- the edit is the newest of the history that is put in place
   pub put-course : (plan : Plan) → LeadsBy made.steps file made.text → IsEditPlan o journal tool made.steps made.text (Ok plan)
-      → IsSafe file journal o (after_edit_plan o journal tool made.steps made.text) plan → (reply : Reply)
+      → IsSafe file journal o (after_edit_plan o journal tool made.steps made.text) plan
       → (decision : Decision) → decision ≡ Put plan.journal (Some (record { text = plan.file; direction = Forward; steps = made.steps })) reply → HasCourse file journal decision
-  put-course plan leads planned safe reply decision is =
+  put-course plan leads planned safe decision is =
       let edit : Revision = edit_to o tool made.text made.steps in
       let related : Leads Forward edit file made.text = record { leads = leads; digest_before = sym (Opens-digest file journal o opens); digest_after = refl } in
       subst (HasCourse file journal) (sym is) (

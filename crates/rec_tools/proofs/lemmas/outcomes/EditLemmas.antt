@@ -282,7 +282,7 @@ no_store_none : (found : List Violation) → Err StoreFailed ≡ none_of found �
 no_store_none [] e = cc
 no_store_none (violation ∷ violations) e = cc
 
-no_store_sound : (force : Bool) (text : List ℕ) → IsSoundUnlessForced force text (Err StoreFailed) → ⊥
+pub no_store_sound : (force : Bool) (text : List ℕ) → IsSoundUnlessForced force text (Err StoreFailed) → ⊥
 no_store_sound true text e = cc
 no_store_sound false text h = no_store_then (AreViolationsOf text) (λ found answer. answer ≡ none_of found) (no_store_report text) no_store_none h
 

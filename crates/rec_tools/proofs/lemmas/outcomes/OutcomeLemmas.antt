@@ -40,22 +40,24 @@ use Rattle.rec_edit.specs.declared.answer.Edited.{Edited}
 use Rattle.rec_tools.specs.declared.request.Form.{Form}
 use Rattle.rec_tools.specs.declared.request.Form.TheVariants.{Blocks, Print, Values, Row, Count}
 use Rattle.rec_tools.specs.declared.request.Pick.{Pick}
-use Rattle.rec_tools.specs.declared.request.Request.{Request, Show, Info, Check, Edit, Batch, Undo, Redo, Forget, History, Diff, Log, Preview'}
+use Rattle.rec_tools.specs.declared.request.Request.{Request, Show, Info, Check, Edit, Batch, Undo, Redo, Revert, Forget, History, Diff, Log, Preview'}
 use Rattle.rec_tools.specs.declared.request.Reply.{Reply}
-use Rattle.rec_tools.specs.declared.request.Reply.TheVariants.{Shown, Edited as EditedReply}
+use Rattle.rec_tools.specs.declared.request.Reply.TheVariants.{Shown}
 use Rattle.rec_tools.specs.Home.{Contents, Write, written}
 use Rattle.rec_tools.specs.Steps.{Then}
 use Rattle.rec_tools.specs.Asking.{IsFilter, IsListed, IsShape}
 use Rattle.rec_tools.specs.Printouts.{Printout, printed_history, told_of, IsLog, IsShownEdit, IsLogOf, IsWholeLog, IsShow, IsInfoOf, IsShownText, IsReportText, verdict}
-use Rattle.rec_tools.specs.Requests.{Edits, Asked, looking, listing, showing, listing_changes, editing, moving, forgetting, previewing, asked_of}
-use Rattle.rec_tools.specs.Outcomes.{Outcome, IsRequestOutcome, IsPrinting, IsMade, IsEditOutcome, IsMove, IsForgetting, OnTop, LeadsAcross, IsPreviewText, OneOutcome, printing, putting, reply_of}
+use Rattle.rec_tools.specs.Requests.{Edits, Asked, looking, listing, showing, listing_changes, editing, moving, reverting, forgetting, previewing, asked_of}
+use Rattle.rec_tools.specs.Reverting.{IsRevertOf}
+use Rattle.rec_tools.specs.Outcomes.{Outcome, IsRequestOutcome, IsPrinting, IsMade, IsEditOutcome, IsPutBy, edit_reply, revert_reply, IsMove, IsForgetting, OnTop, LeadsAcross, IsPreviewText, OneOutcome, printing, putting, reply_of}
 use Rattle.rec_text.proofs.lemmas.FaultLemmas.{same_fault, same_value}
 use Rattle.rec_tools.proofs.lemmas.outcomes.OpeningLemmas.{no_clash, same_plan_of}
 use Rattle.rec_tools.proofs.lemmas.outcomes.EditLemmas.{AreEditsAlike, agree_on_one, agree_on_batch, one_made}
 use Rattle.rec_text.proofs.lemmas.FaultLemmas.{no_both}
 use Rattle.rec_text.proofs.lemmas.StepLemmas.{HasOne, HasOneBut, HasOneBut-of, HasOneBut-Then, AgreeLike, one_value, no_value, one_fault, HasOne-Then, Then-first, Then-next}
 use Rattle.rec_tools.proofs.lemmas.printing.LogLemmas.{one_log}
-use Rattle.rec_tools.proofs.lemmas.outcomes.AnswerLemmas.{HasOneBut-filter, HasOneBut-text, agree_by_sets, same_selection}
+use Rattle.rec_tools.proofs.lemmas.outcomes.AnswerLemmas.{HasOneBut-filter, HasOneBut-text, HasOneBut-once_read, agree_by_sets, same_selection}
+use Rattle.rec_tools.proofs.lemmas.outcomes.RevertLemmas.{one_revert_of}
 
 -- ---- printed texts
 
@@ -151,6 +153,7 @@ MeansOne (looking IsText) = (file : List ℕ) → HasOneBut (IsText file)
 MeansOne listing = Unit {0}
 MeansOne (editing IsEdit) = AgreeLike AreEditsAlike IsEdit IsEdit
 MeansOne (moving direction through) = Unit {0}
+MeansOne (reverting number force) = Unit {0}
 MeansOne (showing number name) = Unit {0}
 MeansOne (listing_changes name) = Unit {0}
 MeansOne (forgetting n) = Unit {0}
@@ -164,6 +167,7 @@ one_meaning (Edit edit force) = agree_on_one edit force
 one_meaning (Batch text force) = agree_on_batch text force
 one_meaning (Undo through) = tt
 one_meaning (Redo through) = tt
+one_meaning (Revert number force) = tt
 one_meaning (Forget n) = tt
 one_meaning History = tt
 one_meaning (Diff number name) = tt
@@ -172,17 +176,13 @@ one_meaning (Preview' shape request name) = one_meaning request
 
 -- ---- an edit
 
--- a step that doesn't ask for what was read of a text has one answer after it
-pub HasOneBut-once_read : {A : Type 0} (file : List ℕ) (step : Result A Fault → Type 0) → HasOneBut step → HasOneBut (Then (IsDescribedText file) (λ _. step))
-HasOneBut-once_read file step has_one = HasOneBut-text file (λ _. step) (λ pieces schema same is is_too. has_one)
-
-module _ (o : Opened) (c : Contents) (opens : Opens c.file c.journal o) (tool : Tool) (made : Edited) where
-  HasOne-edit_outcome : HasOne (IsEditOutcome o c tool made)
+module _ (o : Opened) (c : Contents) (opens : Opens c.file c.journal o) (tool : Tool) (made : Edited) (reply : Reply) where
+  HasOne-edit_outcome : HasOne (IsEditOutcome o c tool made reply)
   HasOne-edit_outcome (Ok one) (Ok other) (inl (same, e)) (inl (same_too, k)) = ap Ok (e ∙ sym k)
   HasOne-edit_outcome (Ok one) (Ok other) (inl (same, e)) (inr (differs, is_too)) = absurd (differs same)
   HasOne-edit_outcome (Ok one) (Ok other) (inr (differs, is)) (inl (same, k)) = absurd (differs same)
   HasOne-edit_outcome (Ok one) (Ok other) (inr (differs, (plan, planned, e))) (inr (differs_too, (also, planned_too, k))) =
-      ap Ok (e ∙ ap (λ p. putting p (EditedReply made.changed o.next o.dropped)) (same_plan_of c o tool made plan also planned planned_too) ∙ sym k)
+      ap Ok (e ∙ ap (λ p. putting p reply) (same_plan_of c o tool made plan also planned planned_too) ∙ sym k)
   HasOne-edit_outcome (Ok one) (Err fault) (inl (same, e)) is_too = absurd (is_too.0 same)
   HasOne-edit_outcome (Ok one) (Err fault) (inr (differs, (plan, planned, e))) is_too = absurd (no_clash c o tool made plan opens planned is_too.2)
   HasOne-edit_outcome (Err fault) (Ok other) is (inl (same, k)) = absurd (is.0 same)
@@ -308,14 +308,15 @@ same_outcome one other text writes reply =
 -- ---- outcomes
 
 module _ (c : Contents) where
-  HasOneBut-edit : (IsEdit : Result Edits Fault → Type 0) → AgreeLike AreEditsAlike IsEdit IsEdit → HasOneBut (IsRequestOutcome c (editing IsEdit))
-  HasOneBut-edit IsEdit agree =
-      let last : Opened → Tool × Edited → Result Outcome Fault → Type 0 = λ o told. IsEditOutcome o c told.0 told.1 in
-      let next : Opened → Result Outcome Fault → Type 0 = λ o. Then (IsMade IsEdit c.file) (last o) in
+  HasOneBut-put : (MakesOf : Opened → Result (Tool × Edited) Fault → Type 0) (reply_for : Opened → Tool → Edited → Reply)
+      → ((o : Opened) → Opens c.file c.journal o → HasOneBut (MakesOf o)) → HasOneBut (IsPutBy MakesOf reply_for c)
+  HasOneBut-put MakesOf reply_for has_one =
+      let last : Opened → Tool × Edited → Result Outcome Fault → Type 0 = λ o told. IsEditOutcome o c told.0 told.1 (reply_for o told.0 told.1) in
+      let next : Opened → Result Outcome Fault → Type 0 = λ o. Then (MakesOf o) (last o) in
       HasOneBut-once_read c.file (Then (IsOpening c.file c.journal) next)
       (HasOneBut-Then (IsOpening c.file c.journal) next (HasOneBut-of (IsOpening c.file c.journal) (one_opening c.file c.journal)) (λ o opens.
-      HasOneBut-Then (IsMade IsEdit c.file) (last o) (one_made IsEdit agree c.file)
-      (λ made _. HasOneBut-of (last o made) (HasOne-edit_outcome o c opens made.0 made.1))))
+      HasOneBut-Then (MakesOf o) (last o) (has_one o opens)
+      (λ told _. HasOneBut-of (last o told) (HasOne-edit_outcome o c opens told.0 told.1 (reply_for o told.0 told.1)))))
 
   -- what is asked for comes to one outcome
   pub one_outcome_of : (asked : Asked) → MeansOne asked → HasOneBut (IsRequestOutcome c asked)
@@ -338,7 +339,11 @@ module _ (c : Contents) where
   one_outcome_of (previewing name asked) means (Err fault) (Ok other) is (would, is_too, preview) built built_too =
       absurd (no_both would fault (one_outcome_of asked means (Ok would) (Err fault) is_too is (no_both would BadPattern) built))
   one_outcome_of (previewing name asked) means (Err fault) (Err other) is is_too built built_too = one_outcome_of asked means (Err fault) (Err other) is is_too built built_too
-  one_outcome_of (editing IsEdit) means one other is is_too built built_too = HasOneBut-edit IsEdit means one other is is_too built built_too
+  one_outcome_of (editing IsEdit) means one other is is_too built built_too =
+      HasOneBut-put (λ _. IsMade IsEdit c.file) (λ o. edit_reply o.next o.dropped) (λ o opens. one_made IsEdit means c.file) one other is is_too built built_too
+  one_outcome_of (reverting number force) means one other is is_too built built_too =
+      HasOneBut-put (λ o. IsRevertOf number force o c.file) (λ o. revert_reply number o.next) (λ o opens. one_revert_of number force o c.file c.journal opens)
+      one other is is_too built built_too
   one_outcome_of (moving direction through) means one other is is_too built built_too =
       HasOne-Then (IsOpening c.file c.journal) (λ o. IsMove direction through o c) (one_opening c.file c.journal) (λ o _. HasOne-move direction through o c)
       one other is is_too

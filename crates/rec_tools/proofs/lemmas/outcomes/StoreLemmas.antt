@@ -1,5 +1,5 @@
 -- What is asked for is never refused because a store failed: that comes of calls alone.
-use Rattle.std.proofs.Common.{◌≡◌, inl, inr, ℕ, List, Option, Some, None, Result, Ok, Err}
+use Rattle.std.proofs.Common.{◌≡◌, inl, inr, ℕ, Bool, List, Option, Some, None, Result, Ok, Err}
 use Rattle.rec_text.specs.declared.fault.Fault.{Fault}
 use Rattle.rec_text.specs.declared.fault.Fault.TheVariants.{StoreFailed}
 use Rattle.rec_journal.specs.declared.event.Tool.{Tool}
@@ -7,8 +7,9 @@ use Rattle.rec_journal.specs.EditTexts.{WithTexts, IsEditTexts, none_such}
 use Rattle.rec_journal.specs.History.{Opened, IsOpening}
 use Rattle.rec_edit.specs.declared.answer.Edited.{Edited}
 use Rattle.rec_diff.specs.Diffs.{IsDiff}
+use Rattle.rec_tools.specs.declared.request.Reply.{Reply}
 use Rattle.rec_tools.specs.declared.request.Reply.TheVariants.{Shown}
-use Rattle.rec_tools.specs.declared.request.Request.{Request, Show, Info, Check, Edit, Batch, Undo, Redo, Forget, History, Diff, Log, Preview'}
+use Rattle.rec_tools.specs.declared.request.Request.{Request, Show, Info, Check, Edit, Batch, Undo, Redo, Revert, Forget, History, Diff, Log, Preview'}
 use Rattle.rec_tools.specs.Home.{Contents}
 use Rattle.rec_tools.specs.Steps.{Then}
 use Rattle.rec_journal.specs.declared.patch.Direction.{Direction}
@@ -17,27 +18,37 @@ use Rattle.rec_journal.specs.Plans.{nothing_there}
 use Rattle.rec_check.specs.DescribedTexts.{IsDescribedText}
 use Rattle.rec_tools.specs.Printouts.{printed_history, IsShownEdit, IsLogOf, IsWholeLog}
 use Rattle.rec_select.specs.Info.{IsInfo}
-use Rattle.rec_tools.specs.Requests.{Edits, IsOneEdit, IsBatch, editing, moving, forgetting, asked_of}
-use Rattle.rec_tools.specs.Outcomes.{Outcome, IsMade, IsEditOutcome, IsMove, IsForgetting, IsRequestOutcome, printing}
+use Rattle.rec_tools.specs.Requests.{Edits, IsOneEdit, IsBatch, editing, moving, reverting, forgetting, asked_of}
+use Rattle.rec_tools.specs.Reverting.{IsRevertOf}
+use Rattle.rec_tools.specs.Outcomes.{Outcome, IsMade, IsEditOutcome, IsPutBy, edit_reply, revert_reply, IsMove, IsForgetting, IsRequestOutcome, printing}
 use Rattle.rec_text.proofs.lemmas.FaultLemmas.{ok_is_no_err}
 use Rattle.rec_tools.proofs.lemmas.printing.PutsLemmas.{no_store_then, no_store_text}
 use Rattle.rec_tools.proofs.lemmas.printing.ShowLemmas.{no_store_show}
 use Rattle.rec_tools.proofs.lemmas.printing.InformLemmas.{no_store_info}
 use Rattle.rec_tools.proofs.lemmas.printing.CheckLemmas.{no_store_report}
+use Rattle.rec_tools.proofs.lemmas.outcomes.RevertLemmas.{no_store_revert}
 use Rattle.rec_tools.proofs.lemmas.outcomes.EditLemmas.{no_store_made, no_store_one, no_store_listed}
 
 -- ---- edits
 
-no_store_edit : (o : Opened) (c : Contents) (tool : Tool) (made : Edited) → IsEditOutcome o c tool made (Err StoreFailed) → ⊥
-no_store_edit o c tool made h = let e = h.1 in cc
+no_store_edit : (o : Opened) (c : Contents) (tool : Tool) (made : Edited) (reply : Reply) → IsEditOutcome o c tool made reply (Err StoreFailed) → ⊥
+no_store_edit o c tool made reply h = let e = h.1 in cc
 
-never_edits : (c : Contents) (IsEdit : Result Edits Fault → Type 0) → (IsEdit (Err StoreFailed) → ⊥) → IsRequestOutcome c (editing IsEdit) (Err StoreFailed) → ⊥
-never_edits c IsEdit never =
-    let last : Opened → Tool × Edited → Result Outcome Fault → Type 0 = λ o told. IsEditOutcome o c told.0 told.1 in
-    let next : Opened → Result Outcome Fault → Type 0 = λ o. Then (IsMade IsEdit c.file) (last o) in
+never_puts : (c : Contents) (MakesOf : Opened → Result (Tool × Edited) Fault → Type 0) (reply_for : Opened → Tool → Edited → Reply)
+    → ((o : Opened) → MakesOf o (Err StoreFailed) → ⊥) → IsPutBy MakesOf reply_for c (Err StoreFailed) → ⊥
+never_puts c MakesOf reply_for never =
+    let last : Opened → Tool × Edited → Result Outcome Fault → Type 0 = λ o told. IsEditOutcome o c told.0 told.1 (reply_for o told.0 told.1) in
+    let next : Opened → Result Outcome Fault → Type 0 = λ o. Then (MakesOf o) (last o) in
     no_store_then (IsDescribedText c.file) (λ _. Then (IsOpening c.file c.journal) next) (no_store_text c.file) (λ _.
     no_store_then (IsOpening c.file c.journal) next (λ h. h) (λ o.
-    no_store_then (IsMade IsEdit c.file) (last o) (no_store_made IsEdit never c.file) (λ made. no_store_edit o c made.0 made.1)))
+    no_store_then (MakesOf o) (last o) (never o) (λ told. no_store_edit o c told.0 told.1 (reply_for o told.0 told.1))))
+
+never_edits : (c : Contents) (IsEdit : Result Edits Fault → Type 0) → (IsEdit (Err StoreFailed) → ⊥) → IsRequestOutcome c (editing IsEdit) (Err StoreFailed) → ⊥
+never_edits c IsEdit never = never_puts c (λ _. IsMade IsEdit c.file) (λ o. edit_reply o.next o.dropped) (λ o. no_store_made IsEdit never c.file)
+
+never_reverts : (c : Contents) (number : ℕ) (force : Bool) → IsRequestOutcome c (reverting number force) (Err StoreFailed) → ⊥
+never_reverts c number force =
+    never_puts c (λ o. IsRevertOf number force o c.file) (λ o. revert_reply number o.next) (λ o. no_store_revert number force o c.file)
 
 -- ---- moves
 
@@ -92,6 +103,7 @@ never_store (Edit edit force) c is = never_edits c (IsOneEdit edit force) (no_st
 never_store (Batch text force) c is = never_edits c (IsBatch text force) (no_store_listed text force) is
 never_store (Undo through) c is = never_moves Backward through c is
 never_store (Redo through) c is = never_moves Forward through c is
+never_store (Revert number force) c is = never_reverts c number force is
 never_store (Forget n) c is = never_forgets n c is
 never_store (Diff number name) c is = no_store_shown number name c.file c.journal is
 never_store (Log name) c is = no_store_log name c.file c.journal is

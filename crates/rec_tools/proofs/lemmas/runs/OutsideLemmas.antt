@@ -1,5 +1,5 @@
 -- A file that was changed outside, and what requests then come to.
-use Rattle.std.proofs.Common.{◌≡◌, ◌⊎◌, inl, inr, ℕ, true, false, List, [], Option, Result, Ok, Err, sym, ap, subst, refl, ◌∙◌}
+use Rattle.std.proofs.Common.{◌≡◌, ◌⊎◌, inl, inr, ℕ, Bool, true, false, List, [], Option, Result, Ok, Err, sym, ap, subst, refl, ◌∙◌}
 use Rattle.std.specs.Prelude.{codes, if◌then◌else◌, map}
 use Rattle.std.proofs.lemmas.Bool.{false≢true}
 use Rattle.rec_text.specs.declared.fault.Fault.{Fault}
@@ -19,11 +19,11 @@ use Rattle.rec_edit.specs.declared.answer.Edited.{Edited}
 use Rattle.rec_tools.specs.declared.request.Reply.TheVariants.{Shown}
 use Rattle.rec_tools.specs.Home.{Contents, written}
 use Rattle.rec_tools.specs.Printouts.{history_text}
-use Rattle.rec_tools.specs.Requests.{Asked, looking, listing, showing, listing_changes, editing, moving, forgetting, previewing, asked_of}
+use Rattle.rec_tools.specs.Requests.{Asked, looking, listing, showing, listing_changes, editing, moving, reverting, forgetting, previewing, asked_of}
 use Rattle.rec_tools.specs.Outcomes.{Outcome, IsRequestOutcome, IsPlanned, printing}
 use Rattle.rec_tools.specs.Machine.{AreEntries, Stands}
 use Rattle.rec_tools.specs.Laws.{outside_state, OutsideIsNoticed}
-use Rattle.rec_text.proofs.lemmas.FaultLemmas.{ok_is_no_err, same_value}
+use Rattle.rec_text.proofs.lemmas.FaultLemmas.{no_both, ok_is_no_err, same_value}
 use Rattle.rec_tools.proofs.lemmas.outcomes.OpeningLemmas.{edit_leads_back}
 use Rattle.rec_tools.proofs.lemmas.runs.RunLemmas.{writes_nothing}
 
@@ -75,6 +75,15 @@ module _ (c : Contents) (o : Opened) (opens : Opens c.file c.journal o) (drifted
         next = refl;
       }
 
+  -- nothing is reverted
+  no_revert : (number : ℕ) (force : Bool) (outcome : Outcome) → IsRequestOutcome c (reverting number force) (Ok outcome) → ⊥
+  no_revert number force outcome (inl refused) = let e = refused.2 in cc
+  no_revert number force outcome (inr (text, is, inl refused)) = let e = refused.2 in cc
+  no_revert number force outcome (inr (text, is, inr (p, opened, inl refused))) = let e = refused.2 in cc
+  no_revert number force outcome (inr (text, is, inr (p, opened, inr (told, inl (fault, none, e), last)))) = no_both told fault e
+  no_revert number force outcome (inr (text, is, inr (p, opened, inr (told, inr (found, standing, made), last)))) =
+      not_settled p opened standing.0
+
   begins_anew : (asked : Asked) (outcome : Outcome) → IsRequestOutcome c asked (Ok outcome)
       → (outcome.writes ≡ []) ⊎ ((tool : Tool) × (steps : List EditStep) × Stands (written c outcome.writes) (outside_state c o tool steps (written c outcome.writes).file))
   begins_anew (looking IsText) outcome is = inl (writes_nothing c (looking IsText) outcome tt is)
@@ -82,6 +91,7 @@ module _ (c : Contents) (o : Opened) (opens : Opens c.file c.journal o) (drifted
   begins_anew (showing number name) outcome is = inl (writes_nothing c (showing number name) outcome tt is)
   begins_anew (listing_changes name) outcome is = inl (writes_nothing c (listing_changes name) outcome tt is)
   begins_anew (previewing name asked) outcome is = inl (writes_nothing c (previewing name asked) outcome tt is)
+  begins_anew (reverting number force) outcome is = absurd (no_revert number force outcome is)
   begins_anew (editing IsEdit) outcome (inl refused) = let e = refused.2 in cc
   begins_anew (editing IsEdit) outcome (inr (text, is, inl refused)) = let e = refused.2 in cc
   begins_anew (editing IsEdit) outcome (inr (text, is, inr (p, opened, inl refused))) = let e = refused.2 in cc
@@ -97,6 +107,7 @@ outside_is_noticed c o opens drifted =
     record {
       undo = no_move c o opens drifted Backward;
       redo = no_move c o opens drifted Forward;
+      revert = no_revert c o opens drifted;
       forgetting = nothing_forgotten c o opens drifted;
       history = told_drifted c o opens drifted;
       edits = λ request outcome is. begins_anew c o opens drifted (asked_of request) outcome is;

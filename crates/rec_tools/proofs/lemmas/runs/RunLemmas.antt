@@ -8,7 +8,7 @@ use Rattle.rec_tools.specs.declared.home.Which.{Which}
 use Rattle.rec_tools.specs.declared.request.Request.{Request}
 use Rattle.rec_tools.specs.Home.{Contents, Write, written, Call, got, lacked, left_by, left_by_all, TellsOf, TellAll, HasFailed, CountsFailure}
 use Rattle.rec_tools.specs.Printouts.{Printed}
-use Rattle.rec_tools.specs.Requests.{Asked, looking, listing, showing, listing_changes, editing, moving, forgetting, previewing, asked_of, reads_of, WritesNothing}
+use Rattle.rec_tools.specs.Requests.{Asked, looking, listing, showing, listing_changes, editing, moving, reverting, forgetting, previewing, asked_of, reads_of, WritesNothing}
 use Rattle.rec_tools.specs.Outcomes.{Outcome, IsRequestOutcome}
 use Rattle.rec_tools.specs.Attempts.{Answer, gots, puts, StopsReading, StopsWriting, IsAnswered, IsCutShort, IsUnread, IsCarriedOut, Does}
 use Rattle.rec_tools.proofs.lemmas.calls.CallLemmas.{Follows, HasFailed-rest, HasFailed-parts, left_by_all-append, failures_stay, failures_rise, contents_follow}
@@ -92,6 +92,7 @@ writes_nothing c listing o nothing (inl refused) = let e = refused.2 in cc
 writes_nothing c listing o nothing (inr listed) = ap (λ (x : Outcome). x.writes) (same_value o _ listed.2)
 writes_nothing c (editing IsEdit) o nothing is = absurd nothing
 writes_nothing c (moving direction through) o nothing is = absurd nothing
+writes_nothing c (reverting number force) o nothing is = absurd nothing
 writes_nothing c (forgetting n) o nothing is = absurd nothing
 writes_nothing c (showing number name) o nothing is = ap (λ (x : Outcome). x.writes) is.2
 writes_nothing c (listing_changes name) o nothing is = ap (λ (x : Outcome). x.writes) is.2

@@ -1,7 +1,10 @@
 -- A preview prints what is shown of the edit once it is made.
-use Rattle.std.proofs.Common.{arith, ◌≡◌, ◌≢◌, inl, inr, ℕ, ◌+◌, true, false, List, [], ◌∷◌, length, None, Ok, Err, sym, ap, subst, refl, ◌∙◌}
+use Rattle.std.proofs.Common.{arith, ◌≡◌, ◌≢◌, inl, inr, ℕ, ◌+◌, true, false, List, [], ◌∷◌, length, None, Result, Ok, Err, sym, ap, subst, refl, ◌∙◌}
 use Rattle.std.proofs.lemmas.Bool.{cases_Bool}
 use Rattle.rec_text.specs.declared.fault.Fault.TheVariants.{BadPattern}
+use Rattle.rec_text.specs.declared.fault.Fault.{Fault}
+use Rattle.rec_journal.specs.declared.event.Tool.{Tool}
+use Rattle.rec_edit.specs.declared.answer.Edited.{Edited}
 use Rattle.rec_journal.specs.declared.event.Revision.{Revision}
 use Rattle.rec_journal.specs.declared.patch.Direction.TheVariants.{Forward, Backward}
 use Rattle.rec_journal.specs.EditTexts.{WithTexts, Way, with_texts}
@@ -13,8 +16,9 @@ use Rattle.rec_tools.specs.declared.request.Reply.{Reply}
 use Rattle.rec_tools.specs.declared.request.Reply.TheVariants.{Shown}
 use Rattle.rec_tools.specs.declared.request.Request.{Request}
 use Rattle.rec_tools.specs.Home.{Contents, written}
-use Rattle.rec_tools.specs.Requests.{Asked, looking, listing, showing, listing_changes, editing, moving, forgetting, previewing, asked_of, WritesNothing}
-use Rattle.rec_tools.specs.Outcomes.{Outcome, IsRequestOutcome, IsPreviewText, LeadsAcross, printing}
+use Rattle.rec_tools.specs.Requests.{Asked, looking, listing, showing, listing_changes, editing, moving, reverting, forgetting, previewing, asked_of, WritesNothing}
+use Rattle.rec_tools.specs.Reverting.{IsRevertOf}
+use Rattle.rec_tools.specs.Outcomes.{Outcome, IsMade, IsPutBy, edit_reply, revert_reply, IsRequestOutcome, IsPreviewText, LeadsAcross, printing}
 use Rattle.rec_tools.specs.Laws.{MadeAnEdit, PreviewIsShowAfter}
 use Rattle.rec_text.proofs.lemmas.FaultLemmas.{no_both, ok_is_no_err, same_value}
 use Rattle.rec_tools.proofs.lemmas.outcomes.OpeningLemmas.{move_differs}
@@ -29,18 +33,14 @@ record GrewByOne (c d : Contents) : Type 0 where
   opens_after : Opens d.file d.journal after
   one_more : length after.past ≡ length before.past + 1
 
--- so it can after what made an edit, or made one again
-grew : (c : Contents) (asked : Asked) (done : Outcome) → (WritesNothing asked → ⊥) → MadeAnEdit done.reply → IsRequestOutcome c asked (Ok done) → GrewByOne c (written c done.writes)
-grew c (looking IsText) done writes made is = absurd (writes tt)
-grew c listing done writes made is = absurd (writes tt)
-grew c (showing number name) done writes made is = absurd (writes tt)
-grew c (listing_changes name) done writes made is = absurd (writes tt)
-grew c (previewing name asked) done writes made is = absurd (writes tt)
-grew c (editing IsEdit) done writes made (inl (fault, refused, e)) = absurd (no_both done fault e)
-grew c (editing IsEdit) done writes made (inr (text, is, inl (fault, refused, e))) = absurd (no_both done fault e)
-grew c (editing IsEdit) done writes made (inr (text, is, inr (o, opens, inl (fault, refused, e)))) = absurd (no_both done fault e)
-grew c (editing IsEdit) done writes made (inr (text, is, inr (o, opens, inr (told, is_made, inl (same, e))))) = absurd (subst (λ (x : Outcome). MadeAnEdit x.reply) e made)
-grew c (editing IsEdit) done writes made (inr (text, is, inr (o, opens, inr ((tool, edited), is_made, inr (differs, (plan, planned, e)))))) =
+-- so it can after what made an edit of it
+grew-put : (c : Contents) (MakesOf : Opened → Result (Tool × Edited) Fault → Type 0) (reply_for : Opened → Tool → Edited → Reply) (done : Outcome)
+    → MadeAnEdit done.reply → IsPutBy MakesOf reply_for c (Ok done) → GrewByOne c (written c done.writes)
+grew-put c MakesOf reply_for done made (inl (fault, refused, e)) = absurd (no_both done fault e)
+grew-put c MakesOf reply_for done made (inr (text, is, inl (fault, refused, e))) = absurd (no_both done fault e)
+grew-put c MakesOf reply_for done made (inr (text, is, inr (o, opens, inl (fault, refused, e)))) = absurd (no_both done fault e)
+grew-put c MakesOf reply_for done made (inr (text, is, inr (o, opens, inr (told, is_made, inl (same, e))))) = absurd (subst (λ (x : Outcome). MadeAnEdit x.reply) e made)
+grew-put c MakesOf reply_for done made (inr (text, is, inr (o, opens, inr ((tool, edited), is_made, inr (differs, (plan, planned, e)))))) =
     subst (λ (x : Outcome). GrewByOne c (written c x.writes)) (sym e) (record {
       differ = λ same. differs (sym planned.planned.1 ∙ same);
       before = o;
@@ -49,6 +49,16 @@ grew c (editing IsEdit) done writes made (inr (text, is, inr (o, opens, inr ((to
       opens_after = planned.safe.next;
       one_more = omega arith;
     })
+
+-- so it can after what made an edit, or made one again
+grew : (c : Contents) (asked : Asked) (done : Outcome) → (WritesNothing asked → ⊥) → MadeAnEdit done.reply → IsRequestOutcome c asked (Ok done) → GrewByOne c (written c done.writes)
+grew c (looking IsText) done writes made is = absurd (writes tt)
+grew c listing done writes made is = absurd (writes tt)
+grew c (showing number name) done writes made is = absurd (writes tt)
+grew c (listing_changes name) done writes made is = absurd (writes tt)
+grew c (previewing name asked) done writes made is = absurd (writes tt)
+grew c (editing IsEdit) done writes made is = grew-put c (λ _. IsMade IsEdit c.file) (λ o. edit_reply o.next o.dropped) done made is
+grew c (reverting number force) done writes made is = grew-put c (λ o. IsRevertOf number force o c.file) (λ o. revert_reply number o.next) done made is
 grew c (moving direction through) done writes made (inl (fault, refused, e)) = absurd (no_both done fault e)
 grew c (moving Backward through) done writes made (inr (o, opens, (settled, here, m))) = absurd (subst (λ (x : Outcome). MadeAnEdit x.reply) m.is made)
 grew c (moving Forward through) done writes made (inr (o, opens, (settled, here, m))) =

@@ -1,15 +1,20 @@
 -- What an outcome writes, where a write fails and where none does.
-use Rattle.std.proofs.Common.{◌≡◌, ◌⊎◌, inl, inr, ℕ, ◌+◌, zero, suc, List, [], ◌∷◌, length, take, Some, Ok, ap, sym, subst, refl, ◌∙◌, arith}
+use Rattle.std.proofs.Common.{◌≡◌, ◌⊎◌, inl, inr, ℕ, ◌+◌, zero, suc, List, [], ◌∷◌, length, take, Some, Result, Ok, ap, sym, subst, refl, ◌∙◌, arith}
 use Rattle.std.proofs.lemmas.List.{take_all}
 use Rattle.rec_journal.specs.declared.plan.Plan.{Plan}
 use Rattle.rec_journal.specs.History.{Opened, Opens, IsRegular}
 use Rattle.rec_journal.specs.Stops.{keep_in, IsSafe}
 use Rattle.rec_journal.specs.Forgetting.{forgotten_journal}
 use Rattle.rec_tools.specs.declared.home.Which.TheVariants.{Journal as TheJournal}
+use Rattle.rec_edit.specs.declared.answer.Edited.{Edited}
+use Rattle.rec_text.specs.declared.fault.Fault.{Fault}
+use Rattle.rec_journal.specs.declared.event.Tool.{Tool}
+use Rattle.rec_tools.specs.declared.request.Reply.{Reply}
 use Rattle.rec_tools.specs.Home.{Contents, Write, writes_by, written, Call, left_by_all}
 use Rattle.rec_tools.specs.Printouts.{Printed}
-use Rattle.rec_tools.specs.Requests.{Asked, looking, listing, showing, listing_changes, editing, moving, forgetting, previewing, asked_of, reads_of}
-use Rattle.rec_tools.specs.Outcomes.{Outcome, IsRequestOutcome}
+use Rattle.rec_tools.specs.Requests.{Asked, looking, listing, showing, listing_changes, editing, moving, reverting, forgetting, previewing, asked_of, reads_of}
+use Rattle.rec_tools.specs.Reverting.{IsRevertOf}
+use Rattle.rec_tools.specs.Outcomes.{Outcome, IsRequestOutcome, IsMade, IsPutBy, edit_reply, revert_reply}
 use Rattle.rec_tools.specs.Attempts.{Answer, StopsWriting, IsAnswered, IsCarriedOut, Does}
 use Rattle.rec_tools.specs.Machine.{State, IsOldOrNext, Stands}
 use Rattle.rec_tools.specs.Guarantee.{StopsAreSteps, WritesAreRegular}
@@ -85,19 +90,24 @@ module _ (c : Contents) (regular : IsRegular c.journal) where
 
   -- ---- an outcome
 
+  leaves-put : (MakesOf : Opened → Result (Tool × Edited) Fault → Type 0) (reply_for : Opened → Tool → Edited → Reply) (outcome : Outcome)
+      → IsPutBy MakesOf reply_for c (Ok outcome) → Leaves c outcome.writes
+  leaves-put MakesOf reply_for outcome (inl refused) = let e = refused.2 in cc
+  leaves-put MakesOf reply_for outcome (inr (text, is, inl refused)) = let e = refused.2 in cc
+  leaves-put MakesOf reply_for outcome (inr (text, is, inr (o, opens, inl refused))) = let e = refused.2 in cc
+  leaves-put MakesOf reply_for outcome (inr (text, is, inr (o, opens, inr (made, done, inl (same, e))))) =
+      leaves-nothing outcome.writes (ap (λ (x : Outcome). x.writes) e)
+  leaves-put MakesOf reply_for outcome (inr (text, is, inr (o, opens, inr (made, done, inr (differs, (plan, planned, e)))))) =
+      subst (λ (x : Outcome). Leaves c x.writes) (sym e) (leaves-plan o _ opens plan planned.safe)
+
   leaves : (asked : Asked) (outcome : Outcome) → IsRequestOutcome c asked (Ok outcome) → Leaves c outcome.writes
   leaves (looking IsText) outcome is = leaves-nothing outcome.writes (writes_nothing c (looking IsText) outcome tt is)
   leaves listing outcome is = leaves-nothing outcome.writes (writes_nothing c listing outcome tt is)
   leaves (showing number name) outcome is = leaves-nothing outcome.writes (writes_nothing c (showing number name) outcome tt is)
   leaves (listing_changes name) outcome is = leaves-nothing outcome.writes (writes_nothing c (listing_changes name) outcome tt is)
   leaves (previewing name asked) outcome is = leaves-nothing outcome.writes (writes_nothing c (previewing name asked) outcome tt is)
-  leaves (editing IsEdit) outcome (inl refused) = let e = refused.2 in cc
-  leaves (editing IsEdit) outcome (inr (text, is, inl refused)) = let e = refused.2 in cc
-  leaves (editing IsEdit) outcome (inr (text, is, inr (o, opens, inl refused))) = let e = refused.2 in cc
-  leaves (editing IsEdit) outcome (inr (text, is, inr (o, opens, inr (made, done, inl (same, e))))) =
-      leaves-nothing outcome.writes (ap (λ (x : Outcome). x.writes) e)
-  leaves (editing IsEdit) outcome (inr (text, is, inr (o, opens, inr (made, done, inr (differs, (plan, planned, e)))))) =
-      subst (λ (x : Outcome). Leaves c x.writes) (sym e) (leaves-plan o _ opens plan planned.safe)
+  leaves (editing IsEdit) outcome is = leaves-put (λ _. IsMade IsEdit c.file) (λ o. edit_reply o.next o.dropped) outcome is
+  leaves (reverting number force) outcome is = leaves-put (λ o. IsRevertOf number force o c.file) (λ o. revert_reply number o.next) outcome is
   leaves (moving direction through) outcome (inl refused) = let e = refused.2 in cc
   leaves (moving direction through) outcome (inr (o, opens, (settled, here, m))) =
       subst (λ (x : Outcome). Leaves c x.writes) (sym m.is) (leaves-plan o _ opens m.plan m.safe)

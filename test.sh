@@ -153,7 +153,7 @@ quick() {
 }
 
 program() {
-    cases "${1-}" tests/{edits,batches,diffs,through,forgetting,usage,explanations,notes,files,folders,rivals,stops,rights,streams,selecting,rules,sessions,manual,completions,installing}.bats
+    cases "${1-}" tests/{edits,batches,diffs,through,revert,forgetting,usage,explanations,notes,files,folders,rivals,stops,rights,streams,selecting,rules,sessions,manual,completions,installing}.bats
 }
 
 memory() {

@@ -59,7 +59,7 @@ _recu() {
         done
     done
     case $tool in
-        forget) specs+=(':N: ' ':FILE:_files') ;;
+        revert | forget) specs+=(':N: ' ':FILE:_files') ;;
         # (N may be left out)
         show) specs+=(':FILE:_files' '::FILE:_files') ;;
         *) specs+=(':FILE:_files') ;;

@@ -176,6 +176,14 @@ NAMES
     refuses 'the file was changed outside' history --patch f
     recu 0 show 2 f
     recu 0 history f
+    # a wrong digest counts for the edits that end or begin with it, not for one before them
+    sed "s/$(bytes 'A: 3¶' | sha256sum | cut -d ' ' -f 1)/$(printf '0%.0s' {1..64})/" kept > f.journal
+    recu 0 show 1 f
+    prints '--- f¶+++ f¶@@ -1,1 +1,1 @@¶-A: 1¶+A: 2¶' ''
+    refuses 'the file was changed outside' show 2 f
+    refuses 'the file was changed outside' show f
+    refuses 'the file was changed outside' history --patch f
+    refuses 'the file was changed outside' undo f
     mv kept f.journal
     # a file that was changed outside
     put f 'A: 9¶'

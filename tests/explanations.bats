@@ -28,6 +28,30 @@ explained() {
     explains "$said¶f.journal: deleting this file removes all texts that it holds" 'the file was changed outside' forget 1 f
 }
 
+@test "a journal in which a text was edited" {
+    local said='f.journal: a text in it was changed; move it away to go on without the history'
+    put f 'A: 1¶'
+    does recset -f A -s 2 f
+    does recset -f A -s 3 f
+    sed -i 's/^Old: A: 1\$$/Old: A: 8$/' f.journal
+    explains "$said" 'the file was changed outside' show 1 f
+    explains "$said" 'the file was changed outside' history --patch f
+    does undo f
+    explains "$said" 'the file was changed outside' undo f
+    explains "$said" 'the file was changed outside' undo --dry-run f
+    explains "$said" 'the file was changed outside' revert 1 f
+    has f 'A: 2¶'
+    does redo f
+    # the file was changed too, and this is told first
+    put f 'A: 7¶'
+    explains 'f: if the text of the last edit is brought back to the byte, it can be undone; the next edit begins a new history' 'the file was changed outside' undo f
+    # without the journal the history begins anew
+    mv f.journal away
+    does recset -f A -s 2 f
+    does undo f
+    has f 'A: 7¶'
+}
+
 @test "a journal that is none" {
     put f 'A: 1¶'
     local away='move it away, and the next edit begins a new journal'

@@ -109,6 +109,35 @@ is_edited() {
     fast each_allocation is_edited redo db.rec
 }
 
+@test "memory for a revert" {
+    mkdir start
+    put start/db.rec "$three"
+    (cd start && "$program" recdel -n 1 db.rec && "$program" recset -n 0 -f A -s 7 db.rec && "$program" undo db.rec)
+    (cd start && "$program" recins -f D -v 4 db.rec && "$program" recdel -n 2 db.rec)
+    put after.rec "$three¶"
+    fast each_allocation is_edited revert 1 db.rec
+}
+
+# is_told_of_later WORD..: judges a run of a revert that is refused, of which the file `said` has what is said
+is_told_of_later() {
+    cmp -s db.rec start/db.rec && cmp -s db.rec.journal start/db.rec.journal || wrong 'a file was changed'
+    case "$status/$(tail -n 1 err)" in
+        "1/$(tail -n 1 said)" | '1/recu: out of memory' | '1/recu: a file could not be read or written' | 1/) ;;
+        *) wrong 'no such end' ;;
+    esac
+    [ "$(grep -cvxFf said err)" -le 2 ] || wrong 'it says more'
+    [ -e hit ] || cmp -s err said || wrong 'it says something else'
+}
+
+@test "memory for what is said of later edits" {
+    mkdir start
+    put start/db.rec 'A: 1¶B: 1¶'
+    (cd start && "$program" recset -f A -s 2 db.rec && "$program" recset -f B -s 2 db.rec)
+    (cd start && "$program" recset -f A -s 3 db.rec && "$program" recset -f B -s 3 db.rec)
+    put said 'db.rec.journal: edit 3, recset, is in the way; revert it first¶recu: a later edit changed the same lines¶'
+    fast each_allocation is_told_of_later revert 1 db.rec
+}
+
 # is_moved WORD..: judges a run of moves that gives the file after.rec, and passes passed.rec first
 is_moved() {
     case "$status/$(tail -n 1 err)" in
@@ -174,7 +203,7 @@ is_told_of_moves() {
     (cd start && "$program" recset -f A -s 2 db.rec && "$program" recset -f A -s 3 db.rec)
     # edit 1 doesn't fit any more
     sed -i '0,/^New: A: 2/ s//New: A: 7/' start/db.rec.journal
-    put said 'undone: edit 2¶db.rec: if the text of the last edit is brought back to the byte, it can be undone; the next edit begins a new history¶recu: the file was changed outside¶'
+    put said 'undone: edit 2¶db.rec.journal: a text in it was changed; move it away to go on without the history¶recu: the file was changed outside¶'
     fast each_allocation is_told_of_moves undo --through 1 db.rec
 }
 

@@ -42,6 +42,32 @@ load helpers
     told '' recsel f
 }
 
+@test "what is said on a terminal of a revert" {
+    told() {
+        local line=$1
+        shift
+        TERM=dumb script -qec "'$recu' $* > printed" /dev/null > seen
+        has seen "${line:+$line\x0D¶}"
+    }
+    put f 'A: 1¶B: 1¶'
+    put b 'Tool: recset¶Fields: A¶Delete: yes¶¶Tool: recset¶Fields: A¶Add: 1¶'
+    does recset -f A -s 2 f
+    does recset -f B -s 2 f
+    told 'it would revert edit 1, recset' revert --dry-run 1 f
+    has printed '--- f¶+++ f¶@@ -1,1 +1,1 @@¶-A: 2¶+A: 1¶'
+    told 'reverted: edit 1, recset (edit 3)' revert 1 f
+    has printed ''
+    told 'undone: edit 3, recset' undo f
+    does redo f
+    does batch -b b f
+    told 'reverted: edit 6, batch (edit 7)' revert 6 f
+    does undo f
+    does recset -f B -d f
+    told 'nothing would change' revert --dry-run 6 f
+    told 'nothing changed' revert 6 f
+    has f 'A: 1¶'
+}
+
 @test "nothing is said of it in scripts and pipes" {
     put f 'A: 1¶'
     recu 0 recset -f A -s 2 f
@@ -56,6 +82,8 @@ load helpers
     recu 0 undo --through 1 f
     prints '' ''
     recu 0 redo --through 4 f
+    prints '' ''
+    recu 0 revert 4 f
     prints '' ''
     recu 0 forget 0 f
     prints '' ''
@@ -94,6 +122,6 @@ load helpers
     sed -i '0,/^New: A: 2/ s//New: A: 7/' f.journal
     TERM=dumb script -qec "'$recu' undo --through 1 f" /dev/null > seen || status=$?
     [ "$status" = 1 ]
-    has seen "undone: edit 2\x0D¶f: if the text of the last edit is brought back to the byte, it can be undone; the next edit begins a new history\x0D¶recu: the file was changed outside\x0D¶"
+    has seen "undone: edit 2\x0D¶f.journal: a text in it was changed; move it away to go on without the history\x0D¶recu: the file was changed outside\x0D¶"
     has f 'A: 2¶'
 }

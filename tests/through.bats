@@ -176,26 +176,26 @@ stays() {
 }
 
 @test "how far it went is said where an edit on the way doesn't fit its texts" {
-    local outside='db.rec: if the text of the last edit is brought back to the byte, it can be undone; the next edit begins a new history'
+    local edited='db.rec.journal: a text in it was changed; move it away to go on without the history'
     local events
     begin
     # the text that edit 1 put in, changed by hand
     events=${three_edits/New: A: 2/New: A: 7}
     put db.rec.journal "$header$events"
-    explains "undone: edits 3 to 2¶$outside" 'the file was changed outside' undo --through 1 db.rec
+    explains "undone: edits 3 to 2¶$edited" 'the file was changed outside' undo --through 1 db.rec
     stands 'A: 2¶' "$events$two_undone"
-    stays "$outside" 'the file was changed outside' undo --through 1 db.rec
+    stays "$edited" 'the file was changed outside' undo --through 1 db.rec
     does redo db.rec
-    explains "undone: edit 2¶$outside" 'the file was changed outside' undo --through 1 db.rec
+    explains "undone: edit 2¶$edited" 'the file was changed outside' undo --through 1 db.rec
     has db.rec 'A: 2¶'
     # the one that edit 3 took out
     events=${three_edits/Old: A: 3/Old: A: 7}$(move 4 undo 3 'A: 4' 'A: 3')$(move 5 undo 2 'A: 3' 'A: 2')$(move 6 undo 1 'A: 2' 'A: 1')
     put db.rec 'A: 1¶'
     put db.rec.journal "$header$events"
-    explains "redone: edits 1 to 2¶$outside" 'the file was changed outside' redo --through 3 db.rec
+    explains "redone: edits 1 to 2¶$edited" 'the file was changed outside' redo --through 3 db.rec
     stands 'A: 3¶' "$events$(move 7 redo 1 'A: 1' 'A: 2')$(move 8 redo 2 'A: 2' 'A: 3')"
     does undo db.rec
-    explains "redone: edit 2¶$outside" 'the file was changed outside' redo --through 3 db.rec
+    explains "redone: edit 2¶$edited" 'the file was changed outside' redo --through 3 db.rec
     has db.rec 'A: 3¶'
 }
 

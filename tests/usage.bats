@@ -19,9 +19,9 @@ silent() {
 
 @test "help" {
     local words
-    for words in --help -h help 'help recins' 'help recdel' 'help recset' 'help batch' 'help undo' 'help redo' 'help history' 'help show' 'help forget' \
+    for words in --help -h help 'help recins' 'help recdel' 'help recset' 'help batch' 'help undo' 'help redo' 'help revert' 'help history' 'help show' 'help forget' \
         'recins --help' 'recins -h' 'recdel --help' 'recdel -h' 'recset --help' 'recset -h' 'batch --help' 'batch -h' 'undo --help' 'undo -h' \
-        'undo f -hx' 'redo --help' 'redo -h' 'history --help' 'history -h' 'show --help' 'show -h' 'show 1 f -h' \
+        'undo f -hx' 'redo --help' 'redo -h' 'revert --help' 'revert -h' 'revert 1 -h' 'history --help' 'history -h' 'show --help' 'show -h' 'show 1 f -h' \
         'forget --help' 'forget -h' 'forget 1 -h'; do
         recu 0 $words
         out | grep -q 'Usage: recu' || fail "recu $words prints no usage"
@@ -45,7 +45,7 @@ silent() {
     done
     for words in 'recsel --version' 'recsel -V' 'recinf --version' 'recinf -V' 'recfix --version' 'recfix -V' \
         'recins --version' 'recins -V' 'recdel --version' 'recdel -V' 'recset --version' 'recset -V' 'batch --version' 'batch -V' 'undo --version' \
-        'undo -V' 'redo --version' 'redo -V' 'history --version' 'history -V' 'show --version' 'show -V' 'forget --version' 'forget -V'; do
+        'undo -V' 'redo --version' 'redo -V' 'revert --version' 'revert -V' 'history --version' 'history -V' 'show --version' 'show -V' 'forget --version' 'forget -V'; do
         recu 0 $words
         [ -n "$(out)" ] || fail "recu $words prints no version"
         silent
@@ -66,7 +66,7 @@ example() {
     cp -- "$top/sample/library.rec" "$top/sample/contacts.rec" "$top/sample/changes.rec" .
     [[ $2 != *' --journal '* ]] || journal=(--journal edits.rec)
     case $1 in
-        undo | redo | history | show | forget) does recset -n 0 -f Name -s Ada "${journal[@]}" contacts.rec ;;
+        undo | redo | revert | history | show | forget) does recset -n 0 -f Name -s Ada "${journal[@]}" contacts.rec ;;
     esac
     [ "$1" != redo ] || does undo "${journal[@]}" contacts.rec
     cp contacts.rec contacts.rec.before
@@ -74,7 +74,7 @@ example() {
     silent
     case $1 in
         recsel | recinf | history | show) [ -n "$(out)" ] || fail "$2 prints nothing" ;;
-        recins | recdel | recset | batch | undo | redo)
+        recins | recdel | recset | batch | undo | redo | revert)
             ! cmp -s contacts.rec contacts.rec.before || ! cmp -s library.rec "$top/sample/library.rec" || fail "$2 changes nothing"
             ;;
         forget)
@@ -86,7 +86,7 @@ example() {
 
 @test "the examples of help" {
     local tool line number
-    for tool in recsel recinf recfix recins recdel recset batch undo redo history show forget; do
+    for tool in recsel recinf recfix recins recdel recset batch undo redo revert history show forget; do
         recu 0 help "$tool"
         out > help
         tail -n 1 help | grep -q '^  recu ' || fail "the help of $tool ends with no example"
@@ -103,7 +103,7 @@ example() {
 
 @test "help fits 80 columns" {
     local tool words
-    for tool in '' recsel recinf recfix recins recdel recset batch undo redo history show forget; do
+    for tool in '' recsel recinf recfix recins recdel recset batch undo redo revert history show forget; do
         for words in "$tool --help" "$tool -h" "help $tool"; do
             recu 0 $words
             ! out | LC_ALL=C.UTF-8 grep -E '.{81}' || fail "a line of recu $words has more than 80 characters"
@@ -131,7 +131,7 @@ hints() {
 @test "how a value is given that begins with a hyphen" {
     local words
     each hints hints.rows
-    for words in 'recset -f A -s -d f' 'undo -5 f' 'forget -5 f' 'recdel --comment -5 f' 'recfix --check -5' \
+    for words in 'recset -f A -s -d f' 'undo -5 f' 'revert -5 f' 'forget -5 f' 'recdel --comment -5 f' 'recfix --check -5' \
         'recset -n 0 -f A -s --force f' 'recset -f A -s --force=1 f' 'recset -f A -s --help f' 'recset -f A -s -h f' 'recset -f A -s -V f' \
         'recset -f A -s --journal j f' 'recset -f A -s --journal=-j f' 'recset -f A -s -- f' 'recset -f A -s' 'recset -f A -s -n=0 f' \
         'recset -fs -5 f' 'recset -fA -ss -5 f' 'recset -xs -5 f' 'recset -s= -5 f' 'recset -f A -d -x f' 'recset -f A -d --foo f' \
@@ -174,14 +174,14 @@ hints() {
     for words in 'recsel -c a.rec b.rec a.rec' 'recsel -- a.rec b.rec' 'recinf a.rec b.rec' 'recfix a.rec b.rec' 'recfix --auto a.rec b.rec' \
         'recins -f A -v 1 a.rec b.rec' 'recdel -n 0 a.rec b.rec' 'recset -f A -d a.rec b.rec' 'recset -n 0 -f A -s Ada Lovelace a.rec' \
         'batch -b c.rec a.rec b.rec' 'undo a.rec b.rec' 'redo a.rec b.rec' 'history a.rec b.rec' 'history --patch a.rec b.rec' 'show 1 a.rec b.rec' \
-        'undo --dry-run a.rec b.rec' 'forget 1 a.rec b.rec' 'forget 1 2 a.rec' \
+        'undo --dry-run a.rec b.rec' 'revert 1 a.rec b.rec' 'revert 1 2 a.rec' 'forget 1 a.rec b.rec' 'forget 1 2 a.rec' \
         'recset -f A a.rec b.rec -s -5'; do
         recu 1 $words
         is_bad_usage
         [ "$(said_before_the_end)" = 'hint: a command takes one FILE' ] || fail "recu $words says:" "$(said_before_the_end)"
         [ "$(grep -c '^hint: ' "$BATS_TEST_TMPDIR/err")" = 1 ] || fail "recu $words has several hints"
     done
-    for words in 'a.rec b.rec' 'help recsel a.rec' 'recsel --nothing a.rec b.rec' 'recset -f A a.rec' 'forget 1'; do
+    for words in 'a.rec b.rec' 'help recsel a.rec' 'recsel --nothing a.rec b.rec' 'recset -f A a.rec' 'revert 1' 'forget 1'; do
         recu 1 $words
         is_bad_usage
         ! grep -q hint "$BATS_TEST_TMPDIR/err" || fail "recu $words has a hint"
@@ -299,7 +299,7 @@ edits() {
     eval "fails_to_store '$3: not a regular file' $1"
     rmdir -- "$3"
     case $1 in
-        undo* | redo* | forget*)
+        undo* | redo* | revert* | forget*)
             rm -- "$2"
             put f "$three"
             does recdel -n 1 f
@@ -396,6 +396,7 @@ is_cut() {
     fast is_cut 0 "$two" show 2 f
     fast is_cut 0 "done 1 recset¶${one}undone 2 recset¶$two" history --patch f
     fast is_cut 0 "$two" redo --dry-run f
+    fast is_cut 0 '--- f¶+++ f¶@@ -5,1 +5,2 @@ N: a¶-M: z¶+M: x\¶+y¶' revert --dry-run --force 1 f
     fast is_cut 0 "$two" recset --dry-run -n 1 -f N -s c --force f
     has f '%rec: P¶%mandatory: X¶¶N: a¶M: z¶¶N: b¶'
     only f f.journal

@@ -258,7 +258,7 @@ fn growth_of_write_diff(alloc: Global, log: &mut Log) -> Result<(), Fault> {
 }
 
 /// A text, the hunks of a change, those of a later one, and those that take the first one back, if any do.
-const REVERTED: [(&[u8], &[Row], &[Row], Option<&[Row]>); 4] = [
+const REVERTED: [(&[u8], &[Row], &[Row], Option<&[Row]>); 8] = [
     // A line was put before it, which moves it; it takes the whole line.
     (
         b"a\nb\n",
@@ -272,6 +272,34 @@ const REVERTED: [(&[u8], &[Row], &[Row], Option<&[Row]>); 4] = [
         &[(2, b"", b"b\n")],
         &[(4, b"", b"c\n")],
         Some(&[(2, b"b\n", b"")]),
+    ),
+    // A set was put after the one that goes.
+    (
+        b"a: 1\n",
+        &[(5, b"", b"\n%rec: B\n\nb: 1\n")],
+        &[(20, b"", b"\n%rec: C\n\nc: 1\n")],
+        Some(&[(5, b"\n%rec: B\n\nb: 1\n", b"")]),
+    ),
+    // A record was put into it.
+    (
+        b"a: 1\n",
+        &[(5, b"", b"\n%rec: B\n\nb: 1\n")],
+        &[(20, b"", b"\nb: 2\n")],
+        None,
+    ),
+    // A field was put into the record that goes.
+    (
+        b"A: 1\n",
+        &[(5, b"", b"\nB: 2\n")],
+        &[(11, b"", b"C: 3\n")],
+        None,
+    ),
+    // A line was put into the value of the field that goes.
+    (
+        b"A: 1\n",
+        &[(5, b"", b"B: 2\n")],
+        &[(10, b"", b"+ 3\n")],
+        None,
     ),
     // The line was changed again.
     (b"a\n", &[(0, b"a", b"b")], &[(0, b"b", b"c")], None),

@@ -3,6 +3,7 @@
 pub mod batches;
 pub mod options;
 pub mod plain_edit;
+pub mod rules;
 
 use crate::edits::plain_edit::{Change, Item, Run, plain_parts, plain_runs, plain_text};
 use crate::log::Log;

@@ -62,6 +62,7 @@ fn run(alloc: Global, log: &mut Log) {
     edits::run(alloc, log);
     edits::batches::run(alloc, log);
     edits::options::run(alloc, log);
+    edits::rules::run(alloc, log);
     requests::run(alloc, log);
     log.close();
 }

@@ -3,8 +3,8 @@
 use crate::log::Log;
 use rec_text::{Bytes, Fault, Output};
 use rec_tools::{
-    Ask, Direction, EditRequest, Home, MemoryHome, Pick, RecFile, Reply, Request, Through, Which,
-    make, run as run_request, run_through,
+    Ask, Direction, EditRequest, Home, MemoryHome, Pick, RecFile, Reply, Request, Through, Tool,
+    Which, make, run as run_request, run_through,
 };
 use std::alloc::{AllocError, Global};
 
@@ -12,6 +12,9 @@ pub fn run(alloc: Global, log: &mut Log) {
     cases!(alloc, log:
         growth_of_memory_home,
         growth_of_moves_through_an_edit,
+        reverts_leave_the_later_edits,
+        reverts_keep_rules,
+        a_revert_that_changes_nothing,
         one_selection_is_asked_for,
         words_are_read_before_edits_are_made);
 }
@@ -124,6 +127,98 @@ fn growth_of_moves_through_an_edit(alloc: Global, log: &mut Log) -> Result<(), F
     let redone = moves(alloc, &mut home, Direction::Forward, 3);
     log.holds("edits 2 and 3", redone == (Some(2), Some(3), None));
     log.same("all three again", home.file(), b"A: 4\n");
+    Ok(())
+}
+
+/// Reverts an edit.
+fn revert(
+    alloc: Global,
+    home: &mut MemoryHome,
+    number: usize,
+    force: bool,
+) -> Result<Reply, Fault> {
+    let request = Request::Revert { number, force };
+    run_request(alloc, home, &mut sink(alloc), &request)
+}
+
+/// The same again where a growth was refused. It tells which edit was reverted by which, or the number of a refusal.
+fn reverts(
+    alloc: Global,
+    home: &mut MemoryHome,
+    number: usize,
+    force: bool,
+) -> Result<(usize, usize), u8> {
+    let mut answer = revert(alloc, home, number, force);
+    if ran_short(&answer) {
+        answer = revert(alloc, home, number, force);
+    }
+    match answer {
+        Ok(
+            Reply::Reverted {
+                edit,
+                tool: Tool::RecDel,
+                number,
+            },
+        ) => Ok((edit, number)),
+        Ok(_) => Err(0),
+        Err(fault) => Err(fault.number()),
+    }
+}
+
+/// What of three deletions is reverted, what is answered, and the file after it. The last one took out what stood where the
+/// first one's record now stands.
+const REVERTED: [(usize, Result<(usize, usize), u8>, &[u8]); 4] = [
+    (7, Err(26), b"A: 4\n"),
+    (3, Ok((3, 4)), b"A: 3\n\nA: 4\n"),
+    (1, Ok((1, 5)), b"A: 1\n\nA: 3\n\nA: 4\n"),
+    (2, Err(27), b"A: 1\n\nA: 3\n\nA: 4\n"),
+];
+
+fn reverts_leave_the_later_edits(alloc: Global, log: &mut Log) -> Result<(), Fault> {
+    let mut home = again!(home_with_edits(alloc))?;
+    for (number, wanted, file) in &REVERTED {
+        log.at_number(*number);
+        let answer = reverts(alloc, &mut home, *number, false);
+        log.holds("the answer", answer == *wanted);
+        log.same("the file", home.file(), file);
+    }
+    Ok(())
+}
+
+fn reverts_keep_rules(alloc: Global, log: &mut Log) -> Result<(), Fault> {
+    let mut home = home_of(alloc, b"%rec: P\n%size: < 2\n\nA: 1\n\nA: 2\n")?;
+    delete_first(alloc, &mut home)?;
+    let refused = reverts(alloc, &mut home, 1, false);
+    log.holds("two records are too many", refused == Err(16));
+    let forced = reverts(alloc, &mut home, 1, true);
+    log.holds("it is forced", forced == Ok((1, 2)));
+    log.same(
+        "both records",
+        home.file(),
+        b"%rec: P\n%size: < 2\n\nA: 1\n\nA: 2\n",
+    );
+    Ok(())
+}
+
+/// Makes the edits of a batch.
+fn run_batch(alloc: Global, home: &mut MemoryHome, text: &[u8]) -> Result<Reply, Fault> {
+    let request = Request::Batch {
+        text: Bytes::copy_of(alloc, text)?,
+        force: false,
+    };
+    run_request(alloc, home, &mut sink(alloc), &request)
+}
+
+/// A field is moved to the end of its record, and the other one is deleted.
+fn a_revert_that_changes_nothing(alloc: Global, log: &mut Log) -> Result<(), Fault> {
+    let mut home = home_of(alloc, b"A: 1\nB: 2\n")?;
+    let moves = b"Tool: recset\nFields: A\nDelete: yes\n\nTool: recset\nFields: A\nAdd: 1\n";
+    run_batch(alloc, &mut home, moves)?;
+    run_batch(alloc, &mut home, b"Tool: recset\nFields: B\nDelete: yes\n")?;
+    let answer = revert(alloc, &mut home, 1, false);
+    let is_unchanged = matches!(answer, Ok(Reply::Unchanged { chosen: None }));
+    log.holds("it is unchanged", is_unchanged);
+    log.same("the file", home.file(), b"A: 1\n");
     Ok(())
 }
 

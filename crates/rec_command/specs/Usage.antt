@@ -3,7 +3,7 @@ use Rattle.std.specs.Prelude.{true, List, [], ◌∷◌, ◌++◌, codes, Some, 
 use Rattle.clap.specs.Words.{App, Rule, Text, new_app, new_rule, with_rule, with_subcommand}
 use Rattle.rec_command.specs.declared.tools.Tool.{Tool}
 use Rattle.rec_command.specs.declared.tools.Tool.TheVariants.{RecSel, RecInf, RecFix, RecIns, RecDel, RecSet}
-use Rattle.rec_command.specs.declared.tools.Tool.TheVariants.{Batch, Undo, Redo, History, Show, Forget}
+use Rattle.rec_command.specs.declared.tools.Tool.TheVariants.{Batch, Undo, Redo, Revert, History, Show, Forget}
 use Rattle.clap.specs.declared.builder.action.ArgAction.TheVariants.{SetTrue, Append}
 
 -- `-x VALUE` or `--name VALUE`; without a letter the second alone
@@ -126,6 +126,13 @@ usage_of RecSet = tool_with (codes "recset") (
 usage_of Batch = tool_with (codes "batch") (batch_option ∷ flag [] (codes "force") ∷ dry_run ∷ paths)
 usage_of Undo = tool_with (codes "undo") (through_option ∷ dry_run ∷ paths)
 usage_of Redo = tool_with (codes "redo") (through_option ∷ dry_run ∷ paths)
+usage_of Revert = tool_with (codes "revert") (
+    flag [] (codes "force")
+    ∷ dry_run
+    ∷ journal_option
+    ∷ needed_word (codes "n")
+    ∷ needed_word (codes "file")
+    ∷ [])
 usage_of History = tool_with (codes "history") (flag [] (codes "patch") ∷ paths)
 -- clap wants the word that has to be there first, so which of the two is N is said in `Words`
 usage_of Show = tool_with (codes "show") (paths ++ word (codes "second") ∷ [])
@@ -139,7 +146,8 @@ name_of tool = (usage_of tool).top.name
 -- the tools, in the order in which help lists them
 abbrev pub tools : List Tool
 tools =
-    RecSel ∷ RecInf ∷ RecFix ∷ RecIns ∷ RecDel ∷ RecSet ∷ Batch ∷ Undo ∷ Redo ∷ History ∷ Show ∷ Forget ∷ []
+    RecSel ∷ RecInf ∷ RecFix ∷ RecIns ∷ RecDel ∷ RecSet ∷ Batch
+    ∷ Undo ∷ Redo ∷ Revert ∷ History ∷ Show ∷ Forget ∷ []
 
 -- the words are those after the program's name, and the first of them is a tool
 abbrev pub plain_usage : App

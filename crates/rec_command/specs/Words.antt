@@ -18,7 +18,7 @@ use Rattle.rec_tools.specs.declared.request.Pick.{Pick}
 use Rattle.rec_tools.specs.declared.request.EditRequest.{EditRequest}
 use Rattle.rec_tools.specs.declared.request.EditRequest.TheVariants.{Insert, Replace, Delete, CommentOut, Set, AutoFill}
 use Rattle.rec_tools.specs.declared.request.Request.{Request, Show, Info, Check, Edit, Batch, Undo, Redo, Forget}
-use Rattle.rec_tools.specs.declared.request.Request.{History}
+use Rattle.rec_tools.specs.declared.request.Request.{Revert, History}
 use Rattle.rec_tools.specs.declared.request.Request.{Diff, Log, Preview'}
 use Rattle.rec_tools.specs.Asking.{selection_for}
 use Rattle.rec_files.specs.Paths.{journal_of, AreApart}
@@ -28,7 +28,8 @@ use Rattle.rec_command.specs.declared.args.CommandLine.{CommandLine}
 use Rattle.rec_command.specs.declared.tools.Tool.{Tool}
 use Rattle.rec_command.specs.declared.tools.Tool.TheVariants.{RecSel, RecInf, RecFix, RecIns, RecDel, RecSet}
 use Rattle.rec_command.specs.declared.tools.Tool.TheVariants.{Batch as ByBatch, Undo as ByUndo, Redo as ByRedo}
-use Rattle.rec_command.specs.declared.tools.Tool.TheVariants.{History as ByHistory, Show as ByShow, Forget as ByForget}
+use Rattle.rec_command.specs.declared.tools.Tool.TheVariants.{Revert as ByRevert, History as ByHistory}
+use Rattle.rec_command.specs.declared.tools.Tool.TheVariants.{Show as ByShow, Forget as ByForget}
 use Rattle.rec_command.specs.Usage.{name_of, usage}
 
 -- ---- the options
@@ -165,6 +166,9 @@ Asks tool options (Edit edit force) = AsksEdit tool options edit × (force ≡ h
 Asks tool options (Batch text force) = ⊥
 Asks tool options (Undo number) = (tool ≡ ByUndo) × IsThroughGiven options number
 Asks tool options (Redo number) = (tool ≡ ByRedo) × IsThroughGiven options number
+Asks tool options (Revert number force) =
+    (tool ≡ ByRevert) × IsEditGiven (first_of (codes "n") options) (Some number)
+    × (force ≡ has_flag (codes "force") options)
 Asks tool options (Forget n) =
     (tool ≡ ByForget) × ((digits : Text) × (first_of (codes "n") options ≡ Some digits) × IsNumber 32 digits n)
 Asks tool options History = (tool ≡ ByHistory) × (has_flag (codes "patch") options ≡ false)

@@ -13,6 +13,7 @@ mod numbers;
 mod paths;
 mod previewing;
 mod refusal;
+mod reverting;
 mod selecting;
 mod showing;
 mod usage;
@@ -27,6 +28,7 @@ pub use previewing::batch_request;
 use previewing::or_preview;
 use rec_tools::{Bytes, Fault, Request};
 pub use refusal::Refusal;
+use reverting::revert_order;
 use selecting::{recinf_order, recsel_order};
 use showing::{history_order, show_order};
 use std::alloc::Global;
@@ -122,6 +124,7 @@ fn order_of(alloc: Global, tool: Tool, options: &ArgMatches) -> Result<Order, Re
         Tool::Batch => batch_order(alloc, options),
         Tool::Undo => undo_order(options),
         Tool::Redo => redo_order(options),
+        Tool::Revert => revert_order(options),
         Tool::History => history_order(alloc, options),
         Tool::Show => show_order(alloc, options),
         Tool::Forget => forget_order(options),

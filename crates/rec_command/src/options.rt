@@ -343,6 +343,19 @@ pub static REDO: [Argument; 4] = [
     FILE,
 ];
 
+pub static REVERT: [Argument; 5] = [
+    FORCE,
+    DRY_RUN,
+    JOURNAL,
+    Argument {
+        written: Written::NeededWord,
+        name: "n",
+        takes: Takes::Value("N"),
+        help: "The number of the edit, as recu history FILE prints it",
+    },
+    FILE,
+];
+
 pub static HISTORY: [Argument; 3] = [
     Argument {
         written: Written::Name,

@@ -6,12 +6,12 @@ ghost use Rattle.rec_command.specs.proving.Tools.{usage_in};
 use crate::args::help::{
     BATCH_ABOUT, BATCH_HELP, BATCH_USAGE, FORGET_ABOUT, FORGET_HELP, HISTORY_HELP, RECDEL_ABOUT,
     RECDEL_HELP, RECFIX_ABOUT, RECFIX_HELP, RECINF_HELP, RECINS_ABOUT, RECINS_HELP, RECINS_USAGE,
-    RECSEL_HELP, RECSET_ABOUT, RECSET_HELP, RECSET_USAGE, REDO_HELP, SHOW_ABOUT, SHOW_HELP,
-    SHOW_USAGE, UNDO_HELP,
+    RECSEL_HELP, RECSET_ABOUT, RECSET_HELP, RECSET_USAGE, REDO_HELP, REVERT_ABOUT, REVERT_HELP,
+    SHOW_ABOUT, SHOW_HELP, SHOW_USAGE, UNDO_HELP,
 };
 use crate::options::{
-    Argument, BATCH, FORGET, HISTORY, RECDEL, RECFIX, RECINF, RECINS, RECSEL, RECSET, REDO, SHOW,
-    UNDO,
+    Argument, BATCH, FORGET, HISTORY, RECDEL, RECFIX, RECINF, RECINS, RECSEL, RECSET, REDO, REVERT,
+    SHOW, UNDO,
 };
 
 /// A tool.
@@ -26,13 +26,14 @@ pub enum Tool {
     Batch,
     Undo,
     Redo,
+    Revert,
     History,
     Show,
     Forget,
 }
 
 /// All tools, in the order of help.
-pub static TOOLS: [Tool; 12] = [
+pub static TOOLS: [Tool; 13] = [
     Tool::RecSel,
     Tool::RecInf,
     Tool::RecFix,
@@ -42,6 +43,7 @@ pub static TOOLS: [Tool; 12] = [
     Tool::Batch,
     Tool::Undo,
     Tool::Redo,
+    Tool::Revert,
     Tool::History,
     Tool::Show,
     Tool::Forget,
@@ -141,6 +143,14 @@ impl Tool {
                 long_about: None,
                 usage: None,
                 after_help: REDO_HELP,
+            },
+            Tool::Revert => Usage {
+                name: "revert",
+                arguments: REVERT.as_slice(),
+                about: "Takes one edit back, and leaves the later ones",
+                long_about: Some(REVERT_ABOUT),
+                usage: None,
+                after_help: REVERT_HELP,
             },
             Tool::History => Usage {
                 name: "history",

@@ -1,2 +1,3 @@
+mod LaterLemmas
 mod LineExamples
 mod LineLemmas

@@ -9,8 +9,10 @@ pub struct About<'a> {
     pub journal: &'a str,
     /// The text of the file as it is now. There is none where it can't be read again, as standard input.
     pub text: Option<&'a [u8]>,
-    /// The history, as `history` prints it, where a refusal is about one of its edits.
+    /// The history, as `history` prints it, where a refusal is about one of its edits or about the texts of these.
     pub history: Option<&'a [u8]>,
+    /// The bytes of the journal, where a refusal is about what a revert would leave.
+    pub events: Option<&'a [u8]>,
     /// Whether the file was not found.
     pub is_missing: bool,
 }

@@ -26,7 +26,7 @@ enum Named {
 impl Named {
     fn by(request: &Request) -> Named {
         match request {
-            Request::Undo(_) => Named::Done,
+            Request::Undo(_) | Request::Revert { .. } => Named::Done,
             Request::Redo(_) => Named::Undone,
             _ => Named::Any,
         }

@@ -65,12 +65,23 @@ fn explain_journal(about: &About<'_>, line: usize, said: &mut Explanation) {
     ]);
 }
 
-/// Says what can be done where the file is no longer the text of the last edit.
+/// Says what can be done where the edits no longer lead to the file or from it: whether the file was changed, or the journal, is
+/// seen by the history.
 pub fn explain_drift(about: &About<'_>, request: &Request, said: &mut Explanation) {
-    said.add(&[
-        about.file,
-        ": if the text of the last edit is brought back to the byte, it can be undone; the next edit begins a new history",
-    ]);
+    let Some(history) = about.history else {
+        return;
+    };
+    if history == b"drifted\n".as_slice() {
+        said.add(&[
+            about.file,
+            ": if the text of the last edit is brought back to the byte, it can be undone; the next edit begins a new history",
+        ]);
+    } else {
+        said.add(&[
+            about.journal,
+            ": a text in it was changed; move it away to go on without the history",
+        ]);
+    }
     if matches!(request, Request::Forget(_)) {
         said.add(&[
             about.journal,

@@ -16,6 +16,7 @@ mod notes;
 mod refusal;
 mod reports;
 mod requests;
+mod reverts;
 mod waiting;
 
 pub use about::About;

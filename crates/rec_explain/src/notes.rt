@@ -90,6 +90,10 @@ pub fn done(alloc: Global, reply: &Reply) -> Result<String, AllocError> {
             "redone: edit {number}, {}",
             name_of(*tool)
         ),
+        Reply::Reverted { edit, tool, number } => format!(in alloc;
+            "reverted: edit {edit}, {} (edit {number})",
+            name_of(*tool)
+        ),
         Reply::Forgotten(0) => String::from_str(alloc, "nothing forgotten"),
         Reply::Forgotten(1) => String::from_str(alloc, "1 edit forgotten"),
         Reply::Forgotten(count) => format!(in alloc; "{count} edits forgotten"),
@@ -112,6 +116,9 @@ fn would(alloc: Global, reply: &Reply) -> Result<String, AllocError> {
         Reply::Redone(number, tool) => {
             format!(in alloc; "it would redo edit {number}, {}", name_of(*tool))
         }
+        Reply::Reverted { edit, tool, .. } => {
+            format!(in alloc; "it would revert edit {edit}, {}", name_of(*tool))
+        }
         Reply::Shown | Reply::Violated(_) | Reply::Forgotten(_) => Ok(String::new(alloc)),
     }
 }
@@ -128,6 +135,7 @@ fn records(count: usize) -> &'static str {
     if count == 1 { "record" } else { "records" }
 }
 
-fn name_of(tool: Tool) -> &'static str {
+/// The name of a tool.
+pub fn name_of(tool: Tool) -> &'static str {
     str::from_utf8(tool.name()).unwrap_or("")
 }

@@ -15,6 +15,7 @@ use crate::reports::violations::explain_violations;
 use crate::requests::names::{explain_name, explain_record};
 use crate::requests::types::{explain_deletion, explain_types};
 use crate::requests::words::Words;
+use crate::reverts::later_edits::explain_later;
 use rec_tools::{EditRequest, Fault, Request};
 use std::alloc::Global;
 
@@ -50,6 +51,7 @@ fn explain_fault(
         (Fault::StoreFailed, _) => explain_missing(about, request, said),
         (Fault::Drifted, _) => explain_drift(about, request, said),
         (Fault::NoSuchEdit, _) => explain_numbers(alloc, about, request, said),
+        (Fault::ChangedLater, _) => explain_later(alloc, about, request, said),
         (_, Request::Edit { edit, .. }) => explain_edit(alloc, about, edit, fault, said),
         (_, Request::Batch { text, force }) => {
             explain_batch(alloc, about, text.as_slice(), *force, fault, said);

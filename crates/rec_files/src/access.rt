@@ -29,6 +29,7 @@ pub fn access_of(request: &Request) -> Access
         | Request::Batch { .. }
         | Request::Undo(_)
         | Request::Redo(_)
+        | Request::Revert { .. }
         | Request::Forget(_) => Access::Change,
     }
 }

@@ -138,6 +138,7 @@ impl<'w> Cells<'w> {
             Request::Check
             | Request::Undo(_)
             | Request::Redo(_)
+            | Request::Revert { .. }
             | Request::Forget(_)
             | Request::History
             | Request::Diff(_, _)

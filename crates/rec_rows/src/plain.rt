@@ -29,6 +29,7 @@ fn tool_of(request: &Request) -> &'static str {
         | Request::Check
         | Request::Undo(_)
         | Request::Redo(_)
+        | Request::Revert { .. }
         | Request::Forget(_)
         | Request::History
         | Request::Diff(_, _)
@@ -211,6 +212,34 @@ impl Plain {
         Ok(())
     }
 
+    /// The text after the edit at a place among those that are done.
+    fn text_after(&self, place: usize) -> &[u8] {
+        match self.past.get(place.saturating_add(1)) {
+            Some(later) => later.text.as_slice(),
+            None => self.text.as_slice(),
+        }
+    }
+
+    /// Takes an edit back alone, where the file has one line. Each later edit changes that line, so they are in the way, unless
+    /// all together they leave it as it was.
+    fn revert(&mut self, number: usize) -> Result<(), AllocError> {
+        let Some(place) = self.past.iter().position(|step| step.number == number) else {
+            return self.answers.push_str("26 no such edit\n");
+        };
+        if self.text_after(place) != self.text.as_slice() {
+            return self
+                .answers
+                .push_str("27 a later edit changed the same lines\n");
+        }
+        let Some(step) = self.past.get(place) else {
+            return Ok(());
+        };
+        let tool = step.tool;
+        let before = Bytes::copy_of(self.alloc, step.text.as_slice())?;
+        self.keep(tool, before.as_slice())?;
+        write!(self.answers, "reverted {number}\n")
+    }
+
     /// A home that has the present text alone.
     fn fresh(&self) -> Result<Tester, AllocError> {
         Tester::with(self.alloc, self.text.as_slice(), &[])
@@ -278,6 +307,7 @@ impl Plain {
         match request {
             Request::Undo(through) => Ok(self.undo(*through)?),
             Request::Redo(through) => Ok(self.redo(*through)?),
+            Request::Revert { number, .. } => Ok(self.revert(*number)?),
             Request::History => Ok(self.print_history()?),
             Request::Forget(n) => Ok(self.forget(*n as usize)?),
             Request::Show { .. }

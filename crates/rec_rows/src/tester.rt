@@ -56,6 +56,7 @@ fn say(said: &mut String, answer: &Result<Reply, Fault>) -> Result<(), AllocErro
         Ok(Reply::Unchanged { .. }) => said.push_str("unchanged"),
         Ok(Reply::Undone(number, _)) => write!(said, "undone {number}"),
         Ok(Reply::Redone(number, _)) => write!(said, "redone {number}"),
+        Ok(Reply::Reverted { edit, .. }) => write!(said, "reverted {edit}"),
         Ok(Reply::Forgotten(count)) => write!(said, "forgotten {count}"),
         Err(fault) => write!(said, "{} {fault}", fault.number()),
     }

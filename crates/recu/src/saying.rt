@@ -4,7 +4,7 @@ use rec_explain::{
 };
 use rec_files::{Access, FileHome};
 use rec_select::write_report;
-use rec_tools::{Direction, Fault, Output, Reply, Request, Through, Which};
+use rec_tools::{Bytes, Direction, Fault, Home, Output, Reply, Request, Through, Which};
 use std::io::{IsTerminal, Write};
 use std::rt::Runtime;
 
@@ -47,7 +47,8 @@ pub fn say_more(
         Err(fault) => {
             let text = text_for(rt, home, fault);
             let history = history_for(rt, home, fault);
-            let about = about(home, batch, &text, &history);
+            let events = events_for(rt, home, request, fault);
+            let about = about(home, batch, &text, &history, &events);
             say(rt, &explain(rt.alloc(), &about, request, fault));
         }
     }
@@ -71,7 +72,7 @@ fn explain_reply(
         return;
     }
     let text = home.text_again(rt.alloc());
-    let about = about(home, batch, &text, &None);
+    let about = about(home, batch, &text, &None, &None);
     if is_report && rt.stdout().is_terminal() {
         say(rt, &explain_report(rt.alloc(), &about));
     }
@@ -104,18 +105,26 @@ fn text_for(rt: &HostRuntime, home: &FileHome<'_, HostRuntime>, fault: &Fault) -
     }
 }
 
-/// The history, as `history` prints it, where a refusal is that an edit isn't one of it.
+/// The file and its journal, to be read again.
+fn home_again<'r>(
+    rt: &'r HostRuntime,
+    home: &FileHome<'_, HostRuntime>,
+) -> Option<FileHome<'r, HostRuntime>> {
+    let file = String::from_str(rt.alloc(), home.path(Which::Base)).ok()?;
+    let journal = String::from_str(rt.alloc(), home.path(Which::Journal)).ok()?;
+    Some(FileHome::new(rt, Some(file), Some(journal), Access::Look))
+}
+
+/// The history, as `history` prints it, where a refusal is that an edit isn't one of it, or that texts of edits don't fit.
 fn history_for(
     rt: &HostRuntime,
     home: &FileHome<'_, HostRuntime>,
     fault: &Fault,
 ) -> Option<Vec<u8>> {
-    let Fault::NoSuchEdit = fault else {
+    let (Fault::NoSuchEdit | Fault::Drifted) = fault else {
         return None;
     };
-    let file = String::from_str(rt.alloc(), home.path(Which::Base)).ok()?;
-    let journal = String::from_str(rt.alloc(), home.path(Which::Journal)).ok()?;
-    let mut again = FileHome::new(rt, Some(file), Some(journal), Access::Look);
+    let mut again = home_again(rt, home)?;
     let mut out = Output {
         writer: Vec::new(rt.alloc()),
         failed: 0,
@@ -124,11 +133,35 @@ fn history_for(
     Some(out.writer)
 }
 
+/// The bytes of the journal, where a refusal is about what a revert would leave.
+fn events_for(
+    rt: &HostRuntime,
+    home: &FileHome<'_, HostRuntime>,
+    request: &Request,
+    fault: &Fault,
+) -> Option<Bytes> {
+    match fault {
+        Fault::ChangedLater | Fault::Integrity(_) if is_revert(request) => {
+            home_again(rt, home)?.read(rt.alloc(), Which::Journal).ok()
+        }
+        _ => None,
+    }
+}
+
+fn is_revert(request: &Request) -> bool {
+    match request {
+        Request::Revert { .. } => true,
+        Request::Preview(own, _) => matches!(**own, Request::Revert { .. }),
+        _ => false,
+    }
+}
+
 fn about<'a>(
     home: &'a FileHome<'_, HostRuntime>,
     batch: &'a Option<String>,
     text: &'a Option<Vec<u8>>,
     history: &'a Option<Vec<u8>>,
+    events: &'a Option<Bytes>,
 ) -> About<'a> {
     About {
         batch: batch.as_deref(),
@@ -136,6 +169,14 @@ fn about<'a>(
         journal: home.path(Which::Journal),
         text: text.as_deref(),
         history: history.as_deref(),
+        events: bytes_in(events),
         is_missing: home.is_missing(),
+    }
+}
+
+fn bytes_in(bytes: &Option<Bytes>) -> Option<&[u8]> {
+    match bytes {
+        Some(bytes) => Some(bytes.as_slice()),
+        None => None,
     }
 }

@@ -1,0 +1,10 @@
+use Rattle.std.proofs.Common.{◌≤◌, ◌-◌, length, drop}
+use Rattle.rec_explain.specs.Later.{LeadOn}
+use Rattle.rec_explain.proofs.reverts.in_effect.count_in_effect.Given as goal
+
+-- the edits that are left lead on from the text here
+abbrev pub invariant-loop-count : goal.invariant-loop-count
+invariant-loop-count l = (l.count ≤ length l.edits) × LeadOn l.here (drop l.count l.edits)
+
+abbrev pub decreases-loop-count : goal.decreases-loop-count
+decreases-loop-count l = length l.edits - l.count

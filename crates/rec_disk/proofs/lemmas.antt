@@ -1,0 +1,6 @@
+pub mod Points
+pub mod Places
+pub mod Moments
+pub mod Calls
+pub mod Fresh
+pub mod Memory

@@ -1,0 +1,34 @@
+-- What a stop of the program or a crash of the machine may leave of a disk, and what is seen at a place whatever they
+-- leave.
+use Rattle.std.specs.Prelude.{◌≡◌, ◌⊎◌, ℕ, Bool, true, List, [], ◌∷◌, Option, Some, None, if◌then◌else◌}
+use Rattle.rec_disk.specs.Disk.{State}
+
+abbrev pub SomeOf : {X : Type 0} → (X → Type 0) → List X → Type 0
+SomeOf P [] = ⊥
+SomeOf P (x ∷ xs) = P x ⊎ SomeOf P xs
+
+-- what a stop (false) or a crash (true) may bring back, and the files that stay as they are: a stop loses nothing
+abbrev pub lost : Bool → State → List (List ℕ → Option ℕ)
+lost crash s = if crash then s.olds else []
+
+abbrev pub kept : Bool → State → ℕ → Bool
+kept crash s n = if crash then s.safe n else true
+
+-- at a place may stand then what stands there, or after a crash what stood there since its folder was synced
+abbrev pub MayStand : Bool → State → List ℕ → Option ℕ → Type 0
+MayStand crash s p x = (x ≡ s.at p) ⊎ SomeOf (λ old. x ≡ old p) (lost crash s)
+
+-- what is there then
+pub record Left : Type 0 where
+  pub at : List ℕ → Option ℕ
+  pub bytes : ℕ → List ℕ
+
+-- at each place something by itself, and in a file that isn't synced, after a crash, any bytes
+pub record Leaves (crash : Bool) (s : State) (left : Left) : Type 0 where
+  pub at : (p : List ℕ) → MayStand crash s p (left.at p)
+  pub bytes : (n : ℕ) → kept crash s n ≡ true → left.bytes n ≡ s.bytes n
+
+-- the bytes of a file, if there is one
+abbrev pub shown : (ℕ → List ℕ) → Option ℕ → Option (List ℕ)
+shown bytes None = None
+shown bytes (Some n) = Some (bytes n)

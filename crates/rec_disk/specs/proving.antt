@@ -1,0 +1,3 @@
+-- What serves proofs.
+pub mod Folders
+pub mod Places

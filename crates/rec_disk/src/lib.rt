@@ -1,0 +1,16 @@
+//! A disk, by the calls that are made of it: the disk of the system, a few lines a call onto std, and one in memory.
+//! `specs/` defines what each call does, and what a stop of the program or a crash of the machine may leave.
+#![tactic(auto)]
+
+mod disk;
+mod folders;
+mod host;
+mod log;
+mod memory;
+mod rights;
+
+pub use disk::Disk;
+pub use folders::folder_of;
+pub use host::HostDisk;
+pub use log::Step;
+pub use memory::{Failing, MemoryDisk, MemoryFile, MemoryStatus};

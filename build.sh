@@ -127,7 +127,7 @@ if [ ! -x "$recu" ]; then
     # The explanations take longer than both crates beside them.
     half=$((jobs > 1 ? jobs / 2 : 1))
     beside rec_explain "$half" rec_text rec_sex rec_check rec_select rec_journal rec_edit rec_diff rec_tools
-    jobs=$((jobs > half ? jobs - half : 1)) build rec_files rec_command
+    jobs=$((jobs > half ? jobs - half : 1)) build rec_disk rec_files rec_command
     finish rec_explain
     bring_back
 fi

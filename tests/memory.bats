@@ -65,6 +65,14 @@ is_edited() {
     fast each_allocation is_edited recdel -n 1 db.rec
 }
 
+@test "memory for a deletion through a link" {
+    mkdir start
+    put start/db.rec "$three"
+    put after.rec 'A: 1¶¶C: 3¶'
+    ln -s db.rec link.rec
+    fast each_allocation is_edited recdel -n 1 --journal db.rec.journal link.rec
+}
+
 @test "memory for a deletion in a set with rules" {
     mkdir start
     put start/db.rec '%rec: P¶%key: Id¶%type: N enum a b¶¶Id: 1¶N: a¶¶Id: 2¶# c¶N: b'

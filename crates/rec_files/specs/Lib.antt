@@ -1,6 +1,6 @@
--- what the home of real files promises of paths, rights and leftovers, and what it means
+-- what the home of files promises of paths, of contents on a disk, and of leftovers, and what it means
 pub mod Paths
-pub mod Rights
+pub mod OnDisk
 pub mod Leftovers
 -- what serves proofs
 pub mod proving

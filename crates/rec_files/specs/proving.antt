@@ -1,2 +1,2 @@
 -- What serves proofs.
-pub mod Folders
+pub mod Replacing

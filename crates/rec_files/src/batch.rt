@@ -5,6 +5,7 @@ ghost use Rattle.rec_text.specs.Faults.{IsOkUnlessEither};
 use crate::files::is_out_of_memory;
 use crate::open_file::OpenFile;
 use crate::reading::LIMIT;
+use rec_disk::{Disk, HostDisk};
 use rec_tools::{Bytes, Fault, Which};
 use std::alloc::Global;
 use std::fs::File;
@@ -12,7 +13,7 @@ use std::io;
 use std::rt::Files;
 
 /// The text of a batch. Where its file can't be read, its path and the cause are told on standard error.
-pub fn batch_text<R: Files<File = File> + Eprint + AllocGlobal>(
+pub fn batch_text<R: Files<File = File> + Eprint + AllocGlobal + Copy>(
     rt: &R,
     path: &str,
 ) -> Result<Bytes, Fault>
@@ -30,9 +31,16 @@ pub fn batch_text<R: Files<File = File> + Eprint + AllocGlobal>(
 }
 
 /// The bytes of the file at a path, which nobody may write meanwhile. It isn't locked, since it is only read.
-fn read_at<R: Files<File = File>>(rt: &R, alloc: Global, path: &str) -> io::Result<Vec<u8>>
+fn read_at<R: Files<File = File> + Copy>(rt: &R, alloc: Global, path: &str) -> io::Result<Vec<u8>>
     ensures { IfOk result (λ bytes. length bytes.items ≤ LIMIT) }
 {
-    // Too long, it is told to be so as the file itself is.
-    OpenFile::new(File::open(rt, path)?)?.read(alloc, Which::Base)
+    read_file(&mut HostDisk::new(*rt), alloc, path)
+}
+
+/// Too long, it is told to be so as the file itself is.
+fn read_file<D: Disk>(disk: &mut D, alloc: Global, path: &str) -> io::Result<Vec<u8>>
+    ensures limit { IfOk result (λ bytes. length bytes.items ≤ LIMIT) }
+{
+    let file = disk.open(path)?;
+    OpenFile::new(disk, file)?.read(disk, alloc, Which::Base)
 }

@@ -1,5 +1,8 @@
 //! Why a file could not be read or written, in the program's own words where the system has none.
 
+ghost use Rattle.std.specs.Prelude.{◌≡◌};
+ghost use Rattle.std.specs.IoError.{error_kind};
+
 use rec_tools::Which;
 use std::io::{Error, ErrorKind};
 
@@ -26,7 +29,6 @@ pub enum Cause {
 }
 
 impl From<Error> for Cause {
-    ghost use Rattle.std.specs.Prelude.{◌≡◌};
     ghost use Rattle.rec_files.specs.declared.failure.Cause.TheVariants.{Itself};
 
     ghost from_gives = { λ error cause. cause ≡ Itself error };
@@ -36,7 +38,9 @@ impl From<Error> for Cause {
     }
 }
 
-pub fn not_regular() -> Error {
+pub fn not_regular() -> Error
+    ensures other { error_kind result ≡ ErrorKind.Other }
+{
     Error::other("not a regular file")
 }
 
@@ -61,15 +65,6 @@ pub fn too_long(which: Which) -> Error {
 /// A content is replaced that was not read.
 pub fn unread() -> Error {
     Error::other("not read before")
-}
-
-pub fn mount_point() -> Error {
-    Error::other("a mount point, which can't be replaced")
-}
-
-/// The system's words for what only the owner may do.
-pub fn not_permitted() -> Error {
-    Error::from_raw_os_error(1)
 }
 
 /// A link leads to nothing.
@@ -130,13 +125,4 @@ pub fn of_removing(error: Error) -> Cause {
 /// The numbers of the system's errors EACCES and EROFS: in this folder no name can be made or removed.
 pub fn is_of_folder(error: &Error) -> bool {
     matches!(error.raw_os_error(), Some(13 | 30))
-}
-
-/// The link's target is no text that can be followed.
-pub fn of_link(error: Error) -> Error {
-    if error.kind() == ErrorKind::InvalidFilename && error.raw_os_error().is_none() {
-        Error::other("a symbolic link with a target that is not UTF-8")
-    } else {
-        error
-    }
 }

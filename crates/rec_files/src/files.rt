@@ -1,55 +1,63 @@
-//! The home of real files. A request that only looks reads them as they stand; one that may write locks them.
-//! What opens files stands in `target`, `open_file`, `working_file`, `rights` and `links`; standard input is read here alone.
-ghost use Rattle.std.specs.Prelude.{◌≡◌, ◌≤◌, ◌↔◌, [], length, IsTrue, IsNone, None, Some, Ok, OnOk, IsSomeAnd, option_map, string_bytes, unwrap_or};
+//! The home of files on a disk. A request that only looks reads them as they stand; one that may write locks them.
+//! What opens files stands in `target`, `open_file`, `working_file` and `links`, what replaces them in `replacing`; standard
+//! input is read here alone.
+ghost use Rattle.std.specs.Prelude.{◌≡◌, ◌≤◌, ◌↔◌, [], length, IsTrue, IsNone, None, Some, Ok, IfOk, IfErr, OnOk};
+ghost use Rattle.std.specs.Prelude.{IsSomeAnd, option_map, string_bytes, unwrap_or};
 ghost use Rattle.std.specs.IoError.{error_kind, raw_os_error};
 ghost use Rattle.rec_text.specs.Sink.{one_more};
+ghost use Rattle.rec_disk.specs.Disk.{Told};
+ghost use Rattle.rec_disk.specs.Lasting.{shown};
 ghost use Rattle.rec_tools.specs.Home.{CountsFailure};
+ghost use Rattle.rec_files.specs.OnDisk.{or_empty, contents_on, places_by, IsReadOf, IsHomeCall};
 ghost use Rattle.rec_files.specs.Paths.{path_of};
 
 use crate::access::Access;
 use crate::both::Both;
 use crate::failure::{Cause, Failure, not_regular, one_file};
-use crate::links::folder_of;
-use crate::open_file::are_one;
-use crate::reading::{LIMIT, read_rest, read_whole};
+use crate::reading::{read_rest, read_whole};
+use crate::replacing::Paths;
 use crate::target::may_be_missing;
+use rec_disk::{Disk, HostDisk, folder_of};
 use rec_tools::{Bytes, Fault, Home, Which};
 use std::alloc::Global;
 use std::fs::File;
+use std::io;
 use std::io::{Error, ErrorKind};
 use std::rt::Files;
-use std::{fs, io};
 
-/// A file and its journal on disk. The last failure is kept, for `explain`.
+/// A file and its journal on a disk. The last failure is kept, for `explain`.
 #[derive(Drop)]
-pub struct FileHome<'r, R> {
+pub struct DiskHome<'r, R, D: Disk + Drop> {
     rt: &'r R,
+    disk: D,
     /// Standard input, where it is missing.
     file: Option<String>,
     journal: String,
     access: Access,
     /// What is locked, where the request may write.
-    both: Both,
+    both: Both<D>,
     failed: u64,
     failure: Option<Failure>,
 }
 
-impl<'r, R: Files<File = File> + Input + AllocGlobal> FileHome<'r, R> {
+impl<'r, R: Input + AllocGlobal, D: Disk + Drop> DiskHome<'r, R, D> {
     /// Where no file is given, standard input is read in its place, once. A journal that isn't given has the empty path,
     /// which names nothing.
     pub fn new(
         rt: &'r R,
+        disk: D,
         file: Option<String>,
         journal: Option<String>,
         access: Access,
-    ) -> FileHome<'r, R>
+    ) -> DiskHome<'r, R, D>
         ensures file { result.file ≡ file }
         ensures journal { string_bytes result.journal ≡ unwrap_or (option_map string_bytes journal) [] }
         ensures access { result.access ≡ access }
         ensures sound { result.failed ≡ 0 }
     {
-        FileHome {
+        DiskHome {
             rt,
+            disk,
             file,
             journal: journal.unwrap_or(String::new(rt.alloc())),
             access,
@@ -111,21 +119,18 @@ impl<'r, R: Files<File = File> + Input + AllocGlobal> FileHome<'r, R> {
         self.both.close();
     }
 
-    /// The bytes of the file as they are now, read without a lock to explain a refusal. What is no regular file, as
-    /// standard input, can't be read again.
-    pub fn text_again(&self, alloc: Global) -> Option<Vec<u8>>
-        ensures once { IsNone self.now.file → IsNone result }
+    /// The disk, when all is done.
+    pub fn into_disk(self) -> D
+        ensures { result ≡ self.entry.disk }
     {
-        let path = self.file.as_ref()?.as_str();
-        if !fs::metadata(self.rt, path).ok()?.is_file() {
-            return None;
-        }
-        self.look_at(alloc, Which::Base).ok()
+        let DiskHome { disk, .. } = self;
+        disk
     }
 
     /// The path of the file or of its journal; standard input has none.
     pub fn path(&self, which: Which) -> &str
-        ensures path { result.now ≡ path_of (option_map string_bytes self.now.file) (string_bytes self.now.journal) which }
+        ensures path { result.now ≡ path_of (option_map string_bytes self.now.file)
+            (string_bytes self.now.journal) which }
     {
         path_in(&self.file, &self.journal, which)
     }
@@ -135,6 +140,8 @@ impl<'r, R: Files<File = File> + Input + AllocGlobal> FileHome<'r, R> {
         ensures counted { self.old.failed ≤ self.new.failed }
         ensures once { self.new.failed ≡ one_more self.old.failed }
         ensures noted { self.new.failure ≡ Some failure }
+        ensures paths { (self.new.file ≡ self.old.file) × (self.new.journal ≡ self.old.journal) }
+        ensures same { D.story self.new.disk ≡ D.story self.old.disk }
     {
         self.failed = self.failed.saturating_add(1);
         self.failure = Some(failure);
@@ -142,60 +149,53 @@ impl<'r, R: Files<File = File> + Input + AllocGlobal> FileHome<'r, R> {
     }
 
     fn bytes_of(&mut self, alloc: Global, which: Which) -> io::Result<Vec<u8>>
-        ensures { self.new.failed ≡ self.old.failed }
+        ensures kept { self.new.failed ≡ self.old.failed }
+        ensures paths { (self.new.file ≡ self.old.file) × (self.new.journal ≡ self.old.journal) }
+        ensures same { D.story self.new.disk ≡ D.story self.old.disk }
+        ensures read { IfOk result (λ bytes. IsReadOf D.leads (option_map string_bytes self.old.file)
+            (string_bytes self.old.journal) (D.story self.old.disk) which bytes.items) }
     {
         if which == Which::Base && self.file.is_none() {
             return read_rest(which, Vec::new(alloc), self.rt.reader());
         }
-        match self.access {
-            Access::Look => self.look_at(alloc, which),
-            Access::Change => self.take(alloc, which),
-        }
-    }
-
-    /// Opens, locks and reads.
-    fn take(&mut self, alloc: Global, which: Which) -> io::Result<Vec<u8>>
-        ensures { self.new.failed ≡ self.old.failed }
-    {
         let path = path_in(&self.file, &self.journal, which);
-        self.both.read(self.rt, alloc, which, path)
-    }
-
-    /// Reads without a lock.
-    fn look_at(&self, alloc: Global, which: Which) -> io::Result<Vec<u8>> {
-        let path = self.path(which);
-        match open(self.rt, which, path) {
-            Ok(file) if self.is_the_file(which, &file)? => Err(one_file()),
-            Ok(file) => read_whole(alloc, which, &file),
-            Err(error) if which == Which::Journal && may_be_missing(path, &error) => {
-                Ok(Vec::new(alloc))
-            }
-            Err(error) => Err(error),
-        }
-    }
-
-    /// Whether the journal is the file itself, under another path.
-    fn is_the_file(&self, which: Which, file: &File) -> io::Result<bool> {
-        match (which, &self.file) {
-            (Which::Journal, Some(path)) => Ok(are_one(
-                &fs::metadata(self.rt, path.as_str())?,
-                &file.metadata()?,
-            )),
-            _ => Ok(false),
+        match self.access {
+            Access::Look => look_at(&mut self.disk, alloc, which, path, &self.file),
+            Access::Change => self.both.read(&mut self.disk, alloc, which, path),
         }
     }
 }
 
-impl<'r, R: Files<File = File> + Input + AllocGlobal> Home for FileHome<'r, R> {
-    ghost contents = { λ home. None };
+impl<'r, R: Files<File = File> + Input + AllocGlobal + Copy> DiskHome<'r, R, HostDisk<R>> {
+    /// The bytes of the file as they are now, read without a lock to explain a refusal. What is no regular file, as
+    /// standard input, can't be read again.
+    pub fn text_again(&self, alloc: Global) -> Option<Vec<u8>>
+        ensures once { IsNone self.now.file → IsNone result }
+    {
+        let path = self.file.as_ref()?.as_str();
+        let mut disk = HostDisk::new(*self.rt);
+        if !HostDisk::<R>::is_regular(&disk.status_after_links(path).ok()?) {
+            return None;
+        }
+        look_at(&mut disk, alloc, Which::Base, path, &self.file).ok()
+    }
+}
+
+impl<'r, R: Input + AllocGlobal, D: Disk + Drop> Home for DiskHome<'r, R, D> {
+    ghost contents = { λ home. contents_on (places_by D.leads (option_map string_bytes home.file)
+        (string_bytes home.journal))
+        (D.story home.disk) };
 
     ghost failure_count = { λ home. home.failed };
 
-    ghost goes = { λ old call new. CountsFailure old.failed call new.failed };
+    ghost goes = { λ old call new. IsHomeCall D.folder D.syncs
+        (places_by D.leads (option_map string_bytes old.file) (string_bytes old.journal))
+        (places_by D.leads (option_map string_bytes new.file) (string_bytes new.journal))
+        (D.story old.disk) call (D.story new.disk) old.failed new.failed };
 
-    ghost follows = { λ old new call h. tt };
+    ghost follows = { λ old new call h. h.follows };
 
-    ghost counts = { λ old new call h. h };
+    ghost counts = { λ old new call h. h.counts };
 
     fn read(&mut self, alloc: Global, which: Which) -> Result<Bytes, Fault> {
         match self.bytes_of(alloc, which) {
@@ -209,7 +209,14 @@ impl<'r, R: Files<File = File> + Input + AllocGlobal> Home for FileHome<'r, R> {
     }
 
     fn put(&mut self, journal: &[u8], file: Option<&[u8]>) -> Result<(), Fault> {
-        match self.both.put(self.rt, journal, file) {
+        let paths = Paths {
+            file: path_in(&self.file, &self.journal, Which::Base),
+            journal: self.journal.as_str(),
+        };
+        match self
+            .both
+            .put(&mut self.disk, self.rt.alloc(), paths, journal, file)
+        {
             Ok(()) => Ok(()),
             Err(failure) => Err(self.fail(failure)),
         }
@@ -251,10 +258,60 @@ fn done_unsynced(which: Which) -> &'static str {
     }
 }
 
+/// Reads without a lock. A journal that is missing is empty.
+fn look_at<D: Disk>(
+    disk: &mut D,
+    alloc: Global,
+    which: Which,
+    path: &str,
+    other: &Option<String>,
+) -> io::Result<Vec<u8>>
+    ensures same { D.story disk.new ≡ D.story disk.old }
+    ensures whole { IfOk result (λ bytes. Told (D.story disk.old)
+        (λ s. bytes.items ≡ or_empty (shown s.bytes (s.at (D.leads path.now))))) }
+{
+    match open(disk, which, path) {
+        Ok(file) => {
+            if is_the_file(disk, which, other, &file)? {
+                return Err(one_file());
+            }
+            read_whole(disk, alloc, which, &file)
+        }
+        Err(error) if which == Which::Journal && may_be_missing(path, &error) => {
+            Ok(Vec::new(alloc))
+        }
+        Err(error) => Err(error),
+    }
+}
+
 /// Opens a file to read it. A journal is one of recu's own files, so it is no pipe that keeps a reader waiting.
-fn open<R: Files<File = File>>(rt: &R, which: Which, path: &str) -> io::Result<File> {
-    if which == Which::Journal && !fs::metadata(rt, path)?.is_file() {
+fn open<D: Disk>(disk: &mut D, which: Which, path: &str) -> io::Result<D::File>
+    ensures same { D.story disk.new ≡ D.story disk.old }
+    ensures opened { IfOk result (λ file. Told (D.story disk.old)
+        (λ s. s.at (D.leads path.now) ≡ Some (D.number file))) }
+    ensures missing { IfErr result (λ error. error_kind error ≡ ErrorKind.NotFound
+        → Told (D.story disk.old) (λ s. s.at (D.leads path.now) ≡ None)) }
+{
+    if which == Which::Journal && !D::is_regular(&disk.status_after_links(path)?) {
         return Err(not_regular());
     }
-    File::open(rt, path)
+    disk.open(path)
+}
+
+/// Whether the journal is the file itself, under another path.
+fn is_the_file<D: Disk>(
+    disk: &mut D,
+    which: Which,
+    path: &Option<String>,
+    file: &D::File,
+) -> io::Result<bool>
+    ensures same { D.story disk.new ≡ D.story disk.old }
+{
+    match (which, path) {
+        (Which::Journal, Some(path)) => Ok(D::are_one(
+            &disk.status_after_links(path.as_str())?,
+            &disk.status_of(file)?,
+        )),
+        _ => Ok(false),
+    }
 }

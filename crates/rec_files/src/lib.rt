@@ -1,6 +1,6 @@
-//! The home of real files: a file and its journal on disk, with the paths under which they stand, and the text of a batch; and
+//! The home of files: a file and its journal on a disk, with the paths under which they stand, and the text of a batch; and
 //! standard output.
-//! `docs/journal.md` says how they are replaced, and `specs/` defines their paths and rights.
+//! `docs/journal.md` says how they are replaced, and `specs/` defines their paths, and what a stop of the program or a crash of the machine leaves of them.
 #![tactic(auto)]
 
 mod access;
@@ -14,13 +14,14 @@ mod open_file;
 mod output;
 mod paths;
 mod reading;
-mod rights;
+mod replacing;
+mod running;
 mod target;
 mod working_file;
-mod zeros;
 
 pub use access::{Access, access_of};
 pub use batch::batch_text;
-pub use files::FileHome;
+pub use files::DiskHome;
 pub use output::{StandardOutput, explain_output, room_for};
 pub use paths::{are_apart, journal_path};
+pub use running::run;

@@ -1,66 +1,66 @@
 //! A file as it was read, locked to the end of the program's work, and whether it still stands at its path.
-ghost use Rattle.std.specs.Prelude.{◌≡◌, ◌≢◌, ◌≤◌, length, IsTrue, None, Some, Ok, Err, IfOk, IfErr};
-ghost use Rattle.std.specs.Fs.{metadata_len};
+ghost use Rattle.std.specs.Prelude.{◌≡◌, ◌≢◌, ◌≤◌, length, None, Some, Ok, Err, false, IfOk, IfErr, IfSome};
 ghost use Rattle.std.specs.IoError.{error_kind};
+ghost use Rattle.rec_disk.specs.Disk.{Told};
 
 use crate::failure::{changed, locked, one_file};
 use crate::reading::{LIMIT, read_whole};
+use rec_disk::Disk;
 use rec_tools::Which;
 use std::alloc::Global;
-use std::fs::{File, Metadata, OpenOptions, TryLockError};
-use std::io::{ErrorKind, Seek, SeekFrom};
-use std::os::unix::fs::MetadataExt;
-use std::rt::Files;
-use std::{fs, io};
+use std::io;
+use std::io::ErrorKind;
 
 /// How often a file is opened again that another program replaces meanwhile.
 const TRIES: u32 = 16;
 
-/// An open file, and what the system said of it before it was read.
+/// An open file, and what the disk said of it before it was read.
 #[derive(Drop)]
-pub struct OpenFile {
-    pub file: File,
-    pub seen: Metadata,
+pub struct OpenFile<D: Disk> {
+    pub file: D::File,
+    pub seen: D::Status,
 }
 
-impl OpenFile {
-    pub fn new(file: File) -> io::Result<OpenFile> {
-        let seen = file.metadata()?;
+impl<D: Disk> OpenFile<D> {
+    pub fn new(disk: &mut D, file: D::File) -> io::Result<OpenFile<D>>
+        ensures same { D.story disk.new ≡ D.story disk.old }
+        ensures file { IfOk result (λ opened. opened.file ≡ file) }
+    {
+        let seen = disk.status_of(&file)?;
         Ok(OpenFile { file, seen })
     }
 
     /// Its bytes, where nobody writes it meanwhile.
-    pub fn read(&self, alloc: Global, which: Which) -> io::Result<Vec<u8>>
-        ensures { IfOk result (λ bytes. length bytes.items ≤ LIMIT) }
+    pub fn read(&self, disk: &mut D, alloc: Global, which: Which) -> io::Result<Vec<u8>>
+        ensures same { D.story disk.new ≡ D.story disk.old }
+        ensures limit { IfOk result (λ bytes. length bytes.items ≤ LIMIT) }
+        ensures whole { IfOk result (λ bytes. Told (D.story disk.old)
+            (λ s. bytes.items ≡ s.bytes (D.number self.now.file))) }
     {
-        let bytes = read_whole(alloc, which, &self.file)?;
-        if self.is_disturbed()? {
+        let bytes = read_whole(disk, alloc, which, &self.file)?;
+        if self.is_disturbed(disk)? {
             return Err(changed());
         }
         Ok(bytes)
     }
 
-    /// Its bytes, where it was read before.
-    pub fn read_again(&self, alloc: Global, which: Which) -> io::Result<Vec<u8>> {
-        let mut file = &self.file;
-        file.seek(SeekFrom::Start(0))?;
-        self.read(alloc, which)
-    }
-
     /// Somebody wrote the open file since it was opened. A pipe or a device changes as it is read.
-    fn is_disturbed(&self) -> io::Result<bool> {
-        Ok(self.seen.is_file() && !is_unchanged(&self.seen, &self.file.metadata()?))
+    fn is_disturbed(&self, disk: &mut D) -> io::Result<bool>
+        ensures same { D.story disk.new ≡ D.story disk.old }
+    {
+        Ok(D::is_regular(&self.seen) && !D::is_unchanged(&self.seen, &disk.status_of(&self.file)?))
     }
 }
 
 /// Opens and locks the file at a path, which is no link, unless it is the other file of the two.
-pub fn lock<R: Files<File = File>>(
-    rt: &R,
-    path: &str,
-    other: Option<&Metadata>,
-) -> io::Result<OpenFile> {
+pub fn lock<D: Disk>(disk: &mut D, path: &str, other: Option<&D::Status>) -> io::Result<OpenFile<D>>
+    ensures same { D.story disk.new ≡ D.story disk.old }
+    ensures opened { IfOk result (λ opened. Told (D.story disk.old)
+        (λ s. s.at (D.leads path.now) ≡ Some (D.number opened.file))) }
+    ensures free { IfOk result (λ opened. Told (D.story disk.old) (λ s. s.held (D.number opened.file) ≡ false)) }
+{
     for _ in 0..TRIES {
-        if let Some(file) = try_to_lock(rt, path, other)? {
+        if let Some(file) = try_to_lock(disk, path, other)? {
             return Ok(file);
         }
     }
@@ -68,60 +68,65 @@ pub fn lock<R: Files<File = File>>(
 }
 
 /// One try, or nothing where the path no longer leads to what was opened.
-fn try_to_lock<R: Files<File = File>>(
-    rt: &R,
+fn try_to_lock<D: Disk>(
+    disk: &mut D,
     path: &str,
-    other: Option<&Metadata>,
-) -> io::Result<Option<OpenFile>> {
-    let file = open_to_lock(rt, path)?;
-    if is_that(&file, other)? {
+    other: Option<&D::Status>,
+) -> io::Result<Option<OpenFile<D>>>
+    ensures same { D.story disk.new ≡ D.story disk.old }
+    ensures opened { IfOk result (λ tried. IfSome tried (λ opened. Told (D.story disk.old)
+        (λ s. s.at (D.leads path.now) ≡ Some (D.number opened.file)))) }
+    ensures free { IfOk result (λ tried. IfSome tried (λ opened. Told (D.story disk.old)
+        (λ s. s.held (D.number opened.file) ≡ false))) }
+{
+    let file = open_to_lock(disk, path)?;
+    if is_that(disk, &file, other)? {
         return Err(one_file());
     }
-    if !gets_locked(&file)? {
+    if !disk.lock(&file)? {
         return Err(locked());
     }
-    if leads_to(rt, path, &file)? {
-        Ok(Some(OpenFile::new(file)?))
+    if leads_to(disk, path, &file)? {
+        Ok(Some(OpenFile::new(disk, file)?))
     } else {
         Ok(None)
     }
 }
 
 /// Some network file systems lock only what is open for writing.
-fn open_to_lock<R: Files<File = File>>(rt: &R, path: &str) -> io::Result<File> {
-    match OpenOptions::new().read(true).write(true).open(rt, path) {
+fn open_to_lock<D: Disk>(disk: &mut D, path: &str) -> io::Result<D::File>
+    ensures same { D.story disk.new ≡ D.story disk.old }
+    ensures opened { IfOk result (λ file. Told (D.story disk.old)
+        (λ s. s.at (D.leads path.now) ≡ Some (D.number file))) }
+{
+    match disk.open_to_write(path) {
         Ok(file) => Ok(file),
-        Err(_) => File::open(rt, path),
+        Err(_) => disk.open(path),
     }
 }
 
-/// Locks a file, and says whether that was possible: another program may have locked it.
-pub fn gets_locked(file: &File) -> io::Result<bool> {
-    match file.try_lock() {
-        Ok(()) => Ok(true),
-        Err(TryLockError::WouldBlock) => Ok(false),
-        Err(TryLockError::Error(error)) => Err(error),
-    }
-}
-
-fn is_that(file: &File, other: Option<&Metadata>) -> io::Result<bool> {
+fn is_that<D: Disk>(disk: &mut D, file: &D::File, other: Option<&D::Status>) -> io::Result<bool>
+    ensures same { D.story disk.new ≡ D.story disk.old }
+{
     match other {
-        Some(other) => Ok(are_one(other, &file.metadata()?)),
+        Some(other) => Ok(D::are_one(other, &disk.status_of(file)?)),
         None => Ok(false),
     }
 }
 
 /// Whether the name, which is no link then, leads to the open file.
-pub fn leads_to(rt: &impl Files, name: &str, file: &File) -> io::Result<bool> {
-    let own = file.metadata()?;
-    match if_there(fs::symlink_metadata(rt, name))? {
-        Some(there) => Ok(are_one(&there, &own)),
+pub fn leads_to<D: Disk>(disk: &mut D, name: &str, file: &D::File) -> io::Result<bool>
+    ensures same { D.story disk.new ≡ D.story disk.old }
+{
+    let own = disk.status_of(file)?;
+    match if_there(disk.status(name))? {
+        Some(there) => Ok(D::are_one(&there, &own)),
         None => Ok(false),
     }
 }
 
 /// What a look found, or that nothing is there.
-pub fn if_there(look: io::Result<Metadata>) -> io::Result<Option<Metadata>>
+pub fn if_there<T>(look: io::Result<T>) -> io::Result<Option<T>>
     ensures found { IfOk look (λ there. result ≡ Ok (Some there)) }
     ensures missing { IfErr look (λ error. error_kind error ≡ ErrorKind.NotFound → result ≡ Ok None) }
     ensures failed { IfErr look (λ error. error_kind error ≢ ErrorKind.NotFound → result ≡ Err error) }
@@ -131,20 +136,4 @@ pub fn if_there(look: io::Result<Metadata>) -> io::Result<Option<Metadata>>
         Err(error) if error.kind() == ErrorKind::NotFound => Ok(None),
         Err(error) => Err(error),
     }
-}
-
-pub fn are_one(first: &Metadata, second: &Metadata) -> bool {
-    first.ino() == second.ino() && first.dev() == second.dev()
-}
-
-/// Whether it is one file, which nobody wrote between the two looks.
-pub fn is_unchanged(before: &Metadata, now: &Metadata) -> bool
-    ensures { IsTrue result → metadata_len before.now ≡ metadata_len now.now }
-{
-    are_one(before, now)
-        && before.len() == now.len()
-        && before.mtime() == now.mtime()
-        && before.mtime_nsec() == now.mtime_nsec()
-        && before.ctime() == now.ctime()
-        && before.ctime_nsec() == now.ctime_nsec()
 }

@@ -1,25 +1,35 @@
 //! Files and other readers are read to their end, within a limit.
 ghost use Rattle.std.specs.Prelude.{◌≡◌, ◌≤◌, ◌++◌, length, IfOk, IfSome};
+ghost use Rattle.rec_disk.specs.Disk.{Told};
 
 use crate::failure::too_long;
+use rec_disk::Disk;
 use rec_tools::Which;
 use std::alloc::Global;
-use std::fs::File;
 use std::io;
 use std::io::Read;
 
 /// How many bytes a file may have.
 pub const LIMIT: u64 = 1_073_741_824;
 
-pub fn read_whole(alloc: Global, which: Which, file: &File) -> io::Result<Vec<u8>>
-    ensures { IfOk result (λ bytes. length bytes.items ≤ LIMIT) }
+pub fn read_whole<D: Disk>(
+    disk: &mut D,
+    alloc: Global,
+    which: Which,
+    file: &D::File,
+) -> io::Result<Vec<u8>>
+    ensures same { D.story disk.new ≡ D.story disk.old }
+    ensures limit { IfOk result (λ bytes. length bytes.items ≤ LIMIT) }
+    ensures whole { IfOk result (λ bytes. Told (D.story disk.old) (λ s. bytes.items ≡ s.bytes (D.number file.now))) }
 {
-    let length = file.metadata()?.len();
-    if length > LIMIT {
+    if D::length(&disk.status_of(file)?) > LIMIT {
         return Err(too_long(which));
     }
-    // With one byte to spare the end is seen without growing.
-    read_rest(which, Vec::with_capacity(alloc, length as usize + 1)?, file)
+    let bytes = disk.read(alloc, file, LIMIT)?;
+    if bytes.len() as u64 > LIMIT {
+        return Err(too_long(which));
+    }
+    Ok(bytes)
 }
 
 /// Adds to these bytes all that a reader still has.

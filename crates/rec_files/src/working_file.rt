@@ -1,22 +1,26 @@
 //! Files under the working names: made and locked.
-ghost use Rattle.std.specs.Prelude.{◌≡◌};
+ghost use Rattle.std.specs.Prelude.{◌≡◌, ◌≢◌, List, ℕ, Some, IfOk};
+ghost use Rattle.rec_disk.specs.Disk.{Told, AtAnyMoment};
+ghost use Rattle.rec_disk.specs.proving.Places.{Avoids, Spares};
 
 use crate::failure::{Cause, in_use, is_of_folder};
-use crate::open_file::{gets_locked, leads_to};
-use std::fs::{File, OpenOptions};
+use crate::open_file::leads_to;
+use rec_disk::Disk;
 use std::io;
 use std::io::{Error, ErrorKind};
-use std::os::unix::fs::OpenOptionsExt;
-use std::rt::Files;
 
 /// Makes a file under a working name, at which nothing may stand.
-pub fn create<R: Files<File = File>>(rt: &R, name: &str) -> Result<File, Cause> {
-    OpenOptions::new()
-        .write(true)
-        .create_new(true)
-        .mode(0o600)
-        .open(rt, name)
-        .map_err(of_making)
+pub fn create<D: Disk>(disk: &mut D, name: &str) -> Result<D::File, Cause>
+    ensures at { IfOk result (λ file. Told (D.story disk.new) (λ t. t.at (D.place name.now) ≡ Some (D.number file))) }
+    ensures avoids { (p : List ℕ) → p ≢ D.place name.now
+        → IfOk result (λ file. Told (D.story disk.new) (λ t. Avoids t p (D.number file))) }
+    ensures spares { (p : List ℕ) → p ≢ D.place name.now
+        → AtAnyMoment (D.story disk.old) (D.story disk.new) (Spares p) }
+{
+    match disk.make(name) {
+        Ok(file) => Ok(file),
+        Err(error) => Err(of_making(error)),
+    }
 }
 
 /// Where the folder is missing, and where another program came first, the path itself is told.
@@ -30,6 +34,8 @@ fn of_making(error: Error) -> Cause {
 }
 
 /// Locks a file, and says whether that was possible and the name leads to it. Who has such a file locked is its writer.
-pub fn lock_own(rt: &impl Files, name: &str, file: &File) -> io::Result<bool> {
-    Ok(gets_locked(file)? && leads_to(rt, name, file)?)
+pub fn lock_own<D: Disk>(disk: &mut D, name: &str, file: &D::File) -> io::Result<bool>
+    ensures same { D.story disk.new ≡ D.story disk.old }
+{
+    Ok(disk.lock(file)? && leads_to(disk, name, file)?)
 }

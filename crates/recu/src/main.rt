@@ -4,14 +4,18 @@
 mod saying;
 
 use rec_command::{CommandLine, Order, Refusal, batch_request, finish, parse, words};
+use rec_disk::HostDisk;
 use rec_files::{
-    Access, FileHome, StandardOutput, access_of, batch_text, explain_output, room_for,
+    Access, DiskHome, StandardOutput, access_of, batch_text, explain_output, room_for,
 };
 use rec_tools::{Direction, Fault, Output, Reply, Request, run_through};
 use saying::{say_how_far, say_more, say_waiting};
 use std::io;
 use std::process::ExitCode;
 use std::rt::Runtime;
+
+/// The home of files on the disk of the system.
+pub type FileHome<'r> = DiskHome<'r, HostRuntime, HostDisk<HostRuntime>>;
 
 fn main(rt: HostRuntime) -> ExitCode {
     let answer = answer(&rt);
@@ -69,7 +73,7 @@ fn carry_out(
     if file.is_none() {
         say_waiting(rt, request);
     }
-    let mut home = FileHome::new(rt, file, journal, access);
+    let mut home = DiskHome::new(rt, HostDisk::new(*rt), file, journal, access);
     let answer = match *request {
         Request::Undo(Some(number)) => move_through(rt, &mut home, Direction::Backward, number),
         Request::Redo(Some(number)) => move_through(rt, &mut home, Direction::Forward, number),
@@ -83,7 +87,7 @@ fn carry_out(
 /// Where another program came in between, and they didn't come to it, they are refused too.
 fn move_through(
     rt: &HostRuntime,
-    home: &mut FileHome<'_, HostRuntime>,
+    home: &mut FileHome<'_>,
     direction: Direction,
     number: usize,
 ) -> Result<Reply, Fault> {
@@ -104,14 +108,14 @@ fn move_through(
 /// The answer to a request, once what it prints is out and the files are closed.
 fn run_with(
     rt: &HostRuntime,
-    home: &mut FileHome<'_, HostRuntime>,
+    home: &mut FileHome<'_>,
     request: &Request,
     access: Access,
 ) -> Result<Reply, Fault> {
     let Ok(mut out) = StandardOutput::new(rt.alloc(), room_for(access), rt.stdout()) else {
         return Err(Fault::OutOfMemory);
     };
-    let answer = match rec_tools::run(rt.alloc(), home, &mut out, request) {
+    let answer = match rec_files::run(rt.alloc(), home, &mut out, request) {
         Ok(reply) => out.finish().map(|()| reply),
         Err(fault) => Err(fault),
     };

@@ -1,8 +1,10 @@
 //! What is said on standard error beside the line of a refusal.
+use crate::FileHome;
+use rec_disk::HostDisk;
 use rec_explain::{
     About, explain, explain_done, explain_endings, explain_report, explain_through, explain_waiting,
 };
-use rec_files::{Access, FileHome};
+use rec_files::{Access, DiskHome};
 use rec_select::write_report;
 use rec_tools::{Bytes, Direction, Fault, Home, Output, Reply, Request, Through, Which};
 use std::io::{IsTerminal, Write};
@@ -18,7 +20,7 @@ pub fn say_waiting(rt: &HostRuntime, request: &Request) {
 /// Says how far moves to the edit of a number went: on a terminal, and always where they didn't come to it.
 pub fn say_how_far(
     rt: &HostRuntime,
-    home: &FileHome<'_, HostRuntime>,
+    home: &FileHome<'_>,
     direction: Direction,
     number: usize,
     through: &Through,
@@ -34,7 +36,7 @@ pub fn say_how_far(
 /// Says on standard error what a refusal is about, or what is said of a report and of what was done.
 pub fn say_more(
     rt: &HostRuntime,
-    home: &FileHome<'_, HostRuntime>,
+    home: &FileHome<'_>,
     request: &Request,
     batch: &Option<String>,
     answer: &Result<Reply, Fault>,
@@ -62,7 +64,7 @@ fn say(rt: &HostRuntime, lines: &[u8]) {
 /// a terminal alone.
 fn explain_reply(
     rt: &HostRuntime,
-    home: &FileHome<'_, HostRuntime>,
+    home: &FileHome<'_>,
     request: &Request,
     batch: &Option<String>,
     reply: &Reply,
@@ -80,7 +82,7 @@ fn explain_reply(
 }
 
 /// Says what was done: on a terminal, and that earlier edits can't be undone any more always.
-fn say_done(rt: &HostRuntime, home: &FileHome<'_, HostRuntime>, request: &Request, reply: &Reply) {
+fn say_done(rt: &HostRuntime, home: &FileHome<'_>, request: &Request, reply: &Reply) {
     let file = home.path(Which::Base);
     let on_terminal = rt.stderr().is_terminal();
     say(
@@ -90,7 +92,7 @@ fn say_done(rt: &HostRuntime, home: &FileHome<'_, HostRuntime>, request: &Reques
 }
 
 /// Prints the report for which an edit was refused, and gives the text of the file, where a refusal can be about it.
-fn text_for(rt: &HostRuntime, home: &FileHome<'_, HostRuntime>, fault: &Fault) -> Option<Vec<u8>> {
+fn text_for(rt: &HostRuntime, home: &FileHome<'_>, fault: &Fault) -> Option<Vec<u8>> {
     match fault {
         Fault::OutOfMemory | Fault::StoreFailed => None,
         Fault::Integrity(violations) => {
@@ -106,21 +108,20 @@ fn text_for(rt: &HostRuntime, home: &FileHome<'_, HostRuntime>, fault: &Fault) -
 }
 
 /// The file and its journal, to be read again.
-fn home_again<'r>(
-    rt: &'r HostRuntime,
-    home: &FileHome<'_, HostRuntime>,
-) -> Option<FileHome<'r, HostRuntime>> {
+fn home_again<'r>(rt: &'r HostRuntime, home: &FileHome<'_>) -> Option<FileHome<'r>> {
     let file = String::from_str(rt.alloc(), home.path(Which::Base)).ok()?;
     let journal = String::from_str(rt.alloc(), home.path(Which::Journal)).ok()?;
-    Some(FileHome::new(rt, Some(file), Some(journal), Access::Look))
+    Some(DiskHome::new(
+        rt,
+        HostDisk::new(*rt),
+        Some(file),
+        Some(journal),
+        Access::Look,
+    ))
 }
 
 /// The history, as `history` prints it, where a refusal is that an edit isn't one of it, or that texts of edits don't fit.
-fn history_for(
-    rt: &HostRuntime,
-    home: &FileHome<'_, HostRuntime>,
-    fault: &Fault,
-) -> Option<Vec<u8>> {
+fn history_for(rt: &HostRuntime, home: &FileHome<'_>, fault: &Fault) -> Option<Vec<u8>> {
     let (Fault::NoSuchEdit | Fault::Drifted) = fault else {
         return None;
     };
@@ -136,7 +137,7 @@ fn history_for(
 /// The bytes of the journal, where a refusal is about what a revert would leave.
 fn events_for(
     rt: &HostRuntime,
-    home: &FileHome<'_, HostRuntime>,
+    home: &FileHome<'_>,
     request: &Request,
     fault: &Fault,
 ) -> Option<Bytes> {
@@ -157,7 +158,7 @@ fn is_revert(request: &Request) -> bool {
 }
 
 fn about<'a>(
-    home: &'a FileHome<'_, HostRuntime>,
+    home: &'a FileHome<'_>,
     batch: &'a Option<String>,
     text: &'a Option<Vec<u8>>,
     history: &'a Option<Vec<u8>>,

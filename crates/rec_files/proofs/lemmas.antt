@@ -1,0 +1,7 @@
+pub mod Leftovers
+pub mod Placing
+pub mod Holding
+pub mod Steps
+pub mod Replacing
+pub mod Home
+pub mod Requests

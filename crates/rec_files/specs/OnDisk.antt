@@ -1,0 +1,130 @@
+-- What a file and its journal hold on a disk, and what a stop of the program or a crash of the machine leaves of them.
+use Rattle.std.specs.Prelude.{◌≡◌, ◌≤◌, ℕ, Bool, true, List, [], length, take, Option, Some, None, IfSome}
+use Rattle.rec_disk.specs.Disk.{State, Story, Told, AtAnyMoment}
+use Rattle.rec_disk.specs.Lasting.{Left, Leaves, shown}
+use Rattle.rec_tools.specs.Home.{Contents, Write, Call, got, lacked, unread, put_all, put_some, written, left_by}
+use Rattle.rec_tools.specs.Home.{TellsOf}
+use Rattle.rec_tools.specs.Home.{CountsFailure, content_of}
+use Rattle.rec_tools.specs.declared.home.Which.{Which}
+use Rattle.rec_journal.specs.History.{IsRegular}
+use Rattle.rec_tools.specs.Requests.{Asked}
+use Rattle.rec_tools.specs.Machine.{State as Machine, IsOldOrNext, Stands}
+
+-- the places to which the paths of the two lead
+pub record Places : Type 0 where
+  pub file : List ℕ
+  pub journal : List ℕ
+
+-- a journal that is missing reads as empty
+abbrev pub or_empty : Option (List ℕ) → List ℕ
+or_empty None = []
+or_empty (Some bytes) = bytes
+
+-- the contents, where a file stands
+abbrev pub with_file : Option (List ℕ) → List ℕ → Option Contents
+with_file None journal = None
+with_file (Some bytes) journal = Some (record { file = bytes; journal = journal })
+
+abbrev pub contents_at : Places → State → Option Contents
+contents_at p s = with_file (shown s.bytes (s.at p.file)) (or_empty (shown s.bytes (s.at p.journal)))
+
+-- standard input has no place
+abbrev pub contents_on : Option Places → Option Story → Option Contents
+contents_on None story = None
+contents_on (Some p) None = None
+contents_on (Some p) (Some story) = contents_at p story.now
+
+abbrev pub places_by : (List ℕ → List ℕ) → Option (List ℕ) → List ℕ → Option Places
+places_by leads None journal = None
+places_by leads (Some file) journal = Some (record { file = leads file; journal = leads journal })
+
+-- ---- stops and crashes
+
+-- these contents are read of what is left
+pub record Shows (p : Places) (left : Left) (c : Contents) : Type 0 where
+  pub file : shown left.bytes (left.at p.file) ≡ Some c.file
+  pub journal : or_empty (shown left.bytes (left.at p.journal)) ≡ c.journal
+
+-- whatever is left, these contents are read
+abbrev pub Holds : Bool → Places → Contents → State → Type 0
+Holds crash p c s = (left : Left) → Leaves crash s left → Shows p left c
+
+-- whatever is left, the first of the writes are made: none, some or all of them
+abbrev pub IsSecure : Bool → Places → Contents → List Write → State → Type 0
+IsSecure crash p c writes s =
+    (left : Left) → Leaves crash s left → (k : ℕ) × (k ≤ length writes) × Shows p left (written c (take k writes))
+
+-- a crash is only spoken of where the folders of both can be synced
+abbrev pub CanSync : (List ℕ → List ℕ) → (List ℕ → Bool) → Bool → Places → Type 0
+CanSync folder syncs crash p =
+    crash ≡ true → (syncs (folder p.file) ≡ true) × (syncs (folder p.journal) ≡ true)
+
+-- ---- calls
+
+-- at any moment of a put a stop or a crash leaves the first of its writes made
+abbrev pub SecurePut : (List ℕ → List ℕ) → (List ℕ → Bool) → Places → List Write → Option Story → Option Story → Type 0
+SecurePut folder syncs p writes old new = (crash : Bool) (c : Contents) → CanSync folder syncs crash p
+    → Told old (Holds crash p c) → AtAnyMoment old new (λ s u. IsSecure crash p c writes u)
+
+-- and after it any later one leaves all of them
+abbrev pub LastingPut : (List ℕ → List ℕ) → (List ℕ → Bool) → Places → List Write → Option Story → Option Story → Type 0
+LastingPut folder syncs p writes old new = (crash : Bool) (c : Contents) → CanSync folder syncs crash p
+    → Told old (Holds crash p c) → Told new (Holds crash p (written c writes))
+
+abbrev pub writes_of : Call → List Write
+writes_of (got which bytes) = []
+writes_of (lacked which) = []
+writes_of (unread which) = []
+writes_of (put_all writes) = writes
+writes_of (put_some writes k) = writes
+
+-- all of its writes were made, if it has any
+abbrev pub IsWhole : Call → Type 0
+IsWhole (got which bytes) = Unit {0}
+IsWhole (lacked which) = Unit {0}
+IsWhole (unread which) = Unit {0}
+IsWhole (put_all writes) = Unit {0}
+IsWhole (put_some writes k) = ⊥
+
+-- at any moment of a call a stop or a crash leaves the first of its writes made, and after a whole one all of them
+pub record IsCallAt (folder : List ℕ → List ℕ) (syncs : List ℕ → Bool) (p : Places) (old : Option Story) (call : Call)
+    (new : Option Story) : Type 0 where
+  pub any_moment : SecurePut folder syncs p (writes_of call) old new
+  pub lasts : IsWhole call → LastingPut folder syncs p (writes_of call) old new
+
+-- The home's paths stay; a call tells what stands there, and leaves what its writes say; and it is one at their
+-- places. Of
+-- standard input nothing is said.
+pub record IsHomeCall (folder : List ℕ → List ℕ) (syncs : List ℕ → Bool) (places now : Option Places)
+    (old : Option Story)
+    (call : Call) (new : Option Story) (failures since : ℕ) : Type 0 where
+  pub same : now ≡ places
+  pub counts : CountsFailure failures call since
+  pub follows : IfSome (contents_on places old)
+      (λ c. TellsOf c call × (contents_on now new ≡ Some (left_by c call)))
+  pub calls : IfSome places (λ p. IsCallAt folder syncs p old call new)
+
+-- these bytes are a content, where the contents are told
+abbrev pub IsReadOf : (List ℕ → List ℕ) → Option (List ℕ) → List ℕ → Option Story → Which → List ℕ → Type 0
+IsReadOf leads file journal story which bytes =
+    IfSome (contents_on (places_by leads file journal) story) (λ c. bytes ≡ content_of c which)
+
+-- ---- a request
+
+-- whatever is left, it stands for the state as it was or for the machine's next
+abbrev pub StandsThen : Bool → Places → Machine → Asked → State → Type 0
+StandsThen crash p s asked u = (left : Left) → Leaves crash u left
+    → (t : Machine) × IsOldOrNext s asked t × ((c : Contents) × Shows p left c × Stands c t)
+
+-- From contents that are there whatever is left, and that stand for a state: at any moment of the request whatever is
+-- left
+-- stands for that state or for the next.
+abbrev pub SecureRequest : (List ℕ → List ℕ) → (List ℕ → Bool) → Places → Asked → Option Story → Option Story → Type 0
+SecureRequest folder syncs p asked old new = (crash : Bool) (c : Contents) (s : Machine) → CanSync folder syncs crash p
+    → Told old (Holds crash p c) → Stands c s → IsRegular c.journal
+    → AtAnyMoment old new (λ _ u. StandsThen crash p s asked u)
+
+-- what is there after the request is there whatever is left
+abbrev pub LastingRequest : (List ℕ → List ℕ) → (List ℕ → Bool) → Places → Option Story → Option Story → Type 0
+LastingRequest folder syncs p old new = (crash : Bool) (c : Contents) → CanSync folder syncs crash p
+    → Told old (Holds crash p c) → Told new (λ u. (d : Contents) × Holds crash p d u)

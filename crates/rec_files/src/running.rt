@@ -1,0 +1,45 @@
+//! Requests on a file and its journal on a disk.
+ghost use Rattle.std.specs.Prelude.{◌≡◌, ◌⊎◌, List, IfErr, IfSome, IsErrOf, option_map, string_bytes};
+ghost use Rattle.rec_tools.specs.Home.{Call};
+ghost use Rattle.rec_tools.specs.Steps.{IsRefusal};
+ghost use Rattle.rec_tools.specs.Printouts.{Printed, WentOut};
+ghost use Rattle.rec_tools.specs.Requests.{asked_of, IsSilent};
+ghost use Rattle.rec_tools.specs.Attempts.{Attempts};
+ghost use Rattle.rec_files.specs.OnDisk.{IsHomeCall, places_by, SecureRequest, LastingRequest};
+
+use crate::files::DiskHome;
+use rec_disk::Disk;
+use rec_tools::{Fault, Reply, Request, Sink, stops_are_steps};
+use std::alloc::Global;
+
+/// Runs one request on a home on a disk: what `run` of `rec_tools` does.
+pub fn run<'r, R: Input + AllocGlobal, D: Disk + Drop, S: Sink>(
+    alloc: Global,
+    home: &mut DiskHome<'r, R, D>,
+    out: &mut S,
+    request: &Request,
+) -> Result<Reply, Fault>
+    // Its calls, what went out, and that both and the answer are what the request comes to.
+    ensures attempts { (calls : List Call) × (p : Printed) × WentOut S.contents S.failure_count out.old out.new p
+        × Attempts (λ old call new. IsHomeCall D.folder D.syncs
+        (places_by D.leads (option_map string_bytes old.file) (string_bytes old.journal))
+        (places_by D.leads (option_map string_bytes new.file) (string_bytes new.journal))
+        (D.story old.disk) call (D.story new.disk) old.failed new.failed)
+        home.old home.new (asked_of request.now) result calls p }
+    ensures refusals { IfErr result IsRefusal }
+    ensures silent { IsSilent (asked_of request.now) → out.new ≡ out.old }
+
+    // Stop the program, or cut the power, at any moment: what is on the disk stands for the state before the request or for
+    // the next.
+    ensures any_moment { IfSome (places_by D.leads (option_map string_bytes home.old.file)
+        (string_bytes home.old.journal))
+        (λ p. SecureRequest D.folder D.syncs p (asked_of request.now) (D.story home.old.disk) (D.story home.new.disk)) }
+
+    // After any answer but that a store failed, what is on the disk is there for good.
+    ensures lasting { IfSome (places_by D.leads (option_map string_bytes home.old.file) (string_bytes home.old.journal))
+        (λ p. IsErrOf result Fault.StoreFailed ⊎ LastingRequest D.folder D.syncs p (D.story home.old.disk)
+        (D.story home.new.disk)) }
+{
+    stops_are_steps();
+    rec_tools::run(alloc, home, out, request)
+}

@@ -147,8 +147,9 @@ quick() {
     unproved rec_calls &
     wait -n
     unproved recu
+    unproved rec_disks
     wait
-    for crate in rec_rows rec_calls recu; do compare "$crate"; done
+    for crate in rec_rows rec_calls rec_disks recu; do compare "$crate"; done
     echo 'test.sh: nothing was proved: the sources read and build, and pass these cases. bash test.sh proves what they promise'
 }
 

@@ -20,6 +20,8 @@ SAID = "tests/data/calls.rows"
 HEAD = ["| Call | Clauses | Refusals | After a refusal | Memory |", "|---|---|---|---|---|"]
 # A public function of which a body can be wrong needs a wrong body.
 Function = collections.namedtuple("Function", "path name first last is_public may_be_wrong")
+# A disk that tells no story: its trait's clauses all speak of one, so no body of it is wrong.
+TELLS_NOTHING = ("HostDisk",)
 # What is said of a call; where it is empty, what is said of most.
 Said = collections.namedtuple("Said", "refusals after memory note")
 MOST = Said("", "", "", "")
@@ -89,12 +91,20 @@ def sources_of(crate):
     return sorted(glob.glob(f"crates/{crate}/src/**/*.rt", recursive=True))
 
 
-def functions_of(path, exported, own_traits):
+def unpromised_in(text):
+    """The functions of traits of the crate's own that have no clause there."""
+    traits = re.findall(r"^(?:pub |pub\(crate\) )?trait (\w+)(.*?)^}", text, re.M | re.S)
+    functions = [(trait, *found) for trait, block in traits for found in re.findall(r"^ *fn (\w+)([^;]*);", block, re.M)]
+    return {(trait, name) for trait, name, rest in functions if "ensures" not in rest}
+
+
+def functions_of(path, exported, own_traits, unpromised):
     """The functions, as rt fmt writes them: a body ends at a brace right below the function's first letter.
 
     Public are an exported function, a function of an exported trait, and of an exported type what is `pub` or of a
     trait. The others are no concern of callers. A law has the body {}, a trait may leave the body to others, and a
-    function outside of traits that has no `ensures` promises nothing: no body of these is wrong.
+    function outside of traits that has no `ensures` promises nothing, nor does one of a trait that has none there, or of
+    a type that tells nothing: no body of these is wrong.
     """
     trait = owner = ""
     name = None
@@ -107,7 +117,8 @@ def functions_of(path, exported, own_traits):
         begin = re.match(r"( *)(pub |pub\(crate\) )?(?:const )?fn (\w+)", line)
         if begin:
             indent, mark, name = begin.groups()
-            first, has_begun, promises = at, False, bool(indent and trait)
+            first, has_begun = at, False
+            promises = bool(indent and trait) and owner not in TELLS_NOTHING and (trait, name) not in unpromised
         if name is None:
             continue
         promises = promises or not has_begun and line.lstrip().startswith("ensures ")
@@ -127,8 +138,10 @@ def functions_of(path, exported, own_traits):
 
 def all_functions_of(crate):
     exported, sources = exports_of(crate), sources_of(crate)
-    own_traits = re.findall(r"^(?:pub |pub\(crate\) )?trait (\w+)", "\n".join(read(path) for path in sources), re.M)
-    return [one for path in sources for one in functions_of(path, exported, own_traits)]
+    text = "\n".join(map(read, sources))
+    own_traits = re.findall(r"^(?:pub |pub\(crate\) )?trait (\w+)", text, re.M)
+    unpromised = unpromised_in(text)
+    return [one for path in sources for one in functions_of(path, exported, own_traits, unpromised)]
 
 
 def covered(crate):

@@ -38,8 +38,7 @@ made s p n = record s {
   at = put s.at p (Some n);
   olds = s.at ∷ s.olds;
   bytes = set s.bytes n [];
-  safe = set s.safe n
-      true;
+  safe = set s.safe n true;
 }
 
 abbrev pub wrote : State → ℕ → List ℕ → State

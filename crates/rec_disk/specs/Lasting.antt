@@ -32,3 +32,11 @@ pub record Leaves (crash : Bool) (s : State) (left : Left) : Type 0 where
 abbrev pub shown : (ℕ → List ℕ) → Option ℕ → Option (List ℕ)
 shown bytes None = None
 shown bytes (Some n) = Some (bytes n)
+
+-- From the one state to the other nothing came to the place, and no file there was written or became less safe: what a
+-- stop or a crash may leave there is what it might have left before.
+pub record Spares (p : List ℕ) (s t : State) : Type 0 where
+  pub at : t.at p ≡ s.at p
+  pub may : (x : Option ℕ) → MayStand true t p x → MayStand true s p x
+  pub bytes : (n : ℕ) → MayStand true t p (Some n) → t.bytes n ≡ s.bytes n
+  pub safe : (n : ℕ) → MayStand true t p (Some n) → s.safe n ≡ true → t.safe n ≡ true

@@ -30,8 +30,10 @@ pub trait Disk {
 
     ghost syncs: { List ℕ → Bool };
 
-    /// The number of an open file, and what a status says, where it says it.
+    /// The number of an open file, whether the file of a number is a regular one, and what a status says, where it says it.
     ghost number: { Self.File → ℕ };
+
+    ghost regular: { ℕ → Bool };
 
     ghost tells: { Self.Status → Option Look };
 
@@ -69,7 +71,9 @@ pub trait Disk {
     fn is_link(status: &Self::Status) -> bool
         ensures { SaysOf (λ look. result ≡ look.is_link) (tells status.now) };
 
-    fn is_regular(status: &Self::Status) -> bool;
+    /// Whether it is a regular file: no folder, pipe, device or link.
+    fn is_regular(status: &Self::Status) -> bool
+        ensures { SaysOf (λ look. result ≡ regular look.number) (tells status.now) };
 
     /// How many names the file has.
     fn names(status: &Self::Status) -> u64;

@@ -1,5 +1,5 @@
 //! The disk of the system. It tells no story: each call is one of the system's.
-ghost use Rattle.std.specs.Prelude.{[], None, false};
+ghost use Rattle.std.specs.Prelude.{[], None, false, true};
 
 use crate::disk::Disk;
 use crate::folders::folder_of;
@@ -39,6 +39,8 @@ impl<R: Files<File = File>> Disk for HostDisk<R> {
     ghost syncs = { λ folder. false };
 
     ghost number = { λ file. 0 };
+
+    ghost regular = { λ number. true };
 
     ghost tells = { λ status. None };
 

@@ -1,4 +1,5 @@
 pub mod Leftovers
+pub mod Removing
 pub mod Placing
 pub mod Holding
 pub mod Steps

@@ -1,6 +1,6 @@
--- what the home of files promises of paths, of contents on a disk, and of leftovers, and what it means
+-- what the home of files promises of paths, of leftovers, and of contents on a disk, and what it means
 pub mod Paths
-pub mod OnDisk
 pub mod Leftovers
+pub mod OnDisk
 -- what serves proofs
 pub mod proving

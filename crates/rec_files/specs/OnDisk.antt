@@ -1,19 +1,38 @@
 -- What a file and its journal hold on a disk, and what a stop of the program or a crash of the machine leaves of them.
-use Rattle.std.specs.Prelude.{◌≡◌, ◌≤◌, ℕ, Bool, true, List, [], length, take, Option, Some, None, IfSome}
+use Rattle.std.specs.Prelude.{◌≡◌, ◌≢◌, ◌⊎◌, ◌≤◌, ℕ, Bool, true, false, List, [], length, take, Option, Some, None}
+use Rattle.std.specs.Prelude.{IfSome}
+use Rattle.std.specs.Prelude.{IsSome}
 use Rattle.rec_disk.specs.Disk.{State, Story, Told, AtAnyMoment}
-use Rattle.rec_disk.specs.Lasting.{Left, Leaves, shown}
+use Rattle.rec_disk.specs.Lasting.{Left, Leaves, Spares, shown}
 use Rattle.rec_tools.specs.Home.{Contents, Write, Call, got, lacked, unread, put_all, put_some, written, left_by}
-use Rattle.rec_tools.specs.Home.{TellsOf}
-use Rattle.rec_tools.specs.Home.{CountsFailure, content_of}
+use Rattle.rec_tools.specs.Home.{TellsOf, CountsFailure, content_of}
 use Rattle.rec_tools.specs.declared.home.Which.{Which}
 use Rattle.rec_journal.specs.History.{IsRegular}
 use Rattle.rec_tools.specs.Requests.{Asked}
 use Rattle.rec_tools.specs.Machine.{State as Machine, IsOldOrNext, Stands}
+use Rattle.rec_files.specs.Paths.{working_name}
+use Rattle.rec_files.specs.Leftovers.{IsLeftJournal, IsLeftText}
 
 -- the places to which the paths of the two lead
 pub record Places : Type 0 where
   pub file : List ℕ
   pub journal : List ℕ
+
+-- with those of the names under which they are written
+pub record Sites : Type 0 where
+  pub file : List ℕ
+  pub journal : List ℕ
+  pub new_file : List ℕ
+  pub new_journal : List ℕ
+
+-- by the paths of both
+abbrev pub sites_of : (List ℕ → List ℕ) → List ℕ → List ℕ → Sites
+sites_of place file journal = record {
+  file = place file;
+  journal = place journal;
+  new_file = place (working_name file);
+  new_journal = place (working_name journal);
+}
 
 -- a journal that is missing reads as empty
 abbrev pub or_empty : Option (List ℕ) → List ℕ
@@ -59,6 +78,27 @@ abbrev pub CanSync : (List ℕ → List ℕ) → (List ℕ → Bool) → Bool �
 CanSync folder syncs crash p =
     crash ≡ true → (syncs (folder p.file) ≡ true) × (syncs (folder p.journal) ≡ true)
 
+-- ---- what a put may touch
+
+-- what stands under the two working names, if anything does, no other program has locked, and a put that was stopped
+-- left it: a new journal; and beside one any file, or else the text of an edit whose journal is in place
+pub record AreLeft (sites : Sites) (s : State) : Type 0 where
+  pub journal : IfSome (s.at sites.new_journal) (λ n. (s.held n ≡ false) × IsLeftJournal (s.bytes n))
+  pub file : IfSome (s.at sites.new_file) (λ n. (s.held n ≡ false)
+      × (IsSome (s.at sites.new_journal) ⊎ IsLeftText s.bytes (s.at sites.file) n (s.at sites.journal)))
+
+-- all places but the four stay as they are
+abbrev pub SparesStrangers : Sites → Option Story → Option Story → Type 0
+SparesStrangers sites old new = (p : List ℕ) → p ≢ sites.file → p ≢ sites.journal → p ≢ sites.new_file
+    → p ≢ sites.new_journal → AtAnyMoment old new (Spares p)
+
+-- nothing is changed; or nothing but the file and its journal and what stands under their working names, where nobody's
+-- file stood before
+abbrev pub TouchesOwn : (List ℕ → List ℕ) → Places → Option Story → Option Story → Type 0
+TouchesOwn place p old new = (new ≡ old)
+    ⊎ ((file journal : List ℕ) × (place file ≡ p.file) × (place journal ≡ p.journal)
+    × Told old (AreLeft (sites_of place file journal)) × SparesStrangers (sites_of place file journal) old new)
+
 -- ---- calls
 
 -- at any moment of a put a stop or a crash leaves the first of its writes made
@@ -86,23 +126,24 @@ IsWhole (unread which) = Unit {0}
 IsWhole (put_all writes) = Unit {0}
 IsWhole (put_some writes k) = ⊥
 
--- at any moment of a call a stop or a crash leaves the first of its writes made, and after a whole one all of them
-pub record IsCallAt (folder : List ℕ → List ℕ) (syncs : List ℕ → Bool) (p : Places) (old : Option Story) (call : Call)
-    (new : Option Story) : Type 0 where
+-- At any moment of a call a stop or a crash leaves the first of its writes made, and after a whole one all of them; a
+-- read changes nothing, and no call touches what is somebody else's.
+pub record IsCallAt (place folder : List ℕ → List ℕ) (syncs : List ℕ → Bool) (p : Places) (old : Option Story)
+    (call : Call) (new : Option Story) : Type 0 where
   pub any_moment : SecurePut folder syncs p (writes_of call) old new
   pub lasts : IsWhole call → LastingPut folder syncs p (writes_of call) old new
+  pub still : writes_of call ≡ [] → new ≡ old
+  pub touches : TouchesOwn place p old new
 
 -- The home's paths stay; a call tells what stands there, and leaves what its writes say; and it is one at their
--- places. Of
--- standard input nothing is said.
-pub record IsHomeCall (folder : List ℕ → List ℕ) (syncs : List ℕ → Bool) (places now : Option Places)
-    (old : Option Story)
-    (call : Call) (new : Option Story) (failures since : ℕ) : Type 0 where
+-- places. Of standard input nothing is said.
+pub record IsHomeCall (place folder : List ℕ → List ℕ) (syncs : List ℕ → Bool) (places now : Option Places)
+    (old : Option Story) (call : Call) (new : Option Story) (failures since : ℕ) : Type 0 where
   pub same : now ≡ places
   pub counts : CountsFailure failures call since
   pub follows : IfSome (contents_on places old)
       (λ c. TellsOf c call × (contents_on now new ≡ Some (left_by c call)))
-  pub calls : IfSome places (λ p. IsCallAt folder syncs p old call new)
+  pub calls : IfSome places (λ p. IsCallAt place folder syncs p old call new)
 
 -- these bytes are a content, where the contents are told
 abbrev pub IsReadOf : (List ℕ → List ℕ) → Option (List ℕ) → List ℕ → Option Story → Which → List ℕ → Type 0
@@ -117,8 +158,7 @@ StandsThen crash p s asked u = (left : Left) → Leaves crash u left
     → (t : Machine) × IsOldOrNext s asked t × ((c : Contents) × Shows p left c × Stands c t)
 
 -- From contents that are there whatever is left, and that stand for a state: at any moment of the request whatever is
--- left
--- stands for that state or for the next.
+-- left stands for that state or for the next.
 abbrev pub SecureRequest : (List ℕ → List ℕ) → (List ℕ → Bool) → Places → Asked → Option Story → Option Story → Type 0
 SecureRequest folder syncs p asked old new = (crash : Bool) (c : Contents) (s : Machine) → CanSync folder syncs crash p
     → Told old (Holds crash p c) → Stands c s → IsRegular c.journal

@@ -188,7 +188,7 @@ impl<'r, R: Input + AllocGlobal, D: Disk + Drop> Home for DiskHome<'r, R, D> {
 
     ghost failure_count = { λ home. home.failed };
 
-    ghost goes = { λ old call new. IsHomeCall D.folder D.syncs
+    ghost goes = { λ old call new. IsHomeCall D.place D.folder D.syncs
         (places_by D.leads (option_map string_bytes old.file) (string_bytes old.journal))
         (places_by D.leads (option_map string_bytes new.file) (string_bytes new.journal))
         (D.story old.disk) call (D.story new.disk) old.failed new.failed };

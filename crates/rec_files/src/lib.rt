@@ -10,6 +10,7 @@ mod failure;
 mod files;
 mod leftover;
 mod links;
+mod names;
 mod open_file;
 mod output;
 mod paths;

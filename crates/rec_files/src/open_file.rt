@@ -1,7 +1,8 @@
 //! A file as it was read, locked to the end of the program's work, and whether it still stands at its path.
-ghost use Rattle.std.specs.Prelude.{◌≡◌, ◌≢◌, ◌≤◌, length, None, Some, Ok, Err, false, IfOk, IfErr, IfSome};
+ghost use Rattle.std.specs.Prelude.{◌≡◌, ◌≢◌, ◌≤◌, length, None, Some, Ok, Err, true, false, IfOk, IfErr, IfSome};
+ghost use Rattle.std.specs.Prelude.{IsSomeAnd};
 ghost use Rattle.std.specs.IoError.{error_kind};
-ghost use Rattle.rec_disk.specs.Disk.{Told};
+ghost use Rattle.rec_disk.specs.Disk.{Told, IsLookFor};
 
 use crate::failure::{changed, locked, one_file};
 use crate::reading::{LIMIT, read_whole};
@@ -25,6 +26,8 @@ impl<D: Disk> OpenFile<D> {
     pub fn new(disk: &mut D, file: D::File) -> io::Result<OpenFile<D>>
         ensures same { D.story disk.new ≡ D.story disk.old }
         ensures file { IfOk result (λ opened. opened.file ≡ file) }
+        ensures seen { IfOk result (λ opened. Told (D.story disk.old)
+            (λ s. IsSomeAnd (D.tells opened.seen) (IsLookFor s (D.number opened.file)))) }
     {
         let seen = disk.status_of(&file)?;
         Ok(OpenFile { file, seen })
@@ -57,6 +60,8 @@ pub fn lock<D: Disk>(disk: &mut D, path: &str, other: Option<&D::Status>) -> io:
     ensures same { D.story disk.new ≡ D.story disk.old }
     ensures opened { IfOk result (λ opened. Told (D.story disk.old)
         (λ s. s.at (D.leads path.now) ≡ Some (D.number opened.file))) }
+    ensures seen { IfOk result (λ opened. Told (D.story disk.old)
+        (λ s. IsSomeAnd (D.tells opened.seen) (IsLookFor s (D.number opened.file)))) }
     ensures free { IfOk result (λ opened. Told (D.story disk.old) (λ s. s.held (D.number opened.file) ≡ false)) }
 {
     for _ in 0..TRIES {
@@ -76,6 +81,8 @@ fn try_to_lock<D: Disk>(
     ensures same { D.story disk.new ≡ D.story disk.old }
     ensures opened { IfOk result (λ tried. IfSome tried (λ opened. Told (D.story disk.old)
         (λ s. s.at (D.leads path.now) ≡ Some (D.number opened.file)))) }
+    ensures seen { IfOk result (λ tried. IfSome tried (λ opened. Told (D.story disk.old)
+        (λ s. IsSomeAnd (D.tells opened.seen) (IsLookFor s (D.number opened.file))))) }
     ensures free { IfOk result (λ tried. IfSome tried (λ opened. Told (D.story disk.old)
         (λ s. s.held (D.number opened.file) ≡ false))) }
 {
@@ -117,6 +124,8 @@ fn is_that<D: Disk>(disk: &mut D, file: &D::File, other: Option<&D::Status>) -> 
 /// Whether the name, which is no link then, leads to the open file.
 pub fn leads_to<D: Disk>(disk: &mut D, name: &str, file: &D::File) -> io::Result<bool>
     ensures same { D.story disk.new ≡ D.story disk.old }
+    ensures leads { IfOk result (λ leads. leads ≡ true
+        → Told (D.story disk.old) (λ s. s.at (D.place name.now) ≡ Some (D.number file.now))) }
 {
     let own = disk.status_of(file)?;
     match if_there(disk.status(name))? {

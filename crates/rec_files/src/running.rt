@@ -5,7 +5,7 @@ ghost use Rattle.rec_tools.specs.Steps.{IsRefusal};
 ghost use Rattle.rec_tools.specs.Printouts.{Printed, WentOut};
 ghost use Rattle.rec_tools.specs.Requests.{asked_of, IsSilent};
 ghost use Rattle.rec_tools.specs.Attempts.{Attempts};
-ghost use Rattle.rec_files.specs.OnDisk.{IsHomeCall, places_by, SecureRequest, LastingRequest};
+ghost use Rattle.rec_files.specs.OnDisk.{IsHomeCall, places_by, SecureRequest, LastingRequest, TouchesOwn};
 
 use crate::files::DiskHome;
 use rec_disk::Disk;
@@ -21,7 +21,7 @@ pub fn run<'r, R: Input + AllocGlobal, D: Disk + Drop, S: Sink>(
 ) -> Result<Reply, Fault>
     // Its calls, what went out, and that both and the answer are what the request comes to.
     ensures attempts { (calls : List Call) × (p : Printed) × WentOut S.contents S.failure_count out.old out.new p
-        × Attempts (λ old call new. IsHomeCall D.folder D.syncs
+        × Attempts (λ old call new. IsHomeCall D.place D.folder D.syncs
         (places_by D.leads (option_map string_bytes old.file) (string_bytes old.journal))
         (places_by D.leads (option_map string_bytes new.file) (string_bytes new.journal))
         (D.story old.disk) call (D.story new.disk) old.failed new.failed)
@@ -39,6 +39,10 @@ pub fn run<'r, R: Input + AllocGlobal, D: Disk + Drop, S: Sink>(
     ensures lasting { IfSome (places_by D.leads (option_map string_bytes home.old.file) (string_bytes home.old.journal))
         (λ p. IsErrOf result Fault.StoreFailed ⊎ LastingRequest D.folder D.syncs p (D.story home.old.disk)
         (D.story home.new.disk)) }
+
+    // Nothing but the file, its journal and what stands under their working names is touched, and nobody's file there.
+    ensures touches { IfSome (places_by D.leads (option_map string_bytes home.old.file) (string_bytes home.old.journal))
+        (λ p. TouchesOwn D.place p (D.story home.old.disk) (D.story home.new.disk)) }
 {
     stops_are_steps();
     rec_tools::run(alloc, home, out, request)

@@ -1,8 +1,8 @@
 -- What single calls spare at a place, and what they leave.
 use Rattle.std.proofs.Common.{◌≡◌, ◌≢◌, ◌⊎◌, ◌∙◌, ℕ, Bool, true, false, List, Option, Some, Result, Ok, Err, refl, sym, subst}
 use Rattle.rec_disk.specs.Disk.{State, Story, Goes, Told, AtAnyMoment, IsMake, IsWrite, IsSync, IsRemove, IsFolderSync}
-use Rattle.rec_disk.specs.proving.Places.{Avoids, Spares, IsUnmoved}
-use Rattle.rec_disk.specs.Lasting.{SomeOf}
+use Rattle.rec_disk.specs.proving.Places.{Avoids, IsUnmoved}
+use Rattle.rec_disk.specs.Lasting.{SomeOf, Spares}
 use Rattle.rec_disk.proofs.lemmas.Points.{set_same, put_same}
 use Rattle.rec_disk.proofs.lemmas.Places.{avoids_still, spares_itself, spares_then, spares-made, spares-wrote, spares-synced, spares-removed, spares-folder_synced, avoids-made}
 use Rattle.rec_disk.proofs.lemmas.Moments.{still, and_then, by_step, told_step, told_always, told_kept}

@@ -4,8 +4,8 @@ use Rattle.std.specs.Prelude.{bytes_eq, if◌then◌else◌}
 use Rattle.std.proofs.lemmas.Bool.{cond-true, cond_both}
 use Rattle.std.specs.List.{AllByRecursion}
 use Rattle.rec_disk.specs.Disk.{State, IsFresh, put, made, wrote, synced, renamed, removed, kept_in, folder_synced}
-use Rattle.rec_disk.specs.Lasting.{SomeOf, MayStand, Left, Leaves, shown}
-use Rattle.rec_disk.specs.proving.Places.{StaysSafe, IsSeen, Outlasts, Avoids, Spares, Waits}
+use Rattle.rec_disk.specs.Lasting.{SomeOf, MayStand, Left, Leaves, shown, Spares}
+use Rattle.rec_disk.specs.proving.Places.{StaysSafe, IsSeen, Outlasts, Avoids, Waits}
 use Rattle.rec_disk.proofs.lemmas.Points.{set_other, put_same, put_other, eq_bytes}
 
 -- ---- what may stand

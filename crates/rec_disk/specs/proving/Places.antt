@@ -1,4 +1,4 @@
--- What is seen at a place whatever a stop or a crash leaves, and what changes nothing there.
+-- What is seen at a place whatever a stop or a crash leaves.
 use Rattle.std.specs.Prelude.{◌≡◌, ℕ, Bool, true, List, Option, Some, None}
 use Rattle.rec_disk.specs.Disk.{State}
 use Rattle.rec_disk.specs.Lasting.{kept, MayStand, shown}
@@ -19,13 +19,6 @@ Outlasts crash P s p = (x : Option ℕ) → MayStand crash s p x → IsSeen cras
 -- the file doesn't stand at the place, and a crash doesn't bring it there
 abbrev pub Avoids : State → List ℕ → ℕ → Type 0
 Avoids s p n = ¬ MayStand true s p (Some n)
-
--- from the one state to the other, nothing came to the place, and no file there was written or became less safe
-pub record Spares (p : List ℕ) (s t : State) : Type 0 where
-  pub at : t.at p ≡ s.at p
-  pub may : (x : Option ℕ) → MayStand true t p x → MayStand true s p x
-  pub bytes : (n : ℕ) → MayStand true t p (Some n) → t.bytes n ≡ s.bytes n
-  pub safe : (n : ℕ) → MayStand true t p (Some n) → s.safe n ≡ true → t.safe n ≡ true
 
 -- a file with these bytes stands at the place, and its bytes are synced
 pub record Waits (s : State) (p bytes : List ℕ) : Type 0 where

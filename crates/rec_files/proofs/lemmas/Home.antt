@@ -6,7 +6,7 @@ use Rattle.rec_disk.proofs.lemmas.Moments.{still, moments_from, told_so}
 use Rattle.rec_tools.specs.Home.{Contents, Write, Call, put_all, put_some, written, writes_by, left_by, TellsOf, CountsFailure}
 use Rattle.rec_tools.specs.declared.home.Which.TheVariants.{Base}
 use Rattle.rec_files.specs.Paths.{path_of}
-use Rattle.rec_files.specs.OnDisk.{Places, Shows, Holds, IsSecure, CanSync, SecurePut, LastingPut, IsHomeCall, contents_at, contents_on, places_by}
+use Rattle.rec_files.specs.OnDisk.{Places, Shows, Holds, IsSecure, CanSync, SecurePut, LastingPut, TouchesOwn, IsHomeCall, contents_at, contents_on, places_by}
 use Rattle.rec_files.specs.proving.Replacing.{Moments, Persists, LastAs, Between, led}
 use Rattle.rec_files.proofs.lemmas.Holding.{holds_last, last_holds, between_secure, contents_hold, holds_contents, leaves_now}
 use Rattle.rec_files.proofs.lemmas.Replacing.{weaker_moments}
@@ -39,9 +39,6 @@ pub secure_still : (folder : List ℕ → List ℕ) (syncs : List ℕ → Bool) 
 secure_still folder syncs p writes o n same crash c can told =
     moments_from (λ s u. u ≡ s) (Holds crash p c) (IsSecure crash p c writes) o n (λ s u holds is. secure_rest crash p c writes u (subst (Holds crash p c) (sym is) holds)) told
     (still (λ s u. u ≡ s) o n same (λ s. refl))
-
-pub lasting_still : (folder : List ℕ → List ℕ) (syncs : List ℕ → Bool) (p : Places) (o n : Option Story) → n ≡ o → LastingPut folder syncs p [] o n
-lasting_still folder syncs p o n same crash c can told = subst (λ n. Told n (Holds crash p c)) (sym same) told
 
 -- ---- contents
 
@@ -87,7 +84,15 @@ module _ (folder : List ℕ → List ℕ) (syncs : List ℕ → Bool) (p : Place
 
 -- ---- a put of the home
 
-module _ (folder : List ℕ → List ℕ) (syncs : List ℕ → Bool) (leads : List ℕ → List ℕ) (journal file_path journal_path : List ℕ) (writes : List Write) where
+-- a put writes something
+some_writes : (journal : List ℕ) (file : Option (List ℕ)) → writes_by journal file ≡ [] → ⊥
+some_writes journal None is = omega (arith, ap length is)
+some_writes journal (Some file) is = omega (arith, ap length is)
+
+module _ (place folder : List ℕ → List ℕ) (syncs : List ℕ → Bool) (leads : List ℕ → List ℕ) (bytes : List ℕ) (file_bytes : Option (List ℕ)) (journal file_path journal_path : List ℕ) where
+  abbrev writes : List Write
+  writes = writes_by bytes file_bytes
+
   abbrev pub At : Option (List ℕ) → Option Places
   At file = places_by leads file journal
 
@@ -98,27 +103,30 @@ module _ (folder : List ℕ → List ℕ) (syncs : List ℕ → Bool) (leads : L
   led_is : (f : List ℕ) → file_path ≡ f → journal_path ≡ journal → led leads file_path journal_path ≡ led leads f journal
   led_is f of_file of_journal = ap (λ q. led leads q journal_path) of_file ∙ ap (λ q. led leads f q) of_journal
 
-  module _ (o n : Option Story) (old new : ℕ) (secure : SecurePut folder syncs (led leads file_path journal_path) writes o n) where
+  module _ (o n : Option Story) (old new : ℕ) (secure : SecurePut folder syncs (led leads file_path journal_path) writes o n)
+      (touches : TouchesOwn place (led leads file_path journal_path) o n) where
     pub put_done : (file : Option (List ℕ)) → ArePaths file → LastingPut folder syncs (led leads file_path journal_path) writes o n → CountsFailure old (put_all writes) new
-        → IsHomeCall folder syncs (At file) (At file) o (put_all writes) n old new
+        → IsHomeCall place folder syncs (At file) (At file) o (put_all writes) n old new
     put_done None paths lasting counts = record { same = refl; counts = counts; follows = tt; calls = tt }
     put_done (Some f) paths lasting counts =
         let at : led leads file_path journal_path ≡ led leads f journal = led_is f paths.0 paths.1 in
         let secure_at = subst (λ p. SecurePut folder syncs p writes o n) at secure in
+        let touches_at = subst (λ p. TouchesOwn place p o n) at touches in
         let lasting_at = subst (λ p. LastingPut folder syncs p writes o n) at lasting in
         record {
           same = refl;
           counts = counts;
           follows = all_put folder syncs (led leads f journal) writes o n (contents_on (Some (led leads f journal)) o) refl secure_at lasting_at;
-          calls = record { any_moment = secure_at; lasts = λ _. lasting_at };
+          calls = record { any_moment = secure_at; lasts = λ _. lasting_at; still = λ none. absurd (some_writes bytes file_bytes none); touches = touches_at };
         }
 
     pub put_failed : (file : Option (List ℕ)) → ArePaths file → ((k : ℕ) → CountsFailure old (put_some writes k) new)
-        → (k : ℕ) × (k ≤ length writes) × IsHomeCall folder syncs (At file) (At file) o (put_some writes k) n old new
+        → (k : ℕ) × (k ≤ length writes) × IsHomeCall place folder syncs (At file) (At file) o (put_some writes k) n old new
     put_failed None paths counts = (0, omega arith, record { same = refl; counts = counts 0; follows = tt; calls = tt })
     put_failed (Some f) paths counts =
         let at : led leads file_path journal_path ≡ led leads f journal = led_is f paths.0 paths.1 in
         let secure_at = subst (λ p. SecurePut folder syncs p writes o n) at secure in
+        let touches_at = subst (λ p. TouchesOwn place p o n) at touches in
         let some = some_put folder syncs (led leads f journal) writes o n (contents_on (Some (led leads f journal)) o) refl secure_at in (
           some.0,
           some.1,
@@ -126,17 +134,17 @@ module _ (folder : List ℕ → List ℕ) (syncs : List ℕ → Bool) (leads : L
             same = refl;
             counts = counts some.0;
             follows = some.2;
-            calls = record { any_moment = secure_at; lasts = λ never. absurd never };
+            calls = record { any_moment = secure_at; lasts = λ never. absurd never; still = λ none. absurd (some_writes bytes file_bytes none); touches = touches_at };
           },
         )
 
 -- what is noted of a failure changes neither paths nor disk
-pub noted_call : (folder : List ℕ → List ℕ) (syncs : List ℕ → Bool) (writes : List Write) (places now later : Option Places) (o n last : Option Story) (old new : ℕ) → later ≡ now → last ≡ n
-    → (k : ℕ) × (k ≤ length writes) × IsHomeCall folder syncs places now o (put_some writes k) n old new
-    → (call : Call) × ((k : ℕ) × (k ≤ length writes) × (call ≡ put_some writes k)) × IsHomeCall folder syncs places later o call last old new
-noted_call folder syncs writes places now later o n last old new same still (k, most, is) = (
+pub noted_call : (place folder : List ℕ → List ℕ) (syncs : List ℕ → Bool) (writes : List Write) (places now later : Option Places) (o n last : Option Story) (old new : ℕ) → later ≡ now → last ≡ n
+    → (k : ℕ) × (k ≤ length writes) × IsHomeCall place folder syncs places now o (put_some writes k) n old new
+    → (call : Call) × ((k : ℕ) × (k ≤ length writes) × (call ≡ put_some writes k)) × IsHomeCall place folder syncs places later o call last old new
+noted_call place folder syncs writes places now later o n last old new same still (k, most, is) = (
   put_some writes k,
   (k, most, refl),
-  subst (λ last. IsHomeCall folder syncs places later o (put_some writes k) last old new) (sym still)
-      (subst (λ later. IsHomeCall folder syncs places later o (put_some writes k) n old new) (sym same) is),
+  subst (λ last. IsHomeCall place folder syncs places later o (put_some writes k) last old new) (sym still)
+      (subst (λ later. IsHomeCall place folder syncs places later o (put_some writes k) n old new) (sym same) is),
 )

@@ -2,12 +2,13 @@
 use Rattle.std.proofs.Common.{◌≡◌, ◌≢◌, inl, inr, ℕ, Bool, true, false, List, Option, refl, sym, ◌∙◌, subst}
 use Rattle.std.proofs.lemmas.Bool.{false≢true}
 use Rattle.rec_disk.specs.Disk.{State, renamed, folder_synced}
-use Rattle.rec_disk.specs.proving.Places.{IsSeen, Outlasts, Spares, Waits}
+use Rattle.rec_disk.specs.Lasting.{Spares}
+use Rattle.rec_disk.specs.proving.Places.{IsSeen, Outlasts, Waits}
 use Rattle.rec_disk.proofs.lemmas.Places.{spares_itself, spares_then, spares-renamed, spares-folder_synced, outlasts_still, outlasts-renamed, outlasts_stop, outlasts-folder_synced, seen_there}
 use Rattle.rec_disk.proofs.lemmas.Places.{waits_seen, waits_still}
 use Rattle.rec_tools.specs.Home.{Contents}
-use Rattle.rec_files.specs.OnDisk.{Places, CanSync}
-use Rattle.rec_files.specs.proving.Replacing.{IsPlacing, IsPlaced, HasFile, HasJournal, Either, Lasts, LastAs, AreApart}
+use Rattle.rec_files.specs.OnDisk.{Places, Sites, CanSync}
+use Rattle.rec_files.specs.proving.Replacing.{IsPlacing, IsPlaced, HasFile, HasJournal, Either, Lasts, LastAs, AreApart, own_of}
 
 -- ---- one file comes to its place
 
@@ -54,8 +55,17 @@ lasts_still crash F J p s t file journal was = record {
   journal = outlasts_still crash J p.journal s t journal was.journal;
 }
 
-module _ (folder : List ℕ → List ℕ) (syncs : List ℕ → Bool) (crash : Bool) (p : Places) (wf wj : List ℕ) (c : Contents) (journal file : List ℕ)
-    (apart : AreApart p.file p.journal wf wj) (can : CanSync folder syncs crash p) where
+module _ (folder : List ℕ → List ℕ) (syncs : List ℕ → Bool) (crash : Bool) (sites : Sites) (c : Contents) (journal file : List ℕ) (apart : AreApart sites)
+    (can : CanSync folder syncs crash (own_of sites)) where
+  abbrev p : Places
+  p = own_of sites
+
+  abbrev wf : List ℕ
+  wf = sites.new_file
+
+  abbrev wj : List ℕ
+  wj = sites.new_journal
+
   new_journal : (s : State) → Waits s wj journal → IsSeen crash (HasJournal journal) s (s.at wj)
   new_journal s waits = waits_seen crash s wj journal (HasJournal journal) refl waits
 

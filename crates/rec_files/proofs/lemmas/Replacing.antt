@@ -1,17 +1,20 @@
 -- A put, step by step, is between its old contents and its new ones.
-use Rattle.std.proofs.Common.{◌≡◌, ◌≢◌, inl, inr, ℕ, Bool, false, List, [], ◌∷◌, ◌++◌, Option, Some, None, refl, sym, ◌∙◌, subst}
+use Rattle.std.proofs.Common.{◌≡◌, ◌≢◌, inl, inr, ℕ, Bool, false, List, [], ◌∷◌, ◌++◌, Option, Some, None, refl, sym, ◌∙◌, ap, subst}
 use Rattle.std.proofs.lemmas.Bool.{false≢true}
 use Rattle.std.proofs.lemmas.List.{append_cancel_right}
 use Rattle.std.specs.Prelude.{unwrap_or}
 use Rattle.std.specs.List.{AllByRecursion}
-use Rattle.rec_disk.specs.Disk.{State, Story, Told, Ends, AtAnyMoment}
-use Rattle.rec_disk.specs.proving.Places.{Spares, Waits}
-use Rattle.rec_disk.proofs.lemmas.Moments.{since_then, told_both, told_so, told_end, moments_from, told_from}
+use Rattle.rec_disk.specs.Disk.{State, Story, Look, Told, Ends, AtAnyMoment}
+use Rattle.rec_disk.specs.Lasting.{Spares}
+use Rattle.rec_disk.specs.proving.Places.{Waits}
+use Rattle.rec_disk.proofs.lemmas.Moments.{since_then, told_both, told_so, told_end, told_kept, told_always, moments_from, told_from}
+use Rattle.rec_disk.proofs.lemmas.Calls.{spares_still, spares_on}
 use Rattle.rec_tools.specs.Home.{Contents}
-use Rattle.rec_files.specs.OnDisk.{Places, CanSync}
-use Rattle.rec_files.specs.proving.Replacing.{IsPlacing, IsPlaced, HasFile, HasJournal, Either, Lasts, LastAs, Between, AreApart, AreResolved, Moments, Persists, led}
-use Rattle.rec_files.proofs.lemmas.Placing.{lasts_still, journal_placing, journal_placed, file_waits, file_placing, file_placed}
-use Rattle.rec_files.proofs.lemmas.Steps.{longer_than}
+use Rattle.rec_files.specs.OnDisk.{Places, Sites, sites_of, AreLeft, CanSync, SparesStrangers}
+use Rattle.rec_files.specs.proving.Replacing.{IsPlacing, IsPlaced, HasFile, HasJournal, Either, Lasts, LastAs, Between, AreApart, AreResolved, Moments, Persists, led, own_of}
+use Rattle.rec_files.specs.proving.Replacing.{AreAsSeen, BothWait, IsAsSeen, IsPut, IsReplacing, MayBegin, OnlyWhere, SparesBut, SparesButNew}
+use Rattle.rec_files.proofs.lemmas.Placing.{spares-placing, lasts_still, journal_placing, journal_placed, file_waits, file_placing, file_placed}
+use Rattle.rec_files.proofs.lemmas.Steps.{longer_than, some_none}
 
 -- ---- two facts of each moment
 
@@ -31,11 +34,14 @@ both_moments R Q (Some a) (Some b) (r_now, (later, is, r)) (q_now, (again, is_to
     let same : again ≡ later = append_cancel_right again later a.past (sym is_too ∙ is) in
     ((r_now, q_now), (later, is, all_both (R a.now) (Q a.now) later r (subst (AllByRecursion (Q a.now)) same q)))
 
+pub moments_so : (R Q : State → State → Type 0) (o n : Option Story) → ((s u : State) → R s u → Q s u) → AtAnyMoment o n R → AtAnyMoment o n Q
+moments_so R Q None None so all = tt
+moments_so R Q None (Some b) so all = all
+moments_so R Q (Some a) None so all = all
+moments_so R Q (Some a) (Some b) so (now, (later, is, all)) = (so a.now b.now now, (later, is, all_so (R a.now) (Q a.now) later (so a.now) all))
+
 pub weaker_moments : (P Q : State → Type 0) (o n : Option Story) → ((s : State) → P s → Q s) → AtAnyMoment o n (λ s u. P u) → AtAnyMoment o n (λ s u. Q u)
-weaker_moments P Q None None so all = tt
-weaker_moments P Q None (Some b) so all = all
-weaker_moments P Q (Some a) None so all = all
-weaker_moments P Q (Some a) (Some b) so (now, (later, is, all)) = (so b.now now, (later, is, all_so P Q later so all))
+weaker_moments P Q o n so all = moments_so (λ s u. P u) (λ s u. Q u) o n (λ s u is. so u is) all
 
 -- ---- what is spared lasts
 
@@ -95,9 +101,18 @@ untold : (R : State → State → Type 0) (n : Option Story) → AtAnyMoment Non
 untold R None at = refl
 untold R (Some b) at = absurd at
 
-module _ (folder : List ℕ → List ℕ) (syncs : List ℕ → Bool) (p : Places) (wf wj journal : List ℕ) where
-  abbrev pub Spared : Option Story → Option Story → Type 0
-  Spared o b = (r : List ℕ) → r ≢ wj → r ≢ wf → AtAnyMoment o b (Spares r)
+module _ (folder : List ℕ → List ℕ) (syncs : List ℕ → Bool) (sites : Sites) (journal : List ℕ) where
+  abbrev p : Places
+  p = own_of sites
+
+  abbrev wf : List ℕ
+  wf = sites.new_file
+
+  abbrev wj : List ℕ
+  wj = sites.new_journal
+
+  abbrev Spared : Option Story → Option Story → Type 0
+  Spared o b = SparesButNew sites o b
 
   none_told : (b : Option Story) → Spared None b → b ≡ None
   none_told b spares = let away = longer_than wj wf in untold (Spares (0 ∷ (wj ++ wf))) b (spares (0 ∷ (wj ++ wf)) away.0 away.1)
@@ -106,26 +121,15 @@ module _ (folder : List ℕ → List ℕ) (syncs : List ℕ → Bool) (p : Place
   none_after w q b n is placing = untold (IsPlacing folder w q) n (subst (λ b. AtAnyMoment b n (IsPlacing folder w q)) is placing)
 
   abbrev pub Apart : Option Story → Type 0
-  Apart o = Told o (λ s. AreApart p.file p.journal wf wj)
+  Apart o = Told o (λ s. AreApart sites)
 
-  pub moments_spared : (file : Option (List ℕ)) (o n : Option Story) → Apart o → Spared o n → Moments folder syncs p journal file o n
+  moments_spared : (file : Option (List ℕ)) (o n : Option Story) → Apart o → Spared o n → Moments folder syncs p journal file o n
   moments_spared file None n apart spares = moments_untold folder syncs p journal file n (none_told n spares)
   moments_spared file (Some a) n apart spares =
       moments_none folder syncs p journal file (Some a) n (spares p.file apart.file_new_journal apart.file_new_file) (spares p.journal apart.journal_new_journal apart.journal_new_file)
 
-  after_none : (file : Option (List ℕ)) (b n : Option Story) (crash : Bool) (c : Contents) → AtAnyMoment None b (λ s u. Between crash p c journal file u) → Spared b n
-      → AtAnyMoment None n (λ s u. Between crash p c journal file u)
-  after_none file None n crash c at spares = subst (λ n. AtAnyMoment None n (λ s u. Between crash p c journal file u)) (sym (none_told n spares)) tt
-  after_none file (Some b) n crash c at spares = absurd at
-
-  -- what was spared, and then something more
-  pub moments_after : (file : Option (List ℕ)) (o b n : Option Story) → Apart o → Moments folder syncs p journal file o b → Spared b n → Moments folder syncs p journal file o n
-  moments_after file None b n apart first spares = λ crash c can told. after_none file b n crash c (first crash c can told) spares
-  moments_after file (Some a) b n apart first spares =
-      moments_then folder syncs p journal file (Some a) b n first (spares p.file apart.file_new_journal apart.file_new_file) (spares p.journal apart.journal_new_journal apart.journal_new_file)
-
   -- what held before is there, and the journal waits
-  module _ (crash : Bool) (c : Contents) (a : Story) (b : Option Story) (apart : AreApart p.file p.journal wf wj) (told : LastAs crash p c.file c.journal a.now)
+  module _ (crash : Bool) (c : Contents) (a : Story) (b : Option Story) (apart : AreApart sites) (told : LastAs crash p c.file c.journal a.now)
       (spares : Spared (Some a) b) where
     abbrev Waiting : State → Type 0
     Waiting s = LastAs crash p c.file c.journal s × Waits s wj journal
@@ -145,9 +149,9 @@ module _ (folder : List ℕ → List ℕ) (syncs : List ℕ → Bool) (p : Place
         since_then (Between crash p c journal file) (Some a) b n
         (weaker_moments (LastAs crash p c.file c.journal) (Between crash p c journal file) (Some a) b (λ s was. old_between crash p c journal file s was) ready_moments)
         (moments_from (IsPlacing folder wj p.journal) Waiting (Between crash p c journal file) b n
-        (λ s u was step. at_journal_between crash p c journal file u (journal_placing folder syncs crash p wf wj c journal [] apart can s u was.0 was.1 step)) (ready waits) placing)
+        (λ s u was step. at_journal_between crash p c journal file u (journal_placing folder syncs crash sites c journal [] apart can s u was.0 was.1 step)) (ready waits) placing)
 
-  pub moments_journal : (file : Option (List ℕ)) (o b n : Option Story) → Apart o → Spared o b → Told b (λ t. Waits t wj journal) → AtAnyMoment b n (IsPlacing folder wj p.journal)
+  moments_journal : (file : Option (List ℕ)) (o b n : Option Story) → Apart o → Spared o b → Told b (λ t. Waits t wj journal) → AtAnyMoment b n (IsPlacing folder wj p.journal)
       → Moments folder syncs p journal file o n
   moments_journal file None b n apart spares waits placing = moments_untold folder syncs p journal file n (none_after wj p.journal b n (none_told b spares) placing)
   moments_journal file (Some a) b n apart spares waits placing = λ crash c can told. until_journal crash c a b apart told spares file n can waits placing
@@ -157,14 +161,14 @@ module _ (folder : List ℕ → List ℕ) (syncs : List ℕ → Bool) (p : Place
   persists_journal None b n apart spares waits placing placed = persists_untold folder syncs p journal None n (none_after wj p.journal b n (none_told b spares) placing)
   persists_journal (Some a) b n apart spares waits placing placed = λ crash c can told.
       told_end (IsPlaced folder syncs wj p.journal) (Waiting crash c a b apart told spares) (LastAs crash p c.file journal) b n
-      (λ s t was end. journal_placed folder syncs crash p wf wj c journal [] apart can s t was.0 was.1 end) (ready crash c a b apart told spares waits) placed
+      (λ s t was end. journal_placed folder syncs crash sites c journal [] apart can s t was.0 was.1 end) (ready crash c a b apart told spares waits) placed
 
   module _ (file : List ℕ) where
-    abbrev pub TwoWait : State → Type 0
-    TwoWait t = Waits t wj journal × Waits t wf file
+    abbrev TwoWait : State → Type 0
+    TwoWait t = BothWait sites journal file t
 
     -- then the new journal is there, and the file waits
-    module _ (crash : Bool) (c : Contents) (a : Story) (b m : Option Story) (apart : AreApart p.file p.journal wf wj) (can : CanSync folder syncs crash p)
+    module _ (crash : Bool) (c : Contents) (a : Story) (b m : Option Story) (apart : AreApart sites) (can : CanSync folder syncs crash p)
         (told : LastAs crash p c.file c.journal a.now) (spares : Spared (Some a) b) (waits : Told b TwoWait) (placed : Ends b m (IsPlaced folder syncs wj p.journal)) where
       abbrev AtFile : State → Type 0
       AtFile t = LastAs crash p c.file journal t × Waits t wf file
@@ -175,31 +179,31 @@ module _ (folder : List ℕ → List ℕ) (syncs : List ℕ → Bool) (p : Place
       both_ready : Told b BothReady
       both_ready =
           told_both (Waiting crash c a b apart told spares) (λ t. Waits t wf file) BothReady b (λ s one other. (one, other))
-          (ready crash c a b apart told spares (told_so TwoWait (λ t. Waits t wj journal) b (λ t two. two.0) waits)) (told_so TwoWait (λ t. Waits t wf file) b (λ t two. two.1) waits)
+          (ready crash c a b apart told spares (told_so TwoWait (λ t. Waits t wj journal) b (λ t two. two.journal) waits)) (told_so TwoWait (λ t. Waits t wf file) b (λ t two. two.file) waits)
 
       at_file : Told m AtFile
       at_file =
           told_end (IsPlaced folder syncs wj p.journal) BothReady AtFile b m
-          (λ s t was end. (journal_placed folder syncs crash p wf wj c journal file apart can s t was.0.0 was.0.1 end, file_waits folder syncs crash p wf wj c journal file apart can s t was.1 end))
+          (λ s t was end. (journal_placed folder syncs crash sites c journal file apart can s t was.0.0 was.0.1 end, file_waits folder syncs crash sites c journal file apart can s t was.1 end))
           both_ready placed
 
       both_moments_between : (n : Option Story) → AtAnyMoment b m (IsPlacing folder wj p.journal) → AtAnyMoment m n (IsPlacing folder wf p.file)
           → AtAnyMoment (Some a) n (λ s u. Between crash p c journal (Some file) u)
       both_moments_between n placing again =
           since_then (Between crash p c journal (Some file)) (Some a) m n
-          (until_journal crash c a b apart told spares (Some file) m can (told_so TwoWait (λ t. Waits t wj journal) b (λ t two. two.0) waits) placing)
+          (until_journal crash c a b apart told spares (Some file) m can (told_so TwoWait (λ t. Waits t wj journal) b (λ t two. two.journal) waits) placing)
           (moments_from (IsPlacing folder wf p.file) AtFile (Between crash p c journal (Some file)) m n
-          (λ s u was step. inr (file_placing folder syncs crash p wf wj c journal file apart can s u was.0 was.1 step)) at_file again)
+          (λ s u was step. inr (file_placing folder syncs crash sites c journal file apart can s u was.0 was.1 step)) at_file again)
 
       both_last : (n : Option Story) → Ends m n (IsPlaced folder syncs wf p.file) → Told n (LastAs crash p file journal)
       both_last n placed_too =
           told_end (IsPlaced folder syncs wf p.file) AtFile (LastAs crash p file journal) m n
-          (λ s t was end. file_placed folder syncs crash p wf wj c journal file apart can s t was.0 was.1 end) at_file placed_too
+          (λ s t was end. file_placed folder syncs crash sites c journal file apart can s t was.0 was.1 end) at_file placed_too
 
     none_both : (b m n : Option Story) → Spared None b → AtAnyMoment b m (IsPlacing folder wj p.journal) → AtAnyMoment m n (IsPlacing folder wf p.file) → n ≡ None
     none_both b m n spares placing again = none_after wf p.file m n (none_after wj p.journal b m (none_told b spares) placing) again
 
-    pub moments_both : (o b m n : Option Story) → Apart o → Spared o b → Told b TwoWait → AtAnyMoment b m (IsPlacing folder wj p.journal)
+    moments_both : (o b m n : Option Story) → Apart o → Spared o b → Told b TwoWait → AtAnyMoment b m (IsPlacing folder wj p.journal)
         → Ends b m (IsPlaced folder syncs wj p.journal) → AtAnyMoment m n (IsPlacing folder wf p.file) → Moments folder syncs p journal (Some file) o n
     moments_both None b m n apart spares waits placing placed again = moments_untold folder syncs p journal (Some file) n (none_both b m n spares placing again)
     moments_both (Some a) b m n apart spares waits placing placed again = λ crash c can told. both_moments_between crash c a b m apart can told spares waits placed n placing again
@@ -210,51 +214,210 @@ module _ (folder : List ℕ → List ℕ) (syncs : List ℕ → Bool) (p : Place
     persists_both None b m n apart spares waits placing placed again placed_too = persists_untold folder syncs p journal (Some file) n (none_both b m n spares placing again)
     persists_both (Some a) b m n apart spares waits placing placed again placed_too = λ crash c can told. both_last crash c a b m apart can told spares waits placed n placed_too
 
--- ---- the paths as they were given
+-- ---- what a replace does by the four places
 
-module _ (folder : List ℕ → List ℕ) (syncs : List ℕ → Bool) (place leads : List ℕ → List ℕ) (given_file given_journal path_file path_journal : List ℕ) (wf wj journal : List ℕ)
-    (file : Option (List ℕ)) where
-  abbrev pub Resolved : Option Story → Type 0
-  Resolved o = Told o (λ s. AreResolved place leads given_file given_journal path_file path_journal)
+pub but_new : (sites : Sites) (o n : Option Story) → SparesBut sites.new_journal o n → SparesButNew sites o n
+but_new sites o n spares = λ q ne_j ne_f. spares q ne_j
 
-  abbrev Found : Places
-  Found = led place path_file path_journal
+pub but_new_on : (sites : Sites) (o b n : Option Story) → SparesButNew sites o b → SparesButNew sites b n → SparesButNew sites o n
+but_new_on sites o b n first rest = λ q ne_j ne_f. spares_on q o b n (first q ne_j ne_f) (rest q ne_j ne_f)
+
+-- what holds of no state in particular
+pub told_on : (P : Type 0) (sites : Sites) (o b : Option Story) → Told o (λ s. P) → SparesButNew sites o b → Told b (λ s. P)
+told_on P sites o b told spares =
+    let away = longer_than sites.new_journal sites.new_file in
+    let far = 0 ∷ (sites.new_journal ++ sites.new_file) in
+    told_kept (Spares far) (λ s. P) (λ s. P) o b (λ s t is same. is) told (spares far away.0 away.1)
+
+module _ (folder : List ℕ → List ℕ) (w q : List ℕ) (b n : Option Story) where
+  placing_spares : (r : List ℕ) → r ≢ w → r ≢ q → AtAnyMoment b n (IsPlacing folder w q) → AtAnyMoment b n (Spares r)
+  placing_spares r ne_w ne_q placing = moments_so (IsPlacing folder w q) (Spares r) b n (λ s u step. spares-placing folder w q s r u ne_w ne_q step) placing
+
+module _ (folder : List ℕ → List ℕ) (syncs : List ℕ → Bool) (sites : Sites) (journal : List ℕ) where
+  -- nothing was put in place
+  pub replacing_spared : (file : Option (List ℕ)) (o n : Option Story) → Told o (λ s. AreApart sites) → SparesButNew sites o n → IsReplacing folder syncs sites journal file o n
+  replacing_spared file o n apart spares = record {
+    moments = moments_spared folder syncs sites journal file o n apart spares;
+    strangers = λ r ne_file ne_journal ne_new_file ne_new_journal. spares r ne_new_journal ne_new_file;
+  }
+
+  module _ (o b : Option Story) (apart : Told o (λ s. AreApart sites)) (spares : SparesButNew sites o b) where
+    to_journal : (n : Option Story) → AtAnyMoment b n (IsPlacing folder sites.new_journal sites.journal) → SparesStrangers sites o n
+    to_journal n placing = λ r ne_file ne_journal ne_new_file ne_new_journal.
+        spares_on r o b n (spares r ne_new_journal ne_new_file) (placing_spares folder sites.new_journal sites.journal b n r ne_new_journal ne_journal placing)
+
+    -- the journal was, maybe
+    pub replacing_journal : (file : Option (List ℕ)) (n : Option Story) → Told b (λ t. Waits t sites.new_journal journal)
+        → AtAnyMoment b n (IsPlacing folder sites.new_journal sites.journal) → IsReplacing folder syncs sites journal file o n
+    replacing_journal file n waits placing =
+        record { moments = moments_journal folder syncs sites journal file o b n apart spares waits placing; strangers = to_journal n placing }
+
+    -- and the file
+    pub replacing_both : (file : List ℕ) (m n : Option Story) → Told b (BothWait sites journal file) → AtAnyMoment b m (IsPlacing folder sites.new_journal sites.journal)
+        → Ends b m (IsPlaced folder syncs sites.new_journal sites.journal) → AtAnyMoment m n (IsPlacing folder sites.new_file sites.file)
+        → IsReplacing folder syncs sites journal (Some file) o n
+    replacing_both file m n waits placing placed again = record {
+      moments = moments_both folder syncs sites journal file o b m n apart spares waits placing placed again;
+      strangers = λ r ne_file ne_journal ne_new_file ne_new_journal.
+          spares_on r o m n (to_journal m placing r ne_file ne_journal ne_new_file ne_new_journal)
+          (placing_spares folder sites.new_file sites.file m n r ne_new_file ne_file again);
+    }
+
+pub one_waits : (sites : Sites) (journal file : List ℕ) (b : Option Story) → Told b (BothWait sites journal file) → Told b (λ t. Waits t sites.new_journal journal)
+one_waits sites journal file b waits = told_so (BothWait sites journal file) (λ t. Waits t sites.new_journal journal) b (λ t two. two.journal) waits
+
+pub spares_none : (sites : Sites) (o n : Option Story) → n ≡ o → SparesButNew sites o n
+spares_none sites o n same = λ r ne_j ne_f. spares_still r o n same
+
+-- ---- where a put begins
+
+module _ (place leads : List ℕ → List ℕ) (given_file given_journal path_file path_journal : List ℕ) (file_seen journal_seen : Option (Option Look)) where
+  abbrev Four : Sites
+  Four = sites_of place path_file path_journal
+
+  pub may_begin : (o : Option Story) → Told o (AreLeft Four) → Told o (λ s. AreApart Four) → Told o (λ s. AreResolved place leads given_file given_journal path_file path_journal)
+      → Told o (AreAsSeen (led place path_file path_journal) file_seen journal_seen)
+      → Told o (MayBegin place leads given_file given_journal path_file path_journal file_seen journal_seen)
+  may_begin None left apart resolved seen = tt
+  may_begin (Some a) left apart resolved seen = record {
+    seen = (
+      subst (λ p. IsAsSeen p file_seen a.now) resolved.file_is seen.0,
+      subst (λ p. IsAsSeen p journal_seen a.now) resolved.journal_is seen.1,
+    );
+    left = left;
+    apart = apart;
+    resolved = resolved;
+  }
+
+  pub only_begins : (o n : Option Story) → OnlyWhere (AreLeft Four) o n → Told o (λ s. AreApart Four) → Told o (λ s. AreResolved place leads given_file given_journal path_file path_journal)
+      → Told o (AreAsSeen (led place path_file path_journal) file_seen journal_seen)
+      → OnlyWhere (MayBegin place leads given_file given_journal path_file path_journal file_seen journal_seen) o n
+  only_begins o n (inl same) apart resolved seen = inl same
+  only_begins o n (inr left) apart resolved seen = inr (may_begin o left apart resolved seen)
+
+  pub begun_seen : (o : Option Story) → Told o (MayBegin place leads given_file given_journal path_file path_journal file_seen journal_seen)
+      → Told o (AreAsSeen (led leads given_file given_journal) file_seen journal_seen)
+  begun_seen o begins =
+      told_so (MayBegin place leads given_file given_journal path_file path_journal file_seen journal_seen) (AreAsSeen (led leads given_file given_journal) file_seen journal_seen) o
+      (λ s may. may.seen) begins
+
+  pub only_seen : (o n : Option Story) → OnlyWhere (MayBegin place leads given_file given_journal path_file path_journal file_seen journal_seen) o n
+      → OnlyWhere (AreAsSeen (led leads given_file given_journal) file_seen journal_seen) o n
+  only_seen o n (inl same) = inl same
+  only_seen o n (inr begins) = inr (begun_seen o begins)
+
+-- ---- where nothing was changed before
+
+pub told_same : (P : State → Type 0) (o b : Option Story) → b ≡ o → Told b P → Told o P
+told_same P o b same told = subst (λ b. Told b P) same told
+
+pub only_same : (P : State → Type 0) (o b n : Option Story) → b ≡ o → OnlyWhere P b n → OnlyWhere P o n
+only_same P o b n same only = subst (λ b. OnlyWhere P b n) same only
+
+module _ (place folder : List ℕ → List ℕ) (syncs : List ℕ → Bool) (p : Places) (journal : List ℕ) (file : Option (List ℕ)) where
+  pub put_same : (o b n : Option Story) → b ≡ o → IsPut place folder syncs p journal file b n → IsPut place folder syncs p journal file o n
+  put_same o b n same put = subst (λ b. IsPut place folder syncs p journal file b n) same put
+
+  pub persists_same : (o b n : Option Story) → b ≡ o → Persists folder syncs p journal file b n → Persists folder syncs p journal file o n
+  persists_same o b n same persists = subst (λ b. Persists folder syncs p journal file b n) same persists
+
+  -- nothing is changed at all
+  pub put_still : (o n : Option Story) → n ≡ o → IsPut place folder syncs p journal file o n
+  put_still o n same =
+      record { moments = moments_none folder syncs p journal file o n (spares_still p.file o n same) (spares_still p.journal o n same); touches = inl same }
+
+-- ---- a put, by the paths as they were given
+
+module _ (place leads folder : List ℕ → List ℕ) (syncs : List ℕ → Bool) (given_file given_journal path_file path_journal : List ℕ) (file_seen journal_seen : Option (Option Look))
+    (journal : List ℕ) (file : Option (List ℕ)) where
+  abbrev At : Sites
+  At = sites_of place path_file path_journal
+
+  abbrev Own : Places
+  Own = own_of At
 
   abbrev Given : Places
   Given = led leads given_file given_journal
 
-  no_crash : (p : Places) → CanSync folder syncs false p
-  no_crash p e = absurd (false≢true e)
+  abbrev Begins : State → Type 0
+  Begins = MayBegin place leads given_file given_journal path_file path_journal file_seen journal_seen
+
+  own_given : (s : State) → Begins s → Own ≡ Given
+  own_given s may = ap (λ q. led (λ r. r) q (place path_journal)) may.resolved.file_is ∙ ap (λ q. led (λ r. r) (leads given_file) q) may.resolved.journal_is
+
+  no_crash : CanSync folder syncs false Own
+  no_crash e = absurd (false≢true e)
 
   blank : Contents
   blank = record { file = []; journal = [] }
 
-  resolved_moments : (o n : Option Story) → Resolved o → Moments folder syncs Found journal file o n → Moments folder syncs Given journal file o n
-  resolved_moments None n resolved first = moments_untold folder syncs Given journal file n (untold (λ s u. Between false Found blank journal file u) n (first false blank (no_crash Found) tt))
-  resolved_moments (Some a) n resolved first =
-      subst (λ q. Moments folder syncs (record { file = leads given_file; journal = q }) journal file (Some a) n) resolved.journal_is
-      (subst (λ q. Moments folder syncs (record { file = q; journal = place path_journal }) journal file (Some a) n) resolved.file_is first)
+  put_untold : (n : Option Story) → n ≡ None → IsPut place folder syncs Given journal file None n
+  put_untold n is = record { moments = moments_untold folder syncs Given journal file n is; touches = inl is }
 
-  resolved_persists : (o n : Option Story) → Resolved o → Moments folder syncs Found journal file o n → Persists folder syncs Found journal file o n → Persists folder syncs Given journal file o n
-  resolved_persists None n resolved first last = persists_untold folder syncs Given journal file n (untold (λ s u. Between false Found blank journal file u) n (first false blank (no_crash Found) tt))
-  resolved_persists (Some a) n resolved first last =
-      subst (λ q. Persists folder syncs (record { file = leads given_file; journal = q }) journal file (Some a) n) resolved.journal_is
-      (subst (λ q. Persists folder syncs (record { file = q; journal = place path_journal }) journal file (Some a) n) resolved.file_is last)
+  -- by the four places, where the put begins in a state that is told
+  put_at : (a : Story) (n : Option Story) → Begins a.now → Moments folder syncs Own journal file (Some a) n → SparesStrangers At (Some a) n
+      → IsPut place folder syncs Given journal file (Some a) n
+  put_at a n may moments strangers = record {
+    moments = subst (λ p. Moments folder syncs p journal file (Some a) n) (own_given a.now may) moments;
+    touches = inr (path_file, path_journal, may.resolved.file_is, may.resolved.journal_is, may.left, strangers);
+  }
 
-  abbrev pub FoundApart : Option Story → Type 0
-  FoundApart o = Told o (λ s. AreApart (place path_file) (place path_journal) wf wj)
+  -- nothing was made
+  pub put_refused : (o n : Option Story) → OnlyWhere Begins o n → SparesButNew At o n → IsPut place folder syncs Given journal file o n
+  put_refused o n (inl same) spares = put_still place folder syncs Given journal file o n same
+  put_refused None n (inr may) spares = put_untold n (none_told folder syncs At journal n spares)
+  put_refused (Some a) n (inr may) spares =
+      put_at a n may (moments_spared folder syncs At journal file (Some a) n may.apart spares) (λ r ne_file ne_journal ne_new_file ne_new_journal. spares r ne_new_journal ne_new_file)
 
-  module _ (o b m : Option Story) (same : b ≡ o) (apart : FoundApart o) (resolved : Resolved o) (first : FoundApart b → Moments folder syncs Found journal file b m) where
-    found_moments : Moments folder syncs Found journal file o m
-    found_moments = (subst (λ b. FoundApart b → Moments folder syncs Found journal file b m) same first) apart
+  -- ---- and then both, or the journal, are replaced
 
-    -- a put that was done
-    pub put_moments : Moments folder syncs Given journal file o m
-    put_moments = resolved_moments o m resolved found_moments
+  abbrev Replaced : Option Story → Option Story → Type 0
+  Replaced b m = Told b (λ s. AreApart At) → IsReplacing folder syncs At journal file b m
 
-    pub put_persists : (FoundApart b → Persists folder syncs Found journal file b m) → Persists folder syncs Given journal file o m
-    put_persists last = resolved_persists o m resolved found_moments ((subst (λ b. FoundApart b → Persists folder syncs Found journal file b m) same last) apart)
+  -- where no story is told
+  none_put : (b m n : Option Story) → b ≡ None → Replaced b m → SparesButNew At m n → n ≡ None
+  none_put None m n is replaced rest =
+      let ends = untold (λ s u. Between false Own blank journal file u) m ((replaced tt).moments false blank no_crash tt) in
+      none_told folder syncs At journal n (subst (λ m. SparesButNew At m n) ends rest)
+  none_put (Some d) m n is replaced rest = absurd (some_none d is)
 
-    -- one that failed, and what was made is removed
-    pub removed_moments : (n : Option Story) → ((r : List ℕ) → r ≢ wj → r ≢ wf → AtAnyMoment m n (Spares r)) → Moments folder syncs Given journal file o n
-    removed_moments n spares = resolved_moments o n resolved (moments_after folder syncs Found wf wj journal file o m n apart found_moments spares)
+  module _ (a : Story) (b m : Option Story) (may : Begins a.now) (spares : SparesButNew At (Some a) b) where
+    last_then : (crash : Bool) (c : Contents) → LastAs crash Own c.file c.journal a.now → Told b (LastAs crash Own c.file c.journal)
+    last_then crash c told =
+        told_from (LastAs crash Own c.file c.journal) (Some a) b (ready_moments folder syncs At journal crash c a b may.apart told spares)
+
+    then_apart : Told b (λ s. AreApart At)
+    then_apart = told_always (λ s. AreApart At) b (λ s. may.apart)
+
+    moments_to : IsReplacing folder syncs At journal file b m → Moments folder syncs Own journal file (Some a) m
+    moments_to replaced = λ crash c can told.
+        since_then (Between crash Own c journal file) (Some a) b m
+        (weaker_moments (LastAs crash Own c.file c.journal) (Between crash Own c journal file) (Some a) b (λ s was. old_between crash Own c journal file s was)
+        (ready_moments folder syncs At journal crash c a b may.apart told spares)) (replaced.moments crash c can (last_then crash c told))
+
+    replaced_at : (n : Option Story) → Replaced b m → SparesButNew At m n → IsPut place folder syncs Given journal file (Some a) n
+    replaced_at n replaced rest =
+        put_at a n may
+        (moments_then folder syncs Own journal file (Some a) m n (moments_to (replaced then_apart)) (rest At.file may.apart.file_new_journal may.apart.file_new_file)
+        (rest At.journal may.apart.journal_new_journal may.apart.journal_new_file))
+        (λ r ne_file ne_journal ne_new_file ne_new_journal.
+        spares_on r (Some a) m n (spares_on r (Some a) b m (spares r ne_new_journal ne_new_file) ((replaced then_apart).strangers r ne_file ne_journal ne_new_file ne_new_journal))
+        (rest r ne_new_journal ne_new_file))
+
+    persists_at : (Told b (λ s. AreApart At) → Persists folder syncs Own journal file b m) → Persists folder syncs Given journal file (Some a) m
+    persists_at last =
+        subst (λ p. Persists folder syncs p journal file (Some a) m) (own_given a.now may) (λ crash c can told. last then_apart crash c can (last_then crash c told))
+
+  -- and what was made is removed
+  pub put_removed : (o b m n : Option Story) → Told o Begins → SparesButNew At o b → Replaced b m → SparesButNew At m n → IsPut place folder syncs Given journal file o n
+  put_removed None b m n may spares replaced rest = put_untold n (none_put b m n (none_told folder syncs At journal b spares) replaced rest)
+  put_removed (Some a) b m n may spares replaced rest = replaced_at a b m may spares n replaced rest
+
+  pub put_kept : (o b m : Option Story) → Told o Begins → SparesButNew At o b → Replaced b m → IsPut place folder syncs Given journal file o m
+  put_kept o b m may spares replaced = put_removed o b m m may spares replaced (spares_none At m m refl)
+
+  pub put_persists : (o b m : Option Story) → Told o Begins → SparesButNew At o b → Replaced b m → (Told b (λ s. AreApart At) → Persists folder syncs Own journal file b m)
+      → Persists folder syncs Given journal file o m
+  put_persists None b m may spares replaced last =
+      persists_untold folder syncs Given journal file m (none_put b m m (none_told folder syncs At journal b spares) replaced (spares_none At m m refl))
+  put_persists (Some a) b m may spares replaced last = persists_at a b m may spares last

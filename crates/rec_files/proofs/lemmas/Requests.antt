@@ -16,8 +16,9 @@ use Rattle.rec_tools.specs.Outcomes.{Outcome, IsRequestOutcome}
 use Rattle.rec_tools.specs.Attempts.{Answer, gots, puts, StopsReading, StopsWriting, Does, Attempts}
 use Rattle.rec_tools.specs.Machine.{State as Machine, IsOldOrNext, Stands}
 use Rattle.rec_tools.specs.Guarantee.{StopsAreSteps}
-use Rattle.rec_files.specs.OnDisk.{Places, Shows, Holds, IsSecure, CanSync, SecurePut, LastingPut, IsCallAt, IsHomeCall, IsWhole, writes_of, contents_on, StandsThen, SecureRequest, LastingRequest}
+use Rattle.rec_files.specs.OnDisk.{Places, Shows, Holds, IsSecure, CanSync, SecurePut, LastingPut, TouchesOwn, IsCallAt, IsHomeCall, IsWhole, writes_of, contents_on, StandsThen, SecureRequest, LastingRequest}
 use Rattle.rec_files.proofs.lemmas.Holding.{holds_contents}
+use Rattle.rec_files.proofs.lemmas.Steps.{some_none}
 use Rattle.rec_files.proofs.lemmas.Home.{secure_still}
 use Rattle.rec_files.proofs.lemmas.Replacing.{weaker_moments}
 
@@ -144,16 +145,16 @@ take_none (suc k) = refl
 
 -- ---- on a home on a disk
 
-module _ {H : Type 0} (folder : List ℕ → List ℕ) (syncs : List ℕ → Bool) (at : H → Option Places) (story : H → Option Story) (fails : H → ℕ) where
+module _ {H : Type 0} (place folder : List ℕ → List ℕ) (syncs : List ℕ → Bool) (at : H → Option Places) (story : H → Option Story) (fails : H → ℕ) where
   abbrev pub Goes : H → Call → H → Type 0
-  Goes o call n = IsHomeCall folder syncs (at o) (at n) (story o) call (story n) (fails o) (fails n)
+  Goes o call n = IsHomeCall place folder syncs (at o) (at n) (story o) call (story n) (fails o) (fails n)
 
-module _ {H : Type 0} (folder : List ℕ → List ℕ) (syncs : List ℕ → Bool) (at : H → Option Places) (story : H → Option Story) (fails : H → ℕ) (p : Places) where
-  call_at : (o n : H) (call : Call) → at o ≡ Some p → (Goes folder syncs at story fails) o call n → IsCallAt folder syncs p (story o) call (story n)
-  call_at o n call is goes = subst (λ x. IfSome x (λ p. IsCallAt folder syncs p (story o) call (story n))) is goes.calls
+module _ {H : Type 0} (place folder : List ℕ → List ℕ) (syncs : List ℕ → Bool) (at : H → Option Places) (story : H → Option Story) (fails : H → ℕ) (p : Places) where
+  call_at : (o n : H) (call : Call) → at o ≡ Some p → (Goes place folder syncs at story fails) o call n → IsCallAt place folder syncs p (story o) call (story n)
+  call_at o n call is goes = subst (λ x. IfSome x (λ p. IsCallAt place folder syncs p (story o) call (story n))) is goes.calls
 
   -- the contents are read as they are
-  tell_all : (calls : List Call) (o n : H) (c : Contents) → at o ≡ Some p → contents_on (Some p) (story o) ≡ Some c → Went (Goes folder syncs at story fails) o calls n → TellAll c calls
+  tell_all : (calls : List Call) (o n : H) (c : Contents) → at o ≡ Some p → contents_on (Some p) (story o) ≡ Some c → Went (Goes place folder syncs at story fails) o calls n → TellAll c calls
   tell_all [] o n c is holds went = tt
   tell_all (call ∷ calls) o n c is holds (mid, goes, went) =
       let told : TellsOf c call × (contents_on (at mid) (story mid) ≡ Some (left_by c call)) =
@@ -168,10 +169,10 @@ module _ {H : Type 0} (folder : List ℕ → List ℕ) (syncs : List ℕ → Boo
         (0, omega arith, subst (λ taken. Shows p left (written c taken)) (take_none k) shows)
 
     -- after a read the contents are there still
-    read_lasts : (o mid : H) (call : Call) → IsGot call → IsCallAt folder syncs p (story o) call (story mid) → Told (story o) (Holds crash p c) → Told (story mid) (Holds crash p c)
+    read_lasts : (o mid : H) (call : Call) → IsGot call → IsCallAt place folder syncs p (story o) call (story mid) → Told (story o) (Holds crash p c) → Told (story mid) (Holds crash p c)
     read_lasts o mid call is at told = (subst (λ writes. LastingPut folder syncs p writes (story o) (story mid)) (got_writes call is) (at.lasts (got_whole call is))) crash c can told
 
-    went_secure : (calls : List Call) (o n : H) → at o ≡ Some p → Went (Goes folder syncs at story fails) o calls n → ReadsFirst calls → Told (story o) (Holds crash p c)
+    went_secure : (calls : List Call) (o n : H) → at o ≡ Some p → Went (Goes place folder syncs at story fails) o calls n → ReadsFirst calls → Told (story o) (Holds crash p c)
         → AtAnyMoment (story o) (story n) (λ s u. IsSecure crash p c (last_writes calls) u)
     went_secure [] o n is went reads told = secure_still folder syncs p [] (story o) (story n) (ap story went) crash c can told
     went_secure (call ∷ []) o n is (mid, goes, went) reads told =
@@ -184,13 +185,20 @@ module _ {H : Type 0} (folder : List ℕ → List ℕ) (syncs : List ℕ → Boo
         (now crash c can told))
         (went_secure (next ∷ calls) mid n (goes.same ∙ is) went reads.1 (read_lasts o mid call reads.0 first told))
 
-    went_lasts : (calls : List Call) (o n : H) → at o ≡ Some p → Went (Goes folder syncs at story fails) o calls n → ReadsFirst calls → IsWholeLast calls → Told (story o) (Holds crash p c)
+    went_lasts : (calls : List Call) (o n : H) → at o ≡ Some p → Went (Goes place folder syncs at story fails) o calls n → ReadsFirst calls → IsWholeLast calls → Told (story o) (Holds crash p c)
         → Told (story n) (Holds crash p (written c (last_writes calls)))
     went_lasts [] o n is went reads whole told = subst (λ n. Told (story n) (Holds crash p c)) (sym went) told
     went_lasts (call ∷ []) o n is (mid, goes, went) reads whole told =
         subst (λ n. Told (story n) (Holds crash p (written c (writes_of call)))) (sym went) ((call_at o mid call is goes).lasts whole crash c can told)
     went_lasts (call ∷ (next ∷ calls)) o n is (mid, goes, went) reads whole told =
         went_lasts (next ∷ calls) mid n (goes.same ∙ is) went reads.1 whole (read_lasts o mid call reads.0 (call_at o mid call is goes) told)
+
+  -- reads change nothing, and one call more touches what is the home's own
+  went_touches : (calls : List Call) (o n : H) → at o ≡ Some p → Went (Goes place folder syncs at story fails) o calls n → ReadsFirst calls → TouchesOwn place p (story o) (story n)
+  went_touches [] o n is went reads = inl (ap story went)
+  went_touches (call ∷ []) o n is (mid, goes, went) reads = subst (λ n. TouchesOwn place p (story o) (story n)) (sym went) (call_at o mid call is goes).touches
+  went_touches (call ∷ (next ∷ calls)) o n is (mid, goes, went) reads =
+      subst (λ x. TouchesOwn place p x (story n)) ((call_at o mid call is goes).still (got_writes call reads.0)) (went_touches (next ∷ calls) mid n (goes.same ∙ is) went reads.1)
 
 -- ---- the machine
 
@@ -199,13 +207,6 @@ itself_left s = record { at = s.at; bytes = s.bytes }
 
 leaves_itself : (crash : Bool) (s : State) → Leaves crash s (record { at = s.at; bytes = s.bytes })
 leaves_itself crash s = record { at = λ q. inl refl; bytes = λ n safe. refl }
-
-abbrev IsThere : Option Story → Type 0
-IsThere None = ⊥
-IsThere (Some a) = Unit {0}
-
-some_none : (a : Story) → Some a ≡ None → ⊥
-some_none a is = subst IsThere is tt
 
 none_any : (R Q : State → State → Type 0) (x y : Option Story) → x ≡ None → AtAnyMoment x y R → AtAnyMoment x y Q
 none_any R Q None None is all = tt
@@ -239,15 +240,15 @@ module _ (laws : StopsAreSteps) (request : Request) (answer : Answer) (printed :
       let (k, most, shows) = subst (λ writes. (k : ℕ) × (k ≤ length writes) × Shows p left (written c (take k writes))) known.are.writes_are (secure left leaves) in
       by_come known.writes known.come left k most shows
 
-module _ {H : Type 0} (folder : List ℕ → List ℕ) (syncs : List ℕ → Bool) (at : H → Option Places) (story : H → Option Story) (fails : H → ℕ) (laws : StopsAreSteps) (request : Request)
+module _ {H : Type 0} (place folder : List ℕ → List ℕ) (syncs : List ℕ → Bool) (at : H → Option Places) (story : H → Option Story) (fails : H → ℕ) (laws : StopsAreSteps) (request : Request)
     (answer : Answer)
-    (calls : List Call) (printed : Printed) (o n : H) (done : Attempts (Goes folder syncs at story fails) o n (asked_of request) answer calls printed) where
+    (calls : List Call) (printed : Printed) (o n : H) (done : Attempts (Goes place folder syncs at story fails) o n (asked_of request) answer calls printed) where
   does_some : Writes done.1.0 (asked_of request) answer printed calls
   does_some = does_writes done.1.0 (asked_of request) answer printed calls (done.2 done.1.0 done.1.1)
 
   module _ (p : Places) (is : at o ≡ Some p) (crash : Bool) (c : Contents) (can : CanSync folder syncs crash p) where
     secure_calls : Told (story o) (Holds crash p c) → AtAnyMoment (story o) (story n) (λ s u. IsSecure crash p c (last_writes calls) u)
-    secure_calls told = went_secure folder syncs at story fails p crash c can calls o n is done.0 does_some.are.reads told
+    secure_calls told = went_secure place folder syncs at story fails p crash c can calls o n is done.0 does_some.are.reads told
 
     by_story : (s : Machine) → Stands c s → IsRegular c.journal → (x : Option Story) → story o ≡ x → Told x (Holds crash p c) → Told (story o) (Holds crash p c)
         → AtAnyMoment (story o) (story n) (λ _ u. StandsThen crash p s (asked_of request) u)
@@ -255,7 +256,7 @@ module _ {H : Type 0} (folder : List ℕ → List ℕ) (syncs : List ℕ → Boo
         none_any (λ _ u. IsSecure crash p c (last_writes calls) u) (λ _ u. StandsThen crash p s (asked_of request) u) (story o) (story n) e (secure_calls told)
     by_story s stands regular (Some a) e holds told =
         let there : contents_on (Some p) (story o) ≡ Some c = ap (contents_on (Some p)) e ∙ holds_contents p c a.now (holds (itself_left a.now) (leaves_itself crash a.now)) in
-        let known = does_writes c (asked_of request) answer printed calls (done.2 c (tell_all folder syncs at story fails p calls o n c is there done.0)) in
+        let known = does_writes c (asked_of request) answer printed calls (done.2 c (tell_all place folder syncs at story fails p calls o n c is there done.0)) in
         weaker_moments (IsSecure crash p c (last_writes calls)) (StandsThen crash p s (asked_of request)) (story o) (story n)
         (λ u secure. then_stands laws request answer printed p crash c s stands regular calls known u secure) (secure_calls told)
 
@@ -275,9 +276,16 @@ module _ {H : Type 0} (folder : List ℕ → List ℕ) (syncs : List ℕ → Boo
               (last_writes calls),
           holds,
         ))
-            (went_lasts folder syncs at story fails p crash c can calls o n e done.0 does_some.are.reads whole told))
+            (went_lasts place folder syncs at story fails p crash c can calls o n e done.0 does_some.are.reads whole told))
         | inr failed ↦ inl failed
       ]
 
   pub request_lasts : IfSome (at o) (λ p. (answer ≡ Err StoreFailed) ⊎ LastingRequest folder syncs p (story o) (story n))
   request_lasts = lasts_at (at o) refl
+
+  touches_at : (x : Option Places) → at o ≡ x → IfSome x (λ p. TouchesOwn place p (story o) (story n))
+  touches_at None e = tt
+  touches_at (Some p) e = went_touches place folder syncs at story fails p calls o n e done.0 does_some.are.reads
+
+  pub request_touches : IfSome (at o) (λ p. TouchesOwn place p (story o) (story n))
+  request_touches = touches_at (at o) refl

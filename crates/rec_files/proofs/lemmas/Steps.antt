@@ -1,12 +1,15 @@
 -- What several calls leave, one after another.
-use Rattle.std.proofs.Common.{◌≡◌, ◌≢◌, inl, inr, ℕ, ◌≤◌, ◌+◌, Bool, true, false, List, [], ◌∷◌, ◌++◌, length, take, Option, Some, None, Result, Ok, Err, refl, sym, ◌∙◌, ap, subst, arith, OnOk}
+use Rattle.std.proofs.Common.{◌≡◌, ◌≢◌, inl, inr, ℕ, ◌≤◌, ◌+◌, Bool, true, List, [], ◌∷◌, ◌++◌, length, take, Option, Some, None, Result, Ok, Err, refl, sym, ◌∙◌, ap, subst, arith, OnOk}
 use Rattle.std.proofs.Common.{length-take, length-append, take_all, IsSomeAnd, IfOk}
-use Rattle.rec_disk.specs.Disk.{State, Story, next, Goes, Told, Ends, AtAnyMoment, IsFolderSync, renamed, folder_synced}
-use Rattle.rec_disk.specs.proving.Places.{Avoids, Spares, Waits, IsUnmoved}
+use Rattle.std.specs.Prelude.{◌↔◌, IsTrue}
+use Rattle.rec_disk.specs.Disk.{State, Story, next, Goes, Told, Ends, AtAnyMoment, Look, SaysOf, IsLookFor, IsLookAt, renamed, folder_synced}
+use Rattle.rec_disk.specs.Lasting.{Spares}
+use Rattle.rec_disk.specs.proving.Places.{Avoids, Waits, IsUnmoved}
 use Rattle.rec_disk.proofs.lemmas.Places.{spares_itself, spares-folder_synced, waits_still, avoids_still}
 use Rattle.rec_disk.proofs.lemmas.Moments.{by_step, told_always, told_kept, told_both, told_so}
 use Rattle.rec_disk.proofs.lemmas.Calls.{avoids_unmoved}
-use Rattle.rec_files.specs.proving.Replacing.{IsSyncing, IsMadeAt, AreMade, AreApart, IsPlacing, IsPlaced}
+use Rattle.rec_files.specs.OnDisk.{Sites}
+use Rattle.rec_files.specs.proving.Replacing.{IsSyncing, IsMadeAt, AreMade, AreApart, IsPlacing, IsPlaced, SparesBut}
 
 pub on_ok : {X E : Type 0} (result : Result X E) (P : Type 0) → P → OnOk result P
 on_ok (Ok x) P holds = holds
@@ -19,6 +22,13 @@ on_ok_so (Err e) P Q so holds = tt
 pub if_ok_so : {X E : Type 0} (result : Result X E) (P Q : X → Type 0) → ((x : X) → P x → Q x) → IfOk result P → IfOk result Q
 if_ok_so (Ok x) P Q so holds = so x holds
 if_ok_so (Err e) P Q so holds = tt
+
+abbrev IsThere : Option Story → Type 0
+IsThere None = ⊥
+IsThere (Some a) = Unit {0}
+
+pub some_none : (a : Story) → Some a ≡ None → ⊥
+some_none a is = subst IsThere is tt
 
 pub some_known : {X : Type 0} (o : Option X) (x : X) (P : X → Type 0) → o ≡ Some x → IsSomeAnd o P → P x
 some_known o x P is holds = subst (λ o. IsSomeAnd o P) is holds
@@ -48,22 +58,6 @@ module _ (p : List ℕ) (folder : List ℕ → List ℕ) (syncs : List ℕ → B
   pub syncing_spares : {X E : Type 0} (o n : Option Story) (result : Result X E) → Goes o n result (IsSyncing folder syncs d) → AtAnyMoment o n (Spares p)
   syncing_spares o n result goes =
       by_step (Spares p) (IsSyncing folder syncs d) (λ s. Unit {0}) o n result (spares_itself p) (λ s t u step. syncing s t step) (told_always (λ s. Unit {0}) o (λ s. tt)) goes
-
--- a sync that was done, or couldn't be
-module _ (E : Type 0) (folder : List ℕ → List ℕ) (syncs : List ℕ → Bool) (q : List ℕ) where
-  pub folder_syncing : {X : Type 0} (o n : Option Story) (x : X) (done : Bool) → (done ≡ false → syncs (folder q) ≡ false) → Goes {E = E} o n (Ok done) (IsFolderSync {E = E} folder q (Ok done))
-      → Goes {E = E} o n (Ok x) (IsSyncing folder syncs (folder q))
-  folder_syncing None None x done unsynced goes = tt
-  folder_syncing None (Some b) x done unsynced goes = absurd goes
-  folder_syncing (Some a) n x true unsynced (t, is, told) = (t, inl is, told)
-  folder_syncing (Some a) n x false unsynced (t, is, told) = (t, inr (is, unsynced refl), told)
-
-  pub folder_unsynced : (X : Type 0) (o n : Option Story) (e f : E) → Goes {X = Bool} o n (Err e) (IsFolderSync folder q (Err e))
-      → Goes {X = X} o n (Err f) (IsSyncing folder syncs (folder q))
-  folder_unsynced X None None e f goes = tt
-  folder_unsynced X None (Some b) e f goes = absurd goes
-  folder_unsynced X (Some a) n e f (inl same) = inl same
-  folder_unsynced X (Some a) n e f (inr (t, never, told)) = absurd never
 
 -- ---- new files
 
@@ -104,21 +98,13 @@ made_on w m (Some a) (Some b) made spares = record {
 pub longer_than : (wj wf : List ℕ) → (0 ∷ (wj ++ wf) ≢ wj) × (0 ∷ (wj ++ wf) ≢ wf)
 longer_than wj wf = (λ e. omega (arith, ap length e, length-append wj wf), λ e. omega (arith, ap length e, length-append wj wf))
 
-pub apart_working : (f j wf wj : List ℕ) (o : Option Story) → Told o (λ s. AreApart f j wf wj) → Told o (λ s. wj ≢ wf)
-apart_working f j wf wj o apart = told_so (λ s. AreApart f j wf wj) (λ s. wj ≢ wf) o (λ s is. is.new_pair) apart
-
-pub apart_still : (wj wf : List ℕ) (o b : Option Story) → Told o (λ s. wj ≢ wf) → ((p : List ℕ) → p ≢ wj → p ≢ wf → AtAnyMoment o b (Spares p)) → Told b (λ s. wj ≢ wf)
-apart_still wj wf o b apart spares =
-    let away = longer_than wj wf in
-    told_kept (Spares (0 ∷ (wj ++ wf))) (λ s. wj ≢ wf) (λ s. wj ≢ wf) o b (λ s t ne same. ne) apart (spares (0 ∷ (wj ++ wf)) away.0 away.1)
-
-pub both_are : (wj wf : List ℕ) (n m : ℕ) (o b : Option Story) → Told o (λ s. wj ≢ wf) → Told o (IsMadeAt wj n) → ((p : List ℕ) → p ≢ wf → AtAnyMoment o b (Spares p)) → Told b (IsMadeAt wf m)
-    → Told b (AreMade wj wf n m)
-both_are wj wf n m None None apart one spares other = tt
-both_are wj wf n m None (Some b) apart one spares other = absurd (spares (0 ∷ (wj ++ wf)) (longer_than wj wf).1)
-both_are wj wf n m (Some a) None apart one spares other = absurd (spares wj apart)
-both_are wj wf n m (Some a) (Some b) apart one spares other = record {
-  journal = (spares wj apart).0.at ∙ one.at;
+pub both_are : (sites : Sites) (n m : ℕ) (o b : Option Story) → Told o (λ s. AreApart sites) → Told o (IsMadeAt sites.new_journal n) → SparesBut sites.new_file o b
+    → Told b (IsMadeAt sites.new_file m) → Told b (AreMade sites n m)
+both_are sites n m None None apart one spares other = tt
+both_are sites n m None (Some b) apart one spares other = absurd (spares (0 ∷ (sites.new_journal ++ sites.new_file)) (longer_than sites.new_journal sites.new_file).1)
+both_are sites n m (Some a) None apart one spares other = absurd (spares sites.new_journal apart.new_pair)
+both_are sites n m (Some a) (Some b) apart one spares other = record {
+  journal = (spares sites.new_journal apart.new_pair).0.at ∙ one.at;
   file = other;
   elsewhere = λ p ne_j ne_f. avoids_still p a.now b.now n (spares p ne_f).0 (one.elsewhere p ne_j);
 }
@@ -171,3 +157,23 @@ module _ (folder : List ℕ → List ℕ) (syncs : List ℕ → Bool) (w q : Lis
     placed_ends (Some a) b c x (Ok y) (t, is, told) more =
         let then : Goes {E = E} (Some (next a t)) c (Ok y) (IsSyncing folder syncs (folder q)) = subst (λ b. Goes {E = E} b c (Ok y) (IsSyncing folder syncs (folder q))) told more in
         subst (λ c. Ends (Some a) c (IsPlaced folder syncs w q)) (sym then.2) (placed_after a.now t then.0 is then.1)
+
+-- ---- what was seen
+
+module _ (s : State) (p : List ℕ) (n : ℕ) where
+  -- two looks are at one file
+  pub one_there : (own there : Option Look) (b : Bool) → IsSomeAnd own (IsLookFor s n) → IsSomeAnd there (IsLookAt s p)
+      → SaysOf (λ one. SaysOf (λ other. IsTrue b ↔ (one.number ≡ other.number)) own) there → b ≡ true → s.at p ≡ Some n
+  one_there None there b own_is there_is one is = absurd own_is
+  one_there (Some own) None b own_is there_is one is = absurd there_is
+  one_there (Some own) (Some there) b own_is there_is one is = there_is.number ∙ ap Some (one.0 is ∙ own_is.number)
+
+-- what was seen before is there still
+pub still_there : (s : State) (p : List ℕ) (seen there : Option Look) → IsSomeAnd there (IsLookAt s p)
+    → SaysOf (λ one. SaysOf (λ other. (one.number ≡ other.number) × (one.version ≡ other.version)) there) seen → SaysOf (IsLookAt s p) seen
+still_there s p None there there_is same = tt
+still_there s p (Some seen) None there_is same = absurd there_is
+still_there s p (Some seen) (Some there) there_is same = record {
+  number = there_is.number ∙ ap Some (sym same.0);
+  version = same.1 ∙ there_is.version ∙ ap s.version (sym same.0);
+}

@@ -1,9 +1,49 @@
 -- The steps in which a file and its journal are replaced.
-use Rattle.std.specs.Prelude.{◌≡◌, ◌≢◌, ◌⊎◌, ℕ, Bool, false, List, Option, Some, None, unwrap_or}
-use Rattle.rec_disk.specs.Disk.{State, Story, Told, AtAnyMoment, renamed, folder_synced}
-use Rattle.rec_disk.specs.proving.Places.{Outlasts, Avoids}
+use Rattle.std.specs.Prelude.{◌≡◌, ◌≢◌, ◌⊎◌, ℕ, Bool, false, List, Option, Some, None, IfSome, IsSomeAnd, unwrap_or}
+use Rattle.rec_disk.specs.Disk.{State, Story, Look, Told, SaysOf, IsLookAt, AtAnyMoment, renamed, folder_synced}
+use Rattle.rec_disk.specs.Lasting.{Spares}
+use Rattle.rec_disk.specs.proving.Places.{Outlasts, Avoids, Waits}
 use Rattle.rec_tools.specs.Home.{Contents}
-use Rattle.rec_files.specs.OnDisk.{Places, CanSync, or_empty}
+use Rattle.rec_files.specs.OnDisk.{Places, Sites, sites_of, CanSync, AreLeft, SparesStrangers, TouchesOwn, or_empty}
+
+-- ---- what was read
+
+-- nothing stands at a place where nothing was seen; else what the look says, where it says it
+abbrev pub IsAsSeen : List ℕ → Option (Option Look) → State → Type 0
+IsAsSeen p None s = s.at p ≡ None
+IsAsSeen p (Some look) s = SaysOf (IsLookAt s p) look
+
+-- the look, if there is one, was taken at the place, and what it saw stands there
+abbrev pub HasSeen : List ℕ → Option (Option Look) → State → Type 0
+HasSeen p None s = s.at p ≡ None
+HasSeen p (Some look) s = IsSomeAnd look (IsLookAt s p)
+
+abbrev pub AreAsSeen : Places → Option (Option Look) → Option (Option Look) → State → Type 0
+AreAsSeen p file journal s = IsAsSeen p.file file s × IsAsSeen p.journal journal s
+
+-- a file stands at a place, and no other program has it locked
+pub record IsFreeAt (p : List ℕ) (n : ℕ) (s : State) : Type 0 where
+  pub at : s.at p ≡ Some n
+  pub free : s.held n ≡ false
+
+-- what stands at a place: nothing, or a file that no other program has locked, and of which this holds
+pub record IsFound (p : List ℕ) (P : ℕ → Type 0) (s : State) (found : Option ℕ) : Type 0 where
+  pub at : s.at p ≡ found
+  pub is : IfSome found (λ n. (s.held n ≡ false) × P n)
+
+-- where this didn't hold before, nothing is changed
+abbrev pub OnlyWhere : (State → Type 0) → Option Story → Option Story → Type 0
+OnlyWhere P old new = (new ≡ old) ⊎ Told old P
+
+-- at any moment all places are spared but one, or but the two working ones
+abbrev pub SparesBut : List ℕ → Option Story → Option Story → Type 0
+SparesBut w old new = (p : List ℕ) → p ≢ w → AtAnyMoment old new (Spares p)
+
+abbrev pub SparesButNew : Sites → Option Story → Option Story → Type 0
+SparesButNew sites old new =
+    (p : List ℕ) → p ≢ sites.new_journal → p ≢ sites.new_file → AtAnyMoment old new (Spares p)
+
+-- ---- steps
 
 -- a folder is synced, where it can be
 abbrev pub IsSyncing : (List ℕ → List ℕ) → (List ℕ → Bool) → List ℕ → State → State → Type 0
@@ -14,11 +54,16 @@ pub record IsMadeAt (w : List ℕ) (n : ℕ) (t : State) : Type 0 where
   pub at : t.at w ≡ Some n
   pub elsewhere : (p : List ℕ) → p ≢ w → Avoids t p n
 
--- both new files were made, the journal's first: the one at one place and the other at the other
-pub record AreMade (wj wf : List ℕ) (n m : ℕ) (t : State) : Type 0 where
-  pub journal : t.at wj ≡ Some n
-  pub file : IsMadeAt wf m t
-  pub elsewhere : (p : List ℕ) → p ≢ wj → p ≢ wf → Avoids t p n
+-- both new files were made, the journal's first
+pub record AreMade (sites : Sites) (n m : ℕ) (t : State) : Type 0 where
+  pub journal : t.at sites.new_journal ≡ Some n
+  pub file : IsMadeAt sites.new_file m t
+  pub elsewhere : (p : List ℕ) → p ≢ sites.new_journal → p ≢ sites.new_file → Avoids t p n
+
+-- both wait to be put in place
+pub record BothWait (sites : Sites) (journal_bytes file_bytes : List ℕ) (t : State) : Type 0 where
+  pub journal : Waits t sites.new_journal journal_bytes
+  pub file : Waits t sites.new_file file_bytes
 
 -- what stands at a working place is renamed to its place, whose folder is then synced: not yet, maybe not for good,
 -- for good
@@ -36,14 +81,22 @@ pub record AreResolved (place leads : List ℕ → List ℕ) (given_file given_j
   pub file_is : place file ≡ leads given_file
   pub journal_is : place journal ≡ leads given_journal
 
--- the places of the two, and those under whose names they are written, are four
-pub record AreApart (file journal new_file new_journal : List ℕ) : Type 0 where
-  pub file_new_file : file ≢ new_file
-  pub journal_new_journal : journal ≢ new_journal
-  pub pair : journal ≢ file
-  pub file_new_journal : file ≢ new_journal
-  pub journal_new_file : journal ≢ new_file
-  pub new_pair : new_journal ≢ new_file
+-- they are four places
+pub record AreApart (sites : Sites) : Type 0 where
+  pub file_new_file : sites.file ≢ sites.new_file
+  pub journal_new_journal : sites.journal ≢ sites.new_journal
+  pub pair : sites.journal ≢ sites.file
+  pub file_new_journal : sites.file ≢ sites.new_journal
+  pub journal_new_file : sites.journal ≢ sites.new_file
+  pub new_pair : sites.new_journal ≢ sites.new_file
+
+-- what holds where a put begins: both are as they were seen
+pub record MayBegin (place leads : List ℕ → List ℕ) (given_file given_journal file journal : List ℕ)
+    (file_seen journal_seen : Option (Option Look)) (s : State) : Type 0 where
+  pub seen : AreAsSeen (record { file = leads given_file; journal = leads given_journal }) file_seen journal_seen s
+  pub left : AreLeft (sites_of place file journal) s
+  pub apart : AreApart (sites_of place file journal)
+  pub resolved : AreResolved place leads given_file given_journal file journal
 
 -- ---- what is seen of the two, whatever is left
 
@@ -77,6 +130,10 @@ Between crash p c journal (Some file) s =
 abbrev pub led : (List ℕ → List ℕ) → List ℕ → List ℕ → Places
 led leads file journal = record { file = leads file; journal = leads journal }
 
+-- the two of the four that are the home's
+abbrev pub own_of : Sites → Places
+own_of sites = record { file = sites.file; journal = sites.journal }
+
 -- at any moment the contents are in between
 abbrev pub Moments : (List ℕ → List ℕ) → (List ℕ → Bool) → Places → List ℕ → Option (List ℕ) → Option Story
     → Option Story → Type 0
@@ -88,3 +145,17 @@ abbrev pub Persists : (List ℕ → List ℕ) → (List ℕ → Bool) → Places
     → Option Story → Type 0
 Persists folder syncs p journal file old new = (crash : Bool) (c : Contents) → CanSync folder syncs crash p
     → Told old (LastAs crash p c.file c.journal) → Told new (LastAs crash p (unwrap_or file c.file) journal)
+
+-- what a replace does by the four places
+pub record IsReplacing (folder : List ℕ → List ℕ) (syncs : List ℕ → Bool) (sites : Sites) (journal : List ℕ)
+    (file : Option (List ℕ))
+    (old new : Option Story) : Type 0 where
+  pub moments : Moments folder syncs (own_of sites) journal file old new
+  pub strangers : SparesStrangers sites old new
+
+-- and a put by the places of the home
+pub record IsPut (place folder : List ℕ → List ℕ) (syncs : List ℕ → Bool) (p : Places) (journal : List ℕ)
+    (file : Option (List ℕ))
+    (old new : Option Story) : Type 0 where
+  pub moments : Moments folder syncs p journal file old new
+  pub touches : TouchesOwn place p old new

@@ -1,18 +1,25 @@
 use Rattle.std.specs.Prelude.{option_map, string_bytes}
 use Rattle.rec_files.specs.OnDisk.{places_by}
-use Rattle.rec_files.proofs.lemmas.Requests.{request_secure, request_lasts}
+use Rattle.rec_files.proofs.lemmas.Requests.{request_secure, request_lasts, request_touches}
 use Rattle.rec_files.proofs.running.run.Goals as goal
 
 pub returns-clause-any_moment : goal.returns-clause-any_moment
 returns-clause-any_moment g c =
     let (calls, printed, out, done) = c.run.ensures.attempts in
-    request_secure g.D.Disk.folder g.D.Disk.syncs (λ home. places_by g.D.Disk.leads (option_map string_bytes home.file) (string_bytes home.journal)) (λ home. g.D.Disk.story home.disk)
+    request_secure g.D.Disk.place g.D.Disk.folder g.D.Disk.syncs (λ home. places_by g.D.Disk.leads (option_map string_bytes home.file) (string_bytes home.journal)) (λ home. g.D.Disk.story home.disk)
     (λ home. home.failed)
     c.stops_are_steps.ensures.stops c.args.request.now c.run.result calls printed c.args.home.now c.run.new.home done
 
 pub returns-clause-lasting : goal.returns-clause-lasting
 returns-clause-lasting g c =
     let (calls, printed, out, done) = c.run.ensures.attempts in
-    request_lasts g.D.Disk.folder g.D.Disk.syncs (λ home. places_by g.D.Disk.leads (option_map string_bytes home.file) (string_bytes home.journal)) (λ home. g.D.Disk.story home.disk)
+    request_lasts g.D.Disk.place g.D.Disk.folder g.D.Disk.syncs (λ home. places_by g.D.Disk.leads (option_map string_bytes home.file) (string_bytes home.journal)) (λ home. g.D.Disk.story home.disk)
+    (λ home. home.failed)
+    c.stops_are_steps.ensures.stops c.args.request.now c.run.result calls printed c.args.home.now c.run.new.home done
+
+pub returns-clause-touches : goal.returns-clause-touches
+returns-clause-touches g c =
+    let (calls, printed, out, done) = c.run.ensures.attempts in
+    request_touches g.D.Disk.place g.D.Disk.folder g.D.Disk.syncs (λ home. places_by g.D.Disk.leads (option_map string_bytes home.file) (string_bytes home.journal)) (λ home. g.D.Disk.story home.disk)
     (λ home. home.failed)
     c.stops_are_steps.ensures.stops c.args.request.now c.run.result calls printed c.args.home.now c.run.new.home done

@@ -4,5 +4,5 @@ use Rattle.rec_files.proofs.target.Target.remove_leftover.Goals as goal
 
 pub returns : goal.returns
 returns g c = record {
-  spares = λ p ne. remove_spares p _ _ _ c.remove.result (subst (λ path. p ≢ g.D.Disk.place path) (sym c.as_str.ensures.value) ne) c.remove.ensures;
+  spares = λ p ne. remove_spares p _ _ _ c.remove.result (subst (λ path. p ≢ g.D.Disk.place path) (sym c.working.ensures) ne) c.remove.ensures;
 }

@@ -6,5 +6,5 @@ pub returns-in-Ok-true : goal.returns-in-Ok-true
 returns-in-Ok-true g c = record {
   spares = λ p ne.
       spares_on p _ _ _ (spares_still p _ _ c.leads_to.ensures.same)
-      (remove_spares p _ _ _ c.remove.result (subst (λ path. p ≢ g.D.Disk.place path) (sym c.as_str-in-Ok-true.ensures.value) ne) c.remove.ensures);
+      (remove_spares p _ _ _ c.remove.result (subst (λ path. p ≢ g.D.Disk.place path) (sym c.working-in-Ok-true.ensures) ne) c.remove.ensures);
 }

@@ -1,13 +1,20 @@
 # A file and its journal in one folder and in two: in which order names are made, removed and renamed and what is on the disk is
 # synced, as strace shows it, and what a command that was ended and a power cut leave. By that order a power cut keeps what the
-# next command has to find.
+# next command has to find. What rec_crashes notes of its requests on a disk in memory is what the program does to files, and it is
+# replayed on files up to each moment (crashes.py). REC_CRASHES names another program than crates/rec_crashes/out/rec_crashes.
 
 load helpers
 load calls
 
+stories=$(realpath -m "${REC_CRASHES:-$top/crates/rec_crashes/out/rec_crashes}")
+
 setup_file() {
     need_program
     build_calls
+}
+
+need_stories() {
+    [ -x "$stories" ] || fail "there is no $stories: bash test.sh proofs makes it"
 }
 
 # can_trace: strace is there and may trace
@@ -320,4 +327,48 @@ sync_fails() {
     has err "e/j: the edits are forgotten, but its folder could not be synced, so a power cut may bring them back: Input/output error (os error 5)¶$store_failed"
     recu 0 history --journal e/j d/db.rec
     prints 'done 1 recset¶' ''
+}
+
+# noted NUMBER FOLDERS WORD..: recu with these words changes the names and files that rec_crashes notes for the request of this
+# number, in the same order, and leaves the bytes that it notes
+noted() {
+    local name
+    traced "${@:3}"
+    "$stories" log "$1" "$2" > noted
+    grep -v '^look ' calls > "$BATS_TEST_TMPDIR/done"
+    sed -E 's/^(write [^ ]+) .*/\1/; s/^sync_folder /sync /' noted | has "$BATS_TEST_TMPDIR/done"
+    for name in $(sed -n 's/^rename .* //p' noted); do
+        has "$name" "$(sed -n "s|^write $name.new ||p" noted)"
+    done
+    rm calls noted
+}
+
+# The requests of rec_crashes, in words: all that it has.
+all_noted() {
+    local set='Tool: recset¶Number: 0¶Fields: A¶Set: 5¶' words=("${@:2}")
+    put "${words[-1]}" 'A: 1¶¶A: 2¶'
+    put changes "$set"
+    noted 0 "$1" batch -b changes "${words[@]}"
+    put changes 'Tool: recdel¶Number: 1¶'
+    noted 1 "$1" batch -b changes "${words[@]}"
+    noted 2 "$1" undo "${words[@]}"
+    noted 3 "$1" redo "${words[@]}"
+    noted 4 "$1" forget 1 "${words[@]}"
+    put changes 'Tool: recins¶Field: B¶Value: 3¶'
+    noted 5 "$1" batch -b changes "${words[@]}"
+    [ "$("$stories" log 6 "$1")" = 'usage: rec_crashes [log NUMBER FOLDERS]' ] || fail 'there is a request more'
+}
+
+@test "what is done to files is what is noted on a disk in memory" {
+    can_trace
+    need_stories
+    fast all_noted 1 db.rec
+    mkdir a b
+    fast all_noted 2 --journal b/db.rec.journal a/db.rec
+    [ -z "$(find . -name '*.new')" ] || fail 'left over'
+}
+
+@test "what a crash may leave at each moment, on files" {
+    need_stories
+    python3 "$top/tests/crashes.py" "$program" "$stories"
 }

@@ -1,140 +1,258 @@
-//! A file on a disk in memory, and requests that are stopped.
+//! A file and its journal on a disk in memory, and requests on them.
+use crate::paths::Paths;
+use crate::requests::{NEXT, TEXT, first_text, request};
+use crate::story::Story;
 use rec_disk::{Disk, MemoryDisk};
 use rec_files::{Access, DiskHome, run};
 use rec_tools::{Bytes, Output, Request};
 use std::alloc::{AllocError, Global};
-use std::io;
 use std::io::Error;
+use std::{io, mem};
 
-const FILE: &str = "db.rec";
-
-const JOURNAL: &str = "db.rec.journal";
-
-const TEXT: &str = "A: 1\n\nA: 2\n";
-/// The text once the first request was made.
-const FIRST: &str = "A: 5\n\nA: 2\n";
-
-/// The request that forgets the first edit.
-const FORGETTING: usize = 4;
-
-/// How many requests there are.
-pub const REQUESTS: usize = 6;
-
-/// More calls than a request makes of the disk.
-const CALLS: u64 = 150;
-
-/// From this call of a request on, counted from 0, the disk answers none.
-#[derive(Clone, Copy)]
-pub struct Stop {
-    pub call: u64,
-    /// Whether what that call changes is changed all the same.
-    pub done: bool,
+/// What stands before or after a request.
+#[derive(Drop)]
+pub struct State {
+    file: Option<Vec<u8>>,
+    journal: Option<Vec<u8>>,
+    /// The edits that can be undone and redone, with what each of them changed, as they are printed.
+    edits: Vec<u8>,
+    /// The text to which undo of all leads.
+    first: &'static str,
 }
 
-/// The request of a number. Each is made after those before it; the last is to follow each of them.
-fn request(alloc: Global, number: usize) -> Result<Request, AllocError> {
-    let text = match number {
-        0 => "Tool: recset\nNumber: 0\nFields: A\nSet: 5\n",
-        1 => "Tool: recdel\nNumber: 1\n",
-        2 => return Ok(Request::Undo(None)),
-        3 => return Ok(Request::Redo(None)),
-        FORGETTING => return Ok(Request::Forget(1)),
-        _ => "Tool: recins\nField: B\nValue: 3\n",
-    };
-    Ok(Request::Batch {
-        text: Bytes::copy_of(alloc, text.as_bytes())?,
-        force: false,
-    })
-}
-
-/// Runs a request on a disk, and says whether it was made.
-fn run_on(rt: &HostRuntime, disk: MemoryDisk, request: &Request) -> io::Result<(MemoryDisk, bool)> {
-    let alloc = rt.alloc();
-    let file = String::from_str(alloc, FILE)?;
-    let journal = String::from_str(alloc, JOURNAL)?;
-    let mut home = DiskHome::new(rt, disk, Some(file), Some(journal), Access::Change);
-    let mut out = Output {
-        writer: rt.stdout(),
-        failed: 0,
-    };
-    let is_made = run(alloc, &mut home, &mut out, request).is_ok();
-    Ok((home.into_disk(), is_made))
-}
-
-/// A disk with the file, on which this many requests were made.
-fn prepare(rt: &HostRuntime, count: usize) -> io::Result<MemoryDisk> {
-    let mut disk = MemoryDisk::new(rt.alloc());
-    let file = disk.make(FILE)?;
-    disk.write(&file, TEXT.as_bytes())?;
-    for number in 0..count {
-        disk = make(rt, disk, number)?;
-    }
-    Ok(disk)
-}
-
-/// Runs a request that is to be made.
-fn make(rt: &HostRuntime, disk: MemoryDisk, number: usize) -> io::Result<MemoryDisk> {
-    let request = request(rt.alloc(), number)?;
-    let (disk, is_made) = run_on(rt, disk, &request)?;
-    if is_made {
-        Ok(disk)
-    } else {
-        Err(told(rt, number, "is refused"))
+impl State {
+    fn new(alloc: Global) -> State {
+        State {
+            file: None,
+            journal: None,
+            edits: Vec::new(alloc),
+            first: TEXT,
+        }
     }
 }
 
-/// Stops a request there, and checks that nothing is lost; or says that it ends before.
-pub fn stop_at(rt: &HostRuntime, number: usize, stop: Stop) -> io::Result<bool> {
-    let mut disk = prepare(rt, number)?;
-    let first = disk.calls.saturating_add(stop.call);
-    silence(&mut disk, first, stop.done)?;
-    let request = request(rt.alloc(), number)?;
-    let (mut disk, _) = run_on(rt, disk, &request)?;
-    if disk.calls <= first {
-        return Ok(false);
-    }
-    disk.faults.clear();
-    check_after(rt, disk, number)?;
-    Ok(true)
+/// A disk, and what stood on it before and after a request.
+#[derive(Drop)]
+pub struct Scene<'r> {
+    pub rt: &'r HostRuntime,
+    pub paths: Paths,
+    pub disk: MemoryDisk,
+    /// What the last request printed.
+    out: Output<Vec<u8>>,
+    /// The request that is looked at.
+    number: usize,
+    /// What was there at this moment is there for good.
+    start: usize,
+    before: State,
+    after: State,
+    /// After an edit that followed a request that was stopped.
+    next: Option<State>,
 }
 
-/// Lets all calls from this one on fail.
-fn silence(disk: &mut MemoryDisk, first: u64, done: bool) -> Result<(), AllocError> {
-    disk.fail(first, done)?;
-    for later in 1..CALLS {
-        disk.fail(first.saturating_add(later), false)?;
+impl<'r> Scene<'r> {
+    /// An empty disk.
+    pub fn new(rt: &'r HostRuntime, paths: Paths) -> Scene<'r> {
+        let alloc = rt.alloc();
+        Scene {
+            rt,
+            paths,
+            disk: MemoryDisk::new(alloc),
+            out: Output {
+                writer: Vec::new(alloc),
+                failed: 0,
+            },
+            number: 0,
+            start: 0,
+            before: State::new(alloc),
+            after: State::new(alloc),
+            next: None,
+        }
     }
+
+    /// Empties the disk.
+    pub fn clear(&mut self) {
+        self.disk.log.clear();
+        self.disk.faults.clear();
+        self.disk.calls = 0;
+    }
+
+    /// Lets the first text stand before the first request.
+    pub fn put_first(&mut self) -> io::Result<()> {
+        self.clear();
+        keep(&mut self.disk, self.paths.file, TEXT.as_bytes())?;
+        self.before = self.see(TEXT)?;
+        Ok(())
+    }
+
+    /// Lays what stood before the request on an empty disk, for good.
+    pub fn begin(&mut self) -> io::Result<()> {
+        self.clear();
+        keep_any(&mut self.disk, self.paths.file, &self.before.file)?;
+        keep_any(&mut self.disk, self.paths.journal, &self.before.journal)?;
+        self.start = self.disk.log.len();
+        Ok(())
+    }
+
+    /// Makes the request after what stood before it, and tells what it did.
+    pub fn learn(&mut self, number: usize) -> io::Result<Story> {
+        self.number = number;
+        self.begin()?;
+        self.make(number)?;
+        self.next = None;
+        self.after = self.see(first_text(number.saturating_add(1)))?;
+        let begun = self.start;
+        Ok(self.take_story(begun))
+    }
+
+    /// Makes the next edit after a request that was stopped, and tells what it did.
+    pub fn learn_next(&mut self) -> io::Result<Story> {
+        self.next = None;
+        let first = self.check_stands()?;
+        let begun = self.disk.log.len();
+        self.make(NEXT)?;
+        self.next = Some(self.see(first)?);
+        Ok(self.take_story(begun))
+    }
+
+    /// What was done to the disk, which is empty after it.
+    fn take_story(&mut self, begun: usize) -> Story {
+        Story {
+            log: mem::replace(&mut self.disk.log, Vec::new(self.rt.alloc())),
+            start: self.start,
+            begun,
+            paths: self.paths,
+        }
+    }
+
+    /// Goes on to the next request: what stood after the last one stands before it.
+    pub fn go_on(&mut self) {
+        self.before = mem::replace(&mut self.after, State::new(self.rt.alloc()));
+    }
+
+    /// Runs a request, and says whether it was made.
+    fn run(&mut self, request: &Request, access: Access) -> io::Result<bool> {
+        let alloc = self.rt.alloc();
+        let file = String::from_str(alloc, self.paths.file)?;
+        let journal = String::from_str(alloc, self.paths.journal)?;
+        let disk = mem::replace(&mut self.disk, MemoryDisk::new(alloc));
+        let mut home = DiskHome::new(self.rt, disk, Some(file), Some(journal), access);
+        self.out.writer.clear();
+        let is_made = run(alloc, &mut home, &mut self.out, request).is_ok();
+        self.disk = home.into_disk();
+        Ok(is_made)
+    }
+
+    /// Runs the request of a number, and says whether it was made.
+    pub fn try_make(&mut self, number: usize) -> io::Result<bool> {
+        let request = request(self.rt.alloc(), number)?;
+        self.run(&request, Access::Change)
+    }
+
+    /// Runs the request of a number, which is to be made.
+    fn make(&mut self, number: usize) -> io::Result<()> {
+        if self.try_make(number)? {
+            Ok(())
+        } else {
+            Err(self.told("a request is refused"))
+        }
+    }
+
+    fn undo(&mut self) -> io::Result<bool> {
+        self.run(&Request::Undo(None), Access::Change)
+    }
+
+    fn undo_all(&mut self) -> io::Result<()> {
+        for _ in 0..20 {
+            if !self.undo()? {
+                break;
+            }
+        }
+        Ok(())
+    }
+
+    /// Prints the edits, without a lock, and says whether the journal could be read.
+    fn look(&mut self) -> io::Result<bool> {
+        let name = Bytes::from_vec(Vec::new(self.rt.alloc()));
+        self.run(&Request::Log(name), Access::Look)
+    }
+
+    /// What stands on the disk.
+    fn see(&mut self, first: &'static str) -> io::Result<State> {
+        if !self.look()? {
+            return Err(self.told("the journal can't be read"));
+        }
+        Ok(State {
+            file: self.copy_at(self.paths.file)?,
+            journal: self.copy_at(self.paths.journal)?,
+            edits: Vec::from_slice(self.rt.alloc(), &self.out.writer)?,
+            first,
+        })
+    }
+
+    fn copy_at(&self, path: &str) -> Result<Option<Vec<u8>>, AllocError> {
+        match self.disk.bytes_at(path) {
+            Some(bytes) => Ok(Some(Vec::from_slice(self.rt.alloc(), bytes)?)),
+            None => Ok(None),
+        }
+    }
+
+    /// Whether the file holds the state's text, and what was printed are its edits.
+    fn is_seen(&self, state: &State) -> bool {
+        self.disk.bytes_at(self.paths.file) == state.file.as_deref()
+            && self.out.writer.as_slice() == state.edits.as_slice()
+    }
+
+    /// Checks that the state before the request stands, or the one after it or after the next edit, and gives the text to
+    /// which undo of all leads from it.
+    pub fn check_stands(&mut self) -> io::Result<&'static str> {
+        if !self.look()? {
+            Err(self.told("the journal can't be read"))
+        } else if self.is_seen(&self.before) {
+            Ok(self.before.first)
+        } else if self.is_seen(&self.after) {
+            Ok(self.after.first)
+        } else if let Some(next) = &self.next
+            && self.is_seen(next)
+        {
+            Ok(next.first)
+        } else {
+            Err(self.told("neither the state before nor the one after"))
+        }
+    }
+
+    /// Checks besides that the next edit is made, whatever lies under the working names, and that undo of all leads to the
+    /// first text.
+    pub fn check_goes_on(&mut self) -> io::Result<()> {
+        let first = self.check_stands()?;
+        self.make(NEXT)?;
+        self.undo_all()?;
+        if self.disk.bytes_at(self.paths.file) == Some(first.as_bytes()) {
+            Ok(())
+        } else {
+            Err(self.told("edits are lost"))
+        }
+    }
+
+    /// What went wrong, which is printed.
+    fn told(&self, what: &str) -> Error {
+        let _ = println!(self.rt; "request {}, {}: {what}", self.number, self.paths.file);
+        Error::other("a request went wrong")
+    }
+}
+
+/// Makes a file of these bytes, which is there for good.
+pub fn keep(disk: &mut MemoryDisk, path: &str, bytes: &[u8]) -> io::Result<()> {
+    let file = disk.make(path)?;
+    disk.write(&file, bytes)?;
+    disk.sync(&file)?;
+    disk.sync_folder(path)?;
     Ok(())
 }
 
-/// The next edit is made, whatever lies under the working names, and undo of all leads to the first text, or, where the first
-/// edit was forgotten, to the one after it.
-fn check_after(rt: &HostRuntime, disk: MemoryDisk, number: usize) -> io::Result<()> {
-    let disk = make(rt, disk, REQUESTS - 1)?;
-    let disk = undo_all(rt, disk)?;
-    let text = disk.bytes_at(FILE);
-    let is_first = text == Some(TEXT.as_bytes());
-    let is_second = text == Some(FIRST.as_bytes());
-    if number <= FORGETTING && is_first || number >= FORGETTING && is_second {
-        Ok(())
-    } else {
-        Err(told(rt, number, "was stopped, and its edits are lost"))
+/// Makes a file, where there was one.
+fn keep_any(disk: &mut MemoryDisk, path: &str, bytes: &Option<Vec<u8>>) -> io::Result<()> {
+    match bytes {
+        Some(bytes) => keep(disk, path, bytes),
+        None => Ok(()),
     }
-}
-
-fn undo_all(rt: &HostRuntime, mut disk: MemoryDisk) -> io::Result<MemoryDisk> {
-    for _ in 0..20 {
-        let (later, is_made) = run_on(rt, disk, &Request::Undo(None))?;
-        disk = later;
-        if !is_made {
-            break;
-        }
-    }
-    Ok(disk)
-}
-
-/// What went wrong, which is printed.
-fn told(rt: &HostRuntime, number: usize, what: &str) -> Error {
-    let _ = println!(rt; "request {number} {what}");
-    Error::other("a request went wrong")
 }

@@ -1,0 +1,39 @@
+//! The requests, each made after those before it, and the texts to which undo of all edits leads.
+use rec_tools::{Bytes, Request};
+use std::alloc::{AllocError, Global};
+
+/// The text before the first request.
+pub const TEXT: &str = "A: 1\n\nA: 2\n";
+
+/// The text after the first request.
+const FIRST: &str = "A: 5\n\nA: 2\n";
+
+/// The request that forgets the first edit.
+const FORGETTING: usize = 4;
+
+/// How many requests there are.
+pub const REQUESTS: usize = 6;
+
+/// An edit that can follow each request.
+pub const NEXT: usize = REQUESTS - 1;
+
+/// The request of a number.
+pub fn request(alloc: Global, number: usize) -> Result<Request, AllocError> {
+    let text = match number {
+        0 => "Tool: recset\nNumber: 0\nFields: A\nSet: 5\n",
+        1 => "Tool: recdel\nNumber: 1\n",
+        2 => return Ok(Request::Undo(None)),
+        3 => return Ok(Request::Redo(None)),
+        FORGETTING => return Ok(Request::Forget(1)),
+        _ => "Tool: recins\nField: B\nValue: 3\n",
+    };
+    Ok(Request::Batch {
+        text: Bytes::copy_of(alloc, text.as_bytes())?,
+        force: false,
+    })
+}
+
+/// The text to which undo of all leads once this number of requests was made.
+pub fn first_text(made: usize) -> &'static str {
+    if made <= FORGETTING { TEXT } else { FIRST }
+}

@@ -47,11 +47,12 @@ proofs() {
 }
 
 # Says, in seconds, which wrong body doesn't apply any more, which public function has none, whether docs/calls.md lists the
-# public functions, and which of those that need memory has no test in which it is refused; and in which places words stand
-# that are to be avoided.
+# public functions, and which of those that need memory has no test in which it is refused; whether docs/guarantees.md counts
+# what has to be read for a clause; and in which places words stand that are to be avoided.
 looks() {
     local look
-    for look in 'wrong-bodies.py applied' 'wrong-bodies.py covered' 'wrong-bodies.py listed' 'wrong-bodies.py grown' words.py; do
+    for look in 'wrong-bodies.py applied' 'wrong-bodies.py covered' 'wrong-bodies.py listed' 'wrong-bodies.py grown' \
+        'reading-list.py compare' words.py; do
         # (a script, and for most of them a word)
         if python3 tests/$look; then passed=$((passed + 1)); else failed=$((failed + 1)); fi
     done

@@ -19,7 +19,7 @@ fn print_change(rt: &HostRuntime, story: &Story, step: &Step) -> io::Result<()> 
             print_bytes(rt, bytes)?;
             println!(rt; "")
         }
-        Step::Synced { number, .. } => println!(rt; "sync {}", story.path_of(*number)),
+        Step::Synced { number } => println!(rt; "sync {}", story.path_of(*number)),
         Step::Renamed { from, to } => println!(rt; "rename {from} {to}"),
         Step::Removed { path } => println!(rt; "remove {path}"),
         Step::FolderSynced { path } => println!(rt; "sync_folder {}", folder_of(path.as_str())),

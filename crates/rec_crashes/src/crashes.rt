@@ -62,6 +62,7 @@ struct Left {
 
 /// Lets the machine crash at each moment of a request, and says how many disks that may leave, read in both ways.
 pub fn crash_everywhere(scene: &mut Scene<'_>, story: &Story) -> io::Result<u64> {
+    check_lasting(scene, story)?;
     let weakest = crash_by(scene, story, Reading::Weakest)?;
     let in_order = crash_by(scene, story, Reading::InOrder)?;
     Ok(weakest.saturating_add(in_order))
@@ -84,6 +85,45 @@ pub fn crash_after_stops(scene: &mut Scene<'_>, number: usize) -> io::Result<u64
     Ok(crashes)
 }
 
+/// Makes a request on files of which nothing was synced, lets the machine crash at each moment of it, and says how many disks
+/// that may leave which it might not have left before.
+pub fn crash_unsynced(scene: &mut Scene<'_>) -> io::Result<u64> {
+    let story = scene.learn_unsynced()?;
+    let alloc = scene.rt.alloc();
+    let before = lefts_at(alloc, &story, Reading::Weakest, story.begun)?;
+    let lefts = lefts_of(alloc, &story, Reading::Weakest)?;
+    check_lasting(scene, &story)?;
+    check_others(scene, &story, &before, &lefts)
+}
+
+/// Checks of each disk that nothing is lost, but of those that might have been left before.
+fn check_others(
+    scene: &mut Scene<'_>,
+    story: &Story,
+    before: &[Left],
+    lefts: &[Left],
+) -> io::Result<u64> {
+    let mut crashes = 0u64;
+    for left in lefts {
+        if !before.contains(left) {
+            lay(scene, story, left)?;
+            scene.check_stands()?;
+            crashes = crashes.saturating_add(1);
+        }
+    }
+    Ok(crashes)
+}
+
+/// Checks that whatever a crash leaves after a request is what it made.
+fn check_lasting(scene: &mut Scene<'_>, story: &Story) -> io::Result<()> {
+    let lefts = lefts_at(scene.rt.alloc(), story, Reading::Weakest, story.log.len())?;
+    for left in &lefts {
+        lay(scene, story, left)?;
+        scene.check_made()?;
+    }
+    Ok(())
+}
+
 /// Makes the next edit, and lets the machine crash at each moment of that.
 fn crash_next(scene: &mut Scene<'_>) -> io::Result<u64> {
     let story = scene.learn_next()?;
@@ -99,23 +139,40 @@ fn crash_by(scene: &mut Scene<'_>, story: &Story, reading: Reading) -> io::Resul
 fn lefts_of(alloc: Global, story: &Story, reading: Reading) -> Result<Vec<Left>, AllocError> {
     let mut lefts = Vec::new(alloc);
     for moment in story.begun..=story.log.len() {
-        let crash = Crash {
-            reading,
-            moment,
-            file: moment,
-            journal: moment,
-            file_filling: Filling::All,
-            journal_filling: Filling::All,
-        };
-        add_crash(&mut lefts, story, crash)?;
+        add_lefts(&mut lefts, story, reading, moment)?;
     }
     Ok(lefts)
 }
 
-/// Adds what is left with the file as it stood at each moment since its folder was synced.
-fn add_crash(lefts: &mut Vec<Left>, story: &Story, crash: Crash) -> Result<(), AllocError> {
-    for file in story.last_sync(crash.moment, story.paths.file)..=crash.moment {
-        add_with_file(lefts, story, Crash { file, ..crash })?;
+/// All that a crash at one moment may leave.
+fn lefts_at(
+    alloc: Global,
+    story: &Story,
+    reading: Reading,
+    moment: usize,
+) -> Result<Vec<Left>, AllocError> {
+    let mut lefts = Vec::new(alloc);
+    add_lefts(&mut lefts, story, reading, moment)?;
+    Ok(lefts)
+}
+
+/// Adds what a crash at a moment leaves, with the file as it stood at each moment since its folder was synced.
+fn add_lefts(
+    lefts: &mut Vec<Left>,
+    story: &Story,
+    reading: Reading,
+    moment: usize,
+) -> Result<(), AllocError> {
+    for file in story.last_sync(moment, story.paths.file)..=moment {
+        let crash = Crash {
+            reading,
+            moment,
+            file,
+            journal: moment,
+            file_filling: Filling::All,
+            journal_filling: Filling::All,
+        };
+        add_with_file(lefts, story, crash)?;
     }
     Ok(())
 }

@@ -12,7 +12,7 @@ mod stops;
 mod story;
 
 use changes::print_changes;
-use crashes::{crash_after_stops, crash_everywhere};
+use crashes::{crash_after_stops, crash_everywhere, crash_unsynced};
 use paths::Folders;
 use requests::REQUESTS;
 use scene::Scene;
@@ -106,15 +106,17 @@ fn play_requests(scene: &mut Scene<'_>) -> io::Result<Counts> {
     Ok(counts)
 }
 
-/// Stops a request at each of its calls, and lets the machine crash at each moment of it, and of the next edit after a stop.
+/// Stops a request at each of its calls, and lets the machine crash at each moment of it, on files that were synced and on ones
+/// that were not, and of the next edit after a stop.
 fn play_request(scene: &mut Scene<'_>, number: usize) -> io::Result<Counts> {
     let story = scene.learn(number)?;
     let stops = stop_everywhere(scene, number)?;
     let crashes = crash_everywhere(scene, &story)?;
+    let unsynced = crash_unsynced(scene)?;
     let later = crash_after_stops(scene, number)?;
     Ok(Counts {
         stops,
-        crashes: crashes.saturating_add(later),
+        crashes: crashes.saturating_add(unsynced).saturating_add(later),
     })
 }
 

@@ -2,7 +2,7 @@
 use crate::paths::Paths;
 use crate::requests::{NEXT, TEXT, first_text, request};
 use crate::story::Story;
-use rec_disk::{Disk, MemoryDisk};
+use rec_disk::{Disk, MemoryDisk, MemoryFile};
 use rec_files::{Access, DiskHome, run};
 use rec_tools::{Bytes, Output, Request};
 use std::alloc::{AllocError, Global};
@@ -101,6 +101,17 @@ impl<'r> Scene<'r> {
         self.next = None;
         self.after = self.see(first_text(number.saturating_add(1)))?;
         let begun = self.start;
+        Ok(self.take_story(begun))
+    }
+
+    /// Makes the same request after files of which nothing was synced, as another program saves them, and tells what it did.
+    pub fn learn_unsynced(&mut self) -> io::Result<Story> {
+        self.clear();
+        save_any(&mut self.disk, self.paths.file, &self.before.file)?;
+        save_any(&mut self.disk, self.paths.journal, &self.before.journal)?;
+        self.start = 0;
+        let begun = self.disk.log.len();
+        self.make(self.number)?;
         Ok(self.take_story(begun))
     }
 
@@ -220,6 +231,15 @@ impl<'r> Scene<'r> {
         }
     }
 
+    /// Checks that the state after the request stands.
+    pub fn check_made(&mut self) -> io::Result<()> {
+        if self.look()? && self.is_seen(&self.after) {
+            Ok(())
+        } else {
+            Err(self.told("a request that was made is lost"))
+        }
+    }
+
     /// Checks besides that the next edit is made, whatever lies under the working names, and that undo of all leads to the
     /// first text.
     pub fn check_goes_on(&mut self) -> io::Result<()> {
@@ -240,16 +260,30 @@ impl<'r> Scene<'r> {
     }
 }
 
-/// Makes a file of these bytes, which is there for good.
-pub fn keep(disk: &mut MemoryDisk, path: &str, bytes: &[u8]) -> io::Result<()> {
+/// Makes a file of these bytes.
+fn save(disk: &mut MemoryDisk, path: &str, bytes: &[u8]) -> io::Result<MemoryFile> {
     let file = disk.make(path)?;
     disk.write(&file, bytes)?;
+    Ok(file)
+}
+
+/// Makes a file, where there was one.
+fn save_any(disk: &mut MemoryDisk, path: &str, bytes: &Option<Vec<u8>>) -> io::Result<()> {
+    if let Some(bytes) = bytes {
+        save(disk, path, bytes)?;
+    }
+    Ok(())
+}
+
+/// Makes a file of these bytes, which is there for good.
+pub fn keep(disk: &mut MemoryDisk, path: &str, bytes: &[u8]) -> io::Result<()> {
+    let file = save(disk, path, bytes)?;
     disk.sync(&file)?;
     disk.sync_folder(path)?;
     Ok(())
 }
 
-/// Makes a file, where there was one.
+/// Makes it for good, where there was one.
 fn keep_any(disk: &mut MemoryDisk, path: &str, bytes: &Option<Vec<u8>>) -> io::Result<()> {
     match bytes {
         Some(bytes) => keep(disk, path, bytes),

@@ -1,8 +1,11 @@
 -- A disk: what stands at its places, what a stop or a crash may leave of it, and what each call does.
-use Rattle.std.specs.Prelude.{◌≡◌, ◌≢◌, ◌⊎◌, ℕ, suc, Bool, true, false, List, [], ◌∷◌, ◌++◌, map, bytes_eq, ◌==◌}
+use Rattle.std.specs.Prelude.{◌≡◌, ◌≢◌, ◌⊎◌, ℕ, suc, Bool, true, false, List, [], ◌∷◌, ◌++◌, length, take, map, bytes_eq, ◌==◌}
 use Rattle.std.specs.Prelude.{if◌then◌else◌}
-use Rattle.std.specs.Prelude.{Option, Some, None, Result, Ok, Err}
+use Rattle.std.specs.Prelude.{Option, Some, None, Result, Ok, Err, IfErr}
 use Rattle.std.specs.List.{AllByRecursion}
+use Rattle.std.specs.IoError.{error_kind}
+use Rattle.std.specs.declared.io.Error.{Error}
+use Rattle.std.specs.declared.io.ErrorKind.TheVariants.{OutOfMemory}
 
 -- ---- states
 
@@ -39,6 +42,7 @@ made s p n = record s {
   olds = s.at ∷ s.olds;
   bytes = set s.bytes n [];
   safe = set s.safe n true;
+  held = set s.held n false;
 }
 
 abbrev pub wrote : State → ℕ → List ℕ → State
@@ -48,8 +52,8 @@ wrote s n bytes = record s {
   version = set s.version n (suc (s.version n));
 }
 
-abbrev pub synced : State → ℕ → Bool → State
-synced s n safe = record s { safe = set s.safe n safe }
+abbrev pub synced : State → ℕ → State
+synced s n = record s { safe = set s.safe n true }
 
 abbrev pub renamed : State → List ℕ → List ℕ → State
 renamed s from to = record s { at = put (put s.at from None) to (s.at from); olds = s.at ∷ s.olds }
@@ -70,6 +74,7 @@ folder_synced folder s synced_one = record s { olds = map (kept_in folder s sync
 pub record Look : Type 0 where
   pub number : ℕ
   pub version : ℕ
+  pub length : ℕ
   -- a symbolic link
   pub is_link : Bool
 
@@ -81,6 +86,7 @@ SaysOf P (Some look) = P look
 pub record IsLookFor (s : State) (n : ℕ) (look : Look) : Type 0 where
   pub number : look.number ≡ n
   pub version : look.version ≡ s.version n
+  pub length : look.length ≡ length (s.bytes n)
 
 -- the look is one at a place, where a file stands
 pub record IsLookAt (s : State) (p : List ℕ) (look : Look) : Type 0 where
@@ -95,17 +101,15 @@ module _ {F E : Type 0} where
   IsMake number p (Ok file) s t = (s.at p ≡ None) × IsFresh s (number file) × (t ≡ made s p (number file))
   IsMake number p (Err _) s t = ⊥
 
-  -- a write that failed may have written anything
+  -- a write that failed may have written the first of the bytes
   abbrev pub IsWrite : ℕ → List ℕ → Result F E → State → State → Type 0
   IsWrite n bytes (Ok _) s t = t ≡ wrote s n bytes
-  IsWrite n bytes (Err _) s t = (some : List ℕ) × (t ≡ wrote s n some)
+  IsWrite n bytes (Err _) s t = (k : ℕ) × (t ≡ wrote s n (take k bytes))
 
-  -- after a sync that failed nothing is known of what the disk has
+  -- a sync, a rename or a removal that failed may have been made
   abbrev pub IsSync : ℕ → Result F E → State → State → Type 0
-  IsSync n (Ok _) s t = t ≡ synced s n true
-  IsSync n (Err _) s t = t ≡ synced s n false
+  IsSync n result s t = t ≡ synced s n
 
-  -- a rename or a removal that failed may have been made
   abbrev pub IsRename : List ℕ → List ℕ → Result F E → State → State → Type 0
   IsRename from to result s t = t ≡ renamed s from to
 
@@ -117,6 +121,15 @@ abbrev pub IsFolderSync : {E : Type 0} → (List ℕ → List ℕ) → List ℕ 
 IsFolderSync folder p (Ok true) s t = t ≡ folder_synced folder s (folder p)
 IsFolderSync folder p (Ok false) s t = t ≡ s
 IsFolderSync folder p (Err _) s t = ⊥
+
+-- ---- failures
+
+abbrev pub IsMemory : Error → Type 0
+IsMemory error = error_kind error ≡ OutOfMemory
+
+-- A disk that works did so before and does after, and the call failed for memory, or for this.
+abbrev pub IsExcused : {X : Type 0} → Type 0 → Type 0 → Result X Error → (Error → Type 0) → Type 0
+IsExcused before after result P = before → after × IfErr result (λ error. IsMemory error ⊎ P error)
 
 -- ---- all moments
 

@@ -23,20 +23,26 @@ pub record Left : Type 0 where
   pub at : List ℕ → Option ℕ
   pub bytes : ℕ → List ℕ
 
--- at each place something by itself, and in a file that isn't synced, after a crash, any bytes
-pub record Leaves (crash : Bool) (s : State) (left : Left) : Type 0 where
-  pub at : (p : List ℕ) → MayStand crash s p (left.at p)
-  pub bytes : (n : ℕ) → kept crash s n ≡ true → left.bytes n ≡ s.bytes n
+-- at a place something by itself, and in a file that isn't synced, after a crash, any bytes
+pub record LeavesAt (crash : Bool) (s : State) (left : Left) (p : List ℕ) : Type 0 where
+  pub at : MayStand crash s p (left.at p)
+  pub bytes : (n : ℕ) → left.at p ≡ Some n → kept crash s n ≡ true → left.bytes n ≡ s.bytes n
+
+-- and so at each
+abbrev pub Leaves : Bool → State → Left → Type 0
+Leaves crash s left = (p : List ℕ) → LeavesAt crash s left p
 
 -- the bytes of a file, if there is one
 abbrev pub shown : (ℕ → List ℕ) → Option ℕ → Option (List ℕ)
 shown bytes None = None
 shown bytes (Some n) = Some (bytes n)
 
--- From the one state to the other nothing came to the place, and no file there was written or became less safe: what a
--- stop or a crash may leave there is what it might have left before.
+-- From the one state to the other nothing came to the place, and no file there was written, locked or let go, or became
+-- less safe: what a stop or a crash may leave there is what it might have left before.
 pub record Spares (p : List ℕ) (s t : State) : Type 0 where
   pub at : t.at p ≡ s.at p
   pub may : (x : Option ℕ) → MayStand true t p x → MayStand true s p x
   pub bytes : (n : ℕ) → MayStand true t p (Some n) → t.bytes n ≡ s.bytes n
+  pub version : (n : ℕ) → MayStand true t p (Some n) → t.version n ≡ s.version n
+  pub held : (n : ℕ) → MayStand true t p (Some n) → t.held n ≡ s.held n
   pub safe : (n : ℕ) → MayStand true t p (Some n) → s.safe n ≡ true → t.safe n ≡ true

@@ -44,6 +44,8 @@ impl<R: Files<File = File>> Disk for HostDisk<R> {
 
     ghost tells = { λ status. None };
 
+    ghost works = { λ disk. ⊥ };
+
     fn status(&mut self, path: &str) -> io::Result<Metadata> {
         fs::symlink_metadata(&self.rt, path)
     }

@@ -1,8 +1,11 @@
 pub mod Leftovers
+pub mod Outcomes
 pub mod Removing
 pub mod Placing
 pub mod Holding
 pub mod Steps
+pub mod Succeeding
 pub mod Replacing
 pub mod Home
 pub mod Requests
+pub mod Recovering

@@ -2,5 +2,6 @@
 pub mod Paths
 pub mod Leftovers
 pub mod OnDisk
+pub mod Succeeding
 -- what serves proofs
 pub mod proving

@@ -1,9 +1,9 @@
 -- What a file and its journal hold on a disk, and what a stop of the program or a crash of the machine leaves of them.
-use Rattle.std.specs.Prelude.{◌≡◌, ◌≢◌, ◌⊎◌, ◌≤◌, ℕ, Bool, true, false, List, [], length, take, Option, Some, None}
+use Rattle.std.specs.Prelude.{◌≡◌, ◌≢◌, ◌⊎◌, ◌≤◌, ℕ, Bool, true, false, List, [], ◌∷◌, length, take, Option, Some, None}
 use Rattle.std.specs.Prelude.{IfSome}
-use Rattle.std.specs.Prelude.{IsSome}
+use Rattle.std.specs.Prelude.{IsSome, IsSomeAnd}
 use Rattle.rec_disk.specs.Disk.{State, Story, Told, AtAnyMoment}
-use Rattle.rec_disk.specs.Lasting.{Left, Leaves, Spares, shown}
+use Rattle.rec_disk.specs.Lasting.{Left, Leaves, LeavesAt, Spares, shown}
 use Rattle.rec_tools.specs.Home.{Contents, Write, Call, got, lacked, unread, put_all, put_some, written, left_by}
 use Rattle.rec_tools.specs.Home.{TellsOf, CountsFailure, content_of}
 use Rattle.rec_tools.specs.declared.home.Which.{Which}
@@ -11,7 +11,7 @@ use Rattle.rec_journal.specs.History.{IsRegular}
 use Rattle.rec_tools.specs.Requests.{Asked}
 use Rattle.rec_tools.specs.Machine.{State as Machine, IsOldOrNext, Stands}
 use Rattle.rec_files.specs.Paths.{working_name}
-use Rattle.rec_files.specs.Leftovers.{IsLeftJournal, IsLeftText}
+use Rattle.rec_files.specs.Leftovers.{BeginsAsJournal, IsLeftJournal, IsLeftText, IsStopBetween}
 
 -- the places to which the paths of the two lead
 pub record Places : Type 0 where
@@ -68,10 +68,14 @@ pub record Shows (p : Places) (left : Left) (c : Contents) : Type 0 where
 abbrev pub Holds : Bool → Places → Contents → State → Type 0
 Holds crash p c s = (left : Left) → Leaves crash s left → Shows p left c
 
--- whatever is left, the first of the writes are made: none, some or all of them
-abbrev pub IsSecure : Bool → Places → Contents → List Write → State → Type 0
-IsSecure crash p c writes s =
-    (left : Left) → Leaves crash s left → (k : ℕ) × (k ≤ length writes) × Shows p left (written c (take k writes))
+-- of both is left what might have been left of the state before
+abbrev pub AreAsBefore : Bool → Places → State → Left → Type 0
+AreAsBefore crash p before left = LeavesAt crash before left p.file × LeavesAt crash before left p.journal
+
+-- whatever is left, it might have been left before, or the first of the writes are made: none, some or all of them
+abbrev pub IsSecure : Bool → Places → Contents → List Write → State → State → Type 0
+IsSecure crash p c writes before s = (left : Left) → Leaves crash s left → AreAsBefore crash p before left
+    ⊎ ((k : ℕ) × (k ≤ length writes) × Shows p left (written c (take k writes)))
 
 -- a crash is only spoken of where the folders of both can be synced
 abbrev pub CanSync : (List ℕ → List ℕ) → (List ℕ → Bool) → Bool → Places → Type 0
@@ -87,6 +91,32 @@ pub record AreLeft (sites : Sites) (s : State) : Type 0 where
   pub file : IfSome (s.at sites.new_file) (λ n. (s.held n ≡ false)
       × (IsSome (s.at sites.new_journal) ⊎ IsLeftText s.bytes (s.at sites.file) n (s.at sites.journal)))
 
+-- by the journal that is put, the file that is put comes next after the one that stands there
+abbrev pub IsNext : Sites → List ℕ → Option (List ℕ) → State → Type 0
+IsNext sites journal None s = Unit {0}
+IsNext sites journal (Some file) s = IsSomeAnd (s.at sites.file) (λ n. IsStopBetween (s.bytes n) file journal)
+
+-- Whenever a put is stopped, what stands under the working names can be told to be left over, so that the next one
+-- isn't refused for it.
+abbrev pub Recovers : Sites → List ℕ → Option (List ℕ) → Option Story → Option Story → Type 0
+Recovers sites journal file old new = BeginsAsJournal journal → Told old (IsNext sites journal file)
+    → Told old (AreLeft sites) → AtAnyMoment old new (λ s u. AreLeft sites u)
+
+abbrev pub second : List Write → Option (List ℕ)
+second [] = None
+second (write ∷ writes) = Some write.bytes
+
+-- by what is put: the journal, and then a file or none
+abbrev pub RecoversBy : Sites → List Write → Option Story → Option Story → Type 0
+RecoversBy sites [] old new = Unit {0}
+RecoversBy sites (journal ∷ writes) old new = Recovers sites journal.bytes (second writes) old new
+
+-- nothing is changed; or so a put recovers, by some paths of the two
+abbrev pub RecoversAt : (List ℕ → List ℕ) → Places → List Write → Option Story → Option Story → Type 0
+RecoversAt place p writes old new = (new ≡ old)
+    ⊎ ((file journal : List ℕ) × Told old (λ s. (place file ≡ p.file) × (place journal ≡ p.journal))
+    × RecoversBy (sites_of place file journal) writes old new)
+
 -- all places but the four stay as they are
 abbrev pub SparesStrangers : Sites → Option Story → Option Story → Type 0
 SparesStrangers sites old new = (p : List ℕ) → p ≢ sites.file → p ≢ sites.journal → p ≢ sites.new_file
@@ -101,15 +131,19 @@ TouchesOwn place p old new = (new ≡ old)
 
 -- ---- calls
 
--- at any moment of a put a stop or a crash leaves the first of its writes made
+-- these contents are read
+abbrev pub IsRead : Places → Contents → State → Type 0
+IsRead p c s = contents_at p s ≡ Some c
+
+-- at any moment of a put a stop or a crash leaves what it might have left before, or the first of the writes made
 abbrev pub SecurePut : (List ℕ → List ℕ) → (List ℕ → Bool) → Places → List Write → Option Story → Option Story → Type 0
 SecurePut folder syncs p writes old new = (crash : Bool) (c : Contents) → CanSync folder syncs crash p
-    → Told old (Holds crash p c) → AtAnyMoment old new (λ s u. IsSecure crash p c writes u)
+    → Told old (IsRead p c) → AtAnyMoment old new (IsSecure crash p c writes)
 
 -- and after it any later one leaves all of them
 abbrev pub LastingPut : (List ℕ → List ℕ) → (List ℕ → Bool) → Places → List Write → Option Story → Option Story → Type 0
 LastingPut folder syncs p writes old new = (crash : Bool) (c : Contents) → CanSync folder syncs crash p
-    → Told old (Holds crash p c) → Told new (Holds crash p (written c writes))
+    → Told old (IsRead p c) → Told new (Holds crash p (written c writes))
 
 abbrev pub writes_of : Call → List Write
 writes_of (got which bytes) = []
@@ -118,22 +152,21 @@ writes_of (unread which) = []
 writes_of (put_all writes) = writes
 writes_of (put_some writes k) = writes
 
--- all of its writes were made, if it has any
+-- all of its writes were made
 abbrev pub IsWhole : Call → Type 0
-IsWhole (got which bytes) = Unit {0}
-IsWhole (lacked which) = Unit {0}
-IsWhole (unread which) = Unit {0}
 IsWhole (put_all writes) = Unit {0}
-IsWhole (put_some writes k) = ⊥
+IsWhole _ = ⊥
 
--- At any moment of a call a stop or a crash leaves the first of its writes made, and after a whole one all of them; a
--- read changes nothing, and no call touches what is somebody else's.
+-- At any moment of a call a stop or a crash leaves what it might have left before, or the first of its writes made, and
+-- after a whole one all of them; a read changes nothing, no call touches what is somebody else's, and whenever it is
+-- stopped, what it left under the working names can be told to be left over.
 pub record IsCallAt (place folder : List ℕ → List ℕ) (syncs : List ℕ → Bool) (p : Places) (old : Option Story)
     (call : Call) (new : Option Story) : Type 0 where
   pub any_moment : SecurePut folder syncs p (writes_of call) old new
   pub lasts : IsWhole call → LastingPut folder syncs p (writes_of call) old new
   pub still : writes_of call ≡ [] → new ≡ old
   pub touches : TouchesOwn place p old new
+  pub recovers : RecoversAt place p (writes_of call) old new
 
 -- The home's paths stay; a call tells what stands there, and leaves what its writes say; and it is one at their
 -- places. Of standard input nothing is said.
@@ -152,19 +185,26 @@ IsReadOf leads file journal story which bytes =
 
 -- ---- a request
 
--- whatever is left, it stands for the state as it was or for the machine's next
-abbrev pub StandsThen : Bool → Places → Machine → Asked → State → Type 0
-StandsThen crash p s asked u = (left : Left) → Leaves crash u left
-    → (t : Machine) × IsOldOrNext s asked t × ((c : Contents) × Shows p left c × Stands c t)
+-- whatever is left, it might have been left before, or it stands for the state as it was or for the machine's next
+abbrev pub StandsThen : Bool → Places → Machine → Asked → State → State → Type 0
+StandsThen crash p s asked before u = (left : Left) → Leaves crash u left → AreAsBefore crash p before left
+    ⊎ ((t : Machine) × IsOldOrNext s asked t × ((c : Contents) × Shows p left c × Stands c t))
 
--- From contents that are there whatever is left, and that stand for a state: at any moment of the request whatever is
--- left stands for that state or for the next.
+-- From contents that stand for a state: at any moment of the request whatever is left might have been left before, or
+-- stands for that state or for the next.
 abbrev pub SecureRequest : (List ℕ → List ℕ) → (List ℕ → Bool) → Places → Asked → Option Story → Option Story → Type 0
 SecureRequest folder syncs p asked old new = (crash : Bool) (c : Contents) (s : Machine) → CanSync folder syncs crash p
-    → Told old (Holds crash p c) → Stands c s → IsRegular c.journal
-    → AtAnyMoment old new (λ _ u. StandsThen crash p s asked u)
+    → Told old (IsRead p c) → Stands c s → IsRegular c.journal → AtAnyMoment old new (StandsThen crash p s asked)
 
--- what is there after the request is there whatever is left
+-- the request changed nothing, or what is there after it is there whatever is left
 abbrev pub LastingRequest : (List ℕ → List ℕ) → (List ℕ → Bool) → Places → Option Story → Option Story → Type 0
-LastingRequest folder syncs p old new = (crash : Bool) (c : Contents) → CanSync folder syncs crash p
-    → Told old (Holds crash p c) → Told new (λ u. (d : Contents) × Holds crash p d u)
+LastingRequest folder syncs p old new = (new ≡ old) ⊎ ((crash : Bool) (c : Contents) → CanSync folder syncs crash p
+    → Told old (IsRead p c) → Told new (λ u. (d : Contents) × Holds crash p d u))
+
+-- From contents with a regular journal: the request changes nothing; or at any moment of it, what stands under the working
+-- names, by some paths of the two, can be told to be left over, if it could before.
+abbrev pub RecoversRequest : (List ℕ → List ℕ) → Places → Option Story → Option Story → Type 0
+RecoversRequest place p old new = (c : Contents) → Told old (IsRead p c) → IsRegular c.journal → (new ≡ old)
+    ⊎ ((file journal : List ℕ) × Told old (λ s. (place file ≡ p.file) × (place journal ≡ p.journal))
+    × (Told old (AreLeft (sites_of place file journal))
+    → AtAnyMoment old new (λ s u. AreLeft (sites_of place file journal) u)))

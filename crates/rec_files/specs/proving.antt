@@ -1,2 +1,3 @@
 -- What serves proofs.
 pub mod Replacing
+pub mod Succeeding

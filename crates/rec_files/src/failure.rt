@@ -2,6 +2,8 @@
 
 ghost use Rattle.std.specs.Prelude.{◌≡◌};
 ghost use Rattle.std.specs.IoError.{error_kind};
+ghost use Rattle.rec_disk.specs.Disk.{IsMemory};
+ghost use Rattle.rec_files.specs.Succeeding.{IsForMemory};
 
 use rec_tools::Which;
 use std::io::{Error, ErrorKind};
@@ -105,7 +107,9 @@ pub fn changed() -> Error {
 }
 
 /// What stands under a working name can't be judged or removed. What has gone meanwhile was another program's.
-pub fn of_foreign(error: Error) -> Cause {
+pub fn of_foreign(error: Error) -> Cause
+    ensures { IsMemory error → IsForMemory result }
+{
     match error.kind() {
         ErrorKind::NotFound => Cause::Itself(in_use()),
         ErrorKind::OutOfMemory => Cause::Itself(error),
@@ -114,7 +118,9 @@ pub fn of_foreign(error: Error) -> Cause {
 }
 
 /// What a stop left under a working name can't be removed.
-pub fn of_removing(error: Error) -> Cause {
+pub fn of_removing(error: Error) -> Cause
+    ensures { IsMemory error → IsForMemory result }
+{
     if is_of_folder(&error) {
         Cause::Folder(error)
     } else {

@@ -1,15 +1,17 @@
 //! The home of files on a disk. A request that only looks reads them as they stand; one that may write locks them.
 //! What opens files stands in `target`, `open_file`, `working_file` and `links`, what replaces them in `replacing`; standard
 //! input is read here alone.
-ghost use Rattle.std.specs.Prelude.{◌≡◌, ◌≤◌, ◌↔◌, [], length, IsTrue, IsNone, None, Some, Ok, IfOk, IfErr, OnOk};
-ghost use Rattle.std.specs.Prelude.{IsSomeAnd, option_map, string_bytes, unwrap_or};
+ghost use Rattle.std.specs.Prelude.{◌≡◌, ◌≤◌, ◌↔◌, [], IsTrue, IsNone, None, Some, Ok, IfOk, IfErr, ◌⊎◌, IsSome};
+ghost use Rattle.std.specs.Prelude.{IfSome, true, IsSomeAnd, option_map, string_bytes, unwrap_or};
+ghost use Rattle.std.specs.Option.{option_and_then};
 ghost use Rattle.std.specs.IoError.{error_kind, raw_os_error};
 ghost use Rattle.rec_text.specs.Sink.{one_more};
-ghost use Rattle.rec_disk.specs.Disk.{Told};
+ghost use Rattle.rec_disk.specs.Disk.{Told, IsMemory};
 ghost use Rattle.rec_disk.specs.Lasting.{shown};
-ghost use Rattle.rec_tools.specs.Home.{CountsFailure};
-ghost use Rattle.rec_files.specs.OnDisk.{or_empty, contents_on, places_by, IsReadOf, IsHomeCall};
+ghost use Rattle.rec_files.specs.OnDisk.{or_empty, contents_on, places_by, IsReadOf};
 ghost use Rattle.rec_files.specs.Paths.{path_of};
+ghost use Rattle.rec_files.specs.Succeeding.{HasSeen, HomeGoes, IsTold, IsShort, IsThere, IsReadable};
+ghost use Rattle.rec_files.specs.proving.Succeeding.{Succeeds, IsOwnJournal};
 
 use crate::access::Access;
 use crate::both::Both;
@@ -142,6 +144,7 @@ impl<'r, R: Input + AllocGlobal, D: Disk + Drop> DiskHome<'r, R, D> {
         ensures noted { self.new.failure ≡ Some failure }
         ensures paths { (self.new.file ≡ self.old.file) × (self.new.journal ≡ self.old.journal) }
         ensures same { D.story self.new.disk ≡ D.story self.old.disk }
+        ensures works { D.works self.old.disk → D.works self.new.disk }
     {
         self.failed = self.failed.saturating_add(1);
         self.failure = Some(failure);
@@ -154,6 +157,14 @@ impl<'r, R: Input + AllocGlobal, D: Disk + Drop> DiskHome<'r, R, D> {
         ensures same { D.story self.new.disk ≡ D.story self.old.disk }
         ensures read { IfOk result (λ bytes. IsReadOf D.leads (option_map string_bytes self.old.file)
             (string_bytes self.old.journal) (D.story self.old.disk) which bytes.items) }
+        ensures succeeds { Succeeds IsMemory (D.works self.old.disk) (D.works self.new.disk)
+            (IsTold (D.story self.old.disk) (IsReadable D.place D.leads D.regular self.old.access
+            (option_map string_bytes self.old.file) (string_bytes self.old.journal)
+            (option_and_then (λ file. option_map (λ opened. D.tells opened.seen) file.old) self.old.both.file) which))
+            result }
+        ensures noted { self.old.access ≡ Access.Change → which ≡ Which.Base → IfOk result (λ bytes.
+            IfSome self.old.file (λ file. Told (D.story self.old.disk) (HasSeen (D.leads (string_bytes file))
+            (option_and_then (λ file. option_map (λ opened. D.tells opened.seen) file.old) self.new.both.file)))) }
     {
         if which == Which::Base && self.file.is_none() {
             return read_rest(which, Vec::new(alloc), self.rt.reader());
@@ -188,14 +199,12 @@ impl<'r, R: Input + AllocGlobal, D: Disk + Drop> Home for DiskHome<'r, R, D> {
 
     ghost failure_count = { λ home. home.failed };
 
-    ghost goes = { λ old call new. IsHomeCall D.place D.folder D.syncs
-        (places_by D.leads (option_map string_bytes old.file) (string_bytes old.journal))
-        (places_by D.leads (option_map string_bytes new.file) (string_bytes new.journal))
-        (D.story old.disk) call (D.story new.disk) old.failed new.failed };
+    ghost goes = { λ old call new. HomeGoes D.place D.leads D.folder D.syncs D.regular D.number D.tells D.story D.works
+        old call new };
 
-    ghost follows = { λ old new call h. h.follows };
+    ghost follows = { λ old new call h. h.0.follows };
 
-    ghost counts = { λ old new call h. h.counts };
+    ghost counts = { λ old new call h. h.0.counts };
 
     fn read(&mut self, alloc: Global, which: Which) -> Result<Bytes, Fault> {
         match self.bytes_of(alloc, which) {
@@ -269,6 +278,9 @@ fn look_at<D: Disk>(
     ensures same { D.story disk.new ≡ D.story disk.old }
     ensures whole { IfOk result (λ bytes. Told (D.story disk.old)
         (λ s. bytes.items ≡ or_empty (shown s.bytes (s.at (D.leads path.now))))) }
+    ensures succeeds { Succeeds IsMemory (D.works disk.old) (D.works disk.new) (IsTold (D.story disk.old)
+        (λ s. IsThere which path.now (λ n. IsShort s n × (which ≡ Which.Journal → IsOwnJournal D.regular
+        (option_map (λ file. s.at (D.leads (string_bytes file))) other.now) n)) (s.at (D.leads path.now)))) result }
 {
     match open(disk, which, path) {
         Ok(file) => {
@@ -291,6 +303,9 @@ fn open<D: Disk>(disk: &mut D, which: Which, path: &str) -> io::Result<D::File>
         (λ s. s.at (D.leads path.now) ≡ Some (D.number file))) }
     ensures missing { IfErr result (λ error. error_kind error ≡ ErrorKind.NotFound
         → Told (D.story disk.old) (λ s. s.at (D.leads path.now) ≡ None)) }
+    ensures succeeds { Succeeds (λ error. IsMemory error ⊎ (error_kind error ≡ ErrorKind.NotFound)) (D.works disk.old)
+        (D.works disk.new) (IsTold (D.story disk.old)
+        (λ s. which ≡ Which.Journal → IfSome (s.at (D.leads path.now)) (λ n. D.regular n ≡ true))) result }
 {
     if which == Which::Journal && !D::is_regular(&disk.status_after_links(path)?) {
         return Err(not_regular());
@@ -306,6 +321,10 @@ fn is_the_file<D: Disk>(
     file: &D::File,
 ) -> io::Result<bool>
     ensures same { D.story disk.new ≡ D.story disk.old }
+    ensures the_file { IfOk result (λ is. Told (D.story disk.old) (λ s. IsTrue is ↔ ((which ≡ Which.Journal)
+        × IsSomeAnd path.now (λ path. s.at (D.leads (string_bytes path)) ≡ Some (D.number file.now))))) }
+    ensures succeeds { Succeeds IsMemory (D.works disk.old) (D.works disk.new) (IsTold (D.story disk.old)
+        (λ s. which ≡ Which.Journal → IfSome path.now (λ path. IsSome (s.at (D.leads (string_bytes path)))))) result }
 {
     match (which, path) {
         (Which::Journal, Some(path)) => Ok(D::are_one(

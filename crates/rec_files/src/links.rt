@@ -1,6 +1,8 @@
 //! Symbolic links.
-ghost use Rattle.std.specs.Prelude.{◌≡◌, IfOk, IfSome, MatchOption, string_bytes};
-ghost use Rattle.rec_disk.specs.Disk.{Told};
+ghost use Rattle.std.specs.Prelude.{◌≡◌, ◌≢◌, IfOk, IfSome, MatchOption, string_bytes};
+ghost use Rattle.rec_disk.specs.Disk.{Told, IsMemory};
+ghost use Rattle.rec_files.specs.Succeeding.{IsTold};
+ghost use Rattle.rec_files.specs.proving.Succeeding.{Succeeds};
 
 use crate::failure::too_many_links;
 use crate::open_file::if_there;
@@ -17,6 +19,10 @@ pub fn after_links<D: Disk>(disk: &mut D, alloc: Global, path: &str) -> io::Resu
     ensures leads { IfOk result (λ last. D.leads (string_bytes last) ≡ D.leads path.now) }
     ensures last { IfOk result (λ last. Told (D.story disk.old)
         (λ s. D.place (string_bytes last) ≡ D.leads path.now)) }
+    ensures straight { IfOk result (λ last. Told (D.story disk.old)
+        (λ s. D.leads path.now ≡ D.place path.now → string_bytes last ≡ path.now)) }
+    ensures succeeds { Succeeds IsMemory (D.works disk.old) (D.works disk.new) (IsTold (D.story disk.old)
+        (λ s. D.leads path.now ≡ D.place path.now)) result }
 {
     let mut path = String::from_str(alloc, path)?;
     for _ in 0..LINKS {
@@ -33,7 +39,10 @@ fn next_path<D: Disk>(disk: &mut D, alloc: Global, path: &str) -> io::Result<Opt
     ensures same { D.story disk.new ≡ D.story disk.old }
     ensures next { IfOk result (λ next. IfSome next (λ next. D.leads (string_bytes next) ≡ D.leads path.now)) }
     ensures last { IfOk result (λ next. MatchOption next
-        (Told (D.story disk.old) (λ s. D.leads path.now ≡ D.place path.now)) (λ _. Unit {0})) }
+        (Told (D.story disk.old) (λ s. D.leads path.now ≡ D.place path.now))
+        (λ _. Told (D.story disk.old) (λ s. D.leads path.now ≢ D.place path.now))) }
+    ensures succeeds { Succeeds IsMemory (D.works disk.old) (D.works disk.new) (IsTold (D.story disk.old)
+        (λ s. Unit {0})) result }
 {
     match if_there(disk.status(path))? {
         Some(there) if D::is_link(&there) => Ok(Some(disk.follow(alloc, path)?)),

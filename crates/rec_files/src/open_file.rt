@@ -1,8 +1,10 @@
 //! A file as it was read, locked to the end of the program's work, and whether it still stands at its path.
-ghost use Rattle.std.specs.Prelude.{◌≡◌, ◌≢◌, ◌≤◌, length, None, Some, Ok, Err, true, false, IfOk, IfErr, IfSome};
-ghost use Rattle.std.specs.Prelude.{IsSomeAnd};
+ghost use Rattle.std.specs.Prelude.{◌≡◌, ◌≢◌, ◌≤◌, length, None, Some, Ok, Err, false, IfOk, IfErr, IfSome, IsSome};
+ghost use Rattle.std.specs.Prelude.{option_map, ◌↔◌, IsTrue, IsSomeAnd};
 ghost use Rattle.std.specs.IoError.{error_kind};
-ghost use Rattle.rec_disk.specs.Disk.{Told, IsLookFor};
+ghost use Rattle.rec_disk.specs.Disk.{Told, IsLookFor, IsMemory};
+ghost use Rattle.rec_files.specs.Succeeding.{IsTold, SawAnother, IsUnlocked};
+ghost use Rattle.rec_files.specs.proving.Succeeding.{Succeeds, CanRead};
 
 use crate::failure::{changed, locked, one_file};
 use crate::reading::{LIMIT, read_whole};
@@ -28,6 +30,8 @@ impl<D: Disk> OpenFile<D> {
         ensures file { IfOk result (λ opened. opened.file ≡ file) }
         ensures seen { IfOk result (λ opened. Told (D.story disk.old)
             (λ s. IsSomeAnd (D.tells opened.seen) (IsLookFor s (D.number opened.file)))) }
+        ensures succeeds { Succeeds IsMemory (D.works disk.old) (D.works disk.new) (IsTold (D.story disk.old)
+            (λ s. Unit {0})) result }
     {
         let seen = disk.status_of(&file)?;
         Ok(OpenFile { file, seen })
@@ -39,6 +43,8 @@ impl<D: Disk> OpenFile<D> {
         ensures limit { IfOk result (λ bytes. length bytes.items ≤ LIMIT) }
         ensures whole { IfOk result (λ bytes. Told (D.story disk.old)
             (λ s. bytes.items ≡ s.bytes (D.number self.now.file))) }
+        ensures succeeds { Succeeds IsMemory (D.works disk.old) (D.works disk.new) (IsTold (D.story disk.old)
+            (CanRead (D.number self.now.file) (D.tells self.now.seen))) result }
     {
         let bytes = read_whole(disk, alloc, which, &self.file)?;
         if self.is_disturbed(disk)? {
@@ -50,6 +56,10 @@ impl<D: Disk> OpenFile<D> {
     /// Somebody wrote the open file since it was opened. A pipe or a device changes as it is read.
     fn is_disturbed(&self, disk: &mut D) -> io::Result<bool>
         ensures same { D.story disk.new ≡ D.story disk.old }
+        ensures still { IfOk result (λ disturbed. Told (D.story disk.old)
+            (λ s. CanRead (D.number self.now.file) (D.tells self.now.seen) s → disturbed ≡ false)) }
+        ensures succeeds { Succeeds IsMemory (D.works disk.old) (D.works disk.new) (IsTold (D.story disk.old)
+            (λ s. Unit {0})) result }
     {
         Ok(D::is_regular(&self.seen) && !D::is_unchanged(&self.seen, &disk.status_of(&self.file)?))
     }
@@ -63,6 +73,9 @@ pub fn lock<D: Disk>(disk: &mut D, path: &str, other: Option<&D::Status>) -> io:
     ensures seen { IfOk result (λ opened. Told (D.story disk.old)
         (λ s. IsSomeAnd (D.tells opened.seen) (IsLookFor s (D.number opened.file)))) }
     ensures free { IfOk result (λ opened. Told (D.story disk.old) (λ s. s.held (D.number opened.file) ≡ false)) }
+    ensures succeeds { Succeeds IsMemory (D.works disk.old) (D.works disk.new) (IsTold (D.story disk.old)
+        (λ s. (D.leads path.now ≡ D.place path.now)
+        × IsSomeAnd (s.at (D.leads path.now)) (IsUnlocked (option_map (λ other. D.tells other.now) other.entry) s))) result }
 {
     for _ in 0..TRIES {
         if let Some(file) = try_to_lock(disk, path, other)? {
@@ -85,6 +98,10 @@ fn try_to_lock<D: Disk>(
         (λ s. IsSomeAnd (D.tells opened.seen) (IsLookFor s (D.number opened.file))))) }
     ensures free { IfOk result (λ tried. IfSome tried (λ opened. Told (D.story disk.old)
         (λ s. s.held (D.number opened.file) ≡ false))) }
+    ensures first { IfOk result (λ tried. Told (D.story disk.old)
+        (λ s. (D.leads path.now ≡ D.place path.now) → IsSome tried)) }
+    ensures succeeds { Succeeds IsMemory (D.works disk.old) (D.works disk.new) (IsTold (D.story disk.old)
+        (λ s. IsSomeAnd (s.at (D.leads path.now)) (IsUnlocked (option_map (λ other. D.tells other.now) other.entry) s))) result }
 {
     let file = open_to_lock(disk, path)?;
     if is_that(disk, &file, other)? {
@@ -105,6 +122,8 @@ fn open_to_lock<D: Disk>(disk: &mut D, path: &str) -> io::Result<D::File>
     ensures same { D.story disk.new ≡ D.story disk.old }
     ensures opened { IfOk result (λ file. Told (D.story disk.old)
         (λ s. s.at (D.leads path.now) ≡ Some (D.number file))) }
+    ensures succeeds { Succeeds IsMemory (D.works disk.old) (D.works disk.new) (IsTold (D.story disk.old)
+        (λ s. IsSome (s.at (D.leads path.now)))) result }
 {
     match disk.open_to_write(path) {
         Ok(file) => Ok(file),
@@ -114,6 +133,10 @@ fn open_to_lock<D: Disk>(disk: &mut D, path: &str) -> io::Result<D::File>
 
 fn is_that<D: Disk>(disk: &mut D, file: &D::File, other: Option<&D::Status>) -> io::Result<bool>
     ensures same { D.story disk.new ≡ D.story disk.old }
+    ensures other { IfOk result (λ that. Told (D.story disk.old)
+        (λ s. SawAnother (D.number file.now) (option_map (λ other. D.tells other.now) other.entry) → that ≡ false)) }
+    ensures succeeds { Succeeds IsMemory (D.works disk.old) (D.works disk.new) (IsTold (D.story disk.old)
+        (λ s. Unit {0})) result }
 {
     match other {
         Some(other) => Ok(D::are_one(other, &disk.status_of(file)?)),
@@ -124,8 +147,10 @@ fn is_that<D: Disk>(disk: &mut D, file: &D::File, other: Option<&D::Status>) -> 
 /// Whether the name, which is no link then, leads to the open file.
 pub fn leads_to<D: Disk>(disk: &mut D, name: &str, file: &D::File) -> io::Result<bool>
     ensures same { D.story disk.new ≡ D.story disk.old }
-    ensures leads { IfOk result (λ leads. leads ≡ true
-        → Told (D.story disk.old) (λ s. s.at (D.place name.now) ≡ Some (D.number file.now))) }
+    ensures leads { IfOk result (λ leads. Told (D.story disk.old)
+        (λ s. IsTrue leads ↔ (s.at (D.place name.now) ≡ Some (D.number file.now)))) }
+    ensures succeeds { Succeeds IsMemory (D.works disk.old) (D.works disk.new) (IsTold (D.story disk.old) (λ s. Unit {0}))
+        result }
 {
     let own = disk.status_of(file)?;
     match if_there(disk.status(name))? {

@@ -5,7 +5,8 @@ ghost use Rattle.rec_tools.specs.Steps.{IsRefusal};
 ghost use Rattle.rec_tools.specs.Printouts.{Printed, WentOut};
 ghost use Rattle.rec_tools.specs.Requests.{asked_of, IsSilent};
 ghost use Rattle.rec_tools.specs.Attempts.{Attempts};
-ghost use Rattle.rec_files.specs.OnDisk.{IsHomeCall, places_by, SecureRequest, LastingRequest, TouchesOwn};
+ghost use Rattle.rec_files.specs.Succeeding.{HomeGoes};
+ghost use Rattle.rec_files.specs.OnDisk.{places_by, SecureRequest, LastingRequest, TouchesOwn, RecoversRequest};
 
 use crate::files::DiskHome;
 use rec_disk::Disk;
@@ -21,10 +22,7 @@ pub fn run<'r, R: Input + AllocGlobal, D: Disk + Drop, S: Sink>(
 ) -> Result<Reply, Fault>
     // Its calls, what went out, and that both and the answer are what the request comes to.
     ensures attempts { (calls : List Call) × (p : Printed) × WentOut S.contents S.failure_count out.old out.new p
-        × Attempts (λ old call new. IsHomeCall D.place D.folder D.syncs
-        (places_by D.leads (option_map string_bytes old.file) (string_bytes old.journal))
-        (places_by D.leads (option_map string_bytes new.file) (string_bytes new.journal))
-        (D.story old.disk) call (D.story new.disk) old.failed new.failed)
+        × Attempts (HomeGoes D.place D.leads D.folder D.syncs D.regular D.number D.tells D.story D.works)
         home.old home.new (asked_of request.now) result calls p }
     ensures refusals { IfErr result IsRefusal }
     ensures silent { IsSilent (asked_of request.now) → out.new ≡ out.old }
@@ -43,6 +41,12 @@ pub fn run<'r, R: Input + AllocGlobal, D: Disk + Drop, S: Sink>(
     // Nothing but the file, its journal and what stands under their working names is touched, and nobody's file there.
     ensures touches { IfSome (places_by D.leads (option_map string_bytes home.old.file) (string_bytes home.old.journal))
         (λ p. TouchesOwn D.place p (D.story home.old.disk) (D.story home.new.disk)) }
+
+    // Stop the program at any moment: what lies under the working names can be told to be left over, so that the next request
+    // isn't refused for it.
+    ensures recovers { IfSome (places_by D.leads (option_map string_bytes home.old.file)
+        (string_bytes home.old.journal))
+        (λ p. RecoversRequest D.place p (D.story home.old.disk) (D.story home.new.disk)) }
 {
     stops_are_steps();
     rec_tools::run(alloc, home, out, request)

@@ -1,8 +1,10 @@
 //! Files under the working names: made and locked.
-ghost use Rattle.std.specs.Prelude.{◌≡◌, ◌≢◌, List, ℕ, Some, true, IfOk};
-ghost use Rattle.rec_disk.specs.Disk.{Told};
+ghost use Rattle.std.specs.Prelude.{◌≡◌, ◌≢◌, ◌↔◌, List, ℕ, Some, None, false, IsTrue, IfOk, IfErr};
+ghost use Rattle.rec_disk.specs.Disk.{Told, IsMemory, AtAnyMoment};
 ghost use Rattle.rec_disk.specs.proving.Places.{Avoids};
-ghost use Rattle.rec_files.specs.proving.Replacing.{IsFreeAt, SparesBut};
+ghost use Rattle.rec_files.specs.proving.Replacing.{IsFreeAt, SparesBut, IsMaking};
+ghost use Rattle.rec_files.specs.Succeeding.{IsTold, IsForMemory};
+ghost use Rattle.rec_files.specs.proving.Succeeding.{Succeeds};
 
 use crate::failure::{Cause, in_use, is_of_folder};
 use crate::open_file::leads_to;
@@ -16,6 +18,11 @@ pub fn create<D: Disk>(disk: &mut D, name: &str) -> Result<D::File, Cause>
     ensures avoids { (p : List ℕ) → p ≢ D.place name.now
         → IfOk result (λ file. Told (D.story disk.new) (λ t. Avoids t p (D.number file))) }
     ensures spares { SparesBut (D.place name.now) (D.story disk.old) (D.story disk.new) }
+    ensures free { IfOk result (λ file. Told (D.story disk.new) (λ t. t.held (D.number file) ≡ false)) }
+    ensures succeeds { Succeeds IsForMemory (D.works disk.old) (D.works disk.new) (IsTold (D.story disk.old)
+        (λ s. s.at (D.place name.now) ≡ None)) result }
+    ensures making { AtAnyMoment (D.story disk.old) (D.story disk.new) (IsMaking (D.place name.now)) }
+    ensures unmade { IfErr result (λ cause. D.story disk.new ≡ D.story disk.old) }
 {
     match disk.make(name) {
         Ok(file) => Ok(file),
@@ -24,7 +31,9 @@ pub fn create<D: Disk>(disk: &mut D, name: &str) -> Result<D::File, Cause>
 }
 
 /// Where the folder is missing, and where another program came first, the path itself is told.
-fn of_making(error: Error) -> Cause {
+fn of_making(error: Error) -> Cause
+    ensures { IsMemory error → IsForMemory result }
+{
     match error.kind() {
         ErrorKind::AlreadyExists => Cause::Itself(in_use()),
         ErrorKind::NotFound => Cause::Itself(error),
@@ -36,8 +45,10 @@ fn of_making(error: Error) -> Cause {
 /// Locks a file, and says whether that was possible and the name leads to it. Who has such a file locked is its writer.
 pub fn lock_own<D: Disk>(disk: &mut D, name: &str, file: &D::File) -> io::Result<bool>
     ensures same { D.story disk.new ≡ D.story disk.old }
-    ensures own { IfOk result (λ own. own ≡ true → Told (D.story disk.old)
-        (IsFreeAt (D.place name.now) (D.number file.now))) }
+    ensures own { IfOk result (λ own. Told (D.story disk.old)
+        (λ s. IsTrue own ↔ IsFreeAt (D.place name.now) (D.number file.now) s)) }
+    ensures succeeds { Succeeds IsMemory (D.works disk.old) (D.works disk.new) (IsTold (D.story disk.old)
+        (λ s. Unit {0})) result }
 {
     Ok(disk.lock(file)? && leads_to(disk, name, file)?)
 }

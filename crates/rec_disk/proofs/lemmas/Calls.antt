@@ -1,5 +1,5 @@
 -- What single calls spare at a place, and what they leave.
-use Rattle.std.proofs.Common.{◌≡◌, ◌≢◌, ◌⊎◌, ◌∙◌, ℕ, Bool, true, false, List, Option, Some, Result, Ok, Err, refl, sym, subst}
+use Rattle.std.proofs.Common.{◌≡◌, ◌≢◌, ◌⊎◌, ◌∙◌, ℕ, Bool, true, false, List, take, Option, Some, Result, Ok, Err, refl, sym, subst}
 use Rattle.rec_disk.specs.Disk.{State, Story, Goes, Told, AtAnyMoment, IsMake, IsWrite, IsSync, IsRemove, IsFolderSync}
 use Rattle.rec_disk.specs.proving.Places.{Avoids, IsUnmoved}
 use Rattle.rec_disk.specs.Lasting.{SomeOf, Spares}
@@ -41,15 +41,11 @@ module _ (p : List ℕ) {F E : Type 0} where
       (λ s t avoids is. subst (Spares p s) (sym is) (spares-wrote p s m bytes avoids)) avoids goes
   write_spares m bytes o n (Err e) avoids goes =
       by_step {X = F} (Spares p) (IsWrite {F = F} m bytes (Err e)) (λ s. Avoids s p m) o n (Err e) (spares_itself p)
-      (λ s t avoids (some, is). subst (Spares p s) (sym is) (spares-wrote p s m some avoids)) avoids goes
+      (λ s t avoids (k, is). subst (Spares p s) (sym is) (spares-wrote p s m (take k bytes) avoids)) avoids goes
 
-  pub sync_spares : (m : ℕ) (o n : Option Story) (result : Result F E) → Told o (λ s. Avoids s p m) → Goes o n result (IsSync m result) → AtAnyMoment o n (Spares p)
-  sync_spares m o n (Ok x) avoids goes =
-      by_step {E = E} (Spares p) (IsSync {E = E} m (Ok x)) (λ s. Avoids s p m) o n (Ok x) (spares_itself p)
-      (λ s t avoids is. subst (Spares p s) (sym is) (spares-synced p s m true avoids)) avoids goes
-  sync_spares m o n (Err e) avoids goes =
-      by_step {X = F} (Spares p) (IsSync {F = F} m (Err e)) (λ s. Avoids s p m) o n (Err e) (spares_itself p)
-      (λ s t avoids is. subst (Spares p s) (sym is) (spares-synced p s m false avoids)) avoids goes
+  pub sync_spares : (m : ℕ) (o n : Option Story) (result : Result F E) → Goes o n result (IsSync m result) → AtAnyMoment o n (Spares p)
+  sync_spares m o n result goes =
+      by_step (Spares p) (IsSync m result) Always o n result (spares_itself p) (λ s t u is. subst (Spares p s) (sym is) (spares-synced p s m)) (always o) goes
 
   pub remove_spares : (q : List ℕ) (o n : Option Story) (result : Result F E) → p ≢ q → Goes o n result (IsRemove q result) → AtAnyMoment o n (Spares p)
   remove_spares q o n result ne goes =
@@ -87,15 +83,11 @@ module _ {F E : Type 0} (m : ℕ) (o n : Option Story) where
       (λ s t u is. subst (IsUnmoved s) (sym is) (record { at = refl; olds = refl })) (always o) goes
   write_unmoved bytes (Err e) goes =
       by_step {X = F} IsUnmoved (IsWrite {F = F} m bytes (Err e)) Always o n (Err e) unmoved_itself
-      (λ s t u (some, is). subst (IsUnmoved s) (sym is) (record { at = refl; olds = refl })) (always o) goes
+      (λ s t u (k, is). subst (IsUnmoved s) (sym is) (record { at = refl; olds = refl })) (always o) goes
 
   pub sync_unmoved : (result : Result F E) → Goes o n result (IsSync m result) → AtAnyMoment o n IsUnmoved
-  sync_unmoved (Ok x) goes =
-      by_step {E = E} IsUnmoved (IsSync {E = E} m (Ok x)) Always o n (Ok x) unmoved_itself
-      (λ s t u is. subst (IsUnmoved s) (sym is) (record { at = refl; olds = refl })) (always o) goes
-  sync_unmoved (Err e) goes =
-      by_step {X = F} IsUnmoved (IsSync {F = F} m (Err e)) Always o n (Err e) unmoved_itself
-      (λ s t u is. subst (IsUnmoved s) (sym is) (record { at = refl; olds = refl })) (always o) goes
+  sync_unmoved result goes =
+      by_step IsUnmoved (IsSync m result) Always o n result unmoved_itself (λ s t u is. subst (IsUnmoved s) (sym is) (record { at = refl; olds = refl })) (always o) goes
 
 -- ---- what a call leaves
 

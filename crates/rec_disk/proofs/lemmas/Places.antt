@@ -1,12 +1,12 @@
 -- What each change spares at a place, and what outlasts it.
-use Rattle.std.proofs.Common.{◌≡◌, ◌≢◌, ◌⊎◌, inl, inr, ℕ, Bool, true, false, List, [], ◌∷◌, map, Option, Some, None, refl, sym, ◌∙◌, ap, subst}
+use Rattle.std.proofs.Common.{◌≡◌, ◌≢◌, ◌⊎◌, inl, inr, ℕ, suc, Bool, true, false, List, [], ◌∷◌, map, Option, Some, None, refl, sym, ◌∙◌, ap, subst}
 use Rattle.std.specs.Prelude.{bytes_eq, if◌then◌else◌}
 use Rattle.std.proofs.lemmas.Bool.{cond-true, cond_both}
 use Rattle.std.specs.List.{AllByRecursion}
 use Rattle.rec_disk.specs.Disk.{State, IsFresh, put, made, wrote, synced, renamed, removed, kept_in, folder_synced}
-use Rattle.rec_disk.specs.Lasting.{SomeOf, MayStand, Left, Leaves, shown, Spares}
-use Rattle.rec_disk.specs.proving.Places.{StaysSafe, IsSeen, Outlasts, Avoids, Waits}
-use Rattle.rec_disk.proofs.lemmas.Points.{set_other, put_same, put_other, eq_bytes}
+use Rattle.rec_disk.specs.Lasting.{SomeOf, MayStand, Left, LeavesAt, shown, Spares}
+use Rattle.rec_disk.specs.proving.Places.{StaysSafe, IsSeen, Outlasts, IsSettled, Avoids, Waits}
+use Rattle.rec_disk.proofs.lemmas.Points.{set_other, set_kept, put_same, put_other, eq_bytes}
 
 -- ---- what may stand
 
@@ -19,18 +19,29 @@ by_crash false s p x (inr none) = absurd none
 -- ---- sparing
 
 pub spares_itself : (p : List ℕ) (s : State) → Spares p s s
-spares_itself p s = record { at = refl; may = λ x may. may; bytes = λ n may. refl; safe = λ n may e. e }
+spares_itself p s =
+    record { at = refl; may = λ x may. may; bytes = λ n may. refl; version = λ n may. refl; held = λ n may. refl; safe = λ n may e. e }
 
 pub spares_then : (p : List ℕ) (s t u : State) → Spares p s t → Spares p t u → Spares p s u
 spares_then p s t u first rest = record {
   at = rest.at ∙ first.at;
   may = λ x may. first.may x (rest.may x may);
   bytes = λ n may. rest.bytes n may ∙ first.bytes n (rest.may (Some n) may);
+  version = λ n may. rest.version n may ∙ first.version n (rest.may (Some n) may);
+  held = λ n may. rest.held n may ∙ first.held n (rest.may (Some n) may);
   safe = λ n may e. rest.safe n may (first.safe n (rest.may (Some n) may) e);
 }
 
 pub avoids_still : (p : List ℕ) (s t : State) (n : ℕ) → Spares p s t → Avoids s p n → Avoids t p n
 avoids_still p s t n spares avoids = λ may. avoids (spares.may (Some n) may)
+
+stop_safe : (s : State) (x : Option ℕ) → StaysSafe false s x
+stop_safe s None = tt
+stop_safe s (Some n) = refl
+
+crash_safe : (crash : Bool) (s : State) (x : Option ℕ) → StaysSafe true s x → StaysSafe crash s x
+crash_safe true s x safe = safe
+crash_safe false s x safe = stop_safe s x
 
 stays_safe : (crash : Bool) (p : List ℕ) (s t : State) (x : Option ℕ) → Spares p s t → MayStand true t p x → StaysSafe crash s x → StaysSafe crash t x
 stays_safe crash p s t None spares may stays = tt
@@ -80,15 +91,19 @@ module _ (p : List ℕ) (s : State) where
     at = refl;
     may = λ x may. may;
     bytes = λ m may. set_other s.bytes n m bytes (other_file n m avoids may);
+    version = λ m may. set_other s.version n m (suc (s.version n)) (other_file n m avoids may);
+    held = λ m may. refl;
     safe = λ m may e. set_other s.safe n m false (other_file n m avoids may) ∙ e;
   }
 
-  pub spares-synced : (n : ℕ) (flag : Bool) → Avoids s p n → Spares p s (synced s n flag)
-  spares-synced n flag avoids = record {
+  pub spares-synced : (n : ℕ) → Spares p s (synced s n)
+  spares-synced n = record {
     at = refl;
     may = λ x may. may;
     bytes = λ m may. refl;
-    safe = λ m may e. set_other s.safe n m flag (other_file n m avoids may) ∙ e;
+    version = λ m may. refl;
+    held = λ m may. refl;
+    safe = λ m may e. set_kept s.safe n m true refl e;
   }
 
   -- where what stands there stays, what may stand is what might before
@@ -104,6 +119,8 @@ module _ (p : List ℕ) (s : State) where
         at = same;
         may = before;
         bytes = λ m may. set_other s.bytes n m [] (other_file n m (fresh_avoids n fresh) (before (Some m) may));
+        version = λ m may. refl;
+        held = λ m may. set_other s.held n m false (other_file n m (fresh_avoids n fresh) (before (Some m) may));
         safe = λ m may e. set_other s.safe n m true (other_file n m (fresh_avoids n fresh) (before (Some m) may)) ∙ e;
       }
 
@@ -115,6 +132,8 @@ module _ (p : List ℕ) (s : State) where
     at = put_other s.at q p None ne;
     may = λ x may. moved_may (put s.at q None) x (put_other s.at q p None ne) may;
     bytes = λ m may. refl;
+    version = λ m may. refl;
+    held = λ m may. refl;
     safe = λ m may e. e;
   }
 
@@ -125,6 +144,8 @@ module _ (p : List ℕ) (s : State) where
         at = same;
         may = λ x may. moved_may (put (put s.at from None) to (s.at from)) x same may;
         bytes = λ m may. refl;
+        version = λ m may. refl;
+        held = λ m may. refl;
         safe = λ m may e. e;
       }
 
@@ -144,7 +165,8 @@ module _ (p : List ℕ) (s : State) where
     synced_may x (inr some) = synced_olds x s.olds some
 
     pub spares-folder_synced : Spares p s (folder_synced folder s d)
-    spares-folder_synced = record { at = refl; may = synced_may; bytes = λ m may. refl; safe = λ m may e. e }
+    spares-folder_synced =
+        record { at = refl; may = synced_may; bytes = λ m may. refl; version = λ m may. refl; held = λ m may. refl; safe = λ m may e. e }
 
 -- ---- one file stands instead of another
 
@@ -218,9 +240,42 @@ module _ (folder : List ℕ → List ℕ) (s : State) (p : List ℕ) where
 
 -- ---- what is seen of what is left
 
-seen_left : (crash : Bool) (P : Option (List ℕ) → Type 0) (s : State) (left : Left) (x : Option ℕ) → Leaves crash s left → IsSeen crash P s x → P (shown left.bytes x)
-seen_left crash P s left None leaves is = is.seen
-seen_left crash P s left (Some n) leaves is = subst (λ b. P (Some b)) (sym (leaves.bytes n is.stays)) is.seen
+seen_left : (crash : Bool) (P : Option (List ℕ) → Type 0) (s : State) (p : List ℕ) (left : Left) (x : Option ℕ) → left.at p ≡ x → LeavesAt crash s left p → IsSeen crash P s x
+    → P (shown left.bytes x)
+seen_left crash P s p left None stands leaves is = is.seen
+seen_left crash P s p left (Some n) stands leaves is = subst (λ b. P (Some b)) (sym (leaves.bytes n stands is.stays)) is.seen
 
-pub shows : (crash : Bool) (P : Option (List ℕ) → Type 0) (s : State) (p : List ℕ) (left : Left) → Outlasts crash P s p → Leaves crash s left → P (shown left.bytes (left.at p))
-shows crash P s p left was leaves = seen_left crash P s left (left.at p) leaves (was (left.at p) (leaves.at p))
+pub shows : (crash : Bool) (P : Option (List ℕ) → Type 0) (s : State) (p : List ℕ) (left : Left) → Outlasts crash P s p → LeavesAt crash s left p → P (shown left.bytes (left.at p))
+shows crash P s p left was leaves = seen_left crash P s p left (left.at p) refl leaves (was (left.at p) leaves.at)
+
+-- ---- what is spared
+
+-- what may be left there might have been left before
+pub leaves_spared : (crash : Bool) (p : List ℕ) (s t : State) (left : Left) → Spares p s t → LeavesAt crash t left p → LeavesAt crash s left p
+leaves_spared crash p s t left spares leaves = record {
+  at = may_before crash p s t (left.at p) spares leaves.at;
+  bytes = λ n stands safe.
+      let may = by_crash crash t p (Some n) (subst (MayStand crash t p) stands leaves.at) in
+      leaves.bytes n stands (stays_safe crash p s t (Some n) spares may safe) ∙ spares.bytes n may;
+}
+
+-- ---- a file that was read is made to last
+
+pub shown_spared : (p : List ℕ) (s t : State) → Spares p s t → shown t.bytes (t.at p) ≡ shown s.bytes (s.at p)
+shown_spared p s t spares = sym (shown_same p s t (t.at p) spares (inl refl)) ∙ ap (shown s.bytes) spares.at
+
+pub outlasts_so : (crash : Bool) (P Q : Option (List ℕ) → Type 0) (s : State) (p : List ℕ) → ((b : Option (List ℕ)) → P b → Q b) → Outlasts crash P s p → Outlasts crash Q s p
+outlasts_so crash P Q s p so was x may = let is = was x may in record { seen = so (shown s.bytes x) is.seen; stays = is.stays }
+
+pub settled_still : (crash : Bool) (p : List ℕ) (s t : State) → Spares p s t → IsSettled crash p s → IsSettled crash p t
+settled_still crash p s t spares settled =
+    outlasts_so crash (λ b. b ≡ shown s.bytes (s.at p)) (λ b. b ≡ shown t.bytes (t.at p)) t p (λ b is. is ∙ sym (shown_spared p s t spares))
+    (outlasts_still crash (λ b. b ≡ shown s.bytes (s.at p)) p s t spares settled)
+
+-- by a sync of the file and of its folder
+pub settled-synced : (folder : List ℕ → List ℕ) (crash : Bool) (p : List ℕ) (s : State) → StaysSafe true s (s.at p) → IsSettled crash p (folder_synced folder s (folder p))
+settled-synced folder crash p s safe = outlasts-folder_synced folder s p crash (λ y. y ≡ shown s.bytes (s.at p)) (record { seen = refl; stays = crash_safe crash s (s.at p) safe })
+
+-- or of the file alone, where nothing crashes
+pub settled_stop : (p : List ℕ) (s : State) → IsSettled false p s
+settled_stop p s = outlasts_stop (λ y. y ≡ shown s.bytes (s.at p)) s p (record { seen = refl; stays = stop_safe s (s.at p) })

@@ -1,7 +1,7 @@
 -- Functions changed at one argument.
 use Rattle.std.proofs.Common.{◌≡◌, ◌≢◌, ℕ, Bool, true, false, List, refl}
 use Rattle.std.specs.Prelude.{bytes_eq, ◌==◌}
-use Rattle.std.proofs.lemmas.Bool.{cond-true, cond-false, eq-eqb, ne_eqb}
+use Rattle.std.proofs.lemmas.Bool.{cond-true, cond-false, cond_both, eq-eqb, ne_eqb}
 use Rattle.std.proofs.lemmas.Slice.Eq.{bytes_eq-Decides}
 use Rattle.rec_disk.specs.Disk.{put, set}
 
@@ -10,6 +10,10 @@ set_same f n m x e = cond-true (m == n) x (f m) (eq-eqb m n e)
 
 pub set_other : {X : Type 0} (f : ℕ → X) (n m : ℕ) (x : X) → m ≢ n → set f n x m ≡ f m
 set_other f n m x ne = cond-false (m == n) x (f m) (ne_eqb m n ne)
+
+-- what holds of the new value and of the old one
+pub set_kept : {X : Type 0} (f : ℕ → X) (n m : ℕ) (x : X) {y : X} → x ≡ y → f m ≡ y → set f n x m ≡ y
+set_kept f n m x {y} new old = cond_both (m == n) x (f m) (λ z. z ≡ y) (λ _. new) (λ _. old)
 
 pub eq_bytes : (p q : List ℕ) → p ≡ q → bytes_eq p q ≡ true
 eq_bytes p q e = (bytes_eq-Decides p q).1 e

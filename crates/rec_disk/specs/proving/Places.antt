@@ -16,6 +16,10 @@ pub record IsSeen (crash : Bool) (P : Option (List ℕ) → Type 0) (s : State) 
 abbrev pub Outlasts : Bool → (Option (List ℕ) → Type 0) → State → List ℕ → Type 0
 Outlasts crash P s p = (x : Option ℕ) → MayStand crash s p x → IsSeen crash P s x
 
+-- what stands at the place is what is seen there then
+abbrev pub IsSettled : Bool → List ℕ → State → Type 0
+IsSettled crash p s = Outlasts crash (λ x. x ≡ shown s.bytes (s.at p)) s p
+
 -- the file doesn't stand at the place, and a crash doesn't bring it there
 abbrev pub Avoids : State → List ℕ → ℕ → Type 0
 Avoids s p n = ¬ MayStand true s p (Some n)

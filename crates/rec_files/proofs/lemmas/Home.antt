@@ -1,44 +1,42 @@
 -- What a call of the home leaves of the contents.
-use Rattle.std.proofs.Common.{◌≡◌, ℕ, ◌≤◌, Bool, false, List, [], length, take, Option, Some, None, refl, sym, ◌∙◌, ap, subst, IfSome, arith}
+use Rattle.std.proofs.Common.{◌≡◌, ◌⊎◌, inl, inr, ℕ, ◌≤◌, Bool, false, List, [], length, take, Option, Some, None, refl, sym, ◌∙◌, ap, subst, IfSome, arith}
 use Rattle.std.proofs.lemmas.Bool.{false≢true}
-use Rattle.rec_disk.specs.Disk.{State, Story, Told}
-use Rattle.rec_disk.proofs.lemmas.Moments.{still, moments_from, told_so}
+use Rattle.rec_disk.specs.Disk.{State, Story, Told, AtAnyMoment}
+use Rattle.rec_disk.proofs.lemmas.Places.{leaves_spared}
+use Rattle.rec_disk.proofs.lemmas.Moments.{still, told_so}
 use Rattle.rec_tools.specs.Home.{Contents, Write, Call, put_all, put_some, written, writes_by, left_by, TellsOf, CountsFailure}
 use Rattle.rec_tools.specs.declared.home.Which.TheVariants.{Base}
 use Rattle.rec_files.specs.Paths.{path_of}
-use Rattle.rec_files.specs.OnDisk.{Places, Shows, Holds, IsSecure, CanSync, SecurePut, LastingPut, TouchesOwn, IsHomeCall, contents_at, contents_on, places_by}
-use Rattle.rec_files.specs.proving.Replacing.{Moments, Persists, LastAs, Between, led}
-use Rattle.rec_files.proofs.lemmas.Holding.{holds_last, last_holds, between_secure, contents_hold, holds_contents, leaves_now}
-use Rattle.rec_files.proofs.lemmas.Replacing.{weaker_moments}
+use Rattle.rec_files.specs.OnDisk.{Places, Shows, Holds, AreAsBefore, IsRead, IsSecure, CanSync, SecurePut, LastingPut, TouchesOwn, RecoversAt, IsHomeCall, contents_at, contents_on, places_by}
+use Rattle.rec_files.specs.proving.Replacing.{IsPutForGood, LastAs, led}
+use Rattle.rec_files.proofs.lemmas.Holding.{last_holds, between_written, before_shows, holds_contents, leaves_now}
+use Rattle.rec_files.proofs.lemmas.Replacing.{Until, moments_so}
 
 -- ---- from what is seen to what is left
 
 module _ (folder : List ℕ → List ℕ) (syncs : List ℕ → Bool) (p : Places) (journal : List ℕ) (file : Option (List ℕ)) (o n : Option Story) where
-  last_told : (crash : Bool) (c : Contents) → Told o (Holds crash p c) → Told o (LastAs crash p c.file c.journal)
-  last_told crash c told = told_so (Holds crash p c) (LastAs crash p c.file c.journal) o (λ s holds. holds_last crash p c s holds) told
+  until_secure : (crash : Bool) (c : Contents) (s u : State) → Until crash p c journal file s u → IsSecure crash p c (writes_by journal file) s u
+  until_secure crash c s u (inl spared) left leaves =
+      inl (leaves_spared crash p.file s u left spared.0 (leaves p.file), leaves_spared crash p.journal s u left spared.1 (leaves p.journal))
+  until_secure crash c s u (inr between) left leaves = inr (between_written crash p c journal u file between left leaves)
 
-  pub secure_put : Moments folder syncs p journal file o n → SecurePut folder syncs p (writes_by journal file) o n
-  secure_put moments crash c can told =
-      weaker_moments (Between crash p c journal file) (IsSecure crash p c (writes_by journal file)) o n (λ s between. between_secure crash p c journal s file between)
-      (moments crash c can (last_told crash c told))
+  pub secure_put : ((crash : Bool) (c : Contents) → CanSync folder syncs crash p → Told o (IsRead p c) → AtAnyMoment o n (Until crash p c journal file))
+      → SecurePut folder syncs p (writes_by journal file) o n
+  secure_put moments crash c can read =
+      moments_so (Until crash p c journal file) (IsSecure crash p c (writes_by journal file)) o n (until_secure crash c) (moments crash c can read)
 
 pub lasting_put : (folder : List ℕ → List ℕ) (syncs : List ℕ → Bool) (p : Places) (journal : List ℕ) (file : Option (List ℕ)) (o n : Option Story)
-    → Persists folder syncs p journal file o n → LastingPut folder syncs p (writes_by journal file) o n
-lasting_put folder syncs p journal None o n persists crash c can told =
-    told_so (LastAs crash p c.file journal) (Holds crash p (written c (writes_by journal None))) n (λ s last. last_holds crash p (written c (writes_by journal None)) s last)
-    (persists crash c can (last_told folder syncs p journal None o n crash c told))
-lasting_put folder syncs p journal (Some file) o n persists crash c can told =
+    → IsPutForGood folder syncs p journal file o n → LastingPut folder syncs p (writes_by journal file) o n
+lasting_put folder syncs p journal None o n persists crash c can read =
+    told_so (LastAs crash p c.file journal) (Holds crash p (written c (writes_by journal None))) n (λ s last. last_holds crash p (written c (writes_by journal None)) s last) (persists crash c can read)
+lasting_put folder syncs p journal (Some file) o n persists crash c can read =
     told_so (LastAs crash p file journal) (Holds crash p (written c (writes_by journal (Some file)))) n (λ s last. last_holds crash p (written c (writes_by journal (Some file))) s last)
-    (persists crash c can (last_told folder syncs p journal (Some file) o n crash c told))
+    (persists crash c can read)
 
--- nothing is put yet
-pub secure_rest : (crash : Bool) (p : Places) (c : Contents) (writes : List Write) (s : State) → Holds crash p c s → IsSecure crash p c writes s
-secure_rest crash p c writes s holds left leaves = (0, omega arith, holds left leaves)
-
+-- where nothing is changed
 pub secure_still : (folder : List ℕ → List ℕ) (syncs : List ℕ → Bool) (p : Places) (writes : List Write) (o n : Option Story) → n ≡ o → SecurePut folder syncs p writes o n
-secure_still folder syncs p writes o n same crash c can told =
-    moments_from (λ s u. u ≡ s) (Holds crash p c) (IsSecure crash p c writes) o n (λ s u holds is. secure_rest crash p c writes u (subst (Holds crash p c) (sym is) holds)) told
-    (still (λ s u. u ≡ s) o n same (λ s. refl))
+secure_still folder syncs p writes o n same crash c can read =
+    still (IsSecure crash p c writes) o n same (λ s left leaves. inl (leaves p.file, leaves p.journal))
 
 -- ---- contents
 
@@ -49,18 +47,15 @@ Nothing (Some c) = ⊥
 none_is : (c : Contents) → None ≡ Some c → ⊥
 none_is c is = subst Nothing is tt
 
-no_crash : (folder : List ℕ → List ℕ) (syncs : List ℕ → Bool) (p : Places) → CanSync folder syncs false p
+pub no_crash : (folder : List ℕ → List ℕ) (syncs : List ℕ → Bool) (p : Places) → CanSync folder syncs false p
 no_crash folder syncs p e = absurd (false≢true e)
 
 module _ (folder : List ℕ → List ℕ) (syncs : List ℕ → Bool) (p : Places) (writes : List Write) where
-  held : (a : Story) (c : Contents) → contents_at p a.now ≡ Some c → Holds false p c a.now
-  held a c is = contents_hold p c a.now is
-
   last_at : (a : Story) (n : Option Story) (c : Contents) → contents_at p a.now ≡ Some c → SecurePut folder syncs p writes (Some a) n → LastingPut folder syncs p writes (Some a) n
       → contents_on (Some p) n ≡ Some (written c writes)
-  last_at a None c is secure lasting = absurd (secure false c (no_crash folder syncs p) (held a c is))
+  last_at a None c is secure lasting = absurd (secure false c (no_crash folder syncs p) is)
   last_at a (Some b) c is secure lasting =
-      holds_contents p (written c writes) b.now (lasting false c (no_crash folder syncs p) (held a c is) (record { at = b.now.at; bytes = b.now.bytes }) (leaves_now b.now))
+      holds_contents p (written c writes) b.now (lasting false c (no_crash folder syncs p) is (record { at = b.now.at; bytes = b.now.bytes }) (leaves_now b.now))
 
   pub all_put : (o n : Option Story) (x : Option Contents) → contents_on (Some p) o ≡ x → SecurePut folder syncs p writes o n → LastingPut folder syncs p writes o n
       → IfSome x (λ c. TellsOf c (put_all writes) × (contents_on (Some p) n ≡ Some (left_by c (put_all writes))))
@@ -72,15 +67,19 @@ module _ (folder : List ℕ → List ℕ) (syncs : List ℕ → Bool) (p : Place
   abbrev pub SomePut : Option Story → Option Contents → Type 0
   SomePut n x = (k : ℕ) × (k ≤ length writes) × IfSome x (λ c. TellsOf c (put_some writes k) × (contents_on (Some p) n ≡ Some (left_by c (put_some writes k))))
 
-  some_at : (a b : Story) (c : Contents) → (k : ℕ) × (k ≤ length writes) × Shows p (record { at = b.now.at; bytes = b.now.bytes }) (written c (take k writes)) → SomePut (Some b) (Some c)
-  some_at a b c (k, most, shows) = (k, most, (tt, holds_contents p (written c (take k writes)) b.now shows))
+  some_at : (a b : Story) (c : Contents) → contents_at p a.now ≡ Some c
+      → AreAsBefore false p a.now (record { at = b.now.at; bytes = b.now.bytes })
+      ⊎ ((k : ℕ) × (k ≤ length writes) × Shows p (record { at = b.now.at; bytes = b.now.bytes }) (written c (take k writes)))
+      → SomePut (Some b) (Some c)
+  some_at a b c is (inl before) = (0, omega arith, (tt, holds_contents p c b.now (before_shows p c a.now (record { at = b.now.at; bytes = b.now.bytes }) is before)))
+  some_at a b c is (inr (k, most, shows)) = (k, most, (tt, holds_contents p (written c (take k writes)) b.now shows))
 
   pub some_put : (o n : Option Story) (x : Option Contents) → contents_on (Some p) o ≡ x → SecurePut folder syncs p writes o n → SomePut n x
   some_put o n None is secure = (0, omega arith, tt)
   some_put None n (Some c) is secure = absurd (none_is c is)
-  some_put (Some a) None (Some c) is secure = absurd (secure false c (no_crash folder syncs p) (held a c is))
+  some_put (Some a) None (Some c) is secure = absurd (secure false c (no_crash folder syncs p) is)
   some_put (Some a) (Some b) (Some c) is secure =
-      some_at a b c ((secure false c (no_crash folder syncs p) (held a c is)).0 (record { at = b.now.at; bytes = b.now.bytes }) (leaves_now b.now))
+      some_at a b c is ((secure false c (no_crash folder syncs p) is).0 (record { at = b.now.at; bytes = b.now.bytes }) (leaves_now b.now))
 
 -- ---- a put of the home
 
@@ -104,7 +103,7 @@ module _ (place folder : List ℕ → List ℕ) (syncs : List ℕ → Bool) (lea
   led_is f of_file of_journal = ap (λ q. led leads q journal_path) of_file ∙ ap (λ q. led leads f q) of_journal
 
   module _ (o n : Option Story) (old new : ℕ) (secure : SecurePut folder syncs (led leads file_path journal_path) writes o n)
-      (touches : TouchesOwn place (led leads file_path journal_path) o n) where
+      (touches : TouchesOwn place (led leads file_path journal_path) o n) (recovers : RecoversAt place (led leads file_path journal_path) writes o n) where
     pub put_done : (file : Option (List ℕ)) → ArePaths file → LastingPut folder syncs (led leads file_path journal_path) writes o n → CountsFailure old (put_all writes) new
         → IsHomeCall place folder syncs (At file) (At file) o (put_all writes) n old new
     put_done None paths lasting counts = record { same = refl; counts = counts; follows = tt; calls = tt }
@@ -112,12 +111,13 @@ module _ (place folder : List ℕ → List ℕ) (syncs : List ℕ → Bool) (lea
         let at : led leads file_path journal_path ≡ led leads f journal = led_is f paths.0 paths.1 in
         let secure_at = subst (λ p. SecurePut folder syncs p writes o n) at secure in
         let touches_at = subst (λ p. TouchesOwn place p o n) at touches in
+        let recovers_at = subst (λ p. RecoversAt place p writes o n) at recovers in
         let lasting_at = subst (λ p. LastingPut folder syncs p writes o n) at lasting in
         record {
           same = refl;
           counts = counts;
           follows = all_put folder syncs (led leads f journal) writes o n (contents_on (Some (led leads f journal)) o) refl secure_at lasting_at;
-          calls = record { any_moment = secure_at; lasts = λ _. lasting_at; still = λ none. absurd (some_writes bytes file_bytes none); touches = touches_at };
+          calls = record { any_moment = secure_at; lasts = λ whole. lasting_at; still = λ none. absurd (some_writes bytes file_bytes none); touches = touches_at; recovers = recovers_at };
         }
 
     pub put_failed : (file : Option (List ℕ)) → ArePaths file → ((k : ℕ) → CountsFailure old (put_some writes k) new)
@@ -127,6 +127,7 @@ module _ (place folder : List ℕ → List ℕ) (syncs : List ℕ → Bool) (lea
         let at : led leads file_path journal_path ≡ led leads f journal = led_is f paths.0 paths.1 in
         let secure_at = subst (λ p. SecurePut folder syncs p writes o n) at secure in
         let touches_at = subst (λ p. TouchesOwn place p o n) at touches in
+        let recovers_at = subst (λ p. RecoversAt place p writes o n) at recovers in
         let some = some_put folder syncs (led leads f journal) writes o n (contents_on (Some (led leads f journal)) o) refl secure_at in (
           some.0,
           some.1,
@@ -134,17 +135,20 @@ module _ (place folder : List ℕ → List ℕ) (syncs : List ℕ → Bool) (lea
             same = refl;
             counts = counts some.0;
             follows = some.2;
-            calls = record { any_moment = secure_at; lasts = λ never. absurd never; still = λ none. absurd (some_writes bytes file_bytes none); touches = touches_at };
+            calls = record { any_moment = secure_at; lasts = λ never. absurd never; still = λ none. absurd (some_writes bytes file_bytes none); touches = touches_at; recovers = recovers_at };
           },
         )
 
 -- what is noted of a failure changes neither paths nor disk
-pub noted_call : (place folder : List ℕ → List ℕ) (syncs : List ℕ → Bool) (writes : List Write) (places now later : Option Places) (o n last : Option Story) (old new : ℕ) → later ≡ now → last ≡ n
-    → (k : ℕ) × (k ≤ length writes) × IsHomeCall place folder syncs places now o (put_some writes k) n old new
-    → (call : Call) × ((k : ℕ) × (k ≤ length writes) × (call ≡ put_some writes k)) × IsHomeCall place folder syncs places later o call last old new
-noted_call place folder syncs writes places now later o n last old new same still (k, most, is) = (
+pub noted_call : (place folder : List ℕ → List ℕ) (syncs : List ℕ → Bool) (writes : List Write) (places now later : Option Places) (o n last : Option Story) (old new : ℕ) (E : Call → Type 0)
+    → later ≡ now → last ≡ n → ((k : ℕ) → E (put_some writes k)) → (k : ℕ) × (k ≤ length writes) × IsHomeCall place folder syncs places now o (put_some writes k) n old new
+    → (call : Call) × ((k : ℕ) × (k ≤ length writes) × (call ≡ put_some writes k)) × (IsHomeCall place folder syncs places later o call last old new × E call)
+noted_call place folder syncs writes places now later o n last old new E same still excused (k, most, is) = (
   put_some writes k,
   (k, most, refl),
-  subst (λ last. IsHomeCall place folder syncs places later o (put_some writes k) last old new) (sym still)
-      (subst (λ later. IsHomeCall place folder syncs places later o (put_some writes k) n old new) (sym same) is),
+  (
+    subst (λ last. IsHomeCall place folder syncs places later o (put_some writes k) last old new) (sym still)
+        (subst (λ later. IsHomeCall place folder syncs places later o (put_some writes k) n old new) (sym same) is),
+    excused k,
+  ),
 )

@@ -4,11 +4,11 @@ use Rattle.std.proofs.lemmas.Bool.{false≢true}
 use Rattle.rec_disk.specs.Disk.{State, renamed, folder_synced}
 use Rattle.rec_disk.specs.Lasting.{Spares}
 use Rattle.rec_disk.specs.proving.Places.{IsSeen, Outlasts, Waits}
-use Rattle.rec_disk.proofs.lemmas.Places.{spares_itself, spares_then, spares-renamed, spares-folder_synced, outlasts_still, outlasts-renamed, outlasts_stop, outlasts-folder_synced, seen_there}
-use Rattle.rec_disk.proofs.lemmas.Places.{waits_seen, waits_still}
+use Rattle.rec_disk.proofs.lemmas.Places.{spares_itself, spares_then, spares-renamed, spares-folder_synced, outlasts_still, outlasts-renamed, outlasts_stop, outlasts-folder_synced, seen_there, waits_seen, waits_still}
 use Rattle.rec_tools.specs.Home.{Contents}
 use Rattle.rec_files.specs.OnDisk.{Places, Sites, CanSync}
-use Rattle.rec_files.specs.proving.Replacing.{IsPlacing, IsPlaced, HasFile, HasJournal, Either, Lasts, LastAs, AreApart, own_of}
+use Rattle.rec_files.specs.Succeeding.{AreApart}
+use Rattle.rec_files.specs.proving.Replacing.{IsPlacing, IsPlaced, HasFile, HasJournal, Either, Lasts, LastAs, own_of}
 
 -- ---- one file comes to its place
 

@@ -1,20 +1,22 @@
 -- A put, step by step, is between its old contents and its new ones.
-use Rattle.std.proofs.Common.{◌≡◌, ◌≢◌, inl, inr, ℕ, Bool, false, List, [], ◌∷◌, ◌++◌, Option, Some, None, refl, sym, ◌∙◌, ap, subst}
+use Rattle.std.proofs.Common.{◌≡◌, ◌≢◌, ◌⊎◌, inl, inr, ℕ, Bool, false, List, [], ◌∷◌, ◌++◌, Option, Some, None, refl, sym, ◌∙◌, ap, subst}
 use Rattle.std.proofs.lemmas.Bool.{false≢true}
 use Rattle.std.proofs.lemmas.List.{append_cancel_right}
 use Rattle.std.specs.Prelude.{unwrap_or}
 use Rattle.std.specs.List.{AllByRecursion}
 use Rattle.rec_disk.specs.Disk.{State, Story, Look, Told, Ends, AtAnyMoment}
-use Rattle.rec_disk.specs.Lasting.{Spares}
+use Rattle.rec_disk.specs.Lasting.{Spares, shown}
 use Rattle.rec_disk.specs.proving.Places.{Waits}
-use Rattle.rec_disk.proofs.lemmas.Moments.{since_then, told_both, told_so, told_end, told_kept, told_always, moments_from, told_from}
+use Rattle.rec_disk.proofs.lemmas.Places.{shown_spared, spares_then, outlasts_so}
+use Rattle.rec_disk.proofs.lemmas.Moments.{and_then, since_then, told_both, told_so, told_end, told_kept, told_always, moments_from, told_from}
 use Rattle.rec_disk.proofs.lemmas.Calls.{spares_still, spares_on}
 use Rattle.rec_tools.specs.Home.{Contents}
-use Rattle.rec_files.specs.OnDisk.{Places, Sites, sites_of, AreLeft, CanSync, SparesStrangers}
-use Rattle.rec_files.specs.proving.Replacing.{IsPlacing, IsPlaced, HasFile, HasJournal, Either, Lasts, LastAs, Between, AreApart, AreResolved, Moments, Persists, led, own_of}
-use Rattle.rec_files.specs.proving.Replacing.{AreAsSeen, BothWait, IsAsSeen, IsPut, IsReplacing, MayBegin, OnlyWhere, SparesBut, SparesButNew}
+use Rattle.rec_files.specs.OnDisk.{Places, Sites, sites_of, AreLeft, CanSync, IsRead, SparesStrangers, or_empty, with_file}
+use Rattle.rec_files.specs.Succeeding.{AreApart}
+use Rattle.rec_files.specs.proving.Replacing.{IsPlacing, IsPlaced, HasFile, HasJournal, Either, Lasts, LastAs, Between, AreResolved, Moments, Persists, led, own_of, AreSpared, AreSettled, IsPutForGood, AreAsSeen, BothWait, IsAsSeen, IsPut, IsReplacing, MayBegin, OnlyWhere, SparesBut, SparesButNew}
 use Rattle.rec_files.proofs.lemmas.Placing.{spares-placing, lasts_still, journal_placing, journal_placed, file_waits, file_placing, file_placed}
 use Rattle.rec_files.proofs.lemmas.Steps.{longer_than, some_none}
+use Rattle.rec_files.proofs.lemmas.Holding.{read_there}
 
 -- ---- two facts of each moment
 
@@ -79,21 +81,53 @@ module _ (folder : List ℕ → List ℕ) (syncs : List ℕ → Bool) (p : Place
       weaker_moments (LastAs crash p c.file c.journal) (Between crash p c journal file) o n (λ s was. old_between crash p c journal file s was)
       (spared crash p (HasFile c.file) (HasJournal c.journal) o n told of_file of_journal)
 
-  -- then something was spared
-  pub moments_then : (o b n : Option Story) → Moments folder syncs p journal file o b → AtAnyMoment b n (Spares p.file) → AtAnyMoment b n (Spares p.journal)
-      → Moments folder syncs p journal file o n
-  moments_then o b n first of_file of_journal crash c can told =
-      let before = first crash c can told in
-      since_then (Between crash p c journal file) o b n before
-      (moments_from (λ s t. Spares p.file s t × Spares p.journal s t) (Between crash p c journal file) (Between crash p c journal file) b n
-      (λ s t was both. between_still crash p c journal file s t was both) (told_from (Between crash p c journal file) o b before)
-      (both_moments (Spares p.file) (Spares p.journal) b n of_file of_journal))
-
   pub moments_untold : (n : Option Story) → n ≡ None → Moments folder syncs p journal file None n
   moments_untold n is crash c can told = subst (λ n. AtAnyMoment None n (λ s u. Between crash p c journal file u)) (sym is) tt
 
   pub persists_untold : (n : Option Story) → n ≡ None → Persists folder syncs p journal file None n
   persists_untold n is crash c can told = subst (λ n. Told n (LastAs crash p (unwrap_or file c.file) journal)) (sym is) tt
+
+-- ---- a put, from contents that are read
+
+-- these contents last, once they are settled
+module _ (crash : Bool) (p : Places) (c : Contents) where
+  read_spared : (s t : State) → IsRead p c s → AreSpared p s t → IsRead p c t
+  read_spared s t read both =
+      ap (λ x. with_file x (or_empty (shown t.bytes (t.at p.journal)))) (shown_spared p.file s t both.0)
+      ∙ ap (λ j. with_file (shown s.bytes (s.at p.file)) (or_empty j)) (shown_spared p.journal s t both.1) ∙ read
+
+  settled_last : (t : State) → IsRead p c t → AreSettled crash p t → LastAs crash p c.file c.journal t
+  settled_last t read settled =
+      let both = read_there p c t read in
+      record {
+        file = outlasts_so crash (λ b. b ≡ shown t.bytes (t.at p.file)) (HasFile c.file) t p.file (λ b is. is ∙ both.0) settled.file;
+        journal = outlasts_so crash (λ b. b ≡ shown t.bytes (t.at p.journal)) (HasJournal c.journal) t p.journal (λ b is. ap or_empty is ∙ both.1) settled.journal;
+      }
+
+  pub last_settled : (o b : Option Story) → Told o (IsRead p c) → AtAnyMoment o b (Spares p.file) → AtAnyMoment o b (Spares p.journal) → Told b (AreSettled crash p)
+      → Told b (LastAs crash p c.file c.journal)
+  last_settled o b read of_file of_journal settled =
+      told_both (IsRead p c) (AreSettled crash p) (LastAs crash p c.file c.journal) b (λ t read settled. settled_last t read settled)
+      (told_kept (AreSpared p) (IsRead p c) (IsRead p c) o b (λ s t read both. read_spared s t read both) read (both_moments (Spares p.file) (Spares p.journal) o b of_file of_journal)) settled
+
+-- spared at first, and then in between
+module _ (crash : Bool) (p : Places) (c : Contents) (journal : List ℕ) (file : Option (List ℕ)) where
+  abbrev pub Until : State → State → Type 0
+  Until s u = AreSpared p s u ⊎ Between crash p c journal file u
+
+  until_then : (s t u : State) → Until s t → Until t u → Until s u
+  until_then s t u (inl first) (inl rest) = inl (spares_then p.file s t u first.0 rest.0, spares_then p.journal s t u first.1 rest.1)
+  until_then s t u (inr between) (inl rest) = inr (between_still crash p c journal file t u between rest)
+  until_then s t u first (inr between) = inr between
+
+  pub until_spared : (o n : Option Story) → AtAnyMoment o n (Spares p.file) → AtAnyMoment o n (Spares p.journal) → AtAnyMoment o n Until
+  until_spared o n of_file of_journal = moments_so (AreSpared p) Until o n (λ s u is. inl is) (both_moments (Spares p.file) (Spares p.journal) o n of_file of_journal)
+
+  pub until_between : (o n : Option Story) → AtAnyMoment o n (λ s u. Between crash p c journal file u) → AtAnyMoment o n Until
+  until_between o n between = moments_so (λ s u. Between crash p c journal file u) Until o n (λ s u is. inr is) between
+
+  pub until_on : (o b n : Option Story) → AtAnyMoment o b Until → AtAnyMoment b n Until → AtAnyMoment o n Until
+  until_on o b n first rest = and_then Until o b n until_then first rest
 
 -- ---- both wait, and are put in place
 
@@ -230,7 +264,7 @@ told_on P sites o b told spares =
     told_kept (Spares far) (λ s. P) (λ s. P) o b (λ s t is same. is) told (spares far away.0 away.1)
 
 module _ (folder : List ℕ → List ℕ) (w q : List ℕ) (b n : Option Story) where
-  placing_spares : (r : List ℕ) → r ≢ w → r ≢ q → AtAnyMoment b n (IsPlacing folder w q) → AtAnyMoment b n (Spares r)
+  pub placing_spares : (r : List ℕ) → r ≢ w → r ≢ q → AtAnyMoment b n (IsPlacing folder w q) → AtAnyMoment b n (Spares r)
   placing_spares r ne_w ne_q placing = moments_so (IsPlacing folder w q) (Spares r) b n (λ s u step. spares-placing folder w q s r u ne_w ne_q step) placing
 
 module _ (folder : List ℕ → List ℕ) (syncs : List ℕ → Bool) (sites : Sites) (journal : List ℕ) where
@@ -306,6 +340,17 @@ module _ (place leads : List ℕ → List ℕ) (given_file given_journal path_fi
   only_seen o n (inl same) = inl same
   only_seen o n (inr begins) = inr (begun_seen o begins)
 
+  pub begun_resolved : (o : Option Story) → Told o (MayBegin place leads given_file given_journal path_file path_journal file_seen journal_seen)
+      → Told o (λ s. AreResolved place leads given_file given_journal path_file path_journal)
+  begun_resolved o begins =
+      told_so (MayBegin place leads given_file given_journal path_file path_journal file_seen journal_seen) (λ s. AreResolved place leads given_file given_journal path_file path_journal) o
+      (λ s may. may.resolved) begins
+
+  pub only_resolved : (o n : Option Story) → OnlyWhere (MayBegin place leads given_file given_journal path_file path_journal file_seen journal_seen) o n
+      → OnlyWhere (λ s. AreResolved place leads given_file given_journal path_file path_journal) o n
+  only_resolved o n (inl same) = inl same
+  only_resolved o n (inr begins) = inr (begun_resolved o begins)
+
 -- ---- where nothing was changed before
 
 pub told_same : (P : State → Type 0) (o b : Option Story) → b ≡ o → Told b P → Told o P
@@ -318,13 +363,13 @@ module _ (place folder : List ℕ → List ℕ) (syncs : List ℕ → Bool) (p :
   pub put_same : (o b n : Option Story) → b ≡ o → IsPut place folder syncs p journal file b n → IsPut place folder syncs p journal file o n
   put_same o b n same put = subst (λ b. IsPut place folder syncs p journal file b n) same put
 
-  pub persists_same : (o b n : Option Story) → b ≡ o → Persists folder syncs p journal file b n → Persists folder syncs p journal file o n
-  persists_same o b n same persists = subst (λ b. Persists folder syncs p journal file b n) same persists
+  pub persists_same : (o b n : Option Story) → b ≡ o → IsPutForGood folder syncs p journal file b n → IsPutForGood folder syncs p journal file o n
+  persists_same o b n same persists = subst (λ b. IsPutForGood folder syncs p journal file b n) same persists
 
   -- nothing is changed at all
   pub put_still : (o n : Option Story) → n ≡ o → IsPut place folder syncs p journal file o n
   put_still o n same =
-      record { moments = moments_none folder syncs p journal file o n (spares_still p.file o n same) (spares_still p.journal o n same); touches = inl same }
+      record { moments = λ crash c can read. until_spared crash p c journal file o n (spares_still p.file o n same) (spares_still p.journal o n same); touches = inl same }
 
 -- ---- a put, by the paths as they were given
 
@@ -352,13 +397,15 @@ module _ (place leads folder : List ℕ → List ℕ) (syncs : List ℕ → Bool
   blank = record { file = []; journal = [] }
 
   put_untold : (n : Option Story) → n ≡ None → IsPut place folder syncs Given journal file None n
-  put_untold n is = record { moments = moments_untold folder syncs Given journal file n is; touches = inl is }
+  put_untold n is = record { moments = λ crash c can read. subst (λ n. AtAnyMoment None n (Until crash Given c journal file)) (sym is) tt; touches = inl is }
 
   -- by the four places, where the put begins in a state that is told
-  put_at : (a : Story) (n : Option Story) → Begins a.now → Moments folder syncs Own journal file (Some a) n → SparesStrangers At (Some a) n
-      → IsPut place folder syncs Given journal file (Some a) n
+  abbrev Moves : Places → Option Story → Option Story → Type 0
+  Moves p o n = (crash : Bool) (c : Contents) → CanSync folder syncs crash p → Told o (IsRead p c) → AtAnyMoment o n (Until crash p c journal file)
+
+  put_at : (a : Story) (n : Option Story) → Begins a.now → Moves Own (Some a) n → SparesStrangers At (Some a) n → IsPut place folder syncs Given journal file (Some a) n
   put_at a n may moments strangers = record {
-    moments = subst (λ p. Moments folder syncs p journal file (Some a) n) (own_given a.now may) moments;
+    moments = subst (λ p. Moves p (Some a) n) (own_given a.now may) moments;
     touches = inr (path_file, path_journal, may.resolved.file_is, may.resolved.journal_is, may.left, strangers);
   }
 
@@ -367,7 +414,10 @@ module _ (place leads folder : List ℕ → List ℕ) (syncs : List ℕ → Bool
   put_refused o n (inl same) spares = put_still place folder syncs Given journal file o n same
   put_refused None n (inr may) spares = put_untold n (none_told folder syncs At journal n spares)
   put_refused (Some a) n (inr may) spares =
-      put_at a n may (moments_spared folder syncs At journal file (Some a) n may.apart spares) (λ r ne_file ne_journal ne_new_file ne_new_journal. spares r ne_new_journal ne_new_file)
+      put_at a n may
+      (λ crash c can read. until_spared crash Own c journal file (Some a) n (spares Own.file may.apart.file_new_journal may.apart.file_new_file)
+      (spares Own.journal may.apart.journal_new_journal may.apart.journal_new_file))
+      (λ r ne_file ne_journal ne_new_file ne_new_journal. spares r ne_new_journal ne_new_file)
 
   -- ---- and then both, or the journal, are replaced
 
@@ -381,43 +431,57 @@ module _ (place leads folder : List ℕ → List ℕ) (syncs : List ℕ → Bool
       none_told folder syncs At journal n (subst (λ m. SparesButNew At m n) ends rest)
   none_put (Some d) m n is replaced rest = absurd (some_none d is)
 
-  module _ (a : Story) (b m : Option Story) (may : Begins a.now) (spares : SparesButNew At (Some a) b) where
-    last_then : (crash : Bool) (c : Contents) → LastAs crash Own c.file c.journal a.now → Told b (LastAs crash Own c.file c.journal)
-    last_then crash c told =
-        told_from (LastAs crash Own c.file c.journal) (Some a) b (ready_moments folder syncs At journal crash c a b may.apart told spares)
+  -- both were settled
+  abbrev Settled : Option Story → Type 0
+  Settled b = (crash : Bool) → CanSync folder syncs crash Own → Told b (AreSettled crash Own)
+
+  module _ (a : Story) (b m : Option Story) (may : Begins a.now) (spares : SparesButNew At (Some a) b) (settled : Settled b) where
+    of_file : AtAnyMoment (Some a) b (Spares Own.file)
+    of_file = spares Own.file may.apart.file_new_journal may.apart.file_new_file
+
+    of_journal : AtAnyMoment (Some a) b (Spares Own.journal)
+    of_journal = spares Own.journal may.apart.journal_new_journal may.apart.journal_new_file
+
+    last_then : (crash : Bool) (c : Contents) → CanSync folder syncs crash Own → IsRead Own c a.now → Told b (LastAs crash Own c.file c.journal)
+    last_then crash c can read = last_settled crash Own c (Some a) b read of_file of_journal (settled crash can)
 
     then_apart : Told b (λ s. AreApart At)
     then_apart = told_always (λ s. AreApart At) b (λ s. may.apart)
 
-    moments_to : IsReplacing folder syncs At journal file b m → Moments folder syncs Own journal file (Some a) m
-    moments_to replaced = λ crash c can told.
-        since_then (Between crash Own c journal file) (Some a) b m
-        (weaker_moments (LastAs crash Own c.file c.journal) (Between crash Own c journal file) (Some a) b (λ s was. old_between crash Own c journal file s was)
-        (ready_moments folder syncs At journal crash c a b may.apart told spares)) (replaced.moments crash c can (last_then crash c told))
+    moments_to : IsReplacing folder syncs At journal file b m → Moves Own (Some a) m
+    moments_to replaced = λ crash c can read.
+        until_on crash Own c journal file (Some a) b m (until_spared crash Own c journal file (Some a) b of_file of_journal)
+        (until_between crash Own c journal file b m (replaced.moments crash c can (last_then crash c can read)))
 
     replaced_at : (n : Option Story) → Replaced b m → SparesButNew At m n → IsPut place folder syncs Given journal file (Some a) n
     replaced_at n replaced rest =
         put_at a n may
-        (moments_then folder syncs Own journal file (Some a) m n (moments_to (replaced then_apart)) (rest At.file may.apart.file_new_journal may.apart.file_new_file)
-        (rest At.journal may.apart.journal_new_journal may.apart.journal_new_file))
+        (λ crash c can read.
+        until_on crash Own c journal file (Some a) m n (moments_to (replaced then_apart) crash c can read)
+        (until_spared crash Own c journal file m n (rest At.file may.apart.file_new_journal may.apart.file_new_file) (rest At.journal may.apart.journal_new_journal may.apart.journal_new_file)))
         (λ r ne_file ne_journal ne_new_file ne_new_journal.
         spares_on r (Some a) m n (spares_on r (Some a) b m (spares r ne_new_journal ne_new_file) ((replaced then_apart).strangers r ne_file ne_journal ne_new_file ne_new_journal))
         (rest r ne_new_journal ne_new_file))
 
-    persists_at : (Told b (λ s. AreApart At) → Persists folder syncs Own journal file b m) → Persists folder syncs Given journal file (Some a) m
+    persists_at : (Told b (λ s. AreApart At) → Persists folder syncs Own journal file b m) → IsPutForGood folder syncs Given journal file (Some a) m
     persists_at last =
-        subst (λ p. Persists folder syncs p journal file (Some a) m) (own_given a.now may) (λ crash c can told. last then_apart crash c can (last_then crash c told))
+        subst (λ p. IsPutForGood folder syncs p journal file (Some a) m) (own_given a.now may) (λ crash c can read. last then_apart crash c can (last_then crash c can read))
 
   -- and what was made is removed
-  pub put_removed : (o b m n : Option Story) → Told o Begins → SparesButNew At o b → Replaced b m → SparesButNew At m n → IsPut place folder syncs Given journal file o n
-  put_removed None b m n may spares replaced rest = put_untold n (none_put b m n (none_told folder syncs At journal b spares) replaced rest)
-  put_removed (Some a) b m n may spares replaced rest = replaced_at a b m may spares n replaced rest
+  pub put_removed : (o b m n : Option Story) → Told o Begins → SparesButNew At o b → Settled b → Replaced b m → SparesButNew At m n → IsPut place folder syncs Given journal file o n
+  put_removed None b m n may spares settled replaced rest = put_untold n (none_put b m n (none_told folder syncs At journal b spares) replaced rest)
+  put_removed (Some a) b m n may spares settled replaced rest = replaced_at a b m may spares settled n replaced rest
 
-  pub put_kept : (o b m : Option Story) → Told o Begins → SparesButNew At o b → Replaced b m → IsPut place folder syncs Given journal file o m
-  put_kept o b m may spares replaced = put_removed o b m m may spares replaced (spares_none At m m refl)
+  pub put_kept : (o b m : Option Story) → Told o Begins → SparesButNew At o b → Settled b → Replaced b m → IsPut place folder syncs Given journal file o m
+  put_kept o b m may spares settled replaced = put_removed o b m m may spares settled replaced (spares_none At m m refl)
 
-  pub put_persists : (o b m : Option Story) → Told o Begins → SparesButNew At o b → Replaced b m → (Told b (λ s. AreApart At) → Persists folder syncs Own journal file b m)
-      → Persists folder syncs Given journal file o m
-  put_persists None b m may spares replaced last =
-      persists_untold folder syncs Given journal file m (none_put b m m (none_told folder syncs At journal b spares) replaced (spares_none At m m refl))
-  put_persists (Some a) b m may spares replaced last = persists_at a b m may spares last
+  pub put_persists : (o b m : Option Story) → Told o Begins → SparesButNew At o b → Settled b → Replaced b m → (Told b (λ s. AreApart At) → Persists folder syncs Own journal file b m)
+      → IsPutForGood folder syncs Given journal file o m
+  put_persists None b m may spares settled replaced last = λ crash c can read.
+      subst (λ n. Told n (LastAs crash Given (unwrap_or file c.file) journal)) (sym (none_put b m m (none_told folder syncs At journal b spares) replaced (spares_none At m m refl))) tt
+  put_persists (Some a) b m may spares settled replaced last = persists_at a b m may spares settled last
+
+-- ---- both are settled
+
+pub but_new_all : (sites : Sites) (o b n : Option Story) → SparesButNew sites o b → ((p : List ℕ) → AtAnyMoment b n (Spares p)) → SparesButNew sites o n
+but_new_all sites o b n first rest = λ q ne_j ne_f. spares_on q o b n (first q ne_j ne_f) (rest q)

@@ -1,26 +1,27 @@
 -- A request on a disk: its calls, and what is left at any moment of them.
-use Rattle.std.proofs.Common.{◌≡◌, ◌⊎◌, inl, inr, ℕ, ◌≤◌, Bool, List, [], ◌∷◌, ◌++◌, length, take, Option, Some, None, Ok, Err, refl, sym, ◌∙◌, ap, subst, IfSome, arith, zero, suc, length-append}
-use Rattle.std.proofs.Common.{append-nil}
+use Rattle.std.proofs.Common.{◌≡◌, ◌⊎◌, inl, inr, ℕ, ◌≤◌, Bool, false, List, [], ◌∷◌, ◌++◌, length, take, Option, Some, None, Ok, Err, refl, sym, ◌∙◌, ap, subst, IfSome, IsSomeAnd, arith, zero, suc, length-append, append-nil}
 use Rattle.rec_disk.specs.Disk.{State, Story, Told, AtAnyMoment}
-use Rattle.rec_disk.specs.Lasting.{Left, Leaves}
-use Rattle.rec_disk.proofs.lemmas.Moments.{since_then, told_so}
+use Rattle.rec_disk.specs.Lasting.{Left, shown}
+use Rattle.rec_disk.proofs.lemmas.Moments.{told_so, told_both}
 use Rattle.rec_text.specs.declared.fault.Fault.{Fault}
 use Rattle.rec_text.specs.declared.fault.Fault.TheVariants.{StoreFailed}
 use Rattle.rec_journal.specs.History.{IsRegular}
 use Rattle.rec_tools.specs.declared.home.Which.{Which}
 use Rattle.rec_tools.specs.declared.request.Request.{Request}
-use Rattle.rec_tools.specs.Home.{Contents, Write, Call, got, lacked, unread, put_all, put_some, written, left_by, TellsOf, TellAll, Went, content_of}
+use Rattle.rec_tools.specs.Home.{Contents, Write, Call, got, lacked, unread, put_all, put_some, written, writes_by, left_by, TellsOf, TellAll, Went, content_of}
 use Rattle.rec_tools.specs.Printouts.{Printed}
 use Rattle.rec_tools.specs.Requests.{Asked, asked_of, reads_of}
 use Rattle.rec_tools.specs.Outcomes.{Outcome, IsRequestOutcome}
 use Rattle.rec_tools.specs.Attempts.{Answer, gots, puts, StopsReading, StopsWriting, Does, Attempts}
 use Rattle.rec_tools.specs.Machine.{State as Machine, IsOldOrNext, Stands}
 use Rattle.rec_tools.specs.Guarantee.{StopsAreSteps}
-use Rattle.rec_files.specs.OnDisk.{Places, Shows, Holds, IsSecure, CanSync, SecurePut, LastingPut, TouchesOwn, IsCallAt, IsHomeCall, IsWhole, writes_of, contents_on, StandsThen, SecureRequest, LastingRequest}
-use Rattle.rec_files.proofs.lemmas.Holding.{holds_contents}
-use Rattle.rec_files.proofs.lemmas.Steps.{some_none}
-use Rattle.rec_files.proofs.lemmas.Home.{secure_still}
-use Rattle.rec_files.proofs.lemmas.Replacing.{weaker_moments}
+use Rattle.rec_files.specs.OnDisk.{Places, Shows, Holds, IsRead, IsSecure, CanSync, TouchesOwn, IsCallAt, IsHomeCall, IsWhole, writes_of, contents_on, StandsThen, SecureRequest, LastingRequest, Sites, sites_of, AreLeft, IsNext, Recovers, RecoversBy, RecoversAt, RecoversRequest, or_empty}
+use Rattle.rec_files.specs.Leftovers.{IsStopBetween}
+use Rattle.rec_files.proofs.lemmas.Outcomes.{Puts, puts_left}
+use Rattle.rec_files.proofs.lemmas.Holding.{read_there}
+use Rattle.rec_files.proofs.lemmas.Steps.{some_none, told_next}
+use Rattle.rec_files.proofs.lemmas.Home.{secure_still, no_crash}
+use Rattle.rec_files.proofs.lemmas.Replacing.{moments_so}
 
 -- ---- reads, and one call more
 
@@ -43,7 +44,7 @@ last_writes (call ∷ []) = writes_of call
 last_writes (call ∷ (next ∷ calls)) = last_writes (next ∷ calls)
 
 abbrev IsWholeLast : List Call → Type 0
-IsWholeLast [] = Unit {0}
+IsWholeLast [] = ⊥
 IsWholeLast (call ∷ []) = IsWhole call
 IsWholeLast (call ∷ (next ∷ calls)) = IsWholeLast (next ∷ calls)
 
@@ -54,30 +55,24 @@ got_writes (unread which) is = absurd is
 got_writes (put_all writes) is = absurd is
 got_writes (put_some writes k) is = absurd is
 
-got_whole : (call : Call) → IsGot call → IsWhole call
-got_whole (got which bytes) is = tt
-got_whole (lacked which) is = absurd is
-got_whole (unread which) is = absurd is
-got_whole (put_all writes) is = absurd is
-got_whole (put_some writes k) is = absurd is
-
 -- what is known of calls, by their last one
 pub record AreCalls (writes : List Write) (failed : Type 0) (calls : List Call) : Type 0 where
   pub reads : ReadsFirst calls
   pub writes_are : last_writes calls ≡ writes
-  pub is_whole : IsWholeLast calls ⊎ failed
+  pub is_whole : (writes ≡ []) ⊎ (IsWholeLast calls ⊎ failed)
 
 one_more : (writes : List Write) (failed : Type 0) (call : Call) (calls : List Call) → IsGot call → AreCalls writes failed calls → (writes ≡ []) ⊎ (calls ≡ [] → ⊥) → AreCalls writes failed
     (call ∷ calls)
-one_more writes failed call [] is are (inl none) = record { reads = tt; writes_are = got_writes call is ∙ sym none; is_whole = inl (got_whole call is) }
+one_more writes failed call [] is are (inl none) = record { reads = tt; writes_are = got_writes call is ∙ sym none; is_whole = inl none }
 one_more writes failed call [] is are (inr some) = absurd (some refl)
 one_more writes failed call (next ∷ calls) is are known = record { reads = (is, are.reads); writes_are = are.writes_are; is_whole = are.is_whole }
 
 no_calls : (failed : Type 0) → AreCalls [] failed []
-no_calls failed = record { reads = tt; writes_are = refl; is_whole = inl tt }
+no_calls failed = record { reads = tt; writes_are = refl; is_whole = inl refl }
 
 -- reads alone, and reads with one call more
-gots_then : (c : Contents) (whiches : List Which) (failed : Type 0) (call : Call) → IsWhole call ⊎ failed → AreCalls (writes_of call) failed (gots c whiches ++ (call ∷ []))
+gots_then : (c : Contents) (whiches : List Which) (failed : Type 0) (call : Call) → (writes_of call ≡ []) ⊎ (IsWhole call ⊎ failed)
+    → AreCalls (writes_of call) failed (gots c whiches ++ (call ∷ []))
 gots_then c [] failed call is = record { reads = tt; writes_are = refl; is_whole = is }
 gots_then c (which ∷ whiches) failed call is =
     one_more (writes_of call) failed (got which (content_of c which)) (gots c whiches ++ (call ∷ [])) tt (gots_then c whiches failed call is) (inr (λ e. omega (
@@ -96,9 +91,9 @@ stopped [] [] fault failed stops = absurd stops
 stopped [] (call ∷ calls) fault failed stops = absurd stops
 stopped (which ∷ whiches) [] fault failed stops = absurd stops
 stopped (which ∷ whiches) (call ∷ calls) fault failed (inl (is, none, given)) = subst (λ rest. AreCalls [] failed (call ∷ rest)) (sym none)
-    (subst (λ call. AreCalls [] failed (call ∷ [])) (sym is) (record { reads = tt; writes_are = refl; is_whole = inl tt }))
+    (subst (λ call. AreCalls [] failed (call ∷ [])) (sym is) (record { reads = tt; writes_are = refl; is_whole = inl refl }))
 stopped (which ∷ whiches) (call ∷ calls) fault failed (inr (inl (is, none, given))) = subst (λ rest. AreCalls [] failed (call ∷ rest)) (sym none)
-    (subst (λ call. AreCalls [] failed (call ∷ [])) (sym is) (record { reads = tt; writes_are = refl; is_whole = inl tt }))
+    (subst (λ call. AreCalls [] failed (call ∷ [])) (sym is) (record { reads = tt; writes_are = refl; is_whole = inl refl }))
 stopped (which ∷ whiches) (call ∷ calls) fault failed (inr (inr (bytes, is, stops))) =
     subst (λ call. AreCalls [] failed (call ∷ calls)) (sym is) (one_more [] failed (got which bytes) calls tt (stopped whiches calls fault failed stops) (inl refl))
 
@@ -127,10 +122,10 @@ module _ (c : Contents) (asked : Asked) (answer : Answer) (p : Printed) where
   following_are o following outcome [] is (inr (answered, stops)) = absurd stops
   following_are o following outcome (w ∷ ws) is (inl (answered, put)) =
       subst (λ following. Writes (gots c (reads_of asked) ++ following)) (sym put)
-      (record { writes = w ∷ ws; are = gots_then c (reads_of asked) (Failed answer) (put_all (w ∷ ws)) (inl tt); come = inr (o, outcome, is) })
+      (record { writes = w ∷ ws; are = gots_then c (reads_of asked) (Failed answer) (put_all (w ∷ ws)) (inr (inl tt)); come = inr (o, outcome, is) })
   following_are o following outcome (w ∷ ws) is (inr (answered, (k, most, put))) =
       subst (λ following. Writes (gots c (reads_of asked) ++ following)) (sym put)
-      (record { writes = w ∷ ws; are = gots_then c (reads_of asked) (Failed answer) (put_some (w ∷ ws) k) (inr answered); come = inr (o, outcome, is) })
+      (record { writes = w ∷ ws; are = gots_then c (reads_of asked) (Failed answer) (put_some (w ∷ ws) k) (inr (inr answered)); come = inr (o, outcome, is) })
 
   pub does_writes : (calls : List Call) → Does c asked answer calls p → Writes calls
   does_writes calls (inl unread_so) = read_only calls (stopped (reads_of asked) calls unread_so.fault (Failed answer) unread_so.stops)
@@ -145,68 +140,115 @@ take_none (suc k) = refl
 
 -- ---- on a home on a disk
 
-module _ {H : Type 0} (place folder : List ℕ → List ℕ) (syncs : List ℕ → Bool) (at : H → Option Places) (story : H → Option Story) (fails : H → ℕ) where
+module _ {H : Type 0} (place folder : List ℕ → List ℕ) (syncs : List ℕ → Bool) (at : H → Option Places) (story : H → Option Story) (fails : H → ℕ) (more : H → Call → H → Type 0) where
   abbrev pub Goes : H → Call → H → Type 0
-  Goes o call n = IsHomeCall place folder syncs (at o) (at n) (story o) call (story n) (fails o) (fails n)
+  Goes o call n = IsHomeCall place folder syncs (at o) (at n) (story o) call (story n) (fails o) (fails n) × more o call n
 
-module _ {H : Type 0} (place folder : List ℕ → List ℕ) (syncs : List ℕ → Bool) (at : H → Option Places) (story : H → Option Story) (fails : H → ℕ) (p : Places) where
-  call_at : (o n : H) (call : Call) → at o ≡ Some p → (Goes place folder syncs at story fails) o call n → IsCallAt place folder syncs p (story o) call (story n)
-  call_at o n call is goes = subst (λ x. IfSome x (λ p. IsCallAt place folder syncs p (story o) call (story n))) is goes.calls
+module _ {H : Type 0} (place folder : List ℕ → List ℕ) (syncs : List ℕ → Bool) (at : H → Option Places) (story : H → Option Story) (fails : H → ℕ) (more : H → Call → H → Type 0) (p : Places) where
+  call_at : (o n : H) (call : Call) → at o ≡ Some p → (Goes place folder syncs at story fails more) o call n → IsCallAt place folder syncs p (story o) call (story n)
+  call_at o n call is goes = subst (λ x. IfSome x (λ p. IsCallAt place folder syncs p (story o) call (story n))) is goes.0.calls
 
   -- the contents are read as they are
-  tell_all : (calls : List Call) (o n : H) (c : Contents) → at o ≡ Some p → contents_on (Some p) (story o) ≡ Some c → Went (Goes place folder syncs at story fails) o calls n → TellAll c calls
+  tell_all : (calls : List Call) (o n : H) (c : Contents) → at o ≡ Some p → contents_on (Some p) (story o) ≡ Some c → Went (Goes place folder syncs at story fails more) o calls n → TellAll c calls
   tell_all [] o n c is holds went = tt
   tell_all (call ∷ calls) o n c is holds (mid, goes, went) =
       let told : TellsOf c call × (contents_on (at mid) (story mid) ≡ Some (left_by c call)) =
-      subst (λ x. IfSome x (λ c. TellsOf c call × (contents_on (at mid) (story mid) ≡ Some (left_by c call)))) (ap (λ x. contents_on x (story o)) is ∙ holds) goes.follows in
-      let still : at mid ≡ Some p = goes.same ∙ is in
+      subst (λ x. IfSome x (λ c. TellsOf c call × (contents_on (at mid) (story mid) ≡ Some (left_by c call)))) (ap (λ x. contents_on x (story o)) is ∙ holds) goes.0.follows in
+      let still : at mid ≡ Some p = goes.0.same ∙ is in
       (told.0, tell_all calls mid n (left_by c call) still (sym (ap (λ x. contents_on x (story mid)) still) ∙ told.1) went)
 
+  -- reads change nothing
+  read_still : (o mid : H) (call : Call) → at o ≡ Some p → (Goes place folder syncs at story fails more) o call mid → IsGot call → story mid ≡ story o
+  read_still o mid call is goes read = (call_at o mid call is goes).still (got_writes call read)
+
+  went_still : (calls : List Call) (o n : H) → at o ≡ Some p → Went (Goes place folder syncs at story fails more) o calls n → ReadsFirst calls → last_writes calls ≡ [] → story n ≡ story o
+  went_still [] o n is went reads none = ap story went
+  went_still (call ∷ []) o n is (mid, goes, went) reads none = ap story went ∙ (call_at o mid call is goes).still none
+  went_still (call ∷ (next ∷ calls)) o n is (mid, goes, went) reads none =
+      went_still (next ∷ calls) mid n (goes.0.same ∙ is) went reads.1 none ∙ read_still o mid call is goes reads.0
+
   module _ (crash : Bool) (c : Contents) (can : CanSync folder syncs crash p) where
-    secure_none : (writes : List Write) (u : State) → IsSecure crash p c [] u → IsSecure crash p c writes u
-    secure_none writes u secure left leaves =
-        let (k, most, shows) = secure left leaves in
-        (0, omega arith, subst (λ taken. Shows p left (written c taken)) (take_none k) shows)
-
-    -- after a read the contents are there still
-    read_lasts : (o mid : H) (call : Call) → IsGot call → IsCallAt place folder syncs p (story o) call (story mid) → Told (story o) (Holds crash p c) → Told (story mid) (Holds crash p c)
-    read_lasts o mid call is at told = (subst (λ writes. LastingPut folder syncs p writes (story o) (story mid)) (got_writes call is) (at.lasts (got_whole call is))) crash c can told
-
-    went_secure : (calls : List Call) (o n : H) → at o ≡ Some p → Went (Goes place folder syncs at story fails) o calls n → ReadsFirst calls → Told (story o) (Holds crash p c)
-        → AtAnyMoment (story o) (story n) (λ s u. IsSecure crash p c (last_writes calls) u)
+    went_secure : (calls : List Call) (o n : H) → at o ≡ Some p → Went (Goes place folder syncs at story fails more) o calls n → ReadsFirst calls → Told (story o) (IsRead p c)
+        → AtAnyMoment (story o) (story n) (IsSecure crash p c (last_writes calls))
     went_secure [] o n is went reads told = secure_still folder syncs p [] (story o) (story n) (ap story went) crash c can told
     went_secure (call ∷ []) o n is (mid, goes, went) reads told =
-        subst (λ n. AtAnyMoment (story o) (story n) (λ s u. IsSecure crash p c (writes_of call) u)) (sym went) ((call_at o mid call is goes).any_moment crash c can told)
+        subst (λ n. AtAnyMoment (story o) (story n) (IsSecure crash p c (writes_of call))) (sym went) ((call_at o mid call is goes).any_moment crash c can told)
     went_secure (call ∷ (next ∷ calls)) o n is (mid, goes, went) reads told =
-        let first = call_at o mid call is goes in
-        let now : SecurePut folder syncs p [] (story o) (story mid) = subst (λ writes. SecurePut folder syncs p writes (story o) (story mid)) (got_writes call reads.0) first.any_moment in
-        since_then (IsSecure crash p c (last_writes (next ∷ calls))) (story o) (story mid) (story n)
-        (weaker_moments (IsSecure crash p c []) (IsSecure crash p c (last_writes (next ∷ calls))) (story o) (story mid) (λ u secure. secure_none (last_writes (next ∷ calls)) u secure)
-        (now crash c can told))
-        (went_secure (next ∷ calls) mid n (goes.same ∙ is) went reads.1 (read_lasts o mid call reads.0 first told))
+        let same = read_still o mid call is goes reads.0 in
+        subst (λ x. AtAnyMoment x (story n) (IsSecure crash p c (last_writes (next ∷ calls)))) same
+        (went_secure (next ∷ calls) mid n (goes.0.same ∙ is) went reads.1 (told_next (IsRead p c) (story o) (story mid) same told))
 
-    went_lasts : (calls : List Call) (o n : H) → at o ≡ Some p → Went (Goes place folder syncs at story fails) o calls n → ReadsFirst calls → IsWholeLast calls → Told (story o) (Holds crash p c)
+    went_lasts : (calls : List Call) (o n : H) → at o ≡ Some p → Went (Goes place folder syncs at story fails more) o calls n → ReadsFirst calls → IsWholeLast calls → Told (story o) (IsRead p c)
         → Told (story n) (Holds crash p (written c (last_writes calls)))
-    went_lasts [] o n is went reads whole told = subst (λ n. Told (story n) (Holds crash p c)) (sym went) told
+    went_lasts [] o n is went reads whole told = absurd whole
     went_lasts (call ∷ []) o n is (mid, goes, went) reads whole told =
         subst (λ n. Told (story n) (Holds crash p (written c (writes_of call)))) (sym went) ((call_at o mid call is goes).lasts whole crash c can told)
     went_lasts (call ∷ (next ∷ calls)) o n is (mid, goes, went) reads whole told =
-        went_lasts (next ∷ calls) mid n (goes.same ∙ is) went reads.1 whole (read_lasts o mid call reads.0 (call_at o mid call is goes) told)
+        went_lasts (next ∷ calls) mid n (goes.0.same ∙ is) went reads.1 whole (told_next (IsRead p c) (story o) (story mid) (read_still o mid call is goes reads.0) told)
 
-  -- reads change nothing, and one call more touches what is the home's own
-  went_touches : (calls : List Call) (o n : H) → at o ≡ Some p → Went (Goes place folder syncs at story fails) o calls n → ReadsFirst calls → TouchesOwn place p (story o) (story n)
+  -- and one call more touches what is the home's own
+  went_touches : (calls : List Call) (o n : H) → at o ≡ Some p → Went (Goes place folder syncs at story fails more) o calls n → ReadsFirst calls → TouchesOwn place p (story o) (story n)
   went_touches [] o n is went reads = inl (ap story went)
   went_touches (call ∷ []) o n is (mid, goes, went) reads = subst (λ n. TouchesOwn place p (story o) (story n)) (sym went) (call_at o mid call is goes).touches
   went_touches (call ∷ (next ∷ calls)) o n is (mid, goes, went) reads =
-      subst (λ x. TouchesOwn place p x (story n)) ((call_at o mid call is goes).still (got_writes call reads.0)) (went_touches (next ∷ calls) mid n (goes.same ∙ is) went reads.1)
+      subst (λ x. TouchesOwn place p x (story n)) (read_still o mid call is goes reads.0) (went_touches (next ∷ calls) mid n (goes.0.same ∙ is) went reads.1)
+
+  -- and recovers
+  went_recovers : (calls : List Call) (o n : H) → at o ≡ Some p → Went (Goes place folder syncs at story fails more) o calls n → ReadsFirst calls
+      → RecoversAt place p (last_writes calls) (story o) (story n)
+  went_recovers [] o n is went reads = inl (ap story went)
+  went_recovers (call ∷ []) o n is (mid, goes, went) reads = subst (λ n. RecoversAt place p (writes_of call) (story o) (story n)) (sym went) (call_at o mid call is goes).recovers
+  went_recovers (call ∷ (next ∷ calls)) o n is (mid, goes, went) reads =
+      subst (λ x. RecoversAt place p (last_writes (next ∷ calls)) x (story n)) (read_still o mid call is goes reads.0) (went_recovers (next ∷ calls) mid n (goes.0.same ∙ is) went reads.1)
+
+-- ---- what is put can be told to be left over
+
+recovers_puts : (sites : Sites) (journal : List ℕ) (file : Option (List ℕ)) (o n : Option Story) → RecoversBy sites (writes_by journal file) o n → Recovers sites journal file o n
+recovers_puts sites journal None o n is = is
+recovers_puts sites journal (Some bytes) o n is = is
+
+abbrev Missing : Option (List ℕ) → Type 0
+Missing None = Unit {0}
+Missing (Some bytes) = ⊥
+
+none_shown : (bytes : List ℕ) → None ≡ Some bytes → ⊥
+none_shown bytes is = subst Missing is tt
+
+some_is : (x y : List ℕ) → Some x ≡ Some y → x ≡ y
+some_is x y is = ap or_empty is
+
+next_there : (bytes : ℕ → List ℕ) (x : Option ℕ) (old new journal : List ℕ) → shown bytes x ≡ Some old → IsStopBetween old new journal → IsSomeAnd x (λ n. IsStopBetween (bytes n) new journal)
+next_there bytes None old new journal is between = absurd (none_shown old is)
+next_there bytes (Some n) old new journal is between = subst (λ b. IsStopBetween b new journal) (sym (some_is (bytes n) old is)) between
+
+is_next : (place : List ℕ → List ℕ) (p : Places) (c : Contents) (path_file path_journal journal : List ℕ) (file : Option (List ℕ)) (s : State) → IsRead p c s → place path_file ≡ p.file
+    → IfSome file (λ f. IsStopBetween c.file f journal) → IsNext (sites_of place path_file path_journal) journal file s
+is_next place p c path_file path_journal journal None s read at between = tt
+is_next place p c path_file path_journal journal (Some f) s read at between =
+    next_there s.bytes (s.at (place path_file)) c.file f journal (ap (λ q. shown s.bytes (s.at q)) at ∙ (read_there p c s read).0) between
+
+puts_recover : (place : List ℕ → List ℕ) (p : Places) (c : Contents) (writes : List Write) (o n : Option Story) → Told o (IsRead p c) → Puts c writes → RecoversAt place p writes o n
+    → (n ≡ o) ⊎ ((file journal : List ℕ) × Told o (λ s. (place file ≡ p.file) × (place journal ≡ p.journal))
+    × (Told o (AreLeft (sites_of place file journal)) → AtAnyMoment o n (λ s u. AreLeft (sites_of place file journal) u)))
+puts_recover place p c writes o n read puts (inl same) = inl same
+puts_recover place p c writes o n read puts (inr (file, journal, at, recovers)) =
+    let sites = sites_of place file journal in
+    let by = recovers_puts sites puts.journal puts.file o n (subst (λ writes. RecoversBy sites writes o n) puts.are recovers) in
+    inr (
+      file,
+      journal,
+      at,
+      by puts.begins
+          (told_both (IsRead p c) (λ s. (place file ≡ p.file) × (place journal ≡ p.journal)) (IsNext sites puts.journal puts.file) o
+          (λ s read at. is_next place p c file journal puts.journal puts.file s read at.0 puts.between) read at),
+    )
 
 -- ---- the machine
 
-abbrev pub itself_left : State → Left
-itself_left s = record { at = s.at; bytes = s.bytes }
-
-leaves_itself : (crash : Bool) (s : State) → Leaves crash s (record { at = s.at; bytes = s.bytes })
-leaves_itself crash s = record { at = λ q. inl refl; bytes = λ n safe. refl }
+none_still : (R : State → State → Type 0) (x y : Option Story) → x ≡ None → AtAnyMoment x y R → y ≡ x
+none_still R None None is all = refl
+none_still R None (Some b) is all = absurd all
+none_still R (Some a) y is all = absurd (some_none a is)
 
 none_any : (R Q : State → State → Type 0) (x y : Option Story) → x ≡ None → AtAnyMoment x y R → AtAnyMoment x y Q
 none_any R Q None None is all = tt
@@ -235,30 +277,39 @@ module _ (laws : StopsAreSteps) (request : Request) (answer : Answer) (printed :
       as_it_was left (subst (λ taken. Shows p left (written c taken)) (ap (take k) none ∙ take_none k) shows)
   by_come writes (inr (o, outcome, is)) left k most shows = by_writes o outcome writes (sym is) left k most shows
 
-  then_stands : (calls : List Call) → Writes c (asked_of request) answer printed calls → (u : State) → IsSecure crash p c (last_writes calls) u → StandsThen crash p s (asked_of request) u
-  then_stands calls known u secure left leaves =
-      let (k, most, shows) = subst (λ writes. (k : ℕ) × (k ≤ length writes) × Shows p left (written c (take k writes))) known.are.writes_are (secure left leaves) in
+  then_left : (calls : List Call) → Writes c (asked_of request) answer printed calls → (left : Left)
+      → (k : ℕ) × (k ≤ length (last_writes calls)) × Shows p left (written c (take k (last_writes calls))) → Then left
+  then_left calls known left some =
+      let (k, most, shows) = subst (λ writes. (k : ℕ) × (k ≤ length writes) × Shows p left (written c (take k writes))) known.are.writes_are some in
       by_come known.writes known.come left k most shows
 
-module _ {H : Type 0} (place folder : List ℕ → List ℕ) (syncs : List ℕ → Bool) (at : H → Option Places) (story : H → Option Story) (fails : H → ℕ) (laws : StopsAreSteps) (request : Request)
+  then_stands : (calls : List Call) → Writes c (asked_of request) answer printed calls → (before u : State) → IsSecure crash p c (last_writes calls) before u
+      → StandsThen crash p s (asked_of request) before u
+  then_stands calls known before u secure left leaves =
+      elim (secure left leaves) [
+        | inl was ↦ inl was
+        | inr some ↦ inr (then_left calls known left some)
+      ]
+
+module _ {H : Type 0} (place folder : List ℕ → List ℕ) (syncs : List ℕ → Bool) (at : H → Option Places) (story : H → Option Story) (fails : H → ℕ) (more : H → Call → H → Type 0) (laws : StopsAreSteps) (request : Request)
     (answer : Answer)
-    (calls : List Call) (printed : Printed) (o n : H) (done : Attempts (Goes place folder syncs at story fails) o n (asked_of request) answer calls printed) where
+    (calls : List Call) (printed : Printed) (o n : H) (done : Attempts (Goes place folder syncs at story fails more) o n (asked_of request) answer calls printed) where
   does_some : Writes done.1.0 (asked_of request) answer printed calls
   does_some = does_writes done.1.0 (asked_of request) answer printed calls (done.2 done.1.0 done.1.1)
 
   module _ (p : Places) (is : at o ≡ Some p) (crash : Bool) (c : Contents) (can : CanSync folder syncs crash p) where
-    secure_calls : Told (story o) (Holds crash p c) → AtAnyMoment (story o) (story n) (λ s u. IsSecure crash p c (last_writes calls) u)
-    secure_calls told = went_secure place folder syncs at story fails p crash c can calls o n is done.0 does_some.are.reads told
+    secure_calls : Told (story o) (IsRead p c) → AtAnyMoment (story o) (story n) (IsSecure crash p c (last_writes calls))
+    secure_calls told = went_secure place folder syncs at story fails more p crash c can calls o n is done.0 does_some.are.reads told
 
-    by_story : (s : Machine) → Stands c s → IsRegular c.journal → (x : Option Story) → story o ≡ x → Told x (Holds crash p c) → Told (story o) (Holds crash p c)
-        → AtAnyMoment (story o) (story n) (λ _ u. StandsThen crash p s (asked_of request) u)
+    by_story : (s : Machine) → Stands c s → IsRegular c.journal → (x : Option Story) → story o ≡ x → Told x (IsRead p c) → Told (story o) (IsRead p c)
+        → AtAnyMoment (story o) (story n) (StandsThen crash p s (asked_of request))
     by_story s stands regular None e told_x told =
-        none_any (λ _ u. IsSecure crash p c (last_writes calls) u) (λ _ u. StandsThen crash p s (asked_of request) u) (story o) (story n) e (secure_calls told)
-    by_story s stands regular (Some a) e holds told =
-        let there : contents_on (Some p) (story o) ≡ Some c = ap (contents_on (Some p)) e ∙ holds_contents p c a.now (holds (itself_left a.now) (leaves_itself crash a.now)) in
-        let known = does_writes c (asked_of request) answer printed calls (done.2 c (tell_all place folder syncs at story fails p calls o n c is there done.0)) in
-        weaker_moments (IsSecure crash p c (last_writes calls)) (StandsThen crash p s (asked_of request)) (story o) (story n)
-        (λ u secure. then_stands laws request answer printed p crash c s stands regular calls known u secure) (secure_calls told)
+        none_any (IsSecure crash p c (last_writes calls)) (StandsThen crash p s (asked_of request)) (story o) (story n) e (secure_calls told)
+    by_story s stands regular (Some a) e read told =
+        let there : contents_on (Some p) (story o) ≡ Some c = ap (contents_on (Some p)) e ∙ read in
+        let known = does_writes c (asked_of request) answer printed calls (done.2 c (tell_all place folder syncs at story fails more p calls o n c is there done.0)) in
+        moments_so (IsSecure crash p c (last_writes calls)) (StandsThen crash p s (asked_of request)) (story o) (story n)
+        (λ before u secure. then_stands laws request answer printed p crash c s stands regular calls known before u secure) (secure_calls told)
 
   secure_at : (x : Option Places) → at o ≡ x → IfSome x (λ p. SecureRequest folder syncs p (asked_of request) (story o) (story n))
   secure_at None e = tt
@@ -271,13 +322,10 @@ module _ {H : Type 0} (place folder : List ℕ → List ℕ) (syncs : List ℕ �
   lasts_at None e = tt
   lasts_at (Some p) e =
       elim does_some.are.is_whole [
-        | inl whole ↦ inr (λ crash c can told. told_so (Holds crash p (written c (last_writes calls))) (λ u. (d : Contents) × Holds crash p d u) (story n) (λ u holds. (
-          written c
-              (last_writes calls),
-          holds,
-        ))
-            (went_lasts place folder syncs at story fails p crash c can calls o n e done.0 does_some.are.reads whole told))
-        | inr failed ↦ inl failed
+        | inl none ↦ inr (inl (went_still place folder syncs at story fails more p calls o n e done.0 does_some.are.reads (does_some.are.writes_are ∙ none)))
+        | inr (inl whole) ↦ inr (inr (λ crash c can told. told_so (Holds crash p (written c (last_writes calls))) (λ u. (d : Contents) × Holds crash p d u) (story n)
+            (λ u holds. (written c (last_writes calls), holds)) (went_lasts place folder syncs at story fails more p crash c can calls o n e done.0 does_some.are.reads whole told)))
+        | inr (inr failed) ↦ inl failed
       ]
 
   pub request_lasts : IfSome (at o) (λ p. (answer ≡ Err StoreFailed) ⊎ LastingRequest folder syncs p (story o) (story n))
@@ -285,7 +333,36 @@ module _ {H : Type 0} (place folder : List ℕ → List ℕ) (syncs : List ℕ �
 
   touches_at : (x : Option Places) → at o ≡ x → IfSome x (λ p. TouchesOwn place p (story o) (story n))
   touches_at None e = tt
-  touches_at (Some p) e = went_touches place folder syncs at story fails p calls o n e done.0 does_some.are.reads
+  touches_at (Some p) e = went_touches place folder syncs at story fails more p calls o n e done.0 does_some.are.reads
 
   pub request_touches : IfSome (at o) (λ p. TouchesOwn place p (story o) (story n))
   request_touches = touches_at (at o) refl
+
+  recovers_by_outcome : (p : Places) → at o ≡ Some p → (c : Contents) → (known : Writes c (asked_of request) answer printed calls) → Told (story o) (IsRead p c) → IsRegular c.journal
+      → (known.writes ≡ []) ⊎ ((outcome : Outcome) × IsRequestOutcome c (asked_of request) (Ok outcome) × (known.writes ≡ outcome.writes)) → RecoversAt place p known.writes (story o) (story n)
+      → (story n ≡ story o) ⊎ ((file journal : List ℕ) × Told (story o) (λ s. (place file ≡ p.file) × (place journal ≡ p.journal))
+      × (Told (story o) (AreLeft (sites_of place file journal)) → AtAnyMoment (story o) (story n) (λ s u. AreLeft (sites_of place file journal) u)))
+  recovers_by_outcome p e c known read regular (inl none) by =
+      inl (went_still place folder syncs at story fails more p calls o n e done.0 known.are.reads (known.are.writes_are ∙ none))
+  recovers_by_outcome p e c known read regular (inr (outcome, is_outcome, is)) by =
+      elim (puts_left c (asked_of request) outcome regular is_outcome) [
+        | inl none ↦ inl (went_still place folder syncs at story fails more p calls o n e done.0 known.are.reads (known.are.writes_are ∙ is ∙ none))
+        | inr puts ↦ puts_recover place p c outcome.writes (story o) (story n) read puts (subst (λ writes. RecoversAt place p writes (story o) (story n)) is by)
+      ]
+
+  recovers_story : (p : Places) → at o ≡ Some p → (c : Contents) → IsRegular c.journal → (x : Option Story) → story o ≡ x → Told x (IsRead p c) → Told (story o) (IsRead p c)
+      → (story n ≡ story o) ⊎ ((file journal : List ℕ) × Told (story o) (λ s. (place file ≡ p.file) × (place journal ≡ p.journal))
+      × (Told (story o) (AreLeft (sites_of place file journal)) → AtAnyMoment (story o) (story n) (λ s u. AreLeft (sites_of place file journal) u)))
+  recovers_story p e c regular None is told_x told = inl (none_still (IsSecure false p c (last_writes calls)) (story o) (story n) is (secure_calls p e false c (no_crash folder syncs p) told))
+  recovers_story p e c regular (Some a) is read told =
+      let there : contents_on (Some p) (story o) ≡ Some c = ap (contents_on (Some p)) is ∙ read in
+      let known = does_writes c (asked_of request) answer printed calls (done.2 c (tell_all place folder syncs at story fails more p calls o n c e there done.0)) in
+      recovers_by_outcome p e c known told regular known.come
+      (subst (λ writes. RecoversAt place p writes (story o) (story n)) known.are.writes_are (went_recovers place folder syncs at story fails more p calls o n e done.0 known.are.reads))
+
+  recovers_at : (x : Option Places) → at o ≡ x → IfSome x (λ p. RecoversRequest place p (story o) (story n))
+  recovers_at None e = tt
+  recovers_at (Some p) e = λ c told regular. recovers_story p e c regular (story o) refl told told
+
+  pub request_recovers : IfSome (at o) (λ p. RecoversRequest place p (story o) (story n))
+  request_recovers = recovers_at (at o) refl

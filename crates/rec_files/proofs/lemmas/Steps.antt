@@ -1,15 +1,15 @@
 -- What several calls leave, one after another.
-use Rattle.std.proofs.Common.{◌≡◌, ◌≢◌, inl, inr, ℕ, ◌≤◌, ◌+◌, Bool, true, List, [], ◌∷◌, ◌++◌, length, take, Option, Some, None, Result, Ok, Err, refl, sym, ◌∙◌, ap, subst, arith, OnOk}
-use Rattle.std.proofs.Common.{length-take, length-append, take_all, IsSomeAnd, IfOk}
-use Rattle.std.specs.Prelude.{◌↔◌, IsTrue}
-use Rattle.rec_disk.specs.Disk.{State, Story, next, Goes, Told, Ends, AtAnyMoment, Look, SaysOf, IsLookFor, IsLookAt, renamed, folder_synced}
+use Rattle.std.proofs.Common.{◌≡◌, ◌≢◌, inl, inr, ℕ, ◌≤◌, ◌+◌, Bool, true, false, List, [], ◌∷◌, ◌++◌, length, take, Option, Some, None, Result, Ok, Err, refl, sym, ◌∙◌, ap, subst, arith, OnOk, length-take, length-append, take_all, IsSomeAnd, IfOk}
+use Rattle.std.proofs.lemmas.Bool.{false≢true}
+use Rattle.rec_disk.specs.Disk.{State, Story, next, Goes, Told, Ends, AtAnyMoment, Look, SaysOf, IsLookAt, renamed, folder_synced}
 use Rattle.rec_disk.specs.Lasting.{Spares}
-use Rattle.rec_disk.specs.proving.Places.{Avoids, Waits, IsUnmoved}
-use Rattle.rec_disk.proofs.lemmas.Places.{spares_itself, spares-folder_synced, waits_still, avoids_still}
-use Rattle.rec_disk.proofs.lemmas.Moments.{by_step, told_always, told_kept, told_both, told_so}
+use Rattle.rec_disk.specs.proving.Places.{StaysSafe, IsSettled, Avoids, Waits, IsUnmoved}
+use Rattle.rec_disk.proofs.lemmas.Places.{spares_itself, spares-folder_synced, settled-synced, settled_stop, waits_still, avoids_still}
+use Rattle.rec_disk.proofs.lemmas.Moments.{by_step, told_step, told_always, told_kept, told_both, told_so}
 use Rattle.rec_disk.proofs.lemmas.Calls.{avoids_unmoved}
 use Rattle.rec_files.specs.OnDisk.{Sites}
-use Rattle.rec_files.specs.proving.Replacing.{IsSyncing, IsMadeAt, AreMade, AreApart, IsPlacing, IsPlaced, SparesBut}
+use Rattle.rec_files.specs.Succeeding.{AreApart}
+use Rattle.rec_files.specs.proving.Replacing.{IsSyncing, IsMadeAt, AreMade, IsPlacing, IsPlaced, SparesBut}
 
 pub on_ok : {X E : Type 0} (result : Result X E) (P : Type 0) → P → OnOk result P
 on_ok (Ok x) P holds = holds
@@ -37,6 +37,10 @@ pub some_so : {X : Type 0} (o : Option X) (P Q : X → Type 0) → ((x : X) → 
 some_so None P Q so holds = holds
 some_so (Some x) P Q so holds = so x holds
 
+-- where nothing was changed
+pub told_next : (P : State → Type 0) (o b : Option Story) → b ≡ o → Told o P → Told b P
+told_next P o b same told = subst (λ o. Told o P) (sym same) told
+
 -- ---- what was read
 
 short_take : (xs : List ℕ) (k : ℕ) → length (take (k + 1) xs) ≤ k → length xs ≤ k + 1
@@ -58,6 +62,18 @@ module _ (p : List ℕ) (folder : List ℕ → List ℕ) (syncs : List ℕ → B
   pub syncing_spares : {X E : Type 0} (o n : Option Story) (result : Result X E) → Goes o n result (IsSyncing folder syncs d) → AtAnyMoment o n (Spares p)
   syncing_spares o n result goes =
       by_step (Spares p) (IsSyncing folder syncs d) (λ s. Unit {0}) o n result (spares_itself p) (λ s t u step. syncing s t step) (told_always (λ s. Unit {0}) o (λ s. tt)) goes
+
+  settled : (crash : Bool) (s t : State) → folder p ≡ d → (crash ≡ true → syncs d ≡ true) → StaysSafe true s (s.at p) → IsSyncing folder syncs d s t → IsSettled crash p t
+  settled crash s t is synced safe (inl made) =
+      subst (IsSettled crash p) (ap (folder_synced folder s) is ∙ sym made) (settled-synced folder crash p s safe)
+  settled true s t is synced safe (inr (same, isnt)) = absurd (false≢true (sym isnt ∙ synced refl))
+  settled false s t is synced safe (inr (same, isnt)) = settled_stop p t
+
+  pub syncing_settles : {X E : Type 0} (o n : Option Story) (result : Result X E) → folder p ≡ d → Told o (λ s. StaysSafe true s (s.at p)) → Goes o n result (IsSyncing folder syncs d)
+      → OnOk result ((crash : Bool) → (crash ≡ true → syncs d ≡ true) → Told n (IsSettled crash p))
+  syncing_settles {X} {E} o n (Ok x) is safe goes = λ crash synced.
+      told_step E (IsSyncing folder syncs d) (λ s. StaysSafe true s (s.at p)) (IsSettled crash p) o n x (λ s t safe step. settled crash s t is synced safe step) safe goes
+  syncing_settles o n (Err e) is safe goes = tt
 
 -- ---- new files
 
@@ -159,14 +175,6 @@ module _ (folder : List ℕ → List ℕ) (syncs : List ℕ → Bool) (w q : Lis
         subst (λ c. Ends (Some a) c (IsPlaced folder syncs w q)) (sym then.2) (placed_after a.now t then.0 is then.1)
 
 -- ---- what was seen
-
-module _ (s : State) (p : List ℕ) (n : ℕ) where
-  -- two looks are at one file
-  pub one_there : (own there : Option Look) (b : Bool) → IsSomeAnd own (IsLookFor s n) → IsSomeAnd there (IsLookAt s p)
-      → SaysOf (λ one. SaysOf (λ other. IsTrue b ↔ (one.number ≡ other.number)) own) there → b ≡ true → s.at p ≡ Some n
-  one_there None there b own_is there_is one is = absurd own_is
-  one_there (Some own) None b own_is there_is one is = absurd there_is
-  one_there (Some own) (Some there) b own_is there_is one is = there_is.number ∙ ap Some (one.0 is ∙ own_is.number)
 
 -- what was seen before is there still
 pub still_there : (s : State) (p : List ℕ) (seen there : Option Look) → IsSomeAnd there (IsLookAt s p)

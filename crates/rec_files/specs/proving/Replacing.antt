@@ -1,10 +1,14 @@
 -- The steps in which a file and its journal are replaced.
 use Rattle.std.specs.Prelude.{◌≡◌, ◌≢◌, ◌⊎◌, ℕ, Bool, false, List, Option, Some, None, IfSome, IsSomeAnd, unwrap_or}
+use Rattle.std.specs.Prelude.{IsSome, [], take}
 use Rattle.rec_disk.specs.Disk.{State, Story, Look, Told, SaysOf, IsLookAt, AtAnyMoment, renamed, folder_synced}
 use Rattle.rec_disk.specs.Lasting.{Spares}
-use Rattle.rec_disk.specs.proving.Places.{Outlasts, Avoids, Waits}
+use Rattle.rec_disk.specs.proving.Places.{Outlasts, IsSettled, Avoids, Waits}
 use Rattle.rec_tools.specs.Home.{Contents}
-use Rattle.rec_files.specs.OnDisk.{Places, Sites, sites_of, CanSync, AreLeft, SparesStrangers, TouchesOwn, or_empty}
+use Rattle.rec_files.specs.OnDisk.{Places, Sites, sites_of, CanSync, AreLeft, IsRead, SparesStrangers, TouchesOwn}
+use Rattle.rec_files.specs.OnDisk.{or_empty}
+use Rattle.rec_files.specs.Succeeding.{AreApart}
+use Rattle.rec_files.specs.Leftovers.{IsLeftJournal}
 
 -- ---- what was read
 
@@ -12,11 +16,6 @@ use Rattle.rec_files.specs.OnDisk.{Places, Sites, sites_of, CanSync, AreLeft, Sp
 abbrev pub IsAsSeen : List ℕ → Option (Option Look) → State → Type 0
 IsAsSeen p None s = s.at p ≡ None
 IsAsSeen p (Some look) s = SaysOf (IsLookAt s p) look
-
--- the look, if there is one, was taken at the place, and what it saw stands there
-abbrev pub HasSeen : List ℕ → Option (Option Look) → State → Type 0
-HasSeen p None s = s.at p ≡ None
-HasSeen p (Some look) s = IsSomeAnd look (IsLookAt s p)
 
 abbrev pub AreAsSeen : Places → Option (Option Look) → Option (Option Look) → State → Type 0
 AreAsSeen p file journal s = IsAsSeen p.file file s × IsAsSeen p.journal journal s
@@ -42,6 +41,10 @@ SparesBut w old new = (p : List ℕ) → p ≢ w → AtAnyMoment old new (Spares
 abbrev pub SparesButNew : Sites → Option Story → Option Story → Type 0
 SparesButNew sites old new =
     (p : List ℕ) → p ≢ sites.new_journal → p ≢ sites.new_file → AtAnyMoment old new (Spares p)
+
+-- both are spared
+abbrev pub AreSpared : Places → State → State → Type 0
+AreSpared p s t = Spares p.file s t × Spares p.journal s t
 
 -- ---- steps
 
@@ -81,15 +84,6 @@ pub record AreResolved (place leads : List ℕ → List ℕ) (given_file given_j
   pub file_is : place file ≡ leads given_file
   pub journal_is : place journal ≡ leads given_journal
 
--- they are four places
-pub record AreApart (sites : Sites) : Type 0 where
-  pub file_new_file : sites.file ≢ sites.new_file
-  pub journal_new_journal : sites.journal ≢ sites.new_journal
-  pub pair : sites.journal ≢ sites.file
-  pub file_new_journal : sites.file ≢ sites.new_journal
-  pub journal_new_file : sites.journal ≢ sites.new_file
-  pub new_pair : sites.new_journal ≢ sites.new_file
-
 -- what holds where a put begins: both are as they were seen
 pub record MayBegin (place leads : List ℕ → List ℕ) (given_file given_journal file journal : List ℕ)
     (file_seen journal_seen : Option (Option Look)) (s : State) : Type 0 where
@@ -113,6 +107,11 @@ pub record Lasts (crash : Bool) (F J : Option (List ℕ) → Type 0) (p : Places
   pub file : Outlasts crash F s p.file
   pub journal : Outlasts crash J s p.journal
 
+-- what stands at both is what is seen there
+pub record AreSettled (crash : Bool) (p : Places) (s : State) : Type 0 where
+  pub file : IsSettled crash p.file s
+  pub journal : IsSettled crash p.journal s
+
 -- these contents
 abbrev pub LastAs : Bool → Places → List ℕ → List ℕ → State → Type 0
 LastAs crash p file journal s = Lasts crash (HasFile file) (HasJournal journal) p s
@@ -134,7 +133,7 @@ led leads file journal = record { file = leads file; journal = leads journal }
 abbrev pub own_of : Sites → Places
 own_of sites = record { file = sites.file; journal = sites.journal }
 
--- at any moment the contents are in between
+-- from contents that last, at any moment they are in between
 abbrev pub Moments : (List ℕ → List ℕ) → (List ℕ → Bool) → Places → List ℕ → Option (List ℕ) → Option Story
     → Option Story → Type 0
 Moments folder syncs p journal file old new = (crash : Bool) (c : Contents) → CanSync folder syncs crash p
@@ -153,9 +152,50 @@ pub record IsReplacing (folder : List ℕ → List ℕ) (syncs : List ℕ → Bo
   pub moments : Moments folder syncs (own_of sites) journal file old new
   pub strangers : SparesStrangers sites old new
 
--- and a put by the places of the home
+-- and a put by the places of the home: from contents that are read, both are spared at first, and then in between
 pub record IsPut (place folder : List ℕ → List ℕ) (syncs : List ℕ → Bool) (p : Places) (journal : List ℕ)
     (file : Option (List ℕ))
     (old new : Option Story) : Type 0 where
-  pub moments : Moments folder syncs p journal file old new
+  pub moments : (crash : Bool) (c : Contents) → CanSync folder syncs crash p → Told old (IsRead p c)
+      → AtAnyMoment old new (λ s u. AreSpared p s u ⊎ Between crash p c journal file u)
   pub touches : TouchesOwn place p old new
+
+-- the new ones are there, and last
+abbrev pub IsPutForGood : (List ℕ → List ℕ) → (List ℕ → Bool) → Places → List ℕ → Option (List ℕ) → Option Story
+    → Option Story → Type 0
+IsPutForGood folder syncs p journal file old new = (crash : Bool) (c : Contents) → CanSync folder syncs crash p
+    → Told old (IsRead p c) → Told new (LastAs crash p (unwrap_or file c.file) journal)
+
+-- ---- what stands under the working names, at any moment
+
+-- what stands at a place is as before, or an empty file that no other program has locked
+abbrev pub IsMaking : List ℕ → State → State → Type 0
+IsMaking w s u = Spares w s u ⊎ IsSomeAnd (u.at w) (λ n. (u.held n ≡ false) × (u.bytes n ≡ []))
+
+-- or nothing stands there any more
+abbrev pub IsRemoving : List ℕ → State → State → Type 0
+IsRemoving w s u = Spares w s u ⊎ (u.at w ≡ None)
+
+-- nothing came to a place or was locked, and a file holds what it held, or the first of the bytes
+pub record IsWriting (n : ℕ) (bytes : List ℕ) (s u : State) : Type 0 where
+  pub at : u.at ≡ s.at
+  pub held : u.held ≡ s.held
+  pub written : (u.bytes n ≡ s.bytes n) ⊎ ((k : ℕ) × (u.bytes n ≡ take k bytes))
+
+-- nothing stands at a place, or what was made there
+abbrev pub IsOwn : List ℕ → Option ℕ → State → Type 0
+IsOwn w own s = (s.at w ≡ None) ⊎ (s.at w ≡ own)
+
+-- what stands as the new journal, if anything does, is told to be left over
+abbrev pub HasLeftJournal : Sites → State → Type 0
+HasLeftJournal sites s = IfSome (s.at sites.new_journal) (λ n. (s.held n ≡ false) × IsLeftJournal (s.bytes n))
+
+-- and no new file stands beside it
+pub record IsAlone (sites : Sites) (s : State) : Type 0 where
+  pub journal : HasLeftJournal sites s
+  pub file : s.at sites.new_file ≡ None
+
+-- or one stands beside it, but none without it
+pub record IsBeside (sites : Sites) (s : State) : Type 0 where
+  pub journal : HasLeftJournal sites s
+  pub file : IfSome (s.at sites.new_file) (λ n. (s.held n ≡ false) × IsSome (s.at sites.new_journal))

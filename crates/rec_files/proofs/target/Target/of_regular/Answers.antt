@@ -1,5 +1,5 @@
-use Rattle.std.proofs.Common.{◌≡◌, ◌∙◌, sym, ap, subst, Some}
 use Rattle.std.specs.Prelude.{option_map}
+use Rattle.std.proofs.Common.{◌≡◌, ◌∙◌, sym, ap, subst, Some}
 use Rattle.rec_disk.specs.Disk.{Told}
 use Rattle.rec_disk.proofs.lemmas.Moments.{told_so}
 use Rattle.rec_files.proofs.lemmas.Steps.{if_ok_so}

@@ -1,0 +1,519 @@
+-- What succeeds on a disk that works.
+use Rattle.std.proofs.Common.{◌≡◌, ◌≢◌, ◌⊎◌, ◌∙◌, inl, inr, ap, sym, subst, arith, ℕ, ◌+◌, ◌<◌, ◌≤◌, Bool, true, false, List, [], ◌∷◌, length, take, length-take, Option, Some, None, Result, OnOk, IfSome, IsSomeAnd, refl}
+use Rattle.std.specs.Prelude.{◌↔◌, IsTrue, IsSome, is_some, option_map, Err}
+use Rattle.std.specs.List.{AllByRecursion}
+use Rattle.std.specs.Option.{option_and_then}
+use Rattle.std.proofs.lemmas.Bool.{false≢true}
+use Rattle.rec_disk.specs.Disk.{State, Story, Look, Told, IsLookAt, IsLookFor, AtAnyMoment}
+use Rattle.rec_disk.specs.Lasting.{Spares}
+use Rattle.rec_disk.specs.proving.Places.{IsUnmoved}
+use Rattle.rec_disk.proofs.lemmas.Moments.{told_kept, told_both, told_so}
+use Rattle.rec_text.specs.declared.fault.Fault.{Fault}
+use Rattle.rec_text.specs.declared.fault.Fault.TheVariants.{StoreFailed}
+use Rattle.rec_tools.specs.Home.{Call, read_call, writes_by}
+use Rattle.rec_files.specs.declared.failure.Failure.{Failure}
+use Rattle.rec_files.specs.Succeeding.{FailedForMemory, Kept, CanPut, IsExcused, HasSeen, AreApart, IsTold, Known, SawAnother, IsOther, IsShort, CanCompare, CanClear, AreUnchanged, CanPrepare, StandsAsSeen, IsThere, IsReadable}
+use Rattle.rec_tools.specs.declared.home.Which.{Which}
+use Rattle.rec_tools.specs.declared.home.Which.TheVariants.{Base, Journal}
+use Rattle.rec_files.specs.declared.access.Access.{Access}
+use Rattle.rec_files.specs.declared.access.Access.TheVariants.{Look as Looks}
+use Rattle.rec_files.specs.proving.Replacing.{SparesBut, SparesButNew, IsFreeAt, IsFound, IsMadeAt, AreMade}
+use Rattle.rec_files.specs.proving.Succeeding.{CanRead, AreFree, CanSettle, MayWrite, CanReplace, CanPlace, CanPlaceJournal, IsOwnJournal}
+use Rattle.rec_files.specs.Leftovers.{IsLeftJournal, IsLeftText}
+use Rattle.rec_files.specs.Paths.{path_of, working_name}
+use Rattle.rec_files.specs.OnDisk.{Sites, sites_of}
+use Rattle.rec_files.proofs.lemmas.Steps.{on_ok, on_ok_so, some_so}
+
+longer : (b : ℕ) (bytes : List ℕ) → b ∷ bytes ≢ bytes
+longer b bytes e = omega (arith, ap length e)
+
+pub still_so : (P Q : State → Type 0) (o : Option Story) → ((s : State) → P s → Q s) → IsTold o P → IsTold o Q
+still_so P Q None so told = told
+still_so P Q (Some a) so told = so a.now told
+
+-- what was told of the state too
+pub told_with : (P Q R : State → Type 0) (o : Option Story) → ((s : State) → P s → Q s → R s) → IsTold o P → Told o Q → IsTold o R
+told_with P Q R None so told also = told
+told_with P Q R (Some a) so told also = so a.now told also
+
+-- and of a later one
+pub told_after : (R : State → State → Type 0) (P Q : State → Type 0) (o n : Option Story) → ((s t : State) → P s → R s t → Q t) → IsTold o P → AtAnyMoment o n R → IsTold n Q
+told_after R P Q None n so told all = absurd told
+told_after R P Q (Some a) None so told all = all
+told_after R P Q (Some a) (Some b) so told all = so a.now b.now told all.0
+
+pub still_told : (w : List ℕ) (P : State → Type 0) (o n : Option Story) → IsTold o P → SparesBut w o n → IsTold n (λ s. Unit {0})
+still_told w P o n told spares = told_after (Spares (0 ∷ w)) P (λ s. Unit {0}) o n (λ s t was same. tt) told (spares (0 ∷ w) (longer 0 w))
+
+pub spared_told : (P : State → Type 0) (o n : Option Story) → IsTold o P → ((p : List ℕ) → AtAnyMoment o n (Spares p)) → IsTold n (λ s. Unit {0})
+spared_told P o n told spares = told_after (Spares []) P (λ s. Unit {0}) o n (λ s t was same. tt) told (spares [])
+
+-- a file that was just made is one's own
+pub made_own : (w v : List ℕ) (n : ℕ) (own : Bool) (P : State → Type 0) (o b : Option Story) → v ≡ w → own ≡ false → IsTold o P → SparesBut w o b → Told b (λ t. t.at w ≡ Some n)
+    → Told b (λ t. t.held n ≡ false) → Told b (λ t. IsTrue own ↔ IsFreeAt v n t) → ⊥
+made_own w v n own P None b same isnt told spares at free owned = told
+made_own w v n own P (Some a) None same isnt told spares at free owned = spares (0 ∷ w) (longer 0 w)
+made_own w v n own P (Some a) (Some b) same isnt told spares at free owned =
+    false≢true (sym isnt ∙ owned.1 (record { at = ap b.now.at same ∙ at; free = free }))
+
+pub told_there : (P : State → Type 0) (o b : Option Story) → b ≡ o → IsTold o P → IsTold b (λ s. Unit {0})
+told_there P o b same told = subst (λ b. IsTold b (λ s. Unit {0})) (sym same) (still_so P (λ s. Unit {0}) o (λ s is. tt) told)
+
+pub spares_since : (w : List ℕ) (o b n : Option Story) → b ≡ o → SparesBut w b n → SparesBut w o n
+spares_since w o b n same spares = subst (λ b. SparesBut w b n) same spares
+
+-- nothing comes to a place that is spared
+pub nothing_still : (w : List ℕ) (o n : Option Story) → Told o (λ s. s.at w ≡ None) → AtAnyMoment o n (Spares w) → Told n (λ t. t.at w ≡ None)
+nothing_still w o n nothing spares = told_kept (Spares w) (λ s. s.at w ≡ None) (λ t. t.at w ≡ None) o n (λ s t was same. same.at ∙ was) nothing spares
+
+-- ---- files
+
+-- what was read and still stands there can be read again
+module _ {X : Type 0} (number : X → ℕ) (tells : X → Option Look) where
+  pub can_read : (p : List ℕ) (old : Option X) (s : State) → s.at p ≡ option_map number old → HasSeen p (option_map tells old) s → IfSome (option_map number old) (IsShort s)
+      → IfSome old (λ o. CanRead (number o) (tells o) s)
+  can_read p None s at seen short = tt
+  can_read p (Some o) s at seen short = record {
+    short = short;
+    same = some_so (tells o) (IsLookAt s p) (λ look. (look.number ≡ number o) × (look.version ≡ s.version (number o)))
+        (λ look is. let same : look.number ≡ number o = cc in (same, is.version ∙ ap s.version same)) seen;
+  }
+
+  pub both_read : (old other : Option X) (s : State) (P : Type 0) → P → IfSome old (λ o. CanRead (number o) (tells o) s) → IfSome other (λ o. CanRead (number o) (tells o) s)
+      → IfSome old (λ o. IfSome other (λ j. P × CanRead (number o) (tells o) s × CanRead (number j) (tells j) s))
+  both_read None other s P holds one two = tt
+  both_read (Some o) None s P holds one two = tt
+  both_read (Some o) (Some j) s P holds one two = (holds, one, two)
+
+-- ---- what stands under a working name
+
+module _ (place leads : List ℕ → List ℕ) (regular : ℕ → Bool) (file journal : Known) where
+  pub seen_other : (name : List ℕ) (look : Option Look) (o b : Option Story) → b ≡ o
+      → IsTold o (λ s. IfSome (s.at (place name)) (λ n. (s.held n ≡ false) × IsOther place leads regular name file journal n))
+      → Told o (λ s. IsSomeAnd look (IsLookAt s (place name))) → IsTold b (λ s. IsSomeAnd look (λ look. SawAnother look.number journal.look))
+  seen_other name None None b same given seen = absurd given
+  seen_other name (Some look) None b same given seen = absurd given
+  seen_other name None (Some a) b same given seen = absurd seen
+  seen_other name (Some look) (Some a) b same given seen =
+      subst (λ b. IsTold b (λ s. SawAnother look.number journal.look)) (sym same)
+      (subst (λ x. IfSome x (λ n. (a.now.held n ≡ false) × IsOther place leads regular name file journal n)) seen.number given).1.not_journal
+
+  -- and the number of what was found there
+  pub found_read : {X : Type 0} (number : X → ℕ) (tells : X → Option Look) (old other : Option X) (name : List ℕ) (n : ℕ) (beside : Bool) (o b : Option Story)
+      → file.number ≡ option_map number old → file.look ≡ option_map tells old → journal.number ≡ option_map number other → journal.look ≡ option_map tells other
+      → name ≡ working_name file.path → b ≡ o → beside ≡ false
+      → IsTold o (λ s. IfSome (s.at (place (working_name file.path))) (λ n. (s.held n ≡ false) × IsOther place leads regular (working_name file.path) file journal n
+      × (IsTrue beside ⊎ (IsLeftText s.bytes (s.at (place file.path)) n (s.at (place journal.path)) × CanCompare place file journal n s))))
+      → Told o (λ s. s.at (place name) ≡ Some n)
+      → IsTold b (λ s. IfSome old (λ o. IfSome other (λ j. IsShort s n × CanRead (number o) (tells o) s × CanRead (number j) (tells j) s)))
+  found_read number tells old other name n beside None b file_number file_look journal_number journal_look named same not_beside given at = absurd given
+  found_read number tells old other name n beside (Some a) b file_number file_look journal_number journal_look named same not_beside given at =
+      let Reads : State → Type 0 = λ s. IfSome old (λ o. IfSome other (λ j. IsShort s n × CanRead (number o) (tells o) s × CanRead (number j) (tells j) s)) in
+      let compared : CanCompare place file journal n a.now =
+      elim (subst (λ x. IfSome x (λ n. (a.now.held n ≡ false) × IsOther place leads regular (working_name file.path) file journal n
+      × (IsTrue beside ⊎ (IsLeftText a.now.bytes (a.now.at (place file.path)) n (a.now.at (place journal.path)) × CanCompare place file journal n a.now))))
+      (sym (ap (λ w. a.now.at (place w)) named) ∙ at) given).2 [
+        | inl beside_it ↦ absurd (false≢true (sym not_beside ∙ beside_it))
+        | inr left ↦ left.1
+      ] in
+      subst (λ b. IsTold b Reads) (sym same)
+      (both_read number tells old other a.now (IsShort a.now n) compared.short
+      (can_read number tells (place file.path) old a.now (compared.file_stands.at ∙ file_number) (subst (λ l. HasSeen (place file.path) l a.now) file_look compared.file_stands.seen)
+      (subst (λ x. IfSome x (IsShort a.now)) file_number compared.file_short))
+      (can_read number tells (place journal.path) other a.now (compared.journal_stands.at ∙ journal_number)
+      (subst (λ l. HasSeen (place journal.path) l a.now) journal_look compared.journal_stands.seen) (subst (λ x. IfSome x (IsShort a.now)) journal_number compared.journal_short)))
+
+if_both : (x : Option ℕ) (P Q R : ℕ → Type 0) → ((n : ℕ) → P n → Q n → R n) → IfSome x P → IfSome x Q → IfSome x R
+if_both None P Q R so one other = tt
+if_both (Some n) P Q R so one other = so n one other
+
+pub mapped_some : {X : Type 0} (f : X → ℕ) (o : Option X) → IsSome (option_map f o) → is_some o ≡ true
+mapped_some f None is = is
+mapped_some f (Some x) is = refl
+
+module _ (place leads : List ℕ → List ℕ) (regular : ℕ → Bool) (file journal : Known) where
+  abbrev Four : Sites
+  Four = sites_of place file.path journal.path
+
+  abbrev Clearing : State → Type 0
+  Clearing s = CanClear place leads regular file journal s
+
+  abbrev OtherJournal : ℕ → Type 0
+  OtherJournal n = IsOther place leads regular (working_name journal.path) file journal n
+
+  abbrev OtherFile : ℕ → Type 0
+  OtherFile n = IsOther place leads regular (working_name file.path) file journal n
+
+  abbrev Compared : State → ℕ → Type 0
+  Compared s n = IsLeftText s.bytes (s.at (place file.path)) n (s.at (place journal.path)) × CanCompare place file journal n s
+
+  abbrev LeftFile : Bool → State → ℕ → Type 0
+  LeftFile beside s n = (s.held n ≡ false) × OtherFile n × (IsTrue beside ⊎ Compared s n)
+
+  pub journal_left : (s : State) → Clearing s → IfSome (s.at Four.new_journal) (λ n. (s.held n ≡ false) × IsLeftJournal (s.bytes n) × OtherJournal n)
+  journal_left s clear =
+      if_both (s.at Four.new_journal) (λ n. (s.held n ≡ false) × IsLeftJournal (s.bytes n)) OtherJournal (λ n. (s.held n ≡ false) × IsLeftJournal (s.bytes n) × OtherJournal n)
+      (λ n left other. (left.0, left.1, other)) clear.left.journal clear.new_journal
+
+  one_left : (s : State) (n : ℕ) (beside : Bool) → (IsSome (s.at Four.new_journal) → IsTrue beside) → IsSome (s.at Four.new_journal) ⊎ IsLeftText s.bytes (s.at (place file.path)) n (s.at (place journal.path))
+      → IsSome (s.at Four.new_journal) ⊎ CanCompare place file journal n s → IsTrue beside ⊎ Compared s n
+  one_left s n beside told (inl there) other = inl (told there)
+  one_left s n beside told (inr left) (inl there) = inl (told there)
+  one_left s n beside told (inr left) (inr other) = inr (left, other)
+
+  pub file_left : (s : State) (beside : Bool) → (IsSome (s.at Four.new_journal) → IsTrue beside) → Clearing s → IfSome (s.at Four.new_file) (LeftFile beside s)
+  file_left s beside told clear =
+      if_both (s.at Four.new_file) (λ n. (s.held n ≡ false) × (IsSome (s.at Four.new_journal) ⊎ IsLeftText s.bytes (s.at (place file.path)) n (s.at (place journal.path))))
+      (λ n. OtherFile n × (IsSome (s.at Four.new_journal) ⊎ CanCompare place file journal n s)) (LeftFile beside s)
+      (λ n left other. (left.0, other.0, one_left s n beside told left.1 other.1)) clear.left.file clear.new_file
+
+  -- by what was found
+  module _ (P : State → ℕ → Type 0) (found : Option ℕ) where
+    pub file_left_told : (beside : Bool) (o b : Option Story) → b ≡ o → (IsSome found → IsTrue beside) → IsTold o Clearing → Told o (λ s. IsFound Four.new_journal (P s) s found)
+        → IsTold b (λ s. IfSome (s.at Four.new_file) (LeftFile beside s))
+    file_left_told beside o b same told given left =
+        subst (λ b. IsTold b (λ s. IfSome (s.at Four.new_file) (LeftFile beside s))) (sym same)
+        (told_with Clearing (λ s. IsFound Four.new_journal (P s) s found) (λ s. IfSome (s.at Four.new_file) (LeftFile beside s)) o
+        (λ s clear is. file_left s beside (λ there. told (subst IsSome is.at there)) clear) given left)
+
+    pub still_found : (o p m : Option Story) → p ≡ o → IsTold o Clearing → Told o (λ s. IsFound Four.new_journal (P s) s found) → SparesBut Four.new_file p m
+        → IsTold m (λ s. s.at Four.new_journal ≡ found)
+    still_found None p m same given left spares = absurd given
+    still_found (Some a) p m same given left spares =
+        told_after (Spares Four.new_journal) (λ s. s.at Four.new_journal ≡ found) (λ s. s.at Four.new_journal ≡ found) (Some a) m (λ s t was is. is.at ∙ was) left.at
+        (subst (λ p. SparesBut Four.new_file p m) same spares Four.new_journal given.apart.new_pair)
+
+-- ---- two files are removed, or made
+
+module _ (sites : Sites) where
+  pub free_both : {X E : Type 0} (result : Result X E) (journal file : Option ℕ) (o m n : Option Story) → Told o (λ s. AreApart sites) → Told o (λ s. s.at sites.new_journal ≡ journal)
+      → Told o (λ s. s.at sites.new_file ≡ file) → SparesBut sites.new_file o m → (Told o (λ s. s.at sites.new_file ≡ file) → Told m (λ t. t.at sites.new_file ≡ None))
+      → SparesBut sites.new_journal m n → (Told m (λ s. s.at sites.new_journal ≡ journal) → OnOk result (Told n (λ t. t.at sites.new_journal ≡ None)))
+      → OnOk result (Told n (AreFree sites))
+  free_both result journal file None None None apart at_j at_f spares_f clear_f spares_j clear_j = on_ok result (Unit {0}) tt
+  free_both result journal file None None (Some c) apart at_j at_f spares_f clear_f spares_j clear_j = absurd (spares_j (0 ∷ sites.new_journal) (longer 0 sites.new_journal))
+  free_both result journal file None (Some b) n apart at_j at_f spares_f clear_f spares_j clear_j = absurd (spares_f (0 ∷ sites.new_file) (longer 0 sites.new_file))
+  free_both result journal file (Some a) None n apart at_j at_f spares_f clear_f spares_j clear_j = absurd (spares_f (0 ∷ sites.new_file) (longer 0 sites.new_file))
+  free_both result journal file (Some a) (Some b) None apart at_j at_f spares_f clear_f spares_j clear_j = absurd (spares_j (0 ∷ sites.new_journal) (longer 0 sites.new_journal))
+  free_both result journal file (Some a) (Some b) (Some c) apart at_j at_f spares_f clear_f spares_j clear_j =
+      on_ok_so result (c.now.at sites.new_journal ≡ None) (AreFree sites c.now)
+      (λ none. record { journal = none; file = (spares_j sites.new_file (λ e. apart.new_pair (sym e))).0.at ∙ clear_f at_f })
+      (clear_j ((spares_f sites.new_journal apart.new_pair).0.at ∙ at_j))
+
+  pub file_free : (o m : Option Story) → IsTold o (λ s. AreApart sites × AreFree sites s) → SparesBut sites.new_journal o m → IsTold m (λ s. s.at sites.new_file ≡ None)
+  file_free None m given spares = absurd given
+  file_free (Some a) m given spares =
+      told_after (Spares sites.new_file) (λ s. s.at sites.new_file ≡ None) (λ s. s.at sites.new_file ≡ None) (Some a) m (λ s t was is. is.at ∙ was) given.1.file
+      (spares sites.new_file (λ e. given.0.new_pair (sym e)))
+
+-- ---- what was seen is seen still where its place is spared
+
+pub seen_still : (p : List ℕ) (look : Option (Option Look)) (s t : State) → Spares p s t → HasSeen p look s → HasSeen p look t
+seen_still p None s t same seen = same.at ∙ seen
+seen_still p (Some look) s t same seen =
+    some_so look (IsLookAt s p) (IsLookAt t p)
+    (λ l is. let at : t.at p ≡ Some l.number = same.at ∙ is.number in record { number = at; version = is.version ∙ sym (same.version l.number (inl (sym at))) }) seen
+
+pub stands_still : (place leads : List ℕ → List ℕ) (known : Known) (s t : State) → Spares (place known.path) s t → StandsAsSeen place leads known s → StandsAsSeen place leads known t
+stands_still place leads known s t same stands =
+    record { at = same.at ∙ stands.at; seen = seen_still (place known.path) known.look s t same stands.seen; led = stands.led }
+
+-- so after what was left over is removed both are as they were
+pub unchanged_on : (place leads : List ℕ → List ℕ) (regular : ℕ → Bool) (given_file given_journal : List ℕ) (file journal : Known) (o n : Option Story)
+    → IsTold o (CanPrepare place leads regular given_file given_journal file journal) → SparesButNew (sites_of place file.path journal.path) o n
+    → IsTold n (AreUnchanged place leads regular file journal)
+unchanged_on place leads regular given_file given_journal file journal None n given spares = absurd given
+unchanged_on place leads regular given_file given_journal file journal (Some a) None given spares =
+    spares (place file.path) given.clear.apart.file_new_journal given.clear.apart.file_new_file
+unchanged_on place leads regular given_file given_journal file journal (Some a) (Some b) given spares =
+    let apart = given.clear.apart in
+    let was = given.unchanged in
+    record {
+      file_stands = stands_still place leads file a.now b.now (spares (place file.path) apart.file_new_journal apart.file_new_file).0 was.file_stands;
+      journal_stands = stands_still place leads journal a.now b.now (spares (place journal.path) apart.journal_new_journal apart.journal_new_file).0 was.journal_stands;
+      is_regular = was.is_regular;
+      straight = was.straight;
+    }
+
+pub settle_on : (place leads : List ℕ → List ℕ) (regular : ℕ → Bool) (given_file given_journal : List ℕ) (file journal : Known) (o n : Option Story)
+    → IsTold o (CanPrepare place leads regular given_file given_journal file journal) → SparesButNew (sites_of place file.path journal.path) o n
+    → IsTold n (λ s. CanSettle place regular file s × CanSettle place regular journal s)
+settle_on place leads regular given_file given_journal file journal None n given spares = absurd given
+settle_on place leads regular given_file given_journal file journal (Some a) n given spares =
+    still_so (AreUnchanged place leads regular file journal) (λ s. CanSettle place regular file s × CanSettle place regular journal s) n
+    (λ s was. (record { at = was.file_stands.at; is_regular = given.is_regular }, record { at = was.journal_stands.at; is_regular = was.is_regular }))
+    (unchanged_on place leads regular given_file given_journal file journal (Some a) n given spares)
+
+pub free_on : (sites : Sites) (o n : Option Story) → Told o (AreFree sites) → ((p : List ℕ) → AtAnyMoment o n (Spares p)) → Told n (AreFree sites)
+free_on sites o n free spares =
+    told_both (λ t. t.at sites.new_journal ≡ None) (λ t. t.at sites.new_file ≡ None) (AreFree sites) n (λ t one other. record { journal = one; file = other })
+    (nothing_still sites.new_journal o n (told_so (AreFree sites) (λ t. t.at sites.new_journal ≡ None) o (λ s is. is.journal) free) (spares sites.new_journal))
+    (nothing_still sites.new_file o n (told_so (AreFree sites) (λ t. t.at sites.new_file ≡ None) o (λ s is. is.file) free) (spares sites.new_file))
+
+-- ---- a put goes on
+
+pub told_fact : (P : Type 0) (o : Option Story) → IsTold o (λ s. P) → P
+told_fact P None told = absurd told
+told_fact P (Some a) told = told
+
+pub with_unit : (P : State → Type 0) (o : Option Story) → IsTold o P → IsTold o (λ s. Unit {0} × P s)
+with_unit P o told = still_so P (λ s. Unit {0} × P s) o (λ s is. (tt, is)) told
+
+pub without_unit : (P : State → Type 0) (o : Option Story) → IsTold o (λ s. Unit {0} × P s) → IsTold o P
+without_unit P o told = still_so (λ s. Unit {0} × P s) P o (λ s is. is.1) told
+
+pub told_of : (P : State → Type 0) (o : Option Story) → IsTold o P → Told o P
+told_of P None told = absurd told
+told_of P (Some a) told = told
+
+pub told_pair : (P Q : State → Type 0) (o : Option Story) → IsTold o P → IsTold o Q → IsTold o (λ s. P s × Q s)
+told_pair P Q None one other = one
+told_pair P Q (Some a) one other = (one, other)
+
+pub same_told : (P : State → Type 0) (o b : Option Story) → b ≡ o → IsTold o P → IsTold b P
+same_told P o b same told = subst (λ b. IsTold b P) (sym same) told
+
+-- bytes are written
+pub unmoved_told : (P : State → Type 0) (o n : Option Story) → IsTold o P → AtAnyMoment o n IsUnmoved → IsTold n (λ s. Unit {0})
+unmoved_told P o n told unmoved = told_after IsUnmoved P (λ s. Unit {0}) o n (λ s t was moved. tt) told unmoved
+
+unmoved_at : (w : List ℕ) (s t : State) → IsUnmoved s t → t.at w ≡ s.at w
+unmoved_at w s t moved = ap (λ (at : List ℕ → Option ℕ). at w) moved.at
+
+module _ (place leads : List ℕ → List ℕ) (file journal : Known) where
+  abbrev Sites4 : Sites
+  Sites4 = sites_of place file.path journal.path
+
+  abbrev Replaces : State → Type 0
+  Replaces s = CanReplace place leads file journal s
+
+  pub may_write : (regular : ℕ → Bool) (given_file given_journal : List ℕ) (L : Type 0) (o : Option Story)
+      → IsTold o (λ s. L × CanPrepare place leads regular given_file given_journal file journal s) → IsTold o (MayWrite place leads regular file)
+  may_write regular given_file given_journal L o given =
+      still_so (λ s. L × CanPrepare place leads regular given_file given_journal file journal s) (MayWrite place leads regular file) o
+      (λ s can. record {
+        seen = can.1.unchanged.file_stands.seen;
+        is_regular = can.1.is_regular;
+        straight = subst (λ p. leads p ≡ place p) can.1.file_straight.same can.1.file_straight.straight;
+      }) given
+
+  pub replace_from : (regular : ℕ → Bool) (given_file given_journal : List ℕ) (L : Type 0) (o b : Option Story)
+      → IsTold o (λ s. L × CanPrepare place leads regular given_file given_journal file journal s) → SparesButNew Sites4 o b → Told b (AreFree Sites4) → IsTold b (λ s. L × Replaces s)
+  replace_from regular given_file given_journal L None b given spares free = absurd given
+  replace_from regular given_file given_journal L (Some a) b given spares free =
+      told_with (AreUnchanged place leads regular file journal) (AreFree Sites4) (λ s. L × Replaces s) b
+      (λ s was none. (given.0, record { apart = given.1.clear.apart; free = none; file_stands = was.file_stands; journal_stands = was.journal_stands }))
+      (unchanged_on place leads regular given_file given_journal file journal (Some a) b given.1 spares) free
+
+  module _ (L : Type 0) (o : Option Story) (given : IsTold o (λ s. L × Replaces s)) where
+    pub apart_told : IsTold o (λ s. AreApart Sites4)
+    apart_told = still_so (λ s. L × Replaces s) (λ s. AreApart Sites4) o (λ s can. can.1.apart) given
+
+    pub apart_there : Told o (λ s. AreApart Sites4)
+    apart_there = told_of (λ s. AreApart Sites4) o apart_told
+
+  module _ (L : Type 0) (o b : Option Story) (given : IsTold o (λ s. L × Replaces s)) where
+    stand_both : SparesButNew Sites4 o b → IsTold b (λ t. L × (AreApart Sites4 × (StandsAsSeen place leads file t × StandsAsSeen place leads journal t)))
+    stand_both spares =
+        elim o as (λ o. IsTold o (λ s. L × Replaces s) → SparesButNew Sites4 o b → IsTold b (λ t. L × (AreApart Sites4 × (StandsAsSeen place leads file t × StandsAsSeen place leads journal t)))) [
+          | None ↦ λ given. λ spares. absurd given
+          | Some a ↦ λ given. λ spares.
+              told_pair (λ t. L) (λ t. AreApart Sites4 × (StandsAsSeen place leads file t × StandsAsSeen place leads journal t)) b
+              (told_after (Spares (place file.path)) (λ s. L × Replaces s) (λ t. L) (Some a) b (λ s t was same. was.0) given
+              (spares (place file.path) given.1.apart.file_new_journal given.1.apart.file_new_file))
+              (told_pair (λ t. AreApart Sites4) (λ t. StandsAsSeen place leads file t × StandsAsSeen place leads journal t) b
+              (told_after (Spares (place file.path)) (λ s. L × Replaces s) (λ t. AreApart Sites4) (Some a) b (λ s t was same. was.1.apart) given
+              (spares (place file.path) given.1.apart.file_new_journal given.1.apart.file_new_file))
+              (told_pair (StandsAsSeen place leads file) (StandsAsSeen place leads journal) b
+              (told_after (Spares (place file.path)) (λ s. L × Replaces s) (StandsAsSeen place leads file) (Some a) b (λ s t was same. stands_still place leads file s t same was.1.file_stands) given
+              (spares (place file.path) given.1.apart.file_new_journal given.1.apart.file_new_file))
+              (told_after (Spares (place journal.path)) (λ s. L × Replaces s) (StandsAsSeen place leads journal) (Some a) b
+              (λ s t was same. stands_still place leads journal s t same was.1.journal_stands) given
+              (spares (place journal.path) given.1.apart.journal_new_journal given.1.apart.journal_new_file))))
+        ] given spares
+
+    pub place_from : (new_file new_journal : ℕ) → SparesButNew Sites4 o b → Told b (AreMade Sites4 new_journal new_file) → IsTold b (λ s. L × CanPlace place leads file journal new_file new_journal s)
+    place_from new_file new_journal spares made =
+        told_with (λ t. L × (AreApart Sites4 × (StandsAsSeen place leads file t × StandsAsSeen place leads journal t))) (AreMade Sites4 new_journal new_file)
+        (λ s. L × CanPlace place leads file journal new_file new_journal s) b
+        (λ s was made. (was.0, record { apart = was.1.0; made = made; file_stands = was.1.1.0; journal_stands = was.1.1.1 })) (stand_both spares) made
+
+    pub place_journal_from : (new : ℕ) → SparesButNew Sites4 o b → Told b (IsMadeAt Sites4.new_journal new) → IsTold b (CanPlaceJournal place leads file journal new)
+    place_journal_from new spares made =
+        told_with (λ t. L × (AreApart Sites4 × (StandsAsSeen place leads file t × StandsAsSeen place leads journal t))) (IsMadeAt Sites4.new_journal new)
+        (CanPlaceJournal place leads file journal new) b
+        (λ s was made. record { apart = was.1.0; made = made; file_stands = was.1.1.0; journal_stands = was.1.1.1 }) (stand_both spares) made
+
+  pub made_there : (new_file new_journal : ℕ) (L : Type 0) (o : Option Story) → IsTold o (λ s. L × CanPlace place leads file journal new_file new_journal s)
+      → Told o (AreMade Sites4 new_journal new_file)
+  made_there new_file new_journal L o given =
+      told_so (λ s. L × CanPlace place leads file journal new_file new_journal s) (AreMade Sites4 new_journal new_file) o (λ s can. can.1.made)
+      (told_of (λ s. L × CanPlace place leads file journal new_file new_journal s) o given)
+
+  module _ (new_file new_journal : ℕ) (L : Type 0) (o b : Option Story) (given : IsTold o (λ s. L × CanPlace place leads file journal new_file new_journal s)) where
+    abbrev Places2 : State → Type 0
+    Places2 s = L × CanPlace place leads file journal new_file new_journal s
+
+    -- where nothing was moved but bytes were written
+    pub file_at : AtAnyMoment o b IsUnmoved → SparesButNew Sites4 o b
+        → IsTold b (λ s. (s.at Sites4.new_file ≡ Some new_file) × StandsAsSeen place leads file s)
+    file_at unmoved spares =
+        elim o as (λ o. IsTold o Places2 → AtAnyMoment o b IsUnmoved → SparesButNew Sites4 o b → IsTold b (λ s. (s.at Sites4.new_file ≡ Some new_file) × StandsAsSeen place leads file s)) [
+          | None ↦ λ given. λ unmoved. λ spares. absurd given
+          | Some a ↦ λ given. λ unmoved. λ spares.
+              told_pair (λ s. s.at Sites4.new_file ≡ Some new_file) (StandsAsSeen place leads file) b
+              (told_after IsUnmoved Places2 (λ s. s.at Sites4.new_file ≡ Some new_file) (Some a) b (λ s t was moved. unmoved_at Sites4.new_file s t moved ∙ was.1.made.file.at) given unmoved)
+              (told_after (Spares (place file.path)) Places2 (StandsAsSeen place leads file) (Some a) b (λ s t was same. stands_still place leads file s t same was.1.file_stands) given
+              (spares (place file.path) given.1.apart.file_new_journal given.1.apart.file_new_file))
+        ] given unmoved spares
+
+    pub journal_at : AtAnyMoment o b IsUnmoved → SparesButNew Sites4 o b
+        → IsTold b (λ s. (s.at Sites4.new_journal ≡ Some new_journal) × StandsAsSeen place leads journal s)
+    journal_at unmoved spares =
+        elim o as (λ o. IsTold o Places2 → AtAnyMoment o b IsUnmoved → SparesButNew Sites4 o b → IsTold b (λ s. (s.at Sites4.new_journal ≡ Some new_journal) × StandsAsSeen place leads journal s)) [
+          | None ↦ λ given. λ unmoved. λ spares. absurd given
+          | Some a ↦ λ given. λ unmoved. λ spares.
+              told_pair (λ s. s.at Sites4.new_journal ≡ Some new_journal) (StandsAsSeen place leads journal) b
+              (told_after IsUnmoved Places2 (λ s. s.at Sites4.new_journal ≡ Some new_journal) (Some a) b (λ s t was moved. unmoved_at Sites4.new_journal s t moved ∙ was.1.made.journal) given unmoved)
+              (told_after (Spares (place journal.path)) Places2 (StandsAsSeen place leads journal) (Some a) b (λ s t was same. stands_still place leads journal s t same was.1.journal_stands) given
+              (spares (place journal.path) given.1.apart.journal_new_journal given.1.apart.journal_new_file))
+        ] given unmoved spares
+
+    -- the file stays while the journal is put in place
+    pub file_stays : (c : Option Story) → AtAnyMoment o b IsUnmoved → SparesButNew Sites4 o b → AtAnyMoment b c (Spares Sites4.new_file) → AtAnyMoment b c (Spares (place file.path))
+        → IsTold c (λ s. (s.at Sites4.new_file ≡ Some new_file) × StandsAsSeen place leads file s)
+    file_stays c unmoved spares of_new of_file =
+        told_pair (λ s. s.at Sites4.new_file ≡ Some new_file) (StandsAsSeen place leads file) c
+        (told_after (Spares Sites4.new_file) (λ s. (s.at Sites4.new_file ≡ Some new_file) × StandsAsSeen place leads file s) (λ s. s.at Sites4.new_file ≡ Some new_file) b c
+        (λ s t was same. same.at ∙ was.0) (file_at unmoved spares) of_new)
+        (told_after (Spares (place file.path)) (λ s. (s.at Sites4.new_file ≡ Some new_file) × StandsAsSeen place leads file s) (StandsAsSeen place leads file) b c
+        (λ s t was same. stands_still place leads file s t same was.1) (file_at unmoved spares) of_file)
+
+  module _ (new : ℕ) (o b : Option Story) (given : IsTold o (CanPlaceJournal place leads file journal new)) where
+    pub file_spared : AtAnyMoment o b (Spares (place file.path)) → IsTold b (StandsAsSeen place leads file)
+    file_spared spares =
+        told_after (Spares (place file.path)) (CanPlaceJournal place leads file journal new) (StandsAsSeen place leads file) o b
+        (λ s t was same. stands_still place leads file s t same was.file_stands) given spares
+
+    pub journal_alone : AtAnyMoment o b IsUnmoved → AtAnyMoment o b (Spares (place journal.path))
+        → IsTold b (λ s. (s.at Sites4.new_journal ≡ Some new) × StandsAsSeen place leads journal s)
+    journal_alone unmoved spares =
+        told_pair (λ s. s.at Sites4.new_journal ≡ Some new) (StandsAsSeen place leads journal) b
+        (told_after IsUnmoved (CanPlaceJournal place leads file journal new) (λ s. s.at Sites4.new_journal ≡ Some new) o b (λ s t was moved. unmoved_at Sites4.new_journal s t moved ∙ was.made.at) given unmoved)
+        (told_after (Spares (place journal.path)) (CanPlaceJournal place leads file journal new) (StandsAsSeen place leads journal) o b
+        (λ s t was same. stands_still place leads journal s t same was.journal_stands) given spares)
+
+-- ---- what can be read
+
+-- what follows of the state that a disk tells
+pub of_told : (P Q : State → Type 0) (R : Type 0) (o : Option Story) → ((s : State) → P s → Q s → R) → Told o P → IsTold o Q → R
+of_told P Q R None so told given = absurd given
+of_told P Q R (Some a) so told given = so a.now told given
+
+-- of a file that is short enough no more than the limit is read
+pub none_too_long : (m k : ℕ) (bytes : List ℕ) (o p : Option Story) → k < length bytes → p ≡ o → Told p (λ s. bytes ≡ take (k + 1) (s.bytes m)) → IsTold o (λ s. length (s.bytes m) ≤ k) → ⊥
+none_too_long m k bytes o p long same read given =
+    of_told (λ s. bytes ≡ take (k + 1) (s.bytes m)) (λ s. length (s.bytes m) ≤ k) ⊥ o (λ s is short. omega (arith, long, short, ap length is, length-take (k + 1) (s.bytes m)))
+    (subst (λ o. Told o (λ s. bytes ≡ take (k + 1) (s.bytes m))) same read) given
+
+-- what holds of the file at a path holds of the one that was opened there
+there_opened : (which : Which) (path : List ℕ) (P : ℕ → Type 0) (n : ℕ) → IsThere which path P (Some n) → P n
+there_opened Base path P n there = there
+there_opened Journal path P n there = there
+
+module _ {X : Type 0} (number : X → ℕ) (seen : X → Option Look) (which : Which) (path p : List ℕ) (P : State → ℕ → Type 0) where
+  abbrev MayRead : Option X → State → Type 0
+  MayRead old s = IfSome old (λ x. CanRead (number x) (seen x) s)
+
+  pub opened_is_read : (old : Option X) (o n : Option Story) → Told o (λ s. s.at p ≡ option_map number old) → IfSome old (λ x. Told o (λ s. IsSomeAnd (seen x) (IsLookFor s (number x))))
+      → n ≡ o → IsTold o (λ s. IsThere which path (λ n. IsShort s n × P s n) (s.at p)) → IsTold n (MayRead old)
+  opened_is_read old None n at unwritten same given = absurd given
+  opened_is_read None (Some a) n at unwritten same given = subst (λ n. IsTold n (MayRead None)) (sym same) tt
+  opened_is_read (Some x) (Some a) n at unwritten same given =
+      subst (λ n. IsTold n (MayRead (Some x))) (sym same)
+      (record {
+        short = (there_opened which path (λ n. IsShort a.now n × P a.now n) (number x) (subst (IsThere which path (λ n. IsShort a.now n × P a.now n)) at given)).0;
+        same = some_so (seen x) (IsLookFor a.now (number x)) (λ look. (look.number ≡ number x) × (look.version ≡ a.now.version (number x))) (λ look is. (is.number, is.version)) unwritten;
+      })
+
+-- ---- a look
+
+module _ {X : Type 0} (text : X → List ℕ) (place leads : List ℕ → List ℕ) (regular : ℕ → Bool) (seen : Option (Option Look)) (journal : List ℕ) where
+  -- what `look_at` asks of what stands there
+  abbrev IsLooked : Which → Option X → State → ℕ → Type 0
+  IsLooked which file s n = IsShort s n × (which ≡ Journal → IsOwnJournal regular (option_map (λ x. s.at (leads (text x))) file) n)
+
+  own : (file : Option X) (s : State) (n : ℕ) → regular n ≡ true → IfSome (option_map text file) (λ p. IsSomeAnd (s.at (leads p)) (λ m. m ≢ n))
+      → IsOwnJournal regular (option_map (λ x. s.at (leads (text x))) file) n
+  own None s n is apart = record { is_regular = is; no_file = tt }
+  own (Some x) s n is apart = record { is_regular = is; no_file = apart }
+
+  own_there : (file : Option X) (s : State) (p : List ℕ) (found : Option ℕ) → IsThere Journal p (λ n. IsShort s n × (regular n ≡ true)) found
+      → IfSome found (λ n. IfSome (option_map text file) (λ p. IsSomeAnd (s.at (leads p)) (λ m. m ≢ n))) → IsThere Journal p (IsLooked Journal file s) found
+  own_there file s p None there apart = there
+  own_there file s p (Some n) there apart = (there.0, λ _. own file s n there.1 apart)
+
+  looked : (which : Which) (file : Option X) (s : State) → IsReadable place leads regular Looks (option_map text file) journal seen which s
+      → IsThere which (path_of (option_map text file) journal which) (IsLooked which file s) (s.at (leads (path_of (option_map text file) journal which)))
+  looked Base file s may = some_so _ _ (IsLooked Base file s) (λ n is. (is.0, λ never. cc)) may.there
+  looked Journal file s may = own_there file s _ _ may.there (may.apart refl refl)
+
+  pub readable_looked : (which : Which) (file : Option X) (path : List ℕ) (access : Access) (o : Option Story) → path ≡ path_of (option_map text file) journal which → access ≡ Looks
+      → IsTold o (IsReadable place leads regular access (option_map text file) journal seen which)
+      → IsTold o (λ s. IsThere which path (IsLooked which file s) (s.at (leads path)))
+  readable_looked which file path access o is looks given =
+      subst (λ path. IsTold o (λ s. IsThere which path (IsLooked which file s) (s.at (leads path)))) (sym is)
+      (still_so _ _ o (looked which file) (subst (λ access. IsTold o (IsReadable place leads regular access (option_map text file) journal seen which)) looks given))
+
+-- ---- a call of the home
+
+pub seen_file : {X : Type 0} (knows : X → Known) (x : Option X) → option_and_then (λ known. known.look) (option_map knows x) ≡ option_and_then (λ x. (knows x).look) x
+seen_file knows None = refl
+seen_file knows (Some x) = refl
+
+pub noted_memory : (failure : Option Failure) (one : Failure) → failure ≡ Some one → FailedForMemory one → IsSomeAnd failure FailedForMemory
+noted_memory failure one is memory = subst (λ f. IsSomeAnd f FailedForMemory) (sym is) memory
+
+module _ (place leads : List ℕ → List ℕ) (regular : ℕ → Bool) (kept : Kept) (works still : Type 0) (failure : Option Failure) (story : Option Story) where
+  abbrev pub Excused : Call → Type 0
+  Excused call = IsExcused place leads regular kept works still failure story call
+
+  pub read_excused : (which : Which) (fault : Fault) → fault ≡ StoreFailed → (works → still)
+      → (works → IsTold story (IsReadable place leads regular kept.access kept.file kept.journal (option_and_then (λ known. known.look) kept.old_file) which) → IsSomeAnd failure FailedForMemory)
+      → Excused (read_call which (Err fault))
+  read_excused which fault is works_still memory =
+      subst (λ fault. Excused (read_call which (Err fault))) (sym is) (record { works_still = works_still; for_memory = memory })
+
+-- what a put needs, by the files that were read
+both_known : {X : Type 0} (knows : X → Known) (x y : Option X) (Q : Known → Known → Type 0) → IsSomeAnd (option_map knows x) (λ file. IsSomeAnd (option_map knows y) (λ journal. Q file journal))
+    → IsSomeAnd x (λ x. IsSomeAnd y (λ y. Q (knows x) (knows y)))
+both_known knows None y Q is = is
+both_known knows (Some a) None Q is = is
+both_known knows (Some a) (Some b) Q is = is
+
+all_short : (journal : List ℕ) (file : Option (List ℕ)) → AllByRecursion (λ write. length write.bytes ≤ 1_073_741_824) (writes_by journal file)
+    → (length journal ≤ 1_073_741_824) × IfSome file (λ bytes. length bytes ≤ 1_073_741_824)
+all_short journal None all = (all.0, tt)
+all_short journal (Some bytes) all = (all.0, all.1.0)
+
+module _ {X : Type 0} (knows : X → Known) (place leads : List ℕ → List ℕ) (regular : ℕ → Bool) (access : Access) (file_path : Option (List ℕ)) (journal_path : List ℕ) (x y : Option X)
+    (journal : List ℕ) (file : Option (List ℕ)) where
+  abbrev home_kept : Kept
+  home_kept = record { access = access; file = file_path; journal = journal_path; old_file = option_map knows x; old_journal = option_map knows y }
+
+  abbrev pub Begins : List ℕ → List ℕ → State → Type 0
+  Begins given_file given_journal s = IsSomeAnd x (λ x. IsSomeAnd y (λ y. CanPrepare place leads regular given_file given_journal (knows x) (knows y) s))
+
+  abbrev pub PutNeeds : List ℕ → List ℕ → State → Type 0
+  PutNeeds given_file given_journal s =
+      (length journal ≤ 1_073_741_824) × IfSome file (λ bytes. length bytes ≤ 1_073_741_824) × Begins given_file given_journal s
+
+  pub put_needs : (given_file given_journal : List ℕ) (o : Option Story) → given_file ≡ path_of file_path journal_path Base → given_journal ≡ journal_path
+      → IsTold o (CanPut place leads regular home_kept (writes_by journal file)) → IsTold o (PutNeeds given_file given_journal)
+  put_needs given_file given_journal o of_file of_journal given =
+      subst (λ f. IsTold o (PutNeeds f given_journal)) (sym of_file)
+      (subst (λ j. IsTold o (PutNeeds (path_of file_path journal_path Base) j)) (sym of_journal)
+      (still_so (CanPut place leads regular home_kept (writes_by journal file)) (PutNeeds (path_of file_path journal_path Base) journal_path) o
+      (λ s can.
+      let short = all_short journal file can.short in
+      (short.0, short.1, both_known knows x y (λ f j. CanPrepare place leads regular (path_of file_path journal_path Base) journal_path f j s) can.begins)) given))

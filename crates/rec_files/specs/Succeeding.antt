@@ -1,0 +1,232 @@
+-- What a call of the home needs, so that on a disk that works it fails for memory alone; and what becomes of a home by a
+-- call.
+use Rattle.std.specs.Prelude.{◌≡◌, ◌≢◌, ◌⊎◌, ◌≤◌, ℕ, Bool, true, false, List, [], length, Option, Some, None}
+use Rattle.std.specs.Prelude.{IfSome, IsSome, IsSomeAnd, option_map, string_bytes}
+use Rattle.std.specs.List.{AllByRecursion}
+use Rattle.std.specs.Option.{option_and_then}
+use Rattle.std.specs.declared.io.Error.{Error}
+use Rattle.rec_disk.specs.Disk.{State, Story, Look, IsLookAt, IsMemory}
+use Rattle.rec_tools.specs.Home.{Call, Write, unread, put_some}
+use Rattle.rec_tools.specs.declared.home.Which.{Which}
+use Rattle.rec_tools.specs.declared.home.Which.TheVariants.{Base, Journal}
+use Rattle.rec_files.specs.declared.access.Access.{Access}
+use Rattle.rec_files.specs.declared.access.Access.TheVariants.{Look as Looks, Change as Changes}
+use Rattle.rec_files.specs.declared.failure.Cause.{Cause}
+use Rattle.rec_files.specs.declared.failure.Cause.TheVariants.{Itself, Working, Folder, Foreign, Unsynced}
+use Rattle.rec_files.specs.declared.failure.Failure.{Failure}
+use Rattle.rec_files.specs.declared.target.Target.{Target}
+use Rattle.rec_files.specs.declared.files.DiskHome.{DiskHome}
+use Rattle.rec_files.specs.Paths.{path_of, working_name}
+use Rattle.rec_files.specs.OnDisk.{Sites, sites_of, AreLeft, IsHomeCall, places_by}
+
+-- the disk tells its story, and this holds of its state
+abbrev pub IsTold : Option Story → (State → Type 0) → Type 0
+IsTold None P = ⊥
+IsTold (Some a) P = P a.now
+
+abbrev pub error_of : Cause → Error
+error_of (Itself error) = error
+error_of (Working error) = error
+error_of (Folder error) = error
+error_of (Foreign error) = error
+error_of (Unsynced error) = error
+
+-- memory ran out
+abbrev pub IsForMemory : Cause → Type 0
+IsForMemory cause = IsMemory (error_of cause)
+
+abbrev pub FailedForMemory : Failure → Type 0
+FailedForMemory failure = IsForMemory failure.cause
+
+-- ---- the two, as they were read
+
+-- what is known of one of them: its path as it was given, and after links, and of what was read there its number and the look
+-- at it
+pub record Known : Type 0 where
+  pub given : List ℕ
+  pub path : List ℕ
+  pub number : Option ℕ
+  pub look : Option (Option Look)
+
+abbrev pub known : {D F S : Type 0} → (F → ℕ) → (S → Option Look) → Target D F S → Known
+known number tells target = record {
+  given = string_bytes target.given;
+  path = target.names;
+  number = option_map (λ opened. number opened.file) target.old;
+  look = option_map (λ opened. tells opened.seen) target.old;
+}
+
+-- ---- what was seen
+
+-- the look, if there is one, was at a regular file
+abbrev pub SawRegular : (ℕ → Bool) → Option (Option Look) → Type 0
+SawRegular regular None = Unit {0}
+SawRegular regular (Some look) = IsSomeAnd look (λ look. regular look.number ≡ true)
+
+-- or at another file than this one
+abbrev pub SawAnother : ℕ → Option (Option Look) → Type 0
+SawAnother n None = Unit {0}
+SawAnother n (Some look) = IsSomeAnd look (λ look. look.number ≢ n)
+
+-- the look, if there is one, was taken at the place, and what it saw stands there
+abbrev pub HasSeen : List ℕ → Option (Option Look) → State → Type 0
+HasSeen p None s = s.at p ≡ None
+HasSeen p (Some look) s = IsSomeAnd look (IsLookAt s p)
+
+-- they are four places
+pub record AreApart (sites : Sites) : Type 0 where
+  pub file_new_file : sites.file ≢ sites.new_file
+  pub journal_new_journal : sites.journal ≢ sites.new_journal
+  pub pair : sites.journal ≢ sites.file
+  pub file_new_journal : sites.file ≢ sites.new_journal
+  pub journal_new_file : sites.journal ≢ sites.new_file
+  pub new_pair : sites.new_journal ≢ sites.new_file
+
+-- what was read stands there, as it was seen, and the path as it was given leads there
+pub record StandsAsSeen (place leads : List ℕ → List ℕ) (known : Known) (s : State) : Type 0 where
+  pub at : s.at (place known.path) ≡ known.number
+  pub seen : HasSeen (place known.path) known.look s
+  pub led : leads known.given ≡ place known.path
+
+-- a path is the given one, which is no link
+pub record IsStraight (place leads : List ℕ → List ℕ) (given path : List ℕ) : Type 0 where
+  pub same : given ≡ path
+  pub straight : leads given ≡ place given
+
+-- both are as they were seen, and the journal is a regular file or missing, and its path is no link
+pub record AreUnchanged (place leads : List ℕ → List ℕ) (regular : ℕ → Bool) (file journal : Known) (s : State)
+    : Type 0 where
+  pub file_stands : StandsAsSeen place leads file s
+  pub journal_stands : StandsAsSeen place leads journal s
+  pub is_regular : SawRegular regular journal.look
+  pub straight : leads journal.path ≡ place journal.path
+
+-- ---- what is left over
+
+-- under a name, which is no link, stands a regular file, and it is neither of the two
+pub record IsOther (place leads : List ℕ → List ℕ) (regular : ℕ → Bool) (name : List ℕ) (file journal : Known) (n : ℕ)
+    : Type 0 where
+  pub is_regular : regular n ≡ true
+  pub not_file : SawAnother n file.look
+  pub not_journal : SawAnother n journal.look
+  pub straight : leads name ≡ place name
+
+-- what was read still stands there
+pub record StillStands (place : List ℕ → List ℕ) (known : Known) (s : State) : Type 0 where
+  pub at : s.at (place known.path) ≡ known.number
+  pub seen : HasSeen (place known.path) known.look s
+
+-- a file isn't longer than what is read
+abbrev pub IsShort : State → ℕ → Type 0
+IsShort s n = length (s.bytes n) ≤ 1_073_741_824
+
+-- what stands under the working name of the file can be compared with the two
+pub record CanCompare (place : List ℕ → List ℕ) (file journal : Known) (n : ℕ) (s : State) : Type 0 where
+  pub short : IsShort s n
+  pub file_stands : StillStands place file s
+  pub file_short : IfSome file.number (IsShort s)
+  pub journal_stands : StillStands place journal s
+  pub journal_short : IfSome journal.number (IsShort s)
+
+-- ---- where a put begins
+
+-- What stands under the two working names was left over and isn't locked; it is a regular file, and neither of the two;
+-- and where it has to be compared with the two, nothing of it is too long. The four are apart.
+pub record CanClear (place leads : List ℕ → List ℕ) (regular : ℕ → Bool) (file journal : Known) (s : State)
+    : Type 0 where
+  pub apart : AreApart (sites_of place file.path journal.path)
+  pub left : AreLeft (sites_of place file.path journal.path) s
+  pub new_journal : IfSome (s.at (place (working_name journal.path)))
+      (IsOther place leads regular (working_name journal.path) file journal)
+  pub new_file : IfSome (s.at (place (working_name file.path))) (λ n.
+      IsOther place leads regular (working_name file.path) file journal n
+      × (IsSome (s.at (place (working_name journal.path))) ⊎ CanCompare place file journal n s))
+
+-- and both are as they were seen, at the given paths, which are no links, and the file is a regular one
+pub record CanPrepare (place leads : List ℕ → List ℕ) (regular : ℕ → Bool) (given_file given_journal : List ℕ)
+    (file journal : Known) (s : State) : Type 0 where
+  pub unchanged : AreUnchanged place leads regular file journal s
+  pub is_regular : SawRegular regular file.look
+  pub file_straight : IsStraight place leads given_file file.path
+  pub journal_straight : IsStraight place leads given_journal journal.path
+  pub clear : CanClear place leads regular file journal s
+
+-- ---- what can be read
+
+-- it can be locked: no other program has locked it, and it is not the other of the two
+pub record IsUnlocked (other : Option (Option Look)) (s : State) (n : ℕ) : Type 0 where
+  pub free : s.held n ≡ false
+  pub another : SawAnother n other
+
+-- something stands at a path, and this holds of it; or a journal is missing whose path is not empty
+abbrev pub IsThere : Which → List ℕ → (ℕ → Type 0) → Option ℕ → Type 0
+IsThere Base path P found = IsSomeAnd found P
+IsThere Journal path P None = path ≢ []
+IsThere Journal path P (Some n) = P n
+
+-- what the disk said of the other of the two: the file is read first
+abbrev pub other_for : Which → Option (Option Look) → Option (Option Look)
+other_for Base seen = None
+other_for Journal seen = seen
+
+-- What a request reads of the two, by its paths, and by what the disk said of the file when that was read: a regular
+-- file that is not too long, and a journal may be missing. Where the request only looks, the journal is not the file that
+-- stands there. Where it may write, the path is no link, no other program has locked what is there, and the journal is not the file
+-- that was read.
+pub record IsReadable (place leads : List ℕ → List ℕ) (regular : ℕ → Bool) (access : Access)
+    (file : Option (List ℕ)) (journal : List ℕ) (seen : Option (Option Look)) (which : Which) (s : State) : Type 0 where
+  pub given : which ≡ Base → IsSome file
+  pub there : IsThere which (path_of file journal which) (λ n. IsShort s n × (regular n ≡ true))
+      (s.at (leads (path_of file journal which)))
+  pub apart : access ≡ Looks → which ≡ Journal → IfSome (s.at (leads journal)) (λ n. IfSome file (λ path.
+      IsSomeAnd (s.at (leads path)) (λ m. m ≢ n)))
+  pub free : access ≡ Changes → IfSome (s.at (leads (path_of file journal which)))
+      (λ n. IsUnlocked (other_for which seen) s n × (leads (path_of file journal which) ≡ place (path_of file journal which)))
+
+-- what a home was given, and what it knows of what it read
+pub record Kept : Type 0 where
+  pub access : Access
+  pub file : Option (List ℕ)
+  pub journal : List ℕ
+  pub old_file : Option Known
+  pub old_journal : Option Known
+
+abbrev pub kept : {R D F S : Type 0} → (F → ℕ) → (S → Option Look) → DiskHome R D F S → Kept
+kept number tells home = record {
+  access = home.access;
+  file = option_map string_bytes home.file;
+  journal = string_bytes home.journal;
+  old_file = option_map (known number tells) home.both.file;
+  old_journal = option_map (known number tells) home.both.journal;
+}
+
+-- What a put needs: what is put can be read again, and it may begin with what was read.
+pub record CanPut (place leads : List ℕ → List ℕ) (regular : ℕ → Bool) (kept : Kept) (writes : List Write) (s : State)
+    : Type 0 where
+  pub short : AllByRecursion (λ write. length write.bytes ≤ 1_073_741_824) writes
+  pub begins : IsSomeAnd kept.old_file (λ file. IsSomeAnd kept.old_journal (λ journal.
+      CanPrepare place leads regular (path_of kept.file kept.journal Base) kept.journal file journal s))
+
+-- what a call that failed needed was there
+abbrev pub HadAll : (List ℕ → List ℕ) → (List ℕ → List ℕ) → (ℕ → Bool) → Kept → Call → State → Type 0
+HadAll place leads regular kept (unread which) s =
+    IsReadable place leads regular kept.access kept.file kept.journal (option_and_then (λ known. known.look) kept.old_file) which s
+HadAll place leads regular kept (put_some writes k) s = CanPut place leads regular kept writes s
+HadAll place leads regular kept _ s = ⊥
+
+-- A disk that works does so after the call too. And if the call failed though all was there that it needed, it failed for
+-- memory, as the home noted last.
+pub record IsExcused (place leads : List ℕ → List ℕ) (regular : ℕ → Bool) (kept : Kept) (works still : Type 0)
+    (failure : Option Failure) (story : Option Story) (call : Call) : Type 0 where
+  pub works_still : works → still
+  pub for_memory : works → IsTold story (HadAll place leads regular kept call) → IsSomeAnd failure FailedForMemory
+
+-- what becomes of a home by a call
+abbrev pub HomeGoes : {R D F S : Type 0} → (List ℕ → List ℕ) → (List ℕ → List ℕ) → (List ℕ → List ℕ) → (List ℕ → Bool)
+    → (ℕ → Bool) → (F → ℕ) → (S → Option Look) → (D → Option Story) → (D → Type 0) → DiskHome R D F S → Call
+    → DiskHome R D F S → Type 0
+HomeGoes place leads folder syncs regular number tells story works old call new =
+    IsHomeCall place folder syncs (places_by leads (option_map string_bytes old.file) (string_bytes old.journal))
+    (places_by leads (option_map string_bytes new.file) (string_bytes new.journal)) (story old.disk) call (story new.disk)
+    old.failed new.failed
+    × IsExcused place leads regular (kept number tells old) (works old.disk) (works new.disk) new.failure (story old.disk) call

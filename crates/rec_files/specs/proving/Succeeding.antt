@@ -1,0 +1,66 @@
+-- What the steps of a read and of a put need, to succeed on a disk that works.
+use Rattle.std.specs.Prelude.{◌≡◌, ◌≢◌, ◌≤◌, ℕ, Bool, true, List, length, Option, None, Result, IfErr, IfSome, IsSomeAnd}
+use Rattle.rec_disk.specs.Disk.{State, Look}
+use Rattle.rec_files.specs.Paths.{working_name}
+use Rattle.rec_files.specs.OnDisk.{Sites, sites_of}
+use Rattle.rec_files.specs.Succeeding.{Known, SawRegular, HasSeen, StandsAsSeen, IsUnlocked, AreApart}
+use Rattle.rec_files.specs.proving.Replacing.{AreMade, IsMadeAt}
+
+-- A disk that works, before and then after the call; where this is given, the call succeeds, or else it failed for memory.
+abbrev pub Succeeds : {X E : Type 0} → (E → Type 0) → Type 0 → Type 0 → Type 0 → Result X E → Type 0
+Succeeds IsMemory before after given result = before → after × (given → IfErr result IsMemory)
+
+-- what was seen stands there, and is a regular file or nothing, and the path is no link
+pub record MayWrite (place leads : List ℕ → List ℕ) (regular : ℕ → Bool) (known : Known) (s : State) : Type 0 where
+  pub seen : HasSeen (place known.path) known.look s
+  pub is_regular : SawRegular regular known.look
+  pub straight : leads known.path ≡ place known.path
+
+-- what was read stands there, and it is a regular file or nothing
+pub record CanSettle (place : List ℕ → List ℕ) (regular : ℕ → Bool) (known : Known) (s : State) : Type 0 where
+  pub at : s.at (place known.path) ≡ known.number
+  pub is_regular : SawRegular regular known.look
+
+-- an open file isn't longer than what is read, and nobody wrote it since this look at it
+pub record CanRead (n : ℕ) (look : Option Look) (s : State) : Type 0 where
+  pub short : length (s.bytes n) ≤ 1_073_741_824
+  pub same : IsSomeAnd look (λ look. (look.number ≡ n) × (look.version ≡ s.version n))
+
+-- nothing stands under the two working names
+pub record AreFree (sites : Sites) (s : State) : Type 0 where
+  pub journal : s.at sites.new_journal ≡ None
+  pub file : s.at sites.new_file ≡ None
+
+-- both are as they were seen, and nothing stands under their working names; the four are apart
+pub record CanReplace (place leads : List ℕ → List ℕ) (file journal : Known) (s : State) : Type 0 where
+  pub apart : AreApart (sites_of place file.path journal.path)
+  pub free : AreFree (sites_of place file.path journal.path) s
+  pub file_stands : StandsAsSeen place leads file s
+  pub journal_stands : StandsAsSeen place leads journal s
+
+-- or both new files stand there
+pub record CanPlace (place leads : List ℕ → List ℕ) (file journal : Known) (new_file new_journal : ℕ) (s : State)
+    : Type 0 where
+  pub apart : AreApart (sites_of place file.path journal.path)
+  pub made : AreMade (sites_of place file.path journal.path) new_journal new_file s
+  pub file_stands : StandsAsSeen place leads file s
+  pub journal_stands : StandsAsSeen place leads journal s
+
+-- or that of the journal alone
+pub record CanPlaceJournal (place leads : List ℕ → List ℕ) (file journal : Known) (new : ℕ) (s : State) : Type 0 where
+  pub apart : AreApart (sites_of place file.path journal.path)
+  pub made : IsMadeAt (place (working_name journal.path)) new s
+  pub file_stands : StandsAsSeen place leads file s
+  pub journal_stands : StandsAsSeen place leads journal s
+
+-- it can be opened to be replaced: a regular file at a path that is no link
+pub record IsLockable (place leads : List ℕ → List ℕ) (regular : ℕ → Bool) (path : List ℕ)
+    (other : Option (Option Look)) (s : State) (n : ℕ) : Type 0 where
+  pub no_link : leads path ≡ place path
+  pub is_regular : regular n ≡ true
+  pub unlocked : IsUnlocked other s n
+
+-- a journal to look at: a regular file, which is not the file itself; and that one stands there, where it has a path
+pub record IsOwnJournal (regular : ℕ → Bool) (file : Option (Option ℕ)) (n : ℕ) : Type 0 where
+  pub is_regular : regular n ≡ true
+  pub no_file : IfSome file (λ found. IsSomeAnd found (λ m. m ≢ n))

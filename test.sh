@@ -167,7 +167,7 @@ growth() {
 }
 
 all() {
-    echo 'test.sh: all parts take some 240 processor minutes, nearly all of it for the proofs: an hour and a half on 4 processors, two hours or more on 2'
+    echo 'test.sh: all parts take some 250 processor minutes, nearly all of it for the proofs: an hour and a half on 4 processors, two hours or more on 2'
     echo 'test.sh: the parts program, memory and growth take a minute or two each, once the proofs have built what they run'
     proofs
     program

@@ -57,14 +57,14 @@ is_done_in_order() {
 }
 
 # The order for the file F and the journal J in one folder D.
-edit_in_one='make J.new¶make F.new¶write J.new¶sync J.new¶write F.new¶sync F.new¶rename J.new J¶sync D¶rename F.new F¶sync D¶'
+edit_in_one='sync F¶sync D¶sync J¶sync D¶make J.new¶make F.new¶write J.new¶sync J.new¶write F.new¶sync F.new¶rename J.new J¶sync D¶rename F.new F¶sync D¶'
 clear_in_one='remove F.new¶remove J.new¶'
-forget_in_one='make J.new¶write J.new¶sync J.new¶rename J.new J¶sync D¶'
+forget_in_one='sync F¶sync D¶sync J¶sync D¶make J.new¶write J.new¶sync J.new¶rename J.new J¶sync D¶'
 
 # The order for the file F in the folder D, and the journal J in the folder E.
-edit_in_two='make J.new¶sync E¶make F.new¶write J.new¶sync J.new¶write F.new¶sync F.new¶sync D¶rename J.new J¶sync E¶rename F.new F¶sync D¶'
+edit_in_two='sync F¶sync D¶sync J¶sync E¶make J.new¶sync E¶make F.new¶write J.new¶sync J.new¶write F.new¶sync F.new¶rename J.new J¶sync E¶rename F.new F¶sync D¶'
 clear_in_two='remove F.new¶sync D¶remove J.new¶'
-forget_in_two='make J.new¶sync E¶write J.new¶sync J.new¶sync D¶rename J.new J¶sync E¶'
+forget_in_two='sync F¶sync D¶sync J¶sync E¶make J.new¶sync E¶write J.new¶sync J.new¶rename J.new J¶sync E¶'
 
 # in_order CALLS: so did the last run it, by the names of the file, its folder, the journal and its folder in `names`
 in_order() {
@@ -94,9 +94,11 @@ stands_between() {
 # that these words name
 goes_in_order() {
     local edit=edit_in_$1 clear=clear_in_$1 forget=forget_in_$1
+    local first=${!edit}
+    [ -e "${names[2]}" ] || first=${first/sync J¶/}
     put "${names[0]}" "$three"
     traced recset -n 0 -f A -s 8 "${@:2}"
-    in_order "${!edit}"
+    in_order "$first"
     has "${names[0]}" 'A: 8¶¶B: 2¶¶C: 3¶'
     traced undo "${@:2}"
     in_order "${!edit}"
@@ -201,13 +203,13 @@ failed_in_order() {
     [ -z "$(find . -name '*.new')" ] || fail 'left over'
 }
 
-# The second sync is that between the two removals.
+# The fifth sync is that between the two removals: there is no journal yet.
 @test "a refusal after which the file's folder cannot be synced" {
     local status=0
     can_trace
     mkdir d e
     put d/db.rec "$three"
-    ONLY=write AT=1 DO=28 strace -qq -o /dev/null -E "LD_PRELOAD=$BATS_FILE_TMPDIR/calls.so" -e inject=fsync:error=EIO:when=2 \
+    ONLY=write AT=1 DO=28 strace -qq -o /dev/null -E "LD_PRELOAD=$BATS_FILE_TMPDIR/calls.so" -e inject=fsync:error=EIO:when=5 \
         "$program" recset -n 0 -f A -s 8 --journal e/j d/db.rec > out 2> err 3>&- || status=$?
     [ "$status" = 1 ] || fail "status $status"
     has err "e/j: No space left on device (os error 28)¶$store_failed"
@@ -217,9 +219,9 @@ failed_in_order() {
     [ -z "$(find . -name '*.new')" ] || fail 'left over'
 }
 
-# The sync of the file's folder is the sixth.
+# The last sync of the file's folder is the ninth.
 @test "a command that was ended before its last sync" {
-    local number=6
+    local number=9
     can_trace
     mkdir d e
     put d/db.rec "$three"
@@ -270,13 +272,14 @@ sync_fails() {
     met || fail "there is no sync $1"
 }
 
-# Of the six syncs of an edit in two folders the folders' are the first, the fourth and the last two.
+# Of the nine syncs of an edit in two folders those of the file and the journal are the first and the third, those of their
+# new files the sixth and the seventh, and the others are of folders.
 @test "a folder of two that cannot be synced" {
     local number error
     mkdir d e
     put d/db.rec "$three"
     does recset -n 0 -f A -s 8 --journal e/j d/db.rec
-    for number in 1 4 5 6; do
+    for number in 2 4 5 8 9; do
         for error in 22 95; do
             sync_fails "$number" "$error" recset -n 0 -f A -s 9
             [ "$status" = 0 ] || fail "sync $number, error $error: status $status"
@@ -285,14 +288,14 @@ sync_fails() {
     done
     cp d/db.rec file
     cp e/j journal
-    for number in 1 4; do
+    for number in 1 2 3 4 5; do
         sync_fails "$number" 5 recset -n 0 -f A -s 9
         [ "$status" = 1 ] || fail "sync $number: status $status"
         has d/db.rec < file
         has e/j < journal
         case $number in
-            1) has err "e/j: Input/output error (os error 5)¶$store_failed" ;;
-            4) has err "d/db.rec: Input/output error (os error 5)¶$store_failed" ;;
+            1 | 2) has err "d/db.rec: Input/output error (os error 5)¶$store_failed" ;;
+            *) has err "e/j: Input/output error (os error 5)¶$store_failed" ;;
         esac
     done
     # what was left is removed before the next try
@@ -316,13 +319,13 @@ sync_fails() {
     does recset -n 0 -f A -s 9 --journal e/j d/db.rec
     cp e/j journal
     local number
-    for number in 1 3; do
+    for number in 1 2 3 4 5; do
         sync_fails "$number" 5 forget 1
         [ "$status" = 1 ] || fail "sync $number: status $status"
         has e/j < journal
         [ -z "$(find . -name '*.new')" ] || fail 'left over'
     done
-    sync_fails 4 5 forget 1
+    sync_fails 7 5 forget 1
     [ "$status" = 1 ] || fail "status $status"
     has err "e/j: the edits are forgotten, but its folder could not be synced, so a power cut may bring them back: Input/output error (os error 5)¶$store_failed"
     recu 0 history --journal e/j d/db.rec

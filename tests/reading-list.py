@@ -22,6 +22,8 @@ CLAUSES = [
     ("rec_files", "run", "any_moment"),
     ("rec_files", "run", "lasting"),
     ("rec_files", "run", "touches"),
+    ("rec_files", "run", "recovers"),
+    ("rec_files", "run", "attempts"),
 ]
 TABLE = "docs/guarantees.md"
 HEAD = ["| Clause | Definitions | Lines | Files | Of them in a list above |", "|---|---|---|---|---|"]

@@ -430,7 +430,8 @@ each_stop() {
     fast each_call end
 }
 
-# sync_fails NUMBER ERROR: the sync of this number fails so; the third and the fourth are those of the folder
+# sync_fails NUMBER ERROR: the sync of this number fails so; those of the folder are the second and the third, before anything is
+# made, and the sixth and the seventh, after the renames
 sync_fails() {
     rm -rf db.rec db.rec.journal hit
     put db.rec "$three"
@@ -441,20 +442,20 @@ sync_fails() {
 
 @test "a folder that cannot be synced" {
     local number
-    for number in 3 4; do
+    for number in 2 3 6 7; do
         sync_fails "$number" 22
         [ "$status" = 0 ] || wrong 'it is a failure'
         fast has db.rec "$edited" || wrong 'the edit is lost'
         sync_fails "$number" 95
         [ "$status" = 0 ] || wrong 'it is a failure'
     done
-    sync_fails 3 5
+    sync_fails 6 5
     [ "$status" = 1 ] || wrong 'it is no failure'
     grep -q '^db.rec.journal: ' err || wrong 'it says something else'
     fast has db.rec "$three" || wrong 'the file was replaced'
     [ -z "$("$program" history db.rec)" ] || wrong 'the event counts'
     no_leftovers
-    sync_fails 4 5
+    sync_fails 7 5
     [ "$status" = 1 ] || wrong 'it is no failure'
     grep -q '^db.rec: the edit is done, but its folder could not be synced, so a power cut may undo it: ' err || wrong 'it says something else'
     fast has db.rec "$edited" || wrong 'the edit is lost'
@@ -462,19 +463,19 @@ sync_fails() {
     # Forgetting puts the journal in place, and syncs its folder last.
     as_forgetting
     cp start/* .
-    ONLY=fsync at 2 5 "${words[@]}" db.rec && status=0 || status=$?
+    ONLY=fsync at 6 5 "${words[@]}" db.rec && status=0 || status=$?
     [ "$status" = 1 ] || wrong 'it is no failure'
     fast has err "db.rec.journal: the edits are forgotten, but its folder could not be synced, so a power cut may bring them back: Input/output error (os error 5)¶$store_failed" || wrong 'it says something else'
     cmp -s db.rec.journal forgotten/db.rec.journal || wrong 'nothing was forgotten'
     no_leftovers
 }
 
-# The third file that is opened is the journal's new one.
+# The fifth that is opened is the journal's new file, after the file and the folder, each twice.
 @test "a file system that may only be read" {
     put db.rec "$three"
-    status=0 number=3
-    ONLY=open at 3 30 "${words[@]}" db.rec || status=$?
-    met || fail 'no third file is opened'
+    status=0 number=5
+    ONLY=open at 5 30 "${words[@]}" db.rec || status=$?
+    met || fail 'nothing more is opened'
     [ "$status" = 1 ] || wrong 'it is no failure'
     has err ".: the folder isn't writable, and recu writes a new file in it: Read-only file system (os error 30)¶$store_failed"
     has db.rec "$three"

@@ -199,8 +199,9 @@ stays() {
     has db.rec 'A: 3¶'
 }
 
-# fails AT ERROR WORD..: the sync of this number fails so. Of each move the first two are those of the new files, the third
-# is the folder's after the journal's rename, and the fourth the folder's after the file's.
+# fails AT ERROR WORD..: the sync of this number fails so. Of the eight of each move the first four are of what stands there, the
+# next two are those of the new files, the seventh is the folder's after the journal's rename, and the last the folder's after
+# the file's.
 fails() {
     local status=0
     ONLY=fsync at "$1" "$2" "${@:3}" || status=$?
@@ -214,22 +215,22 @@ fails() {
     local error='Input/output error (os error 5)'
     local undone='the edit is done, but its folder could not be synced, so a power cut may undo it'
     begin
-    fails 5 5 undo --through 1 db.rec
+    fails 13 5 undo --through 1 db.rec
     has err "undone: edit 3¶db.rec.journal: $error¶$store_failed"
     rm err
     stands 'A: 3¶' "$three_edits$(move 4 undo 3 'A: 4' 'A: 3')"
     # the journal is in place, and its event doesn't count
-    fails 7 5 undo --through 1 db.rec
+    fails 15 5 undo --through 1 db.rec
     has err "undone: edit 2¶db.rec.journal: $error¶$store_failed"
     rm err
     stands 'A: 2¶' "$three_edits$two_undone$(move 6 undo 1 'A: 2' 'A: 1')"
     tells 'done 1 recset¶undone 2 recset¶undone 3 recset¶'
-    fails 4 5 redo --through 3 db.rec
+    fails 8 5 redo --through 3 db.rec
     has err "db.rec: $undone: $error¶$store_failed"
     rm err
     tells 'done 1 recset¶done 2 recset¶undone 3 recset¶'
     does redo db.rec
-    fails 12 5 undo --through 1 db.rec
+    fails 24 5 undo --through 1 db.rec
     has err "undone: edits 3 to 2¶db.rec: $undone: $error¶$store_failed"
     tells 'undone 1 recset¶undone 2 recset¶undone 3 recset¶'
     has db.rec 'A: 1¶'

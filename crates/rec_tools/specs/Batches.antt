@@ -144,15 +144,3 @@ abbrev pub AreEdits : List ℕ → Result (List EditRequest) Fault → Type 0
 AreEdits text answer = ((line : ℕ) × IsUnreadAt text line × (answer ≡ Err (BadBatch line)))
     ⊎ ((pieces : List Piece) × (records : List (Range ℕ)) × AreElementsOf pieces text × AreRecords pieces records
     × AreEditsOf pieces records answer)
-
--- two answers of a text agree: at each place some record asks for both edits, or they are one fault
-abbrev pub Agree : Result (List EditRequest) Fault → Result (List EditRequest) Fault → Type 0
-Agree (Ok edits) (Ok others) =
-    AllZip (λ one other. (own : List Piece) × AsksFor own one × AsksFor own other) edits others
-Agree (Err fault) (Err other) = fault ≡ other
-Agree _ _ = ⊥
-
--- all answers of a text agree
-abbrev pub HasOneAnswer : List ℕ → Type 0
-HasOneAnswer text =
-    (one other : Result (List EditRequest) Fault) → AreEdits text one → AreEdits text other → Agree one other

@@ -116,6 +116,11 @@ abbrev pub Went : {H : Type 0} → (H → Call → H → Type 0) → H → List 
 Went {H} goes old [] new = new ≡ old
 Went {H} goes old (call ∷ calls) new = (mid : H) × goes old call mid × Went goes mid calls new
 
+-- by the calls the one home, which told of these contents, became the other, which tells of what they leave of them
+abbrev pub WentOn : {H : Type 0} → (H → Call → H → Type 0) → (H → Option Contents) → Contents → H → List Call → H
+    → Type 0
+WentOn goes told c old calls new = Went goes old calls new × (told new ≡ Some (left_by_all c calls))
+
 -- the call that a read with this answer was
 abbrev pub read_call : Which → Result (List ℕ) Fault → Call
 read_call which (Ok bytes) = got which bytes

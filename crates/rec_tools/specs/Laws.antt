@@ -1,16 +1,17 @@
 -- Laws of the machine, of what contents stand for, and of files that were changed outside.
-use Rattle.std.specs.Prelude.{◌≡◌, ◌≢◌, ◌⊎◌, ℕ, ◌+◌, Bool, true, List, [], ◌∷◌, codes, Option, None, Result, Ok, Err}
+use Rattle.std.specs.Prelude.{◌≡◌, ◌≢◌, ℕ, ◌+◌, Bool, true, List, [], ◌∷◌, codes, Option, None, Result, Ok, Err}
 use Rattle.rec_text.specs.declared.fault.Fault.{Fault}
 use Rattle.rec_text.specs.declared.fault.Fault.TheVariants.{BadPattern, Drifted}
 use Rattle.rec_journal.specs.declared.event.EditStep.{EditStep}
 use Rattle.rec_journal.specs.declared.event.Tool.{Tool}
 use Rattle.rec_journal.specs.History.{Opened, Opens}
+use Rattle.rec_edit.specs.declared.answer.Edited.{Edited}
 use Rattle.rec_tools.specs.declared.request.Reply.{Reply}
 use Rattle.rec_tools.specs.declared.request.Reply.TheVariants.{Shown, Edited as EditedReply, Redone, Reverted}
 use Rattle.rec_tools.specs.declared.request.Request.{Request, Undo, Redo, Revert, Forget, History}
 use Rattle.rec_tools.specs.Home.{Contents, written}
-use Rattle.rec_tools.specs.Requests.{showing, previewing, asked_of, WritesNothing}
-use Rattle.rec_tools.specs.Outcomes.{Outcome, IsRequestOutcome, printing}
+use Rattle.rec_tools.specs.Requests.{Asked, showing, editing, previewing, asked_of, WritesNothing}
+use Rattle.rec_tools.specs.Outcomes.{Outcome, IsMade, IsRequestOutcome, printing}
 use Rattle.rec_tools.specs.Attempts.{Answer}
 use Rattle.rec_tools.specs.Machine.{State, IsMachineStep, Stands, first_state}
 
@@ -48,7 +49,37 @@ PreviewIsShowAfter = (c : Contents) (request : Request) (name : List ℕ) (done 
     → IsRequestOutcome c (previewing name (asked_of request)) (Ok previewed)
     → IsRequestOutcome (written c done.writes) (showing None name) (Ok (printing previewed.text Shown))
 
+-- ---- undo and redo
+
+-- whatever comes of what is asked for, it isn't refused, and the file is this text then
+abbrev pub BringsBack : Contents → Asked → List ℕ → Type 0
+BringsBack c asked text = (r : Result Outcome Fault) → IsRequestOutcome c asked r
+    → (outcome : Outcome) × (r ≡ Ok outcome) × ((written c outcome.writes).file ≡ text)
+
+-- After an edit, a batch, a revert or a redo that was written, an undo brings the file back as it was, byte for byte;
+-- also where the file had been changed outside.
+abbrev pub UndoBringsBack : Type 0
+UndoBringsBack = (c : Contents) (request : Request) (done : Outcome)
+    → done.writes ≢ [] → MadeAnEdit done.reply → IsRequestOutcome c (asked_of request) (Ok done)
+    → BringsBack (written c done.writes) (asked_of (Undo None)) c.file
+
+-- after an undo, a redo does
+abbrev pub RedoBringsBack : Type 0
+RedoBringsBack = (c : Contents) (through : Option ℕ) (done : Outcome)
+    → IsRequestOutcome c (asked_of (Undo through)) (Ok done)
+    → BringsBack (written c done.writes) (asked_of (Redo None)) c.file
+
 -- ---- a file that was changed outside
+
+-- what is asked for is a preview
+abbrev pub IsPreview : Asked → Type 0
+IsPreview (previewing name asked) = Unit {0}
+IsPreview _ = ⊥
+
+-- the edits that are asked for make this of a text, told with this tool
+abbrev pub MakesOf : Asked → List ℕ → Tool → Edited → Type 0
+MakesOf (editing IsEdit) text tool made = IsMade IsEdit text (Ok (tool, made))
+MakesOf _ text tool made = ⊥
 
 -- an edit begins the history anew, with the outside text as the one before it
 abbrev pub outside_state : Contents → Opened → Tool → List EditStep → List ℕ → State
@@ -59,8 +90,15 @@ outside_state c o tool steps text = record {
   next = o.next + 1;
 }
 
--- nothing is taken back, made again, reverted or forgotten, and the history says so; an edit that changes the text begins
--- it anew
+-- the history begins anew with the edits that are asked for, as they are made of the outside text
+pub record BeginsAnew (c : Contents) (o : Opened) (asked : Asked) (outcome : Outcome) : Type 0 where
+  pub tool : Tool
+  pub made : Edited
+  pub makes : MakesOf asked c.file tool made
+  pub stands : Stands (written c outcome.writes) (outside_state c o tool made.steps made.text)
+
+-- Nothing is taken back, made again, reverted or forgotten, and the history says so. What is written begins it anew;
+-- where nothing is, only a preview is answered as an edit is.
 pub record IsNoticed (c : Contents) (o : Opened) : Type 0 where
   pub undo : (through : Option ℕ) (r : Result Outcome Fault) → IsRequestOutcome c (asked_of (Undo through)) r
       → r ≡ Err Drifted
@@ -72,9 +110,9 @@ pub record IsNoticed (c : Contents) (o : Opened) : Type 0 where
   pub history : (r : Result Outcome Fault) → IsRequestOutcome c (asked_of History) r
       → r ≡ Ok (printing (codes "drifted\n") Shown)
   pub edits : (request : Request) (outcome : Outcome) → IsRequestOutcome c (asked_of request) (Ok outcome)
-      → (outcome.writes ≡ [])
-      ⊎ ((tool : Tool) × (steps : List EditStep)
-      × Stands (written c outcome.writes) (outside_state c o tool steps (written c outcome.writes).file))
+      → outcome.writes ≢ [] → BeginsAnew c o (asked_of request) outcome
+  pub unwritten : (request : Request) (outcome : Outcome) → IsRequestOutcome c (asked_of request) (Ok outcome)
+      → outcome.writes ≡ [] → MadeAnEdit outcome.reply → IsPreview (asked_of request)
 
 -- wherever the opening has drifted
 abbrev pub OutsideIsNoticed : Type 0

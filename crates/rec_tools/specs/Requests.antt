@@ -1,7 +1,8 @@
 -- What each request asks for: a look at the file, at its history or at what an edit made, an edit, a move through the
 -- history, that old edits are forgotten, or what one of these would change. Each kind has one case in what follows, and
 -- each request one row here.
-use Rattle.std.specs.Prelude.{◌≡◌, ℕ, Bool, List, [], ◌∷◌, Option, Result, Ok}
+use Rattle.std.specs.Prelude.{◌≡◌, ◌↔◌, ℕ, Bool, List, [], ◌∷◌, Option, Result, Ok, Err}
+use Rattle.std.specs.List.{AllZip}
 use Rattle.rec_text.specs.declared.fault.Fault.{Fault}
 use Rattle.rec_journal.specs.declared.patch.Direction.{Direction}
 use Rattle.rec_journal.specs.declared.patch.Direction.TheVariants.{Forward, Backward}
@@ -85,6 +86,21 @@ IsBatch text force =
     Then (AreEdits text) (λ edits.
     Then (AreTasks edits) (λ tasks answer.
     answer ≡ Ok (record { tool = ByBatch; tasks = tasks; force = force })))
+
+-- two edits have the same task, or are refused so
+abbrev pub HaveOneTask : EditRequest → EditRequest → Type 0
+HaveOneTask one other = (answer : Result Task Fault) → IsTaskOf one answer ↔ IsTaskOf other answer
+
+-- two answers of a text agree: their edits have the same tasks, one after another, or they are one fault
+abbrev pub Agree : Result (List EditRequest) Fault → Result (List EditRequest) Fault → Type 0
+Agree (Ok edits) (Ok others) = AllZip HaveOneTask edits others
+Agree (Err fault) (Err other) = fault ≡ other
+Agree _ _ = ⊥
+
+-- all answers of a text agree
+abbrev pub HasOneAnswer : List ℕ → Type 0
+HasOneAnswer text =
+    (one other : Result (List EditRequest) Fault) → AreEdits text one → AreEdits text other → Agree one other
 
 -- ---- requests
 

@@ -12,7 +12,8 @@ ghost use Rattle.rec_journal.specs.declared.event.Tool.TheVariants.{RecIns, RecD
 ghost use Rattle.rec_journal.specs.Event.{tool_name};
 ghost use Rattle.std.specs.declared.ops.Range.{Range};
 ghost use Rattle.rec_text.specs.declared.or_memory.OrMemory.TheVariants.{OutOfMemory};
-ghost use Rattle.rec_tools.specs.Batches.{names_for as names_of_tool, is_known as is_known_by, IsBy, HasOnly, HasWord, IsPickOf, IsActionOf, IsFreshOf, AsksTool, AsksFor, AreEdits, HasOneAnswer};
+ghost use Rattle.rec_tools.specs.Batches.{names_for as names_of_tool, is_known as is_known_by, IsBy, HasOnly, HasWord, IsPickOf, IsActionOf, IsFreshOf, AsksTool, AsksFor, AreEdits};
+ghost use Rattle.rec_tools.specs.Requests.{HasOneAnswer};
 ghost use Rattle.rec_tools.specs.proving.Finding.{FindsPart, AreEditsIn, unread_by};
 
 use crate::request::{Ask, EditRequest, Pick};

@@ -3,7 +3,7 @@ ghost use Rattle.rec_tools.specs.Outcomes.{OneOutcome};
 ghost use Rattle.std.specs.Prelude.{[]};
 ghost use Rattle.rec_journal.specs.History.{IsRegular};
 ghost use Rattle.rec_tools.specs.Guarantee.{OutcomesAreSteps, StopsAreSteps, WritesAreRegular};
-ghost use Rattle.rec_tools.specs.Laws.{OneStep, OneState, FirstStands, PreviewIsShowAfter, OutsideIsNoticed};
+ghost use Rattle.rec_tools.specs.Laws.{OneStep, OneState, FirstStands, PreviewIsShowAfter, UndoBringsBack, RedoBringsBack, OutsideIsNoticed};
 ghost use Rattle.rec_tools.specs.Through.{MovesLeadThere};
 
 /// A request comes to one outcome on two contents at most.
@@ -42,6 +42,12 @@ pub fn stops_are_steps()
 /// The preview of a request that makes an edit, or makes one again, prints what is shown of the newest edit afterwards.
 pub fn preview_is_show_after()
     ensures { PreviewIsShowAfter }
+{}
+
+/// After an edit, or one that was made again, an undo brings the file back as it was; after an undo, a redo does.
+pub fn moves_bring_back()
+    ensures undo { UndoBringsBack }
+    ensures redo { RedoBringsBack }
 {}
 
 /// A file that was changed outside is noticed: nothing is taken back or made again, and an edit begins the history anew.

@@ -23,8 +23,8 @@ pub use batches::{batch_edits, names_for, tool_by};
 pub use editing::make;
 pub use home::{Home, Which};
 pub use laws::{
-    first_stands, moves_lead_there, one_outcome, one_state, one_step, outcomes_are_steps,
-    outside_is_noticed, preview_is_show_after, stops_are_steps,
+    first_stands, moves_bring_back, moves_lead_there, one_outcome, one_state, one_step,
+    outcomes_are_steps, outside_is_noticed, preview_is_show_after, stops_are_steps,
 };
 pub use memory::MemoryHome;
 pub use rec_check::RecFile;

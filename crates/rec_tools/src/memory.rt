@@ -1,5 +1,5 @@
 //! A home in memory, some of whose calls fail.
-ghost use Rattle.std.specs.Prelude.{◌≡◌, ◌+◌, ◌-◌, ◌^◌, min, [], ◌∷◌, ◌++◌, take, Some, IfSome, OnOk, OnErr, MatchOption, is_some, option_copied};
+ghost use Rattle.std.specs.Prelude.{◌≡◌, ◌+◌, ◌-◌, ◌^◌, min, [], ◌∷◌, ◌++◌, take, Some, IfSome, OnOk, OnErr, MatchOption, MatchResult, is_some, option_copied};
 ghost use Rattle.std.proofs.Common.{ap};
 ghost use Rattle.rec_tools.specs.Home.{CountsOne, content_of, with_content, writes_by, written};
 ghost use Rattle.rec_tools.specs.Memory.{writes_left, held, IsCut, IsCall};
@@ -24,6 +24,8 @@ pub struct MemoryHome {
     pub faults: Vec<Failing>,
     pub calls: u64,
     pub failed: u64,
+    /// How often a put found no memory for a copy.
+    pub refused: u64,
     pub alloc: Global,
 }
 
@@ -46,6 +48,7 @@ impl MemoryHome {
         ensures faults { result.faults.items ≡ [] }
         ensures calls { result.calls ≡ 0 }
         ensures failed { result.failed ≡ 0 }
+        ensures refused { result.refused ≡ 0 }
     {
         MemoryHome {
             file,
@@ -53,6 +56,7 @@ impl MemoryHome {
             faults: Vec::new(alloc),
             calls: 0,
             failed: 0,
+            refused: 0,
             alloc,
         }
     }
@@ -65,6 +69,7 @@ impl MemoryHome {
         ensures contents { held self.new ≡ held self.old }
         ensures calls { self.new.calls ≡ self.old.calls }
         ensures failed { self.new.failed ≡ self.old.failed }
+        ensures refused { self.new.refused ≡ self.old.refused }
     {
         self.faults.push(Failing { call, left })?;
         Ok(())
@@ -101,6 +106,7 @@ impl MemoryHome {
         ensures faults { self.new.faults.items ≡ self.old.faults.items }
         ensures counted { MatchOption result
             (self.new.failed ≡ self.old.failed) (λ _. CountsOne self.old.failed self.new.failed) }
+        ensures refused { self.new.refused ≡ self.old.refused }
     {
         let left = left_at(&self.faults, self.calls);
         self.calls = self.calls.saturating_add(1);
@@ -110,15 +116,23 @@ impl MemoryHome {
         left
     }
 
-    /// Puts a copy of these bytes instead of a content. Where memory is refused, the old content stays.
+    /// Puts a copy of these bytes instead of a content. Where memory is refused, the old one stays, and that is counted.
     fn write(&mut self, which: Which, bytes: &[u8]) -> Result<(), AllocError>
         ensures written { OnOk result (held self.new ≡ with_content (held self.old) which bytes.now) }
         ensures old { OnErr result (held self.new ≡ held self.old) }
         ensures numbered { self.new.calls ≡ self.old.calls }
         ensures faults { self.new.faults.items ≡ self.old.faults.items }
         ensures failed { self.new.failed ≡ self.old.failed }
+        ensures refused { MatchResult result
+            (λ _. self.new.refused ≡ self.old.refused) (λ _. CountsOne self.old.refused self.new.refused) }
     {
-        let copy = Bytes::copy_of(self.alloc, bytes)?;
+        let copy = match Bytes::copy_of(self.alloc, bytes) {
+            Ok(copy) => copy,
+            Err(refusal) => {
+                self.refused = self.refused.saturating_add(1);
+                return Err(refusal);
+            }
+        };
         match which {
             Which::Base => self.file = copy,
             Which::Journal => self.journal = copy,
@@ -141,6 +155,8 @@ impl MemoryHome {
         ensures numbered { self.new.calls ≡ self.old.calls }
         ensures faults { self.new.faults.items ≡ self.old.faults.items }
         ensures failed { self.new.failed ≡ self.old.failed }
+        ensures refused { MatchResult result
+            (λ _. self.new.refused ≡ self.old.refused) (λ _. CountsOne self.old.refused self.new.refused) }
     {
         if most == 0 {
             return Ok(());

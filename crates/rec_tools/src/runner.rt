@@ -4,7 +4,7 @@ ghost use Rattle.std.specs.Prelude.{option_copied, option_map};
 ghost use Rattle.std.specs.List.{AllByRecursion};
 ghost use Rattle.rec_text.specs.Faults.{IsOkUnlessEither};
 ghost use Rattle.rec_journal.specs.History.{IsRegular};
-ghost use Rattle.rec_tools.specs.Home.{Call, HasFailed, left_by_all, Rose};
+ghost use Rattle.rec_tools.specs.Home.{Call, HasFailed, left_by_all, Rose, WentOn};
 ghost use Rattle.rec_tools.specs.Steps.{IsRefusal};
 ghost use Rattle.rec_tools.specs.Printouts.{Printed, WentOut};
 ghost use Rattle.rec_tools.specs.Requests.{listing, showing, listing_changes, previewing, asked_of, IsSilent, WritesNothing};
@@ -332,16 +332,14 @@ pub fn run_all<H: Home, S: Sink>(
     // run of the history machine: its answers, what it prints, and after each request contents that stand for its state.
     ensures guarantee { IfOk result (λ answers. IfSome (H.contents home.old) (λ c. (s : State) → Stands c s →
         (calls : List Call) × (p : Printed) × WentOut S.contents S.failure_count out.old out.new p
-        × AttemptsAll H.goes home.old home.new requests.now answers.items calls p
-        × (H.contents home.new ≡ Some (left_by_all c calls))
+        × WentOn H.goes H.contents c home.old calls home.new
         × (¬ HasFailed calls → (t : State) × RunsAsMachine c s requests.now answers.items calls p t))) }
 
     // The same whatever calls fail, where the journal is regular, as it then stays: a run with failures.
     ensures failing_stores { IfOk result (λ answers. IfSome (H.contents home.old) (λ c. (s : State)
         → Stands c s → IsRegular c.journal →
         (calls : List Call) × (p : Printed) × (t : State) × WentOut S.contents S.failure_count out.old out.new p
-        × AttemptsAll H.goes home.old home.new requests.now answers.items calls p
-        × (H.contents home.new ≡ Some (left_by_all c calls))
+        × WentOn H.goes H.contents c home.old calls home.new
         × RunsAsMachine c s requests.now answers.items calls p t × IsRegular (left_by_all c calls).journal)) }
 
     ensures unreserved { IfErr result (λ fault.

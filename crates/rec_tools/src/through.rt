@@ -1,7 +1,7 @@
 //! Moves through the history as far as an edit, one after another.
 ghost use Rattle.std.specs.Prelude.{◌≡◌, ◌<◌, ◌^◌, List, Some, IfOk, IfSome, IsSomeAnd};
 ghost use Rattle.rec_journal.specs.History.{IsRegular};
-ghost use Rattle.rec_tools.specs.Home.{Call, HasFailed, left_by_all};
+ghost use Rattle.rec_tools.specs.Home.{Call, HasFailed, left_by_all, WentOn};
 ghost use Rattle.rec_tools.specs.Printouts.{Printed, WentOut};
 ghost use Rattle.rec_tools.specs.Requests.{asked_of};
 ghost use Rattle.rec_tools.specs.Attempts.{Answer, Attempts, AttemptsAll};
@@ -137,16 +137,14 @@ pub fn run_through<H: Home, S: Sink>(
     ensures guarantee { IfSome (H.contents home.old) (λ c. (s : State) → Stands c s →
         (answers : List Answer) × EndsThrough direction number answers result
         × (calls : List Call) × (p : Printed) × WentOut S.contents S.failure_count out.old out.new p
-        × AttemptsAll H.goes home.old home.new (moves_through direction number answers) answers calls p
-        × (H.contents home.new ≡ Some (left_by_all c calls))
+        × WentOn H.goes H.contents c home.old calls home.new
         × (¬ HasFailed calls → (t : State) × RunsAsMachine c s (moves_through direction number answers) answers calls p t)) }
 
     // And whatever calls fail, where the journal is regular, as it then stays.
     ensures failing_stores { IfSome (H.contents home.old) (λ c. (s : State) → Stands c s → IsRegular c.journal →
         (answers : List Answer) × EndsThrough direction number answers result
         × (calls : List Call) × (p : Printed) × (t : State) × WentOut S.contents S.failure_count out.old out.new p
-        × AttemptsAll H.goes home.old home.new (moves_through direction number answers) answers calls p
-        × (H.contents home.new ≡ Some (left_by_all c calls))
+        × WentOn H.goes H.contents c home.old calls home.new
         × RunsAsMachine c s (moves_through direction number answers) answers calls p t
         × IsRegular (left_by_all c calls).journal) }
 

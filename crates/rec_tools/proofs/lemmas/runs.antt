@@ -8,3 +8,4 @@ pub mod ShowAfterLemmas
 pub mod ThroughLemmas
 pub mod LeadingLemmas
 pub mod ReachedLemmas
+pub mod BackLemmas

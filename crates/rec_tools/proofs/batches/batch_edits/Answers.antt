@@ -3,7 +3,8 @@ use Rattle.rec_text.specs.Faults.{IsMemoryOr}
 use Rattle.rec_tools.specs.Batches.{AreEdits}
 use Rattle.rec_tools.specs.proving.Finding.{AreEditsIn}
 use Rattle.rec_text.proofs.lemmas.FaultLemmas.{memory_or_weaker}
-use Rattle.rec_tools.proofs.lemmas.batches.BatchLemmas.{one_answer, read_edits, IfOk-weaker, IfErr-weaker}
+use Rattle.rec_tools.proofs.lemmas.batches.BatchLemmas.{read_edits, IfOk-weaker, IfErr-weaker}
+use Rattle.rec_tools.proofs.lemmas.batches.SameTaskLemmas.{one_answer}
 use Rattle.rec_tools.proofs.batches.batch_edits.Goals as goal
 
 pub returns-in-Ok-clause-found : goal.returns-in-Ok-clause-found

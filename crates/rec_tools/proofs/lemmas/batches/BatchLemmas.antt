@@ -32,8 +32,7 @@ use Rattle.rec_tools.specs.declared.request.Pick.{Pick}
 use Rattle.rec_tools.specs.declared.request.EditRequest.{EditRequest}
 use Rattle.rec_tools.specs.declared.request.EditRequest.TheVariants.{Insert, Replace, Delete, CommentOut, Set}
 use Rattle.rec_tools.specs.proving.Finding.{FindsPart, AreEditsIn, unread_by}
-use Rattle.rec_tools.specs.Batches.{is_known, AsksFor, AsksTool, IsBy, IsEdit, HasOnly, HasWord, IsPickOf, IsFreshOf, IsAutoOf, IsActionOf, HasNoEditAt, IsUnreadAt, AreEditsOf, AreEdits, Agree}
-use Rattle.rec_tools.specs.Batches.{HasOneAnswer}
+use Rattle.rec_tools.specs.Batches.{is_known, AsksFor, AsksTool, IsBy, IsEdit, HasOnly, HasWord, IsPickOf, IsFreshOf, IsAutoOf, IsActionOf, HasNoEditAt, IsUnreadAt, AreEditsOf, AreEdits}
 
 -- ---- one value of a name
 
@@ -189,16 +188,22 @@ edits_or_line pieces records edits line zipped no_edit =
     let parts = subst (AllByRecursion (λ own. IsEdit (elements_in pieces own))) no_edit.parts all in
     no_edit.none (AllByRecursion-following (λ own. IsEdit (elements_in pieces own)) no_edit.earlier (no_edit.bad ∷ no_edit.rest) parts).0
 
+-- at each place some record asks for both edits, or the faults are one
+abbrev pub AskAlike : Result (List EditRequest) Fault → Result (List EditRequest) Fault → Type 0
+AskAlike (Ok edits) (Ok others) = AllZip (λ one other. (own : List Piece) × AsksFor own one × AsksFor own other) edits others
+AskAlike (Err fault) (Err other) = fault ≡ other
+AskAlike _ _ = ⊥
+
 agree_edits : (one other : Result (List EditRequest) Fault) (edits others : List EditRequest) → one ≡ Ok edits → other ≡ Ok others
-    → AllZip (λ one other. (own : List Piece) × AsksFor own one × AsksFor own other) edits others → Agree one other
+    → AllZip (λ one other. (own : List Piece) × AsksFor own one × AsksFor own other) edits others → AskAlike one other
 agree_edits one other edits others is_one is_other all = rw (is_one, is_other) all
 
 agree_lines : (one other : Result (List EditRequest) Fault) (line number : ℕ) → one ≡ Err (BadBatch line)
-    → other ≡ Err (BadBatch number) → line ≡ number → Agree one other
+    → other ≡ Err (BadBatch number) → line ≡ number → AskAlike one other
 agree_lines one other line number is_one is_other same = rw (is_one, is_other) (ap BadBatch same)
 
 agree_records : (pieces : List Piece) (records : List (Range ℕ)) (one other : Result (List EditRequest) Fault)
-    → AreEditsOf pieces records one → AreEditsOf pieces records other → Agree one other
+    → AreEditsOf pieces records one → AreEditsOf pieces records other → AskAlike one other
 agree_records pieces records one other (inl a) (inl b) =
     agree_edits one other a.0 b.0 a.2 b.2 (AllZip-pairs AsksFor (map (elements_in pieces) records) a.0 b.0 a.1 b.1)
 agree_records pieces records one other (inl a) (inr b) = absurd (edits_or_line pieces records a.0 b.0 a.1 b.1)
@@ -225,12 +230,12 @@ unread_or_read text line pieces unread read =
     let one = unread_fault text line unread in
     no_both pieces one.0 (one_reading text (Ok pieces) (Err one.0) read one.1)
 
--- all answers of a text agree
-pub one_answer : (text : List ℕ) → HasOneAnswer text
-one_answer text one other (inl a) (inl b) = agree_lines one other a.0 b.0 a.2 b.2 (one_unread text a.0 b.0 a.1 b.1)
-one_answer text one other (inl a) (inr b) = absurd (unread_or_read text a.0 b.0 a.1 b.2)
-one_answer text one other (inr a) (inl b) = absurd (unread_or_read text b.0 a.0 b.1 a.2)
-one_answer text one other (inr a) (inr b) =
+-- all answers of a text come of the same records
+pub one_source : (text : List ℕ) (one other : Result (List EditRequest) Fault) → AreEdits text one → AreEdits text other → AskAlike one other
+one_source text one other (inl a) (inl b) = agree_lines one other a.0 b.0 a.2 b.2 (one_unread text a.0 b.0 a.1 b.1)
+one_source text one other (inl a) (inr b) = absurd (unread_or_read text a.0 b.0 a.1 b.2)
+one_source text one other (inr a) (inl b) = absurd (unread_or_read text b.0 a.0 b.1 a.2)
+one_source text one other (inr a) (inr b) =
     let pieces = same_value a.0 b.0 (one_reading text (Ok a.0) (Ok b.0) a.2 b.2) in
     let b_records : AreRecords a.0 b.1 = subst (λ pieces. AreRecords pieces b.1) (sym pieces) b.3 in
     let records = OneListOfRecords-holds.records a.0 a.1 b.1 a.3 b_records in

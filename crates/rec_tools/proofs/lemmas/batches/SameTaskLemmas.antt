@@ -1,6 +1,6 @@
 -- Edits that one record asks for are one task.
 use Rattle.std.proofs.Common.{◌≡◌, ◌∙◌, ℕ, Bool, true, false, not, List, [], ◌∷◌, Option, Some, None, map, codes, inl, inr, refl, sym, ap, ap₂, subst}
-use Rattle.std.specs.Prelude.{Result, Ok}
+use Rattle.std.specs.Prelude.{Result, Ok, Err}
 use Rattle.std.specs.List.{AllZip}
 use Rattle.rec_text.specs.declared.fault.Fault.{Fault}
 use Rattle.rec_text.specs.Elements.{Piece}
@@ -21,9 +21,9 @@ use Rattle.rec_tools.specs.declared.request.EditRequest.TheVariants.{Insert, Rep
 use Rattle.rec_edit.specs.Options.{action_for, new_record_for}
 use Rattle.rec_tools.specs.Asking.{selection_for}
 use Rattle.rec_tools.specs.Batches.{AsksFor, AsksTool, IsSelectionOf, IsPickOf, IsActionOf, IsFreshOf, word_if}
-use Rattle.rec_tools.specs.Requests.{IsTaskBy, IsTaskOf, AreTasks}
+use Rattle.rec_tools.specs.Requests.{IsTaskBy, IsTaskOf, AreTasks, HaveOneTask, Agree, HasOneAnswer}
 use Rattle.rec_text.proofs.lemmas.StepLemmas.{Then-first, Then-next}
-use Rattle.rec_tools.proofs.lemmas.batches.BatchLemmas.{one_option, one_tool}
+use Rattle.rec_tools.proofs.lemmas.batches.BatchLemmas.{one_option, one_tool, AskAlike, one_source}
 
 -- ---- equal parts
 
@@ -194,15 +194,31 @@ same_task own a b is_a is_b =
     let tool = one_tool own is_b.0 is_a.0 is_b.1 is_a.1 in
     same_asked is_a.0 own a b is_a.2 (subst (λ tool. AsksTool tool own b) tool is_b.2)
 
--- edits of the same records have the same tasks
-pub same_tasks : (edits others : List EditRequest)
-    → AllZip (λ one other. (own : List Piece) × AsksFor own one × AsksFor own other) edits others
+-- all answers of a text agree
+pub one_answer : (text : List ℕ) → HasOneAnswer text
+one_answer text one other is is_too = agree one other (one_source text one other is is_too) where
+  tasks : (edits others : List EditRequest) → AllZip (λ one other. (own : List Piece) × AsksFor own one × AsksFor own other) edits others
+      → AllZip HaveOneTask edits others
+  tasks [] [] all = tt
+  tasks [] (b ∷ others) all = absurd all
+  tasks (a ∷ edits) [] all = absurd all
+  tasks (a ∷ edits) (b ∷ others) ((own, is_a, is_b), all) =
+      ((λ answer. (same_task own b a is_b is_a answer, same_task own a b is_a is_b answer)), tasks edits others all)
+
+  agree : (one other : Result (List EditRequest) Fault) → AskAlike one other → Agree one other
+  agree (Ok edits) (Ok others) all = tasks edits others all
+  agree (Ok edits) (Err fault) all = all
+  agree (Err fault) (Ok others) all = all
+  agree (Err fault) (Err other) same = same
+
+-- edits of the same tasks have them one after another
+pub same_tasks : (edits others : List EditRequest) → AllZip HaveOneTask edits others
     → (answer : Result (List Task) Fault) → AreTasks others answer → AreTasks edits answer
 same_tasks [] [] all answer told = told
 same_tasks [] (other ∷ others) all answer told = absurd all
 same_tasks (one ∷ edits) [] all answer told = absurd all
 same_tasks (one ∷ edits) (other ∷ others) (alike, all) answer told =
     let more : List EditRequest → Task → Result (List Task) Fault → Type 0 = λ rest task. Then (AreTasks rest) (λ tasks given. given ≡ Ok (task ∷ tasks)) in
-    Then-first (IsTaskOf other) (IsTaskOf one) (more edits) (same_task alike.0 one other alike.1 alike.2) answer
+    Then-first (IsTaskOf other) (IsTaskOf one) (more edits) (λ given. (alike given).1) answer
     (Then-next (IsTaskOf other) (more others) (more edits)
     (λ task. Then-first (AreTasks others) (AreTasks edits) (λ tasks given. given ≡ Ok (task ∷ tasks)) (same_tasks edits others all)) answer told)

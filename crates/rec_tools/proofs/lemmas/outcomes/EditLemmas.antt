@@ -29,15 +29,14 @@ use Rattle.rec_tools.specs.declared.request.EditRequest.{EditRequest}
 use Rattle.rec_tools.specs.declared.request.EditRequest.TheVariants.{Insert, Replace, Delete, CommentOut, Set as SetFields, AutoFill}
 use Rattle.rec_tools.specs.Steps.{Then}
 use Rattle.rec_tools.specs.Asking.{IsFilter}
-use Rattle.rec_tools.specs.Batches.{AsksFor, AreEdits, Agree}
-use Rattle.rec_tools.specs.Requests.{Edits, IsTaskBy, IsTaskOf, AreTasks, IsOneEdit, IsBatch}
+use Rattle.rec_tools.specs.Batches.{AreEdits}
+use Rattle.rec_tools.specs.Requests.{Edits, IsTaskBy, IsTaskOf, AreTasks, HaveOneTask, Agree, IsOneEdit, IsBatch}
 use Rattle.rec_tools.specs.Making.{AreMade, HasNoTaskAt}
 use Rattle.rec_tools.specs.Outcomes.{Makes, IsMade}
 use Rattle.rec_text.proofs.lemmas.FaultLemmas.{memory_or_weaker, ok_is_no_err}
 use Rattle.rec_text.proofs.lemmas.StepLemmas.{HasOneBut, Then-first, Then-next, AgreeBut, AgreeBut-Then, AreLike, AgreeLike, AgreeLike-value, AgreeLike-Then, AgreeBut-like}
 use Rattle.rec_tools.proofs.lemmas.outcomes.AnswerLemmas.{AreAlike, AgreeLike-filter, same_selection}
-use Rattle.rec_tools.proofs.lemmas.batches.BatchLemmas.{one_answer}
-use Rattle.rec_tools.proofs.lemmas.batches.SameTaskLemmas.{same_tasks}
+use Rattle.rec_tools.proofs.lemmas.batches.SameTaskLemmas.{one_answer, same_tasks}
 use Rattle.rec_tools.proofs.lemmas.batches.TaskLemmas.{no_store_edits, tasks-refused}
 use Rattle.rec_tools.proofs.lemmas.printing.PutsLemmas.{no_store_then, no_store_text}
 use Rattle.rec_tools.proofs.lemmas.printing.ShowLemmas.{no_store_filter}
@@ -152,9 +151,9 @@ tasks_of_all (edit ∷ edits) =
     (λ tasks answer. answer ≡ Ok (a ∷ tasks)) (λ tasks answer. answer ≡ Ok (b ∷ tasks)) (tasks_of_all edits) (AllZip AreDoneAlike) (λ xs ys _ _ alike_too.
     AgreeLike-value (AllZip AreDoneAlike) (a ∷ xs) (b ∷ ys) (alike, alike_too)))
 
--- the same records ask for both
+-- they have the same tasks
 abbrev AreAskedAlike : List EditRequest → List EditRequest → Type 0
-AreAskedAlike = AllZip (λ one other. (own : List Piece) × AsksFor own one × AsksFor own other)
+AreAskedAlike = AllZip HaveOneTask
 
 tasks_alike : (edits others : List EditRequest) → AreAskedAlike edits others → AgreeLike (AllZip AreDoneAlike) (AreTasks edits) (AreTasks others)
 tasks_alike edits others alike one other is is_too =
@@ -245,7 +244,7 @@ agree_on_one edit force =
     (tasks_of_one edit) AreEditsAlike (λ a b _ _ alike.
     AgreeLike-value AreEditsAlike (told a) (told b) (record { tool = alike.tool; tasks = (alike, tt); force = refl }))
 
--- the edits that a text lists are asked for by the same records
+-- the edits that a text lists have the same tasks
 edits_alike : (text : List ℕ) → AgreeLike AreAskedAlike (AreEdits text) (AreEdits text)
 edits_alike text one other is is_too _ _ = like one other (one_answer text one other is is_too) where
   like : (one other : Result (List EditRequest) Fault) → Agree one other → AreLike AreAskedAlike one other

@@ -1,9 +1,10 @@
 -- A file that was changed outside, and what requests then come to.
-use Rattle.std.proofs.Common.{◌≡◌, ◌⊎◌, inl, inr, ℕ, Bool, true, false, List, [], Option, Result, Ok, Err, sym, ap, subst, refl, ◌∙◌}
+use Rattle.std.proofs.Common.{◌≡◌, ◌≢◌, inl, inr, ℕ, Bool, true, false, List, [], ◌∷◌, Option, Result, Ok, Err, sym, ap, subst, refl, ◌∙◌}
 use Rattle.std.specs.Prelude.{codes, if◌then◌else◌, map}
 use Rattle.std.proofs.lemmas.Bool.{false≢true}
 use Rattle.rec_text.specs.declared.fault.Fault.{Fault}
 use Rattle.rec_text.specs.declared.fault.Fault.TheVariants.{Drifted}
+use Rattle.rec_text.specs.declared.violations.Violation.{Violation}
 use Rattle.rec_journal.specs.declared.patch.Direction.{Direction}
 use Rattle.rec_journal.specs.declared.patch.Direction.TheVariants.{Forward, Backward}
 use Rattle.rec_journal.specs.declared.event.EditStep.{EditStep}
@@ -16,13 +17,15 @@ use Rattle.rec_journal.specs.Plans.{edit_to, after_edit_plan}
 use Rattle.rec_journal.proofs.lemmas.histories.Countings.{drifted-empty}
 use Rattle.rec_journal.proofs.lemmas.histories.Openings.{one_opening}
 use Rattle.rec_edit.specs.declared.answer.Edited.{Edited}
+use Rattle.rec_tools.specs.declared.request.Reply.{Reply}
 use Rattle.rec_tools.specs.declared.request.Reply.TheVariants.{Shown}
+use Rattle.rec_tools.specs.declared.request.Request.{Request, Show, Info, Check, Edit, Batch, Undo, Redo, Forget, Revert, History, Diff, Log, Preview'}
 use Rattle.rec_tools.specs.Home.{Contents, written}
-use Rattle.rec_tools.specs.Printouts.{history_text}
-use Rattle.rec_tools.specs.Requests.{Asked, looking, listing, showing, listing_changes, editing, moving, reverting, forgetting, previewing, asked_of}
-use Rattle.rec_tools.specs.Outcomes.{Outcome, IsRequestOutcome, IsPlanned, printing}
+use Rattle.rec_tools.specs.Printouts.{history_text, verdict, IsShownText, IsShow, IsInfoOf, IsShownEdit, IsWholeLog}
+use Rattle.rec_tools.specs.Requests.{Edits, IsOneEdit, IsBatch, Asked, looking, listing, showing, listing_changes, editing, moving, reverting, forgetting, previewing, asked_of}
+use Rattle.rec_tools.specs.Outcomes.{Outcome, IsRequestOutcome, IsPlanned, IsPrinting, printing}
 use Rattle.rec_tools.specs.Machine.{AreEntries, Stands}
-use Rattle.rec_tools.specs.Laws.{outside_state, OutsideIsNoticed}
+use Rattle.rec_tools.specs.Laws.{MadeAnEdit, IsPreview, outside_state, BeginsAnew, OutsideIsNoticed}
 use Rattle.rec_text.proofs.lemmas.FaultLemmas.{no_both, ok_is_no_err, same_value}
 use Rattle.rec_tools.proofs.lemmas.outcomes.OpeningLemmas.{edit_leads_back}
 use Rattle.rec_tools.proofs.lemmas.runs.RunLemmas.{writes_nothing}
@@ -56,14 +59,14 @@ module _ (c : Contents) (o : Opened) (opens : Opens c.file c.journal o) (drifted
       e ∙ ap (λ b. Ok (printing (if b then codes "drifted\n" else history_text (map (λ (x : Revision). (x.number, x.tool)) p.past) (map (λ (x : Revision). (x.number, x.tool)) p.future)) Shown)) is
 
   -- the history after an edit has that edit alone
-  begun : (tool : Tool) (made : Edited) (plan : Plan) → IsPlanned o c tool made plan → Stands (record { file = plan.file; journal = plan.journal }) (outside_state c o tool made.steps plan.file)
+  begun : (tool : Tool) (made : Edited) (plan : Plan) → IsPlanned o c tool made plan → Stands (record { file = plan.file; journal = plan.journal }) (outside_state c o tool made.steps made.text)
   begun tool made plan planned =
       let edit : Revision = edit_to o tool made.text made.steps in
       record {
         opened = after_edit_plan o c.journal tool made.steps made.text;
         opens = planned.safe.next;
         settled = refl;
-        present = refl;
+        present = sym planned.planned.1;
         past = (
           refl,
           refl,
@@ -84,23 +87,65 @@ module _ (c : Contents) (o : Opened) (opens : Opens c.file c.journal o) (drifted
   no_revert number force outcome (inr (text, is, inr (p, opened, inr (told, inr (found, standing, made), last)))) =
       not_settled p opened standing.0
 
-  begins_anew : (asked : Asked) (outcome : Outcome) → IsRequestOutcome c asked (Ok outcome)
-      → (outcome.writes ≡ []) ⊎ ((tool : Tool) × (steps : List EditStep) × Stands (written c outcome.writes) (outside_state c o tool steps (written c outcome.writes).file))
-  begins_anew (looking IsText) outcome is = inl (writes_nothing c (looking IsText) outcome tt is)
-  begins_anew listing outcome is = inl (writes_nothing c listing outcome tt is)
-  begins_anew (showing number name) outcome is = inl (writes_nothing c (showing number name) outcome tt is)
-  begins_anew (listing_changes name) outcome is = inl (writes_nothing c (listing_changes name) outcome tt is)
-  begins_anew (previewing name asked) outcome is = inl (writes_nothing c (previewing name asked) outcome tt is)
-  begins_anew (reverting number force) outcome is = absurd (no_revert number force outcome is)
-  begins_anew (editing IsEdit) outcome (inl refused) = let e = refused.2 in cc
-  begins_anew (editing IsEdit) outcome (inr (text, is, inl refused)) = let e = refused.2 in cc
-  begins_anew (editing IsEdit) outcome (inr (text, is, inr (p, opened, inl refused))) = let e = refused.2 in cc
-  begins_anew (editing IsEdit) outcome (inr (text, is, inr (p, opened, inr (made, done, inl (same, e))))) = inl (ap (λ (x : Outcome). x.writes) e)
-  begins_anew (editing IsEdit) outcome (inr (text, is, inr (p, opened, inr ((tool, made), done, inr (differs, (plan, planned, e)))))) =
+  begins_anew : (asked : Asked) (outcome : Outcome) → IsRequestOutcome c asked (Ok outcome) → outcome.writes ≢ [] → BeginsAnew c o asked outcome
+  begins_anew (looking IsText) outcome is some = absurd (some (writes_nothing c (looking IsText) outcome tt is))
+  begins_anew listing outcome is some = absurd (some (writes_nothing c listing outcome tt is))
+  begins_anew (showing number name) outcome is some = absurd (some (writes_nothing c (showing number name) outcome tt is))
+  begins_anew (listing_changes name) outcome is some = absurd (some (writes_nothing c (listing_changes name) outcome tt is))
+  begins_anew (previewing name asked) outcome is some = absurd (some (writes_nothing c (previewing name asked) outcome tt is))
+  begins_anew (reverting number force) outcome is some = absurd (no_revert number force outcome is)
+  begins_anew (editing IsEdit) outcome (inl refused) some = let e = refused.2 in cc
+  begins_anew (editing IsEdit) outcome (inr (text, is, inl refused)) some = let e = refused.2 in cc
+  begins_anew (editing IsEdit) outcome (inr (text, is, inr (p, opened, inl refused))) some = let e = refused.2 in cc
+  begins_anew (editing IsEdit) outcome (inr (text, is, inr (p, opened, inr (made, done, inl (same, e))))) some = absurd (some (ap (λ (x : Outcome). x.writes) e))
+  begins_anew (editing IsEdit) outcome (inr (text, is, inr (p, opened, inr ((tool, made), done, inr (differs, (plan, planned, e)))))) some =
       let here : IsPlanned o c tool made plan = subst (λ x. IsPlanned x c tool made plan) (same_opening p opened) planned in
-      inr (tool, made.steps, subst (λ ws. Stands (written c ws) (outside_state c o tool made.steps (written c ws).file)) (sym (ap (λ (x : Outcome). x.writes) e)) (begun tool made plan here))
-  begins_anew (moving direction through) outcome is = absurd (ok_is_no_err outcome Drifted ⊥ (sym (no_move direction through (Ok outcome) is)))
-  begins_anew (forgetting n) outcome is = absurd (ok_is_no_err outcome Drifted ⊥ (sym (nothing_forgotten n (Ok outcome) is)))
+      record {
+        tool = tool;
+        made = made;
+        makes = done;
+        stands = subst (λ (x : Outcome). Stands (written c x.writes) (outside_state c o tool made.steps made.text)) (sym e) (begun tool made plan here);
+      }
+  begins_anew (moving direction through) outcome is some = absurd (ok_is_no_err outcome Drifted ⊥ (sym (no_move direction through (Ok outcome) is)))
+  begins_anew (forgetting n) outcome is some = absurd (ok_is_no_err outcome Drifted ⊥ (sym (nothing_forgotten n (Ok outcome) is)))
+
+  -- what is shown, or reported, is no edit that was made
+  shown-no_edit : (reply : Reply) → reply ≡ Shown → MadeAnEdit reply → ⊥
+  shown-no_edit reply e made = subst MadeAnEdit e made
+
+  report-no_edit : (found : List Violation) (reply : Reply) → reply ≡ verdict found → MadeAnEdit reply → ⊥
+  report-no_edit [] reply e made = subst MadeAnEdit e made
+  report-no_edit (violation ∷ found) reply e made = subst MadeAnEdit e made
+
+  printed-no_edit : (IsText : Result (List ℕ) Fault → Type 0) (outcome : Outcome) → IsPrinting (IsShownText IsText) (Ok outcome) → MadeAnEdit outcome.reply → ⊥
+  printed-no_edit IsText outcome (p, is, e) made = shown-no_edit outcome.reply (ap (λ (x : Outcome). x.reply) e ∙ is.1) made
+
+  edited_unwritten : (IsEdit : Result Edits Fault → Type 0) (outcome : Outcome) → IsRequestOutcome c (editing IsEdit) (Ok outcome)
+      → outcome.writes ≡ [] → MadeAnEdit outcome.reply → ⊥
+  edited_unwritten IsEdit outcome (inl (fault, refused, e)) none made = no_both outcome fault e
+  edited_unwritten IsEdit outcome (inr (text, is, inl (fault, refused, e))) none made = no_both outcome fault e
+  edited_unwritten IsEdit outcome (inr (text, is, inr (p, opened, inl (fault, refused, e)))) none made = no_both outcome fault e
+  edited_unwritten IsEdit outcome (inr (text, is, inr (p, opened, inr (told, done, inl (same, e))))) none made = subst (λ (x : Outcome). MadeAnEdit x.reply) e made
+  edited_unwritten IsEdit outcome (inr (text, is, inr (p, opened, inr ((tool, edited), done, inr (differs, (plan, planned, e)))))) none made =
+      let both = sym none ∙ ap (λ (x : Outcome). x.writes) e in cc
+
+  unwritten : (request : Request) (outcome : Outcome) → IsRequestOutcome c (asked_of request) (Ok outcome) → outcome.writes ≡ [] → MadeAnEdit outcome.reply
+      → IsPreview (asked_of request)
+  unwritten (Show pick form collapse) outcome is none made = absurd (printed-no_edit (IsShow c.file pick form collapse) outcome is made)
+  unwritten (Info record_type form) outcome is none made = absurd (printed-no_edit (IsInfoOf c.file record_type form) outcome is made)
+  unwritten Check outcome (p, (found, are, text, reply), e) none made =
+      absurd (report-no_edit found outcome.reply (ap (λ (x : Outcome). x.reply) e ∙ reply) made)
+  unwritten (Edit edit force) outcome is none made = absurd (edited_unwritten (IsOneEdit edit force) outcome is none made)
+  unwritten (Batch text force) outcome is none made = absurd (edited_unwritten (IsBatch text force) outcome is none made)
+  unwritten (Undo through) outcome is none made = absurd (ok_is_no_err outcome Drifted ⊥ (sym (no_move Backward through (Ok outcome) is)))
+  unwritten (Redo through) outcome is none made = absurd (ok_is_no_err outcome Drifted ⊥ (sym (no_move Forward through (Ok outcome) is)))
+  unwritten (Revert number force) outcome is none made = absurd (no_revert number force outcome is)
+  unwritten (Forget n) outcome is none made = absurd (ok_is_no_err outcome Drifted ⊥ (sym (nothing_forgotten n (Ok outcome) is)))
+  unwritten History outcome is none made =
+      absurd (shown-no_edit outcome.reply (ap (λ (x : Outcome). x.reply) (same_value outcome _ (told_drifted (Ok outcome) is))) made)
+  unwritten (Diff number name) outcome is none made = absurd (printed-no_edit (IsShownEdit number name c.file c.journal) outcome is made)
+  unwritten (Log name) outcome is none made = absurd (printed-no_edit (IsWholeLog name c.file c.journal) outcome is made)
+  unwritten (Preview' shape request name) outcome is none made = tt
 
 pub outside_is_noticed : OutsideIsNoticed
 outside_is_noticed c o opens drifted =
@@ -111,4 +156,5 @@ outside_is_noticed c o opens drifted =
       forgetting = nothing_forgotten c o opens drifted;
       history = told_drifted c o opens drifted;
       edits = λ request outcome is. begins_anew c o opens drifted (asked_of request) outcome is;
+      unwritten = unwritten c o opens drifted;
     }

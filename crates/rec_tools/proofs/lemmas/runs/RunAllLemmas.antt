@@ -7,7 +7,7 @@ use Rattle.std.proofs.lemmas.List.{take_more, take_all}
 use Rattle.std.proofs.lemmas.List.Elements.{All-from_recursion}
 use Rattle.rec_journal.specs.History.{IsRegular}
 use Rattle.rec_tools.specs.declared.request.Request.{Request}
-use Rattle.rec_tools.specs.Home.{Contents, Call, left_by, left_by_all, TellsOf, HasFailed, Went}
+use Rattle.rec_tools.specs.Home.{Contents, Call, left_by, left_by_all, TellsOf, HasFailed, Went, WentOn}
 use Rattle.rec_tools.specs.Printouts.{Printed, WentOut, IsBoth, IsSilence}
 use Rattle.rec_tools.specs.Requests.{asked_of, IsSilent}
 use Rattle.rec_tools.specs.Attempts.{Answer, Attempts, AttemptsAll}
@@ -113,48 +113,46 @@ module _ {H S : Type 0} (goes : H → Call → H → Type 0) (told : S → Optio
   -- ---- the machine
 
   -- from contents that stand for a state, while the home tells them, the requests ran as the machine where none of their calls failed
-  abbrev pub RanAsMachine : Option Contents → Option Contents → H → H → S → S → List Request → List Answer → Type 0
-  RanAsMachine known known_new old new out out_new requests answers = IfSome known (λ c. (s : State) → Stands c s →
-      (calls : List Call) × (p : Printed) × WentOut told sink_failures out out_new p × AttemptsAll goes old new requests answers calls p
-      × (known_new ≡ Some (left_by_all c calls))
+  abbrev pub RanAsMachine : (H → Option Contents) → Option Contents → H → H → S → S → List Request → List Answer → Type 0
+  RanAsMachine contents known old new out out_new requests answers = IfSome known (λ c. (s : State) → Stands c s →
+      (calls : List Call) × (p : Printed) × WentOut told sink_failures out out_new p × WentOn goes contents c old calls new
       × ((HasFailed calls → ⊥) → (t : State) × RunsAsMachine c s requests answers calls p t))
 
-  ran_told : (known known_new : Option Contents) (old new : H) (out out_new : S) (requests : List Request) (answers : List Answer)
-      → (done : AttemptedAll goes told sink_failures old new out out_new requests answers) → Follows known done.0 known_new
-      → RanAsMachine known known_new old new out out_new requests answers
-  ran_told None known_new old new out out_new requests answers done follow = tt
-  ran_told (Some c) known_new old new out out_new requests answers (calls, p, went_out, done) follow = λ s stands.
-      (calls, p, went_out, done, follow.1, λ held. attempts_all-runs goes old new c s requests answers calls p stands held follow.0 done)
+  ran_told : (contents : H → Option Contents) (known : Option Contents) (old new : H) (out out_new : S) (requests : List Request) (answers : List Answer)
+      → (done : AttemptedAll goes told sink_failures old new out out_new requests answers) → Follows known done.0 (contents new)
+      → RanAsMachine contents known old new out out_new requests answers
+  ran_told contents None old new out out_new requests answers done follow = tt
+  ran_told contents (Some c) old new out out_new requests answers (calls, p, went_out, done) follow = λ s stands.
+      (calls, p, went_out, (AttemptsAll-went goes old new requests answers calls p done, follow.1), λ held. attempts_all-runs goes old new c s requests answers calls p stands held follow.0 done)
 
   -- the same whatever fails, from a regular journal, which stays so
-  abbrev pub RanWithFailures : Option Contents → Option Contents → H → H → S → S → List Request → List Answer → Type 0
-  RanWithFailures known known_new old new out out_new requests answers = IfSome known (λ c. (s : State) → Stands c s → IsRegular c.journal →
-      (calls : List Call) × (p : Printed) × (t : State) × WentOut told sink_failures out out_new p × AttemptsAll goes old new requests answers calls p
-      × (known_new ≡ Some (left_by_all c calls))
+  abbrev pub RanWithFailures : (H → Option Contents) → Option Contents → H → H → S → S → List Request → List Answer → Type 0
+  RanWithFailures contents known old new out out_new requests answers = IfSome known (λ c. (s : State) → Stands c s → IsRegular c.journal →
+      (calls : List Call) × (p : Printed) × (t : State) × WentOut told sink_failures out out_new p × WentOn goes contents c old calls new
       × RunsAsMachine c s requests answers calls p t × IsRegular (left_by_all c calls).journal)
 
-  failed_told : (known known_new : Option Contents) (old new : H) (out out_new : S) (requests : List Request) (answers : List Answer)
-      → (done : AttemptedAll goes told sink_failures old new out out_new requests answers) → Follows known done.0 known_new
-      → RanWithFailures known known_new old new out out_new requests answers
-  failed_told None known_new old new out out_new requests answers done follow = tt
-  failed_told (Some c) known_new old new out out_new requests answers (calls, p, went_out, done) follow = λ s stands regular.
+  failed_told : (contents : H → Option Contents) (known : Option Contents) (old new : H) (out out_new : S) (requests : List Request) (answers : List Answer)
+      → (done : AttemptedAll goes told sink_failures old new out out_new requests answers) → Follows known done.0 (contents new)
+      → RanWithFailures contents known old new out out_new requests answers
+  failed_told contents None old new out out_new requests answers done follow = tt
+  failed_told contents (Some c) old new out out_new requests answers (calls, p, went_out, done) follow = λ s stands regular.
       let ran = attempts_all-fails goes old new c s requests answers calls p stands regular follow.0 done in
-      (calls, p, ran.0, went_out, done, follow.1, ran.1, ran.2)
+      (calls, p, ran.0, went_out, (AttemptsAll-went goes old new requests answers calls p done, follow.1), ran.1, ran.2)
 
   module _ (contents : H → Option Contents)
       (follows : (old new : H) (call : Call) → goes old call new → IfSome (contents old) (λ c. TellsOf c call × (contents new ≡ Some (left_by c call)))) where
     pub attempted_all-fails : (old new : H) (out out_new : S) (requests : List Request) (answers : List Answer)
-        → AttemptedAll goes told sink_failures old new out out_new requests answers → RanWithFailures (contents old) (contents new) old new out out_new requests answers
+        → AttemptedAll goes told sink_failures old new out out_new requests answers → RanWithFailures contents (contents old) old new out out_new requests answers
     attempted_all-fails old new out out_new requests answers done =
-        failed_told (contents old) (contents new) old new out out_new requests answers done
+        failed_told contents (contents old) old new out out_new requests answers done
         (contents_follow goes contents follows old new done.0 (AttemptsAll-went goes old new requests answers done.0 done.1 done.3))
 
   pub attempted_all-runs : (contents : H → Option Contents)
       → ((old new : H) (call : Call) → goes old call new → IfSome (contents old) (λ c. TellsOf c call × (contents new ≡ Some (left_by c call))))
       → (old new : H) (out out_new : S) (requests : List Request) (answers : List Answer)
-      → AttemptedAll goes told sink_failures old new out out_new requests answers → RanAsMachine (contents old) (contents new) old new out out_new requests answers
+      → AttemptedAll goes told sink_failures old new out out_new requests answers → RanAsMachine contents (contents old) old new out out_new requests answers
   attempted_all-runs contents follows old new out out_new requests answers done =
-      ran_told (contents old) (contents new) old new out out_new requests answers done
+      ran_told contents (contents old) old new out out_new requests answers done
       (contents_follow goes contents follows old new done.0 (AttemptsAll-went goes old new requests answers done.0 done.1 done.3))
 
 -- ---- a request prints nothing

@@ -11,7 +11,7 @@ use Rattle.rec_journal.specs.declared.patch.Direction.TheVariants.{Forward, Back
 use Rattle.rec_journal.specs.History.{IsRegular}
 use Rattle.rec_tools.specs.declared.request.Request.{Request}
 use Rattle.rec_tools.specs.declared.through.Through.{Through}
-use Rattle.rec_tools.specs.Home.{Contents, Call, left_by, left_by_all, TellsOf, HasFailed}
+use Rattle.rec_tools.specs.Home.{Contents, Call, left_by, left_by_all, TellsOf, HasFailed, WentOn}
 use Rattle.rec_tools.specs.Printouts.{Printed, WentOut}
 use Rattle.rec_tools.specs.Requests.{asked_of, IsSilent}
 use Rattle.rec_tools.specs.Attempts.{Answer, AttemptsAll}
@@ -166,42 +166,42 @@ module _ {H S : Type 0} (goes : H → Call → H → Type 0) (told : S → Optio
 
   module _ (direction : Direction) (number : ℕ) (old new : H) (out now : S) (ended : Through) where
     -- from contents that stand for a state the moves ran as the machine, where no call failed
-    abbrev pub RanThrough : Option Contents → Option Contents → Type 0
-    RanThrough known known_new = IfSome known (λ c. (s : State) → Stands c s → (answers : List Answer) × EndsThrough direction number answers ended
+    abbrev pub RanThrough : (H → Option Contents) → Option Contents → Type 0
+    RanThrough contents known = IfSome known (λ c. (s : State) → Stands c s → (answers : List Answer) × EndsThrough direction number answers ended
         × (calls : List Call) × (p : Printed) × WentOut told sink_failures out now p
-        × AttemptsAll goes old new (moves_through direction number answers) answers calls p × (known_new ≡ Some (left_by_all c calls))
+        × WentOn goes contents c old calls new
         × ((HasFailed calls → ⊥) → (t : State) × RunsAsMachine c s (moves_through direction number answers) answers calls p t))
 
     -- the same whatever fails, from a regular journal, which stays so
-    abbrev pub FailedThrough : Option Contents → Option Contents → Type 0
-    FailedThrough known known_new =
+    abbrev pub FailedThrough : (H → Option Contents) → Option Contents → Type 0
+    FailedThrough contents known =
         IfSome known (λ c. (s : State) → Stands c s → IsRegular c.journal → (answers : List Answer) × EndsThrough direction number answers ended
         × (calls : List Call) × (p : Printed) × (t : State) × WentOut told sink_failures out now p
-        × AttemptsAll goes old new (moves_through direction number answers) answers calls p × (known_new ≡ Some (left_by_all c calls))
+        × WentOn goes contents c old calls new
         × RunsAsMachine c s (moves_through direction number answers) answers calls p t × IsRegular (left_by_all c calls).journal)
 
     module _ (answers : List Answer) (ends : EndsThrough direction number answers ended) where
-      ran_through : (known known_new : Option Contents)
-          → RanAsMachine goes told sink_failures known known_new old new out now (moves_through direction number answers) answers → RanThrough known known_new
-      ran_through None known_new ran = tt
-      ran_through (Some c) known_new ran = λ s stands. let r = ran s stands in (answers, ends, r.0, r.1, r.2, r.3, r.4, r.5)
+      ran_through : (contents : H → Option Contents) (known : Option Contents)
+          → RanAsMachine goes told sink_failures contents known old new out now (moves_through direction number answers) answers → RanThrough contents known
+      ran_through contents None ran = tt
+      ran_through contents (Some c) ran = λ s stands. let r = ran s stands in (answers, ends, r.0, r.1, r.2, r.3, r.4)
 
-      failed_through : (known known_new : Option Contents)
-          → RanWithFailures goes told sink_failures known known_new old new out now (moves_through direction number answers) answers → FailedThrough known known_new
-      failed_through None known_new ran = tt
-      failed_through (Some c) known_new ran = λ s stands regular.
-          let r = ran s stands regular in (answers, ends, r.0, r.1, r.2, r.3, r.4, r.5, r.6, r.7)
+      failed_through : (contents : H → Option Contents) (known : Option Contents)
+          → RanWithFailures goes told sink_failures contents known old new out now (moves_through direction number answers) answers → FailedThrough contents known
+      failed_through contents None ran = tt
+      failed_through contents (Some c) ran = λ s stands regular.
+          let r = ran s stands regular in (answers, ends, r.0, r.1, r.2, r.3, r.4, r.5, r.6)
 
     module _ (contents : H → Option Contents)
         (follows : (one other : H) (call : Call) → goes one call other → IfSome (contents one) (λ c. TellsOf c call × (contents other ≡ Some (left_by c call)))) where
-      pub ended-runs : GoesThrough goes told sink_failures direction number old new out now ended → RanThrough (contents old) (contents new)
+      pub ended-runs : GoesThrough goes told sink_failures direction number old new out now ended → RanThrough contents (contents old)
       ended-runs (answers, ends, calls, p, went_out, done) =
-          ran_through answers ends (contents old) (contents new)
+          ran_through answers ends contents (contents old)
           (attempted_all-runs goes told sink_failures contents follows old new out now (moves_through direction number answers) answers (calls, p, went_out, done))
 
-      pub ended-fails : GoesThrough goes told sink_failures direction number old new out now ended → FailedThrough (contents old) (contents new)
+      pub ended-fails : GoesThrough goes told sink_failures direction number old new out now ended → FailedThrough contents (contents old)
       ended-fails (answers, ends, calls, p, went_out, done) =
-          failed_through answers ends (contents old) (contents new)
+          failed_through answers ends contents (contents old)
           (attempted_all-fails goes told sink_failures contents follows old new out now (moves_through direction number answers) answers (calls, p, went_out, done))
 
 -- ---- the moves end

@@ -1,7 +1,8 @@
 -- What a file and its journal hold on a disk, and what a stop of the program or a crash of the machine leaves of them.
 use Rattle.std.specs.Prelude.{◌≡◌, ◌≢◌, ◌⊎◌, ◌≤◌, ℕ, Bool, true, false, List, [], ◌∷◌, length, take, Option, Some, None}
 use Rattle.std.specs.Prelude.{IfSome}
-use Rattle.std.specs.Prelude.{IsSome, IsSomeAnd}
+use Rattle.std.specs.Prelude.{IsSome, IsSomeAnd, Err}
+use Rattle.rec_text.specs.declared.fault.Fault.TheVariants.{StoreFailed}
 use Rattle.rec_disk.specs.Disk.{State, Story, Told, AtAnyMoment}
 use Rattle.rec_disk.specs.Lasting.{Left, Leaves, LeavesAt, Spares, shown}
 use Rattle.rec_tools.specs.Home.{Contents, Write, Call, got, lacked, unread, put_all, put_some, written, left_by}
@@ -9,6 +10,7 @@ use Rattle.rec_tools.specs.Home.{TellsOf, CountsFailure, content_of}
 use Rattle.rec_tools.specs.declared.home.Which.{Which}
 use Rattle.rec_journal.specs.History.{IsRegular}
 use Rattle.rec_tools.specs.Requests.{Asked}
+use Rattle.rec_tools.specs.Attempts.{Answer}
 use Rattle.rec_tools.specs.Machine.{State as Machine, IsOldOrNext, Stands}
 use Rattle.rec_files.specs.Paths.{working_name}
 use Rattle.rec_files.specs.Leftovers.{BeginsAsJournal, IsLeftJournal, IsLeftText, IsStopBetween}
@@ -208,3 +210,18 @@ RecoversRequest place p old new = (c : Contents) → Told old (IsRead p c) → I
     ⊎ ((file journal : List ℕ) × Told old (λ s. (place file ≡ p.file) × (place journal ≡ p.journal))
     × (Told old (AreLeft (sites_of place file journal))
     → AtAnyMoment old new (λ s u. AreLeft (sites_of place file journal) u)))
+
+-- all that is said of a request on a disk, by its answer
+pub record IsRequestAt (place folder : List ℕ → List ℕ) (syncs : List ℕ → Bool) (p : Places) (asked : Asked)
+    (answer : Answer) (old new : Option Story) : Type 0 where
+  pub any_moment : SecureRequest folder syncs p asked old new
+  pub lasting : (answer ≡ Err StoreFailed) ⊎ LastingRequest folder syncs p old new
+  pub touches : TouchesOwn place p old new
+  pub recovers : RecoversRequest place p old new
+
+-- the same is asked for again and again, and so it is with each of these answers
+abbrev pub AreRequestsAt : (List ℕ → List ℕ) → (List ℕ → List ℕ) → (List ℕ → Bool) → Places → Asked → List Answer
+    → Option Story → Option Story → Type 0
+AreRequestsAt place folder syncs p asked [] old new = new ≡ old
+AreRequestsAt place folder syncs p asked (answer ∷ answers) old new = (mid : Option Story)
+    × IsRequestAt place folder syncs p asked answer old mid × AreRequestsAt place folder syncs p asked answers mid new

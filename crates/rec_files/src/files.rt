@@ -52,6 +52,7 @@ impl<'r, R: Input + AllocGlobal, D: Disk + Drop> DiskHome<'r, R, D> {
         journal: Option<String>,
         access: Access,
     ) -> DiskHome<'r, R, D>
+        ensures disk { result.disk ≡ disk }
         ensures file { result.file ≡ file }
         ensures journal { string_bytes result.journal ≡ unwrap_or (option_map string_bytes journal) [] }
         ensures access { result.access ≡ access }
@@ -115,6 +116,8 @@ impl<'r, R: Input + AllocGlobal, D: Disk + Drop> DiskHome<'r, R, D> {
 
     /// Closes both files. Where standard error was closed, one of them may have got its number, so nothing is said before.
     pub fn close(&mut self)
+        ensures same { self.new.disk ≡ self.old.disk }
+        ensures paths { (self.new.file ≡ self.old.file) × (self.new.journal ≡ self.old.journal) }
         ensures kept { self.new.failed ≡ self.old.failed }
         ensures noted { self.new.failure ≡ self.old.failure }
     {

@@ -25,4 +25,4 @@ pub use batch::batch_text;
 pub use files::DiskHome;
 pub use output::{StandardOutput, explain_output, room_for};
 pub use paths::{are_apart, journal_path};
-pub use running::run;
+pub use running::{run, run_through};

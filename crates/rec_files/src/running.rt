@@ -4,13 +4,15 @@ ghost use Rattle.rec_tools.specs.Home.{Call};
 ghost use Rattle.rec_tools.specs.Steps.{IsRefusal};
 ghost use Rattle.rec_tools.specs.Printouts.{Printed, WentOut};
 ghost use Rattle.rec_tools.specs.Requests.{asked_of, IsSilent};
-ghost use Rattle.rec_tools.specs.Attempts.{Attempts};
+ghost use Rattle.rec_tools.specs.Attempts.{Answer, Attempts, AttemptsAll};
+ghost use Rattle.rec_tools.specs.Through.{move_through, moves_through, EndsThrough};
 ghost use Rattle.rec_files.specs.Succeeding.{HomeGoes};
 ghost use Rattle.rec_files.specs.OnDisk.{places_by, SecureRequest, LastingRequest, TouchesOwn, RecoversRequest};
+ghost use Rattle.rec_files.specs.OnDisk.{AreRequestsAt};
 
 use crate::files::DiskHome;
 use rec_disk::Disk;
-use rec_tools::{Fault, Reply, Request, Sink, stops_are_steps};
+use rec_tools::{Direction, Fault, Reply, Request, Sink, Through, stops_are_steps};
 use std::alloc::Global;
 
 /// Runs one request on a home on a disk: what `run` of `rec_tools` does.
@@ -50,4 +52,31 @@ pub fn run<'r, R: Input + AllocGlobal, D: Disk + Drop, S: Sink>(
 {
     stops_are_steps();
     rec_tools::run(alloc, home, out, request)
+}
+
+/// Takes back, or makes again, the nearest edits that way as far as the edit of a number: what `run_through` of `rec_tools`
+/// does.
+pub fn run_through<'r, R: Input + AllocGlobal, D: Disk + Drop, S: Sink>(
+    alloc: Global,
+    home: &mut DiskHome<'r, R, D>,
+    out: &mut S,
+    direction: Direction,
+    number: usize,
+) -> Through
+    // One answer for each move, by calls of its own.
+    ensures attempts { (answers : List Answer) × EndsThrough direction number answers result
+        × (calls : List Call) × (p : Printed) × WentOut S.contents S.failure_count out.old out.new p
+        × AttemptsAll (HomeGoes D.place D.leads D.folder D.syncs D.regular D.number D.tells D.story D.works)
+        home.old home.new (moves_through direction number answers) answers calls p }
+
+    // Of each move all that is said of a request on a disk.
+    ensures on_disk { IfSome (places_by D.leads (option_map string_bytes home.old.file) (string_bytes home.old.journal))
+        (λ p. (answers : List Answer) × EndsThrough direction number answers result
+        × AreRequestsAt D.place D.folder D.syncs p (asked_of (move_through direction number)) answers
+        (D.story home.old.disk) (D.story home.new.disk)) }
+
+    ensures silent { out.new ≡ out.old }
+{
+    stops_are_steps();
+    rec_tools::run_through(alloc, home, out, direction, number)
 }

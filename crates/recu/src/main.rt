@@ -8,7 +8,7 @@ use rec_disk::HostDisk;
 use rec_files::{
     Access, DiskHome, StandardOutput, access_of, batch_text, explain_output, room_for,
 };
-use rec_tools::{Direction, Fault, Output, Reply, Request, run_through};
+use rec_tools::{Direction, Fault, Output, Reply, Request};
 use saying::{say_how_far, say_more, say_waiting};
 use std::io;
 use std::process::ExitCode;
@@ -95,7 +95,7 @@ fn move_through(
         writer: rt.stdout(),
         failed: 0,
     };
-    let through = run_through(rt.alloc(), home, &mut out, direction, number);
+    let through = rec_files::run_through(rt.alloc(), home, &mut out, direction, number);
     home.close();
     say_how_far(rt, home, direction, number, &through);
     let _ = home.explain(rt);
@@ -134,7 +134,7 @@ fn request_of(rt: &HostRuntime, order: Order) -> Result<(Request, Option<String>
             force,
             preview,
         } => {
-            let text = batch_text(rt, path.as_str())?;
+            let text = batch_text(rt, &mut HostDisk::new(*rt), path.as_str())?;
             let request = batch_request(rt.alloc(), text, force, preview)?;
             Ok((request, Some(path)))
         }

@@ -1,5 +1,5 @@
 -- A request on a disk: its calls, and what is left at any moment of them.
-use Rattle.std.proofs.Common.{◌≡◌, ◌⊎◌, inl, inr, ℕ, ◌≤◌, Bool, false, List, [], ◌∷◌, ◌++◌, length, take, Option, Some, None, Ok, Err, refl, sym, ◌∙◌, ap, subst, IfSome, IsSomeAnd, arith, zero, suc, length-append, append-nil}
+use Rattle.std.proofs.Common.{◌≡◌, ◌⊎◌, inl, inr, ℕ, ◌≤◌, Bool, false, List, [], ◌∷◌, ◌++◌, length, take, Option, Some, None, Ok, Err, refl, sym, ◌∙◌, ap, subst, IfSome, IsSomeAnd, arith, zero, suc, length-append, append-nil, replicate}
 use Rattle.rec_disk.specs.Disk.{State, Story, Told, AtAnyMoment}
 use Rattle.rec_disk.specs.Lasting.{Left, shown}
 use Rattle.rec_disk.proofs.lemmas.Moments.{told_so, told_both}
@@ -12,10 +12,13 @@ use Rattle.rec_tools.specs.Home.{Contents, Write, Call, got, lacked, unread, put
 use Rattle.rec_tools.specs.Printouts.{Printed}
 use Rattle.rec_tools.specs.Requests.{Asked, asked_of, reads_of}
 use Rattle.rec_tools.specs.Outcomes.{Outcome, IsRequestOutcome}
-use Rattle.rec_tools.specs.Attempts.{Answer, gots, puts, StopsReading, StopsWriting, Does, Attempts}
+use Rattle.rec_tools.specs.Attempts.{Answer, gots, puts, StopsReading, StopsWriting, Does, Attempts, AttemptsAll}
+use Rattle.rec_tools.specs.declared.through.Through.{Through}
+use Rattle.rec_tools.specs.Through.{move_through, moves_through, EndsThrough}
+use Rattle.rec_journal.specs.declared.patch.Direction.{Direction}
 use Rattle.rec_tools.specs.Machine.{State as Machine, IsOldOrNext, Stands}
 use Rattle.rec_tools.specs.Guarantee.{StopsAreSteps}
-use Rattle.rec_files.specs.OnDisk.{Places, Shows, Holds, IsRead, IsSecure, CanSync, TouchesOwn, IsCallAt, IsHomeCall, IsWhole, writes_of, contents_on, StandsThen, SecureRequest, LastingRequest, Sites, sites_of, AreLeft, IsNext, Recovers, RecoversBy, RecoversAt, RecoversRequest, or_empty}
+use Rattle.rec_files.specs.OnDisk.{Places, Shows, Holds, IsRead, IsSecure, CanSync, TouchesOwn, IsCallAt, IsHomeCall, IsWhole, writes_of, contents_on, StandsThen, SecureRequest, LastingRequest, Sites, sites_of, AreLeft, IsNext, Recovers, RecoversBy, RecoversAt, RecoversRequest, IsRequestAt, AreRequestsAt, or_empty}
 use Rattle.rec_files.specs.Leftovers.{IsStopBetween}
 use Rattle.rec_files.proofs.lemmas.Outcomes.{Puts, puts_left}
 use Rattle.rec_files.proofs.lemmas.Holding.{read_there}
@@ -366,3 +369,40 @@ module _ {H : Type 0} (place folder : List ℕ → List ℕ) (syncs : List ℕ �
 
   pub request_recovers : IfSome (at o) (λ p. RecoversRequest place p (story o) (story n))
   request_recovers = recovers_at (at o) refl
+
+  -- all of it
+  pub request_at : (p : Places) → at o ≡ Some p → IsRequestAt place folder syncs p (asked_of request) answer (story o) (story n)
+  request_at p e = record {
+    any_moment = secure_at (Some p) e;
+    lasting = lasts_at (Some p) e;
+    touches = touches_at (Some p) e;
+    recovers = recovers_at (Some p) e;
+  }
+
+-- ---- one request after another
+
+module _ {H : Type 0} (place folder : List ℕ → List ℕ) (syncs : List ℕ → Bool) (at : H → Option Places) (story : H → Option Story) (fails : H → ℕ) (more : H → Call → H → Type 0) where
+  -- the paths stay
+  went_same : (calls : List Call) (o n : H) → Went (Goes place folder syncs at story fails more) o calls n → at n ≡ at o
+  went_same [] o n went = ap at went
+  went_same (call ∷ calls) o n (mid, goes, went) = went_same calls mid n went ∙ goes.0.same
+
+  module _ (laws : StopsAreSteps) (request : Request) (p : Places) where
+    all_at : (answers : List Answer) (o n : H) (calls : List Call) (printed : Printed) → at o ≡ Some p
+        → AttemptsAll (Goes place folder syncs at story fails more) o n (replicate (length answers) request) answers calls printed
+        → AreRequestsAt place folder syncs p (asked_of request) answers (story o) (story n)
+    all_at [] o n calls printed e done = ap story done.0
+    all_at (answer ∷ answers) o n calls printed e (mid, now, later, first, rest, are, parts, tried, tried_later) = (
+      story mid,
+      request_at place folder syncs at story fails more laws request answer now first o mid tried p e,
+      all_at answers mid n later rest (went_same now o mid tried.0 ∙ e) tried_later,
+    )
+
+  pub moves_at : (laws : StopsAreSteps) (direction : Direction) (number : ℕ) (told : Through) (o n : H) (x : Option Places) → at o ≡ x
+      → (answers : List Answer) → EndsThrough direction number answers told → (calls : List Call) (printed : Printed)
+      → AttemptsAll (Goes place folder syncs at story fails more) o n (moves_through direction number answers) answers calls printed
+      → IfSome x (λ p. (answers : List Answer) × EndsThrough direction number answers told
+      × AreRequestsAt place folder syncs p (asked_of (move_through direction number)) answers (story o) (story n))
+  moves_at laws direction number told o n None e answers ends calls printed done = tt
+  moves_at laws direction number told o n (Some p) e answers ends calls printed done =
+      (answers, ends, all_at laws (move_through direction number) p answers o n calls printed e done)

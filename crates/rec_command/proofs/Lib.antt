@@ -1,2 +1,4 @@
+pub mod OrderLemmas
+pub mod RefusalLemmas
 pub mod UsageLemmas
 pub mod WordsLemmas

@@ -1,14 +1,14 @@
 -- What a command line asks for, and the paths that it names.
-use Rattle.std.specs.Prelude.{◌≡◌, ◌≢◌, ◌⊎◌, ℕ, ◌^◌, ◌<◌, Bool, true, false, not, List, [], codes, string_bytes}
+use Rattle.std.specs.Prelude.{◌≡◌, ◌≢◌, ◌⊎◌, ℕ, ◌^◌, ◌<◌, ◌==◌, Bool, true, false, not, List, [], codes, string_bytes}
 use Rattle.std.specs.Prelude.{Option, Some, None, option_map}
+use Rattle.std.specs.List.{list_any}
 use Rattle.std.specs.Option.{option_map_or, unwrap_or}
 use Rattle.std.specs.Str.{bytes_eq}
 use Rattle.std.specs.Str.Parse.{IsNumeral, digits_value}
-use Rattle.clap.specs.Words.{Row, Text, all_of, first_of, one_of, subcommand_of}
+use Rattle.clap.specs.Words.{Row, Text, all_of, fault_of, first_of, one_of, subcommand_of}
+use Rattle.rec_text.specs.Ascii.{equals_sign}
 use Rattle.rec_select.specs.declared.info.InfoForm.{InfoForm}
 use Rattle.rec_select.specs.declared.info.InfoForm.TheVariants.{Counts, Names, Descriptors}
-use Rattle.rec_edit.specs.declared.request.NewRecord.{NewRecord}
-use Rattle.rec_edit.specs.declared.request.Action.{Action}
 use Rattle.rec_edit.specs.Options.{action_for, new_record_for}
 use Rattle.rec_tools.specs.declared.request.Ask.{Ask}
 use Rattle.rec_tools.specs.declared.request.Ask.TheVariants.{All}
@@ -51,10 +51,18 @@ selection_given options = (
   first_of (codes "where") options,
 )
 
+-- the word of `--where`, where it is given, has an equals sign
+abbrev pub where_has_equals_sign : List Row → Bool
+where_has_equals_sign options =
+    option_map_or (λ word. list_any (λ byte. byte == equals_sign) word) (first_of (codes "where") options) true
+
+-- what selects the records: one of the four options, or none
+abbrev pub IsSelection : List Row → Ask → Type 0
+IsSelection options by = (selection_for by ≡ selection_given options) × (where_has_equals_sign options ≡ true)
+
 -- the records that the options of a tool select
 abbrev pub IsPick : List Row → Pick → Type 0
-IsPick options pick =
-    (pick.kind ≡ first_of (codes "type") options) × (selection_for pick.by ≡ selection_given options)
+IsPick options pick = (pick.kind ≡ first_of (codes "type") options) × IsSelection options pick.by
 
 -- the texts of `--print`, `--print-values` and `--print-row`, and whether `--count` is given
 abbrev pub form_given : List Row → Option Text × Option Text × Option Text × Bool
@@ -237,8 +245,9 @@ pub record IsAskedBy (tool : Tool) (options : List Row) (line : CommandLine) : T
   pub journal : IsJournal line.order (file_given options) (first_of (codes "journal") options)
       (option_map string_bytes line.journal)
 
--- what the words ask for: what the tool that they name does, with its options
+-- what the words ask for: what the tool that they name does, with its options, where clap has no fault at the words
 pub record IsAsked (words : List Text) (line : CommandLine) : Type 0 where
+  pub taken : fault_of usage words ≡ []
   pub tool : Tool
   pub options : List Row
   pub named : subcommand_of usage words ≡ Some (name_of tool, options)

@@ -1,7 +1,10 @@
 //! Reads the command line. No files but this one and those of its folder know clap.
-ghost use Rattle.std.specs.Prelude.{◌≡◌, map, IfOk};
+ghost use Rattle.std.specs.Prelude.{◌≡◌, map, drop, IfOk, IsErrOf};
+ghost use Rattle.std.specs.Vec.Iter.{into_iter_items};
 ghost use Rattle.clap.specs.Words.{found_of, rows_of};
 ghost use Rattle.rec_text.specs.Faults.{IsOkUnlessEither};
+ghost use Rattle.rec_command.specs.declared.args.CommandLine.{CommandLine as Line};
+ghost use Rattle.rec_command.specs.Refusals.{IsOrRefuses, IsParsed};
 ghost use Rattle.rec_command.specs.Words.{IsAsked, IsAskedBy, Orders};
 
 mod editing;
@@ -31,7 +34,7 @@ pub use refusal::Refusal;
 use reverting::revert_order;
 use selecting::{recinf_order, recsel_order};
 use showing::{history_order, show_order};
-use std::alloc::Global;
+use std::alloc::{AllocError, Global};
 use std::convert::AsStr;
 use std::rt::Env;
 use std::{env, io};
@@ -58,12 +61,13 @@ pub enum Order {
     },
 }
 
-/// The words after the program's name.
+/// The words after the program's name. No clause says that they are those which the system gave, since none says what it
+/// gives.
 pub fn words<R: Env + Eprint + AllocGlobal>(rt: &R) -> Result<Vec<String>, Fault>
     ensures refusals { IsOkUnlessEither result Fault.OutOfMemory Fault.BadUsage }
 {
     match env::args(rt) {
-        Ok(words) => Ok(words.skip(1).collect(rt.alloc())?),
+        Ok(words) => Ok(after_first(rt.alloc(), words)?),
         Err(error) if error.kind() == io::ErrorKind::OutOfMemory => Err(Fault::OutOfMemory),
         Err(_) => {
             let _ = eprintln!(rt; "the words of the command line are not UTF-8");
@@ -72,9 +76,16 @@ pub fn words<R: Env + Eprint + AllocGlobal>(rt: &R) -> Result<Vec<String>, Fault
     }
 }
 
+/// All words but the first, as they are and in their order.
+fn after_first(alloc: Global, words: env::Args) -> Result<Vec<String>, AllocError>
+    ensures { IfOk result (λ rest. rest.items ≡ drop 1 (into_iter_items words)) }
+{
+    words.skip(1).collect(alloc)
+}
+
 /// Reads the words after the program's name. Words that ask for help are no command line either.
 pub fn parse<S: AsStr>(alloc: Global, words: &[S]) -> Result<CommandLine, Refusal>
-    ensures asked { IfOk result (IsAsked (map S.text words.now)) }
+    ensures parsed { IsParsed (map S.text words.now) result }
 {
     let matches = command(alloc)?.try_get_matches_from(words)?;
     let Some((name, options)) = matches.subcommand() else {
@@ -88,7 +99,7 @@ pub fn parse<S: AsStr>(alloc: Global, words: &[S]) -> Result<CommandLine, Refusa
 
 /// What a tool and its options ask for.
 fn asked_by(alloc: Global, tool: Tool, options: &ArgMatches) -> Result<CommandLine, Refusal>
-    ensures { IfOk result (IsAskedBy tool (rows_of (found_of options.now))) }
+    ensures { IsOrRefuses (IsAskedBy tool (rows_of (found_of options.now))) result }
 {
     let order = or_preview(alloc, order_of(alloc, tool, options)?, options)?;
     let Paths { file, journal } = paths_of(alloc, &order, options)?;
@@ -103,6 +114,7 @@ fn asked_by(alloc: Global, tool: Tool, options: &ArgMatches) -> Result<CommandLi
 pub fn request_of<S: AsStr>(alloc: Global, words: &[S]) -> Result<CommandLine, Fault>
     ensures refusals { IsOkUnlessEither result Fault.OutOfMemory Fault.BadUsage }
     ensures asked { IfOk result (IsAsked (map S.text words.now)) }
+    ensures refused { IsErrOf result Fault.BadUsage → (line : Line) → ¬ IsAsked (map S.text words.now) line }
 {
     match parse(alloc, words) {
         Ok(line) => Ok(line),
@@ -112,7 +124,7 @@ pub fn request_of<S: AsStr>(alloc: Global, words: &[S]) -> Result<CommandLine, F
 
 /// What a tool is asked for, by the options that were found, but for a dry run.
 fn order_of(alloc: Global, tool: Tool, options: &ArgMatches) -> Result<Order, Refusal>
-    ensures { IfOk result (Orders tool (rows_of (found_of options.now))) }
+    ensures { IsOrRefuses (Orders tool (rows_of (found_of options.now))) result }
 {
     match tool {
         Tool::RecSel => recsel_order(alloc, options),

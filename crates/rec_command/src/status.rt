@@ -1,43 +1,61 @@
 //! What a command ends with: the line of a fault, and the exit status.
-ghost use Rattle.std.specs.Prelude.{◌≡◌, OnOk};
-ghost use Rattle.std.specs.Io.KnownBytes.{Appends};
-ghost use Rattle.rec_command.specs.Status.{status_of};
+ghost use Rattle.std.specs.Prelude.{◌≡◌, [], OnOk, IsOkUnless, decimal};
+ghost use Rattle.std.specs.Option.{option_map_or};
+ghost use Rattle.rec_select.specs.Taken.{Prints};
+ghost use Rattle.rec_command.specs.Status.{Says, fault_line, line_of, status_of};
 
-use rec_text::put_all;
+use itoa::Buffer;
+use rec_select::put_parts;
+use rec_text::Message;
 use rec_tools::{Fault, Reply, Sink};
-use std::fmt;
-use std::fmt::Write;
 
-/// Prints `recu: `, the text of a fault and a newline, cut where the sink fails. The result is the exit status; help, which
-/// is no reply, ends well.
+/// Prints the line of a fault, cut where the sink fails. The result is the exit status; help, which is no reply, ends
+/// well.
 pub fn finish<W: Sink>(answer: &Result<Option<Reply>, Fault>, err: &mut W) -> u8
     ensures status { result ≡ status_of answer.now }
+    ensures line { Says W.contents W.failure_count err.old err.new (line_of answer.now) }
     ensures silent { OnOk answer.now (err.new ≡ err.old) }
 {
     match answer {
         Ok(Some(Reply::Violated(_))) => 1,
         Ok(_) => 0,
         Err(fault) => {
-            let mut text = Text { sink: err };
-            let _ = writeln!(text, "recu: {fault}");
+            let _ = put_line(err, fault);
             1
         }
     }
 }
 
-/// A sink that takes formatted text.
-#[derive(Drop)]
-struct Text<'s, W> {
-    sink: &'s mut W,
+/// Prints `recu: `, the text of a fault and a newline.
+fn put_line<W: Sink>(err: &mut W, fault: &Fault) -> Result<(), Fault>
+    ensures printed { Prints W.contents W.failure_count err.old err.new (fault_line fault.now) result }
+    ensures refusals { IsOkUnless result Fault.StoreFailed }
+{
+    let Message {
+        before,
+        number,
+        after,
+    } = fault.message();
+    let mut buffer = Buffer::new();
+    let digits = digits_of(number, &mut buffer);
+    put_parts(
+        err,
+        &[
+            b"recu: ",
+            before.as_bytes(),
+            digits.as_bytes(),
+            after.as_bytes(),
+            b"\n",
+        ],
+    )
 }
 
-impl<W: Sink> fmt::Write for Text<'_, W> {
-    ghost write_str_gives = { λ old text new. Appends (W.contents old.sink.now) (W.contents new.sink.now) text };
-
-    fn write_str(&mut self, text: &str) -> fmt::Result {
-        match put_all(self.sink, text.as_bytes()) {
-            Ok(()) => Ok(()),
-            Err(_) => Err(fmt::Error),
-        }
+/// The decimal digits of a number, where there is one.
+fn digits_of(number: Option<usize>, buffer: &mut Buffer) -> &str
+    ensures { result.now ≡ option_map_or decimal number [] }
+{
+    match number {
+        Some(n) => buffer.format(n),
+        None => "",
     }
 }

@@ -1,5 +1,7 @@
 //! The tools, as clap is told of them.
-ghost use Rattle.std.specs.Prelude.{◌≡◌, IfSome};
+ghost use Rattle.std.specs.Prelude.{◌≡◌, ◌≢◌, MatchOption};
+ghost use Rattle.std.specs.List.{AllByRecursion};
+ghost use Rattle.rec_command.specs.declared.tools.Tool.{Tool as ToolOf};
 ghost use Rattle.rec_command.specs.Usage.{name_of, usage_of};
 ghost use Rattle.rec_command.specs.proving.Tools.{usage_in};
 
@@ -181,13 +183,21 @@ impl Tool {
 
     /// The tool of this name.
     pub fn named(name: &str) -> Option<Tool>
-        ensures { IfSome result (λ tool. name_of tool ≡ name.now) }
+        ensures { MatchOption result ((tool : ToolOf) → name_of tool ≢ name.now) (λ tool. name_of tool ≡ name.now) }
     {
-        for tool in TOOLS {
-            if tool.usage().name == name {
-                return Some(tool);
-            }
-        }
-        None
+        named_among(TOOLS.as_slice(), name)
     }
+}
+
+/// The first of these tools that has this name.
+fn named_among(tools: &[Tool], name: &str) -> Option<Tool>
+    ensures { MatchOption result (AllByRecursion (λ tool. name_of tool ≢ name.now) tools.now)
+        (λ tool. name_of tool ≡ name.now) }
+{
+    for tool in tools {
+        if tool.usage().name == name {
+            return Some(*tool);
+        }
+    }
+    None
 }

@@ -1,9 +1,10 @@
 //! What recfix, recins, recdel, recset and batch are asked for.
-ghost use Rattle.std.specs.Prelude.{◌≡◌, false, IfOk, codes};
+ghost use Rattle.std.specs.Prelude.{◌≡◌, false, codes};
 ghost use Rattle.clap.specs.Words.{found_of, rows_of};
 ghost use Rattle.rec_edit.specs.Options.{action_for, new_record_for};
 ghost use Rattle.rec_command.specs.declared.tools.Tool.{Tool as ToolOf};
 ghost use Rattle.rec_command.specs.declared.tools.Tool.TheVariants.{RecFix, RecIns, RecDel, RecSet, Batch};
+ghost use Rattle.rec_command.specs.Refusals.{IsOrRefuses};
 ghost use Rattle.rec_command.specs.Words.{action_given, has_flag, new_record_given, AsksEdit, Orders};
 
 use super::Order;
@@ -25,7 +26,7 @@ pub fn edit_order(edit: EditRequest, options: &ArgMatches) -> Order
 
 /// What recfix is asked for: to check, or to give records their automatic fields.
 pub fn recfix_order(options: &ArgMatches) -> Result<Order, Refusal>
-    ensures { IfOk result (Orders RecFix (rows_of (found_of options.now))) }
+    ensures { IsOrRefuses (Orders RecFix (rows_of (found_of options.now))) result }
 {
     if !is_given(options, "auto") {
         return check_order(options);
@@ -39,7 +40,7 @@ pub fn recfix_order(options: &ArgMatches) -> Result<Order, Refusal>
 /// What recfix is asked for without `--auto`: to check, of which there is no dry run.
 fn check_order(options: &ArgMatches) -> Result<Order, Refusal>
     requires { has_flag (codes "auto") (rows_of (found_of options.now)) ≡ false }
-    ensures { IfOk result (Orders RecFix (rows_of (found_of options.now))) }
+    ensures { IsOrRefuses (Orders RecFix (rows_of (found_of options.now))) result }
 {
     if is_given(options, "dry-run") {
         return Err(Refusal::Rule("recfix: --dry-run needs --auto"));
@@ -49,7 +50,7 @@ fn check_order(options: &ArgMatches) -> Result<Order, Refusal>
 
 /// What recins is asked for: to put a record in, or instead of each that is selected.
 pub fn insertion(alloc: Global, options: &ArgMatches) -> Result<EditRequest, Refusal>
-    ensures { IfOk result (AsksEdit RecIns (rows_of (found_of options.now))) }
+    ensures { IsOrRefuses (AsksEdit RecIns (rows_of (found_of options.now))) result }
 {
     let Pick { kind, by } = pick(alloc, options)?;
     let fresh = fresh(alloc, options)?;
@@ -68,7 +69,7 @@ pub fn insertion(alloc: Global, options: &ArgMatches) -> Result<EditRequest, Ref
 
 /// The options that give a new record.
 fn fresh(alloc: Global, options: &ArgMatches) -> Result<NewRecord, Refusal>
-    ensures { IfOk result (λ fresh. new_record_for fresh ≡ new_record_given (rows_of (found_of options.now))) }
+    ensures { IsOrRefuses (λ fresh. new_record_for fresh ≡ new_record_given (rows_of (found_of options.now))) result }
 {
     let names = texts(alloc, options, "field")?;
     let values = texts(alloc, options, "value")?;
@@ -84,7 +85,7 @@ fn fresh(alloc: Global, options: &ArgMatches) -> Result<NewRecord, Refusal>
 
 /// What recdel is asked for: to delete records, or to make comments of them.
 pub fn deletion(alloc: Global, options: &ArgMatches) -> Result<EditRequest, Refusal>
-    ensures { IfOk result (AsksEdit RecDel (rows_of (found_of options.now))) }
+    ensures { IsOrRefuses (AsksEdit RecDel (rows_of (found_of options.now))) result }
 {
     let pick = pick(alloc, options)?;
     if is_given(options, "comment") {
@@ -96,7 +97,7 @@ pub fn deletion(alloc: Global, options: &ArgMatches) -> Result<EditRequest, Refu
 
 /// What recset is asked for.
 pub fn setting(alloc: Global, options: &ArgMatches) -> Result<EditRequest, Refusal>
-    ensures { IfOk result (AsksEdit RecSet (rows_of (found_of options.now))) }
+    ensures { IsOrRefuses (AsksEdit RecSet (rows_of (found_of options.now))) result }
 {
     let Some(list) = text(alloc, options, "fields")? else {
         return Err(Refusal::Rule("recset: --fields is needed"));
@@ -110,7 +111,7 @@ pub fn setting(alloc: Global, options: &ArgMatches) -> Result<EditRequest, Refus
 
 /// The options that say what is done to fields.
 fn action(alloc: Global, options: &ArgMatches) -> Result<Action, Refusal>
-    ensures { IfOk result (λ action. action_for action ≡ action_given (rows_of (found_of options.now))) }
+    ensures { IsOrRefuses (λ action. action_for action ≡ action_given (rows_of (found_of options.now))) result }
 {
     let set = text(alloc, options, "set")?;
     let add = text(alloc, options, "add")?;
@@ -128,7 +129,7 @@ fn action(alloc: Global, options: &ArgMatches) -> Result<Action, Refusal>
 
 /// What batch is asked for.
 pub fn batch_order(alloc: Global, options: &ArgMatches) -> Result<Order, Refusal>
-    ensures { IfOk result (Orders Batch (rows_of (found_of options.now))) }
+    ensures { IsOrRefuses (Orders Batch (rows_of (found_of options.now))) result }
 {
     match given(options, "batch") {
         Some(path) => Ok(Order::BatchAt {

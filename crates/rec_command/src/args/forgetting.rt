@@ -1,7 +1,8 @@
 //! What forget is asked for.
-ghost use Rattle.std.specs.Prelude.{ℕ, IfOk, MatchOption};
+ghost use Rattle.std.specs.Prelude.{ℕ, MatchOption};
 ghost use Rattle.clap.specs.Words.{found_of, rows_of};
 ghost use Rattle.rec_command.specs.declared.tools.Tool.TheVariants.{Forget};
+ghost use Rattle.rec_command.specs.Refusals.{IsOrRefuses};
 ghost use Rattle.rec_command.specs.Words.{IsNumber, Orders};
 
 use super::Order;
@@ -12,7 +13,7 @@ use rec_tools::Request;
 
 /// What forget is asked for: how many of the edits that can be undone it keeps.
 pub fn forget_order(options: &ArgMatches) -> Result<Order, Refusal>
-    ensures { IfOk result (Orders Forget (rows_of (found_of options.now))) }
+    ensures { IsOrRefuses (Orders Forget (rows_of (found_of options.now))) result }
 {
     let Some(digits) = given(options, "n") else {
         return Err(Refusal::Rule("forget: N is needed"));

@@ -1,6 +1,7 @@
 //! What the words give of an option.
 ghost use Rattle.std.specs.Prelude.{◌≡◌, map, IfOk, Some, option_map};
 ghost use Rattle.clap.specs.Words.{first_of, found_of, rows_of};
+ghost use Rattle.rec_command.specs.Refusals.{IsOrRefuses};
 ghost use Rattle.rec_command.specs.Words.{file_given, has_flag, number_given, texts_given};
 
 use super::refusal::Refusal;
@@ -37,7 +38,7 @@ pub fn file<'m>(options: &'m ArgMatches) -> Option<&'m str>
 
 /// The name of FILE for what is printed: as it stands there.
 pub fn file_name(alloc: Global, options: &ArgMatches) -> Result<Bytes, Refusal>
-    ensures { IfOk result (λ name. file_given (rows_of (found_of options.now)) ≡ Some name) }
+    ensures { IsOrRefuses (λ name. file_given (rows_of (found_of options.now)) ≡ Some name) result }
 {
     match file(options) {
         Some(file) => Ok(Bytes::copy_of(alloc, file.as_bytes())?),

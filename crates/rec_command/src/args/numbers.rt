@@ -1,12 +1,13 @@
 //! The number of an edit, as words give it.
-ghost use Rattle.std.specs.Prelude.{ℕ, ◌<◌, IfOk, MatchOption, option_map};
+ghost use Rattle.std.specs.Prelude.{ℕ, ◌<◌, MatchOption, option_map};
+ghost use Rattle.rec_command.specs.Refusals.{IsOrRefuses};
 ghost use Rattle.rec_command.specs.Words.{IsEditGiven, IsNumber};
 
 use super::refusal::Refusal;
 
 /// The number of an edit, where it is given. A word that is none is refused, by this line for the user.
 pub fn edit_given(word: Option<&str>, refusal: &'static str) -> Result<Option<usize>, Refusal>
-    ensures { IfOk result (IsEditGiven (option_map (λ digits. digits.now) word.entry)) }
+    ensures { IsOrRefuses (IsEditGiven (option_map (λ digits. digits.now) word.entry)) result }
 {
     let Some(digits) = word else {
         return Ok(None);

@@ -2,6 +2,7 @@
 ghost use Rattle.std.specs.Prelude.{◌≡◌, IfOk, codes, string_bytes, option_map};
 ghost use Rattle.clap.specs.Words.{first_of, found_of, rows_of};
 ghost use Rattle.rec_files.specs.Paths.{AreApart};
+ghost use Rattle.rec_command.specs.Refusals.{IsOrRefuses};
 ghost use Rattle.rec_command.specs.Words.{file_given, IsJournal};
 
 use super::Order;
@@ -25,8 +26,8 @@ pub struct Paths {
 pub fn paths_of(alloc: Global, order: &Order, options: &ArgMatches) -> Result<Paths, Refusal>
     ensures file { IfOk result (λ paths. option_map string_bytes paths.file
         ≡ file_given (rows_of (found_of options.now))) }
-    ensures journal { IfOk result (λ paths. IsJournal order.now (file_given (rows_of (found_of options.now)))
-        (first_of (codes "journal") (rows_of (found_of options.now))) (option_map string_bytes paths.journal)) }
+    ensures journal { IsOrRefuses (λ paths. IsJournal order.now (file_given (rows_of (found_of options.now)))
+        (first_of (codes "journal") (rows_of (found_of options.now))) (option_map string_bytes paths.journal)) result }
 {
     let file = file(options);
     let journal = journal(alloc, order, file, given(options, "journal"))?;
@@ -51,8 +52,8 @@ fn journal(
     file: Option<&str>,
     given: Option<&str>,
 ) -> Result<Option<String>, Refusal>
-    ensures { IfOk result (λ journal. IsJournal order.now (option_map (λ path. path.now) file.entry)
-        (option_map (λ path. path.now) given.entry) (option_map string_bytes journal)) }
+    ensures { IsOrRefuses (λ journal. IsJournal order.now (option_map (λ path. path.now) file.entry)
+        (option_map (λ path. path.now) given.entry) (option_map string_bytes journal)) result }
 {
     if let Order::Whole(Request::Show { .. } | Request::Info { .. } | Request::Check) = order {
         if let (Some(file), Some(given)) = (file, given) {
@@ -70,7 +71,7 @@ fn journal(
 
 /// Refuses the paths of a file and a journal that are one path, or of which one is the other's working name.
 fn require_apart(alloc: Global, file: &str, journal: &str) -> Result<(), Refusal>
-    ensures { IfOk result (λ _. AreApart file.now journal.now) }
+    ensures { IsOrRefuses (λ _. AreApart file.now journal.now) result }
 {
     if are_apart(alloc, file, journal)? {
         Ok(())

@@ -2,6 +2,7 @@
 ghost use Rattle.std.specs.Prelude.{IfOk};
 ghost use Rattle.clap.specs.Words.{found_of, rows_of};
 ghost use Rattle.rec_command.specs.declared.tools.Tool.{Tool as ToolOf};
+ghost use Rattle.rec_command.specs.Refusals.{IsOrRefuses};
 ghost use Rattle.rec_command.specs.Words.{IsBatchOf, IsPreview, Orders, OrdersOrPreviews};
 
 use super::Order;
@@ -14,7 +15,7 @@ use std::alloc::{AllocError, Global};
 /// An order, or the preview of it where the options ask for a dry run.
 pub fn or_preview(alloc: Global, order: Order, options: &ArgMatches) -> Result<Order, Refusal>
     ensures { (tool : ToolOf) → Orders tool (rows_of (found_of options.now)) order
-        → IfOk result (OrdersOrPreviews tool (rows_of (found_of options.now))) }
+        → IsOrRefuses (OrdersOrPreviews tool (rows_of (found_of options.now))) result }
 {
     if !is_given(options, "dry-run") {
         return Ok(order);

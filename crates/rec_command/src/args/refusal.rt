@@ -109,12 +109,9 @@ impl From<AllocError> for Refusal {
 }
 
 impl From<clap::Error> for Refusal {
-    ghost use Rattle.std.specs.Prelude.{◌≡◌, ◌↔◌};
-    ghost use Rattle.clap.specs.Values.{kind_of};
-    ghost use Rattle.clap.specs.declared.error.kind.ErrorKind.TheVariants.{OutOfMemory as NoMemory};
-    ghost use Rattle.rec_command.specs.declared.args.refusal.Refusal.TheVariants.{OutOfMemory};
+    ghost use Rattle.rec_command.specs.Refusals.{IsRefusalOf};
 
-    ghost from_gives = { λ error refusal. (refusal ≡ OutOfMemory) ↔ (kind_of error ≡ NoMemory) };
+    ghost from_gives = { λ error refusal. IsRefusalOf error refusal };
 
     fn from(error: clap::Error) -> Refusal {
         match error.kind() {

@@ -1,7 +1,7 @@
 //! What revert is asked for.
-ghost use Rattle.std.specs.Prelude.{IfOk};
 ghost use Rattle.clap.specs.Words.{found_of, rows_of};
 ghost use Rattle.rec_command.specs.declared.tools.Tool.TheVariants.{Revert};
+ghost use Rattle.rec_command.specs.Refusals.{IsOrRefuses};
 ghost use Rattle.rec_command.specs.Words.{Orders};
 
 use super::Order;
@@ -16,7 +16,7 @@ const NO_NUMBER: &str =
 
 /// What revert is asked for: which edit it takes back.
 pub fn revert_order(options: &ArgMatches) -> Result<Order, Refusal>
-    ensures { IfOk result (Orders Revert (rows_of (found_of options.now))) }
+    ensures { IsOrRefuses (Orders Revert (rows_of (found_of options.now))) result }
 {
     let Some(number) = edit_given(given(options, "n"), NO_NUMBER)? else {
         return Err(Refusal::Rule("revert: N is needed"));

@@ -1,10 +1,11 @@
 //! What recsel and recinf are asked for, and which records any tool takes.
-ghost use Rattle.std.specs.Prelude.{◌≡◌, codes, IfOk};
+ghost use Rattle.std.specs.Prelude.{◌≡◌, true, codes, MatchOption};
 ghost use Rattle.clap.specs.Words.{first_of, found_of, rows_of};
-ghost use Rattle.rec_tools.specs.Asking.{selection_for};
+ghost use Rattle.rec_tools.specs.declared.request.Form.{Form as FormOf};
 ghost use Rattle.rec_command.specs.declared.tools.Tool.TheVariants.{RecSel, RecInf};
-ghost use Rattle.rec_command.specs.Words.{selection_given, form_given, form_for, info_form_given, info_form_for};
-ghost use Rattle.rec_command.specs.Words.{IsPick, Orders};
+ghost use Rattle.rec_command.specs.Refusals.{IsOrRefuses};
+ghost use Rattle.rec_command.specs.Words.{form_given, form_for, info_form_given, info_form_for, where_has_equals_sign};
+ghost use Rattle.rec_command.specs.Words.{IsPick, IsSelection, Orders};
 
 use super::Order;
 use super::found::{given, is_given, text};
@@ -15,7 +16,7 @@ use std::alloc::Global;
 
 /// What recsel is asked for.
 pub fn recsel_order(alloc: Global, options: &ArgMatches) -> Result<Order, Refusal>
-    ensures { IfOk result (Orders RecSel (rows_of (found_of options.now))) }
+    ensures { IsOrRefuses (Orders RecSel (rows_of (found_of options.now))) result }
 {
     Ok(Order::Whole(Request::Show {
         pick: pick(alloc, options)?,
@@ -26,7 +27,7 @@ pub fn recsel_order(alloc: Global, options: &ArgMatches) -> Result<Order, Refusa
 
 /// What recinf is asked for.
 pub fn recinf_order(alloc: Global, options: &ArgMatches) -> Result<Order, Refusal>
-    ensures { IfOk result (Orders RecInf (rows_of (found_of options.now))) }
+    ensures { IsOrRefuses (Orders RecInf (rows_of (found_of options.now))) result }
 {
     Ok(Order::Whole(Request::Info {
         kind: text(alloc, options, "type")?,
@@ -36,7 +37,7 @@ pub fn recinf_order(alloc: Global, options: &ArgMatches) -> Result<Order, Refusa
 
 /// The options that say which records are meant.
 pub fn pick(alloc: Global, options: &ArgMatches) -> Result<Pick, Refusal>
-    ensures { IfOk result (IsPick (rows_of (found_of options.now))) }
+    ensures { IsOrRefuses (IsPick (rows_of (found_of options.now))) result }
 {
     let kind = text(alloc, options, "type")?;
     let by = ask(alloc, options)?;
@@ -45,7 +46,7 @@ pub fn pick(alloc: Global, options: &ArgMatches) -> Result<Pick, Refusal>
 
 /// The options that select records.
 fn ask(alloc: Global, options: &ArgMatches) -> Result<Ask, Refusal>
-    ensures { IfOk result (λ by. selection_for by ≡ selection_given (rows_of (found_of options.now))) }
+    ensures { IsOrRefuses (IsSelection (rows_of (found_of options.now))) result }
 {
     let expression = text(alloc, options, "expression")?;
     let number = text(alloc, options, "number")?;
@@ -61,10 +62,11 @@ fn ask(alloc: Global, options: &ArgMatches) -> Result<Ask, Refusal>
 
 /// The name and the value that `--where` gives, as they stand there.
 fn named_value(alloc: Global, options: &ArgMatches) -> Result<Option<Bytes>, Refusal>
-    ensures { IfOk result (λ named. named ≡ first_of (codes "where") (rows_of (found_of options.now))) }
+    ensures { IsOrRefuses (λ named. (named ≡ first_of (codes "where") (rows_of (found_of options.now)))
+        × (where_has_equals_sign (rows_of (found_of options.now)) ≡ true)) result }
 {
     match given(options, "where") {
-        Some(word) if !word.contains('=') => Err(Refusal::Rule(
+        Some(word) if !word.as_bytes().contains(&b'=') => Err(Refusal::Rule(
             "--where takes the name of a field, an equals sign and a value, as Name=Ann",
         )),
         _ => Ok(text(alloc, options, "where")?),
@@ -73,26 +75,42 @@ fn named_value(alloc: Global, options: &ArgMatches) -> Result<Option<Bytes>, Ref
 
 /// The options that say what is printed of records.
 fn form(alloc: Global, options: &ArgMatches) -> Result<Form, Refusal>
-    ensures { IfOk result (λ form. form_for form ≡ form_given (rows_of (found_of options.now))) }
+    ensures { IsOrRefuses (λ form. form_for form ≡ form_given (rows_of (found_of options.now))) result }
 {
     let print = text(alloc, options, "print")?;
     let values = text(alloc, options, "print-values")?;
     let row = text(alloc, options, "print-row")?;
-    match (print, values, row, is_given(options, "count")) {
-        (None, None, None, false) => Ok(Form::Blocks),
-        (Some(list), None, None, false) => Ok(Form::Print(list)),
-        (None, Some(list), None, false) => Ok(Form::Values(list)),
-        (None, None, Some(list), false) => Ok(Form::Row(list)),
-        (None, None, None, true) => Ok(Form::Count),
-        _ => Err(Refusal::Rule(
+    match form_of(print, values, row, is_given(options, "count")) {
+        Some(form) => Ok(form),
+        None => Err(Refusal::Rule(
             "only one of --print, --print-values, --print-row and --count can be given",
         )),
     }
 }
 
+/// The form of these options: a block for each record where none is given, and none where more than one is.
+fn form_of(
+    print: Option<Bytes>,
+    values: Option<Bytes>,
+    row: Option<Bytes>,
+    counts: bool,
+) -> Option<Form>
+    ensures { MatchOption result ((form : FormOf) → form_for form ≡ (print, values, row, counts) → ⊥)
+        (λ form. form_for form ≡ (print, values, row, counts)) }
+{
+    match (print, values, row, counts) {
+        (None, None, None, false) => Some(Form::Blocks),
+        (Some(list), None, None, false) => Some(Form::Print(list)),
+        (None, Some(list), None, false) => Some(Form::Values(list)),
+        (None, None, Some(list), false) => Some(Form::Row(list)),
+        (None, None, None, true) => Some(Form::Count),
+        _ => None,
+    }
+}
+
 /// The options that say what is printed of record sets.
 fn info_form(options: &ArgMatches) -> Result<InfoForm, Refusal>
-    ensures { IfOk result (λ form. info_form_for form ≡ info_form_given (rows_of (found_of options.now))) }
+    ensures { IsOrRefuses (λ form. info_form_for form ≡ info_form_given (rows_of (found_of options.now))) result }
 {
     match (
         is_given(options, "descriptor"),

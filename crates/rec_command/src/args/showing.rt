@@ -1,7 +1,7 @@
 //! What history and show are asked for.
-ghost use Rattle.std.specs.Prelude.{IfOk};
 ghost use Rattle.clap.specs.Words.{found_of, rows_of};
 ghost use Rattle.rec_command.specs.declared.tools.Tool.TheVariants.{History, Show};
+ghost use Rattle.rec_command.specs.Refusals.{IsOrRefuses};
 ghost use Rattle.rec_command.specs.Words.{Orders};
 
 use super::Order;
@@ -16,7 +16,7 @@ const NO_NUMBER: &str = "show: N must be a number from 1 to 18446744073709551615
 
 /// What history is asked for: to list the edits, or to print what each changed too.
 pub fn history_order(alloc: Global, options: &ArgMatches) -> Result<Order, Refusal>
-    ensures { IfOk result (Orders History (rows_of (found_of options.now))) }
+    ensures { IsOrRefuses (Orders History (rows_of (found_of options.now))) result }
 {
     if !is_given(options, "patch") {
         return Ok(Order::Whole(Request::History));
@@ -27,7 +27,7 @@ pub fn history_order(alloc: Global, options: &ArgMatches) -> Result<Order, Refus
 
 /// What show is asked for.
 pub fn show_order(alloc: Global, options: &ArgMatches) -> Result<Order, Refusal>
-    ensures { IfOk result (Orders Show (rows_of (found_of options.now))) }
+    ensures { IsOrRefuses (Orders Show (rows_of (found_of options.now))) result }
 {
     let edit = edit_given(number(options), NO_NUMBER)?;
     let name = file_name(alloc, options)?;

@@ -30,11 +30,17 @@ load sessions
 # refusals: a line for each, its number and its text as the program prints it, with N for the number in it
 refusals() {
     awk '
-        /#\[error\("/ { text = $0; sub(/.*#\[error\("/, "", text); sub(/".*/, "", text); sub(/\{[a-z]*\}/, "N", text) }
-        /^    [A-Z][A-Za-z]*( \{.*\}|\(.*\))?,$/ { texts[++variants] = text; match($1, /[A-Za-z]+/); names[variants] = substr($1, 1, RLENGTH) }
-        / => [0-9]+,$/ { match($0, /Fault::[A-Za-z]+/); number[substr($0, RSTART + 7, RLENGTH - 7)] = $NF + 0 }
-        END { for (i = 1; i <= variants; i++) print number[names[i]] " " texts[i] }
-    ' "$top/crates/rec_text/src/fault.rt" | sort -n
+        { name = $2; gsub(/[()]/, "", name) }
+        /^number_of [(A-Z]/ { number[name] = $NF }
+        /^fault_text [(A-Z]/ {
+            text = $0
+            sub(/^[^=]*= /, "", text)
+            gsub(/decimal (\([^)]*\)|[a-z]+)/, "N", text)
+            gsub(/codes "|"| \+\+ /, "", text)
+            texts[name] = text
+        }
+        END { for (name in texts) print number[name] " " texts[name] }
+    ' "$top/crates/rec_text/specs/Faults.antt" | sort -n
 }
 
 @test "docs/refusals.md and recu(1) list all refusals" {

@@ -1,6 +1,8 @@
 -- What a stop of the program or a crash of the machine may leave of a disk, and what is seen at a place whatever they
 -- leave.
-use Rattle.std.specs.Prelude.{◌≡◌, ◌⊎◌, ℕ, Bool, true, List, [], ◌∷◌, Option, Some, None, if◌then◌else◌}
+use Rattle.std.specs.Prelude.{◌≡◌, ◌⊎◌, ◌≤◌, ◌==◌, ℕ, Bool, true, List, [], ◌∷◌, length, take, Option, Some, None}
+use Rattle.std.specs.Prelude.{if◌then◌else◌}
+use Rattle.std.specs.List.{list_all}
 use Rattle.rec_disk.specs.Disk.{State}
 
 abbrev pub SomeOf : {X : Type 0} → (X → Type 0) → List X → Type 0
@@ -31,6 +33,25 @@ pub record LeavesAt (crash : Bool) (s : State) (left : Left) (p : List ℕ) : Ty
 -- and so at each
 abbrev pub Leaves : Bool → State → Left → Type 0
 Leaves crash s left = (p : List ℕ) → LeavesAt crash s left p
+
+-- what stood at all places together at one moment: now, or before a crash at one since a folder was synced
+abbrev pub IsMoment : Bool → State → (List ℕ → Option ℕ) → Type 0
+IsMoment crash s at = (at ≡ s.at) ⊎ SomeOf (λ old. at ≡ old) (lost crash s)
+
+-- the first of the bytes, or zeros, no more than there are bytes
+abbrev pub IsPart : List ℕ → List ℕ → Type 0
+IsPart bytes part =
+    ((k : ℕ) × (part ≡ take k bytes)) ⊎ ((list_all (λ byte. byte == 0) part ≡ true) × (length part ≤ length bytes))
+
+-- a file has its bytes then, or where they are not kept a part of them
+abbrev pub MayHold : Bool → State → ℕ → List ℕ → Type 0
+MayHold crash s n bytes = IsPart (s.bytes n) bytes × (kept crash s n ≡ true → bytes ≡ s.bytes n)
+
+-- Of a disk that keeps the changes in one folder in their order: the places of a folder stand as they stood together at
+-- one moment, and in a file that isn't synced is a beginning of it, or zeros.
+pub record LeavesInOrder (crash : Bool) (folder : List ℕ → List ℕ) (s : State) (left : Left) : Type 0 where
+  pub at : (d : List ℕ) → (m : List ℕ → Option ℕ) × IsMoment crash s m × ((p : List ℕ) → folder p ≡ d → left.at p ≡ m p)
+  pub bytes : (n : ℕ) → MayHold crash s n (left.bytes n)
 
 -- the bytes of a file, if there is one
 abbrev pub shown : (ℕ → List ℕ) → Option ℕ → Option (List ℕ)

@@ -1,6 +1,6 @@
 //! A disk, by the calls that are made of it.
 ghost use Rattle.std.specs.Prelude.{◌≡◌, ℕ, ◌+◌, Bool, List, Option, Some, None, not, false, take, IfOk, IfErr};
-ghost use Rattle.std.specs.Prelude.{IsSome, IsSomeAnd, string_bytes, ◌↔◌, IsTrue};
+ghost use Rattle.std.specs.Prelude.{IsSome, is_some, IsSomeAnd, MatchOption, string_bytes, ◌↔◌, IsTrue};
 ghost use Rattle.std.specs.IoError.{error_kind};
 ghost use Rattle.rec_disk.specs.Disk.{Story, Look, Goes, Told, SaysOf, IsLookFor, IsLookAt, IsMake, IsWrite, IsSync};
 ghost use Rattle.rec_disk.specs.Disk.{IsRename, IsRemove, IsFolderSync, IsExcused};
@@ -29,6 +29,9 @@ pub trait Disk {
 
     ghost syncs: { List ℕ → Bool };
 
+    /// The path to which the link at a path leads, where one stands there.
+    ghost link: { List ℕ → Option (List ℕ) };
+
     /// The number of an open file, whether the file of a number is a regular one, and what a status says, where it says it.
     ghost number: { Self.File → ℕ };
 
@@ -43,9 +46,9 @@ pub trait Disk {
     fn status(&mut self, path: &str) -> io::Result<Self::Status>
         ensures same { story self.new ≡ story self.old }
         ensures found { IfOk result (λ status. Told (story self.old) (λ s. IsSomeAnd (tells status)
-            (λ look. IsLookAt s (place path.now) look × (look.is_link ≡ false ↔ (leads path.now ≡ place path.now))))) }
+            (λ look. IsLookAt s (place path.now) look × (look.is_link ≡ is_some (link path.now))))) }
         ensures missing { IfErr result (λ error. error_kind error ≡ ErrorKind.NotFound
-            → Told (story self.old) (λ s. (s.at (place path.now) ≡ None) × (leads path.now ≡ place path.now))) }
+            → Told (story self.old) (λ s. (s.at (place path.now) ≡ None) × (link path.now ≡ None))) }
         ensures excused { IsExcused (works self.old) (works self.new) result (λ error. error_kind error ≡ ErrorKind.NotFound) };
 
     /// What stands where the links at a path lead.
@@ -90,8 +93,8 @@ pub trait Disk {
     /// The path to which the link at a path leads.
     fn follow(&mut self, alloc: Global, path: &str) -> io::Result<String>
         ensures same { story self.new ≡ story self.old }
-        ensures leads { IfOk result (λ next. leads (string_bytes next) ≡ leads path.now) }
-        ensures excused { IsExcused (works self.old) (works self.new) result (λ error. Told (story self.old) (λ s. leads path.now ≡ place path.now)) };
+        ensures next { IfOk result (λ next. Told (story self.old) (λ s. link path.now ≡ Some (string_bytes next))) }
+        ensures excused { IsExcused (works self.old) (works self.new) result (λ error. Told (story self.old) (λ s. link path.now ≡ None)) };
 
     /// Opens the file to which a path leads, to read it.
     fn open(&mut self, path: &str) -> io::Result<Self::File>
@@ -179,4 +182,7 @@ pub trait Disk {
         ensures one { IfOk result (λ one. Told (story self.old)
             (λ s. IsTrue one ↔ (place first.now ≡ place second.now))) }
         ensures excused { IsExcused (works self.old) (works self.new) result (λ error. ⊥) };
+
+    /// A path leads where its link leads, or where no link stands, to its own place.
+    ghost led: { (path : List ℕ) → MatchOption (link path) (leads path ≡ place path) (λ next. leads path ≡ leads next) };
 }

@@ -1,5 +1,5 @@
 //! The disk of the system. It tells no story: each call is one of the system's.
-ghost use Rattle.std.specs.Prelude.{[], None, false, true};
+ghost use Rattle.std.specs.Prelude.{[], None, false, true, refl};
 
 use crate::disk::Disk;
 use crate::folders::folder_of;
@@ -32,11 +32,13 @@ impl<R: Files<File = File>> Disk for HostDisk<R> {
 
     ghost place = { λ path. path };
 
-    ghost leads = { λ path. [] };
+    ghost leads = { λ path. path };
 
     ghost folder = { λ place. [] };
 
     ghost syncs = { λ folder. false };
+
+    ghost link = { λ path. None };
 
     ghost number = { λ file. 0 };
 
@@ -45,6 +47,8 @@ impl<R: Files<File = File>> Disk for HostDisk<R> {
     ghost tells = { λ status. None };
 
     ghost works = { λ disk. ⊥ };
+
+    ghost led = { λ path. refl };
 
     fn status(&mut self, path: &str) -> io::Result<Metadata> {
         fs::symlink_metadata(&self.rt, path)

@@ -52,7 +52,7 @@ shown_same : (p : List ℕ) (s t : State) (x : Option ℕ) → Spares p s t → 
 shown_same p s t None spares may = refl
 shown_same p s t (Some n) spares may = ap Some (sym (spares.bytes n may))
 
-may_before : (crash : Bool) (p : List ℕ) (s t : State) (x : Option ℕ) → Spares p s t → MayStand crash t p x → MayStand crash s p x
+pub may_before : (crash : Bool) (p : List ℕ) (s t : State) (x : Option ℕ) → Spares p s t → MayStand crash t p x → MayStand crash s p x
 may_before true p s t x spares may = spares.may x may
 may_before false p s t x spares (inl is) = inl (is ∙ spares.at)
 may_before false p s t x spares (inr none) = absurd none
@@ -224,7 +224,7 @@ module _ (folder : List ℕ → List ℕ) (s : State) (p : List ℕ) where
   only_now x (old ∷ olds) (inl is) = is ∙ cond-true (bytes_eq (folder p) (folder p)) (s.at p) (old p) (eq_bytes (folder p) (folder p) refl)
   only_now x (old ∷ olds) (inr later) = only_now x olds later
 
-  may_synced : (crash : Bool) (x : Option ℕ) → MayStand crash (folder_synced folder s (folder p)) p x → x ≡ s.at p
+  pub may_synced : (crash : Bool) (x : Option ℕ) → MayStand crash (folder_synced folder s (folder p)) p x → x ≡ s.at p
   may_synced true x (inl is) = is
   may_synced false x (inl is) = is
   may_synced true x (inr some) = only_now x s.olds some

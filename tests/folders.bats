@@ -94,7 +94,7 @@ stands_between() {
 # that these words name
 goes_in_order() {
     local edit=edit_in_$1 clear=clear_in_$1 forget=forget_in_$1
-    local first=${!edit}
+    local first=${!edit} last=${!clear}
     [ -e "${names[2]}" ] || first=${first/sync J¶/}
     put "${names[0]}" "$three"
     traced recset -n 0 -f A -s 8 "${@:2}"
@@ -121,8 +121,13 @@ goes_in_order() {
     in_order "${!edit}"
     stands_between 'A: 8¶¶B: 2¶¶C: 3¶'
     traced recset -n 0 -f A -s 6 "${@:2}"
-    in_order "$(sed 's/remove J.new¶$//' <<< "${!clear}")${!edit}"
+    in_order "remove F.new¶${!edit}"
     has "${names[0]}" 'A: 6¶¶B: 2¶¶C: 3¶'
+    # the journal's alone: the file's may have been removed before, and not be gone for good
+    put "${names[2]}.new" "$header"
+    traced undo "${@:2}"
+    in_order "${last#remove F.new¶}${!edit}"
+    has "${names[0]}" 'A: 8¶¶B: 2¶¶C: 3¶'
     traced recset -n 0 -f A -s 5 "${@:2}"
     in_order "${!edit}"
     traced forget 1 "${@:2}"

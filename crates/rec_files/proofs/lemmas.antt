@@ -4,8 +4,10 @@ pub mod Removing
 pub mod Placing
 pub mod Holding
 pub mod Steps
+pub mod Links
 pub mod Succeeding
 pub mod Replacing
 pub mod Home
 pub mod Requests
+pub mod Standing
 pub mod Recovering

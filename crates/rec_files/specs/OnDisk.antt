@@ -4,7 +4,7 @@ use Rattle.std.specs.Prelude.{IfSome}
 use Rattle.std.specs.Prelude.{IsSome, IsSomeAnd, Err}
 use Rattle.rec_text.specs.declared.fault.Fault.TheVariants.{StoreFailed}
 use Rattle.rec_disk.specs.Disk.{State, Story, Told, AtAnyMoment}
-use Rattle.rec_disk.specs.Lasting.{Left, Leaves, LeavesAt, Spares, shown}
+use Rattle.rec_disk.specs.Lasting.{Left, Leaves, LeavesAt, LeavesInOrder, Spares, shown}
 use Rattle.rec_tools.specs.Home.{Contents, Write, Call, got, lacked, unread, put_all, put_some, written, left_by}
 use Rattle.rec_tools.specs.Home.{TellsOf, CountsFailure, content_of}
 use Rattle.rec_tools.specs.declared.home.Which.{Which}
@@ -98,26 +98,41 @@ abbrev pub IsNext : Sites → List ℕ → Option (List ℕ) → State → Type 
 IsNext sites journal None s = Unit {0}
 IsNext sites journal (Some file) s = IsSomeAnd (s.at sites.file) (λ n. IsStopBetween (s.bytes n) file journal)
 
--- Whenever a put is stopped, what stands under the working names can be told to be left over, so that the next one
--- isn't refused for it.
-abbrev pub Recovers : Sites → List ℕ → Option (List ℕ) → Option Story → Option Story → Type 0
-Recovers sites journal file old new = BeginsAsJournal journal → Told old (IsNext sites journal file)
-    → Told old (AreLeft sites) → AtAnyMoment old new (λ s u. AreLeft sites u)
+-- whatever a stop or a crash leaves in order, what stands under the working names can be told to be left over
+abbrev pub AreTold : Bool → (List ℕ → List ℕ) → Sites → State → Type 0
+AreTold crash folder sites s = (left : Left) → LeavesInOrder crash folder s left
+    → AreLeft sites (record s { at = left.at; bytes = left.bytes })
+
+-- a crash is only spoken of where the working names stand in the folders of their files, and both can be synced
+abbrev pub CanSyncAll : (List ℕ → List ℕ) → (List ℕ → Bool) → Bool → Sites → Type 0
+CanSyncAll folder syncs crash sites = crash ≡ true
+    → ((folder sites.new_file ≡ folder sites.file) × (folder sites.new_journal ≡ folder sites.journal))
+    × ((syncs (folder sites.file) ≡ true) × (syncs (folder sites.journal) ≡ true))
+
+-- Stop a put at any moment, or crash the machine: what is left under the working names can be told to be left over, so that
+-- the next put isn't refused for it.
+abbrev pub Recovers : (List ℕ → List ℕ) → (List ℕ → Bool) → Sites → List ℕ → Option (List ℕ) → Option Story → Option Story
+    → Type 0
+Recovers folder syncs sites journal file old new = (crash : Bool) → CanSyncAll folder syncs crash sites
+    → BeginsAsJournal journal → Told old (IsNext sites journal file) → Told old (AreTold crash folder sites)
+    → AtAnyMoment old new (λ s u. AreTold crash folder sites u)
 
 abbrev pub second : List Write → Option (List ℕ)
 second [] = None
 second (write ∷ writes) = Some write.bytes
 
 -- by what is put: the journal, and then a file or none
-abbrev pub RecoversBy : Sites → List Write → Option Story → Option Story → Type 0
-RecoversBy sites [] old new = Unit {0}
-RecoversBy sites (journal ∷ writes) old new = Recovers sites journal.bytes (second writes) old new
+abbrev pub RecoversBy : (List ℕ → List ℕ) → (List ℕ → Bool) → Sites → List Write → Option Story → Option Story → Type 0
+RecoversBy folder syncs sites [] old new = Unit {0}
+RecoversBy folder syncs sites (journal ∷ writes) old new =
+    Recovers folder syncs sites journal.bytes (second writes) old new
 
 -- nothing is changed; or so a put recovers, by some paths of the two
-abbrev pub RecoversAt : (List ℕ → List ℕ) → Places → List Write → Option Story → Option Story → Type 0
-RecoversAt place p writes old new = (new ≡ old)
+abbrev pub RecoversAt : (List ℕ → List ℕ) → (List ℕ → List ℕ) → (List ℕ → Bool) → Places → List Write → Option Story
+    → Option Story → Type 0
+RecoversAt place folder syncs p writes old new = (new ≡ old)
     ⊎ ((file journal : List ℕ) × Told old (λ s. (place file ≡ p.file) × (place journal ≡ p.journal))
-    × RecoversBy (sites_of place file journal) writes old new)
+    × RecoversBy folder syncs (sites_of place file journal) writes old new)
 
 -- all places but the four stay as they are
 abbrev pub SparesStrangers : Sites → Option Story → Option Story → Type 0
@@ -160,15 +175,15 @@ IsWhole (put_all writes) = Unit {0}
 IsWhole _ = ⊥
 
 -- At any moment of a call a stop or a crash leaves what it might have left before, or the first of its writes made, and
--- after a whole one all of them; a read changes nothing, no call touches what is somebody else's, and whenever it is
--- stopped, what it left under the working names can be told to be left over.
+-- after a whole one all of them; a read changes nothing, no call touches what is somebody else's, and whatever a stop or
+-- a crash leaves under the working names can be told to be left over.
 pub record IsCallAt (place folder : List ℕ → List ℕ) (syncs : List ℕ → Bool) (p : Places) (old : Option Story)
     (call : Call) (new : Option Story) : Type 0 where
   pub any_moment : SecurePut folder syncs p (writes_of call) old new
   pub lasts : IsWhole call → LastingPut folder syncs p (writes_of call) old new
   pub still : writes_of call ≡ [] → new ≡ old
   pub touches : TouchesOwn place p old new
-  pub recovers : RecoversAt place p (writes_of call) old new
+  pub recovers : RecoversAt place folder syncs p (writes_of call) old new
 
 -- The home's paths stay; a call tells what stands there, and leaves what its writes say; and it is one at their
 -- places. Of standard input nothing is said.
@@ -203,13 +218,15 @@ abbrev pub LastingRequest : (List ℕ → List ℕ) → (List ℕ → Bool) → 
 LastingRequest folder syncs p old new = (new ≡ old) ⊎ ((crash : Bool) (c : Contents) → CanSync folder syncs crash p
     → Told old (IsRead p c) → Told new (λ u. (d : Contents) × Holds crash p d u))
 
--- From contents with a regular journal: the request changes nothing; or at any moment of it, what stands under the working
--- names, by some paths of the two, can be told to be left over, if it could before.
-abbrev pub RecoversRequest : (List ℕ → List ℕ) → Places → Option Story → Option Story → Type 0
-RecoversRequest place p old new = (c : Contents) → Told old (IsRead p c) → IsRegular c.journal → (new ≡ old)
+-- From contents with a regular journal: the request changes nothing; or at any moment of it, whatever a stop or a crash
+-- leaves in order under the working names, by some paths of the two, can be told to be left over, if it could before.
+abbrev pub RecoversRequest : (List ℕ → List ℕ) → (List ℕ → List ℕ) → (List ℕ → Bool) → Places → Option Story → Option Story
+    → Type 0
+RecoversRequest place folder syncs p old new = (c : Contents) → Told old (IsRead p c) → IsRegular c.journal → (new ≡ old)
     ⊎ ((file journal : List ℕ) × Told old (λ s. (place file ≡ p.file) × (place journal ≡ p.journal))
-    × (Told old (AreLeft (sites_of place file journal))
-    → AtAnyMoment old new (λ s u. AreLeft (sites_of place file journal) u)))
+    × ((crash : Bool) → CanSyncAll folder syncs crash (sites_of place file journal)
+    → Told old (AreTold crash folder (sites_of place file journal))
+    → AtAnyMoment old new (λ s u. AreTold crash folder (sites_of place file journal) u)))
 
 -- all that is said of a request on a disk, by its answer
 pub record IsRequestAt (place folder : List ℕ → List ℕ) (syncs : List ℕ → Bool) (p : Places) (asked : Asked)
@@ -217,7 +234,7 @@ pub record IsRequestAt (place folder : List ℕ → List ℕ) (syncs : List ℕ 
   pub any_moment : SecureRequest folder syncs p asked old new
   pub lasting : (answer ≡ Err StoreFailed) ⊎ LastingRequest folder syncs p old new
   pub touches : TouchesOwn place p old new
-  pub recovers : RecoversRequest place p old new
+  pub recovers : RecoversRequest place folder syncs p old new
 
 -- the same is asked for again and again, and so it is with each of these answers
 abbrev pub AreRequestsAt : (List ℕ → List ℕ) → (List ℕ → List ℕ) → (List ℕ → Bool) → Places → Asked → List Answer

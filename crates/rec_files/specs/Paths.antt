@@ -1,5 +1,5 @@
 -- The paths of a file and its journal, and the names under which they are written. A path is its bytes.
-use Rattle.std.specs.Prelude.{◌≢◌, ℕ, List, [], ◌++◌, codes, Option, Some, None}
+use Rattle.std.specs.Prelude.{◌≢◌, ℕ, zero, suc, List, [], ◌++◌, codes, Option, Some, None, option_map, unwrap_or}
 use Rattle.rec_tools.specs.declared.home.Which.{Which}
 use Rattle.rec_tools.specs.declared.home.Which.TheVariants.{Base, Journal}
 
@@ -17,6 +17,11 @@ abbrev pub path_of : Option (List ℕ) → List ℕ → Which → List ℕ
 path_of (Some file) journal Base = file
 path_of None journal Base = []
 path_of file journal Journal = journal
+
+-- the path after all links at a path, where these are fewer than n in a row: each leads to the path of the next
+abbrev pub end_of : (List ℕ → Option (List ℕ)) → ℕ → List ℕ → Option (List ℕ)
+end_of link zero path = None
+end_of link (suc n) path = unwrap_or (option_map (end_of link n) (link path)) (Some path)
 
 -- the two paths differ, and neither is the other's working name
 pub record AreApart (file journal : List ℕ) : Type 0 where

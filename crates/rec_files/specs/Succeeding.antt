@@ -16,7 +16,7 @@ use Rattle.rec_files.specs.declared.failure.Cause.TheVariants.{Itself, Working, 
 use Rattle.rec_files.specs.declared.failure.Failure.{Failure}
 use Rattle.rec_files.specs.declared.target.Target.{Target}
 use Rattle.rec_files.specs.declared.files.DiskHome.{DiskHome}
-use Rattle.rec_files.specs.Paths.{path_of, working_name}
+use Rattle.rec_files.specs.Paths.{path_of, working_name, end_of}
 use Rattle.rec_files.specs.OnDisk.{Sites, sites_of, AreLeft, IsHomeCall, places_by}
 
 -- the disk tells its story, and this holds of its state
@@ -88,22 +88,16 @@ pub record StandsAsSeen (place leads : List ℕ → List ℕ) (known : Known) (s
   pub seen : HasSeen (place known.path) known.look s
   pub led : leads known.given ≡ place known.path
 
--- a path is the given one, which is no link
-pub record IsStraight (place leads : List ℕ → List ℕ) (given path : List ℕ) : Type 0 where
-  pub same : given ≡ path
-  pub straight : leads given ≡ place given
-
--- both are as they were seen, and the journal is a regular file or missing, and its path is no link
+-- both are as they were seen, and the journal is a regular file or missing
 pub record AreUnchanged (place leads : List ℕ → List ℕ) (regular : ℕ → Bool) (file journal : Known) (s : State)
     : Type 0 where
   pub file_stands : StandsAsSeen place leads file s
   pub journal_stands : StandsAsSeen place leads journal s
   pub is_regular : SawRegular regular journal.look
-  pub straight : leads journal.path ≡ place journal.path
 
 -- ---- what is left over
 
--- under a name, which is no link, stands a regular file, and it is neither of the two
+-- under a name, which leads to its own place, stands a regular file, and it is neither of the two
 pub record IsOther (place leads : List ℕ → List ℕ) (regular : ℕ → Bool) (name : List ℕ) (file journal : Known) (n : ℕ)
     : Type 0 where
   pub is_regular : regular n ≡ true
@@ -142,13 +136,13 @@ pub record CanClear (place leads : List ℕ → List ℕ) (regular : ℕ → Boo
       IsOther place leads regular (working_name file.path) file journal n
       × (IsSome (s.at (place (working_name journal.path))) ⊎ CanCompare place file journal n s))
 
--- and both are as they were seen, at the given paths, which are no links, and the file is a regular one
-pub record CanPrepare (place leads : List ℕ → List ℕ) (regular : ℕ → Bool) (given_file given_journal : List ℕ)
-    (file journal : Known) (s : State) : Type 0 where
+-- and both are as they were seen, after fewer than 40 links in a row at each of the given paths, and the file is a regular one
+pub record CanPrepare (place leads : List ℕ → List ℕ) (link : List ℕ → Option (List ℕ)) (regular : ℕ → Bool)
+    (given_file given_journal : List ℕ) (file journal : Known) (s : State) : Type 0 where
   pub unchanged : AreUnchanged place leads regular file journal s
   pub is_regular : SawRegular regular file.look
-  pub file_straight : IsStraight place leads given_file file.path
-  pub journal_straight : IsStraight place leads given_journal journal.path
+  pub file_end : end_of link 40 given_file ≡ Some file.path
+  pub journal_end : end_of link 40 given_journal ≡ Some journal.path
   pub clear : CanClear place leads regular file journal s
 
 -- ---- what can be read
@@ -171,17 +165,18 @@ other_for Journal seen = seen
 
 -- What a request reads of the two, by its paths, and by what the disk said of the file when that was read: a regular
 -- file that is not too long, and a journal may be missing. Where the request only looks, the journal is not the file that
--- stands there. Where it may write, the path is no link, no other program has locked what is there, and the journal is not the file
--- that was read.
-pub record IsReadable (place leads : List ℕ → List ℕ) (regular : ℕ → Bool) (access : Access)
-    (file : Option (List ℕ)) (journal : List ℕ) (seen : Option (Option Look)) (which : Which) (s : State) : Type 0 where
+-- stands there. Where it may write, fewer than 40 links in a row stand at the path, no other program has locked what is there,
+-- and the journal is not the file that was read.
+pub record IsReadable (leads : List ℕ → List ℕ) (link : List ℕ → Option (List ℕ)) (regular : ℕ → Bool)
+    (access : Access) (file : Option (List ℕ)) (journal : List ℕ) (seen : Option (Option Look)) (which : Which) (s : State)
+    : Type 0 where
   pub given : which ≡ Base → IsSome file
   pub there : IsThere which (path_of file journal which) (λ n. IsShort s n × (regular n ≡ true))
       (s.at (leads (path_of file journal which)))
   pub apart : access ≡ Looks → which ≡ Journal → IfSome (s.at (leads journal)) (λ n. IfSome file (λ path.
       IsSomeAnd (s.at (leads path)) (λ m. m ≢ n)))
   pub free : access ≡ Changes → IfSome (s.at (leads (path_of file journal which)))
-      (λ n. IsUnlocked (other_for which seen) s n × (leads (path_of file journal which) ≡ place (path_of file journal which)))
+      (λ n. IsUnlocked (other_for which seen) s n × IsSome (end_of link 40 (path_of file journal which)))
 
 -- what a home was given, and what it knows of what it read
 pub record Kept : Type 0 where
@@ -201,32 +196,34 @@ kept number tells home = record {
 }
 
 -- What a put needs: what is put can be read again, and it may begin with what was read.
-pub record CanPut (place leads : List ℕ → List ℕ) (regular : ℕ → Bool) (kept : Kept) (writes : List Write) (s : State)
-    : Type 0 where
+pub record CanPut (place leads : List ℕ → List ℕ) (link : List ℕ → Option (List ℕ)) (regular : ℕ → Bool) (kept : Kept)
+    (writes : List Write) (s : State) : Type 0 where
   pub short : AllByRecursion (λ write. length write.bytes ≤ 1_073_741_824) writes
   pub begins : IsSomeAnd kept.old_file (λ file. IsSomeAnd kept.old_journal (λ journal.
-      CanPrepare place leads regular (path_of kept.file kept.journal Base) kept.journal file journal s))
+      CanPrepare place leads link regular (path_of kept.file kept.journal Base) kept.journal file journal s))
 
 -- what a call that failed needed was there
-abbrev pub HadAll : (List ℕ → List ℕ) → (List ℕ → List ℕ) → (ℕ → Bool) → Kept → Call → State → Type 0
-HadAll place leads regular kept (unread which) s =
-    IsReadable place leads regular kept.access kept.file kept.journal (option_and_then (λ known. known.look) kept.old_file) which s
-HadAll place leads regular kept (put_some writes k) s = CanPut place leads regular kept writes s
-HadAll place leads regular kept _ s = ⊥
+abbrev pub HadAll : (List ℕ → List ℕ) → (List ℕ → List ℕ) → (List ℕ → Option (List ℕ)) → (ℕ → Bool) → Kept → Call → State
+    → Type 0
+HadAll place leads link regular kept (unread which) s =
+    IsReadable leads link regular kept.access kept.file kept.journal (option_and_then (λ known. known.look) kept.old_file) which s
+HadAll place leads link regular kept (put_some writes k) s = CanPut place leads link regular kept writes s
+HadAll place leads link regular kept _ s = ⊥
 
 -- A disk that works does so after the call too. And if the call failed though all was there that it needed, it failed for
 -- memory, as the home noted last.
-pub record IsExcused (place leads : List ℕ → List ℕ) (regular : ℕ → Bool) (kept : Kept) (works still : Type 0)
-    (failure : Option Failure) (story : Option Story) (call : Call) : Type 0 where
+pub record IsExcused (place leads : List ℕ → List ℕ) (link : List ℕ → Option (List ℕ)) (regular : ℕ → Bool) (kept : Kept)
+    (works still : Type 0) (failure : Option Failure) (story : Option Story) (call : Call) : Type 0 where
   pub works_still : works → still
-  pub for_memory : works → IsTold story (HadAll place leads regular kept call) → IsSomeAnd failure FailedForMemory
+  pub for_memory : works → IsTold story (HadAll place leads link regular kept call) → IsSomeAnd failure FailedForMemory
 
 -- what becomes of a home by a call
-abbrev pub HomeGoes : {R D F S : Type 0} → (List ℕ → List ℕ) → (List ℕ → List ℕ) → (List ℕ → List ℕ) → (List ℕ → Bool)
-    → (ℕ → Bool) → (F → ℕ) → (S → Option Look) → (D → Option Story) → (D → Type 0) → DiskHome R D F S → Call
-    → DiskHome R D F S → Type 0
-HomeGoes place leads folder syncs regular number tells story works old call new =
+abbrev pub HomeGoes : {R D F S : Type 0} → (List ℕ → List ℕ) → (List ℕ → List ℕ) → (List ℕ → Option (List ℕ))
+    → (List ℕ → List ℕ) → (List ℕ → Bool) → (ℕ → Bool) → (F → ℕ) → (S → Option Look) → (D → Option Story)
+    → (D → Type 0) → DiskHome R D F S → Call → DiskHome R D F S → Type 0
+HomeGoes place leads link folder syncs regular number tells story works old call new =
     IsHomeCall place folder syncs (places_by leads (option_map string_bytes old.file) (string_bytes old.journal))
     (places_by leads (option_map string_bytes new.file) (string_bytes new.journal)) (story old.disk) call (story new.disk)
     old.failed new.failed
-    × IsExcused place leads regular (kept number tells old) (works old.disk) (works new.disk) new.failure (story old.disk) call
+    × IsExcused place leads link regular (kept number tells old) (works old.disk) (works new.disk) new.failure (story old.disk)
+    call

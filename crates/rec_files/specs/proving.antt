@@ -1,3 +1,4 @@
 -- What serves proofs.
 pub mod Replacing
+pub mod Recovering
 pub mod Succeeding

@@ -161,7 +161,7 @@ impl<'r, R: Input + AllocGlobal, D: Disk + Drop> DiskHome<'r, R, D> {
         ensures read { IfOk result (λ bytes. IsReadOf D.leads (option_map string_bytes self.old.file)
             (string_bytes self.old.journal) (D.story self.old.disk) which bytes.items) }
         ensures succeeds { Succeeds IsMemory (D.works self.old.disk) (D.works self.new.disk)
-            (IsTold (D.story self.old.disk) (IsReadable D.place D.leads D.regular self.old.access
+            (IsTold (D.story self.old.disk) (IsReadable D.leads D.link D.regular self.old.access
             (option_map string_bytes self.old.file) (string_bytes self.old.journal)
             (option_and_then (λ file. option_map (λ opened. D.tells opened.seen) file.old) self.old.both.file) which))
             result }
@@ -202,7 +202,7 @@ impl<'r, R: Input + AllocGlobal, D: Disk + Drop> Home for DiskHome<'r, R, D> {
 
     ghost failure_count = { λ home. home.failed };
 
-    ghost goes = { λ old call new. HomeGoes D.place D.leads D.folder D.syncs D.regular D.number D.tells D.story D.works
+    ghost goes = { λ old call new. HomeGoes D.place D.leads D.link D.folder D.syncs D.regular D.number D.tells D.story D.works
         old call new };
 
     ghost follows = { λ old new call h. h.0.follows };

@@ -1,6 +1,7 @@
 //! Symbolic links.
-ghost use Rattle.std.specs.Prelude.{◌≡◌, ◌≢◌, IfOk, IfSome, MatchOption, string_bytes};
+ghost use Rattle.std.specs.Prelude.{◌≡◌, Some, IfOk, IsSome, option_map, string_bytes};
 ghost use Rattle.rec_disk.specs.Disk.{Told, IsMemory};
+ghost use Rattle.rec_files.specs.Paths.{end_of};
 ghost use Rattle.rec_files.specs.Succeeding.{IsTold};
 ghost use Rattle.rec_files.specs.proving.Succeeding.{Succeeds};
 
@@ -11,18 +12,17 @@ use std::alloc::Global;
 use std::io;
 
 /// How many links in a row are followed.
-const LINKS: u32 = 40;
+pub const LINKS: u32 = 40;
 
 /// The path after the symbolic links at the end of this one. Links in the folders on the way stay as they are.
 pub fn after_links<D: Disk>(disk: &mut D, alloc: Global, path: &str) -> io::Result<String>
     ensures same { D.story disk.new ≡ D.story disk.old }
-    ensures leads { IfOk result (λ last. D.leads (string_bytes last) ≡ D.leads path.now) }
     ensures last { IfOk result (λ last. Told (D.story disk.old)
-        (λ s. D.place (string_bytes last) ≡ D.leads path.now)) }
-    ensures straight { IfOk result (λ last. Told (D.story disk.old)
-        (λ s. D.leads path.now ≡ D.place path.now → string_bytes last ≡ path.now)) }
+        (λ s. end_of D.link LINKS path.now ≡ Some (string_bytes last))) }
+    ensures led { IfOk result (λ last. Told (D.story disk.old) (λ s. (D.leads path.now ≡ D.place (string_bytes last))
+        × (D.leads (string_bytes last) ≡ D.place (string_bytes last)))) }
     ensures succeeds { Succeeds IsMemory (D.works disk.old) (D.works disk.new) (IsTold (D.story disk.old)
-        (λ s. D.leads path.now ≡ D.place path.now)) result }
+        (λ s. IsSome (end_of D.link LINKS path.now))) result }
 {
     let mut path = String::from_str(alloc, path)?;
     for _ in 0..LINKS {
@@ -37,10 +37,7 @@ pub fn after_links<D: Disk>(disk: &mut D, alloc: Global, path: &str) -> io::Resu
 /// Where the link at a path leads, or nothing where no link stands there.
 fn next_path<D: Disk>(disk: &mut D, alloc: Global, path: &str) -> io::Result<Option<String>>
     ensures same { D.story disk.new ≡ D.story disk.old }
-    ensures next { IfOk result (λ next. IfSome next (λ next. D.leads (string_bytes next) ≡ D.leads path.now)) }
-    ensures last { IfOk result (λ next. MatchOption next
-        (Told (D.story disk.old) (λ s. D.leads path.now ≡ D.place path.now))
-        (λ _. Told (D.story disk.old) (λ s. D.leads path.now ≢ D.place path.now))) }
+    ensures next { IfOk result (λ next. Told (D.story disk.old) (λ s. D.link path.now ≡ option_map string_bytes next)) }
     ensures succeeds { Succeeds IsMemory (D.works disk.old) (D.works disk.new) (IsTold (D.story disk.old)
         (λ s. Unit {0})) result }
 {

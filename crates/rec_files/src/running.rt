@@ -24,7 +24,7 @@ pub fn run<'r, R: Input + AllocGlobal, D: Disk + Drop, S: Sink>(
 ) -> Result<Reply, Fault>
     // Its calls, what went out, and that both and the answer are what the request comes to.
     ensures attempts { (calls : List Call) × (p : Printed) × WentOut S.contents S.failure_count out.old out.new p
-        × Attempts (HomeGoes D.place D.leads D.folder D.syncs D.regular D.number D.tells D.story D.works)
+        × Attempts (HomeGoes D.place D.leads D.link D.folder D.syncs D.regular D.number D.tells D.story D.works)
         home.old home.new (asked_of request.now) result calls p }
     ensures refusals { IfErr result IsRefusal }
     ensures silent { IsSilent (asked_of request.now) → out.new ≡ out.old }
@@ -44,11 +44,11 @@ pub fn run<'r, R: Input + AllocGlobal, D: Disk + Drop, S: Sink>(
     ensures touches { IfSome (places_by D.leads (option_map string_bytes home.old.file) (string_bytes home.old.journal))
         (λ p. TouchesOwn D.place p (D.story home.old.disk) (D.story home.new.disk)) }
 
-    // Stop the program at any moment: what lies under the working names can be told to be left over, so that the next request
-    // isn't refused for it.
+    // Stop the program, or cut the power, at any moment: what lies under the working names can be told to be left over, so
+    // that the next request isn't refused for it.
     ensures recovers { IfSome (places_by D.leads (option_map string_bytes home.old.file)
         (string_bytes home.old.journal))
-        (λ p. RecoversRequest D.place p (D.story home.old.disk) (D.story home.new.disk)) }
+        (λ p. RecoversRequest D.place D.folder D.syncs p (D.story home.old.disk) (D.story home.new.disk)) }
 {
     stops_are_steps();
     rec_tools::run(alloc, home, out, request)
@@ -63,16 +63,13 @@ pub fn run_through<'r, R: Input + AllocGlobal, D: Disk + Drop, S: Sink>(
     direction: Direction,
     number: usize,
 ) -> Through
-    // One answer for each move, by calls of its own.
+    // One answer for each move, by calls of its own; and of each all that is said of a request on a disk.
     ensures attempts { (answers : List Answer) × EndsThrough direction number answers result
-        × (calls : List Call) × (p : Printed) × WentOut S.contents S.failure_count out.old out.new p
-        × AttemptsAll (HomeGoes D.place D.leads D.folder D.syncs D.regular D.number D.tells D.story D.works)
-        home.old home.new (moves_through direction number answers) answers calls p }
-
-    // Of each move all that is said of a request on a disk.
-    ensures on_disk { IfSome (places_by D.leads (option_map string_bytes home.old.file) (string_bytes home.old.journal))
-        (λ p. (answers : List Answer) × EndsThrough direction number answers result
-        × AreRequestsAt D.place D.folder D.syncs p (asked_of (move_through direction number)) answers
+        × ((calls : List Call) × (p : Printed) × WentOut S.contents S.failure_count out.old out.new p
+        × AttemptsAll (HomeGoes D.place D.leads D.link D.folder D.syncs D.regular D.number D.tells D.story D.works)
+        home.old home.new (moves_through direction number answers) answers calls p)
+        × IfSome (places_by D.leads (option_map string_bytes home.old.file) (string_bytes home.old.journal))
+        (λ p. AreRequestsAt D.place D.folder D.syncs p (asked_of (move_through direction number)) answers
         (D.story home.old.disk) (D.story home.new.disk)) }
 
     ensures silent { out.new ≡ out.old }

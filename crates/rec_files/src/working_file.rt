@@ -2,7 +2,8 @@
 ghost use Rattle.std.specs.Prelude.{◌≡◌, ◌≢◌, ◌↔◌, List, ℕ, Some, None, false, IsTrue, IfOk, IfErr};
 ghost use Rattle.rec_disk.specs.Disk.{Told, IsMemory, AtAnyMoment};
 ghost use Rattle.rec_disk.specs.proving.Places.{Avoids};
-ghost use Rattle.rec_files.specs.proving.Replacing.{IsFreeAt, SparesBut, IsMaking};
+ghost use Rattle.rec_files.specs.proving.Replacing.{IsFreeAt, SparesBut};
+ghost use Rattle.rec_files.specs.proving.Recovering.{IsMaking};
 ghost use Rattle.rec_files.specs.Succeeding.{IsTold, IsForMemory};
 ghost use Rattle.rec_files.specs.proving.Succeeding.{Succeeds};
 

@@ -103,7 +103,7 @@ module _ (place folder : List ℕ → List ℕ) (syncs : List ℕ → Bool) (lea
   led_is f of_file of_journal = ap (λ q. led leads q journal_path) of_file ∙ ap (λ q. led leads f q) of_journal
 
   module _ (o n : Option Story) (old new : ℕ) (secure : SecurePut folder syncs (led leads file_path journal_path) writes o n)
-      (touches : TouchesOwn place (led leads file_path journal_path) o n) (recovers : RecoversAt place (led leads file_path journal_path) writes o n) where
+      (touches : TouchesOwn place (led leads file_path journal_path) o n) (recovers : RecoversAt place folder syncs (led leads file_path journal_path) writes o n) where
     pub put_done : (file : Option (List ℕ)) → ArePaths file → LastingPut folder syncs (led leads file_path journal_path) writes o n → CountsFailure old (put_all writes) new
         → IsHomeCall place folder syncs (At file) (At file) o (put_all writes) n old new
     put_done None paths lasting counts = record { same = refl; counts = counts; follows = tt; calls = tt }
@@ -111,7 +111,7 @@ module _ (place folder : List ℕ → List ℕ) (syncs : List ℕ → Bool) (lea
         let at : led leads file_path journal_path ≡ led leads f journal = led_is f paths.0 paths.1 in
         let secure_at = subst (λ p. SecurePut folder syncs p writes o n) at secure in
         let touches_at = subst (λ p. TouchesOwn place p o n) at touches in
-        let recovers_at = subst (λ p. RecoversAt place p writes o n) at recovers in
+        let recovers_at = subst (λ p. RecoversAt place folder syncs p writes o n) at recovers in
         let lasting_at = subst (λ p. LastingPut folder syncs p writes o n) at lasting in
         record {
           same = refl;
@@ -127,7 +127,7 @@ module _ (place folder : List ℕ → List ℕ) (syncs : List ℕ → Bool) (lea
         let at : led leads file_path journal_path ≡ led leads f journal = led_is f paths.0 paths.1 in
         let secure_at = subst (λ p. SecurePut folder syncs p writes o n) at secure in
         let touches_at = subst (λ p. TouchesOwn place p o n) at touches in
-        let recovers_at = subst (λ p. RecoversAt place p writes o n) at recovers in
+        let recovers_at = subst (λ p. RecoversAt place folder syncs p writes o n) at recovers in
         let some = some_put folder syncs (led leads f journal) writes o n (contents_on (Some (led leads f journal)) o) refl secure_at in (
           some.0,
           some.1,

@@ -18,7 +18,7 @@ use Rattle.rec_tools.specs.Through.{move_through, moves_through, EndsThrough}
 use Rattle.rec_journal.specs.declared.patch.Direction.{Direction}
 use Rattle.rec_tools.specs.Machine.{State as Machine, IsOldOrNext, Stands}
 use Rattle.rec_tools.specs.Guarantee.{StopsAreSteps}
-use Rattle.rec_files.specs.OnDisk.{Places, Shows, Holds, IsRead, IsSecure, CanSync, TouchesOwn, IsCallAt, IsHomeCall, IsWhole, writes_of, contents_on, StandsThen, SecureRequest, LastingRequest, Sites, sites_of, AreLeft, IsNext, Recovers, RecoversBy, RecoversAt, RecoversRequest, IsRequestAt, AreRequestsAt, or_empty}
+use Rattle.rec_files.specs.OnDisk.{Places, Shows, Holds, IsRead, IsSecure, CanSync, TouchesOwn, IsCallAt, IsHomeCall, IsWhole, writes_of, contents_on, StandsThen, SecureRequest, LastingRequest, Sites, sites_of, AreTold, CanSyncAll, IsNext, Recovers, RecoversBy, RecoversAt, RecoversRequest, IsRequestAt, AreRequestsAt, or_empty}
 use Rattle.rec_files.specs.Leftovers.{IsStopBetween}
 use Rattle.rec_files.proofs.lemmas.Outcomes.{Puts, puts_left}
 use Rattle.rec_files.proofs.lemmas.Holding.{read_there}
@@ -198,17 +198,17 @@ module _ {H : Type 0} (place folder : List ℕ → List ℕ) (syncs : List ℕ �
 
   -- and recovers
   went_recovers : (calls : List Call) (o n : H) → at o ≡ Some p → Went (Goes place folder syncs at story fails more) o calls n → ReadsFirst calls
-      → RecoversAt place p (last_writes calls) (story o) (story n)
+      → RecoversAt place folder syncs p (last_writes calls) (story o) (story n)
   went_recovers [] o n is went reads = inl (ap story went)
-  went_recovers (call ∷ []) o n is (mid, goes, went) reads = subst (λ n. RecoversAt place p (writes_of call) (story o) (story n)) (sym went) (call_at o mid call is goes).recovers
+  went_recovers (call ∷ []) o n is (mid, goes, went) reads = subst (λ n. RecoversAt place folder syncs p (writes_of call) (story o) (story n)) (sym went) (call_at o mid call is goes).recovers
   went_recovers (call ∷ (next ∷ calls)) o n is (mid, goes, went) reads =
-      subst (λ x. RecoversAt place p (last_writes (next ∷ calls)) x (story n)) (read_still o mid call is goes reads.0) (went_recovers (next ∷ calls) mid n (goes.0.same ∙ is) went reads.1)
+      subst (λ x. RecoversAt place folder syncs p (last_writes (next ∷ calls)) x (story n)) (read_still o mid call is goes reads.0) (went_recovers (next ∷ calls) mid n (goes.0.same ∙ is) went reads.1)
 
 -- ---- what is put can be told to be left over
 
-recovers_puts : (sites : Sites) (journal : List ℕ) (file : Option (List ℕ)) (o n : Option Story) → RecoversBy sites (writes_by journal file) o n → Recovers sites journal file o n
-recovers_puts sites journal None o n is = is
-recovers_puts sites journal (Some bytes) o n is = is
+recovers_puts : (folder : List ℕ → List ℕ) (syncs : List ℕ → Bool) (sites : Sites) (journal : List ℕ) (file : Option (List ℕ)) (o n : Option Story) → RecoversBy folder syncs sites (writes_by journal file) o n → Recovers folder syncs sites journal file o n
+recovers_puts folder syncs sites journal None o n is = is
+recovers_puts folder syncs sites journal (Some bytes) o n is = is
 
 abbrev Missing : Option (List ℕ) → Type 0
 Missing None = Unit {0}
@@ -230,18 +230,19 @@ is_next place p c path_file path_journal journal None s read at between = tt
 is_next place p c path_file path_journal journal (Some f) s read at between =
     next_there s.bytes (s.at (place path_file)) c.file f journal (ap (λ q. shown s.bytes (s.at q)) at ∙ (read_there p c s read).0) between
 
-puts_recover : (place : List ℕ → List ℕ) (p : Places) (c : Contents) (writes : List Write) (o n : Option Story) → Told o (IsRead p c) → Puts c writes → RecoversAt place p writes o n
+puts_recover : (place folder : List ℕ → List ℕ) (syncs : List ℕ → Bool) (p : Places) (c : Contents) (writes : List Write) (o n : Option Story) → Told o (IsRead p c) → Puts c writes → RecoversAt place folder syncs p writes o n
     → (n ≡ o) ⊎ ((file journal : List ℕ) × Told o (λ s. (place file ≡ p.file) × (place journal ≡ p.journal))
-    × (Told o (AreLeft (sites_of place file journal)) → AtAnyMoment o n (λ s u. AreLeft (sites_of place file journal) u)))
-puts_recover place p c writes o n read puts (inl same) = inl same
-puts_recover place p c writes o n read puts (inr (file, journal, at, recovers)) =
+    × ((crash : Bool) → CanSyncAll folder syncs crash (sites_of place file journal) → Told o (AreTold crash folder (sites_of place file journal))
+    → AtAnyMoment o n (λ s u. AreTold crash folder (sites_of place file journal) u)))
+puts_recover place folder syncs p c writes o n read puts (inl same) = inl same
+puts_recover place folder syncs p c writes o n read puts (inr (file, journal, at, recovers)) =
     let sites = sites_of place file journal in
-    let by = recovers_puts sites puts.journal puts.file o n (subst (λ writes. RecoversBy sites writes o n) puts.are recovers) in
+    let by = recovers_puts folder syncs sites puts.journal puts.file o n (subst (λ writes. RecoversBy folder syncs sites writes o n) puts.are recovers) in
     inr (
       file,
       journal,
       at,
-      by puts.begins
+      λ crash can. by crash can puts.begins
           (told_both (IsRead p c) (λ s. (place file ≡ p.file) × (place journal ≡ p.journal)) (IsNext sites puts.journal puts.file) o
           (λ s read at. is_next place p c file journal puts.journal puts.file s read at.0 puts.between) read at),
     )
@@ -342,32 +343,34 @@ module _ {H : Type 0} (place folder : List ℕ → List ℕ) (syncs : List ℕ �
   request_touches = touches_at (at o) refl
 
   recovers_by_outcome : (p : Places) → at o ≡ Some p → (c : Contents) → (known : Writes c (asked_of request) answer printed calls) → Told (story o) (IsRead p c) → IsRegular c.journal
-      → (known.writes ≡ []) ⊎ ((outcome : Outcome) × IsRequestOutcome c (asked_of request) (Ok outcome) × (known.writes ≡ outcome.writes)) → RecoversAt place p known.writes (story o) (story n)
+      → (known.writes ≡ []) ⊎ ((outcome : Outcome) × IsRequestOutcome c (asked_of request) (Ok outcome) × (known.writes ≡ outcome.writes)) → RecoversAt place folder syncs p known.writes (story o) (story n)
       → (story n ≡ story o) ⊎ ((file journal : List ℕ) × Told (story o) (λ s. (place file ≡ p.file) × (place journal ≡ p.journal))
-      × (Told (story o) (AreLeft (sites_of place file journal)) → AtAnyMoment (story o) (story n) (λ s u. AreLeft (sites_of place file journal) u)))
+      × ((crash : Bool) → CanSyncAll folder syncs crash (sites_of place file journal) → Told (story o) (AreTold crash folder (sites_of place file journal))
+      → AtAnyMoment (story o) (story n) (λ s u. AreTold crash folder (sites_of place file journal) u)))
   recovers_by_outcome p e c known read regular (inl none) by =
       inl (went_still place folder syncs at story fails more p calls o n e done.0 known.are.reads (known.are.writes_are ∙ none))
   recovers_by_outcome p e c known read regular (inr (outcome, is_outcome, is)) by =
       elim (puts_left c (asked_of request) outcome regular is_outcome) [
         | inl none ↦ inl (went_still place folder syncs at story fails more p calls o n e done.0 known.are.reads (known.are.writes_are ∙ is ∙ none))
-        | inr puts ↦ puts_recover place p c outcome.writes (story o) (story n) read puts (subst (λ writes. RecoversAt place p writes (story o) (story n)) is by)
+        | inr puts ↦ puts_recover place folder syncs p c outcome.writes (story o) (story n) read puts (subst (λ writes. RecoversAt place folder syncs p writes (story o) (story n)) is by)
       ]
 
   recovers_story : (p : Places) → at o ≡ Some p → (c : Contents) → IsRegular c.journal → (x : Option Story) → story o ≡ x → Told x (IsRead p c) → Told (story o) (IsRead p c)
       → (story n ≡ story o) ⊎ ((file journal : List ℕ) × Told (story o) (λ s. (place file ≡ p.file) × (place journal ≡ p.journal))
-      × (Told (story o) (AreLeft (sites_of place file journal)) → AtAnyMoment (story o) (story n) (λ s u. AreLeft (sites_of place file journal) u)))
+      × ((crash : Bool) → CanSyncAll folder syncs crash (sites_of place file journal) → Told (story o) (AreTold crash folder (sites_of place file journal))
+      → AtAnyMoment (story o) (story n) (λ s u. AreTold crash folder (sites_of place file journal) u)))
   recovers_story p e c regular None is told_x told = inl (none_still (IsSecure false p c (last_writes calls)) (story o) (story n) is (secure_calls p e false c (no_crash folder syncs p) told))
   recovers_story p e c regular (Some a) is read told =
       let there : contents_on (Some p) (story o) ≡ Some c = ap (contents_on (Some p)) is ∙ read in
       let known = does_writes c (asked_of request) answer printed calls (done.2 c (tell_all place folder syncs at story fails more p calls o n c e there done.0)) in
       recovers_by_outcome p e c known told regular known.come
-      (subst (λ writes. RecoversAt place p writes (story o) (story n)) known.are.writes_are (went_recovers place folder syncs at story fails more p calls o n e done.0 known.are.reads))
+      (subst (λ writes. RecoversAt place folder syncs p writes (story o) (story n)) known.are.writes_are (went_recovers place folder syncs at story fails more p calls o n e done.0 known.are.reads))
 
-  recovers_at : (x : Option Places) → at o ≡ x → IfSome x (λ p. RecoversRequest place p (story o) (story n))
+  recovers_at : (x : Option Places) → at o ≡ x → IfSome x (λ p. RecoversRequest place folder syncs p (story o) (story n))
   recovers_at None e = tt
   recovers_at (Some p) e = λ c told regular. recovers_story p e c regular (story o) refl told told
 
-  pub request_recovers : IfSome (at o) (λ p. RecoversRequest place p (story o) (story n))
+  pub request_recovers : IfSome (at o) (λ p. RecoversRequest place folder syncs p (story o) (story n))
   request_recovers = recovers_at (at o) refl
 
   -- all of it
@@ -398,11 +401,10 @@ module _ {H : Type 0} (place folder : List ℕ → List ℕ) (syncs : List ℕ �
       all_at answers mid n later rest (went_same now o mid tried.0 ∙ e) tried_later,
     )
 
-  pub moves_at : (laws : StopsAreSteps) (direction : Direction) (number : ℕ) (told : Through) (o n : H) (x : Option Places) → at o ≡ x
-      → (answers : List Answer) → EndsThrough direction number answers told → (calls : List Call) (printed : Printed)
+  pub moves_at : (laws : StopsAreSteps) (direction : Direction) (number : ℕ) (o n : H) (x : Option Places) → at o ≡ x
+      → (answers : List Answer) (calls : List Call) (printed : Printed)
       → AttemptsAll (Goes place folder syncs at story fails more) o n (moves_through direction number answers) answers calls printed
-      → IfSome x (λ p. (answers : List Answer) × EndsThrough direction number answers told
-      × AreRequestsAt place folder syncs p (asked_of (move_through direction number)) answers (story o) (story n))
-  moves_at laws direction number told o n None e answers ends calls printed done = tt
-  moves_at laws direction number told o n (Some p) e answers ends calls printed done =
-      (answers, ends, all_at laws (move_through direction number) p answers o n calls printed e done)
+      → IfSome x (λ p. AreRequestsAt place folder syncs p (asked_of (move_through direction number)) answers (story o) (story n))
+  moves_at laws direction number o n None e answers calls printed done = tt
+  moves_at laws direction number o n (Some p) e answers calls printed done =
+      all_at laws (move_through direction number) p answers o n calls printed e done

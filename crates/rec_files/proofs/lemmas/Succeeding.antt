@@ -1,6 +1,6 @@
 -- What succeeds on a disk that works.
 use Rattle.std.proofs.Common.{◌≡◌, ◌≢◌, ◌⊎◌, ◌∙◌, inl, inr, ap, sym, subst, arith, ℕ, ◌+◌, ◌<◌, ◌≤◌, Bool, true, false, List, [], ◌∷◌, length, take, length-take, Option, Some, None, Result, OnOk, IfSome, IsSomeAnd, refl}
-use Rattle.std.specs.Prelude.{◌↔◌, IsTrue, IsSome, is_some, option_map, Err}
+use Rattle.std.specs.Prelude.{◌↔◌, IsTrue, IsSome, is_some, option_map, Err, MatchOption}
 use Rattle.std.specs.List.{AllByRecursion}
 use Rattle.std.specs.Option.{option_and_then}
 use Rattle.std.proofs.lemmas.Bool.{false≢true}
@@ -23,6 +23,7 @@ use Rattle.rec_files.specs.Leftovers.{IsLeftJournal, IsLeftText}
 use Rattle.rec_files.specs.Paths.{path_of, working_name}
 use Rattle.rec_files.specs.OnDisk.{Sites, sites_of}
 use Rattle.rec_files.proofs.lemmas.Steps.{on_ok, on_ok_so, some_so}
+use Rattle.rec_files.proofs.lemmas.Links.{led_to}
 
 longer : (b : ℕ) (bytes : List ℕ) → b ∷ bytes ≢ bytes
 longer b bytes e = omega (arith, ap length e)
@@ -47,6 +48,13 @@ still_told w P o n told spares = told_after (Spares (0 ∷ w)) P (λ s. Unit {0}
 
 pub spared_told : (P : State → Type 0) (o n : Option Story) → IsTold o P → ((p : List ℕ) → AtAnyMoment o n (Spares p)) → IsTold n (λ s. Unit {0})
 spared_told P o n told spares = told_after (Spares []) P (λ s. Unit {0}) o n (λ s t was same. tt) told (spares [])
+
+-- what was found there stands there still
+pub there_still : {X : Type 0} (number : X → ℕ) (found : Option X) (one : X) (w : List ℕ) (o n : Option Story) → found ≡ Some one → IsTold o (λ s. s.at w ≡ option_map number found)
+    → AtAnyMoment o n (Spares w) → IsTold n (λ s. IsSome (s.at w))
+there_still number found one w o n is told spares =
+    told_after (Spares w) (λ s. s.at w ≡ option_map number found) (λ s. IsSome (s.at w)) o n
+    (λ s t was same. subst IsSome (sym (same.at ∙ was ∙ ap (option_map number) is)) refl) told spares
 
 -- a file that was just made is one's own
 pub made_own : (w v : List ℕ) (n : ℕ) (own : Bool) (P : State → Type 0) (o b : Option Story) → v ≡ w → own ≡ false → IsTold o P → SparesBut w o b → Told b (λ t. t.at w ≡ Some n)
@@ -219,30 +227,29 @@ stands_still place leads known s t same stands =
     record { at = same.at ∙ stands.at; seen = seen_still (place known.path) known.look s t same stands.seen; led = stands.led }
 
 -- so after what was left over is removed both are as they were
-pub unchanged_on : (place leads : List ℕ → List ℕ) (regular : ℕ → Bool) (given_file given_journal : List ℕ) (file journal : Known) (o n : Option Story)
-    → IsTold o (CanPrepare place leads regular given_file given_journal file journal) → SparesButNew (sites_of place file.path journal.path) o n
+pub unchanged_on : (place leads : List ℕ → List ℕ) (link : List ℕ → Option (List ℕ)) (regular : ℕ → Bool) (given_file given_journal : List ℕ) (file journal : Known) (o n : Option Story)
+    → IsTold o (CanPrepare place leads link regular given_file given_journal file journal) → SparesButNew (sites_of place file.path journal.path) o n
     → IsTold n (AreUnchanged place leads regular file journal)
-unchanged_on place leads regular given_file given_journal file journal None n given spares = absurd given
-unchanged_on place leads regular given_file given_journal file journal (Some a) None given spares =
+unchanged_on place leads link regular given_file given_journal file journal None n given spares = absurd given
+unchanged_on place leads link regular given_file given_journal file journal (Some a) None given spares =
     spares (place file.path) given.clear.apart.file_new_journal given.clear.apart.file_new_file
-unchanged_on place leads regular given_file given_journal file journal (Some a) (Some b) given spares =
+unchanged_on place leads link regular given_file given_journal file journal (Some a) (Some b) given spares =
     let apart = given.clear.apart in
     let was = given.unchanged in
     record {
       file_stands = stands_still place leads file a.now b.now (spares (place file.path) apart.file_new_journal apart.file_new_file).0 was.file_stands;
       journal_stands = stands_still place leads journal a.now b.now (spares (place journal.path) apart.journal_new_journal apart.journal_new_file).0 was.journal_stands;
       is_regular = was.is_regular;
-      straight = was.straight;
     }
 
-pub settle_on : (place leads : List ℕ → List ℕ) (regular : ℕ → Bool) (given_file given_journal : List ℕ) (file journal : Known) (o n : Option Story)
-    → IsTold o (CanPrepare place leads regular given_file given_journal file journal) → SparesButNew (sites_of place file.path journal.path) o n
+pub settle_on : (place leads : List ℕ → List ℕ) (link : List ℕ → Option (List ℕ)) (regular : ℕ → Bool) (given_file given_journal : List ℕ) (file journal : Known) (o n : Option Story)
+    → IsTold o (CanPrepare place leads link regular given_file given_journal file journal) → SparesButNew (sites_of place file.path journal.path) o n
     → IsTold n (λ s. CanSettle place regular file s × CanSettle place regular journal s)
-settle_on place leads regular given_file given_journal file journal None n given spares = absurd given
-settle_on place leads regular given_file given_journal file journal (Some a) n given spares =
+settle_on place leads link regular given_file given_journal file journal None n given spares = absurd given
+settle_on place leads link regular given_file given_journal file journal (Some a) n given spares =
     still_so (AreUnchanged place leads regular file journal) (λ s. CanSettle place regular file s × CanSettle place regular journal s) n
     (λ s was. (record { at = was.file_stands.at; is_regular = given.is_regular }, record { at = was.journal_stands.at; is_regular = was.is_regular }))
-    (unchanged_on place leads regular given_file given_journal file journal (Some a) n given spares)
+    (unchanged_on place leads link regular given_file given_journal file journal (Some a) n given spares)
 
 pub free_on : (sites : Sites) (o n : Option Story) → Told o (AreFree sites) → ((p : List ℕ) → AtAnyMoment o n (Spares p)) → Told n (AreFree sites)
 free_on sites o n free spares =
@@ -287,23 +294,23 @@ module _ (place leads : List ℕ → List ℕ) (file journal : Known) where
   abbrev Replaces : State → Type 0
   Replaces s = CanReplace place leads file journal s
 
-  pub may_write : (regular : ℕ → Bool) (given_file given_journal : List ℕ) (L : Type 0) (o : Option Story)
-      → IsTold o (λ s. L × CanPrepare place leads regular given_file given_journal file journal s) → IsTold o (MayWrite place leads regular file)
-  may_write regular given_file given_journal L o given =
-      still_so (λ s. L × CanPrepare place leads regular given_file given_journal file journal s) (MayWrite place leads regular file) o
+  pub may_write : (link : List ℕ → Option (List ℕ)) (led : (path : List ℕ) → MatchOption (link path) (leads path ≡ place path) (λ next. leads path ≡ leads next)) (regular : ℕ → Bool)
+      (given_file given_journal : List ℕ) (L : Type 0) (o : Option Story) → IsTold o (λ s. L × CanPrepare place leads link regular given_file given_journal file journal s) → IsTold o (MayWrite place leads regular file)
+  may_write link led regular given_file given_journal L o given =
+      still_so (λ s. L × CanPrepare place leads link regular given_file given_journal file journal s) (MayWrite place leads regular file) o
       (λ s can. record {
         seen = can.1.unchanged.file_stands.seen;
         is_regular = can.1.is_regular;
-        straight = subst (λ p. leads p ≡ place p) can.1.file_straight.same can.1.file_straight.straight;
+        straight = (led_to link place leads led 40 given_file file.path can.1.file_end).1;
       }) given
 
-  pub replace_from : (regular : ℕ → Bool) (given_file given_journal : List ℕ) (L : Type 0) (o b : Option Story)
-      → IsTold o (λ s. L × CanPrepare place leads regular given_file given_journal file journal s) → SparesButNew Sites4 o b → Told b (AreFree Sites4) → IsTold b (λ s. L × Replaces s)
-  replace_from regular given_file given_journal L None b given spares free = absurd given
-  replace_from regular given_file given_journal L (Some a) b given spares free =
+  pub replace_from : (link : List ℕ → Option (List ℕ)) (regular : ℕ → Bool) (given_file given_journal : List ℕ) (L : Type 0) (o b : Option Story)
+      → IsTold o (λ s. L × CanPrepare place leads link regular given_file given_journal file journal s) → SparesButNew Sites4 o b → Told b (AreFree Sites4) → IsTold b (λ s. L × Replaces s)
+  replace_from link regular given_file given_journal L None b given spares free = absurd given
+  replace_from link regular given_file given_journal L (Some a) b given spares free =
       told_with (AreUnchanged place leads regular file journal) (AreFree Sites4) (λ s. L × Replaces s) b
       (λ s was none. (given.0, record { apart = given.1.clear.apart; free = none; file_stands = was.file_stands; journal_stands = was.journal_stands }))
-      (unchanged_on place leads regular given_file given_journal file journal (Some a) b given.1 spares) free
+      (unchanged_on place leads link regular given_file given_journal file journal (Some a) b given.1 spares) free
 
   module _ (L : Type 0) (o : Option Story) (given : IsTold o (λ s. L × Replaces s)) where
     pub apart_told : IsTold o (λ s. AreApart Sites4)
@@ -416,6 +423,17 @@ none_too_long m k bytes o p long same read given =
     of_told (λ s. bytes ≡ take (k + 1) (s.bytes m)) (λ s. length (s.bytes m) ≤ k) ⊥ o (λ s is short. omega (arith, long, short, ap length is, length-take (k + 1) (s.bytes m)))
     (subst (λ o. Told o (λ s. bytes ≡ take (k + 1) (s.bytes m))) same read) given
 
+-- what can be locked after links can be at the last path
+pub locked_after : (place leads : List ℕ → List ℕ) (path last text : List ℕ) (L : Type 0) (U : State → ℕ → Type 0) (o b : Option Story) → b ≡ o → text ≡ last
+    → IsTold o (λ s. L × IsSomeAnd (s.at (leads path)) (U s)) → Told o (λ s. (leads path ≡ place last) × (leads last ≡ place last))
+    → IsTold b (λ s. (leads text ≡ place text) × IsSomeAnd (s.at (leads text)) (U s))
+locked_after place leads path last text L U o b same is given led =
+    let Locked : List ℕ → State → Type 0 = λ p s. (leads p ≡ place p) × IsSomeAnd (s.at (leads p)) (U s) in
+    subst (λ p. IsTold b (Locked p)) (sym is)
+    (same_told (Locked last) o b same
+    (told_with (λ s. L × IsSomeAnd (s.at (leads path)) (U s)) (λ s. (leads path ≡ place last) × (leads last ≡ place last)) (Locked last) o
+    (λ s given led. (led.1, subst (λ p. IsSomeAnd (s.at p) (U s)) (led.0 ∙ sym led.1) given.1)) given led))
+
 -- what holds of the file at a path holds of the one that was opened there
 there_opened : (which : Which) (path : List ℕ) (P : ℕ → Type 0) (n : ℕ) → IsThere which path P (Some n) → P n
 there_opened Base path P n there = there
@@ -438,7 +456,7 @@ module _ {X : Type 0} (number : X → ℕ) (seen : X → Option Look) (which : W
 
 -- ---- a look
 
-module _ {X : Type 0} (text : X → List ℕ) (place leads : List ℕ → List ℕ) (regular : ℕ → Bool) (seen : Option (Option Look)) (journal : List ℕ) where
+module _ {X : Type 0} (text : X → List ℕ) (leads : List ℕ → List ℕ) (link : List ℕ → Option (List ℕ)) (regular : ℕ → Bool) (seen : Option (Option Look)) (journal : List ℕ) where
   -- what `look_at` asks of what stands there
   abbrev IsLooked : Which → Option X → State → ℕ → Type 0
   IsLooked which file s n = IsShort s n × (which ≡ Journal → IsOwnJournal regular (option_map (λ x. s.at (leads (text x))) file) n)
@@ -453,17 +471,17 @@ module _ {X : Type 0} (text : X → List ℕ) (place leads : List ℕ → List �
   own_there file s p None there apart = there
   own_there file s p (Some n) there apart = (there.0, λ _. own file s n there.1 apart)
 
-  looked : (which : Which) (file : Option X) (s : State) → IsReadable place leads regular Looks (option_map text file) journal seen which s
+  looked : (which : Which) (file : Option X) (s : State) → IsReadable leads link regular Looks (option_map text file) journal seen which s
       → IsThere which (path_of (option_map text file) journal which) (IsLooked which file s) (s.at (leads (path_of (option_map text file) journal which)))
   looked Base file s may = some_so _ _ (IsLooked Base file s) (λ n is. (is.0, λ never. cc)) may.there
   looked Journal file s may = own_there file s _ _ may.there (may.apart refl refl)
 
   pub readable_looked : (which : Which) (file : Option X) (path : List ℕ) (access : Access) (o : Option Story) → path ≡ path_of (option_map text file) journal which → access ≡ Looks
-      → IsTold o (IsReadable place leads regular access (option_map text file) journal seen which)
+      → IsTold o (IsReadable leads link regular access (option_map text file) journal seen which)
       → IsTold o (λ s. IsThere which path (IsLooked which file s) (s.at (leads path)))
   readable_looked which file path access o is looks given =
       subst (λ path. IsTold o (λ s. IsThere which path (IsLooked which file s) (s.at (leads path)))) (sym is)
-      (still_so _ _ o (looked which file) (subst (λ access. IsTold o (IsReadable place leads regular access (option_map text file) journal seen which)) looks given))
+      (still_so _ _ o (looked which file) (subst (λ access. IsTold o (IsReadable leads link regular access (option_map text file) journal seen which)) looks given))
 
 -- ---- a call of the home
 
@@ -474,12 +492,12 @@ seen_file knows (Some x) = refl
 pub noted_memory : (failure : Option Failure) (one : Failure) → failure ≡ Some one → FailedForMemory one → IsSomeAnd failure FailedForMemory
 noted_memory failure one is memory = subst (λ f. IsSomeAnd f FailedForMemory) (sym is) memory
 
-module _ (place leads : List ℕ → List ℕ) (regular : ℕ → Bool) (kept : Kept) (works still : Type 0) (failure : Option Failure) (story : Option Story) where
+module _ (place leads : List ℕ → List ℕ) (link : List ℕ → Option (List ℕ)) (regular : ℕ → Bool) (kept : Kept) (works still : Type 0) (failure : Option Failure) (story : Option Story) where
   abbrev pub Excused : Call → Type 0
-  Excused call = IsExcused place leads regular kept works still failure story call
+  Excused call = IsExcused place leads link regular kept works still failure story call
 
   pub read_excused : (which : Which) (fault : Fault) → fault ≡ StoreFailed → (works → still)
-      → (works → IsTold story (IsReadable place leads regular kept.access kept.file kept.journal (option_and_then (λ known. known.look) kept.old_file) which) → IsSomeAnd failure FailedForMemory)
+      → (works → IsTold story (IsReadable leads link regular kept.access kept.file kept.journal (option_and_then (λ known. known.look) kept.old_file) which) → IsSomeAnd failure FailedForMemory)
       → Excused (read_call which (Err fault))
   read_excused which fault is works_still memory =
       subst (λ fault. Excused (read_call which (Err fault))) (sym is) (record { works_still = works_still; for_memory = memory })
@@ -496,24 +514,24 @@ all_short : (journal : List ℕ) (file : Option (List ℕ)) → AllByRecursion (
 all_short journal None all = (all.0, tt)
 all_short journal (Some bytes) all = (all.0, all.1.0)
 
-module _ {X : Type 0} (knows : X → Known) (place leads : List ℕ → List ℕ) (regular : ℕ → Bool) (access : Access) (file_path : Option (List ℕ)) (journal_path : List ℕ) (x y : Option X)
+module _ {X : Type 0} (knows : X → Known) (place leads : List ℕ → List ℕ) (link : List ℕ → Option (List ℕ)) (regular : ℕ → Bool) (access : Access) (file_path : Option (List ℕ)) (journal_path : List ℕ) (x y : Option X)
     (journal : List ℕ) (file : Option (List ℕ)) where
   abbrev home_kept : Kept
   home_kept = record { access = access; file = file_path; journal = journal_path; old_file = option_map knows x; old_journal = option_map knows y }
 
   abbrev pub Begins : List ℕ → List ℕ → State → Type 0
-  Begins given_file given_journal s = IsSomeAnd x (λ x. IsSomeAnd y (λ y. CanPrepare place leads regular given_file given_journal (knows x) (knows y) s))
+  Begins given_file given_journal s = IsSomeAnd x (λ x. IsSomeAnd y (λ y. CanPrepare place leads link regular given_file given_journal (knows x) (knows y) s))
 
   abbrev pub PutNeeds : List ℕ → List ℕ → State → Type 0
   PutNeeds given_file given_journal s =
       (length journal ≤ 1_073_741_824) × IfSome file (λ bytes. length bytes ≤ 1_073_741_824) × Begins given_file given_journal s
 
   pub put_needs : (given_file given_journal : List ℕ) (o : Option Story) → given_file ≡ path_of file_path journal_path Base → given_journal ≡ journal_path
-      → IsTold o (CanPut place leads regular home_kept (writes_by journal file)) → IsTold o (PutNeeds given_file given_journal)
+      → IsTold o (CanPut place leads link regular home_kept (writes_by journal file)) → IsTold o (PutNeeds given_file given_journal)
   put_needs given_file given_journal o of_file of_journal given =
       subst (λ f. IsTold o (PutNeeds f given_journal)) (sym of_file)
       (subst (λ j. IsTold o (PutNeeds (path_of file_path journal_path Base) j)) (sym of_journal)
-      (still_so (CanPut place leads regular home_kept (writes_by journal file)) (PutNeeds (path_of file_path journal_path Base) journal_path) o
+      (still_so (CanPut place leads link regular home_kept (writes_by journal file)) (PutNeeds (path_of file_path journal_path Base) journal_path) o
       (λ s can.
       let short = all_short journal file can.short in
-      (short.0, short.1, both_known knows x y (λ f j. CanPrepare place leads regular (path_of file_path journal_path Base) journal_path f j s) can.begins)) given))
+      (short.0, short.1, both_known knows x y (λ f j. CanPrepare place leads link regular (path_of file_path journal_path Base) journal_path f j s) can.begins)) given))

@@ -1,6 +1,5 @@
 -- The steps in which a file and its journal are replaced.
-use Rattle.std.specs.Prelude.{◌≡◌, ◌≢◌, ◌⊎◌, ℕ, Bool, false, List, Option, Some, None, IfSome, IsSomeAnd, unwrap_or}
-use Rattle.std.specs.Prelude.{IsSome, [], take}
+use Rattle.std.specs.Prelude.{◌≡◌, ◌≢◌, ◌⊎◌, ℕ, Bool, false, List, Option, Some, None, IfSome, unwrap_or}
 use Rattle.rec_disk.specs.Disk.{State, Story, Look, Told, SaysOf, IsLookAt, AtAnyMoment, renamed, folder_synced}
 use Rattle.rec_disk.specs.Lasting.{Spares}
 use Rattle.rec_disk.specs.proving.Places.{Outlasts, IsSettled, Avoids, Waits}
@@ -8,7 +7,6 @@ use Rattle.rec_tools.specs.Home.{Contents}
 use Rattle.rec_files.specs.OnDisk.{Places, Sites, sites_of, CanSync, AreLeft, IsRead, SparesStrangers, TouchesOwn}
 use Rattle.rec_files.specs.OnDisk.{or_empty}
 use Rattle.rec_files.specs.Succeeding.{AreApart}
-use Rattle.rec_files.specs.Leftovers.{IsLeftJournal}
 
 -- ---- what was read
 
@@ -165,37 +163,3 @@ abbrev pub IsPutForGood : (List ℕ → List ℕ) → (List ℕ → Bool) → Pl
     → Option Story → Type 0
 IsPutForGood folder syncs p journal file old new = (crash : Bool) (c : Contents) → CanSync folder syncs crash p
     → Told old (IsRead p c) → Told new (LastAs crash p (unwrap_or file c.file) journal)
-
--- ---- what stands under the working names, at any moment
-
--- what stands at a place is as before, or an empty file that no other program has locked
-abbrev pub IsMaking : List ℕ → State → State → Type 0
-IsMaking w s u = Spares w s u ⊎ IsSomeAnd (u.at w) (λ n. (u.held n ≡ false) × (u.bytes n ≡ []))
-
--- or nothing stands there any more
-abbrev pub IsRemoving : List ℕ → State → State → Type 0
-IsRemoving w s u = Spares w s u ⊎ (u.at w ≡ None)
-
--- nothing came to a place or was locked, and a file holds what it held, or the first of the bytes
-pub record IsWriting (n : ℕ) (bytes : List ℕ) (s u : State) : Type 0 where
-  pub at : u.at ≡ s.at
-  pub held : u.held ≡ s.held
-  pub written : (u.bytes n ≡ s.bytes n) ⊎ ((k : ℕ) × (u.bytes n ≡ take k bytes))
-
--- nothing stands at a place, or what was made there
-abbrev pub IsOwn : List ℕ → Option ℕ → State → Type 0
-IsOwn w own s = (s.at w ≡ None) ⊎ (s.at w ≡ own)
-
--- what stands as the new journal, if anything does, is told to be left over
-abbrev pub HasLeftJournal : Sites → State → Type 0
-HasLeftJournal sites s = IfSome (s.at sites.new_journal) (λ n. (s.held n ≡ false) × IsLeftJournal (s.bytes n))
-
--- and no new file stands beside it
-pub record IsAlone (sites : Sites) (s : State) : Type 0 where
-  pub journal : HasLeftJournal sites s
-  pub file : s.at sites.new_file ≡ None
-
--- or one stands beside it, but none without it
-pub record IsBeside (sites : Sites) (s : State) : Type 0 where
-  pub journal : HasLeftJournal sites s
-  pub file : IfSome (s.at sites.new_file) (λ n. (s.held n ≡ false) × IsSome (s.at sites.new_journal))

@@ -1,7 +1,8 @@
 -- What the steps of a read and of a put need, to succeed on a disk that works.
-use Rattle.std.specs.Prelude.{◌≡◌, ◌≢◌, ◌≤◌, ℕ, Bool, true, List, length, Option, None, Result, IfErr, IfSome, IsSomeAnd}
+use Rattle.std.specs.Prelude.{◌≡◌, ◌≢◌, ◌≤◌, ℕ, Bool, true, List, length, Option, None, Result, IfErr, IfSome, IsSome}
+use Rattle.std.specs.Prelude.{IsSomeAnd}
 use Rattle.rec_disk.specs.Disk.{State, Look}
-use Rattle.rec_files.specs.Paths.{working_name}
+use Rattle.rec_files.specs.Paths.{working_name, end_of}
 use Rattle.rec_files.specs.OnDisk.{Sites, sites_of}
 use Rattle.rec_files.specs.Succeeding.{Known, SawRegular, HasSeen, StandsAsSeen, IsUnlocked, AreApart}
 use Rattle.rec_files.specs.proving.Replacing.{AreMade, IsMadeAt}
@@ -10,7 +11,7 @@ use Rattle.rec_files.specs.proving.Replacing.{AreMade, IsMadeAt}
 abbrev pub Succeeds : {X E : Type 0} → (E → Type 0) → Type 0 → Type 0 → Type 0 → Result X E → Type 0
 Succeeds IsMemory before after given result = before → after × (given → IfErr result IsMemory)
 
--- what was seen stands there, and is a regular file or nothing, and the path is no link
+-- what was seen stands there, and is a regular file or nothing, and the path leads to its own place
 pub record MayWrite (place leads : List ℕ → List ℕ) (regular : ℕ → Bool) (known : Known) (s : State) : Type 0 where
   pub seen : HasSeen (place known.path) known.look s
   pub is_regular : SawRegular regular known.look
@@ -53,10 +54,10 @@ pub record CanPlaceJournal (place leads : List ℕ → List ℕ) (file journal :
   pub file_stands : StandsAsSeen place leads file s
   pub journal_stands : StandsAsSeen place leads journal s
 
--- it can be opened to be replaced: a regular file at a path that is no link
-pub record IsLockable (place leads : List ℕ → List ℕ) (regular : ℕ → Bool) (path : List ℕ)
+-- it can be opened to be replaced: a regular file after fewer than 40 links in a row
+pub record IsLockable (link : List ℕ → Option (List ℕ)) (regular : ℕ → Bool) (path : List ℕ)
     (other : Option (Option Look)) (s : State) (n : ℕ) : Type 0 where
-  pub no_link : leads path ≡ place path
+  pub few_links : IsSome (end_of link 40 path)
   pub is_regular : regular n ≡ true
   pub unlocked : IsUnlocked other s n
 

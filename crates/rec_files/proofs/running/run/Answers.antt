@@ -9,7 +9,7 @@ returns-clause-any_moment g c =
     let (calls, printed, out, done) = c.run.ensures.attempts in
     request_secure g.D.Disk.place g.D.Disk.folder g.D.Disk.syncs (λ home. places_by g.D.Disk.leads (option_map string_bytes home.file) (string_bytes home.journal)) (λ home. g.D.Disk.story home.disk)
     (λ home. home.failed)
-    (λ old call new. IsExcused g.D.Disk.place g.D.Disk.leads g.D.Disk.regular (kept g.D.Disk.number g.D.Disk.tells old) (g.D.Disk.works old.disk) (g.D.Disk.works new.disk) new.failure
+    (λ old call new. IsExcused g.D.Disk.place g.D.Disk.leads g.D.Disk.link g.D.Disk.regular (kept g.D.Disk.number g.D.Disk.tells old) (g.D.Disk.works old.disk) (g.D.Disk.works new.disk) new.failure
     (g.D.Disk.story old.disk) call)
     c.stops_are_steps.ensures.stops c.args.request.now c.run.result calls printed c.args.home.now c.run.new.home done
 
@@ -18,7 +18,7 @@ returns-clause-lasting g c =
     let (calls, printed, out, done) = c.run.ensures.attempts in
     request_lasts g.D.Disk.place g.D.Disk.folder g.D.Disk.syncs (λ home. places_by g.D.Disk.leads (option_map string_bytes home.file) (string_bytes home.journal)) (λ home. g.D.Disk.story home.disk)
     (λ home. home.failed)
-    (λ old call new. IsExcused g.D.Disk.place g.D.Disk.leads g.D.Disk.regular (kept g.D.Disk.number g.D.Disk.tells old) (g.D.Disk.works old.disk) (g.D.Disk.works new.disk) new.failure
+    (λ old call new. IsExcused g.D.Disk.place g.D.Disk.leads g.D.Disk.link g.D.Disk.regular (kept g.D.Disk.number g.D.Disk.tells old) (g.D.Disk.works old.disk) (g.D.Disk.works new.disk) new.failure
     (g.D.Disk.story old.disk) call)
     c.stops_are_steps.ensures.stops c.args.request.now c.run.result calls printed c.args.home.now c.run.new.home done
 
@@ -27,7 +27,7 @@ returns-clause-touches g c =
     let (calls, printed, out, done) = c.run.ensures.attempts in
     request_touches g.D.Disk.place g.D.Disk.folder g.D.Disk.syncs (λ home. places_by g.D.Disk.leads (option_map string_bytes home.file) (string_bytes home.journal)) (λ home. g.D.Disk.story home.disk)
     (λ home. home.failed)
-    (λ old call new. IsExcused g.D.Disk.place g.D.Disk.leads g.D.Disk.regular (kept g.D.Disk.number g.D.Disk.tells old) (g.D.Disk.works old.disk) (g.D.Disk.works new.disk) new.failure
+    (λ old call new. IsExcused g.D.Disk.place g.D.Disk.leads g.D.Disk.link g.D.Disk.regular (kept g.D.Disk.number g.D.Disk.tells old) (g.D.Disk.works old.disk) (g.D.Disk.works new.disk) new.failure
     (g.D.Disk.story old.disk) call)
     c.stops_are_steps.ensures.stops c.args.request.now c.run.result calls printed c.args.home.now c.run.new.home done
 
@@ -36,6 +36,6 @@ returns-clause-recovers g c =
     let (calls, printed, out, done) = c.run.ensures.attempts in
     request_recovers g.D.Disk.place g.D.Disk.folder g.D.Disk.syncs (λ home. places_by g.D.Disk.leads (option_map string_bytes home.file) (string_bytes home.journal)) (λ home. g.D.Disk.story home.disk)
     (λ home. home.failed)
-    (λ old call new. IsExcused g.D.Disk.place g.D.Disk.leads g.D.Disk.regular (kept g.D.Disk.number g.D.Disk.tells old) (g.D.Disk.works old.disk) (g.D.Disk.works new.disk) new.failure
+    (λ old call new. IsExcused g.D.Disk.place g.D.Disk.leads g.D.Disk.link g.D.Disk.regular (kept g.D.Disk.number g.D.Disk.tells old) (g.D.Disk.works old.disk) (g.D.Disk.works new.disk) new.failure
     (g.D.Disk.story old.disk) call)
     c.stops_are_steps.ensures.stops c.args.request.now c.run.result calls printed c.args.home.now c.run.new.home done

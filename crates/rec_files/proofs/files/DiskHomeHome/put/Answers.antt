@@ -24,7 +24,7 @@ returns-in-Ok-clause-call g c = (
 pub returns-in-Err-clause-call : goal.returns-in-Err-clause-call
 returns-in-Err-clause-call g c =
     noted_call g.D.Disk.place g.D.Disk.folder g.D.Disk.syncs (writes_by c.args.journal.now (option_copied c.args.file)) _ _ _ _ _ _ _ _
-    (Excused g.D.Disk.place g.D.Disk.leads g.D.Disk.regular (kept g.D.Disk.number g.D.Disk.tells c.args.self.now) (g.D.Disk.works c.args.self.now.disk) (g.D.Disk.works c.fail.new.self.disk)
+    (Excused g.D.Disk.place g.D.Disk.leads g.D.Disk.link g.D.Disk.regular (kept g.D.Disk.number g.D.Disk.tells c.args.self.now) (g.D.Disk.works c.args.self.now.disk) (g.D.Disk.works c.fail.new.self.disk)
     c.fail.new.self.failure (g.D.Disk.story c.args.self.now.disk))
     (ap (λ file. places_by g.D.Disk.leads (option_map string_bytes file) (string_bytes c.fail.new.self.journal)) c.fail.ensures.paths.0
     ∙ ap (λ journal. places_by g.D.Disk.leads (option_map string_bytes c.args.self.now.file) (string_bytes journal)) c.fail.ensures.paths.1)
@@ -34,7 +34,7 @@ returns-in-Err-clause-call g c =
       for_memory = λ works had.
           noted_memory _ _ c.fail.ensures.noted
           ((c.in-Err.ensures.succeeds works).1
-          (put_needs (known g.D.Disk.number g.D.Disk.tells) g.D.Disk.place g.D.Disk.leads g.D.Disk.regular c.args.self.now.access (option_map string_bytes c.args.self.now.file)
+          (put_needs (known g.D.Disk.number g.D.Disk.tells) g.D.Disk.place g.D.Disk.leads g.D.Disk.link g.D.Disk.regular c.args.self.now.access (option_map string_bytes c.args.self.now.file)
           (string_bytes c.args.self.now.journal) c.args.self.now.both.file c.args.self.now.both.journal c.args.journal.now (option_copied c.args.file) c.path_in.result.now c.as_str.result.now _
           c.path_in.ensures c.as_str.ensures.value had));
     })

@@ -1,7 +1,7 @@
 use Rattle.std.proofs.Common.{◌≢◌, subst, sym}
 use Rattle.rec_disk.specs.Disk.{AtAnyMoment}
 use Rattle.rec_disk.proofs.lemmas.Calls.{remove_spares}
-use Rattle.rec_files.specs.proving.Replacing.{IsRemoving}
+use Rattle.rec_files.specs.proving.Recovering.{IsRemoving}
 use Rattle.rec_files.proofs.lemmas.Recovering.{remove_removing}
 use Rattle.rec_files.proofs.target.Target.remove_leftover.Goals as goal
 

@@ -7,14 +7,14 @@ use Rattle.std.specs.Str.{bytes_eq}
 use Rattle.clap.specs.Words.{HasKind, IsAmong, Row, Text, fault_of, kind_of, subcommand_of}
 use Rattle.clap.specs.declared.error.Error.{Error}
 use Rattle.rec_text.specs.declared.fault.Fault.{Fault}
-use Rattle.rec_text.specs.declared.fault.Fault.TheVariants.{BadUsage, OutOfMemory as NoMemory}
+use Rattle.rec_text.specs.declared.fault.Fault.TheVariants.{BadUsage}
 use Rattle.rec_command.specs.declared.args.CommandLine.{CommandLine}
 use Rattle.rec_command.specs.declared.args.refusal.Refusal.{Refusal}
 use Rattle.rec_command.specs.declared.args.refusal.Refusal.TheVariants.{OutOfMemory, Usage, Rule}
 use Rattle.rec_command.specs.declared.tools.Tool.{Tool}
 use Rattle.rec_command.specs.declared.tools.Tool.TheVariants.{RecSel, RecInf, RecFix, RecIns, RecDel, RecSet}
 use Rattle.rec_command.specs.declared.tools.Tool.TheVariants.{Batch, Undo, Redo, Revert, History, Show, Forget}
-use Rattle.rec_command.specs.Refusals.{IsOrRefuses, IsParsed, IsRefusalOf}
+use Rattle.rec_command.specs.Refusals.{IsOrRefuses, IsParsed, IsRefusalOf, refusal_fault}
 use Rattle.rec_command.specs.Usage.{name_of, tools, usage}
 use Rattle.rec_command.specs.Words.{IsAsked, IsAskedBy}
 
@@ -137,20 +137,12 @@ parsed-no_tool words name rows named none line asked =
     none asked.tool (ap (λ (o : Option (Text × List Row)). option_map_or (λ p. p.0) o []) (sym asked.named ∙ named))
 
 -- what is refused by clap or by a rule asks for nothing
-pub refused-asks_nothing : (words : List Text) (refusal : Refusal) → IsParsed words (Err refusal)
-    → (refusal ≡ OutOfMemory → ⊥) → (line : CommandLine) → IsAsked words line → ⊥
-refused-asks_nothing words OutOfMemory parsed known line asked = known refl
-refused-asks_nothing words (Usage error) parsed known line asked =
+pub refused-fault : (words : List Text) (refusal : Refusal) → IsParsed words (Err refusal)
+    → refusal_fault refusal ≡ BadUsage → (line : CommandLine) → IsAsked words line → ⊥
+refused-fault words OutOfMemory parsed is line asked = cc
+refused-fault words (Usage error) parsed is line asked =
     subst (λ kinds. IsAmong (kind_of error) kinds) asked.taken parsed
-refused-asks_nothing words (Rule rule) parsed known line asked = parsed.1 line asked
+refused-fault words (Rule rule) parsed is line asked = parsed.1 line asked
 
 pub err-is : (one other : Fault) → ◌≡◌ {A = Result CommandLine Fault} (Err one) (Err other) → one ≡ other
 err-is one other is = cc
-
-memory_is_usage : (fault : Fault) → fault ≡ NoMemory → fault ≡ BadUsage → ⊥
-memory_is_usage fault memory usage = cc
-
-pub refused-fault : (words : List Text) (refusal : Refusal) (fault : Fault) → IsParsed words (Err refusal)
-    → (refusal ≡ OutOfMemory → fault ≡ NoMemory) → fault ≡ BadUsage → (line : CommandLine) → IsAsked words line → ⊥
-refused-fault words refusal fault parsed memory usage =
-    refused-asks_nothing words refusal parsed (λ same. memory_is_usage fault (memory same) usage)

@@ -1,5 +1,6 @@
 //! Why words give no request, and what a user is told of it.
-ghost use Rattle.std.specs.Prelude.{◌≡◌, ◌⊎◌, ◌↔◌};
+ghost use Rattle.std.specs.Prelude.{◌≡◌, ◌↔◌, IsTrue};
+ghost use Rattle.rec_command.specs.Refusals.{AsksForHelp, refusal_fault};
 
 use crate::hints::hyphenated_value;
 use clap::error::ErrorKind;
@@ -21,8 +22,7 @@ pub enum Refusal {
 impl Refusal {
     /// The fault of the refusal. That of words that ask for help is bad usage.
     pub fn fault(&self) -> Fault
-        ensures faults { (result ≡ Fault.OutOfMemory) ⊎ (result ≡ Fault.BadUsage) }
-        ensures memory { (result ≡ Fault.OutOfMemory) ↔ (self.now ≡ Refusal.OutOfMemory) }
+        ensures { result ≡ refusal_fault self.now }
     {
         match self {
             Refusal::OutOfMemory => Fault::OutOfMemory,
@@ -30,27 +30,28 @@ impl Refusal {
         }
     }
 
+    /// Whether the words ask for help.
+    pub fn asks_for_help(&self) -> bool
+        ensures { IsTrue result ↔ AsksForHelp self.now }
+    {
+        match self {
+            Refusal::Usage(error) => !error.use_stderr(),
+            Refusal::OutOfMemory | Refusal::Rule(_) => false,
+        }
+    }
+
     /// Says on standard error what is wrong with the words. Where they ask for help, it prints that on standard output
-    /// instead and answers true. An error is the output's, or says that memory ran out.
+    /// instead. An error is that of what is printed on.
     pub fn explain<R: Print + Eprint + AllocGlobal, S: AsStr>(
         &self,
         rt: &R,
         words: &[S],
-    ) -> io::Result<bool> {
+    ) -> io::Result<()> {
         match self {
-            Refusal::OutOfMemory => Err(io::Error::from(io::ErrorKind::OutOfMemory)),
-            Refusal::Usage(help) if !help.use_stderr() => {
-                help.print(rt)?;
-                Ok(true)
-            }
-            Refusal::Usage(error) => {
-                let _ = explain_usage(rt, error, words);
-                Ok(false)
-            }
-            Refusal::Rule(line) => {
-                let _ = eprintln!(rt; "{line}");
-                Ok(false)
-            }
+            Refusal::OutOfMemory => Ok(()),
+            Refusal::Usage(help) if !help.use_stderr() => help.print(rt),
+            Refusal::Usage(error) => explain_usage(rt, error, words),
+            Refusal::Rule(line) => eprintln!(rt; "{line}"),
         }
     }
 }

@@ -11,6 +11,10 @@ is_shown byte = nat_le space byte && not (byte == del)
 abbrev pub IsShown : ℕ → Type 0
 IsShown byte = (byte ≡ newline) ⊎ (is_shown byte ≡ true)
 
+-- whole lines: nothing, or the last byte is a newline
+abbrev pub AreLines : List ℕ → Type 0
+AreLines text = (text ≡ []) ⊎ ((before : List ℕ) × (text ≡ before ++ newline ∷ []))
+
 -- the lines with one more, where it can be shown
 abbrev pub with_line : List ℕ → List ℕ → List ℕ
 with_line lines line = if list_all is_shown line then lines ++ (line ++ newline ∷ []) else lines

@@ -1,7 +1,7 @@
 //! The lines of an explanation.
 ghost use Rattle.std.specs.Prelude.{◌≡◌, ◌⊎◌, [], All, OnOk, OnErr, flat_map};
 ghost use Rattle.std.specs.List.{list_all};
-ghost use Rattle.rec_explain.specs.Lines.{IsShown, is_shown as may_be_shown, with_line};
+ghost use Rattle.rec_explain.specs.Lines.{AreLines, IsShown, is_shown as may_be_shown, with_line};
 
 use itoa::Buffer;
 use std::alloc::{AllocError, Global};
@@ -17,13 +17,13 @@ pub struct Explanation {
 
 impl Model for Explanation {
     ghost use Rattle.std.specs.Prelude.{ℕ, List, All};
-    ghost use Rattle.rec_explain.specs.Lines.{IsShown};
+    ghost use Rattle.rec_explain.specs.Lines.{AreLines, IsShown};
 
     ghost Value = { List ℕ };
 
     ghost view = { λ explanation. explanation.lines.items };
 
-    ghost invariant = { λ explanation. All IsShown explanation.lines.items };
+    ghost invariant = { λ explanation. All IsShown explanation.lines.items × AreLines explanation.lines.items };
 }
 
 impl Explanation {
@@ -80,6 +80,7 @@ impl Explanation {
     pub fn into_lines(self) -> Vec<u8>
         ensures lines { result.items ≡ self }
         ensures shown { All IsShown result.items }
+        ensures whole { AreLines result.items }
     {
         self.lines
     }

@@ -1,6 +1,6 @@
 //! What is said of edits that were undone or redone one after another.
 ghost use Rattle.std.specs.Prelude.{All};
-ghost use Rattle.rec_explain.specs.Lines.{IsShown};
+ghost use Rattle.rec_explain.specs.Lines.{AreLines, IsShown};
 
 use crate::explanation::Explanation;
 use crate::lines::shown::plain;
@@ -18,6 +18,7 @@ pub fn explain_through(
     on_terminal: bool,
 ) -> Vec<u8>
     ensures shown { All IsShown result.items }
+    ensures whole { AreLines result.items }
 {
     let mut said = Explanation::new(alloc);
     if through.answer.is_ok() && through.last != Some(number) {

@@ -1,6 +1,6 @@
 //! What is said of a command that succeeded.
 ghost use Rattle.std.specs.Prelude.{All};
-ghost use Rattle.rec_explain.specs.Lines.{IsShown};
+ghost use Rattle.rec_explain.specs.Lines.{AreLines, IsShown};
 
 use crate::explanation::Explanation;
 use crate::lines::shown::plain;
@@ -19,6 +19,7 @@ pub fn explain_done(
     on_terminal: bool,
 ) -> Vec<u8>
     ensures shown { All IsShown result.items }
+    ensures whole { AreLines result.items }
 {
     let mut said = Explanation::new(alloc);
     let is_tried = matches!(request, Request::Preview(_, _));

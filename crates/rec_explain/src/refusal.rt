@@ -1,6 +1,6 @@
 //! What a refusal is about.
 ghost use Rattle.std.specs.Prelude.{All};
-ghost use Rattle.rec_explain.specs.Lines.{IsShown};
+ghost use Rattle.rec_explain.specs.Lines.{AreLines, IsShown};
 
 use crate::about::About;
 use crate::batches::explain_batch;
@@ -23,6 +23,7 @@ use std::alloc::Global;
 /// runs out, less is said.
 pub fn explain(alloc: Global, about: &About<'_>, request: &Request, fault: &Fault) -> Vec<u8>
     ensures shown { All IsShown result.items }
+    ensures whole { AreLines result.items }
 {
     let mut said = Explanation::new(alloc);
     explain_fault(alloc, about, tried(request), fault, &mut said);

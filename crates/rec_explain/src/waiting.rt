@@ -1,6 +1,6 @@
 //! Standard input, which a person may not know to be read.
 ghost use Rattle.std.specs.Prelude.{All};
-ghost use Rattle.rec_explain.specs.Lines.{IsShown};
+ghost use Rattle.rec_explain.specs.Lines.{AreLines, IsShown};
 
 use crate::explanation::Explanation;
 use rec_tools::Request;
@@ -9,6 +9,7 @@ use std::alloc::Global;
 /// A line that says that a tool that was given no file reads standard input.
 pub fn explain_waiting(alloc: Global, request: &Request) -> Vec<u8>
     ensures shown { All IsShown result.items }
+    ensures whole { AreLines result.items }
 {
     let mut said = Explanation::new(alloc);
     if let Some(tool) = reading_tool(request) {

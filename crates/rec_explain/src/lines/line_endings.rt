@@ -1,6 +1,6 @@
 //! Lines that end in CR LF.
 ghost use Rattle.std.specs.Prelude.{All};
-ghost use Rattle.rec_explain.specs.Lines.{IsShown};
+ghost use Rattle.rec_explain.specs.Lines.{AreLines, IsShown};
 
 use crate::about::About;
 use crate::explanation::Explanation;
@@ -9,6 +9,7 @@ use std::alloc::Global;
 /// A line that names the first line of the file that ends in CR LF, if there is one, and says what follows from that.
 pub fn explain_endings(alloc: Global, about: &About<'_>) -> Vec<u8>
     ensures shown { All IsShown result.items }
+    ensures whole { AreLines result.items }
 {
     let mut said = Explanation::new(alloc);
     if let Some(line) = first_ending(about.text.unwrap_or(&[])) {

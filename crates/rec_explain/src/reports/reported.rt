@@ -1,6 +1,6 @@
 //! The records that a report is about.
 ghost use Rattle.std.specs.Prelude.{All};
-ghost use Rattle.rec_explain.specs.Lines.{IsShown};
+ghost use Rattle.rec_explain.specs.Lines.{AreLines, IsShown};
 
 use crate::about::About;
 use crate::explanation::Explanation;
@@ -21,6 +21,7 @@ const SHOWN: usize = 20;
 /// The records in which the first violations of the file stand, and what these break: lines, each with its newline.
 pub fn explain_report(alloc: Global, about: &About<'_>) -> Vec<u8>
     ensures shown { All IsShown result.items }
+    ensures whole { AreLines result.items }
 {
     let mut said = Explanation::new(alloc);
     show_report(alloc, about, &mut said);

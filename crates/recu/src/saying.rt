@@ -1,6 +1,5 @@
 //! What is said on standard error beside the line of a refusal.
-use crate::FileHome;
-use rec_disk::HostDisk;
+use rec_disk::{Disk, HostDisk};
 use rec_explain::{
     About, explain, explain_done, explain_endings, explain_report, explain_through, explain_waiting,
 };
@@ -18,9 +17,9 @@ pub fn say_waiting(rt: &HostRuntime, request: &Request) {
 }
 
 /// Says how far moves to the edit of a number went: on a terminal, and always where they didn't come to it.
-pub fn say_how_far(
+pub fn say_how_far<D: Disk + Drop>(
     rt: &HostRuntime,
-    home: &FileHome<'_>,
+    home: &DiskHome<'_, HostRuntime, D>,
     direction: Direction,
     number: usize,
     through: &Through,
@@ -34,9 +33,9 @@ pub fn say_how_far(
 }
 
 /// Says on standard error what a refusal is about, or what is said of a report and of what was done.
-pub fn say_more(
+pub fn say_more<D: Disk + Drop>(
     rt: &HostRuntime,
-    home: &FileHome<'_>,
+    home: &DiskHome<'_, HostRuntime, D>,
     request: &Request,
     batch: &Option<String>,
     answer: &Result<Reply, Fault>,
@@ -62,9 +61,9 @@ fn say(rt: &HostRuntime, lines: &[u8]) {
 
 /// Says on a terminal in which records stands what was reported, and that lines end in CR LF: where nothing was reported, on
 /// a terminal alone.
-fn explain_reply(
+fn explain_reply<D: Disk + Drop>(
     rt: &HostRuntime,
-    home: &FileHome<'_>,
+    home: &DiskHome<'_, HostRuntime, D>,
     request: &Request,
     batch: &Option<String>,
     reply: &Reply,
@@ -73,7 +72,7 @@ fn explain_reply(
     if !is_report && !(matches!(request, Request::Check) && rt.stderr().is_terminal()) {
         return;
     }
-    let text = home.text_again(rt.alloc());
+    let text = text_again(rt, home);
     let about = about(home, batch, &text, &None, &None);
     if is_report && rt.stdout().is_terminal() {
         say(rt, &explain_report(rt.alloc(), &about));
@@ -82,7 +81,12 @@ fn explain_reply(
 }
 
 /// Says what was done: on a terminal, and that earlier edits can't be undone any more always.
-fn say_done(rt: &HostRuntime, home: &FileHome<'_>, request: &Request, reply: &Reply) {
+fn say_done<D: Disk + Drop>(
+    rt: &HostRuntime,
+    home: &DiskHome<'_, HostRuntime, D>,
+    request: &Request,
+    reply: &Reply,
+) {
     let file = home.path(Which::Base);
     let on_terminal = rt.stderr().is_terminal();
     say(
@@ -92,7 +96,11 @@ fn say_done(rt: &HostRuntime, home: &FileHome<'_>, request: &Request, reply: &Re
 }
 
 /// Prints the report for which an edit was refused, and gives the text of the file, where a refusal can be about it.
-fn text_for(rt: &HostRuntime, home: &FileHome<'_>, fault: &Fault) -> Option<Vec<u8>> {
+fn text_for<D: Disk + Drop>(
+    rt: &HostRuntime,
+    home: &DiskHome<'_, HostRuntime, D>,
+    fault: &Fault,
+) -> Option<Vec<u8>> {
     match fault {
         Fault::OutOfMemory | Fault::StoreFailed => None,
         Fault::Integrity(violations) => {
@@ -101,14 +109,17 @@ fn text_for(rt: &HostRuntime, home: &FileHome<'_>, fault: &Fault) -> Option<Vec<
                 failed: 0,
             };
             let _ = write_report(violations.as_slice(), &mut err);
-            home.text_again(rt.alloc())
+            text_again(rt, home)
         }
-        _ => home.text_again(rt.alloc()),
+        _ => text_again(rt, home),
     }
 }
 
-/// The file and its journal, to be read again.
-fn home_again<'r>(rt: &'r HostRuntime, home: &FileHome<'_>) -> Option<FileHome<'r>> {
+/// The file and its journal on the disk of the system, to be read again.
+fn home_again<'r, D: Disk + Drop>(
+    rt: &'r HostRuntime,
+    home: &DiskHome<'_, HostRuntime, D>,
+) -> Option<DiskHome<'r, HostRuntime, HostDisk<HostRuntime>>> {
     let file = String::from_str(rt.alloc(), home.path(Which::Base)).ok()?;
     let journal = String::from_str(rt.alloc(), home.path(Which::Journal)).ok()?;
     Some(DiskHome::new(
@@ -120,8 +131,23 @@ fn home_again<'r>(rt: &'r HostRuntime, home: &FileHome<'_>) -> Option<FileHome<'
     ))
 }
 
+/// The bytes of the file as they are now. Standard input, which has no path, isn't read again.
+fn text_again<D: Disk + Drop>(
+    rt: &HostRuntime,
+    home: &DiskHome<'_, HostRuntime, D>,
+) -> Option<Vec<u8>> {
+    if home.path(Which::Base).is_empty() {
+        return None;
+    }
+    home_again(rt, home)?.text_again(rt.alloc())
+}
+
 /// The history, as `history` prints it, where a refusal is that an edit isn't one of it, or that texts of edits don't fit.
-fn history_for(rt: &HostRuntime, home: &FileHome<'_>, fault: &Fault) -> Option<Vec<u8>> {
+fn history_for<D: Disk + Drop>(
+    rt: &HostRuntime,
+    home: &DiskHome<'_, HostRuntime, D>,
+    fault: &Fault,
+) -> Option<Vec<u8>> {
     let (Fault::NoSuchEdit | Fault::Drifted) = fault else {
         return None;
     };
@@ -135,9 +161,9 @@ fn history_for(rt: &HostRuntime, home: &FileHome<'_>, fault: &Fault) -> Option<V
 }
 
 /// The bytes of the journal, where a refusal is about what a revert would leave.
-fn events_for(
+fn events_for<D: Disk + Drop>(
     rt: &HostRuntime,
-    home: &FileHome<'_>,
+    home: &DiskHome<'_, HostRuntime, D>,
     request: &Request,
     fault: &Fault,
 ) -> Option<Bytes> {
@@ -157,8 +183,8 @@ fn is_revert(request: &Request) -> bool {
     }
 }
 
-fn about<'a>(
-    home: &'a FileHome<'_>,
+fn about<'a, D: Disk + Drop>(
+    home: &'a DiskHome<'_, HostRuntime, D>,
     batch: &'a Option<String>,
     text: &'a Option<Vec<u8>>,
     history: &'a Option<Vec<u8>>,

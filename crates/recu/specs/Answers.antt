@@ -1,0 +1,182 @@
+-- The answer to a command line: of which request it is, on which home, and what becomes of what is printed.
+use Rattle.std.specs.Prelude.{◌≡◌, ◌≢◌, ◌⊎◌, ◌↔◌, ℕ, Bool, List, [], Option, Some, None, Result, Ok, Err, IfSome}
+use Rattle.std.specs.Prelude.{MatchOption, MatchResult, option_map, unwrap_or, string_bytes}
+use Rattle.std.specs.Io.Buffered.{writer_buffer, writer_contents}
+use Rattle.std.specs.Io.KnownBytes.{Appends}
+use Rattle.rec_text.specs.declared.fault.Fault.{Fault}
+use Rattle.rec_text.specs.declared.fault.Fault.TheVariants.{OutOfMemory, StoreFailed}
+use Rattle.rec_text.specs.Sink.{HasRisen}
+use Rattle.rec_disk.specs.Disk.{Story, Told}
+use Rattle.rec_disk.specs.Lasting.{shown}
+use Rattle.rec_journal.specs.declared.patch.Direction.{Direction}
+use Rattle.rec_journal.specs.declared.patch.Direction.TheVariants.{Forward, Backward}
+use Rattle.rec_tools.specs.declared.request.Request.{Request, Undo, Redo}
+use Rattle.rec_tools.specs.declared.request.Reply.{Reply}
+use Rattle.rec_tools.specs.declared.through.Through.{Through}
+use Rattle.rec_tools.specs.Home.{Call}
+use Rattle.rec_tools.specs.Printouts.{Printed, WentOut}
+use Rattle.rec_tools.specs.Requests.{asked_of, WritesNothing}
+use Rattle.rec_tools.specs.Attempts.{Answer, Attempts, AttemptsAll}
+use Rattle.rec_tools.specs.Through.{move_through, moves_through, EndsThrough}
+use Rattle.rec_files.specs.declared.access.Access.TheVariants.{Look}
+use Rattle.rec_files.specs.declared.files.DiskHome.{DiskHome}
+use Rattle.rec_files.specs.declared.output.StandardOutput.{StandardOutput}
+use Rattle.rec_files.specs.OnDisk.{Places, places_by, IsRequestAt, AreRequestsAt}
+use Rattle.rec_command.specs.declared.args.Order.{Order}
+use Rattle.rec_command.specs.declared.args.Order.TheVariants.{Whole, BatchAt}
+use Rattle.rec_command.specs.declared.args.CommandLine.{CommandLine}
+use Rattle.rec_command.specs.declared.args.refusal.Refusal.{Refusal}
+use Rattle.rec_command.specs.Refusals.{AsksForHelp, IsParsed, refusal_fault}
+use Rattle.rec_command.specs.Words.{IsBatchOf}
+
+-- ---- the request and the home
+
+-- The request of an order: that which it gives whole, or a batch with the text at its path, where the disk tells what stands
+-- there; or that text can't be read, or there is no memory for it.
+abbrev pub IsRequestOf : (List ℕ → List ℕ) → Option Story → Order → Result Request Fault → Type 0
+IsRequestOf leads story (Whole own) found = found ≡ Ok own
+IsRequestOf leads story (BatchAt path force preview) (Ok request) = (text : List ℕ)
+    × Told story (λ s. shown s.bytes (s.at (leads (string_bytes path))) ≡ Some text)
+    × IsBatchOf text force preview request
+IsRequestOf leads story (BatchAt path force preview) (Err fault) = (fault ≡ OutOfMemory) ⊎ (fault ≡ StoreFailed)
+
+-- a home of the two files on a disk, which may write them only for a request that writes
+pub record IsHomeFor {R D F S : Type 0} (disk : D) (file journal : Option (List ℕ)) (request : Request)
+    (home : DiskHome R D F S) : Type 0 where
+  pub disk_is : home.disk ≡ disk
+  pub file_is : option_map string_bytes home.file ≡ file
+  pub journal_is : string_bytes home.journal ≡ unwrap_or journal []
+  pub access_is : (home.access ≡ Look) ↔ WritesNothing (asked_of request)
+
+-- the same home once its files are closed
+pub record IsClosed {R D F S : Type 0} (home closed : DiskHome R D F S) : Type 0 where
+  pub disk : closed.disk ≡ home.disk
+  pub file : closed.file ≡ home.file
+  pub journal : closed.journal ≡ home.journal
+  pub failed : closed.failed ≡ home.failed
+
+-- this holds of a home before its files are closed
+abbrev pub BeforeClosing : {R D F S : Type 0} → (DiskHome R D F S → Type 0) → DiskHome R D F S → Type 0
+BeforeClosing {R} {D} {F} {S} P closed = (home : DiskHome R D F S) × P home × IsClosed home closed
+
+-- ---- what is printed
+
+-- standard output: the bytes that it took, where they are known, those of them that it still holds, and how often it failed
+pub record Out : Type 0 where
+  pub taken : Option (List ℕ)
+  pub held : List ℕ
+  pub failed : ℕ
+
+abbrev pub out_of : {W : Type 0} → (W → Option (List ℕ)) → StandardOutput W → Out
+out_of contents output = record {
+  taken = writer_contents contents output.writer;
+  held = writer_buffer output.writer;
+  failed = output.failed;
+}
+
+-- standard output of a writer that took these bytes, before anything is printed
+pub record IsNew (taken : Option (List ℕ)) (out : Out) : Type 0 where
+  pub taken_is : out.taken ≡ taken
+  pub held : out.held ≡ []
+  pub failed : out.failed ≡ 0
+
+-- An answer once what was printed is let out, by the count of failures before that: a refusal stays, and so does another
+-- answer where nothing is held any more; else it is 23.
+abbrev pub IsLetOut : Answer → ℕ → Out → Answer → Type 0
+IsLetOut told failed out (Ok reply) = (told ≡ Ok reply) × (out.held ≡ [])
+IsLetOut told failed out (Err fault) = (told ≡ Err fault)
+    ⊎ ((fault ≡ StoreFailed) × HasRisen failed out.failed × ((reply : Reply) × (told ≡ Ok reply)))
+
+-- ---- one request, or moves as far as an edit
+
+-- the way and the number of the edit as far as which a request moves through the history, if it does
+abbrev pub through_of : Request → Option (Direction × ℕ)
+through_of (Undo (Some number)) = Some (Backward, number)
+through_of (Redo (Some number)) = Some (Forward, number)
+through_of request = None
+
+-- An answer to moves as far as the edit of a number: that of the last one; but where it isn't refused and not by that edit,
+-- another program came in between, and the answer is 23.
+abbrev pub IsMovedTo : ℕ → Through → Answer → Type 0
+IsMovedTo number told (Ok reply) = (told.answer ≡ Ok reply) × (told.last ≡ Some number)
+IsMovedTo number told (Err fault) = (told.answer ≡ Err fault)
+    ⊎ ((fault ≡ StoreFailed) × (told.last ≢ Some number) × ((reply : Reply) × (told.answer ≡ Ok reply)))
+
+module _ {R D F S : Type 0} (place leads folder : List ℕ → List ℕ) (syncs : List ℕ → Bool) (story : D → Option Story)
+    (goes : DiskHome R D F S → Call → DiskHome R D F S → Type 0) where
+  abbrev pub places_of : DiskHome R D F S → Option Places
+  places_of home = places_by leads (option_map string_bytes home.file) (string_bytes home.journal)
+
+  -- By calls by which the one home becomes the other, with what standard output takes, a request is answered so.
+  module _ (old new : DiskHome R D F S) (before after : Out) where
+    -- it is the answer of the request itself, once what it printed is let out
+    pub record AnswersOnce (request : Request) (answer : Answer) : Type 0 where
+      pub told : Answer
+      pub calls : List Call
+      pub printed : Printed
+      pub taken : Appends before.taken after.taken printed.text
+      pub failed : printed.before ≡ before.failed
+      pub attempts : Attempts goes old new (asked_of request) told calls printed
+      pub on_disk : IfSome (places_of old)
+          (λ at. IsRequestAt place folder syncs at (asked_of request) told (story old.disk) (story new.disk))
+      pub let_out : IsLetOut told printed.after after answer
+
+    -- it is that of moves, each a request of its own
+    pub record AnswersThrough (direction : Direction) (number : ℕ) (answer : Answer) : Type 0 where
+      pub told : Through
+      pub answers : List Answer
+      pub ends : EndsThrough direction number answers told
+      pub calls : List Call
+      pub printed : Printed
+      pub went_out : WentOut (λ out. out.taken) (λ out. out.failed) before after printed
+      pub attempts : AttemptsAll goes old new (moves_through direction number answers) answers calls printed
+      pub on_disk : IfSome (places_of old) (λ at. AreRequestsAt place folder syncs at
+          (asked_of (move_through direction number)) answers (story old.disk) (story new.disk))
+      pub moved : IsMovedTo number told answer
+
+    abbrev pub Answers : Request → Answer → Type 0
+    Answers request answer = MatchOption (through_of request) (AnswersOnce request answer)
+        (λ way. AnswersThrough way.0 way.1 answer)
+
+  -- On a home, which is closed then, a request is answered so, and is printed by a writer that took these bytes before; or
+  -- there was no memory for it.
+  abbrev pub AnswersOn : DiskHome R D F S → DiskHome R D F S → Option (List ℕ) → Request → Answer → Type 0
+  AnswersOn old closed taken request answer = ((answer ≡ Err OutOfMemory) × (closed ≡ old))
+      ⊎ ((before after : Out) × IsNew taken before
+      × BeforeClosing (λ home. Answers old home before after request answer) closed)
+
+  -- ---- the command line
+
+  -- the request of a line is answered so on a home of its files, on a disk that tells what the first does
+  pub record IsCarriedOut (first : D) (taken : Option (List ℕ)) (line : CommandLine) (request : Request)
+      (answer : Answer) : Type 0 where
+    pub disk : D
+    pub same : story disk ≡ story first
+    pub home : DiskHome R D F S
+    pub home_is : IsHomeFor disk (option_map string_bytes line.file) (option_map string_bytes line.journal) request home
+    pub closed : DiskHome R D F S
+    pub answered : AnswersOn home closed taken request answer
+
+  -- a line is answered so: its request is, or there is none
+  abbrev pub IsDone : D → Option (List ℕ) → CommandLine → Answer → Type 0
+  IsDone disk taken line answer = (found : Result Request Fault) × IsRequestOf leads (story disk) line.order found
+      × MatchResult found (λ request. IsCarriedOut disk taken line request answer) (λ fault. answer ≡ Err fault)
+
+-- The answer to words that are refused: that they are; but to those that ask for help there is no reply, unless it can't be
+-- printed.
+abbrev pub IsAnswerToRefused : Refusal → Result (Option Reply) Fault → Type 0
+IsAnswerToRefused refusal (Ok None) = AsksForHelp refusal
+IsAnswerToRefused refusal (Ok (Some reply)) = ⊥
+IsAnswerToRefused refusal (Err fault) = ((AsksForHelp refusal → ⊥) × (fault ≡ refusal_fault refusal))
+    ⊎ (AsksForHelp refusal × ((fault ≡ OutOfMemory) ⊎ (fault ≡ StoreFailed)))
+
+-- an answer with a reply, or a refusal
+abbrev pub IsReplied : (Answer → Type 0) → Result (Option Reply) Fault → Type 0
+IsReplied Done (Ok None) = ⊥
+IsReplied Done (Ok (Some reply)) = Done (Ok reply)
+IsReplied Done (Err fault) = Done (Err fault)
+
+-- the answer to words: that to the line that they ask for, or that they are refused
+abbrev pub IsAnswerTo : (CommandLine → Answer → Type 0) → List (List ℕ) → Result (Option Reply) Fault → Type 0
+IsAnswerTo Done words answer = (read : Result CommandLine Refusal) × IsParsed words read
+    × MatchResult read (λ line. IsReplied (Done line) answer) (λ refusal. IsAnswerToRefused refusal answer)

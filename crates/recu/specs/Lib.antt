@@ -1,0 +1,2 @@
+-- what a command line is answered, and what it means
+pub mod Answers

@@ -1,0 +1,106 @@
+//! The answer to a request on a file and its journal, on any disk.
+ghost use Rattle.std.specs.Prelude.{◌≡◌};
+ghost use Rattle.recu.specs.Answers.{through_of, IsMovedTo, out_of, AnswersOnce, AnswersThrough, Answers, BeforeClosing};
+ghost use Rattle.recu.specs.Answers.{AnswersOn};
+
+use crate::saying::say_how_far;
+use rec_disk::Disk;
+use rec_files::{DiskHome, StandardOutput, access_of, room_for, run_through};
+use rec_tools::{Direction, Fault, Home, Reply, Request, Through};
+use std::io::Write;
+
+/// The answer to a request, which is printed by a writer, once the files are closed.
+pub fn answer_by<D: Disk + Drop, W: Write + Drop>(
+    rt: &HostRuntime,
+    home: &mut DiskHome<'_, HostRuntime, D>,
+    request: &Request,
+    writer: W,
+) -> Result<Reply, Fault>
+    ensures answers { AnswersOn D.place D.leads D.folder D.syncs D.story
+        ⟦<DiskHome<'static, HostRuntime, D> as Home>⟧.goes home.old home.new (W.contents writer) request.now result }
+{
+    let room = room_for(access_of(request));
+    let Ok(mut out) = StandardOutput::new(rt.alloc(), room, writer) else {
+        return Err(Fault::OutOfMemory);
+    };
+    let answer = answer_to(rt, home, &mut out, request);
+    let _ = out.explain(rt);
+    answer
+}
+
+/// The answer to a request, once the files are closed.
+fn answer_to<D: Disk + Drop, W: Write + Drop>(
+    rt: &HostRuntime,
+    home: &mut DiskHome<'_, HostRuntime, D>,
+    out: &mut StandardOutput<W>,
+    request: &Request,
+) -> Result<Reply, Fault>
+    ensures answers { BeforeClosing (λ done. Answers D.place D.leads D.folder D.syncs D.story
+        ⟦<DiskHome<'static, HostRuntime, D> as Home>⟧.goes home.old done (out_of W.contents out.old) (out_of W.contents out.new)
+        request.now result) home.new }
+{
+    match through_of(request) {
+        Some((direction, number)) => move_through(rt, home, out, direction, number),
+        None => {
+            let answer = run_once(rt, home, out, request);
+            home.close();
+            let _ = home.explain(rt);
+            answer
+        }
+    }
+}
+
+/// The way and the number of the edit as far as which a request moves through the history, if it does.
+fn through_of(request: &Request) -> Option<(Direction, usize)>
+    ensures { result ≡ through_of request.now }
+{
+    match request {
+        Request::Undo(Some(number)) => Some((Direction::Backward, *number)),
+        Request::Redo(Some(number)) => Some((Direction::Forward, *number)),
+        _ => None,
+    }
+}
+
+/// The answer to a request, once what it prints is let out.
+fn run_once<D: Disk + Drop, W: Write + Drop>(
+    rt: &HostRuntime,
+    home: &mut DiskHome<'_, HostRuntime, D>,
+    out: &mut StandardOutput<W>,
+    request: &Request,
+) -> Result<Reply, Fault>
+    ensures answers { AnswersOnce D.place D.leads D.folder D.syncs D.story
+        ⟦<DiskHome<'static, HostRuntime, D> as Home>⟧.goes home.old home.new (out_of W.contents out.old) (out_of W.contents out.new) request.now result }
+{
+    let reply = rec_files::run(rt.alloc(), home, out, request)?;
+    out.finish()?;
+    Ok(reply)
+}
+
+/// The answer to moves from the nearest edit to that of a number, once the files are closed and it is said how far they went.
+fn move_through<D: Disk + Drop, W: Write + Drop>(
+    rt: &HostRuntime,
+    home: &mut DiskHome<'_, HostRuntime, D>,
+    out: &mut StandardOutput<W>,
+    direction: Direction,
+    number: usize,
+) -> Result<Reply, Fault>
+    ensures answers { BeforeClosing (λ done. AnswersThrough D.place D.leads D.folder D.syncs D.story
+        ⟦<DiskHome<'static, HostRuntime, D> as Home>⟧.goes home.old done (out_of W.contents out.old) (out_of W.contents out.new)
+        direction number result) home.new }
+{
+    let through = run_through(rt.alloc(), home, out, direction, number);
+    home.close();
+    say_how_far(rt, home, direction, number, &through);
+    let _ = home.explain(rt);
+    answer_of(through, number)
+}
+
+/// Where another program came in between, and the moves didn't come to the edit of the number, they are refused too.
+fn answer_of(through: Through, number: usize) -> Result<Reply, Fault>
+    ensures { IsMovedTo number through result }
+{
+    match through.answer {
+        Ok(_) if through.last != Some(number) => Err(Fault::StoreFailed),
+        answer => answer,
+    }
+}

@@ -1,0 +1,133 @@
+//! The answer to a command line, on any disk.
+ghost use Rattle.std.specs.Prelude.{◌≡◌, map, option_map, string_bytes, Result, Option, Ok, Err, IfOk, IfErr};
+ghost use Rattle.rec_text.specs.declared.fault.Fault.{Fault as FaultOf};
+ghost use Rattle.rec_tools.specs.declared.request.Reply.{Reply as ReplyOf};
+ghost use Rattle.rec_command.specs.Status.{Says, line_of, status_of};
+ghost use Rattle.recu.specs.Answers.{IsAnswerTo, IsAnswerToRefused, IsDone, IsHomeFor, IsRequestOf};
+
+use crate::answering::answer_by;
+use crate::saying::{say_more, say_waiting};
+use rec_command::{CommandLine, Order, Refusal, batch_request, finish, parse};
+use rec_disk::Disk;
+use rec_files::{DiskHome, access_of, batch_text, explain_output};
+use rec_tools::{Fault, Home, Reply, Request, Sink};
+use std::io;
+use std::io::Write;
+use std::rt::Runtime;
+
+/// The exit status of the command line, once it is answered. What is printed goes to a writer, and the line of a fault to a
+/// sink; what is said beside it goes to standard error.
+pub fn status<D: Disk + Drop, W: Write + Drop, S: Sink>(
+    rt: &HostRuntime,
+    disk: D,
+    out: W,
+    err: &mut S,
+    words: &[String],
+) -> u8
+    ensures status { (answer : Result (Option ReplyOf) FaultOf)
+        × IsAnswerTo (IsDone D.place D.leads D.folder D.syncs D.story ⟦<DiskHome<'static, HostRuntime, D> as Home>⟧.goes
+        disk (W.contents out)) (map string_bytes words.now) answer
+        × (result ≡ status_of answer) × Says S.contents S.failure_count err.old err.new (line_of answer) }
+{
+    finish(&answer(rt, disk, out, words), err)
+}
+
+/// The answer to the command line; to one that asks for help there is none.
+fn answer<D: Disk + Drop, W: Write + Drop>(
+    rt: &HostRuntime,
+    disk: D,
+    out: W,
+    words: &[String],
+) -> Result<Option<Reply>, Fault>
+    ensures answer { IsAnswerTo (IsDone D.place D.leads D.folder D.syncs D.story
+        ⟦<DiskHome<'static, HostRuntime, D> as Home>⟧.goes disk (W.contents out)) (map string_bytes words.now) result }
+{
+    match parse(rt.alloc(), words) {
+        Ok(line) => Ok(Some(carry_out(rt, disk, out, line)?)),
+        Err(refusal) => explain_words(rt, &refusal, words),
+    }
+}
+
+/// The answer to words that are refused, once it is said what is wrong with them, or the help is printed that they ask for.
+fn explain_words(
+    rt: &HostRuntime,
+    refusal: &Refusal,
+    words: &[String],
+) -> Result<Option<Reply>, Fault>
+    ensures answer { IsAnswerToRefused refusal.now result }
+{
+    let explained = refusal.explain(rt, words);
+    if !refusal.asks_for_help() {
+        return Err(refusal.fault());
+    }
+    match explained {
+        Ok(()) => Ok(None),
+        Err(error) if error.kind() == io::ErrorKind::OutOfMemory => Err(Fault::OutOfMemory),
+        Err(error) => {
+            let _ = explain_output(rt, error);
+            Err(Fault::StoreFailed)
+        }
+    }
+}
+
+/// The answer to what a line asks for, with what is said of it.
+fn carry_out<D: Disk + Drop, W: Write + Drop>(
+    rt: &HostRuntime,
+    mut disk: D,
+    out: W,
+    line: CommandLine,
+) -> Result<Reply, Fault>
+    ensures answer { IsDone D.place D.leads D.folder D.syncs D.story
+        ⟦<DiskHome<'static, HostRuntime, D> as Home>⟧.goes disk (W.contents out) line result }
+{
+    let CommandLine {
+        order,
+        file,
+        journal,
+    } = line;
+    let (request, batch) = request_of(rt, &mut disk, order)?;
+    if file.is_none() {
+        say_waiting(rt, &request);
+    }
+    let mut home = home_for(rt, disk, file, journal, &request);
+    let answer = answer_by(rt, &mut home, &request, out);
+    say_more(rt, &home, &request, &batch, &answer);
+    answer
+}
+
+/// The request of an order, and the path of its text where it is a batch.
+fn request_of<D: Disk>(
+    rt: &HostRuntime,
+    disk: &mut D,
+    order: Order,
+) -> Result<(Request, Option<String>), Fault>
+    ensures same { D.story disk.new ≡ D.story disk.old }
+    ensures request { IfOk result (λ found. IsRequestOf D.leads (D.story disk.old) order (Ok found.0)) }
+    ensures refused { IfErr result (λ fault. IsRequestOf D.leads (D.story disk.old) order (Err fault)) }
+{
+    match order {
+        Order::Whole(request) => Ok((request, None)),
+        Order::BatchAt {
+            path,
+            force,
+            preview,
+        } => {
+            let text = batch_text(rt, disk, path.as_str())?;
+            let request = batch_request(rt.alloc(), text, force, preview)?;
+            Ok((request, Some(path)))
+        }
+    }
+}
+
+/// The home of a file and its journal for a request.
+fn home_for<'r, D: Disk + Drop>(
+    rt: &'r HostRuntime,
+    disk: D,
+    file: Option<String>,
+    journal: Option<String>,
+    request: &Request,
+) -> DiskHome<'r, HostRuntime, D>
+    ensures home { IsHomeFor disk (option_map string_bytes file) (option_map string_bytes journal) request.now result }
+{
+    DiskHome::new(rt, disk, file, journal, access_of(request))
+}

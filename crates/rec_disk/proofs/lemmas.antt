@@ -4,3 +4,4 @@ pub mod Moments
 pub mod Calls
 pub mod Fresh
 pub mod Memory
+mod LeavingExamples

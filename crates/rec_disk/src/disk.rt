@@ -94,7 +94,8 @@ pub trait Disk {
     fn follow(&mut self, alloc: Global, path: &str) -> io::Result<String>
         ensures same { story self.new ≡ story self.old }
         ensures next { IfOk result (λ next. Told (story self.old) (λ s. link path.now ≡ Some (string_bytes next))) }
-        ensures excused { IsExcused (works self.old) (works self.new) result (λ error. Told (story self.old) (λ s. link path.now ≡ None)) };
+        ensures excused { IsExcused (works self.old) (works self.new) result (λ error. Told (story self.old)
+            (λ s. link path.now ≡ None)) };
 
     /// Opens the file to which a path leads, to read it.
     fn open(&mut self, path: &str) -> io::Result<Self::File>

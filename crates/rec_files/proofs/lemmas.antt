@@ -9,5 +9,8 @@ pub mod Succeeding
 pub mod Replacing
 pub mod Home
 pub mod Requests
+pub mod Moments
 pub mod Standing
+pub mod Telling
 pub mod Recovering
+mod DiskExamples

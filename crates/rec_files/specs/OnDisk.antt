@@ -8,6 +8,7 @@ use Rattle.rec_disk.specs.Lasting.{Left, Leaves, LeavesAt, LeavesInOrder, Spares
 use Rattle.rec_tools.specs.Home.{Contents, Write, Call, got, lacked, unread, put_all, put_some, written, left_by}
 use Rattle.rec_tools.specs.Home.{TellsOf, CountsFailure, content_of}
 use Rattle.rec_tools.specs.declared.home.Which.{Which}
+use Rattle.rec_tools.specs.declared.home.Which.TheVariants.{Base}
 use Rattle.rec_journal.specs.History.{IsRegular}
 use Rattle.rec_tools.specs.Requests.{Asked}
 use Rattle.rec_tools.specs.Attempts.{Answer}
@@ -185,11 +186,12 @@ pub record IsCallAt (place folder : List ℕ → List ℕ) (syncs : List ℕ →
   pub touches : TouchesOwn place p old new
   pub recovers : RecoversAt place folder syncs p (writes_of call) old new
 
--- The home's paths stay; a call tells what stands there, and leaves what its writes say; and it is one at their
--- places. Of standard input nothing is said.
+-- The home's paths stay; the file is read only where it stands; a call tells what stands there, and leaves what its writes
+-- say; and it is one at their places. Of standard input nothing is said.
 pub record IsHomeCall (place folder : List ℕ → List ℕ) (syncs : List ℕ → Bool) (places now : Option Places)
     (old : Option Story) (call : Call) (new : Option Story) (failures since : ℕ) : Type 0 where
   pub same : now ≡ places
+  pub there : (bytes : List ℕ) → call ≡ got Base bytes → IfSome places (λ p. Told old (λ s. IsSome (s.at p.file)))
   pub counts : CountsFailure failures call since
   pub follows : IfSome (contents_on places old)
       (λ c. TellsOf c call × (contents_on now new ≡ Some (left_by c call)))

@@ -15,6 +15,7 @@ use Rattle.rec_files.specs.declared.failure.Cause.{Cause}
 use Rattle.rec_files.specs.declared.failure.Cause.TheVariants.{Itself, Working, Folder, Foreign, Unsynced}
 use Rattle.rec_files.specs.declared.failure.Failure.{Failure}
 use Rattle.rec_files.specs.declared.target.Target.{Target}
+use Rattle.rec_files.specs.declared.both.Both.{Both}
 use Rattle.rec_files.specs.declared.files.DiskHome.{DiskHome}
 use Rattle.rec_files.specs.Paths.{path_of, working_name, end_of}
 use Rattle.rec_files.specs.OnDisk.{Sites, sites_of, AreLeft, IsHomeCall, places_by}
@@ -23,6 +24,13 @@ use Rattle.rec_files.specs.OnDisk.{Sites, sites_of, AreLeft, IsHomeCall, places_
 abbrev pub IsTold : Option Story → (State → Type 0) → Type 0
 IsTold None P = ⊥
 IsTold (Some a) P = P a.now
+
+-- nothing of the two is open, neither what was read nor what was made
+pub record IsShut {D F S : Type 0} (both : Both D F S) : Type 0 where
+  pub file : IfSome both.file (λ target. target.old ≡ None)
+  pub journal : IfSome both.journal (λ target. target.old ≡ None)
+  pub made_file : both.made.file ≡ None
+  pub made_journal : both.made.journal ≡ None
 
 abbrev pub error_of : Cause → Error
 error_of (Itself error) = error

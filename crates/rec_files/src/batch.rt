@@ -20,6 +20,7 @@ pub fn batch_text<R: Eprint + AllocGlobal, D: Disk>(
     path: &str,
 ) -> Result<Bytes, Fault>
     ensures same { D.story disk.new ≡ D.story disk.old }
+    ensures works { D.works disk.old → D.works disk.new }
     ensures text { IfOk result (λ text. Told (D.story disk.old)
         (λ s. shown s.bytes (s.at (D.leads path.now)) ≡ Some text)) }
     ensures limit { IfOk result (λ text. length text ≤ LIMIT) }
@@ -39,6 +40,7 @@ pub fn batch_text<R: Eprint + AllocGlobal, D: Disk>(
 /// told to be so as the file itself is.
 fn read_at<D: Disk>(disk: &mut D, alloc: Global, path: &str) -> io::Result<Vec<u8>>
     ensures same { D.story disk.new ≡ D.story disk.old }
+    ensures works { D.works disk.old → D.works disk.new }
     ensures bytes { IfOk result (λ bytes. Told (D.story disk.old)
         (λ s. shown s.bytes (s.at (D.leads path.now)) ≡ Some bytes.items)) }
     ensures limit { IfOk result (λ bytes. length bytes.items ≤ LIMIT) }

@@ -2,7 +2,7 @@
 //! What opens files stands in `target`, `open_file`, `working_file` and `links`, what replaces them in `replacing`; standard
 //! input is read here alone.
 ghost use Rattle.std.specs.Prelude.{◌≡◌, ◌≤◌, ◌↔◌, [], IsTrue, IsNone, None, Some, Ok, IfOk, IfErr, ◌⊎◌, IsSome};
-ghost use Rattle.std.specs.Prelude.{IfSome, true, IsSomeAnd, option_map, string_bytes, unwrap_or};
+ghost use Rattle.std.specs.Prelude.{IfSome, OnOk, true, IsSomeAnd, option_map, string_bytes, unwrap_or};
 ghost use Rattle.std.specs.Option.{option_and_then};
 ghost use Rattle.std.specs.IoError.{error_kind, raw_os_error};
 ghost use Rattle.rec_text.specs.Sink.{one_more};
@@ -10,7 +10,7 @@ ghost use Rattle.rec_disk.specs.Disk.{Told, IsMemory};
 ghost use Rattle.rec_disk.specs.Lasting.{shown};
 ghost use Rattle.rec_files.specs.OnDisk.{or_empty, contents_on, places_by, IsReadOf};
 ghost use Rattle.rec_files.specs.Paths.{path_of};
-ghost use Rattle.rec_files.specs.Succeeding.{HasSeen, HomeGoes, IsTold, IsShort, IsThere, IsReadable};
+ghost use Rattle.rec_files.specs.Succeeding.{HasSeen, HomeGoes, IsTold, IsShort, IsThere, IsReadable, IsShut};
 ghost use Rattle.rec_files.specs.proving.Succeeding.{Succeeds, IsOwnJournal};
 
 use crate::access::Access;
@@ -57,6 +57,7 @@ impl<'r, R: Input + AllocGlobal, D: Disk + Drop> DiskHome<'r, R, D> {
         ensures journal { string_bytes result.journal ≡ unwrap_or (option_map string_bytes journal) [] }
         ensures access { result.access ≡ access }
         ensures sound { result.failed ≡ 0 }
+        ensures shut { IsShut result.both }
     {
         DiskHome {
             rt,
@@ -70,8 +71,10 @@ impl<'r, R: Input + AllocGlobal, D: Disk + Drop> DiskHome<'r, R, D> {
         }
     }
 
-    /// Says on standard error which path failed last, and why.
+    /// Says on standard error which path failed last, and why. Both files are closed before: where standard error was closed,
+    /// one of them may have its number.
     pub fn explain(&self, err: &impl Eprint) -> io::Result<()>
+        requires shut { IsShut self.now.both }
         ensures silent { IsNone self.now.failure → result ≡ Ok tt }
     {
         let Some(failure) = self.failure else {
@@ -114,8 +117,9 @@ impl<'r, R: Input + AllocGlobal, D: Disk + Drop> DiskHome<'r, R, D> {
         }
     }
 
-    /// Closes both files. Where standard error was closed, one of them may have got its number, so nothing is said before.
+    /// Closes both files.
     pub fn close(&mut self)
+        ensures shut { IsShut self.new.both }
         ensures same { self.new.disk ≡ self.old.disk }
         ensures paths { (self.new.file ≡ self.old.file) × (self.new.journal ≡ self.old.journal) }
         ensures kept { self.new.failed ≡ self.old.failed }
@@ -160,6 +164,8 @@ impl<'r, R: Input + AllocGlobal, D: Disk + Drop> DiskHome<'r, R, D> {
         ensures same { D.story self.new.disk ≡ D.story self.old.disk }
         ensures read { IfOk result (λ bytes. IsReadOf D.leads (option_map string_bytes self.old.file)
             (string_bytes self.old.journal) (D.story self.old.disk) which bytes.items) }
+        ensures there { which ≡ Which.Base → OnOk result (IfSome self.old.file (λ file. Told (D.story self.old.disk)
+            (λ s. IsSome (s.at (D.leads (string_bytes file)))))) }
         ensures succeeds { Succeeds IsMemory (D.works self.old.disk) (D.works self.new.disk)
             (IsTold (D.story self.old.disk) (IsReadable D.leads D.link D.regular self.old.access
             (option_map string_bytes self.old.file) (string_bytes self.old.journal)
@@ -281,6 +287,7 @@ fn look_at<D: Disk>(
     ensures same { D.story disk.new ≡ D.story disk.old }
     ensures whole { IfOk result (λ bytes. Told (D.story disk.old)
         (λ s. bytes.items ≡ or_empty (shown s.bytes (s.at (D.leads path.now))))) }
+    ensures there { which ≡ Which.Base → OnOk result (Told (D.story disk.old) (λ s. IsSome (s.at (D.leads path.now)))) }
     ensures succeeds { Succeeds IsMemory (D.works disk.old) (D.works disk.new) (IsTold (D.story disk.old)
         (λ s. IsThere which path.now (λ n. IsShort s n × (which ≡ Which.Journal → IsOwnJournal D.regular
         (option_map (λ file. s.at (D.leads (string_bytes file))) other.now) n)) (s.at (D.leads path.now)))) result }

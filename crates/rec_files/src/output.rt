@@ -1,6 +1,6 @@
 //! Standard output.
 ghost use Rattle.std.specs.Prelude.{◌≡◌, ◌≢◌, ◌<◌, ◌≤◌, [], Some, IfOk, OnOk, IsOkUnless};
-ghost use Rattle.std.specs.Io.Buffered.{writer_buffer, writer_contents, writer_inner};
+ghost use Rattle.std.specs.Io.Buffered.{writer_buffer, writer_capacity, writer_contents, writer_inner};
 ghost use Rattle.std.specs.Io.KnownBytes.{Keeps};
 ghost use Rattle.rec_text.specs.Sink.{KeptAtSuccess, RisenAtStoreFailed, one_more};
 
@@ -15,7 +15,7 @@ const PIECE: usize = 65_536;
 
 /// How many bytes of output are held for a request. One that may edit prints nothing, and needs no memory for it.
 pub fn room_for(access: Access) -> usize
-    ensures look { access ≡ Access.Look → 0 < result }
+    ensures look { access ≡ Access.Look → result ≡ PIECE }
     ensures change { access ≢ Access.Look → result ≡ 0 }
 {
     match access {
@@ -37,6 +37,7 @@ impl<W: Write + Drop> StandardOutput<W> {
     pub fn new(alloc: Global, room: usize, writer: W) -> io::Result<StandardOutput<W>>
         ensures writer { IfOk result (λ output. writer_inner output.writer ≡ writer) }
         ensures empty { IfOk result (λ output. writer_buffer output.writer ≡ []) }
+        ensures room { IfOk result (λ output. writer_capacity output.writer ≡ room) }
         ensures sound { IfOk result (λ output. output.failed ≡ 0) }
     {
         Ok(StandardOutput {

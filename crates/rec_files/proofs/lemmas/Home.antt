@@ -7,7 +7,7 @@ use Rattle.rec_disk.proofs.lemmas.Moments.{still, told_so}
 use Rattle.rec_tools.specs.Home.{Contents, Write, Call, put_all, put_some, written, writes_by, left_by, TellsOf, CountsFailure}
 use Rattle.rec_tools.specs.declared.home.Which.TheVariants.{Base}
 use Rattle.rec_files.specs.Paths.{path_of}
-use Rattle.rec_files.specs.OnDisk.{Places, Shows, Holds, AreAsBefore, IsRead, IsSecure, CanSync, SecurePut, LastingPut, TouchesOwn, RecoversAt, IsHomeCall, contents_at, contents_on, places_by}
+use Rattle.rec_files.specs.OnDisk.{Places, Shows, Holds, AreAsBefore, IsRead, IsSecure, CanSync, SecurePut, LastingPut, TouchesOwn, RecoversAt, IsHomeCall, contents_at, contents_on, places_by, writes_of}
 use Rattle.rec_files.specs.proving.Replacing.{IsPutForGood, LastAs, led}
 use Rattle.rec_files.proofs.lemmas.Holding.{last_holds, between_written, before_shows, holds_contents, leaves_now}
 use Rattle.rec_files.proofs.lemmas.Replacing.{Until, moments_so}
@@ -106,7 +106,7 @@ module _ (place folder : List ℕ → List ℕ) (syncs : List ℕ → Bool) (lea
       (touches : TouchesOwn place (led leads file_path journal_path) o n) (recovers : RecoversAt place folder syncs (led leads file_path journal_path) writes o n) where
     pub put_done : (file : Option (List ℕ)) → ArePaths file → LastingPut folder syncs (led leads file_path journal_path) writes o n → CountsFailure old (put_all writes) new
         → IsHomeCall place folder syncs (At file) (At file) o (put_all writes) n old new
-    put_done None paths lasting counts = record { same = refl; counts = counts; follows = tt; calls = tt }
+    put_done None paths lasting counts = record { same = refl; there = λ _ _. tt; counts = counts; follows = tt; calls = tt }
     put_done (Some f) paths lasting counts =
         let at : led leads file_path journal_path ≡ led leads f journal = led_is f paths.0 paths.1 in
         let secure_at = subst (λ p. SecurePut folder syncs p writes o n) at secure in
@@ -115,6 +115,7 @@ module _ (place folder : List ℕ → List ℕ) (syncs : List ℕ → Bool) (lea
         let lasting_at = subst (λ p. LastingPut folder syncs p writes o n) at lasting in
         record {
           same = refl;
+          there = λ _ read. absurd (some_writes bytes file_bytes (ap writes_of read));
           counts = counts;
           follows = all_put folder syncs (led leads f journal) writes o n (contents_on (Some (led leads f journal)) o) refl secure_at lasting_at;
           calls = record { any_moment = secure_at; lasts = λ whole. lasting_at; still = λ none. absurd (some_writes bytes file_bytes none); touches = touches_at; recovers = recovers_at };
@@ -122,7 +123,7 @@ module _ (place folder : List ℕ → List ℕ) (syncs : List ℕ → Bool) (lea
 
     pub put_failed : (file : Option (List ℕ)) → ArePaths file → ((k : ℕ) → CountsFailure old (put_some writes k) new)
         → (k : ℕ) × (k ≤ length writes) × IsHomeCall place folder syncs (At file) (At file) o (put_some writes k) n old new
-    put_failed None paths counts = (0, omega arith, record { same = refl; counts = counts 0; follows = tt; calls = tt })
+    put_failed None paths counts = (0, omega arith, record { same = refl; there = λ _ _. tt; counts = counts 0; follows = tt; calls = tt })
     put_failed (Some f) paths counts =
         let at : led leads file_path journal_path ≡ led leads f journal = led_is f paths.0 paths.1 in
         let secure_at = subst (λ p. SecurePut folder syncs p writes o n) at secure in
@@ -133,6 +134,7 @@ module _ (place folder : List ℕ → List ℕ) (syncs : List ℕ → Bool) (lea
           some.1,
           record {
             same = refl;
+            there = λ _ read. absurd (some_writes bytes file_bytes (ap writes_of read));
             counts = counts some.0;
             follows = some.2;
             calls = record { any_moment = secure_at; lasts = λ never. absurd never; still = λ none. absurd (some_writes bytes file_bytes none); touches = touches_at; recovers = recovers_at };

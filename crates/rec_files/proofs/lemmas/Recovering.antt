@@ -18,7 +18,8 @@ use Rattle.rec_files.specs.proving.Recovering.{IsMaking, IsRemoving, IsWriting, 
 use Rattle.rec_files.specs.proving.Succeeding.{AreFree}
 use Rattle.rec_files.proofs.lemmas.Steps.{longer_than, told_next}
 use Rattle.rec_files.proofs.lemmas.Replacing.{both_moments, weaker_moments}
-use Rattle.rec_files.proofs.lemmas.Standing.{synced_itself, synced_then, since-synced, since-syncing, in_synced, in_still, alone_spared, alone_making, alone_written, alone_placing, alone_beside, alone_tell, beside_tell, beside_making, beside_journal_written, beside_file_written, tell_removing_file, tell_removing_journal, tell_since, tell_placing_journal, tell_placing_file, own_spared, own_unmoved, own_placing_file, own_making, own_none, own_now, stands_now, IsReady, told_tell, tell_all}
+use Rattle.rec_files.proofs.lemmas.Moments.{synced_itself, synced_then, since-synced, since-syncing, in_synced, in_still, alone_spared, alone_making, alone_written}
+use Rattle.rec_files.proofs.lemmas.Telling.{alone_placing, alone_beside, alone_tell, beside_tell, beside_making, beside_journal_written, beside_file_written, tell_removing_file, tell_removing_journal, tell_since, tell_placing_journal, tell_placing_file, own_spared, own_unmoved, own_placing_file, own_making, own_none, own_now, stands_now, IsReady, told_tell, tell_all}
 
 -- ---- single calls
 

@@ -1,6 +1,6 @@
 -- What succeeds on a disk that works.
 use Rattle.std.proofs.Common.{◌≡◌, ◌≢◌, ◌⊎◌, ◌∙◌, inl, inr, ap, sym, subst, arith, ℕ, ◌+◌, ◌<◌, ◌≤◌, Bool, true, false, List, [], ◌∷◌, length, take, length-take, Option, Some, None, Result, OnOk, IfSome, IsSomeAnd, refl}
-use Rattle.std.specs.Prelude.{◌↔◌, IsTrue, IsSome, is_some, option_map, Err, MatchOption}
+use Rattle.std.specs.Prelude.{◌↔◌, IsTrue, IsSome, is_some, option_map, string_bytes, Ok, Err, IfOk, MatchOption}
 use Rattle.std.specs.List.{AllByRecursion}
 use Rattle.std.specs.Option.{option_and_then}
 use Rattle.std.proofs.lemmas.Bool.{false≢true}
@@ -12,15 +12,17 @@ use Rattle.rec_text.specs.declared.fault.Fault.{Fault}
 use Rattle.rec_text.specs.declared.fault.Fault.TheVariants.{StoreFailed}
 use Rattle.rec_tools.specs.Home.{Call, read_call, writes_by}
 use Rattle.rec_files.specs.declared.failure.Failure.{Failure}
-use Rattle.rec_files.specs.Succeeding.{FailedForMemory, Kept, CanPut, IsExcused, HasSeen, AreApart, IsTold, Known, SawAnother, IsOther, IsShort, CanCompare, CanClear, AreUnchanged, CanPrepare, StandsAsSeen, IsThere, IsReadable}
+use Rattle.rec_files.specs.declared.open_file.OpenFile.{OpenFile}
+use Rattle.rec_files.specs.declared.target.Target.{Target}
+use Rattle.rec_files.specs.Succeeding.{FailedForMemory, Kept, CanPut, IsExcused, HasSeen, AreApart, IsTold, Known, SawAnother, IsOther, IsShort, CanCompare, CanClear, AreUnchanged, CanPrepare, StandsAsSeen, IsThere, IsReadable, known}
 use Rattle.rec_tools.specs.declared.home.Which.{Which}
 use Rattle.rec_tools.specs.declared.home.Which.TheVariants.{Base, Journal}
 use Rattle.rec_files.specs.declared.access.Access.{Access}
 use Rattle.rec_files.specs.declared.access.Access.TheVariants.{Look as Looks}
 use Rattle.rec_files.specs.proving.Replacing.{SparesBut, SparesButNew, IsFreeAt, IsFound, IsMadeAt, AreMade}
-use Rattle.rec_files.specs.proving.Succeeding.{CanRead, AreFree, CanSettle, MayWrite, CanReplace, CanPlace, CanPlaceJournal, IsOwnJournal}
+use Rattle.rec_files.specs.proving.Succeeding.{CanRead, AreFree, CanSettle, MayWrite, CanReplace, CanPlace, CanPlaceJournal, IsOwnJournal, IsNoted}
 use Rattle.rec_files.specs.Leftovers.{IsLeftJournal, IsLeftText}
-use Rattle.rec_files.specs.Paths.{path_of, working_name}
+use Rattle.rec_files.specs.Paths.{path_of, working_name, end_of}
 use Rattle.rec_files.specs.OnDisk.{Sites, sites_of}
 use Rattle.rec_files.proofs.lemmas.Steps.{on_ok, on_ok_so, some_so}
 use Rattle.rec_files.proofs.lemmas.Links.{led_to}
@@ -222,6 +224,12 @@ seen_still p (Some look) s t same seen =
     some_so look (IsLookAt s p) (IsLookAt t p)
     (λ l is. let at : t.at p ≡ Some l.number = same.at ∙ is.number in record { number = at; version = is.version ∙ sym (same.version l.number (inl (sym at))) }) seen
 
+seen_there : {X : Type 0} (number : X → ℕ) (tells : X → Option Look) (p : List ℕ) (old : Option X) (s : State) → s.at p ≡ option_map number old
+    → IfSome old (λ x. IsSomeAnd (tells x) (IsLookFor s (number x))) → HasSeen p (option_map tells old) s
+seen_there number tells p None s at seen = at
+seen_there number tells p (Some x) s at seen =
+    some_so (tells x) (IsLookFor s (number x)) (IsLookAt s p) (λ look is. record { number = at ∙ sym (ap Some is.number); version = is.version ∙ sym (ap s.version is.number) }) seen
+
 pub stands_still : (place leads : List ℕ → List ℕ) (known : Known) (s t : State) → Spares (place known.path) s t → StandsAsSeen place leads known s → StandsAsSeen place leads known t
 stands_still place leads known s t same stands =
     record { at = same.at ∙ stands.at; seen = seen_still (place known.path) known.look s t same stands.seen; led = stands.led }
@@ -422,6 +430,35 @@ pub none_too_long : (m k : ℕ) (bytes : List ℕ) (o p : Option Story) → k < 
 none_too_long m k bytes o p long same read given =
     of_told (λ s. bytes ≡ take (k + 1) (s.bytes m)) (λ s. length (s.bytes m) ≤ k) ⊥ o (λ s is short. omega (arith, long, short, ap length is, length-take (k + 1) (s.bytes m)))
     (subst (λ o. Told o (λ s. bytes ≡ take (k + 1) (s.bytes m))) same read) given
+
+-- what was locked there stands as it was seen
+pub is_noted : {X : Type 0} (number : X → ℕ) (tells : X → Option Look) (place leads : List ℕ → List ℕ) (link : List ℕ → Option (List ℕ)) (path given names last : List ℕ) (old : Option X) (s : State)
+    → given ≡ path → names ≡ last → end_of link 40 path ≡ Some last → leads path ≡ place last → s.at (leads path) ≡ option_map number old → IfSome old (λ x. IsSomeAnd (tells x) (IsLookFor s (number x)))
+    → IsNoted place leads link path (record { given = given; path = names; number = option_map number old; look = option_map tells old }) s
+is_noted number tells place leads link path given names last old s of_path is_last ends led at seen =
+    let here : s.at (place names) ≡ option_map number old = ap s.at (ap place is_last ∙ sym led) ∙ at in
+    record {
+      stands = record {
+        at = here;
+        seen = seen_there number tells (place names) old s here seen;
+        led = ap leads of_path ∙ led ∙ sym (ap place is_last);
+      };
+      ends = ends ∙ sym (ap Some is_last);
+    }
+
+pub target_noted : {D F S E : Type 0} (number : F → ℕ) (tells : S → Option Look) (place leads : List ℕ → List ℕ) (link : List ℕ → Option (List ℕ)) (path last text : List ℕ) (opened : OpenFile D F S)
+    (result : Result (Target D F S) E) (o b : Option Story) → b ≡ o → text ≡ last → IfOk result (λ target. string_bytes target.given ≡ path) → IfOk result (λ target. target.names ≡ last)
+    → IfOk result (λ target. target.old ≡ Some opened) → Told o (λ s. end_of link 40 path ≡ Some last) → Told o (λ s. (leads path ≡ place last) × (leads last ≡ place last))
+    → Told b (λ s. s.at (leads text) ≡ Some (number opened.file)) → Told b (λ s. IsSomeAnd (tells opened.seen) (IsLookFor s (number opened.file)))
+    → IfOk result (λ target. Told o (IsNoted place leads link path (known number tells target)))
+target_noted number tells place leads link path last text opened (Err error) o b same is given names old ends led at seen = tt
+target_noted number tells place leads link path last text opened (Ok target) None b same is given names old ends led at seen = tt
+target_noted number tells place leads link path last text opened (Ok target) (Some a) b same is given names old ends led at seen =
+    let at_last = subst (λ b. Told b (λ s. s.at (leads text) ≡ Some (number opened.file))) same at in
+    is_noted (λ opened. number opened.file) (λ opened. tells opened.seen) place leads link path (string_bytes target.given) target.names last target.old a.now given names ends led.0
+    (ap a.now.at (led.0 ∙ sym led.1 ∙ sym (ap leads is)) ∙ at_last ∙ sym (ap (option_map (λ opened. number opened.file)) old))
+    (subst (λ x. IfSome x (λ opened. IsSomeAnd (tells opened.seen) (IsLookFor a.now (number opened.file)))) (sym old)
+    (subst (λ b. Told b (λ s. IsSomeAnd (tells opened.seen) (IsLookFor s (number opened.file)))) same seen))
 
 -- what can be locked after links can be at the last path
 pub locked_after : (place leads : List ℕ → List ℕ) (path last text : List ℕ) (L : Type 0) (U : State → ℕ → Type 0) (o b : Option Story) → b ≡ o → text ≡ last

@@ -1,5 +1,5 @@
 -- What the steps of a read and of a put need, to succeed on a disk that works.
-use Rattle.std.specs.Prelude.{◌≡◌, ◌≢◌, ◌≤◌, ℕ, Bool, true, List, length, Option, None, Result, IfErr, IfSome, IsSome}
+use Rattle.std.specs.Prelude.{◌≡◌, ◌≢◌, ◌≤◌, ℕ, Bool, true, List, length, Option, Some, None, Result, IfErr, IfSome, IsSome}
 use Rattle.std.specs.Prelude.{IsSomeAnd}
 use Rattle.rec_disk.specs.Disk.{State, Look}
 use Rattle.rec_files.specs.Paths.{working_name, end_of}
@@ -60,6 +60,17 @@ pub record IsLockable (link : List ℕ → Option (List ℕ)) (regular : ℕ →
   pub few_links : IsSome (end_of link 40 path)
   pub is_regular : regular n ≡ true
   pub unlocked : IsUnlocked other s n
+
+-- a regular file, or nothing, and no link to it
+abbrev pub IsPlain : (ℕ → Bool) → Option (List ℕ) → Option ℕ → Type 0
+IsPlain regular next None = next ≡ None
+IsPlain regular next (Some n) = regular n ≡ true
+
+-- what was read at a path stands as it was seen, after fewer than 40 links in a row
+pub record IsNoted (place leads : List ℕ → List ℕ) (link : List ℕ → Option (List ℕ)) (path : List ℕ) (known : Known)
+    (s : State) : Type 0 where
+  pub stands : StandsAsSeen place leads known s
+  pub ends : end_of link 40 path ≡ Some known.path
 
 -- a journal to look at: a regular file, which is not the file itself; and that one stands there, where it has a path
 pub record IsOwnJournal (regular : ℕ → Bool) (file : Option (Option ℕ)) (n : ℕ) : Type 0 where

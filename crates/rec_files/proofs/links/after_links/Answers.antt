@@ -1,5 +1,5 @@
 use Rattle.std.specs.Prelude.{option_map, string_bytes}
-use Rattle.std.proofs.Common.{◌≡◌, ◌∙◌, ap, ℕ, List, Some, None}
+use Rattle.std.proofs.Common.{◌≡◌, ◌∙◌, ap, Some, None}
 use Rattle.rec_disk.proofs.lemmas.Moments.{told_so}
 use Rattle.rec_files.specs.Paths.{end_of}
 use Rattle.rec_files.proofs.lemmas.Links.{looked_on, none_left, led_to}

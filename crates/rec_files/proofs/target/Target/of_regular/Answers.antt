@@ -4,7 +4,7 @@ use Rattle.std.proofs.lemmas.Grind.{common_steps}
 use Rattle.rec_disk.specs.Disk.{IsMemory}
 use Rattle.rec_disk.proofs.lemmas.Moments.{told_both}
 use Rattle.rec_files.proofs.lemmas.Steps.{if_ok_so, told_next}
-use Rattle.rec_files.proofs.lemmas.Succeeding.{locked_after}
+use Rattle.rec_files.proofs.lemmas.Succeeding.{locked_after, target_noted}
 use Rattle.rec_files.proofs.target.Target.of_regular.Goals as goal
 
 pub returns-clause-old : goal.returns-clause-old
@@ -25,3 +25,9 @@ returns-in_err-old-clause-succeeds g c = λ works.
           c.in_ok-path.ensures.led) in
           grind (arith, common_steps),
     )
+
+pub returns-clause-noted : goal.returns-clause-noted
+returns-clause-noted g c =
+    target_noted g.D.Disk.number g.D.Disk.tells g.D.Disk.place g.D.Disk.leads g.D.Disk.link c.args.given.now (string_bytes c.in_ok-path.path) c.as_str.result.now c.in_ok-old.old c.at.result _ _
+    c.in_ok-path.ensures.same c.as_str.ensures.value c.at.ensures.given c.at.ensures.names c.at.ensures.old c.in_ok-path.ensures.last c.in_ok-path.ensures.led c.in_ok-old.ensures.opened
+    c.in_ok-old.ensures.seen

@@ -1,0 +1,126 @@
+-- Where links lead, and what can be read and put, on a small disk.
+use Rattle.std.proofs.Common.{◌≡◌, ℕ, zero, suc, Bool, true, false, List, [], ◌∷◌, length, if◌then◌else◌, Option, Some, None, ap, sym, refl, arith}
+use Rattle.std.specs.Prelude.{bytes_eq}
+use Rattle.std.proofs.lemmas.Bool.{false≢true}
+use Rattle.rec_disk.specs.Disk.{State, put, wrote}
+use Rattle.rec_tools.specs.Home.{content_of, writes_by}
+use Rattle.rec_tools.specs.declared.home.Which.TheVariants.{Base}
+use Rattle.rec_files.specs.declared.access.Access.TheVariants.{Change as Changes}
+use Rattle.rec_files.specs.Paths.{end_of}
+use Rattle.rec_files.specs.Succeeding.{Kept, IsReadable, CanPut}
+
+-- ---- links
+
+-- 1 leads to 2, 2 to 3, and 4 to itself
+abbrev links : List ℕ → Option (List ℕ)
+links path =
+    if bytes_eq path (1 ∷ []) then Some (2 ∷ [])
+    else if bytes_eq path (2 ∷ []) then Some (3 ∷ [])
+    else if bytes_eq path (4 ∷ []) then Some (4 ∷ []) else None
+
+no_link : end_of links 1 (3 ∷ []) ≡ Some (3 ∷ [])
+no_link = refl
+
+two_links : end_of links 3 (1 ∷ []) ≡ Some (3 ∷ [])
+two_links = refl
+
+too_many : end_of links 2 (1 ∷ []) ≡ None
+too_many = refl
+
+round : (n : ℕ) → end_of links n (4 ∷ []) ≡ None
+round zero = refl
+round (suc n) = round n
+
+-- ---- a file without a journal
+
+abbrev file : List ℕ
+file = 70 ∷ []
+
+abbrev journal : List ℕ
+journal = 74 ∷ 74 ∷ []
+
+-- file 0 stands at its path
+abbrev disk : State
+disk = record {
+  at = put (λ p. None) file (Some 0);
+  olds = [];
+  bytes = λ n. 65 ∷ [];
+  safe = λ n. true;
+  version = λ n. 0;
+  held = λ n. false;
+}
+
+-- a path is its place, and no path is a link
+abbrev itself : List ℕ → List ℕ
+itself path = path
+
+abbrev no_links : List ℕ → Option (List ℕ)
+no_links path = None
+
+abbrev regular : ℕ → Bool
+regular n = true
+
+abbrev Readable : State → Type 0
+Readable = IsReadable itself no_links regular Changes (Some file) journal None Base
+
+readable : Readable disk
+readable = record {
+  given = λ _. refl;
+  there = (omega arith, refl);
+  apart = λ _ is. absurd (omega (arith, ap (λ which. length (content_of (record { file = []; journal = journal }) which)) is));
+  free = λ _. (record { free = refl; another = tt }, refl);
+}
+
+-- but not where another program has locked the file
+locked : Readable (record disk { held = λ n. true }) → ⊥
+locked can = false≢true (sym (can.free refl).0.free)
+
+-- what was read: the file, and no journal
+abbrev read : Kept
+read = record {
+  access = Changes;
+  file = Some file;
+  journal = journal;
+  old_file = Some (record {
+    given = file;
+    path = file;
+    number = Some 0;
+    look = Some (Some (record { number = 0; version = 0; length = 1; is_link = false }));
+  });
+  old_journal = Some (record { given = journal; path = journal; number = None; look = None });
+}
+
+abbrev Puts : State → Type 0
+Puts = CanPut itself itself no_links regular read (writes_by (74 ∷ []) (Some (66 ∷ [])))
+
+puts : Puts disk
+puts = record {
+  short = (omega arith, (omega arith, tt));
+  begins = record {
+    unchanged = record {
+      file_stands = record { at = refl; seen = record { number = refl; version = refl }; led = refl };
+      journal_stands = record { at = refl; seen = refl; led = refl };
+      is_regular = tt;
+    };
+    is_regular = refl;
+    file_end = refl;
+    journal_end = refl;
+    clear = record {
+      apart = record {
+        file_new_file = λ is. omega (arith, ap length is);
+        journal_new_journal = λ is. omega (arith, ap length is);
+        pair = λ is. omega (arith, ap length is);
+        file_new_journal = λ is. omega (arith, ap length is);
+        journal_new_file = λ is. omega (arith, ap length is);
+        new_pair = λ is. omega (arith, ap length is);
+      };
+      left = record { journal = tt; file = tt };
+      new_journal = tt;
+      new_file = tt;
+    };
+  };
+}
+
+-- but not where the file was written since it was read
+written : Puts (wrote disk 0 (65 ∷ [])) → ⊥
+written can = omega (arith, can.begins.unchanged.file_stands.seen.version)

@@ -1,6 +1,6 @@
 -- What answers rest on.
 use Rattle.std.proofs.Common.{◌≡◌, ◌⊎◌, ℕ, Bool, Option, Some, None, Result, Ok, Err, List, [], append-nil, ap, sym, subst, refl, inl, inr}
-use Rattle.std.specs.Prelude.{IfSome, IsErrOf, MatchOption}
+use Rattle.std.specs.Prelude.{IfSome, IfOk, IfErr, IsErrOf, MatchOption}
 use Rattle.std.specs.Io.Buffered.{writer_buffer, writer_inner}
 use Rattle.std.specs.Io.KnownBytes.{append_known}
 use Rattle.rec_text.specs.declared.fault.Fault.{Fault}
@@ -58,6 +58,8 @@ pub reply_is_lost : (told : Answer) (failed before : ℕ) (out : Out) (reply : R
 reply_is_lost told failed before out reply fault answer told_is is fault_is same risen =
     subst (IsLetOut told failed out) (sym is) (inr (fault_is, subst (λ n. HasRisen n out.failed) (sym same) risen, (reply, told_is)))
 
-pub replied_fault : (Done : Answer → Type 0) (fault : Fault) (result : Result (Option Reply) Fault) → result ≡ Err fault → Done (Err fault)
-    → IsReplied Done result
-replied_fault Done fault result is done = subst (IsReplied Done) (sym is) done
+-- the answer to a line, with its reply
+pub replied : (Done : Answer → Type 0) (answer : Answer) (result : Result (Option Reply) Fault) → IfOk answer (λ reply. result ≡ Ok (Some reply))
+    → IfErr answer (λ fault. result ≡ Err fault) → Done answer → IsReplied Done result
+replied Done (Ok reply) result ok err done = subst (IsReplied Done) (sym ok) done
+replied Done (Err fault) result ok err done = subst (IsReplied Done) (sym err) done

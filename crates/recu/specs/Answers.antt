@@ -1,4 +1,4 @@
--- The answer to a command line: of which request it is, on which home, and what becomes of what is printed.
+-- The answer to a command line: of which request it is, on which home, what becomes of what is printed, and which disk is left.
 use Rattle.std.specs.Prelude.{◌≡◌, ◌≢◌, ◌⊎◌, ◌↔◌, ℕ, Bool, List, [], Option, Some, None, Result, Ok, Err, IfSome}
 use Rattle.std.specs.Prelude.{MatchOption, MatchResult, option_map, unwrap_or, string_bytes}
 use Rattle.std.specs.Io.Buffered.{writer_buffer, writer_contents}
@@ -22,6 +22,7 @@ use Rattle.rec_files.specs.declared.access.Access.TheVariants.{Look}
 use Rattle.rec_files.specs.declared.files.DiskHome.{DiskHome}
 use Rattle.rec_files.specs.declared.output.StandardOutput.{StandardOutput}
 use Rattle.rec_files.specs.OnDisk.{Places, places_by, IsRequestAt, AreRequestsAt}
+use Rattle.rec_files.specs.Succeeding.{IsShut}
 use Rattle.rec_command.specs.declared.args.Order.{Order}
 use Rattle.rec_command.specs.declared.args.Order.TheVariants.{Whole, BatchAt}
 use Rattle.rec_command.specs.declared.args.CommandLine.{CommandLine}
@@ -50,6 +51,7 @@ pub record IsHomeFor {R D F S : Type 0} (disk : D) (file journal : Option (List 
 
 -- the same home once its files are closed
 pub record IsClosed {R D F S : Type 0} (home closed : DiskHome R D F S) : Type 0 where
+  pub shut : IsShut closed.both
   pub disk : closed.disk ≡ home.disk
   pub file : closed.file ≡ home.file
   pub journal : closed.journal ≡ home.journal
@@ -81,9 +83,9 @@ pub record IsNew (taken : Option (List ℕ)) (out : Out) : Type 0 where
   pub failed : out.failed ≡ 0
 
 -- An answer once what was printed is let out, by the count of failures before that: a refusal stays, and so does another
--- answer where nothing is held any more; else it is 23.
+-- answer where nothing is held any more and nothing failed; else it is 23.
 abbrev pub IsLetOut : Answer → ℕ → Out → Answer → Type 0
-IsLetOut told failed out (Ok reply) = (told ≡ Ok reply) × (out.held ≡ [])
+IsLetOut told failed out (Ok reply) = (told ≡ Ok reply) × (out.held ≡ []) × (out.failed ≡ failed)
 IsLetOut told failed out (Err fault) = (told ≡ Err fault)
     ⊎ ((fault ≡ StoreFailed) × HasRisen failed out.failed × ((reply : Reply) × (told ≡ Ok reply)))
 
@@ -103,7 +105,7 @@ IsMovedTo number told (Err fault) = (told.answer ≡ Err fault)
     ⊎ ((fault ≡ StoreFailed) × (told.last ≢ Some number) × ((reply : Reply) × (told.answer ≡ Ok reply)))
 
 module _ {R D F S : Type 0} (place leads folder : List ℕ → List ℕ) (syncs : List ℕ → Bool) (story : D → Option Story)
-    (goes : DiskHome R D F S → Call → DiskHome R D F S → Type 0) where
+    (works : D → Type 0) (goes : DiskHome R D F S → Call → DiskHome R D F S → Type 0) where
   abbrev pub places_of : DiskHome R D F S → Option Places
   places_of home = places_by leads (option_map string_bytes home.file) (string_bytes home.journal)
 
@@ -139,28 +141,31 @@ module _ {R D F S : Type 0} (place leads folder : List ℕ → List ℕ) (syncs 
         (λ way. AnswersThrough way.0 way.1 answer)
 
   -- On a home, which is closed then, a request is answered so, and is printed by a writer that took these bytes before; or
-  -- there was no memory for it.
+  -- there was no memory for it, and nothing was done.
   abbrev pub AnswersOn : DiskHome R D F S → DiskHome R D F S → Option (List ℕ) → Request → Answer → Type 0
-  AnswersOn old closed taken request answer = ((answer ≡ Err OutOfMemory) × (closed ≡ old))
-      ⊎ ((before after : Out) × IsNew taken before
-      × BeforeClosing (λ home. Answers old home before after request answer) closed)
+  AnswersOn old closed taken request answer = BeforeClosing (λ home. ((answer ≡ Err OutOfMemory) × (home ≡ old))
+      ⊎ ((before after : Out) × IsNew taken before × Answers old home before after request answer)) closed
 
   -- ---- the command line
 
-  -- the request of a line is answered so on a home of its files, on a disk that tells what the first does
-  pub record IsCarriedOut (first : D) (taken : Option (List ℕ)) (line : CommandLine) (request : Request)
+  -- The request of a line is answered so on a home of its files, on a disk that tells what the first does and works where
+  -- that does, and the home's disk is the last one.
+  pub record IsCarriedOut (first last : D) (taken : Option (List ℕ)) (line : CommandLine) (request : Request)
       (answer : Answer) : Type 0 where
     pub disk : D
     pub same : story disk ≡ story first
+    pub works_still : works first → works disk
     pub home : DiskHome R D F S
     pub home_is : IsHomeFor disk (option_map string_bytes line.file) (option_map string_bytes line.journal) request home
     pub closed : DiskHome R D F S
     pub answered : AnswersOn home closed taken request answer
+    pub last_is : last ≡ closed.disk
 
-  -- a line is answered so: its request is, or there is none
-  abbrev pub IsDone : D → Option (List ℕ) → CommandLine → Answer → Type 0
-  IsDone disk taken line answer = (found : Result Request Fault) × IsRequestOf leads (story disk) line.order found
-      × MatchResult found (λ request. IsCarriedOut disk taken line request answer) (λ fault. answer ≡ Err fault)
+  -- A line is answered so, from the first disk to the last: its request is, or there is none, and nothing is changed.
+  abbrev pub IsDone : D → D → Option (List ℕ) → CommandLine → Answer → Type 0
+  IsDone first last taken line answer = (found : Result Request Fault) × IsRequestOf leads (story first) line.order found
+      × MatchResult found (λ request. IsCarriedOut first last taken line request answer)
+      (λ fault. (answer ≡ Err fault) × (story last ≡ story first))
 
 -- The answer to words that are refused: that they are; but to those that ask for help there is no reply, unless it can't be
 -- printed.
@@ -176,7 +181,7 @@ IsReplied Done (Ok None) = ⊥
 IsReplied Done (Ok (Some reply)) = Done (Ok reply)
 IsReplied Done (Err fault) = Done (Err fault)
 
--- the answer to words: that to the line that they ask for, or that they are refused
-abbrev pub IsAnswerTo : (CommandLine → Answer → Type 0) → List (List ℕ) → Result (Option Reply) Fault → Type 0
-IsAnswerTo Done words answer = (read : Result CommandLine Refusal) × IsParsed words read
-    × MatchResult read (λ line. IsReplied (Done line) answer) (λ refusal. IsAnswerToRefused refusal answer)
+-- the answer to words: that to the line that they ask for, or that they are refused and nothing is done
+abbrev pub IsAnswerTo : (CommandLine → Answer → Type 0) → Type 0 → List (List ℕ) → Result (Option Reply) Fault → Type 0
+IsAnswerTo Done Nothing words answer = (read : Result CommandLine Refusal) × IsParsed words read
+    × MatchResult read (λ line. IsReplied (Done line) answer) (λ refusal. IsAnswerToRefused refusal answer × Nothing)

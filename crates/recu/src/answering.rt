@@ -1,5 +1,6 @@
 //! The answer to a request on a file and its journal, on any disk.
 ghost use Rattle.std.specs.Prelude.{◌≡◌};
+ghost use Rattle.rec_files.specs.Succeeding.{IsShut};
 ghost use Rattle.recu.specs.Answers.{through_of, IsMovedTo, out_of, AnswersOnce, AnswersThrough, Answers, BeforeClosing};
 ghost use Rattle.recu.specs.Answers.{AnswersOn};
 
@@ -16,11 +17,13 @@ pub fn answer_by<D: Disk + Drop, W: Write + Drop>(
     request: &Request,
     writer: W,
 ) -> Result<Reply, Fault>
-    ensures answers { AnswersOn D.place D.leads D.folder D.syncs D.story
+    ensures answers { AnswersOn D.place D.leads D.folder D.syncs D.story D.works
         ⟦<DiskHome<'static, HostRuntime, D> as Home>⟧.goes home.old home.new (W.contents writer) request.now result }
+    ensures shut { IsShut home.new.both }
 {
     let room = room_for(access_of(request));
     let Ok(mut out) = StandardOutput::new(rt.alloc(), room, writer) else {
+        home.close();
         return Err(Fault::OutOfMemory);
     };
     let answer = answer_to(rt, home, &mut out, request);
@@ -35,7 +38,7 @@ fn answer_to<D: Disk + Drop, W: Write + Drop>(
     out: &mut StandardOutput<W>,
     request: &Request,
 ) -> Result<Reply, Fault>
-    ensures answers { BeforeClosing (λ done. Answers D.place D.leads D.folder D.syncs D.story
+    ensures answers { BeforeClosing (λ done. Answers D.place D.leads D.folder D.syncs D.story D.works
         ⟦<DiskHome<'static, HostRuntime, D> as Home>⟧.goes home.old done (out_of W.contents out.old) (out_of W.contents out.new)
         request.now result) home.new }
 {
@@ -68,8 +71,9 @@ fn run_once<D: Disk + Drop, W: Write + Drop>(
     out: &mut StandardOutput<W>,
     request: &Request,
 ) -> Result<Reply, Fault>
-    ensures answers { AnswersOnce D.place D.leads D.folder D.syncs D.story
-        ⟦<DiskHome<'static, HostRuntime, D> as Home>⟧.goes home.old home.new (out_of W.contents out.old) (out_of W.contents out.new) request.now result }
+    ensures answers { AnswersOnce D.place D.leads D.folder D.syncs D.story D.works
+        ⟦<DiskHome<'static, HostRuntime, D> as Home>⟧.goes home.old home.new (out_of W.contents out.old)
+        (out_of W.contents out.new) request.now result }
 {
     let reply = rec_files::run(rt.alloc(), home, out, request)?;
     out.finish()?;
@@ -84,7 +88,7 @@ fn move_through<D: Disk + Drop, W: Write + Drop>(
     direction: Direction,
     number: usize,
 ) -> Result<Reply, Fault>
-    ensures answers { BeforeClosing (λ done. AnswersThrough D.place D.leads D.folder D.syncs D.story
+    ensures answers { BeforeClosing (λ done. AnswersThrough D.place D.leads D.folder D.syncs D.story D.works
         ⟦<DiskHome<'static, HostRuntime, D> as Home>⟧.goes home.old done (out_of W.contents out.old) (out_of W.contents out.new)
         direction number result) home.new }
 {

@@ -1,5 +1,5 @@
 //! The answer to a command line, on any disk.
-ghost use Rattle.std.specs.Prelude.{◌≡◌, map, option_map, string_bytes, Result, Option, Ok, Err, IfOk, IfErr};
+ghost use Rattle.std.specs.Prelude.{◌≡◌, map, option_map, string_bytes, Result, Option, Some, Ok, Err, IfOk, IfErr};
 ghost use Rattle.rec_text.specs.declared.fault.Fault.{Fault as FaultOf};
 ghost use Rattle.rec_tools.specs.declared.request.Reply.{Reply as ReplyOf};
 ghost use Rattle.rec_command.specs.Status.{Says, line_of, status_of};
@@ -15,37 +15,51 @@ use std::io;
 use std::io::Write;
 use std::rt::Runtime;
 
-/// The exit status of the command line, once it is answered. What is printed goes to a writer, and the line of a fault to a
-/// sink; what is said beside it goes to standard error.
+/// The exit status of the command line, once it is answered, and the disk as it is then. What is printed goes to a writer, and
+/// the line of a fault to a sink; what is said beside it goes to standard error.
 pub fn status<D: Disk + Drop, W: Write + Drop, S: Sink>(
     rt: &HostRuntime,
     disk: D,
     out: W,
     err: &mut S,
     words: &[String],
-) -> u8
+) -> (u8, D)
     ensures status { (answer : Result (Option ReplyOf) FaultOf)
-        × IsAnswerTo (IsDone D.place D.leads D.folder D.syncs D.story ⟦<DiskHome<'static, HostRuntime, D> as Home>⟧.goes
-        disk (W.contents out)) (map string_bytes words.now) answer
-        × (result ≡ status_of answer) × Says S.contents S.failure_count err.old err.new (line_of answer) }
+        × IsAnswerTo (IsDone D.place D.leads D.folder D.syncs D.story D.works
+        ⟦<DiskHome<'static, HostRuntime, D> as Home>⟧.goes disk result.1 (W.contents out)) (result.1 ≡ disk)
+        (map string_bytes words.now) answer
+        × (result.0 ≡ status_of answer) × Says S.contents S.failure_count err.old err.new (line_of answer) }
 {
-    finish(&answer(rt, disk, out, words), err)
+    let (answer, last) = answer(rt, disk, out, words);
+    (finish(&answer, err), last)
 }
 
-/// The answer to the command line; to one that asks for help there is none.
+/// The answer to the command line, and the disk then; to one that asks for help there is no reply.
 fn answer<D: Disk + Drop, W: Write + Drop>(
     rt: &HostRuntime,
     disk: D,
     out: W,
     words: &[String],
-) -> Result<Option<Reply>, Fault>
-    ensures answer { IsAnswerTo (IsDone D.place D.leads D.folder D.syncs D.story
-        ⟦<DiskHome<'static, HostRuntime, D> as Home>⟧.goes disk (W.contents out)) (map string_bytes words.now) result }
+) -> (Result<Option<Reply>, Fault>, D)
+    ensures answer { IsAnswerTo (IsDone D.place D.leads D.folder D.syncs D.story D.works
+        ⟦<DiskHome<'static, HostRuntime, D> as Home>⟧.goes disk result.1 (W.contents out)) (result.1 ≡ disk)
+        (map string_bytes words.now) result.0 }
 {
     match parse(rt.alloc(), words) {
-        Ok(line) => Ok(Some(carry_out(rt, disk, out, line)?)),
-        Err(refusal) => explain_words(rt, &refusal, words),
+        Ok(line) => {
+            let (answer, last) = carry_out(rt, disk, out, line);
+            (with_reply(answer), last)
+        }
+        Err(refusal) => (explain_words(rt, &refusal, words), disk),
     }
+}
+
+/// An answer with a reply, or the refusal.
+fn with_reply(answer: Result<Reply, Fault>) -> Result<Option<Reply>, Fault>
+    ensures reply { IfOk answer (λ reply. result ≡ Ok (Some reply)) }
+    ensures fault { IfErr answer (λ fault. result ≡ Err fault) }
+{
+    Ok(Some(answer?))
 }
 
 /// The answer to words that are refused, once it is said what is wrong with them, or the help is printed that they ask for.
@@ -70,29 +84,32 @@ fn explain_words(
     }
 }
 
-/// The answer to what a line asks for, with what is said of it.
+/// The answer to what a line asks for, with what is said of it, and the disk then.
 fn carry_out<D: Disk + Drop, W: Write + Drop>(
     rt: &HostRuntime,
     mut disk: D,
     out: W,
     line: CommandLine,
-) -> Result<Reply, Fault>
-    ensures answer { IsDone D.place D.leads D.folder D.syncs D.story
-        ⟦<DiskHome<'static, HostRuntime, D> as Home>⟧.goes disk (W.contents out) line result }
+) -> (Result<Reply, Fault>, D)
+    ensures answer { IsDone D.place D.leads D.folder D.syncs D.story D.works
+        ⟦<DiskHome<'static, HostRuntime, D> as Home>⟧.goes disk result.1 (W.contents out) line result.0 }
 {
     let CommandLine {
         order,
         file,
         journal,
     } = line;
-    let (request, batch) = request_of(rt, &mut disk, order)?;
+    let (request, batch) = match request_of(rt, &mut disk, order) {
+        Ok(found) => found,
+        Err(fault) => return (Err(fault), disk),
+    };
     if file.is_none() {
         say_waiting(rt, &request);
     }
     let mut home = home_for(rt, disk, file, journal, &request);
     let answer = answer_by(rt, &mut home, &request, out);
     say_more(rt, &home, &request, &batch, &answer);
-    answer
+    (answer, home.into_disk())
 }
 
 /// The request of an order, and the path of its text where it is a batch.
@@ -102,6 +119,7 @@ fn request_of<D: Disk>(
     order: Order,
 ) -> Result<(Request, Option<String>), Fault>
     ensures same { D.story disk.new ≡ D.story disk.old }
+    ensures works { D.works disk.old → D.works disk.new }
     ensures request { IfOk result (λ found. IsRequestOf D.leads (D.story disk.old) order (Ok found.0)) }
     ensures refused { IfErr result (λ fault. IsRequestOf D.leads (D.story disk.old) order (Err fault)) }
 {

@@ -17,13 +17,11 @@ fn main(rt: HostRuntime) -> ExitCode {
         failed: 0,
     };
     ExitCode::from(match words(&rt) {
-        Ok(words) => status(
-            &rt,
-            HostDisk::new(rt),
-            rt.stdout(),
-            &mut err,
-            words.as_slice(),
-        ),
+        Ok(words) => {
+            let disk = HostDisk::new(rt);
+            let (status, _) = status(&rt, disk, rt.stdout(), &mut err, words.as_slice());
+            status
+        }
         Err(fault) => finish(&Err(fault), &mut err),
     })
 }

@@ -1,4 +1,7 @@
 //! What is said on standard error beside the line of a refusal.
+ghost use Rattle.std.specs.Prelude.{◌≡◌, IfSome};
+ghost use Rattle.rec_files.specs.Succeeding.{IsShut};
+
 use rec_disk::{Disk, HostDisk};
 use rec_explain::{
     About, explain, explain_done, explain_endings, explain_report, explain_through, explain_waiting,
@@ -16,14 +19,17 @@ pub fn say_waiting(rt: &HostRuntime, request: &Request) {
     }
 }
 
-/// Says how far moves to the edit of a number went: on a terminal, and always where they didn't come to it.
+/// Says how far moves to the edit of a number went: on a terminal, and always where they didn't come to it. The files are
+/// closed before: where standard error was closed, one of them may have its number.
 pub fn say_how_far<D: Disk + Drop>(
     rt: &HostRuntime,
     home: &DiskHome<'_, HostRuntime, D>,
     direction: Direction,
     number: usize,
     through: &Through,
-) {
+)
+    requires shut { IsShut home.now.both }
+{
     let file = home.path(Which::Base);
     let on_terminal = rt.stderr().is_terminal();
     say(
@@ -32,14 +38,17 @@ pub fn say_how_far<D: Disk + Drop>(
     );
 }
 
-/// Says on standard error what a refusal is about, or what is said of a report and of what was done.
+/// Says on standard error what a refusal is about, or what is said of a report and of what was done. The files are closed
+/// before.
 pub fn say_more<D: Disk + Drop>(
     rt: &HostRuntime,
     home: &DiskHome<'_, HostRuntime, D>,
     request: &Request,
     batch: &Option<String>,
     answer: &Result<Reply, Fault>,
-) {
+)
+    requires shut { IsShut home.now.both }
+{
     match answer {
         Ok(reply) => {
             explain_reply(rt, home, request, batch, reply);
@@ -115,11 +124,13 @@ fn text_for<D: Disk + Drop>(
     }
 }
 
-/// The file and its journal on the disk of the system, to be read again.
+/// The file and its journal on the disk of the system, to be read again without a lock.
 fn home_again<'r, D: Disk + Drop>(
     rt: &'r HostRuntime,
     home: &DiskHome<'_, HostRuntime, D>,
-) -> Option<DiskHome<'r, HostRuntime, HostDisk<HostRuntime>>> {
+) -> Option<DiskHome<'r, HostRuntime, HostDisk<HostRuntime>>>
+    ensures looks { IfSome result (λ again. again.access ≡ Access.Look) }
+{
     let file = String::from_str(rt.alloc(), home.path(Which::Base)).ok()?;
     let journal = String::from_str(rt.alloc(), home.path(Which::Journal)).ok()?;
     Some(DiskHome::new(

@@ -18,6 +18,7 @@ returns-in-None g c = record {
     c.run_once-answer.new.home,
     match-none _ _ _ (sym c.through_of.ensures ∙ c.in-None.is) c.run_once-answer.ensures.answers,
     record {
+      shut = c.close.ensures.shut;
       disk = c.close.ensures.same;
       file = c.close.ensures.paths.0;
       journal = c.close.ensures.paths.1;

@@ -18,6 +18,7 @@ returns g c =
           moved = c.answer_of.ensures;
         },
         record {
+          shut = c.close.ensures.shut;
           disk = c.close.ensures.same;
           file = c.close.ensures.paths.0;
           journal = c.close.ensures.paths.1;

@@ -1,4 +1,4 @@
-use Rattle.std.proofs.Common.{ap, Err}
+use Rattle.std.proofs.Common.{◌∙◌, ap, sym, Err}
 use Rattle.std.specs.Prelude.{option_map, string_bytes}
 use Rattle.std.proofs.KnownBytes.{Appends-kept}
 use Rattle.rec_text.proofs.lemmas.ErrorLemmas.{kept_error}
@@ -58,6 +58,6 @@ returns g c =
         on_disk = request_on g.D.Disk.place g.D.Disk.folder g.D.Disk.syncs (asked_of c.args.request.now) c.run.result (g.D.Disk.story c.args.home.now.disk) (g.D.Disk.story c.run.new.home.disk)
             (places_by g.D.Disk.leads (option_map string_bytes c.args.home.now.file) (string_bytes c.args.home.now.journal))
             c.run.ensures.any_moment c.run.ensures.lasting c.run.ensures.touches c.run.ensures.recovers;
-        let_out = (c.in_ok-reply.was, c.in_ok-finish.ensures.let_out);
+        let_out = (c.in_ok-reply.was, c.in_ok-finish.ensures.let_out, c.in_ok-finish.ensures.kept ∙ sym out.2);
       };
     }

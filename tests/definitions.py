@@ -99,19 +99,23 @@ def last_of(lines, end):
     return end
 
 
+def indent_of(line):
+    return len(line) - len(line.lstrip())
+
+
 def begins_in(lines):
-    """Where modules and definitions begin, with the names of these, and of each the head of the module in which it stands."""
-    head, indent = (), ""
+    """Where modules and definitions begin, with the names of these, and of each the heads of the modules in which it stands."""
+    heads = []
     for at, line in enumerate(lines):
+        if line:
+            del heads[indent_of(line) // 2 :]
         begin = BEGIN.match(line)
-        if line.startswith("module "):
+        if line.lstrip().startswith("module "):
             end = next(end for end in range(at, len(lines)) if lines[end].endswith(" where"))
-            head, indent = tuple(range(first_with_comments(lines, at), end + 1)), "  "
-            yield head[0], "", ()
-        elif line and line[0] != " ":
-            head, indent = (), ""
-        if begin and begin[1] == indent:
-            yield first_with_comments(lines, at), begin[2], head
+            heads.append(range(first_with_comments(lines, at), end + 1))
+            yield heads[-1][0], "", ()
+        elif begin and len(begin[1]) == 2 * len(heads):
+            yield first_with_comments(lines, at), begin[2], tuple(itertools.chain(*heads))
 
 
 def names_inside(text):
@@ -176,19 +180,25 @@ def is_variable_in(path, name):
     return target is None or target.definition is not None and target.definition.name == target.name
 
 
-def pieces_of(definition, names):
+def equation_of(definition, names):
+    """How an equation begins: as far in as the definition, or as those do that stand on one another."""
+    first = next(line for line in map(lines_of(definition.path).__getitem__, definition.lines[::-1]) if BEGIN.match(line))
+    return rf" {{{indent_of(first)},{indent_of(first) + 2}}}(?:{names})(?![\w'-])"
+
+
+def pieces_of(definition, equation):
     """The text, cut where the definition begins, and where an equation, a field or a constructor does."""
-    begin = rf"^(?= *(?:abbrev|unfoldable|pub record|pub data) | {{0,2}}(?:{names})(?![\w'-])| *(?:pub )?{NAME} :\s)"
+    begin = rf"^(?= *(?:abbrev|unfoldable|pub record|pub data) |{equation}| *(?:pub )?{NAME} :\s)"
     return re.split(begin, bare(text_of(definition)), flags=re.M)
 
 
 def free_in_spec(definition):
     """The names that stand in a definition and that nothing binds there."""
     path, bound = definition.path, set()
-    names = "|".join(re.escape(name) for name, one in definitions_of(path).items() if one == definition)
-    for piece in pieces_of(definition, names):
+    begin = equation_of(definition, "|".join(re.escape(name) for name, one in definitions_of(path).items() if one == definition))
+    for piece in pieces_of(definition, begin):
         field = re.match(rf" *(?:pub )?({NAME}) :\s", piece)
-        equation = None if field else re.match(rf" {{0,2}}(?:{names})(?![\w'-])([^=]*)=", piece)
+        equation = None if field else re.match(rf"{begin}([^=]*)=", piece)
         scope = set(bound) if equation or re.match(r" *(?:abbrev|unfoldable) ", piece) else bound
         for name in re.findall(rf"(?<![\w.]){NAME}", equation[1]) if equation else ():
             if is_variable_in(path, name):

@@ -24,6 +24,7 @@ CLAUSES = [
     ("rec_files", "run", "touches"),
     ("rec_files", "run", "recovers"),
     ("rec_files", "run", "attempts"),
+    ("recu", "status", "status"),
 ]
 TABLE = "docs/guarantees.md"
 HEAD = ["| Clause | Definitions | Lines | Files | Of them in a list above |", "|---|---|---|---|---|"]

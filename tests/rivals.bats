@@ -90,13 +90,14 @@ writers() {
     fast writers 8 40
 }
 
-# each_pause RIVAL JUDGE: a writer is held up at each of its calls, while a rival comes
+# each_pause RIVAL JUDGE: a writer is held up at each of its calls, while a rival comes; `renames` is the number of its renames up
+# to that call
 each_pause() {
-    local rival=$1 judge=$2 pid tries
+    local rival=$1 judge=$2 pid tries renames=0
     for ((number = 1; number <= 1000; number++)); do
         rm -rf db.rec db.rec.journal other rival.err hit paused go
         put db.rec "$three"
-        if [ -d start ]; then cp start/* .; fi
+        if [ -d start ]; then cp -P start/* .; fi
         at "$number" pause "${words[@]}" db.rec &
         pid=$!
         for ((tries = 0; tries < 4000; tries++)); do
@@ -111,6 +112,7 @@ each_pause() {
             [ "$number" -gt 10 ] || fail 'the writer was never held up'
             return 0
         fi
+        [ "$call" != rename ] || renames=$((renames + 1))
         "$judge"
         no_leftovers
     done
@@ -206,6 +208,34 @@ save_stands() {
 
 @test "another program puts a file in its place meanwhile" {
     fast each_pause save_by_rename save_stands
+}
+
+# What is saved has the length of what stood there, and its time of the last change: only the time of the status tells of it.
+save_as_long() {
+    # in another tick of the system's clock
+    sleep 0.02
+    touch -r db.rec other
+    put db.rec 'A: 1¶¶B: 2¶¶C: 5¶'
+    touch -r other db.rec
+}
+
+noticed="db.rec: changed by another program meanwhile¶$store_failed"
+
+# It came before the file was read, or is noticed; or it came after all was done, or right before the file's rename.
+save_is_noticed() {
+    case $status/$renames in
+        0/0) fast has db.rec 'A: 9¶¶B: 2¶¶C: 5¶' || wrong 'what was saved is lost' ;;
+        1/[01])
+            fast has db.rec 'A: 1¶¶B: 2¶¶C: 5¶' || wrong 'what was saved is lost'
+            fast has err "$noticed" || wrong 'it says something else'
+            ;;
+        0/2) [ "$call" = rename ] || fast has db.rec 'A: 1¶¶B: 2¶¶C: 5¶' || wrong 'what was saved is lost' ;;
+        *) wrong "it is no answer after $renames renames" ;;
+    esac
+}
+
+@test "another program saves a text of the same length meanwhile" {
+    fast each_pause save_as_long save_is_noticed
 }
 
 link() {

@@ -254,6 +254,28 @@ link_stands() {
     fast each_pause link link_stands
 }
 
+# The link was followed to where it leads now, or that is noticed; or it came after all was done, or right before the file's
+# rename.
+leads_elsewhere() {
+    [ "$(readlink db.rec)" = other ] || wrong 'the link leads elsewhere'
+    case $status/$renames in
+        0/0) fast has real "$three" && fast has other "$edited_save" || wrong 'it is not the file to which the link leads' ;;
+        1/[01])
+            fast has real "$three" && fast has other "$saved" || wrong 'one of the two was written'
+            fast has err "$noticed" || wrong 'it says something else'
+            ;;
+        0/2) fast has real "$edited" && fast has other "$saved" || wrong 'it is not the file to which the link led' ;;
+        *) wrong "it is no answer after $renames renames" ;;
+    esac
+}
+
+@test "a link to the file leads elsewhere meanwhile" {
+    mkdir start
+    put start/real "$three"
+    ln -s real start/db.rec
+    fast each_pause link leads_elsewhere
+}
+
 remove() {
     rm db.rec
 }

@@ -534,6 +534,30 @@ sync_fails() {
     no_leftovers
 }
 
+# An edit locks the file, the journal, and then their two new files.
+@test "a file system without locks" {
+    local name
+    put db.rec "$three"
+    does recset -n 0 -f A -s 8 db.rec
+    mkdir start
+    cp db.rec db.rec.journal start
+    number=0
+    for name in db.rec db.rec.journal db.rec.journal.new db.rec.new; do
+        status=0 number=$((number + 1))
+        ONLY=flock at "$number" 37 "${words[@]}" db.rec || status=$?
+        met || fail "there is no lock $number"
+        [ "$status" = 1 ] || wrong 'it is no failure'
+        has err "$name: No locks available (os error 37)¶$store_failed"
+        cmp db.rec start/db.rec
+        cmp db.rec.journal start/db.rec.journal
+        rm out err
+        only db.rec db.rec.journal start
+    done
+    ONLY=flock at 5 37 "${words[@]}" db.rec || true
+    ! met || fail 'there is another lock'
+    has db.rec "$edited"
+}
+
 @test "two files with one journal" {
     local pid
     for ((number = 1; number <= 1000; number++)); do

@@ -379,6 +379,35 @@ journal_is_kept() {
     fast each_pause another_journal journal_is_kept
 }
 
+# first_journal: another program puts one in place where there was none. It has the older header, which recu keeps.
+first_journal() {
+    put other "$old_header"
+    mv other db.rec.journal
+}
+
+# It was there before recu looked for one, or is noticed; or it came after recu's own was in place, or right before that.
+first_journal_is_kept() {
+    case $status/$renames in
+        0/0)
+            fast has db.rec "$edited" || wrong 'not the edit'
+            fast has <(head -c 57 db.rec.journal) "$old_header" || wrong 'what was put in place is lost'
+            ;;
+        1/0)
+            fast has db.rec "$three" && fast has db.rec.journal "$old_header" || wrong 'one of the two was written'
+            fast has err "db.rec.journal: changed by another program meanwhile¶$store_failed" || wrong 'it says something else'
+            ;;
+        0/[12])
+            fast has db.rec "$edited" || wrong 'not the edit'
+            [ "$renames/$call" = 1/rename ] || fast has db.rec.journal "$old_header" || wrong 'what was put in place is lost'
+            ;;
+        *) wrong "it is no answer after $renames renames" ;;
+    esac
+}
+
+@test "another program puts a first journal in place meanwhile" {
+    fast each_pause first_journal first_journal_is_kept
+}
+
 # each_call WHAT: the run's calls fail so in turn, or it ends at them
 each_call() {
     for ((number = 1; number <= 1000; number++)); do

@@ -30,7 +30,7 @@ spelled=
 # looks at, and a folder is synced by its own name
 traced() {
     local line calls
-    strace -y -s 0 -qq -o "$BATS_TEST_TMPDIR/trace" -e 'trace=/^(openat|write|fsync|rename.*|unlink.*|statx)$' \
+    strace -y -s 0 -qq -o "$BATS_TEST_TMPDIR/trace" -e 'trace=/^(openat|fchown|fchmod|write|fsync|rename.*|unlink.*|statx)$' \
         "$program" "$@" > out 2> err 3>&- || fail "$*:" "$(cat err)"
     calls=$(sed -n -E \
         -e 's|^openat\([^"]*"([^"]*)".*O_CREAT.*|make \1|p;t' \
@@ -182,6 +182,34 @@ goes_in_order() {
     spelled='s|d/../e/j|e/j|g; s|look d/db.rec.journal$|look e/j|'
     fast goes_in_order two d/db.rec
     only d e link
+}
+
+# gets_rights NAME MODE: the last run made the new file of this name for its maker alone, and gave it the owner, the group and
+# this mode before its first byte
+gets_rights() {
+    sed -n -E \
+        -e "s|^openat\([^\"]*\"$1\", [^,]*O_CREAT[^,]*, ([0-7]+)\).*|make \1|p;t" \
+        -e "s|^(fchown\|fchmod)\([0-9]+<[^>]*/$1>, (.*)\) += .*|\1 \2|p;t" \
+        -e "s|^(write)\([0-9]+<[^>]*/$1>.*|\1|p" "$BATS_TEST_TMPDIR/trace" > "$BATS_TEST_TMPDIR/given"
+    has "$BATS_TEST_TMPDIR/given" "make 0600¶fchown $(id -u), -1¶fchown -1, $(id -g)¶fchmod $2¶write¶"
+}
+
+@test "a new file has its rights before its first byte" {
+    can_trace
+    put db.rec "$three"
+    chmod 640 db.rec
+    traced recset -n 0 -f A -s 8 db.rec
+    gets_rights db.rec.new 0640
+    gets_rights db.rec.journal.new 0640
+    chmod 604 db.rec.journal
+    traced undo db.rec
+    gets_rights db.rec.new 0640
+    gets_rights db.rec.journal.new 0604
+    does recset -n 0 -f A -s 9 db.rec
+    traced forget 0 db.rec
+    gets_rights db.rec.journal.new 0604
+    rm calls
+    only db.rec db.rec.journal
 }
 
 # The journal's new file stays until the file's is surely gone: alone that one could not be told to be recu's own.

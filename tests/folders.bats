@@ -46,13 +46,22 @@ traced() {
     rm out err
 }
 
-# is_done_in_order CALLS: the last run did this to names and to what is on the disk, and nothing else, and it looked at what it
-# replaced directly before each rename
+# is_done_in_order CALLS: the last run did this to names and to what is on the disk, and nothing else; since the last sync before
+# each rename it looked at the file and at what it renamed, and directly before the rename at what it replaced
 is_done_in_order() {
     grep -v '^look ' calls > "$BATS_TEST_TMPDIR/done"
     has "$BATS_TEST_TMPDIR/done" "$1"
-    awk '$1 == "rename" && last != "look " $3 { print "last before " $0 ": " last; wrong = 1 } { last = $0 } END { exit wrong }' calls \
-        || fail 'no look directly before a rename'
+    awk -v file="${names[0]}" '
+        $1 == "sync" { split("", seen) }
+        $1 == "look" { seen[$2] = 1 }
+        $1 == "rename" {
+            if (!seen[file]) { print "no look at " file " before " $0; wrong = 1 }
+            if (!seen[$2]) { print "no look at " $2 " before " $0; wrong = 1 }
+            if (last != "look " $3) { print "last before " $0 ": " last; wrong = 1 }
+        }
+        { last = $0 }
+        END { exit wrong }
+    ' calls || fail 'a look is missing before a rename'
     rm calls
 }
 

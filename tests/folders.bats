@@ -17,12 +17,6 @@ need_stories() {
     [ -x "$stories" ] || fail "there is no $stories: bash test.sh proofs makes it"
 }
 
-# can_trace: strace is there and may trace
-can_trace() {
-    command -v strace > /dev/null || fail 'there is no strace (tests/needs.sh)'
-    strace -o /dev/null true 2> "$BATS_TEST_TMPDIR/why" || skip "strace can trace nothing here: $(cat "$BATS_TEST_TMPDIR/why")"
-}
-
 # How sed writes names in another way, where one file is written in two.
 spelled=
 

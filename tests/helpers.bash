@@ -110,6 +110,12 @@ fails_to_store() {
     prints '' "$1¶$store_failed"
 }
 
+# can_trace: strace is there and may trace
+can_trace() {
+    command -v strace > /dev/null || fail 'there is no strace (tests/needs.sh)'
+    strace -o /dev/null true 2> "$BATS_TEST_TMPDIR/why" || skip "strace can trace nothing here: $(cat "$BATS_TEST_TMPDIR/why")"
+}
+
 # fast WORD..: the command, without the look that bats takes at each command of a case, which costs more than most of them
 fast() {
     (trap - DEBUG ERR && "$@")

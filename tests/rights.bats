@@ -269,6 +269,51 @@ says() {
     only db.rec held
 }
 
+@test "a lock is met by every path, and by another file with the journal" {
+    local path
+    put db.rec "$three"
+    put other.rec "$three"
+    put j ''
+    ln -s db.rec link
+    ln db.rec hard
+    (exec 8< j 9< db.rec && flock 8 && flock 9 && : > held && exec sleep 60) 3>&- &
+    holder=$!
+    until [ -e held ]; do sleep 0.01; done
+    for path in link hard ./db.rec "$PWD/db.rec"; do
+        fails_to_store "$path: in use by another recu" recdel -n 0 "$path"
+    done
+    fails_to_store 'j: in use by another recu' recdel -n 0 --journal j other.rec
+    has db.rec "$three"
+    has other.rec "$three"
+    has j ''
+    only db.rec hard held j link other.rec
+}
+
+# locks NUMBER WORD..: recu with these words ends well, and makes this number of calls to lock something
+locks() {
+    strace -f -qq -o "$BATS_TEST_TMPDIR/trace" -e trace=flock "$program" "${@:2}" > /dev/null 3>&- || fail "${*:2} is refused"
+    [ "$(wc -l < "$BATS_TEST_TMPDIR/trace")" = "$1" ] || fail "${*:2}: $(cat "$BATS_TEST_TMPDIR/trace")"
+}
+
+@test "looking makes no call that locks" {
+    can_trace
+    local words
+    put db.rec "$three"
+    does recset -n 0 -f A -s 8 db.rec
+    put changes 'Tool: recdel¶Number: 0¶'
+    for words in 'recsel' 'recinf' 'recfix' 'history' 'history --patch' 'show' 'recins --dry-run -f A -v 1' 'recdel --dry-run -n 0' \
+        'recset --dry-run -f A -s 7' 'recfix --auto --dry-run' 'batch --dry-run -b changes' 'undo --dry-run' 'revert --dry-run 1'; do
+        locks 0 $words db.rec
+    done
+    # the file, the journal, and their two new files
+    locks 4 undo db.rec
+    for words in 'redo --dry-run' 'show 1'; do
+        locks 0 $words db.rec
+    done
+    locks 4 redo db.rec
+    has db.rec 'A: 8¶¶B: 2¶¶C: 3¶'
+}
+
 # edited_twice: the file with two edits in its journal
 edited_twice() {
     put db.rec "$three"

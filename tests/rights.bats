@@ -140,6 +140,17 @@ says() {
     only db.rec
     chown 65534 db.rec
     does recdel -n 0 db.rec
+    # the folder's owner may replace it, and so may root
+    chown 65534 .
+    chown 1234:1234 db.rec
+    does undo db.rec
+    has db.rec "$three"
+    as_user=()
+    chown 1234 .
+    chown 1234:1234 db.rec
+    does redo db.rec
+    has db.rec 'B: 2¶¶C: 3¶'
+    only db.rec db.rec.journal
 }
 
 @test "another user's file under a working name" {

@@ -347,3 +347,18 @@ copies() {
     does redo db.rec
     has db.rec < after
 }
+
+@test "a batch of 200 KB, in a file and in a pipe" {
+    copies 1001 | head -c -1 > after
+    awk 'BEGIN { for (i = 1; i <= 1000; i++) printf "# %0170d\nTool: recins\nField: N\nValue: %d\n\n", i, i }' > changes
+    [ "$(stat -c %s changes)" -gt 200000 ] || fail 'the batch is shorter'
+    put db.rec 'N: 0¶'
+    does batch -b changes db.rec
+    has db.rec < after
+    does undo db.rec
+    has db.rec 'N: 0¶'
+    does batch -b <(cat changes) db.rec
+    has db.rec < after
+    does undo db.rec
+    has db.rec 'N: 0¶'
+}

@@ -77,15 +77,25 @@ error='No such file or directory (os error 2)'
     only db.rec pipe
 }
 
-# many_records: db.rec and, with a newline more, more.rec
+# many_records [COUNT]: db.rec, of 20000 records or of this number, and, with a newline more, more.rec
 many_records() {
-    awk 'BEGIN { for (i = 0; i < 20000; i++) printf "Name: record %d\n\n", i }' > more.rec
+    awk -v count="${1-20000}" 'BEGIN { for (i = 0; i < count; i++) printf "Name: record %d\n\n", i }' > more.rec
     head -c -1 more.rec > db.rec
 }
 
 @test "much output" {
     many_records
     input=db.rec recu 0 recsel
+    has "$BATS_TEST_TMPDIR/out" < db.rec
+    only db.rec more.rec
+}
+
+@test "2 MB of standard input, from a file and from a pipe" {
+    many_records 110000
+    [ "$(stat -c %s db.rec)" -gt 2000000 ] || fail 'it is shorter'
+    input=db.rec recu 0 recsel
+    has "$BATS_TEST_TMPDIR/out" < db.rec
+    ends 0 bash -c 'cat db.rec | "$1" recsel' '' "$recu"
     has "$BATS_TEST_TMPDIR/out" < db.rec
     only db.rec more.rec
 }

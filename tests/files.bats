@@ -72,6 +72,20 @@ have_modes() {
     only files link link.journal
 }
 
+@test "links with whole paths are followed and kept" {
+    mkdir files links
+    put files/db.rec "$three"
+    ln -s "$PWD/files/db.rec" links/db.rec
+    does recdel -n 0 links/db.rec
+    has files/db.rec 'B: 2¶¶C: 3¶'
+    mv links/db.rec.journal files/j
+    ln -s "$PWD/files/j" links/db.rec.journal
+    does undo links/db.rec
+    has files/db.rec "$three"
+    [ "$(readlink links/db.rec links/db.rec.journal)" = "$PWD/files/db.rec"$'\n'"$PWD/files/j" ] || fail 'a link is gone'
+    [ "$(ls -A files links | tr '\n' ' ')" = 'files: db.rec j  links: db.rec db.rec.journal ' ] || fail "$(ls -A files links)"
+}
+
 @test "links in a row, and in a ring" {
     mkdir files
     put db.rec "$three"
@@ -228,6 +242,25 @@ have_modes() {
     has d/db.rec.journal.new ''
     has db.rec "$three"
     has db.rec.journal "$header"
+}
+
+# It can't be opened, so it isn't synced.
+@test "a folder that may be written and not read" {
+    as_nobody
+    put db.rec "$three"
+    chmod 666 db.rec
+    chmod 333 .
+    ! "${as_user[@]}" ls . 2> "$BATS_TEST_TMPDIR/why" || fail 'it may be read'
+    does recdel -n 0 db.rec
+    has db.rec 'B: 2¶¶C: 3¶'
+    does undo db.rec
+    has db.rec "$three"
+    does redo db.rec
+    does forget 0 db.rec
+    has db.rec 'B: 2¶¶C: 3¶'
+    has db.rec.journal "$header"
+    chmod 755 .
+    only db.rec db.rec.journal
 }
 
 # What a stop leaves: the journal's new file, whole or in part, and beside it the file's; or, between the renames, the file's

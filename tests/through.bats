@@ -236,6 +236,35 @@ fails() {
     has db.rec 'A: 1¶'
 }
 
+# unheard STATUS WORD..: with standard error closed recu ends so, and prints nothing. The file that is opened first has its number
+# then, so nothing may be said before that is closed.
+unheard() {
+    ends "$1" bash -c '"$@" 2>&-' '' "$program" "${@:2}"
+    prints '' ''
+}
+
+@test "several moves with standard error closed" {
+    local events
+    begin
+    unheard 0 undo --through 2 db.rec
+    stands 'A: 2¶' "$three_edits$two_undone"
+    unheard 1 redo --through 4 db.rec
+    unheard 1 undo --through 2 db.rec
+    stands 'A: 2¶' "$three_edits$two_undone"
+    unheard 0 redo --through 3 db.rec
+    unheard 1 redo db.rec
+    stands 'A: 4¶' "$three_edits$two_undone$two_redone"
+    # on the way: a text that was changed, and a sync that fails
+    events=${three_edits/New: A: 2/New: A: 7}
+    put db.rec.journal "$header$events"
+    unheard 1 undo --through 1 db.rec
+    stands 'A: 2¶' "$events$two_undone"
+    begin
+    ONLY=fsync AT=13 DO=5 LD_PRELOAD=$BATS_FILE_TMPDIR/calls.so unheard 1 undo --through 1 db.rec
+    met || fail 'there is no such sync'
+    stands 'A: 3¶' "$three_edits$(move 4 undo 3 'A: 4' 'A: 3')"
+}
+
 @test "it takes no more than single moves, and closes what it opened" {
     local number
     put db.rec 'A: 0¶'

@@ -342,6 +342,16 @@ with_batch() {
     only d db.rec journal link
 }
 
+# What can't be synced can't be kept from a power cut.
+@test "a file that is a device" {
+    local event="Number: 1¶Kind: edit¶Tool: recdel¶Before: $(digest 'A: 1¶')¶After: $(digest '')¶At: 0¶Old: A: 1\$¶+ \$¶New: \$¶¶"
+    put j "$header$event"
+    tells 'done 1 recdel¶' --journal j /dev/null
+    fails_to_store '/dev/null: not a regular file' forget 0 --journal j /dev/null
+    has j "$header$event"
+    only j
+}
+
 @test "links are followed and kept" {
     mkdir files
     put files/db.rec 'A: 1¶'

@@ -296,6 +296,7 @@ recins [OPTIONS] -f NAME -v VALUE.. FILE
 recins [OPTIONS] -r TEXT FILE
 recset [OPTIONS] -f FIELDS <ACTION> FILE
 batch [OPTIONS] -b PATH FILE
+show [OPTIONS] [N] FILE
 USAGE
     recu 0 recins -h
     tr -s ' \n' ' ' < "$BATS_TEST_TMPDIR/out" | grep -q 'for a new record no type, even where there is only one'

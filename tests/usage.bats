@@ -92,6 +92,7 @@ example() {
         tail -n 1 help | grep -q '^  recu ' || fail "the help of $tool ends with no example"
         number=0
         while IFS= read -r line; do
+            [[ $line == "  recu $tool "* ]] || fail "the help of $tool has an example of another tool: $line"
             example "$tool" "$line"
             number=$((number + 1))
         done < <(sed -n '/^Examples:$/,$ { /^  recu /p }' help)
@@ -99,6 +100,33 @@ example() {
     done
     recu 0 --help
     out | tail -n 1 | grep -q '^  recu '
+}
+
+# listed TOOL: what the tool's help says, as rows of data/help.rows. A text stands beside what it is said of, or in the next line.
+listed() {
+    awk -v tool="$1" '
+        /^Usage: / { print tool " | \047\047 | " top; is_after = 1 }
+        !is_after { if (NF) top = top (top == "" ? "" : "¶") $0; next }
+        /^[^ ]/ { is_list = /^(Commands|Arguments|Options):$/; next }
+        !is_list || !NF { next }
+        {
+            is_next = /^          /
+            sub(/^ +/, "")
+            if (is_next) text = $0
+            else if (match($0, /  +/)) { what = substr($0, 1, RSTART - 1); text = substr($0, RSTART + RLENGTH) }
+            else { what = $0; next }
+            if (what !~ /^help$|--(help|version)$/) print tool " | " what " | " text
+        }
+    '
+}
+
+@test "what help says of each tool and option" {
+    local tool
+    for tool in '' recsel recinf recfix recins recdel recset batch undo redo revert history show forget; do
+        recu 0 $tool --help
+        out | listed "${tool:-recu}"
+    done > listed
+    grep -v '^$\|^# ' "$top/tests/data/help.rows" | diff - listed || fail 'help says something else'
 }
 
 @test "help fits 80 columns" {

@@ -348,8 +348,10 @@ with_batch() {
     put j "$header$event"
     tells 'done 1 recdel¶' --journal j /dev/null
     fails_to_store '/dev/null: not a regular file' forget 0 --journal j /dev/null
+    ln -s /dev/null device
+    fails_to_store 'device: not a regular file' forget 0 --journal j device
     has j "$header$event"
-    only j
+    only device j
 }
 
 @test "links are followed and kept" {

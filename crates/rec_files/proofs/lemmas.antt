@@ -6,6 +6,7 @@ pub mod Holding
 pub mod Steps
 pub mod Links
 pub mod Succeeding
+pub mod Noting
 pub mod Replacing
 pub mod Home
 pub mod Requests

@@ -176,13 +176,14 @@ IsWhole (put_all writes) = Unit {0}
 IsWhole _ = ⊥
 
 -- At any moment of a call a stop or a crash leaves what it might have left before, or the first of its writes made, and
--- after a whole one all of them; a read changes nothing, no call touches what is somebody else's, and whatever a stop or
--- a crash leaves under the working names can be told to be left over.
+-- after a whole one all of them; a read changes nothing, a put of the journal alone doesn't touch the file, no call touches
+-- what is somebody else's, and whatever a stop or a crash leaves under the working names can be told to be left over.
 pub record IsCallAt (place folder : List ℕ → List ℕ) (syncs : List ℕ → Bool) (p : Places) (old : Option Story)
     (call : Call) (new : Option Story) : Type 0 where
   pub any_moment : SecurePut folder syncs p (writes_of call) old new
   pub lasts : IsWhole call → LastingPut folder syncs p (writes_of call) old new
   pub still : writes_of call ≡ [] → new ≡ old
+  pub alone : length (writes_of call) ≤ 1 → AtAnyMoment old new (Spares p.file)
   pub touches : TouchesOwn place p old new
   pub recovers : RecoversAt place folder syncs p (writes_of call) old new
 

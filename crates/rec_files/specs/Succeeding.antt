@@ -5,8 +5,8 @@ use Rattle.std.specs.Prelude.{IfSome, IsSome, IsSomeAnd, option_map, string_byte
 use Rattle.std.specs.List.{AllByRecursion}
 use Rattle.std.specs.Option.{option_and_then}
 use Rattle.std.specs.declared.io.Error.{Error}
-use Rattle.rec_disk.specs.Disk.{State, Story, Look, IsLookAt, IsMemory}
-use Rattle.rec_tools.specs.Home.{Call, Write, unread, put_some}
+use Rattle.rec_disk.specs.Disk.{State, Story, Look, Told, SaysOf, IsLookAt, IsMemory}
+use Rattle.rec_tools.specs.Home.{Call, Write, got, unread, put_all, put_some}
 use Rattle.rec_tools.specs.declared.home.Which.{Which}
 use Rattle.rec_tools.specs.declared.home.Which.TheVariants.{Base, Journal}
 use Rattle.rec_files.specs.declared.access.Access.{Access}
@@ -75,6 +75,11 @@ SawRegular regular (Some look) = IsSomeAnd look (λ look. regular look.number �
 abbrev pub SawAnother : ℕ → Option (Option Look) → Type 0
 SawAnother n None = Unit {0}
 SawAnother n (Some look) = IsSomeAnd look (λ look. look.number ≢ n)
+
+-- nothing stands at a place where nothing was seen; else what the look says, where it says it
+abbrev pub IsAsSeen : List ℕ → Option (Option Look) → State → Type 0
+IsAsSeen p None s = s.at p ≡ None
+IsAsSeen p (Some look) s = SaysOf (IsLookAt s p) look
 
 -- the look, if there is one, was taken at the place, and what it saw stands there
 abbrev pub HasSeen : List ℕ → Option (Option Look) → State → Type 0
@@ -225,6 +230,42 @@ pub record IsExcused (place leads : List ℕ → List ℕ) (link : List ℕ → 
   pub works_still : works → still
   pub for_memory : works → IsTold story (HadAll place leads link regular kept call) → IsSomeAnd failure FailedForMemory
 
+-- ---- what is read and then replaced
+
+-- what stands at a path was seen, and no other program had locked it
+pub record IsReadFree (leads : List ℕ → List ℕ) (regular : ℕ → Bool) (path : List ℕ) (look : Option (Option Look))
+    (s : State) : Type 0 where
+  pub seen : HasSeen (leads path) look s
+  pub free : IfSome (s.at (leads path)) (λ n. regular n ≡ true → s.held n ≡ false)
+
+-- a read notes what it saw, and a read of the journal leaves what is noted of the file
+abbrev pub NotesRead : (List ℕ → List ℕ) → (ℕ → Bool) → Kept → Kept → Option Story → Call → Type 0
+NotesRead leads regular old new story (got Base bytes) = IfSome old.file (λ path.
+    IsSomeAnd new.old_file (λ file. Told story (IsReadFree leads regular path file.look)))
+NotesRead leads regular old new story (got Journal bytes) = (new.old_file ≡ old.old_file)
+    × IsSomeAnd new.old_journal (λ journal. Told story (IsReadFree leads regular old.journal journal.look))
+NotesRead leads regular old new story _ = Unit {0}
+
+-- both stand as it is noted of them
+abbrev pub AreAsNoted : (List ℕ → List ℕ) → Kept → State → Type 0
+AreAsNoted leads kept s =
+    IsSomeAnd kept.old_file (λ file. IsAsSeen (leads (path_of kept.file kept.journal Base)) file.look s)
+    × IsSomeAnd kept.old_journal (λ journal. IsAsSeen (leads kept.journal) journal.look s)
+
+-- a put that succeeds finds both so, and one that fails and doesn't changes nothing
+abbrev pub ReplacesNoted : (List ℕ → List ℕ) → Kept → Option Story → Call → Option Story → Type 0
+ReplacesNoted leads kept old (put_all writes) new = Told old (AreAsNoted leads kept)
+ReplacesNoted leads kept old (put_some writes k) new = (new ≡ old) ⊎ Told old (AreAsNoted leads kept)
+ReplacesNoted leads kept old _ new = Unit {0}
+
+-- what a home may do stays; one that may write reads nothing that another program has locked, and notes what it reads; and
+-- nothing is replaced but what is noted
+pub record IsCareful (leads : List ℕ → List ℕ) (regular : ℕ → Bool) (kept now : Kept) (old : Option Story) (call : Call)
+    (new : Option Story) : Type 0 where
+  pub access : now.access ≡ kept.access
+  pub reads : kept.access ≡ Changes → NotesRead leads regular kept now old call
+  pub puts : ReplacesNoted leads kept old call new
+
 -- what becomes of a home by a call
 abbrev pub HomeGoes : {R D F S : Type 0} → (List ℕ → List ℕ) → (List ℕ → List ℕ) → (List ℕ → Option (List ℕ))
     → (List ℕ → List ℕ) → (List ℕ → Bool) → (ℕ → Bool) → (F → ℕ) → (S → Option Look) → (D → Option Story)
@@ -233,5 +274,6 @@ HomeGoes place leads link folder syncs regular number tells story works old call
     IsHomeCall place folder syncs (places_by leads (option_map string_bytes old.file) (string_bytes old.journal))
     (places_by leads (option_map string_bytes new.file) (string_bytes new.journal)) (story old.disk) call (story new.disk)
     old.failed new.failed
-    × IsExcused place leads link regular (kept number tells old) (works old.disk) (works new.disk) new.failure (story old.disk)
-    call
+    × (IsExcused place leads link regular (kept number tells old) (works old.disk) (works new.disk) new.failure
+    (story old.disk) call
+    × IsCareful leads regular (kept number tells old) (kept number tells new) (story old.disk) call (story new.disk))

@@ -1,8 +1,10 @@
 //! The file of a batch: read whole, before the file that is edited.
-ghost use Rattle.std.specs.Prelude.{◌≡◌, ◌≤◌, length, Some, IfOk};
+ghost use Rattle.std.specs.Prelude.{◌≡◌, ◌≤◌, length, Some, IfOk, IsSomeAnd};
 ghost use Rattle.rec_text.specs.Faults.{IsOkUnlessEither};
-ghost use Rattle.rec_disk.specs.Disk.{Told};
+ghost use Rattle.rec_disk.specs.Disk.{Told, IsMemory};
 ghost use Rattle.rec_disk.specs.Lasting.{shown};
+ghost use Rattle.rec_files.specs.Succeeding.{IsTold, IsShort};
+ghost use Rattle.rec_files.specs.proving.Succeeding.{Succeeds};
 
 use crate::files::is_out_of_memory;
 use crate::open_file::OpenFile;
@@ -40,11 +42,13 @@ pub fn batch_text<R: Eprint + AllocGlobal, D: Disk>(
 /// told to be so as the file itself is.
 fn read_at<D: Disk>(disk: &mut D, alloc: Global, path: &str) -> io::Result<Vec<u8>>
     ensures same { D.story disk.new ≡ D.story disk.old }
-    ensures works { D.works disk.old → D.works disk.new }
     ensures bytes { IfOk result (λ bytes. Told (D.story disk.old)
         (λ s. shown s.bytes (s.at (D.leads path.now)) ≡ Some bytes.items)) }
     ensures limit { IfOk result (λ bytes. length bytes.items ≤ LIMIT) }
+    ensures succeeds { Succeeds IsMemory (D.works disk.old) (D.works disk.new) (IsTold (D.story disk.old)
+        (λ s. IsSomeAnd (s.at (D.leads path.now)) (IsShort s))) result }
 {
     let file = disk.open(path)?;
-    OpenFile::new(disk, file)?.read(disk, alloc, Which::Base)
+    let opened = OpenFile::new(disk, file)?;
+    opened.read(disk, alloc, Which::Base)
 }

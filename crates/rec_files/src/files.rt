@@ -8,9 +8,10 @@ ghost use Rattle.std.specs.IoError.{error_kind, raw_os_error};
 ghost use Rattle.rec_text.specs.Sink.{one_more};
 ghost use Rattle.rec_disk.specs.Disk.{Told, IsMemory};
 ghost use Rattle.rec_disk.specs.Lasting.{shown};
+ghost use Rattle.rec_tools.specs.Home.{got};
 ghost use Rattle.rec_files.specs.OnDisk.{or_empty, contents_on, places_by, IsReadOf};
 ghost use Rattle.rec_files.specs.Paths.{path_of};
-ghost use Rattle.rec_files.specs.Succeeding.{HasSeen, HomeGoes, IsTold, IsShort, IsThere, IsReadable, IsShut};
+ghost use Rattle.rec_files.specs.Succeeding.{HomeGoes, IsTold, IsShort, IsThere, IsReadable, IsShut, NotesRead, kept};
 ghost use Rattle.rec_files.specs.proving.Succeeding.{Succeeds, IsOwnJournal};
 
 use crate::access::Access;
@@ -150,6 +151,7 @@ impl<'r, R: Input + AllocGlobal, D: Disk + Drop> DiskHome<'r, R, D> {
         ensures once { self.new.failed ≡ one_more self.old.failed }
         ensures noted { self.new.failure ≡ Some failure }
         ensures paths { (self.new.file ≡ self.old.file) × (self.new.journal ≡ self.old.journal) }
+        ensures access { self.new.access ≡ self.old.access }
         ensures same { D.story self.new.disk ≡ D.story self.old.disk }
         ensures works { D.works self.old.disk → D.works self.new.disk }
     {
@@ -171,9 +173,10 @@ impl<'r, R: Input + AllocGlobal, D: Disk + Drop> DiskHome<'r, R, D> {
             (option_map string_bytes self.old.file) (string_bytes self.old.journal)
             (option_and_then (λ file. option_map (λ opened. D.tells opened.seen) file.old) self.old.both.file) which))
             result }
-        ensures noted { self.old.access ≡ Access.Change → which ≡ Which.Base → IfOk result (λ bytes.
-            IfSome self.old.file (λ file. Told (D.story self.old.disk) (HasSeen (D.leads (string_bytes file))
-            (option_and_then (λ file. option_map (λ opened. D.tells opened.seen) file.old) self.new.both.file)))) }
+        ensures access { self.new.access ≡ self.old.access }
+        ensures noted { self.old.access ≡ Access.Change → IfOk result (λ bytes. NotesRead D.leads D.regular
+            (kept D.number D.tells self.old) (kept D.number D.tells self.new) (D.story self.old.disk)
+            (got which bytes.items)) }
     {
         if which == Which::Base && self.file.is_none() {
             return read_rest(which, Vec::new(alloc), self.rt.reader());

@@ -7,7 +7,8 @@ use Rattle.rec_tools.specs.Home.{content_of, writes_by}
 use Rattle.rec_tools.specs.declared.home.Which.TheVariants.{Base}
 use Rattle.rec_files.specs.declared.access.Access.TheVariants.{Change as Changes}
 use Rattle.rec_files.specs.Paths.{end_of}
-use Rattle.rec_files.specs.Succeeding.{Kept, IsReadable, CanPut}
+use Rattle.rec_files.specs.Succeeding.{Kept, IsReadable, IsReadFree, AreAsNoted, CanPut}
+use Rattle.rec_files.proofs.lemmas.Steps.{some_none}
 
 -- ---- links
 
@@ -124,3 +125,28 @@ puts = record {
 -- but not where the file was written since it was read
 written : Puts (wrote disk 0 (65 ∷ [])) → ⊥
 written can = omega (arith, can.begins.unchanged.file_stands.seen.version)
+
+-- ---- what is noted of both
+
+abbrev Noted : State → Type 0
+Noted = AreAsNoted itself read
+
+noted : Noted disk
+noted = (record { number = refl; version = refl }, refl)
+
+-- the file was written since, or a journal came to be
+rewritten : Noted (wrote disk 0 (65 ∷ [])) → ⊥
+rewritten seen = omega (arith, seen.0.version)
+
+came : Noted (record disk { at = put disk.at journal (Some 1) }) → ⊥
+came seen = some_none 1 seen.1
+
+-- the file is read, and noted so; not where another program has locked it
+abbrev Free : State → Type 0
+Free = IsReadFree itself regular file (Some (Some (record { number = 0; version = 0; length = 1; is_link = false })))
+
+free : Free disk
+free = record { seen = record { number = refl; version = refl }; free = λ _. refl }
+
+held : Free (record disk { held = λ n. true }) → ⊥
+held read = false≢true (sym (read.free refl))

@@ -2,12 +2,18 @@
 use Rattle.std.proofs.Common.{◌≡◌, ◌⊎◌, inl, inr, ℕ, ◌≤◌, Bool, false, List, [], length, take, Option, Some, None, refl, sym, ◌∙◌, ap, subst, IfSome, arith}
 use Rattle.std.proofs.lemmas.Bool.{false≢true}
 use Rattle.rec_disk.specs.Disk.{State, Story, Told, AtAnyMoment}
+use Rattle.rec_disk.specs.Lasting.{Spares}
 use Rattle.rec_disk.proofs.lemmas.Places.{leaves_spared}
 use Rattle.rec_disk.proofs.lemmas.Moments.{still, told_so}
-use Rattle.rec_tools.specs.Home.{Contents, Write, Call, put_all, put_some, written, writes_by, left_by, TellsOf, CountsFailure}
+use Rattle.rec_disk.proofs.lemmas.Calls.{spares_still}
+use Rattle.std.specs.Prelude.{Err, IsSome, option_map}
+use Rattle.rec_text.specs.declared.fault.Fault.{Fault}
+use Rattle.rec_text.specs.declared.fault.Fault.TheVariants.{StoreFailed}
+use Rattle.rec_tools.specs.Home.{Contents, Write, Call, got, lacked, unread, read_call, CountsOne, put_all, put_some, written, writes_by, left_by, TellsOf, CountsFailure}
+use Rattle.rec_tools.specs.declared.home.Which.{Which}
 use Rattle.rec_tools.specs.declared.home.Which.TheVariants.{Base}
 use Rattle.rec_files.specs.Paths.{path_of}
-use Rattle.rec_files.specs.OnDisk.{Places, Shows, Holds, AreAsBefore, IsRead, IsSecure, CanSync, SecurePut, LastingPut, TouchesOwn, RecoversAt, IsHomeCall, contents_at, contents_on, places_by, writes_of}
+use Rattle.rec_files.specs.OnDisk.{Places, Shows, Holds, AreAsBefore, IsRead, IsSecure, CanSync, SecurePut, LastingPut, TouchesOwn, RecoversAt, IsCallAt, IsHomeCall, IsReadOf, IsWhole, contents_at, contents_on, places_by, writes_of}
 use Rattle.rec_files.specs.proving.Replacing.{IsPutForGood, LastAs, led}
 use Rattle.rec_files.proofs.lemmas.Holding.{last_holds, between_written, before_shows, holds_contents, leaves_now}
 use Rattle.rec_files.proofs.lemmas.Replacing.{Until, moments_so}
@@ -81,12 +87,93 @@ module _ (folder : List ℕ → List ℕ) (syncs : List ℕ → Bool) (p : Place
   some_put (Some a) (Some b) (Some c) is secure =
       some_at a b c is ((secure false c (no_crash folder syncs p) is).0 (record { at = b.now.at; bytes = b.now.bytes }) (leaves_now b.now))
 
+-- ---- a read of the home
+
+module _ (place folder : List ℕ → List ℕ) (syncs : List ℕ → Bool) (places now : Option Places) (o n : Option Story) (call : Call) (old new : ℕ) where
+  calls_still : (places : Option Places) → n ≡ o → (IsWhole call → ⊥) → IfSome places (λ p. IsCallAt place folder syncs p o call n)
+  calls_still None same not_whole = tt
+  calls_still (Some p) same not_whole = record {
+    any_moment = secure_still folder syncs p (writes_of call) o n same;
+    lasts = λ whole. absurd (not_whole whole);
+    still = λ none. same;
+    alone = λ one. spares_still p.file o n same;
+    touches = inl same;
+    recovers = inl same;
+  }
+
+  follows_still : (x : Option Contents) → contents_on places o ≡ x → ((c : Contents) → left_by c call ≡ c) → IfSome x (λ c. TellsOf c call)
+      → IfSome x (λ c. TellsOf c call × (contents_on places o ≡ Some (left_by c call)))
+  follows_still None is leaves tells = tt
+  follows_still (Some c) is leaves tells = (tells, is ∙ ap Some (sym (leaves c)))
+
+  -- it changes nothing
+  read_still : now ≡ places → n ≡ o → (IsWhole call → ⊥) → ((c : Contents) → left_by c call ≡ c) → ((bytes : List ℕ) → call ≡ got Base bytes → IfSome places (λ p. Told o (λ s. IsSome (s.at p.file))))
+      → CountsFailure old call new → IfSome (contents_on places o) (λ c. TellsOf c call) → IsHomeCall place folder syncs places now o call n old new
+  read_still at same not_whole leaves there counts tells = record {
+    same = at;
+    there = there;
+    counts = counts;
+    follows =
+        subst (λ now. IfSome (contents_on places o) (λ c. TellsOf c call × (contents_on now n ≡ Some (left_by c call)))) (sym at)
+        (subst (λ n. IfSome (contents_on places o) (λ c. TellsOf c call × (contents_on places n ≡ Some (left_by c call)))) (sym same) (follows_still (contents_on places o) refl leaves tells));
+    calls = calls_still places same not_whole;
+  }
+
+abbrev IsGot : Call → Type 0
+IsGot (got which bytes) = Unit {0}
+IsGot _ = ⊥
+
+-- what holds of a read of the file
+abbrev OfFile : (Which → Type 0) → Call → Type 0
+OfFile P (got which bytes) = P which
+OfFile P _ = Unit {0}
+
+pub if_mapped : {X Y : Type 0} (f : X → Y) (x : Option X) (P : Y → Type 0) → IfSome x (λ x. P (f x)) → IfSome (option_map f x) P
+if_mapped f None P holds = tt
+if_mapped f (Some x) P holds = holds
+
+no_tells : (x : Option Contents) → IfSome x (λ c. Unit {0})
+no_tells None = tt
+no_tells (Some c) = tt
+
+module _ (place folder leads : List ℕ → List ℕ) (syncs : List ℕ → Bool) (file : Option (List ℕ)) (journal : List ℕ) (now : Option Places) (o n : Option Story) (which : Which) (old new : ℕ)
+    (at : now ≡ places_by leads file journal) (same : n ≡ o) where
+  abbrev There : Type 0
+  There = IfSome (places_by leads file journal) (λ p. Told o (λ s. IsSome (s.at p.file)))
+
+  file_there : (file : Option (List ℕ)) → IfSome file (λ file. Told o (λ s. IsSome (s.at (leads file)))) → IfSome (places_by leads file journal) (λ p. Told o (λ s. IsSome (s.at p.file)))
+  file_there None there = tt
+  file_there (Some f) there = there
+
+  pub read_got : (bytes : List ℕ) → (which ≡ Base → IfSome file (λ file. Told o (λ s. IsSome (s.at (leads file))))) → new ≡ old → IsReadOf leads file journal o which bytes
+      → IsHomeCall place folder syncs (places_by leads file journal) now o (got which bytes) n old new
+  read_got bytes there counts read =
+      read_still place folder syncs (places_by leads file journal) now o n (got which bytes) old new at same (λ whole. whole) (λ c. refl)
+      (λ more is. file_there file (there (subst (OfFile (λ which. which ≡ Base)) (sym is) refl))) counts read
+
+  -- and one without an answer
+  pub read_lacked : new ≡ old → IsHomeCall place folder syncs (places_by leads file journal) now o (lacked which) n old new
+  read_lacked counts =
+      read_still place folder syncs (places_by leads file journal) now o n (lacked which) old new at same (λ whole. whole) (λ c. refl) (λ more is. absurd (subst IsGot (sym is) tt)) counts
+      (no_tells (contents_on (places_by leads file journal) o))
+
+  pub read_unread : (fault : Fault) → fault ≡ StoreFailed → CountsOne old new → IsHomeCall place folder syncs (places_by leads file journal) now o (read_call which (Err fault)) n old new
+  read_unread fault is counts =
+      subst (λ fault. IsHomeCall place folder syncs (places_by leads file journal) now o (read_call which (Err fault)) n old new) (sym is)
+      (read_still place folder syncs (places_by leads file journal) now o n (unread which) old new at same (λ whole. whole) (λ c. refl) (λ more is. absurd (subst IsGot (sym is) tt)) counts
+      (no_tells (contents_on (places_by leads file journal) o)))
+
 -- ---- a put of the home
 
 -- a put writes something
 some_writes : (journal : List ℕ) (file : Option (List ℕ)) → writes_by journal file ≡ [] → ⊥
 some_writes journal None is = omega (arith, ap length is)
 some_writes journal (Some file) is = omega (arith, ap length is)
+
+-- and no file where that is one content
+no_file : (journal : List ℕ) (file : Option (List ℕ)) → length (writes_by journal file) ≤ 1 → file ≡ None
+no_file journal None one = refl
+no_file journal (Some file) one = absurd (omega (arith, one))
 
 module _ (place folder : List ℕ → List ℕ) (syncs : List ℕ → Bool) (leads : List ℕ → List ℕ) (bytes : List ℕ) (file_bytes : Option (List ℕ)) (journal file_path journal_path : List ℕ) where
   abbrev writes : List Write
@@ -103,7 +190,11 @@ module _ (place folder : List ℕ → List ℕ) (syncs : List ℕ → Bool) (lea
   led_is f of_file of_journal = ap (λ q. led leads q journal_path) of_file ∙ ap (λ q. led leads f q) of_journal
 
   module _ (o n : Option Story) (old new : ℕ) (secure : SecurePut folder syncs (led leads file_path journal_path) writes o n)
-      (touches : TouchesOwn place (led leads file_path journal_path) o n) (recovers : RecoversAt place folder syncs (led leads file_path journal_path) writes o n) where
+      (alone : file_bytes ≡ None → AtAnyMoment o n (Spares (leads file_path))) (touches : TouchesOwn place (led leads file_path journal_path) o n) (recovers : RecoversAt place folder syncs (led leads file_path journal_path) writes o n) where
+    -- the file is spared then
+    alone_at : (f : List ℕ) → file_path ≡ f → length writes ≤ 1 → AtAnyMoment o n (Spares (leads f))
+    alone_at f is one = subst (λ f. AtAnyMoment o n (Spares (leads f))) is (alone (no_file bytes file_bytes one))
+
     pub put_done : (file : Option (List ℕ)) → ArePaths file → LastingPut folder syncs (led leads file_path journal_path) writes o n → CountsFailure old (put_all writes) new
         → IsHomeCall place folder syncs (At file) (At file) o (put_all writes) n old new
     put_done None paths lasting counts = record { same = refl; there = λ _ _. tt; counts = counts; follows = tt; calls = tt }
@@ -118,7 +209,7 @@ module _ (place folder : List ℕ → List ℕ) (syncs : List ℕ → Bool) (lea
           there = λ _ read. absurd (some_writes bytes file_bytes (ap writes_of read));
           counts = counts;
           follows = all_put folder syncs (led leads f journal) writes o n (contents_on (Some (led leads f journal)) o) refl secure_at lasting_at;
-          calls = record { any_moment = secure_at; lasts = λ whole. lasting_at; still = λ none. absurd (some_writes bytes file_bytes none); touches = touches_at; recovers = recovers_at };
+          calls = record { any_moment = secure_at; lasts = λ whole. lasting_at; still = λ none. absurd (some_writes bytes file_bytes none); alone = alone_at f paths.0; touches = touches_at; recovers = recovers_at };
         }
 
     pub put_failed : (file : Option (List ℕ)) → ArePaths file → ((k : ℕ) → CountsFailure old (put_some writes k) new)
@@ -137,7 +228,7 @@ module _ (place folder : List ℕ → List ℕ) (syncs : List ℕ → Bool) (lea
             there = λ _ read. absurd (some_writes bytes file_bytes (ap writes_of read));
             counts = counts some.0;
             follows = some.2;
-            calls = record { any_moment = secure_at; lasts = λ never. absurd never; still = λ none. absurd (some_writes bytes file_bytes none); touches = touches_at; recovers = recovers_at };
+            calls = record { any_moment = secure_at; lasts = λ never. absurd never; still = λ none. absurd (some_writes bytes file_bytes none); alone = alone_at f paths.0; touches = touches_at; recovers = recovers_at };
           },
         )
 

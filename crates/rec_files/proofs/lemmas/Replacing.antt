@@ -12,8 +12,8 @@ use Rattle.rec_disk.proofs.lemmas.Moments.{and_then, since_then, told_both, told
 use Rattle.rec_disk.proofs.lemmas.Calls.{spares_still, spares_on}
 use Rattle.rec_tools.specs.Home.{Contents}
 use Rattle.rec_files.specs.OnDisk.{Places, Sites, sites_of, AreLeft, CanSync, IsRead, SparesStrangers, or_empty, with_file}
-use Rattle.rec_files.specs.Succeeding.{AreApart}
-use Rattle.rec_files.specs.proving.Replacing.{IsPlacing, IsPlaced, HasFile, HasJournal, Either, Lasts, LastAs, Between, AreResolved, Moments, Persists, led, own_of, AreSpared, AreSettled, IsPutForGood, AreAsSeen, BothWait, IsAsSeen, IsPut, IsReplacing, MayBegin, OnlyWhere, SparesBut, SparesButNew}
+use Rattle.rec_files.specs.Succeeding.{AreApart, IsAsSeen}
+use Rattle.rec_files.specs.proving.Replacing.{IsPlacing, IsPlaced, HasFile, HasJournal, Either, Lasts, LastAs, Between, AreResolved, Moments, Persists, led, own_of, AreSpared, AreSettled, IsPutForGood, AreAsSeen, BothWait, IsPut, IsReplacing, MayBegin, OnlyWhere, SparesBut, SparesButNew}
 use Rattle.rec_files.proofs.lemmas.Placing.{spares-placing, lasts_still, journal_placing, journal_placed, file_waits, file_placing, file_placed}
 use Rattle.rec_files.proofs.lemmas.Steps.{longer_than, some_none}
 use Rattle.rec_files.proofs.lemmas.Holding.{read_there}
@@ -268,10 +268,23 @@ module _ (folder : List ℕ → List ℕ) (w q : List ℕ) (b n : Option Story) 
   placing_spares r ne_w ne_q placing = moments_so (IsPlacing folder w q) (Spares r) b n (λ s u step. spares-placing folder w q s r u ne_w ne_q step) placing
 
 module _ (folder : List ℕ → List ℕ) (syncs : List ℕ → Bool) (sites : Sites) (journal : List ℕ) where
+  file_spared : (o n : Option Story) → Told o (λ s. AreApart sites) → SparesButNew sites o n → AtAnyMoment o n (Spares sites.file)
+  file_spared None n apart spares = subst (λ n. AtAnyMoment None n (Spares sites.file)) (sym (none_told folder syncs sites journal n spares)) tt
+  file_spared (Some a) n apart spares = spares sites.file apart.file_new_journal apart.file_new_file
+
+  file_apart : (o b n : Option Story) → Told o (λ s. AreApart sites) → SparesButNew sites o b → AtAnyMoment b n (IsPlacing folder sites.new_journal sites.journal)
+      → AtAnyMoment o n (Spares sites.file)
+  file_apart None b n apart spares placing =
+      subst (λ n. AtAnyMoment None n (Spares sites.file)) (sym (none_after folder syncs sites journal sites.new_journal sites.journal b n (none_told folder syncs sites journal b spares) placing)) tt
+  file_apart (Some a) b n apart spares placing =
+      spares_on sites.file (Some a) b n (file_spared (Some a) b apart spares)
+      (placing_spares folder sites.new_journal sites.journal b n sites.file apart.file_new_journal (λ e. apart.pair (sym e)) placing)
+
   -- nothing was put in place
   pub replacing_spared : (file : Option (List ℕ)) (o n : Option Story) → Told o (λ s. AreApart sites) → SparesButNew sites o n → IsReplacing folder syncs sites journal file o n
   replacing_spared file o n apart spares = record {
     moments = moments_spared folder syncs sites journal file o n apart spares;
+    alone = λ none. file_spared o n apart spares;
     strangers = λ r ne_file ne_journal ne_new_file ne_new_journal. spares r ne_new_journal ne_new_file;
   }
 
@@ -284,7 +297,7 @@ module _ (folder : List ℕ → List ℕ) (syncs : List ℕ → Bool) (sites : S
     pub replacing_journal : (file : Option (List ℕ)) (n : Option Story) → Told b (λ t. Waits t sites.new_journal journal)
         → AtAnyMoment b n (IsPlacing folder sites.new_journal sites.journal) → IsReplacing folder syncs sites journal file o n
     replacing_journal file n waits placing =
-        record { moments = moments_journal folder syncs sites journal file o b n apart spares waits placing; strangers = to_journal n placing }
+        record { moments = moments_journal folder syncs sites journal file o b n apart spares waits placing; alone = λ none. file_apart o b n apart spares placing; strangers = to_journal n placing }
 
     -- and the file
     pub replacing_both : (file : List ℕ) (m n : Option Story) → Told b (BothWait sites journal file) → AtAnyMoment b m (IsPlacing folder sites.new_journal sites.journal)
@@ -292,6 +305,7 @@ module _ (folder : List ℕ → List ℕ) (syncs : List ℕ → Bool) (sites : S
         → IsReplacing folder syncs sites journal (Some file) o n
     replacing_both file m n waits placing placed again = record {
       moments = moments_both folder syncs sites journal file o b m n apart spares waits placing placed again;
+      alone = λ none. absurd (some_none file none);
       strangers = λ r ne_file ne_journal ne_new_file ne_new_journal.
           spares_on r o m n (to_journal m placing r ne_file ne_journal ne_new_file ne_new_journal)
           (placing_spares folder sites.new_file sites.file m n r ne_new_file ne_file again);
@@ -369,7 +383,11 @@ module _ (place folder : List ℕ → List ℕ) (syncs : List ℕ → Bool) (p :
   -- nothing is changed at all
   pub put_still : (o n : Option Story) → n ≡ o → IsPut place folder syncs p journal file o n
   put_still o n same =
-      record { moments = λ crash c can read. until_spared crash p c journal file o n (spares_still p.file o n same) (spares_still p.journal o n same); touches = inl same }
+      record {
+        moments = λ crash c can read. until_spared crash p c journal file o n (spares_still p.file o n same) (spares_still p.journal o n same);
+        alone = λ none. spares_still p.file o n same;
+        touches = inl same;
+      }
 
 -- ---- a put, by the paths as they were given
 
@@ -397,15 +415,21 @@ module _ (place leads folder : List ℕ → List ℕ) (syncs : List ℕ → Bool
   blank = record { file = []; journal = [] }
 
   put_untold : (n : Option Story) → n ≡ None → IsPut place folder syncs Given journal file None n
-  put_untold n is = record { moments = λ crash c can read. subst (λ n. AtAnyMoment None n (Until crash Given c journal file)) (sym is) tt; touches = inl is }
+  put_untold n is = record {
+    moments = λ crash c can read. subst (λ n. AtAnyMoment None n (Until crash Given c journal file)) (sym is) tt;
+    alone = λ none. subst (λ n. AtAnyMoment None n (Spares Given.file)) (sym is) tt;
+    touches = inl is;
+  }
 
   -- by the four places, where the put begins in a state that is told
   abbrev Moves : Places → Option Story → Option Story → Type 0
   Moves p o n = (crash : Bool) (c : Contents) → CanSync folder syncs crash p → Told o (IsRead p c) → AtAnyMoment o n (Until crash p c journal file)
 
-  put_at : (a : Story) (n : Option Story) → Begins a.now → Moves Own (Some a) n → SparesStrangers At (Some a) n → IsPut place folder syncs Given journal file (Some a) n
-  put_at a n may moments strangers = record {
+  put_at : (a : Story) (n : Option Story) → Begins a.now → Moves Own (Some a) n → (file ≡ None → AtAnyMoment (Some a) n (Spares Own.file)) → SparesStrangers At (Some a) n
+      → IsPut place folder syncs Given journal file (Some a) n
+  put_at a n may moments alone strangers = record {
     moments = subst (λ p. Moves p (Some a) n) (own_given a.now may) moments;
+    alone = λ none. subst (λ p. AtAnyMoment (Some a) n (Spares p.file)) (own_given a.now may) (alone none);
     touches = inr (path_file, path_journal, may.resolved.file_is, may.resolved.journal_is, may.left, strangers);
   }
 
@@ -417,6 +441,7 @@ module _ (place leads folder : List ℕ → List ℕ) (syncs : List ℕ → Bool
       put_at a n may
       (λ crash c can read. until_spared crash Own c journal file (Some a) n (spares Own.file may.apart.file_new_journal may.apart.file_new_file)
       (spares Own.journal may.apart.journal_new_journal may.apart.journal_new_file))
+      (λ none. spares Own.file may.apart.file_new_journal may.apart.file_new_file)
       (λ r ne_file ne_journal ne_new_file ne_new_journal. spares r ne_new_journal ne_new_file)
 
   -- ---- and then both, or the journal, are replaced
@@ -459,6 +484,8 @@ module _ (place leads folder : List ℕ → List ℕ) (syncs : List ℕ → Bool
         (λ crash c can read.
         until_on crash Own c journal file (Some a) m n (moments_to (replaced then_apart) crash c can read)
         (until_spared crash Own c journal file m n (rest At.file may.apart.file_new_journal may.apart.file_new_file) (rest At.journal may.apart.journal_new_journal may.apart.journal_new_file)))
+        (λ none.
+        spares_on Own.file (Some a) m n (spares_on Own.file (Some a) b m of_file ((replaced then_apart).alone none)) (rest At.file may.apart.file_new_journal may.apart.file_new_file))
         (λ r ne_file ne_journal ne_new_file ne_new_journal.
         spares_on r (Some a) m n (spares_on r (Some a) b m (spares r ne_new_journal ne_new_file) ((replaced then_apart).strangers r ne_file ne_journal ne_new_file ne_new_journal))
         (rest r ne_new_journal ne_new_file))

@@ -13,8 +13,7 @@ use Rattle.rec_tools.specs.Printouts.{Printed}
 use Rattle.rec_tools.specs.Requests.{Asked, asked_of, reads_of}
 use Rattle.rec_tools.specs.Outcomes.{Outcome, IsRequestOutcome}
 use Rattle.rec_tools.specs.Attempts.{Answer, gots, puts, StopsReading, StopsWriting, Does, Attempts, AttemptsAll}
-use Rattle.rec_tools.specs.declared.through.Through.{Through}
-use Rattle.rec_tools.specs.Through.{move_through, moves_through, EndsThrough}
+use Rattle.rec_tools.specs.Through.{move_through, moves_through}
 use Rattle.rec_journal.specs.declared.patch.Direction.{Direction}
 use Rattle.rec_tools.specs.Machine.{State as Machine, IsOldOrNext, Stands}
 use Rattle.rec_tools.specs.Guarantee.{StopsAreSteps}

@@ -23,11 +23,11 @@ pub if_ok_so : {X E : Type 0} (result : Result X E) (P Q : X → Type 0) → ((x
 if_ok_so (Ok x) P Q so holds = so x holds
 if_ok_so (Err e) P Q so holds = tt
 
-abbrev IsThere : Option Story → Type 0
+abbrev IsThere : {X : Type 0} → Option X → Type 0
 IsThere None = ⊥
 IsThere (Some a) = Unit {0}
 
-pub some_none : (a : Story) → Some a ≡ None → ⊥
+pub some_none : {X : Type 0} (a : X) → Some a ≡ None → ⊥
 some_none a is = subst IsThere is tt
 
 pub some_known : {X : Type 0} (o : Option X) (x : X) (P : X → Type 0) → o ≡ Some x → IsSomeAnd o P → P x

@@ -14,7 +14,7 @@ use Rattle.rec_tools.specs.Home.{Call, read_call, writes_by}
 use Rattle.rec_files.specs.declared.failure.Failure.{Failure}
 use Rattle.rec_files.specs.declared.open_file.OpenFile.{OpenFile}
 use Rattle.rec_files.specs.declared.target.Target.{Target}
-use Rattle.rec_files.specs.Succeeding.{FailedForMemory, Kept, CanPut, IsExcused, HasSeen, AreApart, IsTold, Known, SawAnother, IsOther, IsShort, CanCompare, CanClear, AreUnchanged, CanPrepare, StandsAsSeen, IsThere, IsReadable, known}
+use Rattle.rec_files.specs.Succeeding.{FailedForMemory, Kept, CanPut, IsExcused, HasSeen, AreApart, IsTold, Known, SawAnother, SawRegular, IsOther, IsShort, CanCompare, CanClear, AreUnchanged, CanPrepare, StandsAsSeen, IsThere, IsReadable, known}
 use Rattle.rec_tools.specs.declared.home.Which.{Which}
 use Rattle.rec_tools.specs.declared.home.Which.TheVariants.{Base, Journal}
 use Rattle.rec_files.specs.declared.access.Access.{Access}
@@ -270,6 +270,12 @@ free_on sites o n free spares =
 pub told_fact : (P : Type 0) (o : Option Story) → IsTold o (λ s. P) → P
 told_fact P None told = absurd told
 told_fact P (Some a) told = told
+
+-- the file is a regular one where a put may begin
+pub saw_regular : (place leads : List ℕ → List ℕ) (link : List ℕ → Option (List ℕ)) (regular : ℕ → Bool) (given_file given_journal : List ℕ) (file journal : Known) (o : Option Story)
+    → IsTold o (CanPrepare place leads link regular given_file given_journal file journal) → SawRegular regular file.look
+saw_regular place leads link regular given_file given_journal file journal o given =
+    told_fact (SawRegular regular file.look) o (still_so (CanPrepare place leads link regular given_file given_journal file journal) (λ s. SawRegular regular file.look) o (λ s can. can.is_regular) given)
 
 pub with_unit : (P : State → Type 0) (o : Option Story) → IsTold o P → IsTold o (λ s. Unit {0} × P s)
 with_unit P o told = still_so P (λ s. Unit {0} × P s) o (λ s is. (tt, is)) told

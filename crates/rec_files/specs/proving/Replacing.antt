@@ -1,19 +1,14 @@
 -- The steps in which a file and its journal are replaced.
 use Rattle.std.specs.Prelude.{◌≡◌, ◌≢◌, ◌⊎◌, ℕ, Bool, false, List, Option, Some, None, IfSome, unwrap_or}
-use Rattle.rec_disk.specs.Disk.{State, Story, Look, Told, SaysOf, IsLookAt, AtAnyMoment, renamed, folder_synced}
+use Rattle.rec_disk.specs.Disk.{State, Story, Look, Told, AtAnyMoment, renamed, folder_synced}
 use Rattle.rec_disk.specs.Lasting.{Spares}
 use Rattle.rec_disk.specs.proving.Places.{Outlasts, IsSettled, Avoids, Waits}
 use Rattle.rec_tools.specs.Home.{Contents}
 use Rattle.rec_files.specs.OnDisk.{Places, Sites, sites_of, CanSync, AreLeft, IsRead, SparesStrangers, TouchesOwn}
 use Rattle.rec_files.specs.OnDisk.{or_empty}
-use Rattle.rec_files.specs.Succeeding.{AreApart}
+use Rattle.rec_files.specs.Succeeding.{AreApart, IsAsSeen}
 
 -- ---- what was read
-
--- nothing stands at a place where nothing was seen; else what the look says, where it says it
-abbrev pub IsAsSeen : List ℕ → Option (Option Look) → State → Type 0
-IsAsSeen p None s = s.at p ≡ None
-IsAsSeen p (Some look) s = SaysOf (IsLookAt s p) look
 
 abbrev pub AreAsSeen : Places → Option (Option Look) → Option (Option Look) → State → Type 0
 AreAsSeen p file journal s = IsAsSeen p.file file s × IsAsSeen p.journal journal s
@@ -143,11 +138,12 @@ abbrev pub Persists : (List ℕ → List ℕ) → (List ℕ → Bool) → Places
 Persists folder syncs p journal file old new = (crash : Bool) (c : Contents) → CanSync folder syncs crash p
     → Told old (LastAs crash p c.file c.journal) → Told new (LastAs crash p (unwrap_or file c.file) journal)
 
--- what a replace does by the four places
+-- what a replace does by the four places; where the journal alone is put, the file is spared
 pub record IsReplacing (folder : List ℕ → List ℕ) (syncs : List ℕ → Bool) (sites : Sites) (journal : List ℕ)
     (file : Option (List ℕ))
     (old new : Option Story) : Type 0 where
   pub moments : Moments folder syncs (own_of sites) journal file old new
+  pub alone : file ≡ None → AtAnyMoment old new (Spares sites.file)
   pub strangers : SparesStrangers sites old new
 
 -- and a put by the places of the home: from contents that are read, both are spared at first, and then in between
@@ -156,6 +152,7 @@ pub record IsPut (place folder : List ℕ → List ℕ) (syncs : List ℕ → Bo
     (old new : Option Story) : Type 0 where
   pub moments : (crash : Bool) (c : Contents) → CanSync folder syncs crash p → Told old (IsRead p c)
       → AtAnyMoment old new (λ s u. AreSpared p s u ⊎ Between crash p c journal file u)
+  pub alone : file ≡ None → AtAnyMoment old new (Spares p.file)
   pub touches : TouchesOwn place p old new
 
 -- the new ones are there, and last

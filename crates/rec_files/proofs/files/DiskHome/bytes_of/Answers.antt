@@ -1,4 +1,6 @@
-use Rattle.std.specs.Prelude.{string_bytes}
+use Rattle.std.specs.Prelude.{option_map, string_bytes}
+use Rattle.rec_files.specs.Succeeding.{known}
+use Rattle.rec_files.proofs.lemmas.Noting.{notes_ok}
 use Rattle.rec_files.proofs.lemmas.Succeeding.{readable_looked}
 use Rattle.rec_files.proofs.files.DiskHome.bytes_of.Goals as goal
 
@@ -10,3 +12,9 @@ returns-in-Look-clause-succeeds g c works =
           look.1 (readable_looked string_bytes g.D.Disk.leads g.D.Disk.link g.D.Disk.regular _ (string_bytes c.args.self.now.journal) c.args.which c.args.self.now.file c.path_in-path.result.now
           c.args.self.now.access _ c.path_in-path.ensures c.in-Look.is given),
     )
+
+pub returns-in-Change-clause-noted : goal.returns-in-Change-clause-noted
+returns-in-Change-clause-noted g c changes =
+    notes_ok (known g.D.Disk.number g.D.Disk.tells) g.D.Disk.leads c.args.self.now.access (string_bytes c.args.self.now.journal) g.D.Disk.regular _ c.path_in-path.result.now (λ bytes. bytes.items)
+    c.read.result c.args.which (option_map string_bytes c.args.self.now.file) c.args.self.now.both.file c.args.self.now.both.journal c.read.new.self.file c.read.new.self.journal c.path_in-path.ensures
+    c.read.ensures.noted_file c.read.ensures.noted_journal c.read.ensures.locked c.read.ensures.kept

@@ -4,6 +4,8 @@ pub mod Disk
 pub mod Lasting
 -- the rights of a file
 pub mod Rights
+-- the folder in which a path stands
+pub mod Folders
 -- a disk in memory
 pub mod Memory
 -- what serves proofs

@@ -1,3 +1,2 @@
 -- What serves proofs.
-pub mod Folders
 pub mod Places

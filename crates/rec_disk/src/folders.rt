@@ -1,7 +1,7 @@
 //! The folder in which a path stands.
 ghost use Rattle.std.specs.Prelude.{◌≡◌};
 ghost use Rattle.std.specs.Path.{path_parent};
-ghost use Rattle.rec_disk.specs.proving.Folders.{folder_in};
+ghost use Rattle.rec_disk.specs.Folders.{folder_in};
 
 use std::path::Path;
 

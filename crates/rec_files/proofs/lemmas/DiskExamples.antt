@@ -1,13 +1,14 @@
--- Where links lead, and what can be read and put, on a small disk.
-use Rattle.std.proofs.Common.{◌≡◌, ℕ, zero, suc, Bool, true, false, List, [], ◌∷◌, length, if◌then◌else◌, Option, Some, None, ap, sym, refl, arith}
-use Rattle.std.specs.Prelude.{bytes_eq}
+-- Where links lead, what can be read and put, and which calls are careful, on a small disk.
+use Rattle.std.proofs.Common.{◌≡◌, inl, ℕ, zero, suc, Bool, true, false, List, [], ◌∷◌, length, if◌then◌else◌, Option, Some, None, ap, sym, refl, arith}
+use Rattle.std.specs.Prelude.{bytes_eq, is_some}
 use Rattle.std.proofs.lemmas.Bool.{false≢true}
-use Rattle.rec_disk.specs.Disk.{State, put, wrote}
-use Rattle.rec_tools.specs.Home.{content_of, writes_by}
-use Rattle.rec_tools.specs.declared.home.Which.TheVariants.{Base}
+use Rattle.rec_disk.specs.Disk.{State, Story, put, wrote}
+use Rattle.rec_disk.specs.Lasting.{Spares}
+use Rattle.rec_tools.specs.Home.{Write, content_of, writes_by, got, put_all, put_some}
+use Rattle.rec_tools.specs.declared.home.Which.TheVariants.{Base, Journal}
 use Rattle.rec_files.specs.declared.access.Access.TheVariants.{Change as Changes}
 use Rattle.rec_files.specs.Paths.{end_of}
-use Rattle.rec_files.specs.Succeeding.{Kept, IsReadable, IsReadFree, AreAsNoted, CanPut}
+use Rattle.rec_files.specs.Succeeding.{Kept, IsReadable, IsReadFree, NotesRead, AreAsNoted, ReplacesNoted, CanPut}
 use Rattle.rec_files.proofs.lemmas.Steps.{some_none}
 
 -- ---- links
@@ -150,3 +151,39 @@ free = record { seen = record { number = refl; version = refl }; free = λ _. re
 
 held : Free (record disk { held = λ n. true }) → ⊥
 held read = false≢true (sym (read.free refl))
+
+-- ---- calls of the home
+
+abbrev told : State → Option Story
+told s = Some (record { now = s; past = [] })
+
+-- nothing is noted before the first read
+abbrev unread : Kept
+unread = record read { old_file = None; old_journal = None }
+
+notes : NotesRead itself regular unread read (told disk) (got Base (65 ∷ []))
+notes = free
+
+notes_nothing : NotesRead itself regular unread unread (told disk) (got Base (65 ∷ [])) → ⊥
+notes_nothing none = none
+
+-- a read of the journal doesn't forget what is noted of the file
+forgets : NotesRead itself regular read (record read { old_file = None }) (told disk) (got Journal []) → ⊥
+forgets notes = false≢true (ap is_some notes.0)
+
+abbrev both : List Write
+both = writes_by (74 ∷ []) (Some (66 ∷ []))
+
+replaces : ReplacesNoted itself read (told disk) (put_all both) (told disk)
+replaces = noted
+
+-- where the file was written since it was read, it isn't replaced; a put that fails then changes nothing
+overwrites : ReplacesNoted itself read (told (wrote disk 0 (65 ∷ []))) (put_all both) (told disk) → ⊥
+overwrites = rewritten
+
+gives_up : ReplacesNoted itself read (told (wrote disk 0 (65 ∷ []))) (put_some both 0) (told (wrote disk 0 (65 ∷ [])))
+gives_up = inl refl
+
+-- a put of the journal alone doesn't put the bytes of the file in its place again
+touched : Spares file disk (wrote disk 0 (65 ∷ [])) → ⊥
+touched spares = omega (arith, spares.version 0 (inl refl))

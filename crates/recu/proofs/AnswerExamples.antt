@@ -1,6 +1,7 @@
 -- Answers at small lines: what was printed is let out, a move falls short, and words are refused.
-use Rattle.std.proofs.Common.{ℕ, List, [], ◌∷◌, length, Some, None, Ok, Err, inl, inr, ap, subst, refl, arith}
+use Rattle.std.proofs.Common.{◌≡◌, ℕ, List, [], ◌∷◌, length, Some, None, Ok, Err, inl, inr, ap, subst, refl, arith}
 use Rattle.std.specs.Prelude.{MatchResult, unwrap_or}
+use Rattle.rec_text.specs.declared.fault.Fault.{Fault}
 use Rattle.rec_text.specs.declared.fault.Fault.TheVariants.{OutOfMemory, NothingToUndo, StoreFailed}
 use Rattle.rec_tools.specs.declared.request.Reply.{Reply}
 use Rattle.rec_tools.specs.declared.through.Through.{Through}
@@ -13,22 +14,33 @@ out held failed = record { taken = None; held = held; failed = failed }
 
 -- ---- what was printed
 
+is_no_refusal : {reply : Reply} {fault : Fault} → Ok reply ≡ Err fault → ⊥
+is_no_refusal is = subst (λ answer. MatchResult answer (λ _. Unit {0}) (λ _. ⊥)) is tt
+
 reply_stays : (reply : Reply) → IsLetOut (Ok reply) 0 (out [] 0) (Ok reply)
-reply_stays reply = (refl, refl, refl)
+reply_stays reply = inl (refl, refl, refl)
 
 -- no reply where something was not let out
 held_back : (reply : Reply) → IsLetOut (Ok reply) 0 (out (7 ∷ []) 1) (Ok reply) → ⊥
-held_back reply let_out = omega (arith, ap length let_out.1)
+held_back reply (inl (_, held, _)) = omega (arith, ap length held)
+held_back reply (inr (is, _)) = is_no_refusal is
 
 -- nor where a try failed before one that didn't
 failed_before : (reply : Reply) → IsLetOut (Ok reply) 0 (out [] 1) (Ok reply) → ⊥
-failed_before reply let_out = omega (arith, let_out.2)
+failed_before reply (inl (_, _, failed)) = omega (arith, failed)
+failed_before reply (inr (is, _)) = is_no_refusal is
 
-refusal_stays : IsLetOut (Err NothingToUndo) 0 (out (7 ∷ []) 0) (Err NothingToUndo)
-refusal_stays = inl refl
+-- a refusal stays, and what was printed before it is let out too
+refusal_stays : IsLetOut (Err NothingToUndo) 0 (out [] 0) (Err NothingToUndo)
+refusal_stays = inl (refl, refl, refl)
+
+refusal_holds_back : IsLetOut (Err NothingToUndo) 0 (out (7 ∷ []) 0) (Err NothingToUndo) → ⊥
+refusal_holds_back (inl (_, held, _)) = omega (arith, ap length held)
+refusal_holds_back (inr (_, inl risen)) = omega (arith, risen)
+refusal_holds_back (inr (_, inr most)) = omega (arith, most)
 
 failed_once : (reply : Reply) → IsLetOut (Ok reply) 0 (out [] 1) (Err StoreFailed)
-failed_once reply = inr (refl, inl (omega arith), (reply, refl))
+failed_once reply = inr (refl, inl (omega arith))
 
 -- ---- moves as far as an edit
 
@@ -44,7 +56,7 @@ fell_short reply = inr (refl, λ is. omega (arith, ap (λ last. unwrap_or last 0
 
 -- one that arrived is not refused
 not_short : (reply : Reply) → IsMovedTo 3 (moved 3 reply) (Err StoreFailed) → ⊥
-not_short reply (inl is) = subst (λ answer. MatchResult answer (λ _. Unit {0}) (λ _. ⊥)) is tt
+not_short reply (inl is) = is_no_refusal is
 not_short reply (inr (_, ne, _)) = ne refl
 
 -- ---- words that are refused

@@ -1,18 +1,17 @@
 -- What answers rest on.
-use Rattle.std.proofs.Common.{◌≡◌, ◌⊎◌, ℕ, Bool, Option, Some, None, Result, Ok, Err, List, [], append-nil, ap, sym, subst, refl, inl, inr}
+use Rattle.std.proofs.Common.{◌≡◌, ◌⊎◌, ℕ, Bool, Option, Some, None, Result, Ok, Err, List, [], append-nil, ap, sym, subst, refl}
 use Rattle.std.specs.Prelude.{IfSome, IfOk, IfErr, IsErrOf, MatchOption}
 use Rattle.std.specs.Io.Buffered.{writer_buffer, writer_inner}
 use Rattle.std.specs.Io.KnownBytes.{append_known}
 use Rattle.rec_text.specs.declared.fault.Fault.{Fault}
 use Rattle.rec_text.specs.declared.fault.Fault.TheVariants.{StoreFailed}
-use Rattle.rec_text.specs.Sink.{HasRisen}
 use Rattle.rec_disk.specs.Disk.{Story}
 use Rattle.rec_tools.specs.declared.request.Reply.{Reply}
 use Rattle.rec_tools.specs.Requests.{Asked}
 use Rattle.rec_tools.specs.Attempts.{Answer}
 use Rattle.rec_files.specs.declared.output.StandardOutput.{StandardOutput}
 use Rattle.rec_files.specs.OnDisk.{Places, SecureRequest, LastingRequest, TouchesOwn, RecoversRequest, IsRequestAt}
-use Rattle.recu.specs.Answers.{Out, out_of, IsNew, IsLetOut, IsReplied}
+use Rattle.recu.specs.Answers.{out_of, new_out, IsReplied}
 
 pub match-some : {A : Type 0} (o : Option A) (x : A) (N : Type 0) (P : A → Type 0) → o ≡ Some x → P x → MatchOption o N P
 match-some o x N P is holds = subst (λ (o : Option _). MatchOption o N P) (sym is) holds
@@ -27,12 +26,9 @@ append_known-nil (Some bytes) = ap Some (append-nil bytes)
 -- standard output has taken nothing when it is made
 pub new_output : {W : Type 0} (contents : W → Option (List ℕ)) (output : StandardOutput W) (writer : W)
     → writer_inner output.writer ≡ writer → writer_buffer output.writer ≡ [] → output.failed ≡ 0
-    → IsNew (contents writer) (out_of contents output)
-new_output contents output writer inner empty sound = record {
-  taken_is = rw (inner, empty) (append_known-nil (contents writer));
-  held = empty;
-  failed = sound;
-}
+    → new_out (contents writer) ≡ out_of contents output
+new_output contents output writer inner empty sound =
+    rw (inner, empty, sound) (ap new_out (sym (append_known-nil (contents writer))))
 
 -- all that is said of a request on a disk, where its places are known
 pub request_on : (place folder : List ℕ → List ℕ) (syncs : List ℕ → Bool) (asked : Asked) (answer : Answer) (old new : Option Story) (x : Option Places)
@@ -48,15 +44,6 @@ request_on place folder syncs asked answer old new (Some p) any_moment lasting t
   touches = touches;
   recovers = recovers;
 }
-
-pub refusal_stays : (told : Answer) (failed : ℕ) (out : Out) (fault : Fault) (answer : Answer) → told ≡ Err fault → answer ≡ Err fault
-    → IsLetOut told failed out answer
-refusal_stays told failed out fault answer told_is is = subst (IsLetOut told failed out) (sym is) (inl told_is)
-
-pub reply_is_lost : (told : Answer) (failed before : ℕ) (out : Out) (reply : Reply) (fault : Fault) (answer : Answer) → told ≡ Ok reply → answer ≡ Err fault
-    → fault ≡ StoreFailed → failed ≡ before → HasRisen before out.failed → IsLetOut told failed out answer
-reply_is_lost told failed before out reply fault answer told_is is fault_is same risen =
-    subst (IsLetOut told failed out) (sym is) (inr (fault_is, subst (λ n. HasRisen n out.failed) (sym same) risen, (reply, told_is)))
 
 -- the answer to a line, with its reply
 pub replied : (Done : Answer → Type 0) (answer : Answer) (result : Result (Option Reply) Fault) → IfOk answer (λ reply. result ≡ Ok (Some reply))

@@ -76,18 +76,20 @@ out_of contents output = record {
   failed = output.failed;
 }
 
--- standard output of a writer that took these bytes, before anything is printed
-pub record IsNew (taken : Option (List ℕ)) (out : Out) : Type 0 where
-  pub taken_is : out.taken ≡ taken
-  pub held : out.held ≡ []
-  pub failed : out.failed ≡ 0
+-- that of a writer which took these bytes, before anything is printed
+abbrev pub new_out : Option (List ℕ) → Out
+new_out taken = record { taken = taken; held = []; failed = 0 }
 
--- An answer once what was printed is let out, by the count of failures before that: a refusal stays, and so does another
--- answer where nothing is held any more and nothing failed; else it is 23.
+-- an answer whose reply was not printed: 23, where it isn't refused as it is
+abbrev pub unprinted : Answer → Answer
+unprinted (Ok reply) = Err StoreFailed
+unprinted (Err fault) = Err fault
+
+-- An answer once what was printed is let out, by the count of failures before that: it stays where nothing is held any more
+-- and nothing failed; else the reply was not printed.
 abbrev pub IsLetOut : Answer → ℕ → Out → Answer → Type 0
-IsLetOut told failed out (Ok reply) = (told ≡ Ok reply) × (out.held ≡ []) × (out.failed ≡ failed)
-IsLetOut told failed out (Err fault) = (told ≡ Err fault)
-    ⊎ ((fault ≡ StoreFailed) × HasRisen failed out.failed × ((reply : Reply) × (told ≡ Ok reply)))
+IsLetOut told failed out answer = ((answer ≡ told) × (out.held ≡ []) × (out.failed ≡ failed))
+    ⊎ ((answer ≡ unprinted told) × HasRisen failed out.failed)
 
 -- ---- one request, or moves as far as an edit
 
@@ -140,32 +142,34 @@ module _ {R D F S : Type 0} (place leads folder : List ℕ → List ℕ) (syncs 
     Answers request answer = MatchOption (through_of request) (AnswersOnce request answer)
         (λ way. AnswersThrough way.0 way.1 answer)
 
-  -- On a home, which is closed then, a request is answered so, and is printed by a writer that took these bytes before; or
-  -- there was no memory for it, and nothing was done.
-  abbrev pub AnswersOn : DiskHome R D F S → DiskHome R D F S → Option (List ℕ) → Request → Answer → Type 0
-  AnswersOn old closed taken request answer = BeforeClosing (λ home. ((answer ≡ Err OutOfMemory) × (home ≡ old))
-      ⊎ ((before after : Out) × IsNew taken before × Answers old home before after request answer)) closed
+  -- On a home, which is closed then, a request is answered so, and is printed by a writer that took these bytes before, by
+  -- standard output, which is so then; or there was no memory for it, and nothing was done.
+  abbrev pub AnswersOn : DiskHome R D F S → DiskHome R D F S → Option (List ℕ) → Option Out → Request → Answer → Type 0
+  AnswersOn old closed taken out request answer = BeforeClosing (λ home. MatchOption out
+      ((answer ≡ Err OutOfMemory) × (home ≡ old)) (λ after. Answers old home (new_out taken) after request answer)) closed
 
   -- ---- the command line
 
   -- The request of a line is answered so on a home of its files, on a disk that tells what the first does and works where
   -- that does, and the home's disk is the last one.
-  pub record IsCarriedOut (first last : D) (taken : Option (List ℕ)) (line : CommandLine) (request : Request)
-      (answer : Answer) : Type 0 where
+  pub record IsCarriedOut (first last : D) (taken : Option (List ℕ)) (out : Option Out) (line : CommandLine)
+      (request : Request) (answer : Answer) : Type 0 where
     pub disk : D
     pub same : story disk ≡ story first
     pub works_still : works first → works disk
     pub home : DiskHome R D F S
     pub home_is : IsHomeFor disk (option_map string_bytes line.file) (option_map string_bytes line.journal) request home
     pub closed : DiskHome R D F S
-    pub answered : AnswersOn home closed taken request answer
+    pub answered : AnswersOn home closed taken out request answer
     pub last_is : last ≡ closed.disk
 
-  -- A line is answered so, from the first disk to the last: its request is, or there is none, and nothing is changed.
-  abbrev pub IsDone : D → D → Option (List ℕ) → CommandLine → Answer → Type 0
-  IsDone first last taken line answer = (found : Result Request Fault) × IsRequestOf leads (story first) line.order found
-      × MatchResult found (λ request. IsCarriedOut first last taken line request answer)
-      (λ fault. (answer ≡ Err fault) × (story last ≡ story first))
+  -- A line is answered so, from the first disk to the last, by a writer that took these bytes before, with standard output so
+  -- then: its request is, or there is none, and nothing is changed or printed.
+  abbrev pub IsDone : D → D → Option (List ℕ) → Option Out → CommandLine → Answer → Type 0
+  IsDone first last taken out line answer = (found : Result Request Fault)
+      × IsRequestOf leads (story first) line.order found
+      × MatchResult found (λ request. IsCarriedOut first last taken out line request answer)
+      (λ fault. (answer ≡ Err fault) × (story last ≡ story first) × (out ≡ None))
 
 -- The answer to words that are refused: that they are; but to those that ask for help there is no reply, unless it can't be
 -- printed.

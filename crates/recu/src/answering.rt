@@ -1,7 +1,9 @@
 //! The answer to a request on a file and its journal, on any disk.
-ghost use Rattle.std.specs.Prelude.{◌≡◌};
+ghost use Rattle.std.specs.Prelude.{◌≡◌, option_map};
+ghost use Rattle.std.specs.Io.Buffered.{writer_contents};
+ghost use Rattle.std.specs.Io.KnownBytes.{Keeps};
 ghost use Rattle.rec_files.specs.Succeeding.{IsShut};
-ghost use Rattle.recu.specs.Answers.{through_of, IsMovedTo, out_of, AnswersOnce, AnswersThrough, Answers, BeforeClosing};
+ghost use Rattle.recu.specs.Answers.{through_of, IsMovedTo, out_of, IsLetOut, AnswersOnce, AnswersThrough, Answers, BeforeClosing};
 ghost use Rattle.recu.specs.Answers.{AnswersOn};
 
 use crate::saying::say_how_far;
@@ -10,25 +12,27 @@ use rec_files::{DiskHome, StandardOutput, access_of, room_for, run_through};
 use rec_tools::{Direction, Fault, Home, Reply, Request, Through};
 use std::io::Write;
 
-/// The answer to a request, which is printed by a writer, once the files are closed.
+/// The answer to a request, which is printed by a writer, once the files are closed, and standard output as it is then, where
+/// there was memory for it.
 pub fn answer_by<D: Disk + Drop, W: Write + Drop>(
     rt: &HostRuntime,
     home: &mut DiskHome<'_, HostRuntime, D>,
     request: &Request,
     writer: W,
-) -> Result<Reply, Fault>
+) -> (Result<Reply, Fault>, Option<StandardOutput<W>>)
     ensures answers { AnswersOn D.place D.leads D.folder D.syncs D.story D.works
-        ⟦<DiskHome<'static, HostRuntime, D> as Home>⟧.goes home.old home.new (W.contents writer) request.now result }
+        ⟦<DiskHome<'static, HostRuntime, D> as Home>⟧.goes home.old home.new (W.contents writer)
+        (option_map (out_of W.contents) result.1) request.now result.0 }
     ensures shut { IsShut home.new.both }
 {
     let room = room_for(access_of(request));
     let Ok(mut out) = StandardOutput::new(rt.alloc(), room, writer) else {
         home.close();
-        return Err(Fault::OutOfMemory);
+        return (Err(Fault::OutOfMemory), None);
     };
     let answer = answer_to(rt, home, &mut out, request);
     let _ = out.explain(rt);
-    answer
+    (answer, Some(out))
 }
 
 /// The answer to a request, once the files are closed.
@@ -64,7 +68,7 @@ fn through_of(request: &Request) -> Option<(Direction, usize)>
     }
 }
 
-/// The answer to a request, once what it prints is let out.
+/// The answer to a request, once what it prints is let out, before a refusal too.
 fn run_once<D: Disk + Drop, W: Write + Drop>(
     rt: &HostRuntime,
     home: &mut DiskHome<'_, HostRuntime, D>,
@@ -75,9 +79,23 @@ fn run_once<D: Disk + Drop, W: Write + Drop>(
         ⟦<DiskHome<'static, HostRuntime, D> as Home>⟧.goes home.old home.new (out_of W.contents out.old)
         (out_of W.contents out.new) request.now result }
 {
-    let reply = rec_files::run(rt.alloc(), home, out, request)?;
-    out.finish()?;
-    Ok(reply)
+    let told = rec_files::run(rt.alloc(), home, out, request);
+    let_out(out, told)
+}
+
+/// An answer, once what was printed is let out.
+fn let_out<W: Write + Drop>(
+    out: &mut StandardOutput<W>,
+    told: Result<Reply, Fault>,
+) -> Result<Reply, Fault>
+    ensures bytes { Keeps (writer_contents W.contents out.old.writer) (writer_contents W.contents out.new.writer) }
+    ensures let_out { IsLetOut told out.old.failed (out_of W.contents out.new) result }
+{
+    if let Err(fault) = out.finish() {
+        told?;
+        return Err(fault);
+    }
+    told
 }
 
 /// The answer to moves from the nearest edit to that of a number, once the files are closed and it is said how far they went.

@@ -19,7 +19,7 @@ fn main(rt: HostRuntime) -> ExitCode {
     ExitCode::from(match words(&rt) {
         Ok(words) => {
             let disk = HostDisk::new(rt);
-            let (status, _) = status(&rt, disk, rt.stdout(), &mut err, words.as_slice());
+            let (status, _, _) = status(&rt, disk, rt.stdout(), &mut err, words.as_slice());
             status
         }
         Err(fault) => finish(&Err(fault), &mut err),

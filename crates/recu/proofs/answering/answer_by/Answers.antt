@@ -1,5 +1,6 @@
-use Rattle.std.proofs.Common.{inl, inr, refl}
-use Rattle.recu.specs.Answers.{out_of}
+use Rattle.std.proofs.Common.{refl, sym, subst}
+use Rattle.rec_files.specs.Succeeding.{HomeGoes}
+use Rattle.recu.specs.Answers.{out_of, Answers}
 use Rattle.recu.proofs.AnswerLemmas.{new_output}
 use Rattle.recu.proofs.answering.answer_by.Goals as goal
 
@@ -7,7 +8,7 @@ pub returns-in_default : goal.returns-in_default
 returns-in_default g c = record {
   answers = (
     c.args.home.now,
-    inl (refl, refl),
+    (refl, refl),
     record {
       shut = c.close.ensures.shut;
       disk = c.close.ensures.same;
@@ -25,13 +26,11 @@ returns g c =
     record {
       answers = (
         done,
-        inr (
-          out_of g.W.Write.contents c.in-Ok.out,
-          out_of g.W.Write.contents c.answer_to-answer.new.out,
-          new_output g.W.Write.contents c.in-Ok.out c.args.writer c.in-Ok.ensures.writer c.in-Ok.ensures.empty
-              c.in-Ok.ensures.sound,
-          answered,
-        ),
+        subst (λ before. Answers g.D.Disk.place g.D.Disk.leads g.D.Disk.folder g.D.Disk.syncs g.D.Disk.story g.D.Disk.works
+            (HomeGoes g.D.Disk.place g.D.Disk.leads g.D.Disk.link g.D.Disk.folder g.D.Disk.syncs g.D.Disk.regular g.D.Disk.number g.D.Disk.tells g.D.Disk.story g.D.Disk.works)
+            c.args.home.now done before (out_of g.W.Write.contents c.answer_to-answer.new.out) c.args.request.now c.answer_to-answer.result)
+            (sym (new_output g.W.Write.contents c.in-Ok.out c.args.writer c.in-Ok.ensures.writer c.in-Ok.ensures.empty
+            c.in-Ok.ensures.sound)) answered,
         closed,
       );
       shut = closed.shut;

@@ -119,7 +119,7 @@ unproved() (
         sed -i 's/^Failing: [0-9]*/Failing: 4/' "$folder/data/stops.rec"
         for name in "${arguments[@]}"; do words+=(--data "$name=$folder/data/$name"); done
     fi
-    rt try --seconds 300 "${words[@]}" -- "${arguments[@]}" < "$input" > "$folder/$1.out" 2> "$folder/$1.err"
+    rt try --seconds 900 "${words[@]}" -- "${arguments[@]}" < "$input" > "$folder/$1.out" 2> "$folder/$1.err"
     { echo $? > "$folder/$1.status"; } 2> /dev/null
 )
 
@@ -140,7 +140,7 @@ compare() {
 
 quick() {
     local crate
-    echo 'test.sh: the quick part takes some 6 minutes on 2 processors'
+    echo 'test.sh: the quick part takes 6 to 12 minutes on 2 processors'
     if layout; then passed=$((passed + 1)); else failed=$((failed + 1)); fi
     looks
     # (two at a time: one takes some 2.5 GB of memory)
@@ -167,8 +167,8 @@ growth() {
 }
 
 all() {
-    echo 'test.sh: all parts take some 250 processor minutes, nearly all of it for the proofs: an hour and a half on 4 processors, two hours or more on 2'
-    echo 'test.sh: the parts program, memory and growth take a minute or two each, once the proofs have built what they run'
+    echo 'test.sh: all parts take 250 to 460 processor minutes, by the machine, most of it for the proofs: up to three hours on 4 processors'
+    echo 'test.sh: the parts program, memory and growth take 1 to 15 minutes each, once the proofs have built what they run'
     proofs
     program
     memory

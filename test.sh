@@ -140,7 +140,7 @@ compare() {
 
 quick() {
     local crate
-    echo 'test.sh: the quick part takes 6 to 12 minutes on 2 processors'
+    echo 'test.sh: the quick part takes some 6 minutes, on a slow machine 12 or more'
     if layout; then passed=$((passed + 1)); else failed=$((failed + 1)); fi
     looks
     # (two at a time: one takes some 2.5 GB of memory)
@@ -167,8 +167,8 @@ growth() {
 }
 
 all() {
-    echo 'test.sh: all parts take 250 to 460 processor minutes, by the machine, most of it for the proofs: up to three hours on 4 processors'
-    echo 'test.sh: the parts program, memory and growth take 1 to 15 minutes each, once the proofs have built what they run'
+    echo 'test.sh: all parts take 250 to 477 processor minutes, by the machine, most of it for the proofs: up to three hours on 4 processors'
+    echo 'test.sh: the parts program, memory and growth take 1 to 17 minutes each, once the proofs have built what they run'
     proofs
     program
     memory

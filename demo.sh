@@ -1,13 +1,20 @@
 #!/usr/bin/env bash
-# Builds recu, and edits copies of the files in sample/: an edit, tried first, a refused one, undo, redo, the history, and the rules.
+# Edits copies of the files in sample/: an edit, tried first, a refused one, undo, redo, the history, and the rules.
+# Shows the proved program, where it is built and younger than its sources, or else one that is built without proofs.
 # RECU=PROGRAM shows the session with that program, and builds none.
 set -euo pipefail
-recu=$(realpath -m "${RECU:-$(dirname "$0")/crates/recu/out/recu}")
-cd "$(dirname "$0")"
-if [ -z "${RECU-}" ]; then
-    echo 'First recu is built, which takes long only where it was not built before. The session follows.'
-    bash build.sh
+. "$(dirname "$0")/programs.sh"
+if [ -n "${RECU-}" ]; then
+    recu=$(realpath -m "$RECU")
+elif is_built "$proved" && is_proved "$proved"; then
+    recu=$proved
+    echo 'Shown proved: by the program that bash build.sh built, all of it proved.'
+else
+    recu=$unproved
+    is_built "$recu" || build_unproved
+    echo 'Shown unproved: by a program of the same sources that checks itself as it runs. bash build.sh builds the proved one.'
 fi
+cd "$top"
 folder=$(mktemp -d)
 trap 'rm -rf "$folder"' EXIT
 cp sample/contacts.rec sample/library.rec "$folder"

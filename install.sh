@@ -1,33 +1,48 @@
 #!/usr/bin/env bash
 # Installs recu: the program, its man pages, and completions for bash, zsh and fish. Builds it first, where it isn't built.
-#     bash install.sh [PREFIX]             into PREFIX, or into ~/.local
-#     bash install.sh --remove [PREFIX]    removes from there what it installed
-# RECU=PROGRAM installs that program, and builds none.
+#     bash install.sh [PREFIX]               into PREFIX, or into ~/.local
+#     bash install.sh --unproved [PREFIX]    the program that is built without proofs, in minutes, and is much slower
+#     bash install.sh --remove [PREFIX]      removes from there what it installed
+# RECU=PROGRAM installs that program, and builds none. One that isn't proved is refused without --unproved.
 set -euo pipefail
-top=$(cd "$(dirname "${BASH_SOURCE[0]}")" && pwd)
-program=${RECU:-$top/crates/recu/out/recu}
-version=$(sed -n 's/^pub const VERSION: &str = "\(.*\)";$/\1/p' "$top/crates/rec_command/src/args/help.rt")
+. "$(dirname "${BASH_SOURCE[0]}")/programs.sh"
 
 usage() {
     sed -n '2,/^[^#]/s/^# \{0,1\}//p' "${BASH_SOURCE[0]}"
 }
-fail() {
-    printf 'install.sh: %s\n' "$1" >&2
-    exit 1
+
+# Sees to it that the program is there, and proved where nothing else was asked for.
+provide() {
+    if [ -z "${RECU-}" ] && ! is_built "$program"; then
+        if [ "$program" = "$unproved" ]; then
+            build_unproved
+        else
+            need_toolchain
+            bash "$top/build.sh"
+        fi
+    fi
+    is_this_version "$program" || fail "$program is not recu $version"
+    if is_proved "$program"; then
+        named="recu $version"
+    elif [ "$asked" = --unproved ]; then
+        named="recu $version, unproved,"
+    else
+        fail "$program has no mark of the toolchain that it was proved: --unproved installs it all the same"
+    fi
 }
 
-# Whether the program is there, has this version, and is younger than its sources.
-is_built() {
-    [ -x "$program" ] && [ "$("$program" --version)" = "recu $version" ] || return 1
-    [ -n "${RECU-}" ] || [ -z "$(find "$top/crates" -name out -prune -o -path '*/src/*' -newer "$program" -print -quit)" ]
-}
-
-build() {
-    [ -z "${RECU-}" ] || fail "$program is not recu $version"
-    command -v rt > /dev/null || fail 'recu is not built here, and the toolchain that builds it (the command rt) is missing'
-    bash "$top/build.sh"
-    [ "$("$program" --version)" = "recu $version" ] || fail "$program is not recu $version"
-}
+asked=${1-}
+case $asked in
+    --unproved) program=$unproved task=install_all && shift ;;
+    --remove) program=$proved task=remove_all && shift ;;
+    --help | -h) usage && exit ;;
+    -*) usage >&2 && exit 2 ;;
+    *) program=$proved task=install_all ;;
+esac
+program=${RECU:-$program}
+[ $# -le 1 ] || { usage >&2 && exit 2; }
+prefix=${1:-$HOME/.local}
+[[ $prefix == /* ]] || prefix=$PWD/$prefix
 
 # What is installed, and its place below PREFIX.
 from=("$program") to=(bin/recu)
@@ -39,11 +54,12 @@ to+=(share/bash-completion/completions/recu share/zsh/site-functions/_recu share
 
 install_all() {
     local index mode=755
+    provide
     for index in "${!from[@]}"; do
         install -D -m "$mode" -- "${from[index]}" "$prefix/${to[index]}" || fail "$prefix/${to[index]} could not be written"
         mode=644
     done
-    echo "recu $version is installed in $prefix"
+    echo "$named is installed in $prefix"
     [[ :$PATH: == *":$prefix/bin:"* ]] || echo "To find it by its name, add this to PATH: $prefix/bin"
     ! command -v zsh > /dev/null || [[ $(zsh -fc 'print -l $fpath') == *"$prefix/share/zsh/site-functions"* ]] ||
         echo "For zsh to complete its words, add this to fpath, before compinit is called: $prefix/share/zsh/site-functions"
@@ -59,14 +75,4 @@ remove_all() {
     echo "recu is removed from $prefix"
 }
 
-task=install_all
-case ${1-} in
-    --remove) task=remove_all && shift ;;
-    --help | -h) usage && exit ;;
-    -*) usage >&2 && exit 2 ;;
-esac
-[ $# -le 1 ] || { usage >&2 && exit 2; }
-prefix=${1:-$HOME/.local}
-[[ $prefix == /* ]] || prefix=$PWD/$prefix
-[ "$task" = remove_all ] || is_built || build
 "$task"

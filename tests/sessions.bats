@@ -42,12 +42,43 @@ shown() {
     [ "$(grep -c '^(exit status' "$BATS_TEST_TMPDIR/out")" = 1 ] || fail 'other commands are refused:' "$(cat "$BATS_TEST_TMPDIR/out")"
 }
 
-@test "demo.sh says that it builds recu, builds it, and shows its session; with RECU it builds none" {
+# copy: a copy of what demo.sh reads and builds, in the folder demo, without a program
+copy() {
+    unset RECU
     mkdir demo
-    cp -r "$top/demo.sh" "$top/sample" demo
-    printf 'echo built\nmkdir -p crates/recu/out\ncp %q crates/recu/out/recu\n' "$program" > demo/build.sh
-    (unset RECU && shown 'First recu is built, which takes long only where it was not built before. The session follows.'$'\n'built bash demo/demo.sh)
+    (cd "$top" && tar -c --exclude=out demo.sh programs.sh sample crates.txt HANDLES crates) | tar -x -C demo
+}
+
+is_unproved='Shown unproved: by a program of the same sources that checks itself as it runs. bash build.sh builds the proved one.'
+
+@test "demo.sh shows the proved program where that is built, or the unproved one, and says which; with RECU that one" {
     RECU=$program shown '' bash "$top/demo.sh"
+    copy
+    PATH=/usr/bin:/bin ends 1 bash demo/demo.sh
+    prints '' 'demo.sh: recu is not built here, and the toolchain that builds it (the command rt) is missing¶'
+    mkdir demo/out demo/crates/recu/out
+    cp "$program" demo/out/recu-unproved
+    shown "$is_unproved" bash demo/demo.sh
+    cp "$program" demo/crates/recu/out/recu
+    shown 'Shown proved: by the program that bash build.sh built, all of it proved.' bash demo/demo.sh
+    touch -d '1 hour' demo/crates/rec_text/src/lib.rt
+    touch -d '2 hours' demo/out/recu-unproved
+    shown "$is_unproved" bash demo/demo.sh
+}
+
+@test "demo.sh builds recu without proofs, and shows what the proved program shows; install.sh refuses that one" {
+    command -v rt > /dev/null || skip 'there is no rt'
+    copy
+    shown "First recu is built without proofs, which takes some minutes.
+$is_unproved" bash demo/demo.sh
+    sed 1,2d "$BATS_TEST_TMPDIR/out" > shown
+    RECU=$program ends 0 bash "$top/demo.sh"
+    cmp shown "$BATS_TEST_TMPDIR/out"
+    [ "$(ls -A demo/out)" = recu-unproved ]
+    cp demo/out/recu-unproved recu
+    RECU=$PWD/recu ends 1 bash "$top/install.sh" prefix
+    prints '' "install.sh: $PWD/recu has no mark of the toolchain that it was proved: --unproved installs it all the same¶"
+    shown "$is_unproved" bash demo/demo.sh
 }
 
 # The table of docs/expressions.md says of the record above it which expressions select it.

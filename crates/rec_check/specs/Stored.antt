@@ -8,9 +8,11 @@ use Rattle.rec_sex.specs.Expressions.{term_of}
 use Rattle.rec_text.specs.declared.or_memory.OrMemory.{OrMemory}
 use Rattle.rec_check.specs.declared.descriptors.descriptor_fault.DescriptorFault.{DescriptorFault}
 use Rattle.rec_text.specs.declared.or_memory.OrMemory.TheVariants.{Refused, OutOfMemory as NoMemory}
-use Rattle.rec_check.specs.declared.descriptors.descriptor_fault.DescriptorFault.TheVariants.{Bad}
-use Rattle.rec_check.specs.declared.descriptors.descriptor_fault.DescriptorFault.TheVariants.{Unsupported as NotSupported}
-use Rattle.rec_check.specs.declared.descriptors.descriptor_fault.DescriptorFault.TheVariants.{Pattern}
+use Rattle.rec_check.specs.declared.descriptors.descriptor_fault.DescriptorFault.TheVariants.{
+  Bad,
+  Unsupported as NotSupported,
+  Pattern,
+}
 use Rattle.rec_check.specs.declared.field_types.definition.Definition.{Definition as StoredDefinition}
 use Rattle.rec_check.specs.declared.field_types.field_type.FieldType.{FieldType as StoredType}
 use Rattle.rec_check.specs.declared.field_types.field_type.FieldType.TheVariants.{Integer, Range, Line, Size, Truth}

@@ -1,7 +1,6 @@
 //! What the descriptors of a text say.
 ghost use Rattle.rec_check.specs.proving.Steps.{HaveTypes};
 
-use crate::automatic::automatic_names;
 use crate::automatic::counter::{Counter, counters_of, next_value};
 use crate::checks::report::violations_of;
 use crate::descriptors::draft::Draft;
@@ -25,8 +24,7 @@ pub struct Schema {
 impl Schema {
     ghost use Rattle.std.specs.Prelude.{◌≡◌, ◌<◌, length, position, Ok, IfOk, Err, IfErr, IsOkUnless};
     ghost use Rattle.rec_text.specs.Faults.{IsMemoryOr, UnlessMemory};
-    ghost use Rattle.rec_check.specs.Automatic.{IsAutomatic, automatic_of};
-    ghost use Rattle.rec_text.specs.Bytes.{texts};
+    ghost use Rattle.rec_check.specs.Automatic.{IsAutomatic};
     ghost use Rattle.rec_check.specs.Counters.{AreMembersAt, AreCountersAt};
     ghost use Rattle.rec_check.specs.Schemas.{IsSchema};
     ghost use Rattle.rec_check.specs.Sets.{is_of_type};
@@ -72,17 +70,6 @@ impl Schema {
         ensures refusals { IsOkUnless result Fault.OutOfMemory }
     {
         violations_of(alloc, database, &self.sets, &self.rules)
-    }
-
-    /// The counters of the set at this place: the names of its `%auto` fields, each where it stands first.
-    pub fn automatic_names(&self, alloc: Global, set: usize) -> Result<Vec<&[u8]>, Fault>
-        ensures names { IfOk result (λ names. texts names.items ≡ automatic_of (described self.now) set) }
-        ensures refusals { IsOkUnless result Fault.OutOfMemory }
-    {
-        match self.rules.get(set) {
-            Some(rules) => Ok(automatic_names(alloc, rules)?),
-            None => Ok(Vec::new(alloc)),
-        }
     }
 
     /// The next value of a counter in the set at this place: one more than the greatest integer among the values of the

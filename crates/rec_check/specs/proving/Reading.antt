@@ -19,9 +19,11 @@ use Rattle.rec_check.specs.declared.field_types.field_type.Typing.{Typing as Sto
 use Rattle.rec_text.specs.declared.or_memory.OrMemory.{OrMemory}
 use Rattle.rec_check.specs.declared.descriptors.descriptor_fault.DescriptorFault.{DescriptorFault}
 use Rattle.rec_text.specs.declared.or_memory.OrMemory.TheVariants.{Refused, OutOfMemory}
-use Rattle.rec_check.specs.declared.descriptors.descriptor_fault.DescriptorFault.TheVariants.{Bad}
-use Rattle.rec_check.specs.declared.descriptors.descriptor_fault.DescriptorFault.TheVariants.{Unsupported as NotSupported}
-use Rattle.rec_check.specs.declared.descriptors.descriptor_fault.DescriptorFault.TheVariants.{Pattern}
+use Rattle.rec_check.specs.declared.descriptors.descriptor_fault.DescriptorFault.TheVariants.{
+  Bad,
+  Unsupported as NotSupported,
+  Pattern,
+}
 use Rattle.rec_check.specs.declared.descriptors.special.Special.{Special}
 use Rattle.rec_check.specs.declared.descriptors.special.Special.TheVariants.{Rec, Key, Mandatory, Prohibit, Unique}
 use Rattle.rec_check.specs.declared.descriptors.special.Special.TheVariants.{Singular, Allowed, Auto, Typed, Typedef}

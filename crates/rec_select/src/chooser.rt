@@ -1,10 +1,13 @@
 //! Finds the records that a selection takes.
-ghost use Rattle.std.specs.Prelude.{◌≡◌, ℕ, List, Result, Ok, Err, IfOk, IfErr, IsOk, IsOkUnless, MatchResult};
+ghost use Rattle.std.specs.Prelude.{◌≡◌, ◌≤◌, ℕ, List, [], length, Result, Ok, Err, IfOk, IfErr, IsOk, IsOkUnless, MatchResult, OnOk};
+ghost use Rattle.std.specs.declared.ops.Range.{Range};
 ghost use Rattle.rec_text.specs.declared.fault.Fault.{Fault};
 ghost use Rattle.rec_text.specs.Faults.{IsMemoryOr, IsOkUnlessEither};
+ghost use Rattle.rec_text.specs.Records.{AreRecords};
 ghost use Rattle.rec_check.specs.Stored.{described};
 ghost use Rattle.rec_select.specs.Printing.{AreIndexes};
-ghost use Rattle.rec_select.specs.Selection.{Answers, IsChoice, has_members, set_without_type, set_of_type, set_for};
+ghost use Rattle.rec_select.specs.proving.Filters.{stands_for};
+ghost use Rattle.rec_select.specs.Selection.{Answers, AreSelected, IsChoice, has_members, set_without_type, set_of_type, set_for};
 
 use crate::excerpt::Excerpt;
 use crate::filter::Filter;
@@ -52,6 +55,35 @@ fn set_of<'s>(schema: &'s Schema, record_type: &Option<Bytes>) -> Result<&'s Set
     }
 }
 
+/// Adds the members of a set that pass a filter, by their indexes among all records.
+fn add_members(
+    alloc: Global,
+    file: &RecFile,
+    set: &Set_,
+    filter: &mut Filter,
+    selected: &mut Vec<usize>,
+) -> Result<(), Fault>
+    requires within { (records : List (Range ℕ)) → AreRecords file.now.pieces records
+        → set.now.members.end ≤ length records }
+    requires none { selected.old.items ≡ [] }
+    ensures selected { OnOk result (AreSelected file.now.pieces set.now
+        (stands_for filter.old) selected.new.items) }
+    ensures refusals { IsOkUnless result Fault.OutOfMemory }
+{
+    let database = file.database();
+    let members = &set.members;
+    let text = Excerpt::of(database);
+    for (index, record) in database.records().enumerate().take(members.end) {
+        if index >= members.start {
+            let fields = text.part(record);
+            if filter.passes(alloc, &fields, index - members.start)? {
+                selected.push(index)?;
+            }
+        }
+    }
+    Ok(())
+}
+
 /// The records that a selection takes, as ascending indexes into the list of records. A descriptor is never taken.
 pub fn choose(alloc: Global, file: &RecFile, selection: &Selection) -> Result<Vec<usize>, Fault>
     ensures selected { IfOk result (λ selected.
@@ -65,18 +97,9 @@ pub fn choose(alloc: Global, file: &RecFile, selection: &Selection) -> Result<Ve
     ensures only { (other : Result (List ℕ) Fault) → IsChoice file.now.pieces file.now.schema selection.now other
         → MatchResult result (λ selected. other ≡ Ok selected.items) (λ fault. IsMemoryOr fault (other ≡ Err fault)) }
 {
-    let database = file.database();
-    let members = &set_of(file.schema(), &selection.kind)?.members;
+    let set = set_of(file.schema(), &selection.kind)?;
     let mut filter = Filter::of(alloc, &selection.by)?;
-    let text = Excerpt::of(database);
     let mut selected = Vec::new(alloc);
-    for (index, record) in database.records().enumerate().take(members.end) {
-        if index >= members.start {
-            let fields = text.part(record);
-            if filter.passes(alloc, &fields, index - members.start)? {
-                selected.push(index)?;
-            }
-        }
-    }
+    add_members(alloc, file, set, &mut filter, &mut selected)?;
     Ok(selected)
 }

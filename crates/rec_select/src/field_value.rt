@@ -52,7 +52,8 @@ fn name_len(text: &[u8]) -> usize
 
 /// What stands after an equals sign, where one comes first.
 fn after_equals(rest: &[u8]) -> Option<&[u8]>
-    ensures { MatchOption result (begins_with equals_sign rest.now ≡ false) (λ value. rest.now ≡ equals_sign ∷ value.now) }
+    ensures { MatchOption result (begins_with equals_sign rest.now ≡ false)
+        (λ value. rest.now ≡ equals_sign ∷ value.now) }
 {
     match rest.split_first() {
         Some((b'=', value)) => Some(value),

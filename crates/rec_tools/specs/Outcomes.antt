@@ -82,8 +82,8 @@ pub record IsPlanned (o : Opened) (c : Contents) (tool : Tool) (made : Edited) (
   pub planned : IsEditPlan o c.journal tool made.steps made.text (Ok plan)
   pub safe : IsSafe c.file c.journal o (after_edit_plan o c.journal tool made.steps made.text) plan
 
--- an edit that leaves the text as it is writes nothing; every other one is put in place, with this reply, unless the two
--- texts share a digest
+-- an edit that leaves the text as it is writes nothing; every other one is put in place, with this reply, unless the
+-- two texts share a digest
 abbrev pub IsEditOutcome : Opened → Contents → Tool → Edited → Reply → Result Outcome Fault → Type 0
 IsEditOutcome o c tool made reply (Ok outcome) =
     ((made.text ≡ c.file) × (outcome ≡ staying (Unchanged made.chosen)))

@@ -1,6 +1,6 @@
 -- Moves through the history as far as the edit of a number: which answers they come to.
-use Rattle.std.specs.Prelude.{◌≡◌, ◌≢◌, ℕ, ◌+◌, Bool, true, false, nat_lt, ◌&&◌, List, [], ◌∷◌, ◌++◌, length, map, replicate}
-use Rattle.std.specs.Prelude.{reverse, filter_map, slice_get, Option, Some, None, Ok, Err}
+use Rattle.std.specs.Prelude.{◌≡◌, ◌≢◌, ℕ, ◌+◌, Bool, true, false, nat_lt, ◌&&◌, List, [], ◌∷◌, ◌++◌, length, map}
+use Rattle.std.specs.Prelude.{replicate, reverse, filter_map, slice_get, Option, Some, None, Ok, Err}
 use Rattle.std.specs.List.{AllByRecursion}
 use Rattle.rec_text.specs.declared.fault.Fault.{Fault}
 use Rattle.rec_journal.specs.declared.patch.Direction.{Direction}
@@ -45,7 +45,8 @@ leads_on direction number (Some last) (Some moved) =
 abbrev pub LeadThrough : Direction → ℕ → Option ℕ → List Answer → Type 0
 LeadThrough direction number last [] = ⊥
 LeadThrough direction number last (answer ∷ []) = leads_on direction number last (moved_by answer) ≡ false
-LeadThrough direction number last (answer ∷ (next ∷ answers)) = (leads_on direction number last (moved_by answer) ≡ true)
+LeadThrough direction number last (answer ∷ (next ∷ answers)) =
+    (leads_on direction number last (moved_by answer) ≡ true)
     × LeadThrough direction number (moved_by answer) (next ∷ answers)
 
 -- the numbers of the edits that were moved

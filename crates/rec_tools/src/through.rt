@@ -97,7 +97,8 @@ fn go_through<H: Home, S: Sink>(
     direction: Direction,
     number: usize,
 ) -> Through
-    ensures through { GoesThrough H.goes S.contents S.failure_count direction number home.old home.new out.old out.new result }
+    ensures through { GoesThrough H.goes S.contents S.failure_count direction number home.old home.new
+        out.old out.new result }
     ensures silent { out.new ≡ out.old }
 {
     let mut first = None;
@@ -138,7 +139,8 @@ pub fn run_through<H: Home, S: Sink>(
         (answers : List Answer) × EndsThrough direction number answers result
         × (calls : List Call) × (p : Printed) × WentOut S.contents S.failure_count out.old out.new p
         × WentOn H.goes H.contents c home.old calls home.new
-        × (¬ HasFailed calls → (t : State) × RunsAsMachine c s (moves_through direction number answers) answers calls p t)) }
+        × (¬ HasFailed calls → (t : State)
+        × RunsAsMachine c s (moves_through direction number answers) answers calls p t)) }
 
     // And whatever calls fail, where the journal is regular, as it then stays.
     ensures failing_stores { IfSome (H.contents home.old) (λ c. (s : State) → Stands c s → IsRegular c.journal →

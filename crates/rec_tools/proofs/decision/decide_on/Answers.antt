@@ -9,8 +9,8 @@ use Rattle.rec_tools.proofs.decision.decide_on.Goals as goal
 
 pub returns-in_err-read-clause-found : goal.returns-in_err-read-clause-found
 returns-in_err-read-clause-found c =
-    rw (kept_error c.from_residual.ensures.1) (made-no_text c.args.file.now c.args.journal.now (λ _. IsMade (AreEditsFrom c.args.source c.args.force) c.args.file.now) (λ o. edit_reply o.next o.dropped)
-    _ (refused_on_file _ _ c.text.ensures.text _ c.in_err-read.ensures.refused))
+    rw (kept_error c.from_residual.ensures.1) (made-no_text c.args.file.now c.args.journal.now (λ _. IsMade (AreEditsFrom c.args.source c.args.force) c.args.file.now)
+    (λ o. edit_reply o.next o.dropped) _ (refused_on_file _ _ c.text.ensures.text _ c.in_err-read.ensures.refused))
 
 pub returns-in_err-history-clause-found : goal.returns-in_err-history-clause-found
 returns-in_err-history-clause-found c =

@@ -15,7 +15,8 @@ use Rattle.rec_tools.specs.Requests.{Asked, looking, listing, showing, listing_c
 use Rattle.rec_tools.specs.Reverting.{Standing}
 use Rattle.rec_tools.specs.Outcomes.{IsMade, edit_reply, revert_reply}
 use Rattle.rec_tools.specs.Attempts.{Answer}
-use Rattle.rec_tools.specs.Machine.{Entry, State, IsMachineStep, IsEditStep, IsMadeStep, IsRevertIn, standing_at, IsMoveStep, IsForgettingStep, IsShowingStep, IsStepDiff, entries_on, told_edit, told_in}
+use Rattle.rec_tools.specs.Machine.{Entry, State, IsMachineStep, IsEditStep, IsMadeStep, IsRevertIn, IsMoveStep, IsForgettingStep, IsShowingStep, IsStepDiff}
+use Rattle.rec_tools.specs.Machine.{standing_at, entries_on, told_edit, told_in}
 use Rattle.rec_tools.specs.Laws.{OneStep}
 use Rattle.rec_text.proofs.lemmas.FaultLemmas.{no_both}
 use Rattle.rec_text.proofs.lemmas.StepLemmas.{HasOneBut, refused_too}

@@ -24,8 +24,10 @@ use Rattle.rec_tools.specs.Steps.{Then}
 use Rattle.rec_tools.specs.Printouts.{Printout, history_text, printed_history}
 use Rattle.rec_tools.specs.Requests.{Edits, Asked, looking, listing, showing, listing_changes, editing, moving, reverting, forgetting, previewing, asked_of}
 use Rattle.rec_tools.specs.Reverting.{IsRevertOf}
-use Rattle.rec_tools.specs.Outcomes.{Outcome, IsRequestOutcome, IsPrinting, IsMade, IsEditOutcome, IsPutBy, edit_reply, revert_reply, IsPlanned, IsMove, IsMoveOutcome, IsForgetting, Forgets, printing, putting, reply_of}
-use Rattle.rec_tools.specs.Machine.{Entry, State, AreEntries, Stands, IsMachineStep, IsMadeStep, IsRevertIn, standing_at, IsMoveStep, Clashes, itself, entries_on, numbers_in, state_history, state_after_edit, state_after_move, state_after_forgetting}
+use Rattle.rec_tools.specs.Outcomes.{Outcome, IsRequestOutcome, IsPrinting, IsMade, IsEditOutcome, IsPutBy, IsPlanned, IsMove, IsMoveOutcome, IsForgetting, Forgets}
+use Rattle.rec_tools.specs.Outcomes.{edit_reply, revert_reply, printing, putting, reply_of}
+use Rattle.rec_tools.specs.Machine.{Entry, State, AreEntries, Stands, IsMachineStep, IsMadeStep, IsRevertIn, IsMoveStep, Clashes, standing_at, itself, entries_on, numbers_in}
+use Rattle.rec_tools.specs.Machine.{state_history, state_after_edit, state_after_move, state_after_forgetting}
 use Rattle.rec_tools.specs.Guarantee.{StepsAsMachine, OutcomesAreSteps}
 use Rattle.rec_text.proofs.lemmas.FaultLemmas.{ok_is_no_err}
 use Rattle.rec_tools.proofs.lemmas.machine.StandsLemmas.{StandsBy, stands_by, can_be_opened}

@@ -297,7 +297,8 @@ module _ (file journal : List ℕ) (direction : Direction) (through : Option ℕ
     pub move-missing : true ≡ is_missing through (numbers_on direction o) → IsRequestOutcome contents (moving direction through) (Err NoSuchEdit)
     move-missing missing = inr (o, opens, inl (refl, missing-settled (sym missing), sym missing))
 
-    pub move-refused : is_missing through (numbers_on direction o) ≡ false → (fault : Fault) → IsMemoryOr fault (IsMovePlan direction o file journal (Err fault)) → IsMemoryOr fault (IsRequestOutcome contents (moving direction through) (Err fault))
+    pub move-refused : is_missing through (numbers_on direction o) ≡ false → (fault : Fault) → IsMemoryOr fault (IsMovePlan direction o file journal (Err fault))
+        → IsMemoryOr fault (IsRequestOutcome contents (moving direction through) (Err fault))
     move-refused here fault h = memory_or_weaker fault _ _ (λ refused. inr (o, opens, inr (here, refused))) h
 
     -- where a move is planned, there is an edit that way

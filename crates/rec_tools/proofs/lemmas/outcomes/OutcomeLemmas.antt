@@ -49,7 +49,8 @@ use Rattle.rec_tools.specs.Asking.{IsFilter, IsListed, IsShape}
 use Rattle.rec_tools.specs.Printouts.{Printout, printed_history, told_of, IsLog, IsShownEdit, IsLogOf, IsWholeLog, IsShow, IsInfoOf, IsShownText, IsReportText, verdict}
 use Rattle.rec_tools.specs.Requests.{Edits, Asked, looking, listing, showing, listing_changes, editing, moving, reverting, forgetting, previewing, asked_of}
 use Rattle.rec_tools.specs.Reverting.{IsRevertOf}
-use Rattle.rec_tools.specs.Outcomes.{Outcome, IsRequestOutcome, IsPrinting, IsMade, IsEditOutcome, IsPutBy, edit_reply, revert_reply, IsMove, IsForgetting, OnTop, LeadsAcross, IsPreviewText, OneOutcome, printing, putting, reply_of}
+use Rattle.rec_tools.specs.Outcomes.{Outcome, IsRequestOutcome, IsPrinting, IsMade, IsEditOutcome, IsPutBy, IsMove, IsForgetting, OnTop, LeadsAcross, IsPreviewText, OneOutcome}
+use Rattle.rec_tools.specs.Outcomes.{edit_reply, revert_reply, printing, putting, reply_of}
 use Rattle.rec_text.proofs.lemmas.FaultLemmas.{same_fault, same_value}
 use Rattle.rec_tools.proofs.lemmas.outcomes.OpeningLemmas.{no_clash, same_plan_of}
 use Rattle.rec_tools.proofs.lemmas.outcomes.EditLemmas.{AreEditsAlike, agree_on_one, agree_on_batch, one_made}

@@ -12,7 +12,7 @@ use Rattle.rec_tools.specs.declared.request.EditRequest.TheVariants.{Insert, Rep
 use Rattle.rec_tools.specs.declared.request.Request.{Show, Info, Check, Edit, Batch, Undo, Redo, Forget}
 use Rattle.rec_tools.specs.declared.request.Request.{Revert, History}
 use Rattle.rec_tools.specs.declared.request.Request.{Diff, Log, Preview'}
-use Rattle.rec_files.specs.Paths.{AreApart, journal_of}
+use Rattle.rec_disk.specs.Paths.{AreApart, journal_of}
 use Rattle.rec_command.specs.declared.args.Order.{Order}
 use Rattle.rec_command.specs.declared.args.Order.TheVariants.{Whole, BatchAt}
 use Rattle.rec_command.specs.declared.tools.Tool.{Tool}

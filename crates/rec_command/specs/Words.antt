@@ -21,7 +21,7 @@ use Rattle.rec_tools.specs.declared.request.Request.{Request, Show, Info, Check,
 use Rattle.rec_tools.specs.declared.request.Request.{Revert, History}
 use Rattle.rec_tools.specs.declared.request.Request.{Diff, Log, Preview'}
 use Rattle.rec_tools.specs.Asking.{selection_for}
-use Rattle.rec_files.specs.Paths.{journal_of, AreApart}
+use Rattle.rec_disk.specs.Paths.{journal_of, AreApart}
 use Rattle.rec_command.specs.declared.args.Order.{Order}
 use Rattle.rec_command.specs.declared.args.Order.TheVariants.{Whole, BatchAt}
 use Rattle.rec_command.specs.declared.args.CommandLine.{CommandLine}

@@ -103,7 +103,7 @@ const INPUT: Argument = Argument {
     help: "The rec file [default: standard input]",
 };
 
-pub static RECSEL: [Argument; 11] = [
+pub const RECSEL: [Argument; 11] = [
     TYPE,
     EXPRESSION,
     NUMBER,
@@ -142,7 +142,7 @@ pub static RECSEL: [Argument; 11] = [
     INPUT,
 ];
 
-pub static RECINF: [Argument; 4] = [
+pub const RECINF: [Argument; 4] = [
     Argument {
         written: Written::Both('t'),
         name: "type",
@@ -164,7 +164,7 @@ pub static RECINF: [Argument; 4] = [
     INPUT,
 ];
 
-pub static RECFIX: [Argument; 6] = [
+pub const RECFIX: [Argument; 6] = [
     Argument {
         written: Written::Name,
         name: "check",
@@ -183,7 +183,7 @@ pub static RECFIX: [Argument; 6] = [
     INPUT,
 ];
 
-pub static RECINS: [Argument; 13] = [
+pub const RECINS: [Argument; 13] = [
     Argument {
         written: Written::Both('t'),
         name: "type",
@@ -224,7 +224,7 @@ pub static RECINS: [Argument; 13] = [
     FILE,
 ];
 
-pub static RECDEL: [Argument; 10] = [
+pub const RECDEL: [Argument; 10] = [
     TYPE,
     EXPRESSION,
     NUMBER,
@@ -247,7 +247,7 @@ pub static RECDEL: [Argument; 10] = [
     FILE,
 ];
 
-pub static RECSET: [Argument; 16] = [
+pub const RECSET: [Argument; 16] = [
     TYPE,
     EXPRESSION,
     NUMBER,
@@ -301,7 +301,7 @@ pub static RECSET: [Argument; 16] = [
     FILE,
 ];
 
-pub static BATCH: [Argument; 5] = [
+pub const BATCH: [Argument; 5] = [
     Argument {
         written: Written::Letter('b'),
         name: "batch",
@@ -319,7 +319,7 @@ pub static BATCH: [Argument; 5] = [
     FILE,
 ];
 
-pub static UNDO: [Argument; 4] = [
+pub const UNDO: [Argument; 4] = [
     Argument {
         written: Written::Name,
         name: "through",
@@ -331,7 +331,7 @@ pub static UNDO: [Argument; 4] = [
     FILE,
 ];
 
-pub static REDO: [Argument; 4] = [
+pub const REDO: [Argument; 4] = [
     Argument {
         written: Written::Name,
         name: "through",
@@ -343,7 +343,7 @@ pub static REDO: [Argument; 4] = [
     FILE,
 ];
 
-pub static REVERT: [Argument; 5] = [
+pub const REVERT: [Argument; 5] = [
     FORCE,
     DRY_RUN,
     JOURNAL,
@@ -356,7 +356,7 @@ pub static REVERT: [Argument; 5] = [
     FILE,
 ];
 
-pub static HISTORY: [Argument; 3] = [
+pub const HISTORY: [Argument; 3] = [
     Argument {
         written: Written::Name,
         name: "patch",
@@ -368,7 +368,7 @@ pub static HISTORY: [Argument; 3] = [
 ];
 
 /// A word that has to be there comes first here, and so help lists it; where there are two, the first is N all the same.
-pub static SHOW: [Argument; 3] = [
+pub const SHOW: [Argument; 3] = [
     JOURNAL,
     FILE,
     Argument {
@@ -379,7 +379,7 @@ pub static SHOW: [Argument; 3] = [
     },
 ];
 
-pub static FORGET: [Argument; 3] = [
+pub const FORGET: [Argument; 3] = [
     JOURNAL,
     Argument {
         written: Written::NeededWord,

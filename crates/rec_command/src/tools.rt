@@ -11,10 +11,8 @@ use crate::args::help::{
     RECSEL_HELP, RECSET_ABOUT, RECSET_HELP, RECSET_USAGE, REDO_HELP, REVERT_ABOUT, REVERT_HELP,
     SHOW_ABOUT, SHOW_HELP, SHOW_USAGE, UNDO_HELP,
 };
-use crate::options::{
-    Argument, BATCH, FORGET, HISTORY, RECDEL, RECFIX, RECINF, RECINS, RECSEL, RECSET, REDO, REVERT,
-    SHOW, UNDO,
-};
+use crate::options;
+use crate::options::Argument;
 
 /// A tool.
 #[derive(Clone, Copy)]
@@ -52,7 +50,6 @@ pub static TOOLS: [Tool; 13] = [
 ];
 
 /// What a tool takes, and what help says of it.
-#[derive(Clone, Copy)]
 pub struct Usage {
     pub name: &'static str,
     /// In the order of help.
@@ -67,117 +64,143 @@ pub struct Usage {
     pub after_help: &'static str,
 }
 
+static RECSEL: Usage = Usage {
+    name: "recsel",
+    arguments: &options::RECSEL,
+    about: "Prints records",
+    long_about: None,
+    usage: None,
+    after_help: RECSEL_HELP,
+};
+
+static RECINF: Usage = Usage {
+    name: "recinf",
+    arguments: &options::RECINF,
+    about: "Prints which record sets there are",
+    long_about: None,
+    usage: None,
+    after_help: RECINF_HELP,
+};
+
+static RECFIX: Usage = Usage {
+    name: "recfix",
+    arguments: &options::RECFIX,
+    about: "Checks the rules of record sets, or gives automatic fields",
+    long_about: Some(RECFIX_ABOUT),
+    usage: None,
+    after_help: RECFIX_HELP,
+};
+
+static RECINS: Usage = Usage {
+    name: "recins",
+    arguments: &options::RECINS,
+    about: "Inserts a record, or replaces records with it",
+    long_about: Some(RECINS_ABOUT),
+    usage: Some(RECINS_USAGE),
+    after_help: RECINS_HELP,
+};
+
+static RECDEL: Usage = Usage {
+    name: "recdel",
+    arguments: &options::RECDEL,
+    about: "Deletes records, or comments them out",
+    long_about: Some(RECDEL_ABOUT),
+    usage: None,
+    after_help: RECDEL_HELP,
+};
+
+static RECSET: Usage = Usage {
+    name: "recset",
+    arguments: &options::RECSET,
+    about: "Edits fields of records",
+    long_about: Some(RECSET_ABOUT),
+    usage: Some(RECSET_USAGE),
+    after_help: RECSET_HELP,
+};
+
+static BATCH: Usage = Usage {
+    name: "batch",
+    arguments: &options::BATCH,
+    about: "Makes several edits as one",
+    long_about: Some(BATCH_ABOUT),
+    usage: Some(BATCH_USAGE),
+    after_help: BATCH_HELP,
+};
+
+static UNDO: Usage = Usage {
+    name: "undo",
+    arguments: &options::UNDO,
+    about: "Undoes the newest edit, or several",
+    long_about: None,
+    usage: None,
+    after_help: UNDO_HELP,
+};
+
+static REDO: Usage = Usage {
+    name: "redo",
+    arguments: &options::REDO,
+    about: "Redoes the edit that was undone last, or several",
+    long_about: None,
+    usage: None,
+    after_help: REDO_HELP,
+};
+
+static REVERT: Usage = Usage {
+    name: "revert",
+    arguments: &options::REVERT,
+    about: "Takes one edit back, and leaves the later ones",
+    long_about: Some(REVERT_ABOUT),
+    usage: None,
+    after_help: REVERT_HELP,
+};
+
+static HISTORY: Usage = Usage {
+    name: "history",
+    arguments: &options::HISTORY,
+    about: "Prints the edits that can be undone and redone",
+    long_about: None,
+    usage: None,
+    after_help: HISTORY_HELP,
+};
+
+static SHOW: Usage = Usage {
+    name: "show",
+    arguments: &options::SHOW,
+    about: "Prints what an edit changed",
+    long_about: Some(SHOW_ABOUT),
+    usage: Some(SHOW_USAGE),
+    after_help: SHOW_HELP,
+};
+
+static FORGET: Usage = Usage {
+    name: "forget",
+    arguments: &options::FORGET,
+    about: "Forgets the oldest edits that can be undone",
+    long_about: Some(FORGET_ABOUT),
+    usage: None,
+    after_help: FORGET_HELP,
+};
+
 impl Tool {
     /// What clap is told of it.
-    pub fn usage(self) -> Usage
-        ensures usage { usage_in result ≡ usage_of self }
-        ensures name { result.name.now ≡ name_of self }
+    pub fn usage(self) -> &'static Usage
+        ensures usage { usage_in result.now ≡ usage_of self }
+        ensures name { result.now.name.now ≡ name_of self }
     {
         match self {
-            Tool::RecSel => Usage {
-                name: "recsel",
-                arguments: RECSEL.as_slice(),
-                about: "Prints records",
-                long_about: None,
-                usage: None,
-                after_help: RECSEL_HELP,
-            },
-            Tool::RecInf => Usage {
-                name: "recinf",
-                arguments: RECINF.as_slice(),
-                about: "Prints which record sets there are",
-                long_about: None,
-                usage: None,
-                after_help: RECINF_HELP,
-            },
-            Tool::RecFix => Usage {
-                name: "recfix",
-                arguments: RECFIX.as_slice(),
-                about: "Checks the rules of record sets, or gives automatic fields",
-                long_about: Some(RECFIX_ABOUT),
-                usage: None,
-                after_help: RECFIX_HELP,
-            },
-            Tool::RecIns => Usage {
-                name: "recins",
-                arguments: RECINS.as_slice(),
-                about: "Inserts a record, or replaces records with it",
-                long_about: Some(RECINS_ABOUT),
-                usage: Some(RECINS_USAGE),
-                after_help: RECINS_HELP,
-            },
-            Tool::RecDel => Usage {
-                name: "recdel",
-                arguments: RECDEL.as_slice(),
-                about: "Deletes records, or comments them out",
-                long_about: Some(RECDEL_ABOUT),
-                usage: None,
-                after_help: RECDEL_HELP,
-            },
-            Tool::RecSet => Usage {
-                name: "recset",
-                arguments: RECSET.as_slice(),
-                about: "Edits fields of records",
-                long_about: Some(RECSET_ABOUT),
-                usage: Some(RECSET_USAGE),
-                after_help: RECSET_HELP,
-            },
-            Tool::Batch => Usage {
-                name: "batch",
-                arguments: BATCH.as_slice(),
-                about: "Makes several edits as one",
-                long_about: Some(BATCH_ABOUT),
-                usage: Some(BATCH_USAGE),
-                after_help: BATCH_HELP,
-            },
-            Tool::Undo => Usage {
-                name: "undo",
-                arguments: UNDO.as_slice(),
-                about: "Undoes the newest edit, or several",
-                long_about: None,
-                usage: None,
-                after_help: UNDO_HELP,
-            },
-            Tool::Redo => Usage {
-                name: "redo",
-                arguments: REDO.as_slice(),
-                about: "Redoes the edit that was undone last, or several",
-                long_about: None,
-                usage: None,
-                after_help: REDO_HELP,
-            },
-            Tool::Revert => Usage {
-                name: "revert",
-                arguments: REVERT.as_slice(),
-                about: "Takes one edit back, and leaves the later ones",
-                long_about: Some(REVERT_ABOUT),
-                usage: None,
-                after_help: REVERT_HELP,
-            },
-            Tool::History => Usage {
-                name: "history",
-                arguments: HISTORY.as_slice(),
-                about: "Prints the edits that can be undone and redone",
-                long_about: None,
-                usage: None,
-                after_help: HISTORY_HELP,
-            },
-            Tool::Show => Usage {
-                name: "show",
-                arguments: SHOW.as_slice(),
-                about: "Prints what an edit changed",
-                long_about: Some(SHOW_ABOUT),
-                usage: Some(SHOW_USAGE),
-                after_help: SHOW_HELP,
-            },
-            Tool::Forget => Usage {
-                name: "forget",
-                arguments: FORGET.as_slice(),
-                about: "Forgets the oldest edits that can be undone",
-                long_about: Some(FORGET_ABOUT),
-                usage: None,
-                after_help: FORGET_HELP,
-            },
+            Tool::RecSel => &RECSEL,
+            Tool::RecInf => &RECINF,
+            Tool::RecFix => &RECFIX,
+            Tool::RecIns => &RECINS,
+            Tool::RecDel => &RECDEL,
+            Tool::RecSet => &RECSET,
+            Tool::Batch => &BATCH,
+            Tool::Undo => &UNDO,
+            Tool::Redo => &REDO,
+            Tool::Revert => &REVERT,
+            Tool::History => &HISTORY,
+            Tool::Show => &SHOW,
+            Tool::Forget => &FORGET,
         }
     }
 

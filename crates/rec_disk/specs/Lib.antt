@@ -6,6 +6,8 @@ pub mod Lasting
 pub mod Rights
 -- the folder in which a path stands
 pub mod Folders
+-- the paths of a file and its journal
+pub mod Paths
 -- a disk in memory
 pub mod Memory
 -- what serves proofs

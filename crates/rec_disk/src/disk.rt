@@ -49,7 +49,8 @@ pub trait Disk {
             (λ look. IsLookAt s (place path.now) look × (look.is_link ≡ is_some (link path.now))))) }
         ensures missing { IfErr result (λ error. error_kind error ≡ ErrorKind.NotFound
             → Told (story self.old) (λ s. (s.at (place path.now) ≡ None) × (link path.now ≡ None))) }
-        ensures excused { IsExcused (works self.old) (works self.new) result (λ error. error_kind error ≡ ErrorKind.NotFound) };
+        ensures excused { IsExcused (works self.old) (works self.new) result
+            (λ error. error_kind error ≡ ErrorKind.NotFound) };
 
     /// What stands where the links at a path lead.
     fn status_after_links(&mut self, path: &str) -> io::Result<Self::Status>
@@ -58,7 +59,8 @@ pub trait Disk {
             (leads path.now)))) }
         ensures missing { IfErr result (λ error. error_kind error ≡ ErrorKind.NotFound
             → Told (story self.old) (λ s. s.at (leads path.now) ≡ None)) }
-        ensures excused { IsExcused (works self.old) (works self.new) result (λ error. error_kind error ≡ ErrorKind.NotFound) };
+        ensures excused { IsExcused (works self.old) (works self.new) result
+            (λ error. error_kind error ≡ ErrorKind.NotFound) };
 
     fn status_of(&mut self, file: &Self::File) -> io::Result<Self::Status>
         ensures same { story self.new ≡ story self.old }
@@ -103,14 +105,16 @@ pub trait Disk {
         ensures opened { IfOk result (λ file. Told (story self.old) (λ s. s.at (leads path.now) ≡ Some (number file))) }
         ensures missing { IfErr result (λ error. error_kind error ≡ ErrorKind.NotFound
             → Told (story self.old) (λ s. s.at (leads path.now) ≡ None)) }
-        ensures excused { IsExcused (works self.old) (works self.new) result (λ error. error_kind error ≡ ErrorKind.NotFound) };
+        ensures excused { IsExcused (works self.old) (works self.new) result
+            (λ error. error_kind error ≡ ErrorKind.NotFound) };
 
     /// Opens it to read and to write it.
     fn open_to_write(&mut self, path: &str) -> io::Result<Self::File>
         ensures same { story self.new ≡ story self.old }
         ensures opened { IfOk result (λ file. Told (story self.old) (λ s. s.at (leads path.now) ≡ Some
             (number file))) }
-        ensures excused { IsExcused (works self.old) (works self.new) result (λ error. Told (story self.old) (λ s. s.at (leads path.now) ≡ None)) };
+        ensures excused { IsExcused (works self.old) (works self.new) result
+            (λ error. Told (story self.old) (λ s. s.at (leads path.now) ≡ None)) };
 
     /// Locks a file, unless another program has it locked.
     fn lock(&mut self, file: &Self::File) -> io::Result<bool>
@@ -128,7 +132,8 @@ pub trait Disk {
     /// Makes an empty file, which its maker alone may read and write, at a path where nothing stands.
     fn make(&mut self, path: &str) -> io::Result<Self::File>
         ensures goes { Goes (story self.old) (story self.new) result (IsMake number (place path.now) result) }
-        ensures excused { IsExcused (works self.old) (works self.new) result (λ error. Told (story self.old) (λ s. IsSome (s.at (place path.now)))) };
+        ensures excused { IsExcused (works self.old) (works self.new) result
+            (λ error. Told (story self.old) (λ s. IsSome (s.at (place path.now)))) };
 
     /// Gives a file the owner, the group and the mode of another one, as far as the system lets it.
     fn give_rights(&mut self, file: &Self::File, old: &Self::Status) -> io::Result<()>
@@ -158,11 +163,13 @@ pub trait Disk {
 
     fn rename(&mut self, from: &str, to: &str) -> io::Result<()>
         ensures goes { Goes (story self.old) (story self.new) result (IsRename (place from.now) (place to.now) result) }
-        ensures excused { IsExcused (works self.old) (works self.new) result (λ error. Told (story self.old) (λ s. s.at (place from.now) ≡ None)) };
+        ensures excused { IsExcused (works self.old) (works self.new) result
+            (λ error. Told (story self.old) (λ s. s.at (place from.now) ≡ None)) };
 
     fn remove(&mut self, path: &str) -> io::Result<()>
         ensures goes { Goes (story self.old) (story self.new) result (IsRemove (place path.now) result) }
-        ensures excused { IsExcused (works self.old) (works self.new) result (λ error. Told (story self.old) (λ s. s.at (place path.now) ≡ None)) };
+        ensures excused { IsExcused (works self.old) (works self.new) result
+            (λ error. Told (story self.old) (λ s. s.at (place path.now) ≡ None)) };
 
     /// After it, a crash leaves what stands in the folder of a path. Some folders can't be synced.
     fn sync_folder(&mut self, path: &str) -> io::Result<bool>
@@ -185,5 +192,6 @@ pub trait Disk {
         ensures excused { IsExcused (works self.old) (works self.new) result (λ error. ⊥) };
 
     /// A path leads where its link leads, or where no link stands, to its own place.
-    ghost led: { (path : List ℕ) → MatchOption (link path) (leads path ≡ place path) (λ next. leads path ≡ leads next) };
+    ghost led: { (path : List ℕ) → MatchOption (link path) (leads path ≡ place path)
+        (λ next. leads path ≡ leads next) };
 }

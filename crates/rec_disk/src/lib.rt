@@ -1,4 +1,5 @@
-//! A disk, by the calls that are made of it: the disk of the system, a few lines a call onto std, and one in memory.
+//! A disk, by the calls that are made of it: the disk of the system, a few lines a call onto std, and one in memory; and the
+//! paths of a file and its journal.
 //! `specs/` defines what each call does, and what a stop of the program or a crash of the machine may leave.
 #![tactic(auto)]
 
@@ -7,6 +8,7 @@ mod folders;
 mod host;
 mod log;
 mod memory;
+mod paths;
 mod rights;
 
 pub use disk::Disk;
@@ -14,3 +16,4 @@ pub use folders::folder_of;
 pub use host::HostDisk;
 pub use log::Step;
 pub use memory::{Failing, MemoryDisk, MemoryFile, MemoryStatus};
+pub use paths::{are_apart, beside, journal_path};

@@ -13,7 +13,7 @@ use Rattle.rec_journal.specs.History.{IsRegular}
 use Rattle.rec_tools.specs.Requests.{Asked}
 use Rattle.rec_tools.specs.Attempts.{Answer}
 use Rattle.rec_tools.specs.Machine.{State as Machine, IsOldOrNext, Stands}
-use Rattle.rec_files.specs.Paths.{working_name}
+use Rattle.rec_disk.specs.Paths.{working_name}
 use Rattle.rec_files.specs.Leftovers.{BeginsAsJournal, IsLeftJournal, IsLeftText, IsStopBetween}
 
 -- the places to which the paths of the two lead
@@ -110,10 +110,10 @@ CanSyncAll folder syncs crash sites = crash ≡ true
     → ((folder sites.new_file ≡ folder sites.file) × (folder sites.new_journal ≡ folder sites.journal))
     × ((syncs (folder sites.file) ≡ true) × (syncs (folder sites.journal) ≡ true))
 
--- Stop a put at any moment, or crash the machine: what is left under the working names can be told to be left over, so that
--- the next put isn't refused for it.
-abbrev pub Recovers : (List ℕ → List ℕ) → (List ℕ → Bool) → Sites → List ℕ → Option (List ℕ) → Option Story → Option Story
-    → Type 0
+-- Stop a put at any moment, or crash the machine: what is left under the working names can be told to be left over, so
+-- that the next put isn't refused for it.
+abbrev pub Recovers : (List ℕ → List ℕ) → (List ℕ → Bool) → Sites → List ℕ → Option (List ℕ) → Option Story
+    → Option Story → Type 0
 Recovers folder syncs sites journal file old new = (crash : Bool) → CanSyncAll folder syncs crash sites
     → BeginsAsJournal journal → Told old (IsNext sites journal file) → Told old (AreTold crash folder sites)
     → AtAnyMoment old new (λ s u. AreTold crash folder sites u)
@@ -176,8 +176,9 @@ IsWhole (put_all writes) = Unit {0}
 IsWhole _ = ⊥
 
 -- At any moment of a call a stop or a crash leaves what it might have left before, or the first of its writes made, and
--- after a whole one all of them; a read changes nothing, a put of the journal alone doesn't touch the file, no call touches
--- what is somebody else's, and whatever a stop or a crash leaves under the working names can be told to be left over.
+-- after a whole one all of them; a read changes nothing, a put of the journal alone doesn't touch the file, no call
+-- touches what is somebody else's, and whatever a stop or a crash leaves under the working names can be told
+-- to be left over.
 pub record IsCallAt (place folder : List ℕ → List ℕ) (syncs : List ℕ → Bool) (p : Places) (old : Option Story)
     (call : Call) (new : Option Story) : Type 0 where
   pub any_moment : SecurePut folder syncs p (writes_of call) old new
@@ -187,8 +188,8 @@ pub record IsCallAt (place folder : List ℕ → List ℕ) (syncs : List ℕ →
   pub touches : TouchesOwn place p old new
   pub recovers : RecoversAt place folder syncs p (writes_of call) old new
 
--- The home's paths stay; the file is read only where it stands; a call tells what stands there, and leaves what its writes
--- say; and it is one at their places. Of standard input nothing is said.
+-- The home's paths stay; the file is read only where it stands; a call tells what stands there, and leaves what its
+-- writes say; and it is one at their places. Of standard input nothing is said.
 pub record IsHomeCall (place folder : List ℕ → List ℕ) (syncs : List ℕ → Bool) (places now : Option Places)
     (old : Option Story) (call : Call) (new : Option Story) (failures since : ℕ) : Type 0 where
   pub same : now ≡ places
@@ -223,10 +224,10 @@ LastingRequest folder syncs p old new = (new ≡ old) ⊎ ((crash : Bool) (c : C
 
 -- From contents with a regular journal: the request changes nothing; or at any moment of it, whatever a stop or a crash
 -- leaves in order under the working names, by some paths of the two, can be told to be left over, if it could before.
-abbrev pub RecoversRequest : (List ℕ → List ℕ) → (List ℕ → List ℕ) → (List ℕ → Bool) → Places → Option Story → Option Story
-    → Type 0
-RecoversRequest place folder syncs p old new = (c : Contents) → Told old (IsRead p c) → IsRegular c.journal → (new ≡ old)
-    ⊎ ((file journal : List ℕ) × Told old (λ s. (place file ≡ p.file) × (place journal ≡ p.journal))
+abbrev pub RecoversRequest : (List ℕ → List ℕ) → (List ℕ → List ℕ) → (List ℕ → Bool) → Places → Option Story
+    → Option Story → Type 0
+RecoversRequest place folder syncs p old new = (c : Contents) → Told old (IsRead p c) → IsRegular c.journal
+    → (new ≡ old) ⊎ ((file journal : List ℕ) × Told old (λ s. (place file ≡ p.file) × (place journal ≡ p.journal))
     × ((crash : Bool) → CanSyncAll folder syncs crash (sites_of place file journal)
     → Told old (AreTold crash folder (sites_of place file journal))
     → AtAnyMoment old new (λ s u. AreTold crash folder (sites_of place file journal) u)))

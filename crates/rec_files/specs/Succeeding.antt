@@ -1,5 +1,5 @@
--- What a call of the home needs, so that on a disk that works it fails for memory alone; and what becomes of a home by a
--- call.
+-- What a call of the home needs, so that on a disk that works it fails for memory alone;
+-- and what becomes of a home by a call.
 use Rattle.std.specs.Prelude.{◌≡◌, ◌≢◌, ◌⊎◌, ◌≤◌, ℕ, Bool, true, false, List, [], length, Option, Some, None}
 use Rattle.std.specs.Prelude.{IfSome, IsSome, IsSomeAnd, option_map, string_bytes}
 use Rattle.std.specs.List.{AllByRecursion}
@@ -17,7 +17,8 @@ use Rattle.rec_files.specs.declared.failure.Failure.{Failure}
 use Rattle.rec_files.specs.declared.target.Target.{Target}
 use Rattle.rec_files.specs.declared.both.Both.{Both}
 use Rattle.rec_files.specs.declared.files.DiskHome.{DiskHome}
-use Rattle.rec_files.specs.Paths.{path_of, working_name, end_of}
+use Rattle.rec_disk.specs.Paths.{working_name}
+use Rattle.rec_files.specs.Paths.{path_of, end_of}
 use Rattle.rec_files.specs.OnDisk.{Sites, sites_of, AreLeft, IsHomeCall, places_by}
 
 -- the disk tells its story, and this holds of its state
@@ -48,8 +49,8 @@ FailedForMemory failure = IsForMemory failure.cause
 
 -- ---- the two, as they were read
 
--- what is known of one of them: its path as it was given, and after links, and of what was read there its number and the look
--- at it
+-- what is known of one of them: its path as it was given, and after links, and of what was read there
+-- its number and the look at it
 pub record Known : Type 0 where
   pub given : List ℕ
   pub path : List ℕ
@@ -149,7 +150,8 @@ pub record CanClear (place leads : List ℕ → List ℕ) (regular : ℕ → Boo
       IsOther place leads regular (working_name file.path) file journal n
       × (IsSome (s.at (place (working_name journal.path))) ⊎ CanCompare place file journal n s))
 
--- and both are as they were seen, after fewer than 40 links in a row at each of the given paths, and the file is a regular one
+-- and both are as they were seen, after fewer than 40 links in a row at each of the given paths,
+-- and the file is a regular one
 pub record CanPrepare (place leads : List ℕ → List ℕ) (link : List ℕ → Option (List ℕ)) (regular : ℕ → Bool)
     (given_file given_journal : List ℕ) (file journal : Known) (s : State) : Type 0 where
   pub unchanged : AreUnchanged place leads regular file journal s
@@ -177,12 +179,12 @@ other_for Base seen = None
 other_for Journal seen = seen
 
 -- What a request reads of the two, by its paths, and by what the disk said of the file when that was read: a regular
--- file that is not too long, and a journal may be missing. Where the request only looks, the journal is not the file that
--- stands there. Where it may write, fewer than 40 links in a row stand at the path, no other program has locked what is there,
--- and the journal is not the file that was read.
+-- file that is not too long, and a journal may be missing. Where the request only looks, the journal is not the file
+-- that stands there. Where it may write, fewer than 40 links in a row stand at the path, no other program has locked
+-- what is there, and the journal is not the file that was read.
 pub record IsReadable (leads : List ℕ → List ℕ) (link : List ℕ → Option (List ℕ)) (regular : ℕ → Bool)
-    (access : Access) (file : Option (List ℕ)) (journal : List ℕ) (seen : Option (Option Look)) (which : Which) (s : State)
-    : Type 0 where
+    (access : Access) (file : Option (List ℕ)) (journal : List ℕ) (seen : Option (Option Look)) (which : Which)
+    (s : State) : Type 0 where
   pub given : which ≡ Base → IsSome file
   pub there : IsThere which (path_of file journal which) (λ n. IsShort s n × (regular n ≡ true))
       (s.at (leads (path_of file journal which)))
@@ -216,17 +218,18 @@ pub record CanPut (place leads : List ℕ → List ℕ) (link : List ℕ → Opt
       CanPrepare place leads link regular (path_of kept.file kept.journal Base) kept.journal file journal s))
 
 -- what a call that failed needed was there
-abbrev pub HadAll : (List ℕ → List ℕ) → (List ℕ → List ℕ) → (List ℕ → Option (List ℕ)) → (ℕ → Bool) → Kept → Call → State
-    → Type 0
+abbrev pub HadAll : (List ℕ → List ℕ) → (List ℕ → List ℕ) → (List ℕ → Option (List ℕ)) → (ℕ → Bool) → Kept → Call
+    → State → Type 0
 HadAll place leads link regular kept (unread which) s =
-    IsReadable leads link regular kept.access kept.file kept.journal (option_and_then (λ known. known.look) kept.old_file) which s
+    IsReadable leads link regular kept.access kept.file kept.journal
+    (option_and_then (λ known. known.look) kept.old_file) which s
 HadAll place leads link regular kept (put_some writes k) s = CanPut place leads link regular kept writes s
 HadAll place leads link regular kept _ s = ⊥
 
--- A disk that works does so after the call too. And if the call failed though all was there that it needed, it failed for
--- memory, as the home noted last.
-pub record IsExcused (place leads : List ℕ → List ℕ) (link : List ℕ → Option (List ℕ)) (regular : ℕ → Bool) (kept : Kept)
-    (works still : Type 0) (failure : Option Failure) (story : Option Story) (call : Call) : Type 0 where
+-- A disk that works does so after the call too. And if the call failed though all was there that it needed, it failed
+-- for memory, as the home noted last.
+pub record IsExcused (place leads : List ℕ → List ℕ) (link : List ℕ → Option (List ℕ)) (regular : ℕ → Bool)
+    (kept : Kept) (works still : Type 0) (failure : Option Failure) (story : Option Story) (call : Call) : Type 0 where
   pub works_still : works → still
   pub for_memory : works → IsTold story (HadAll place leads link regular kept call) → IsSomeAnd failure FailedForMemory
 
@@ -258,8 +261,8 @@ ReplacesNoted leads kept old (put_all writes) new = Told old (AreAsNoted leads k
 ReplacesNoted leads kept old (put_some writes k) new = (new ≡ old) ⊎ Told old (AreAsNoted leads kept)
 ReplacesNoted leads kept old _ new = Unit {0}
 
--- what a home may do stays; one that may write reads nothing that another program has locked, and notes what it reads; and
--- nothing is replaced but what is noted
+-- what a home may do stays; one that may write reads nothing that another program has locked, and notes what it reads;
+-- and nothing is replaced but what is noted
 pub record IsCareful (leads : List ℕ → List ℕ) (regular : ℕ → Bool) (kept now : Kept) (old : Option Story) (call : Call)
     (new : Option Story) : Type 0 where
   pub access : now.access ≡ kept.access
@@ -272,8 +275,8 @@ abbrev pub HomeGoes : {R D F S : Type 0} → (List ℕ → List ℕ) → (List �
     → (D → Type 0) → DiskHome R D F S → Call → DiskHome R D F S → Type 0
 HomeGoes place leads link folder syncs regular number tells story works old call new =
     IsHomeCall place folder syncs (places_by leads (option_map string_bytes old.file) (string_bytes old.journal))
-    (places_by leads (option_map string_bytes new.file) (string_bytes new.journal)) (story old.disk) call (story new.disk)
-    old.failed new.failed
+    (places_by leads (option_map string_bytes new.file) (string_bytes new.journal))
+    (story old.disk) call (story new.disk) old.failed new.failed
     × (IsExcused place leads link regular (kept number tells old) (works old.disk) (works new.disk) new.failure
     (story old.disk) call
     × IsCareful leads regular (kept number tells old) (kept number tells new) (story old.disk) call (story new.disk))

@@ -1,5 +1,4 @@
-//! The home of files: a file and its journal on a disk, with the paths under which they stand, and the text of a batch; and
-//! standard output.
+//! The home of files: a file and its journal on a disk, and the text of a batch; and standard output.
 //! `docs/journal.md` says how they are replaced, and `specs/` defines their paths, and what a stop of the program or a crash of the machine leaves of them.
 #![tactic(auto)]
 
@@ -13,7 +12,6 @@ mod links;
 mod names;
 mod open_file;
 mod output;
-mod paths;
 mod reading;
 mod replacing;
 mod running;
@@ -24,5 +22,4 @@ pub use access::{Access, access_of};
 pub use batch::batch_text;
 pub use files::DiskHome;
 pub use output::{StandardOutput, explain_output, room_for};
-pub use paths::{are_apart, journal_path};
 pub use running::{run, run_through};

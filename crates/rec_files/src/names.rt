@@ -1,8 +1,8 @@
 //! The path of a file, and the name under which it is written.
 ghost use Rattle.std.specs.Prelude.{◌≡◌, IfOk, string_bytes};
-ghost use Rattle.rec_files.specs.Paths.{working_name};
+ghost use Rattle.rec_disk.specs.Paths.{working_name};
 
-use crate::paths::beside;
+use rec_disk::beside;
 use std::alloc::{AllocError, Global};
 use std::marker::Model;
 
@@ -15,7 +15,7 @@ pub struct Names {
 
 impl Model for Names {
     ghost use Rattle.std.specs.Prelude.{◌≡◌, ℕ, List, string_bytes};
-    ghost use Rattle.rec_files.specs.Paths.{working_name};
+    ghost use Rattle.rec_disk.specs.Paths.{working_name};
 
     ghost Value = { List ℕ };
 

@@ -75,7 +75,8 @@ pub fn lock<D: Disk>(disk: &mut D, path: &str, other: Option<&D::Status>) -> io:
     ensures free { IfOk result (λ opened. Told (D.story disk.old) (λ s. s.held (D.number opened.file) ≡ false)) }
     ensures succeeds { Succeeds IsMemory (D.works disk.old) (D.works disk.new) (IsTold (D.story disk.old)
         (λ s. (D.leads path.now ≡ D.place path.now)
-        × IsSomeAnd (s.at (D.leads path.now)) (IsUnlocked (option_map (λ other. D.tells other.now) other.entry) s))) result }
+        × IsSomeAnd (s.at (D.leads path.now))
+        (IsUnlocked (option_map (λ other. D.tells other.now) other.entry) s))) result }
 {
     for _ in 0..TRIES {
         if let Some(file) = try_to_lock(disk, path, other)? {
@@ -101,7 +102,8 @@ fn try_to_lock<D: Disk>(
     ensures first { IfOk result (λ tried. Told (D.story disk.old)
         (λ s. (D.leads path.now ≡ D.place path.now) → IsSome tried)) }
     ensures succeeds { Succeeds IsMemory (D.works disk.old) (D.works disk.new) (IsTold (D.story disk.old)
-        (λ s. IsSomeAnd (s.at (D.leads path.now)) (IsUnlocked (option_map (λ other. D.tells other.now) other.entry) s))) result }
+        (λ s. IsSomeAnd (s.at (D.leads path.now))
+        (IsUnlocked (option_map (λ other. D.tells other.now) other.entry) s))) result }
 {
     let file = open_to_lock(disk, path)?;
     if is_that(disk, &file, other)? {
@@ -149,8 +151,8 @@ pub fn leads_to<D: Disk>(disk: &mut D, name: &str, file: &D::File) -> io::Result
     ensures same { D.story disk.new ≡ D.story disk.old }
     ensures leads { IfOk result (λ leads. Told (D.story disk.old)
         (λ s. IsTrue leads ↔ (s.at (D.place name.now) ≡ Some (D.number file.now)))) }
-    ensures succeeds { Succeeds IsMemory (D.works disk.old) (D.works disk.new) (IsTold (D.story disk.old) (λ s. Unit {0}))
-        result }
+    ensures succeeds { Succeeds IsMemory (D.works disk.old) (D.works disk.new)
+        (IsTold (D.story disk.old) (λ s. Unit {0})) result }
 {
     let own = disk.status_of(file)?;
     match if_there(disk.status(name))? {

@@ -1,7 +1,7 @@
 //! The paths of the file and of its journal.
 ghost use Rattle.std.specs.Prelude.{◌≡◌, IfOk, codes, string_bytes, option_map};
 ghost use Rattle.clap.specs.Words.{first_of, found_of, rows_of};
-ghost use Rattle.rec_files.specs.Paths.{AreApart};
+ghost use Rattle.rec_disk.specs.Paths.{AreApart};
 ghost use Rattle.rec_command.specs.Refusals.{IsOrRefuses};
 ghost use Rattle.rec_command.specs.Words.{file_given, IsJournal};
 
@@ -9,7 +9,7 @@ use super::Order;
 use super::found::{file, given};
 use super::refusal::Refusal;
 use clap::ArgMatches;
-use rec_files::{are_apart, journal_path};
+use rec_disk::{are_apart, journal_path};
 use rec_tools::Request;
 use std::alloc::{AllocError, Global};
 

@@ -13,7 +13,8 @@ use Rattle.rec_tools.specs.Home.{Contents, Write, Call, got, lacked, unread, rea
 use Rattle.rec_tools.specs.declared.home.Which.{Which}
 use Rattle.rec_tools.specs.declared.home.Which.TheVariants.{Base}
 use Rattle.rec_files.specs.Paths.{path_of}
-use Rattle.rec_files.specs.OnDisk.{Places, Shows, Holds, AreAsBefore, IsRead, IsSecure, CanSync, SecurePut, LastingPut, TouchesOwn, RecoversAt, IsCallAt, IsHomeCall, IsReadOf, IsWhole, contents_at, contents_on, places_by, writes_of}
+use Rattle.rec_files.specs.OnDisk.{Places, Shows, Holds, AreAsBefore, IsRead, IsSecure, CanSync, SecurePut, LastingPut, TouchesOwn, RecoversAt}
+use Rattle.rec_files.specs.OnDisk.{IsCallAt, IsHomeCall, IsReadOf, IsWhole, contents_at, contents_on, places_by, writes_of}
 use Rattle.rec_files.specs.proving.Replacing.{IsPutForGood, LastAs, led}
 use Rattle.rec_files.proofs.lemmas.Holding.{last_holds, between_written, before_shows, holds_contents, leaves_now}
 use Rattle.rec_files.proofs.lemmas.Replacing.{Until, moments_so}
@@ -34,10 +35,11 @@ module _ (folder : List ℕ → List ℕ) (syncs : List ℕ → Bool) (p : Place
 pub lasting_put : (folder : List ℕ → List ℕ) (syncs : List ℕ → Bool) (p : Places) (journal : List ℕ) (file : Option (List ℕ)) (o n : Option Story)
     → IsPutForGood folder syncs p journal file o n → LastingPut folder syncs p (writes_by journal file) o n
 lasting_put folder syncs p journal None o n persists crash c can read =
-    told_so (LastAs crash p c.file journal) (Holds crash p (written c (writes_by journal None))) n (λ s last. last_holds crash p (written c (writes_by journal None)) s last) (persists crash c can read)
+    told_so (LastAs crash p c.file journal) (Holds crash p (written c (writes_by journal None))) n
+    (λ s last. last_holds crash p (written c (writes_by journal None)) s last) (persists crash c can read)
 lasting_put folder syncs p journal (Some file) o n persists crash c can read =
-    told_so (LastAs crash p file journal) (Holds crash p (written c (writes_by journal (Some file)))) n (λ s last. last_holds crash p (written c (writes_by journal (Some file))) s last)
-    (persists crash c can read)
+    told_so (LastAs crash p file journal) (Holds crash p (written c (writes_by journal (Some file)))) n
+    (λ s last. last_holds crash p (written c (writes_by journal (Some file))) s last) (persists crash c can read)
 
 -- where nothing is changed
 pub secure_still : (folder : List ℕ → List ℕ) (syncs : List ℕ → Bool) (p : Places) (writes : List Write) (o n : Option Story) → n ≡ o → SecurePut folder syncs p writes o n
@@ -190,7 +192,8 @@ module _ (place folder : List ℕ → List ℕ) (syncs : List ℕ → Bool) (lea
   led_is f of_file of_journal = ap (λ q. led leads q journal_path) of_file ∙ ap (λ q. led leads f q) of_journal
 
   module _ (o n : Option Story) (old new : ℕ) (secure : SecurePut folder syncs (led leads file_path journal_path) writes o n)
-      (alone : file_bytes ≡ None → AtAnyMoment o n (Spares (leads file_path))) (touches : TouchesOwn place (led leads file_path journal_path) o n) (recovers : RecoversAt place folder syncs (led leads file_path journal_path) writes o n) where
+      (alone : file_bytes ≡ None → AtAnyMoment o n (Spares (leads file_path))) (touches : TouchesOwn place (led leads file_path journal_path) o n)
+      (recovers : RecoversAt place folder syncs (led leads file_path journal_path) writes o n) where
     -- the file is spared then
     alone_at : (f : List ℕ) → file_path ≡ f → length writes ≤ 1 → AtAnyMoment o n (Spares (leads f))
     alone_at f is one = subst (λ f. AtAnyMoment o n (Spares (leads f))) is (alone (no_file bytes file_bytes one))
@@ -209,7 +212,14 @@ module _ (place folder : List ℕ → List ℕ) (syncs : List ℕ → Bool) (lea
           there = λ _ read. absurd (some_writes bytes file_bytes (ap writes_of read));
           counts = counts;
           follows = all_put folder syncs (led leads f journal) writes o n (contents_on (Some (led leads f journal)) o) refl secure_at lasting_at;
-          calls = record { any_moment = secure_at; lasts = λ whole. lasting_at; still = λ none. absurd (some_writes bytes file_bytes none); alone = alone_at f paths.0; touches = touches_at; recovers = recovers_at };
+          calls = record {
+            any_moment = secure_at;
+            lasts = λ whole. lasting_at;
+            still = λ none. absurd (some_writes bytes file_bytes none);
+            alone = alone_at f paths.0;
+            touches = touches_at;
+            recovers = recovers_at;
+          };
         }
 
     pub put_failed : (file : Option (List ℕ)) → ArePaths file → ((k : ℕ) → CountsFailure old (put_some writes k) new)
@@ -228,7 +238,14 @@ module _ (place folder : List ℕ → List ℕ) (syncs : List ℕ → Bool) (lea
             there = λ _ read. absurd (some_writes bytes file_bytes (ap writes_of read));
             counts = counts some.0;
             follows = some.2;
-            calls = record { any_moment = secure_at; lasts = λ never. absurd never; still = λ none. absurd (some_writes bytes file_bytes none); alone = alone_at f paths.0; touches = touches_at; recovers = recovers_at };
+            calls = record {
+              any_moment = secure_at;
+              lasts = λ never. absurd never;
+              still = λ none. absurd (some_writes bytes file_bytes none);
+              alone = alone_at f paths.0;
+              touches = touches_at;
+              recovers = recovers_at;
+            };
           },
         )
 

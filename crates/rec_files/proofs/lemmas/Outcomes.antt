@@ -1,5 +1,6 @@
 -- What a request puts can be told to be left over, where a stop comes within the put.
-use Rattle.std.proofs.Common.{◌≡◌, ◌⊎◌, inl, inr, ℕ, ◌+◌, ◌<◌, ◌≤◌, ◌==◌, ◌&&◌, Bool, false, if◌then◌else◌, List, [], ◌++◌, length, Option, Some, None, Ok, refl, sym, ap, subst, ◌∙◌, arith, length-append, IfSome}
+use Rattle.std.proofs.Common.{◌≡◌, ◌⊎◌, inl, inr, refl, sym, ap, subst, ◌∙◌, arith, ℕ, ◌+◌, ◌<◌, ◌≤◌, ◌==◌, ◌&&◌, Bool, false, if◌then◌else◌}
+use Rattle.std.proofs.Common.{List, [], ◌++◌, length, length-append, Option, Some, None, IfSome, Ok}
 use Rattle.std.specs.Prelude.{codes, nat_le}
 use Rattle.std.proofs.lemmas.Bool.{ne_eqb, cases_eq, cases_Bool}
 use Rattle.std.proofs.lemmas.List.{take_all}

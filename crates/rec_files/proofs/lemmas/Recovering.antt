@@ -1,5 +1,6 @@
 -- At any moment of a put what a stop or a crash leaves under the working names is told to be left over.
-use Rattle.std.proofs.Common.{◌≡◌, ◌≢◌, ◌∙◌, inl, inr, ℕ, ◌≤◌, Bool, true, false, List, ◌∷◌, ◌++◌, length, take, Option, Some, None, Result, Ok, Err, refl, sym, ap, subst, arith, take_all, IfSome, IsSomeAnd}
+use Rattle.std.proofs.Common.{◌≡◌, ◌≢◌, ◌∙◌, inl, inr, refl, sym, ap, subst, arith, ℕ, ◌≤◌, Bool, true, false}
+use Rattle.std.proofs.Common.{List, ◌∷◌, ◌++◌, length, take, take_all, Option, Some, None, IfSome, IsSomeAnd, Result, Ok, Err}
 use Rattle.std.specs.Prelude.{IsSome, OnOk, option_map}
 use Rattle.std.proofs.lemmas.Bool.{false≢true}
 use Rattle.std.specs.Result.{is_ok}
@@ -19,7 +20,9 @@ use Rattle.rec_files.specs.proving.Succeeding.{AreFree}
 use Rattle.rec_files.proofs.lemmas.Steps.{longer_than, told_next}
 use Rattle.rec_files.proofs.lemmas.Replacing.{both_moments, weaker_moments}
 use Rattle.rec_files.proofs.lemmas.Moments.{synced_itself, synced_then, since-synced, since-syncing, in_synced, in_still, alone_spared, alone_making, alone_written}
-use Rattle.rec_files.proofs.lemmas.Telling.{alone_placing, alone_beside, alone_tell, beside_tell, beside_making, beside_journal_written, beside_file_written, tell_removing_file, tell_removing_journal, tell_since, tell_placing_journal, tell_placing_file, own_spared, own_unmoved, own_placing_file, own_making, own_none, own_now, stands_now, IsReady, told_tell, tell_all}
+use Rattle.rec_files.proofs.lemmas.Telling.{alone_placing, alone_beside, alone_tell, beside_tell, beside_making, beside_journal_written, beside_file_written}
+use Rattle.rec_files.proofs.lemmas.Telling.{tell_removing_file, tell_removing_journal, tell_since, tell_placing_journal, tell_placing_file, told_tell, tell_all}
+use Rattle.rec_files.proofs.lemmas.Telling.{own_spared, own_unmoved, own_placing_file, own_making, own_none, own_now, stands_now, IsReady}
 
 -- ---- single calls
 
@@ -375,7 +378,8 @@ module _ (crash : Bool) (folder : List ℕ → List ℕ) (sites : Sites) where
     tell_placed_journal journal file m o n apart ready placing =
         moments_from (IsPlacing folder sites.new_journal sites.journal) (λ s. AreApart sites × IsReady crash folder sites journal file m s) Tell o n
         (λ s u was step. tell_placing_journal crash folder sites (λ c. (can c).0) journal file m s u was.0 was.1 step)
-        (told_both (λ s. AreApart sites) (IsReady crash folder sites journal file m) (λ s. AreApart sites × IsReady crash folder sites journal file m s) o (λ s one other. (one, other)) apart ready) placing
+        (told_both (λ s. AreApart sites) (IsReady crash folder sites journal file m) (λ s. AreApart sites × IsReady crash folder sites journal file m s) o
+        (λ s one other. (one, other)) apart ready) placing
 
     pub tell_placed_file : (o n : Option Story) → Apart sites o → Told o Tell → AtAnyMoment o n (IsPlacing folder sites.new_file sites.file) → AtAnyMoment o n TellThen
     tell_placed_file o n apart tell placing =

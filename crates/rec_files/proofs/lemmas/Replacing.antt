@@ -13,7 +13,8 @@ use Rattle.rec_disk.proofs.lemmas.Calls.{spares_still, spares_on}
 use Rattle.rec_tools.specs.Home.{Contents}
 use Rattle.rec_files.specs.OnDisk.{Places, Sites, sites_of, AreLeft, CanSync, IsRead, SparesStrangers, or_empty, with_file}
 use Rattle.rec_files.specs.Succeeding.{AreApart, IsAsSeen}
-use Rattle.rec_files.specs.proving.Replacing.{IsPlacing, IsPlaced, HasFile, HasJournal, Either, Lasts, LastAs, Between, AreResolved, Moments, Persists, led, own_of, AreSpared, AreSettled, IsPutForGood, AreAsSeen, BothWait, IsPut, IsReplacing, MayBegin, OnlyWhere, SparesBut, SparesButNew}
+use Rattle.rec_files.specs.proving.Replacing.{IsPlacing, IsPlaced, HasFile, HasJournal, Either, Lasts, LastAs, Between, AreResolved, Moments, Persists, led, own_of}
+use Rattle.rec_files.specs.proving.Replacing.{AreSpared, AreSettled, IsPutForGood, AreAsSeen, BothWait, IsPut, IsReplacing, MayBegin, OnlyWhere, SparesBut, SparesButNew}
 use Rattle.rec_files.proofs.lemmas.Placing.{spares-placing, lasts_still, journal_placing, journal_placed, file_waits, file_placing, file_placed}
 use Rattle.rec_files.proofs.lemmas.Steps.{longer_than, some_none}
 use Rattle.rec_files.proofs.lemmas.Holding.{read_there}

@@ -1,5 +1,6 @@
 -- A request on a disk: its calls, and what is left at any moment of them.
-use Rattle.std.proofs.Common.{◌≡◌, ◌⊎◌, inl, inr, ℕ, ◌≤◌, Bool, false, List, [], ◌∷◌, ◌++◌, length, take, Option, Some, None, Ok, Err, refl, sym, ◌∙◌, ap, subst, IfSome, IsSomeAnd, arith, zero, suc, length-append, append-nil, replicate}
+use Rattle.std.proofs.Common.{◌≡◌, ◌⊎◌, inl, inr, refl, sym, ◌∙◌, ap, subst, arith, ℕ, zero, suc, ◌≤◌, Bool, false}
+use Rattle.std.proofs.Common.{List, [], ◌∷◌, ◌++◌, length, take, length-append, append-nil, replicate, Option, Some, None, IfSome, IsSomeAnd, Ok, Err}
 use Rattle.rec_disk.specs.Disk.{State, Story, Told, AtAnyMoment}
 use Rattle.rec_disk.specs.Lasting.{Left, shown}
 use Rattle.rec_disk.proofs.lemmas.Moments.{told_so, told_both}
@@ -17,7 +18,9 @@ use Rattle.rec_tools.specs.Through.{move_through, moves_through}
 use Rattle.rec_journal.specs.declared.patch.Direction.{Direction}
 use Rattle.rec_tools.specs.Machine.{State as Machine, IsOldOrNext, Stands}
 use Rattle.rec_tools.specs.Guarantee.{StopsAreSteps}
-use Rattle.rec_files.specs.OnDisk.{Places, Shows, Holds, IsRead, IsSecure, CanSync, TouchesOwn, IsCallAt, IsHomeCall, IsWhole, writes_of, contents_on, StandsThen, SecureRequest, LastingRequest, Sites, sites_of, AreTold, CanSyncAll, IsNext, Recovers, RecoversBy, RecoversAt, RecoversRequest, IsRequestAt, AreRequestsAt, or_empty}
+use Rattle.rec_files.specs.OnDisk.{Places, Shows, Holds, IsRead, IsSecure, CanSync, TouchesOwn, IsCallAt, IsHomeCall, IsWhole, writes_of, contents_on, or_empty}
+use Rattle.rec_files.specs.OnDisk.{StandsThen, SecureRequest, LastingRequest, Sites, sites_of, AreTold, CanSyncAll, IsNext}
+use Rattle.rec_files.specs.OnDisk.{Recovers, RecoversBy, RecoversAt, RecoversRequest, IsRequestAt, AreRequestsAt}
 use Rattle.rec_files.specs.Leftovers.{IsStopBetween}
 use Rattle.rec_files.proofs.lemmas.Outcomes.{Puts, puts_left}
 use Rattle.rec_files.proofs.lemmas.Holding.{read_there}
@@ -205,7 +208,8 @@ module _ {H : Type 0} (place folder : List ℕ → List ℕ) (syncs : List ℕ �
 
 -- ---- what is put can be told to be left over
 
-recovers_puts : (folder : List ℕ → List ℕ) (syncs : List ℕ → Bool) (sites : Sites) (journal : List ℕ) (file : Option (List ℕ)) (o n : Option Story) → RecoversBy folder syncs sites (writes_by journal file) o n → Recovers folder syncs sites journal file o n
+recovers_puts : (folder : List ℕ → List ℕ) (syncs : List ℕ → Bool) (sites : Sites) (journal : List ℕ) (file : Option (List ℕ)) (o n : Option Story)
+    → RecoversBy folder syncs sites (writes_by journal file) o n → Recovers folder syncs sites journal file o n
 recovers_puts folder syncs sites journal None o n is = is
 recovers_puts folder syncs sites journal (Some bytes) o n is = is
 
@@ -229,7 +233,8 @@ is_next place p c path_file path_journal journal None s read at between = tt
 is_next place p c path_file path_journal journal (Some f) s read at between =
     next_there s.bytes (s.at (place path_file)) c.file f journal (ap (λ q. shown s.bytes (s.at q)) at ∙ (read_there p c s read).0) between
 
-puts_recover : (place folder : List ℕ → List ℕ) (syncs : List ℕ → Bool) (p : Places) (c : Contents) (writes : List Write) (o n : Option Story) → Told o (IsRead p c) → Puts c writes → RecoversAt place folder syncs p writes o n
+puts_recover : (place folder : List ℕ → List ℕ) (syncs : List ℕ → Bool) (p : Places) (c : Contents) (writes : List Write) (o n : Option Story)
+    → Told o (IsRead p c) → Puts c writes → RecoversAt place folder syncs p writes o n
     → (n ≡ o) ⊎ ((file journal : List ℕ) × Told o (λ s. (place file ≡ p.file) × (place journal ≡ p.journal))
     × ((crash : Bool) → CanSyncAll folder syncs crash (sites_of place file journal) → Told o (AreTold crash folder (sites_of place file journal))
     → AtAnyMoment o n (λ s u. AreTold crash folder (sites_of place file journal) u)))
@@ -294,8 +299,8 @@ module _ (laws : StopsAreSteps) (request : Request) (answer : Answer) (printed :
         | inr some ↦ inr (then_left calls known left some)
       ]
 
-module _ {H : Type 0} (place folder : List ℕ → List ℕ) (syncs : List ℕ → Bool) (at : H → Option Places) (story : H → Option Story) (fails : H → ℕ) (more : H → Call → H → Type 0) (laws : StopsAreSteps) (request : Request)
-    (answer : Answer)
+module _ {H : Type 0} (place folder : List ℕ → List ℕ) (syncs : List ℕ → Bool) (at : H → Option Places) (story : H → Option Story) (fails : H → ℕ)
+    (more : H → Call → H → Type 0) (laws : StopsAreSteps) (request : Request) (answer : Answer)
     (calls : List Call) (printed : Printed) (o n : H) (done : Attempts (Goes place folder syncs at story fails more) o n (asked_of request) answer calls printed) where
   does_some : Writes done.1.0 (asked_of request) answer printed calls
   does_some = does_writes done.1.0 (asked_of request) answer printed calls (done.2 done.1.0 done.1.1)
@@ -342,7 +347,8 @@ module _ {H : Type 0} (place folder : List ℕ → List ℕ) (syncs : List ℕ �
   request_touches = touches_at (at o) refl
 
   recovers_by_outcome : (p : Places) → at o ≡ Some p → (c : Contents) → (known : Writes c (asked_of request) answer printed calls) → Told (story o) (IsRead p c) → IsRegular c.journal
-      → (known.writes ≡ []) ⊎ ((outcome : Outcome) × IsRequestOutcome c (asked_of request) (Ok outcome) × (known.writes ≡ outcome.writes)) → RecoversAt place folder syncs p known.writes (story o) (story n)
+      → (known.writes ≡ []) ⊎ ((outcome : Outcome) × IsRequestOutcome c (asked_of request) (Ok outcome) × (known.writes ≡ outcome.writes))
+      → RecoversAt place folder syncs p known.writes (story o) (story n)
       → (story n ≡ story o) ⊎ ((file journal : List ℕ) × Told (story o) (λ s. (place file ≡ p.file) × (place journal ≡ p.journal))
       × ((crash : Bool) → CanSyncAll folder syncs crash (sites_of place file journal) → Told (story o) (AreTold crash folder (sites_of place file journal))
       → AtAnyMoment (story o) (story n) (λ s u. AreTold crash folder (sites_of place file journal) u)))

@@ -1,5 +1,6 @@
 -- What several calls leave, one after another.
-use Rattle.std.proofs.Common.{◌≡◌, ◌≢◌, inl, inr, ℕ, ◌≤◌, ◌+◌, Bool, true, false, List, [], ◌∷◌, ◌++◌, length, take, Option, Some, None, Result, Ok, Err, refl, sym, ◌∙◌, ap, subst, arith, OnOk, length-take, length-append, take_all, IsSomeAnd, IfOk}
+use Rattle.std.proofs.Common.{◌≡◌, ◌≢◌, inl, inr, refl, sym, ◌∙◌, ap, subst, arith, ℕ, ◌≤◌, ◌+◌, Bool, true, false}
+use Rattle.std.proofs.Common.{List, [], ◌∷◌, ◌++◌, length, take, length-take, length-append, take_all, Option, Some, None, IsSomeAnd, Result, Ok, Err, OnOk, IfOk}
 use Rattle.std.proofs.lemmas.Bool.{false≢true}
 use Rattle.rec_disk.specs.Disk.{State, Story, next, Goes, Told, Ends, AtAnyMoment, Look, SaysOf, IsLookAt, renamed, folder_synced}
 use Rattle.rec_disk.specs.Lasting.{Spares}

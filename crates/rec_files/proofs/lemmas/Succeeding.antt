@@ -1,5 +1,6 @@
 -- What succeeds on a disk that works.
-use Rattle.std.proofs.Common.{◌≡◌, ◌≢◌, ◌⊎◌, ◌∙◌, inl, inr, ap, sym, subst, arith, ℕ, ◌+◌, ◌<◌, ◌≤◌, Bool, true, false, List, [], ◌∷◌, length, take, length-take, Option, Some, None, Result, OnOk, IfSome, IsSomeAnd, refl}
+use Rattle.std.proofs.Common.{◌≡◌, ◌≢◌, ◌⊎◌, ◌∙◌, inl, inr, refl, ap, sym, subst, arith, ℕ, ◌+◌, ◌<◌, ◌≤◌, Bool, true, false}
+use Rattle.std.proofs.Common.{List, [], ◌∷◌, length, take, length-take, Option, Some, None, IfSome, IsSomeAnd, Result, OnOk}
 use Rattle.std.specs.Prelude.{◌↔◌, IsTrue, IsSome, is_some, option_map, string_bytes, Ok, Err, IfOk, MatchOption}
 use Rattle.std.specs.List.{AllByRecursion}
 use Rattle.std.specs.Option.{option_and_then}
@@ -14,7 +15,8 @@ use Rattle.rec_tools.specs.Home.{Call, read_call, writes_by}
 use Rattle.rec_files.specs.declared.failure.Failure.{Failure}
 use Rattle.rec_files.specs.declared.open_file.OpenFile.{OpenFile}
 use Rattle.rec_files.specs.declared.target.Target.{Target}
-use Rattle.rec_files.specs.Succeeding.{FailedForMemory, Kept, CanPut, IsExcused, HasSeen, AreApart, IsTold, Known, SawAnother, SawRegular, IsOther, IsShort, CanCompare, CanClear, AreUnchanged, CanPrepare, StandsAsSeen, IsThere, IsReadable, known}
+use Rattle.rec_files.specs.Succeeding.{FailedForMemory, Kept, IsExcused, IsTold, Known, known, HasSeen, SawAnother, SawRegular, StandsAsSeen, AreUnchanged, AreApart, IsOther, IsShort}
+use Rattle.rec_files.specs.Succeeding.{CanPut, CanCompare, CanClear, CanPrepare, IsThere, IsReadable}
 use Rattle.rec_tools.specs.declared.home.Which.{Which}
 use Rattle.rec_tools.specs.declared.home.Which.TheVariants.{Base, Journal}
 use Rattle.rec_files.specs.declared.access.Access.{Access}
@@ -22,7 +24,8 @@ use Rattle.rec_files.specs.declared.access.Access.TheVariants.{Look as Looks}
 use Rattle.rec_files.specs.proving.Replacing.{SparesBut, SparesButNew, IsFreeAt, IsFound, IsMadeAt, AreMade}
 use Rattle.rec_files.specs.proving.Succeeding.{CanRead, AreFree, CanSettle, MayWrite, CanReplace, CanPlace, CanPlaceJournal, IsOwnJournal, IsNoted}
 use Rattle.rec_files.specs.Leftovers.{IsLeftJournal, IsLeftText}
-use Rattle.rec_files.specs.Paths.{path_of, working_name, end_of}
+use Rattle.rec_disk.specs.Paths.{working_name}
+use Rattle.rec_files.specs.Paths.{path_of, end_of}
 use Rattle.rec_files.specs.OnDisk.{Sites, sites_of}
 use Rattle.rec_files.proofs.lemmas.Steps.{on_ok, on_ok_so, some_so}
 use Rattle.rec_files.proofs.lemmas.Links.{led_to}
@@ -165,7 +168,8 @@ module _ (place leads : List ℕ → List ℕ) (regular : ℕ → Bool) (file jo
       if_both (s.at Four.new_journal) (λ n. (s.held n ≡ false) × IsLeftJournal (s.bytes n)) OtherJournal (λ n. (s.held n ≡ false) × IsLeftJournal (s.bytes n) × OtherJournal n)
       (λ n left other. (left.0, left.1, other)) clear.left.journal clear.new_journal
 
-  one_left : (s : State) (n : ℕ) (beside : Bool) → (IsSome (s.at Four.new_journal) → IsTrue beside) → IsSome (s.at Four.new_journal) ⊎ IsLeftText s.bytes (s.at (place file.path)) n (s.at (place journal.path))
+  one_left : (s : State) (n : ℕ) (beside : Bool) → (IsSome (s.at Four.new_journal) → IsTrue beside)
+      → IsSome (s.at Four.new_journal) ⊎ IsLeftText s.bytes (s.at (place file.path)) n (s.at (place journal.path))
       → IsSome (s.at Four.new_journal) ⊎ CanCompare place file journal n s → IsTrue beside ⊎ Compared s n
   one_left s n beside told (inl there) other = inl (told there)
   one_left s n beside told (inr left) (inl there) = inl (told there)
@@ -275,7 +279,8 @@ told_fact P (Some a) told = told
 pub saw_regular : (place leads : List ℕ → List ℕ) (link : List ℕ → Option (List ℕ)) (regular : ℕ → Bool) (given_file given_journal : List ℕ) (file journal : Known) (o : Option Story)
     → IsTold o (CanPrepare place leads link regular given_file given_journal file journal) → SawRegular regular file.look
 saw_regular place leads link regular given_file given_journal file journal o given =
-    told_fact (SawRegular regular file.look) o (still_so (CanPrepare place leads link regular given_file given_journal file journal) (λ s. SawRegular regular file.look) o (λ s can. can.is_regular) given)
+    told_fact (SawRegular regular file.look) o
+    (still_so (CanPrepare place leads link regular given_file given_journal file journal) (λ s. SawRegular regular file.look) o (λ s can. can.is_regular) given)
 
 pub with_unit : (P : State → Type 0) (o : Option Story) → IsTold o P → IsTold o (λ s. Unit {0} × P s)
 with_unit P o told = still_so P (λ s. Unit {0} × P s) o (λ s is. (tt, is)) told
@@ -309,7 +314,8 @@ module _ (place leads : List ℕ → List ℕ) (file journal : Known) where
   Replaces s = CanReplace place leads file journal s
 
   pub may_write : (link : List ℕ → Option (List ℕ)) (led : (path : List ℕ) → MatchOption (link path) (leads path ≡ place path) (λ next. leads path ≡ leads next)) (regular : ℕ → Bool)
-      (given_file given_journal : List ℕ) (L : Type 0) (o : Option Story) → IsTold o (λ s. L × CanPrepare place leads link regular given_file given_journal file journal s) → IsTold o (MayWrite place leads regular file)
+      (given_file given_journal : List ℕ) (L : Type 0) (o : Option Story)
+      → IsTold o (λ s. L × CanPrepare place leads link regular given_file given_journal file journal s) → IsTold o (MayWrite place leads regular file)
   may_write link led regular given_file given_journal L o given =
       still_so (λ s. L × CanPrepare place leads link regular given_file given_journal file journal s) (MayWrite place leads regular file) o
       (λ s can. record {
@@ -420,7 +426,8 @@ module _ (place leads : List ℕ → List ℕ) (file journal : Known) where
         → IsTold b (λ s. (s.at Sites4.new_journal ≡ Some new) × StandsAsSeen place leads journal s)
     journal_alone unmoved spares =
         told_pair (λ s. s.at Sites4.new_journal ≡ Some new) (StandsAsSeen place leads journal) b
-        (told_after IsUnmoved (CanPlaceJournal place leads file journal new) (λ s. s.at Sites4.new_journal ≡ Some new) o b (λ s t was moved. unmoved_at Sites4.new_journal s t moved ∙ was.made.at) given unmoved)
+        (told_after IsUnmoved (CanPlaceJournal place leads file journal new) (λ s. s.at Sites4.new_journal ≡ Some new) o b
+        (λ s t was moved. unmoved_at Sites4.new_journal s t moved ∙ was.made.at) given unmoved)
         (told_after (Spares (place journal.path)) (CanPlaceJournal place leads file journal new) (StandsAsSeen place leads journal) o b
         (λ s t was same. stands_still place leads journal s t same was.journal_stands) given spares)
 
@@ -439,7 +446,8 @@ none_too_long m k bytes o p long same read given =
 
 -- what was locked there stands as it was seen
 pub is_noted : {X : Type 0} (number : X → ℕ) (tells : X → Option Look) (place leads : List ℕ → List ℕ) (link : List ℕ → Option (List ℕ)) (path given names last : List ℕ) (old : Option X) (s : State)
-    → given ≡ path → names ≡ last → end_of link 40 path ≡ Some last → leads path ≡ place last → s.at (leads path) ≡ option_map number old → IfSome old (λ x. IsSomeAnd (tells x) (IsLookFor s (number x)))
+    → given ≡ path → names ≡ last → end_of link 40 path ≡ Some last → leads path ≡ place last → s.at (leads path) ≡ option_map number old
+    → IfSome old (λ x. IsSomeAnd (tells x) (IsLookFor s (number x)))
     → IsNoted place leads link path (record { given = given; path = names; number = option_map number old; look = option_map tells old }) s
 is_noted number tells place leads link path given names last old s of_path is_last ends led at seen =
     let here : s.at (place names) ≡ option_map number old = ap s.at (ap place is_last ∙ sym led) ∙ at in
@@ -557,8 +565,8 @@ all_short : (journal : List ℕ) (file : Option (List ℕ)) → AllByRecursion (
 all_short journal None all = (all.0, tt)
 all_short journal (Some bytes) all = (all.0, all.1.0)
 
-module _ {X : Type 0} (knows : X → Known) (place leads : List ℕ → List ℕ) (link : List ℕ → Option (List ℕ)) (regular : ℕ → Bool) (access : Access) (file_path : Option (List ℕ)) (journal_path : List ℕ) (x y : Option X)
-    (journal : List ℕ) (file : Option (List ℕ)) where
+module _ {X : Type 0} (knows : X → Known) (place leads : List ℕ → List ℕ) (link : List ℕ → Option (List ℕ)) (regular : ℕ → Bool)
+    (access : Access) (file_path : Option (List ℕ)) (journal_path : List ℕ) (x y : Option X) (journal : List ℕ) (file : Option (List ℕ)) where
   abbrev home_kept : Kept
   home_kept = record { access = access; file = file_path; journal = journal_path; old_file = option_map knows x; old_journal = option_map knows y }
 

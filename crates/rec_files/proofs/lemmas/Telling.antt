@@ -11,8 +11,10 @@ use Rattle.rec_files.specs.Leftovers.{BeginsAsJournal, IsLeftJournal, IsLeftText
 use Rattle.rec_files.specs.OnDisk.{Sites, AreLeft, AreTold}
 use Rattle.rec_files.specs.Succeeding.{AreApart}
 use Rattle.rec_files.specs.proving.Replacing.{BothWait, IsPlacing}
-use Rattle.rec_files.specs.proving.Recovering.{IsMaking, IsRemoving, IsWriting, IsSyncedSince, IsSyncedIn, IsOwn, IsOwnNow, Standing, MayStandSo, IsGone, JournalStands, IsFine, HasLeftJournal, IsAlone, IsBeside, CanTell, NextLasts}
-use Rattle.rec_files.proofs.lemmas.Moments.{bytes_on, eq_or, held_on, hold_so, if_some, journal_removed, journal_since, journal_spared, journal_written, kept_safe, may_changed, may_moment, may_since, may_unmoved, none_there, on, same_or, since-folder_synced}
+use Rattle.rec_files.specs.proving.Recovering.{IsMaking, IsRemoving, IsWriting, IsSyncedSince, IsSyncedIn, IsOwn, IsOwnNow, Standing, MayStandSo}
+use Rattle.rec_files.specs.proving.Recovering.{IsGone, JournalStands, IsFine, HasLeftJournal, IsAlone, IsBeside, CanTell, NextLasts}
+use Rattle.rec_files.proofs.lemmas.Moments.{bytes_on, eq_or, held_on, hold_so, if_some, journal_removed, journal_since, journal_spared, journal_written, kept_safe}
+use Rattle.rec_files.proofs.lemmas.Moments.{may_changed, may_moment, may_since, may_unmoved, none_there, on, same_or, since-folder_synced}
 use Rattle.rec_files.proofs.lemmas.Standing.{may_file, may_new_file, may_new_journal, only_now, so_file, so_journal, so_since, so_unmoved, with_file, with_journal}
 
 -- ---- what is told
@@ -369,7 +371,8 @@ module _ (crash : Bool) (folder : List ℕ → List ℕ) (sites : Sites) where
         let j = leaves.at (folder sites.journal) in
         let stands : (p d : List ℕ) → (crash ≡ true → folder p ≡ d) → left.at p ≡ (leaves.at d).0 p = λ p d in_folder. elim (crash_or crash) [
           | inl crashes ↦ (leaves.at d).2 p (in_folder crashes)
-          | inr stops ↦ (leaves.at (folder p)).2 p refl ∙ on (leaves.at (folder p)).0 (leaves.at d).0 p (are_one s (leaves.at (folder p)).0 (leaves.at d).0 stops (leaves.at (folder p)).1 (leaves.at d).1)
+          | inr stops ↦ (leaves.at (folder p)).2 p refl
+              ∙ on (leaves.at (folder p)).0 (leaves.at d).0 p (are_one s (leaves.at (folder p)).0 (leaves.at d).0 stops (leaves.at (folder p)).1 (leaves.at d).1)
         ] in
         record {
           f = f.0;

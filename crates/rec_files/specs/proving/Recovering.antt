@@ -1,5 +1,6 @@
 -- What a stop or a crash leaves under the working names, at any moment.
-use Rattle.std.specs.Prelude.{◌≡◌, ◌≢◌, ◌⊎◌, ℕ, Bool, true, false, List, take, Option, Some, None, IfSome, IsSomeAnd, IsSome}
+use Rattle.std.specs.Prelude.{◌≡◌, ◌≢◌, ◌⊎◌, ℕ, Bool, true, false, List, take}
+use Rattle.std.specs.Prelude.{Option, Some, None, IfSome, IsSomeAnd, IsSome}
 use Rattle.rec_disk.specs.Disk.{State, IsFresh, made, removed}
 use Rattle.rec_disk.specs.Lasting.{IsMoment, MayHold, MayStand}
 use Rattle.rec_disk.specs.proving.Places.{Outlasts}
@@ -16,8 +17,8 @@ IsMaking w s u = (u ≡ s) ⊎ ((n : ℕ) × IsFresh s n × (u ≡ made s w n))
 abbrev pub IsRemoving : List ℕ → State → State → Type 0
 IsRemoving w s u = (u ≡ s) ⊎ (u ≡ removed s w)
 
--- nothing came to a place or was locked, no other file was written, and this one holds what it held, or the first of the
--- bytes
+-- nothing came to a place or was locked, no other file was written, and this one holds what it held,
+-- or the first of the bytes
 pub record IsWriting (n : ℕ) (bytes : List ℕ) (s u : State) : Type 0 where
   pub at : u.at ≡ s.at
   pub olds : u.olds ≡ s.olds
@@ -26,7 +27,8 @@ pub record IsWriting (n : ℕ) (bytes : List ℕ) (s u : State) : Type 0 where
       ⊎ ((k : ℕ) × (u.bytes n ≡ take k bytes))
   pub others : (m : ℕ) → m ≢ n → (u.bytes m ≡ s.bytes m) × (s.safe m ≡ true → u.safe m ≡ true)
 
--- files and folders were synced, and nothing else was done: a crash leaves in each folder what it might have left before
+-- files and folders were synced, and nothing else was done:
+-- a crash leaves in each folder what it might have left before
 pub record IsSyncedSince (folder : List ℕ → List ℕ) (s u : State) : Type 0 where
   pub at : u.at ≡ s.at
   pub held : u.held ≡ s.held
@@ -57,7 +59,8 @@ pub record Standing : Type 0 where
   pub new_journal : Option ℕ
 
 -- each two of them stand as they stood together at one moment; in one folder all four do
-pub record MayStandSo (crash : Bool) (folder : List ℕ → List ℕ) (sites : Sites) (s : State) (v : Standing) : Type 0 where
+pub record MayStandSo (crash : Bool) (folder : List ℕ → List ℕ) (sites : Sites) (s : State) (v : Standing)
+    : Type 0 where
   pub f : List ℕ → Option ℕ
   pub j : List ℕ → Option ℕ
   pub f_is : IsMoment crash s f

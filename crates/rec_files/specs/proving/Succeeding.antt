@@ -1,13 +1,15 @@
 -- What the steps of a read and of a put need, to succeed on a disk that works.
-use Rattle.std.specs.Prelude.{◌≡◌, ◌≢◌, ◌≤◌, ℕ, Bool, true, List, length, Option, Some, None, Result, IfErr, IfSome, IsSome}
-use Rattle.std.specs.Prelude.{IsSomeAnd}
+use Rattle.std.specs.Prelude.{◌≡◌, ◌≢◌, ◌≤◌, ℕ, Bool, true, List, length, Option, Some, None}
+use Rattle.std.specs.Prelude.{IfSome, IsSome, IsSomeAnd, Result, IfErr}
 use Rattle.rec_disk.specs.Disk.{State, Look}
-use Rattle.rec_files.specs.Paths.{working_name, end_of}
+use Rattle.rec_disk.specs.Paths.{working_name}
+use Rattle.rec_files.specs.Paths.{end_of}
 use Rattle.rec_files.specs.OnDisk.{Sites, sites_of}
 use Rattle.rec_files.specs.Succeeding.{Known, SawRegular, HasSeen, StandsAsSeen, IsUnlocked, AreApart}
 use Rattle.rec_files.specs.proving.Replacing.{AreMade, IsMadeAt}
 
--- A disk that works, before and then after the call; where this is given, the call succeeds, or else it failed for memory.
+-- A disk that works, before and then after the call; where this is given, the call succeeds,
+-- or else it failed for memory.
 abbrev pub Succeeds : {X E : Type 0} → (E → Type 0) → Type 0 → Type 0 → Type 0 → Result X E → Type 0
 Succeeds IsMemory before after given result = before → after × (given → IfErr result IsMemory)
 

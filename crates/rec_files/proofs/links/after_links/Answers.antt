@@ -20,7 +20,8 @@ loop-preserved g c = record {
   same_story = c.in_ok-next.ensures.same ∙ c.loop.invariant.same_story;
   still_works = λ works. (c.in_ok-next.ensures.succeeds (c.loop.invariant.still_works works)).0;
   left = looked_on g.D.Disk.link 40 c.loop.counter (string_bytes c.loop.path) (end_of g.D.Disk.link 40 c.args.path.now) _ c.as_str.result.now (option_map string_bytes c.in_ok-next.field-0)
-      (Some (string_bytes c.in-Some.next)) _ c.loop-test.true c.as_str.ensures.value (ap (option_map string_bytes) c.in-Some.is) c.loop.invariant.same_story c.loop.invariant.left c.in_ok-next.ensures.next;
+      (Some (string_bytes c.in-Some.next)) _ c.loop-test.true c.as_str.ensures.value (ap (option_map string_bytes) c.in-Some.is)
+      c.loop.invariant.same_story c.loop.invariant.left c.in_ok-next.ensures.next;
 }
 
 pub returns-clause-succeeds : goal.returns-clause-succeeds

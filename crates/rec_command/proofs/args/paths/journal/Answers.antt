@@ -1,6 +1,6 @@
 use Rattle.std.proofs.Common.{false, string_bytes, option_map, rules, ◌≡◌, subst}
 use Rattle.std.specs.Prelude.{Some}
-use Rattle.rec_files.specs.Paths.{AreApart}
+use Rattle.rec_disk.specs.Paths.{AreApart}
 use Rattle.rec_command.specs.Words.{IsJournal}
 use Rattle.rec_command.proofs.OrderLemmas.{prints, apart-given, apart-edited}
 use Rattle.rec_command.proofs.RefusalLemmas.{refuses-passed}

@@ -14,7 +14,8 @@ returns-in-Ok-clause-call g c = (
   refl,
   (
     put_done g.D.Disk.place g.D.Disk.folder g.D.Disk.syncs g.D.Disk.leads c.args.journal.now (option_copied c.args.file) (string_bytes c.args.self.now.journal) c.path_in.result.now c.as_str.result.now
-        _ _ _ _ c.put.ensures.moments c.put.ensures.alone c.put.ensures.touches c.put.ensures.recovers (option_map string_bytes c.args.self.now.file) (c.path_in.ensures, c.as_str.ensures.value) c.in-Ok.ensures.lasts refl,
+        _ _ _ _ c.put.ensures.moments c.put.ensures.alone c.put.ensures.touches c.put.ensures.recovers
+        (option_map string_bytes c.args.self.now.file) (c.path_in.ensures, c.as_str.ensures.value) c.in-Ok.ensures.lasts refl,
     (
       record {
         works_still = λ works. (c.put.ensures.succeeds works).0;
@@ -24,7 +25,8 @@ returns-in-Ok-clause-call g c = (
         access = refl;
         reads = λ changes. tt;
         puts =
-            finds_noted (known g.D.Disk.number g.D.Disk.tells) g.D.Disk.leads c.args.self.now.access (string_bytes c.args.self.now.journal) (option_map string_bytes c.args.self.now.file) c.path_in.result.now
+            finds_noted (known g.D.Disk.number g.D.Disk.tells) g.D.Disk.leads c.args.self.now.access (string_bytes c.args.self.now.journal)
+            (option_map string_bytes c.args.self.now.file) c.path_in.result.now
             c.as_str.result.now c.path_in.ensures c.as_str.ensures.value c.args.self.now.both.file c.args.self.now.both.journal _ c.in-Ok.ensures.noticed;
       },
     ),
@@ -35,8 +37,8 @@ pub returns-in-Err-clause-call : goal.returns-in-Err-clause-call
 returns-in-Err-clause-call g c =
     noted_call g.D.Disk.place g.D.Disk.folder g.D.Disk.syncs (writes_by c.args.journal.now (option_copied c.args.file)) _ _ _ _ _ _ _ _
     (λ call.
-    IsExcused g.D.Disk.place g.D.Disk.leads g.D.Disk.link g.D.Disk.regular (kept g.D.Disk.number g.D.Disk.tells c.args.self.now) (g.D.Disk.works c.args.self.now.disk) (g.D.Disk.works c.fail.new.self.disk)
-    c.fail.new.self.failure (g.D.Disk.story c.args.self.now.disk) call
+    IsExcused g.D.Disk.place g.D.Disk.leads g.D.Disk.link g.D.Disk.regular (kept g.D.Disk.number g.D.Disk.tells c.args.self.now)
+    (g.D.Disk.works c.args.self.now.disk) (g.D.Disk.works c.fail.new.self.disk) c.fail.new.self.failure (g.D.Disk.story c.args.self.now.disk) call
     × IsCareful g.D.Disk.leads g.D.Disk.regular (kept g.D.Disk.number g.D.Disk.tells c.args.self.now) (kept g.D.Disk.number g.D.Disk.tells c.fail.new.self) (g.D.Disk.story c.args.self.now.disk) call
     (g.D.Disk.story c.fail.new.self.disk))
     (ap (λ file. places_by g.D.Disk.leads (option_map string_bytes file) (string_bytes c.fail.new.self.journal)) c.fail.ensures.paths.0
@@ -56,10 +58,11 @@ returns-in-Err-clause-call g c =
         access = c.fail.ensures.access;
         reads = λ changes. tt;
         puts =
-            only_noted (known g.D.Disk.number g.D.Disk.tells) g.D.Disk.leads c.args.self.now.access (string_bytes c.args.self.now.journal) (option_map string_bytes c.args.self.now.file) c.path_in.result.now
+            only_noted (known g.D.Disk.number g.D.Disk.tells) g.D.Disk.leads c.args.self.now.access (string_bytes c.args.self.now.journal)
+            (option_map string_bytes c.args.self.now.file) c.path_in.result.now
             c.as_str.result.now c.path_in.ensures c.as_str.ensures.value c.args.self.now.both.file c.args.self.now.both.journal _ _ _ c.fail.ensures.same c.put.ensures.unchanged;
       },
     ))
     (put_failed g.D.Disk.place g.D.Disk.folder g.D.Disk.syncs g.D.Disk.leads c.args.journal.now (option_copied c.args.file) (string_bytes c.args.self.now.journal) c.path_in.result.now
-    c.as_str.result.now _ _ _ _ c.put.ensures.moments c.put.ensures.alone c.put.ensures.touches c.put.ensures.recovers (option_map string_bytes c.args.self.now.file) (c.path_in.ensures, c.as_str.ensures.value)
-    (λ k. (c.fail.ensures.counted, c.fail.ensures.once)))
+    c.as_str.result.now _ _ _ _ c.put.ensures.moments c.put.ensures.alone c.put.ensures.touches c.put.ensures.recovers
+    (option_map string_bytes c.args.self.now.file) (c.path_in.ensures, c.as_str.ensures.value) (λ k. (c.fail.ensures.counted, c.fail.ensures.once)))

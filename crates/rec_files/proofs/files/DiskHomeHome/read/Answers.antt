@@ -28,7 +28,8 @@ returns-in-Ok-clause-call g c =
           access = c.bytes_of.ensures.access;
           reads = λ changes.
               subst (λ bytes.
-              NotesRead g.D.Disk.leads g.D.Disk.regular (kept g.D.Disk.number g.D.Disk.tells home) (kept g.D.Disk.number g.D.Disk.tells after) (g.D.Disk.story home.disk) (got c.args.which bytes)) (sym is)
+              NotesRead g.D.Disk.leads g.D.Disk.regular (kept g.D.Disk.number g.D.Disk.tells home) (kept g.D.Disk.number g.D.Disk.tells after)
+              (g.D.Disk.story home.disk) (got c.args.which bytes)) (sym is)
               (c.in-Ok.ensures.noted changes);
           puts = tt;
         },
@@ -40,7 +41,8 @@ returns-in-Err-clause-call g c =
     let home = c.args.self.now in
     let after = c.bytes_of.new.self in
     let file = option_map string_bytes home.file in (
-      read_lacked g.D.Disk.place g.D.Disk.folder g.D.Disk.leads g.D.Disk.syncs file (string_bytes home.journal) _ (g.D.Disk.story home.disk) (g.D.Disk.story after.disk) c.args.which home.failed after.failed
+      read_lacked g.D.Disk.place g.D.Disk.folder g.D.Disk.leads g.D.Disk.syncs file (string_bytes home.journal) _
+          (g.D.Disk.story home.disk) (g.D.Disk.story after.disk) c.args.which home.failed after.failed
           (ap (λ file. places_by g.D.Disk.leads (option_map string_bytes file) (string_bytes after.journal)) c.bytes_of.ensures.paths.0
           ∙ ap (λ journal. places_by g.D.Disk.leads file (string_bytes journal)) c.bytes_of.ensures.paths.1)
           c.bytes_of.ensures.same c.bytes_of.ensures.kept,
@@ -55,7 +57,8 @@ returns-in-Err-2-clause-call g c =
     let home = c.args.self.now in
     let after = c.fail.new.self in
     let file = option_map string_bytes home.file in (
-      read_unread g.D.Disk.place g.D.Disk.folder g.D.Disk.leads g.D.Disk.syncs file (string_bytes home.journal) _ (g.D.Disk.story home.disk) (g.D.Disk.story after.disk) c.args.which home.failed after.failed
+      read_unread g.D.Disk.place g.D.Disk.folder g.D.Disk.leads g.D.Disk.syncs file (string_bytes home.journal) _
+          (g.D.Disk.story home.disk) (g.D.Disk.story after.disk) c.args.which home.failed after.failed
           (ap (λ file. places_by g.D.Disk.leads (option_map string_bytes file) (string_bytes after.journal)) (c.fail.ensures.paths.0 ∙ c.bytes_of.ensures.paths.0)
           ∙ ap (λ journal. places_by g.D.Disk.leads file (string_bytes journal)) (c.fail.ensures.paths.1 ∙ c.bytes_of.ensures.paths.1))
           (c.fail.ensures.same ∙ c.bytes_of.ensures.same) c.fail.result c.fail.ensures.fault
@@ -67,7 +70,7 @@ returns-in-Err-2-clause-call g c =
             ((c.in-Err.ensures.succeeds works).1
             (subst (λ seen. IsTold (g.D.Disk.story home.disk) (IsReadable g.D.Disk.leads g.D.Disk.link g.D.Disk.regular home.access file (string_bytes home.journal) seen c.args.which))
             (seen_file (known g.D.Disk.number g.D.Disk.tells) home.both.file) readable))),
-        fault_careful g.D.Disk.leads g.D.Disk.regular (kept g.D.Disk.number g.D.Disk.tells home) (kept g.D.Disk.number g.D.Disk.tells after) (g.D.Disk.story home.disk) (g.D.Disk.story after.disk) c.args.which
-            c.fail.result c.fail.ensures.fault (c.fail.ensures.access ∙ c.bytes_of.ensures.access),
+        fault_careful g.D.Disk.leads g.D.Disk.regular (kept g.D.Disk.number g.D.Disk.tells home) (kept g.D.Disk.number g.D.Disk.tells after)
+            (g.D.Disk.story home.disk) (g.D.Disk.story after.disk) c.args.which c.fail.result c.fail.ensures.fault (c.fail.ensures.access ∙ c.bytes_of.ensures.access),
       ),
     )

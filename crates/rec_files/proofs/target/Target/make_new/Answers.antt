@@ -1,6 +1,6 @@
 use Rattle.std.proofs.Common.{◌≡◌, ◌∙◌, Some, ap, sym, subst, arith}
 use Rattle.rec_disk.specs.Disk.{Told, AtAnyMoment}
-use Rattle.rec_files.specs.Paths.{working_name}
+use Rattle.rec_disk.specs.Paths.{working_name}
 use Rattle.rec_files.specs.proving.Replacing.{IsMadeAt}
 use Rattle.rec_files.proofs.lemmas.Steps.{made_told}
 use Rattle.rec_files.specs.proving.Recovering.{IsMaking, IsOwn}

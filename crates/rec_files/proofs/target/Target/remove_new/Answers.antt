@@ -1,7 +1,7 @@
 use Rattle.std.proofs.Common.{◌≡◌, ◌≢◌, ◌∙◌, None, subst, sym}
 use Rattle.rec_disk.specs.Disk.{Told, AtAnyMoment}
 use Rattle.rec_disk.proofs.lemmas.Calls.{spares_still, spares_on, remove_spares}
-use Rattle.rec_files.specs.Paths.{working_name}
+use Rattle.rec_disk.specs.Paths.{working_name}
 use Rattle.rec_files.specs.proving.Recovering.{IsRemoving}
 use Rattle.rec_files.proofs.lemmas.Recovering.{remove_removing, remove_gone_if, removing_after}
 use Rattle.rec_files.proofs.target.Target.remove_new.Goals as goal

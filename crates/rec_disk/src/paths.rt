@@ -1,6 +1,6 @@
 //! The paths of a file and its journal, and the names under which they are written.
 ghost use Rattle.std.specs.Prelude.{◌≡◌, true, false, IfOk, string_bytes, option_map};
-ghost use Rattle.rec_files.specs.Paths.{AreApart, journal_of, working_name};
+ghost use Rattle.rec_disk.specs.Paths.{AreApart, journal_of, working_name};
 
 use std::alloc::{AllocError, Global};
 

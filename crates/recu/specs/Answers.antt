@@ -1,4 +1,5 @@
--- The answer to a command line: of which request it is, on which home, what becomes of what is printed, and which disk is left.
+-- The answer to a command line: of which request it is, on which home, what becomes of what is printed,
+-- and which disk is left.
 use Rattle.std.specs.Prelude.{◌≡◌, ◌≢◌, ◌⊎◌, ◌↔◌, ℕ, Bool, List, [], Option, Some, None, Result, Ok, Err, IfSome}
 use Rattle.std.specs.Prelude.{MatchOption, MatchResult, option_map, unwrap_or, string_bytes}
 use Rattle.std.specs.Io.Buffered.{writer_buffer, writer_contents}
@@ -32,8 +33,8 @@ use Rattle.rec_command.specs.Words.{IsBatchOf}
 
 -- ---- the request and the home
 
--- The request of an order: that which it gives whole, or a batch with the text at its path, where the disk tells what stands
--- there; or that text can't be read, or there is no memory for it.
+-- The request of an order: that which it gives whole, or a batch with the text at its path, where the disk tells what
+-- stands there; or that text can't be read, or there is no memory for it.
 abbrev pub IsRequestOf : (List ℕ → List ℕ) → Option Story → Order → Result Request Fault → Type 0
 IsRequestOf leads story (Whole own) found = found ≡ Ok own
 IsRequestOf leads story (BatchAt path force preview) (Ok request) = (text : List ℕ)
@@ -63,7 +64,8 @@ BeforeClosing {R} {D} {F} {S} P closed = (home : DiskHome R D F S) × P home × 
 
 -- ---- what is printed
 
--- standard output: the bytes that it took, where they are known, those of them that it still holds, and how often it failed
+-- standard output: the bytes that it took, where they are known, those of them that it still holds,
+-- and how often it failed
 pub record Out : Type 0 where
   pub taken : Option (List ℕ)
   pub held : List ℕ
@@ -85,8 +87,8 @@ abbrev pub unprinted : Answer → Answer
 unprinted (Ok reply) = Err StoreFailed
 unprinted (Err fault) = Err fault
 
--- An answer once what was printed is let out, by the count of failures before that: it stays where nothing is held any more
--- and nothing failed; else the reply was not printed.
+-- An answer once what was printed is let out, by the count of failures before that: it stays where nothing is held any
+-- more and nothing failed; else the reply was not printed.
 abbrev pub IsLetOut : Answer → ℕ → Out → Answer → Type 0
 IsLetOut told failed out answer = ((answer ≡ told) × (out.held ≡ []) × (out.failed ≡ failed))
     ⊎ ((answer ≡ unprinted told) × HasRisen failed out.failed)
@@ -99,8 +101,8 @@ through_of (Undo (Some number)) = Some (Backward, number)
 through_of (Redo (Some number)) = Some (Forward, number)
 through_of request = None
 
--- An answer to moves as far as the edit of a number: that of the last one; but where it isn't refused and not by that edit,
--- another program came in between, and the answer is 23.
+-- An answer to moves as far as the edit of a number: that of the last one; but where it isn't refused and not by that
+-- edit, another program came in between, and the answer is 23.
 abbrev pub IsMovedTo : ℕ → Through → Answer → Type 0
 IsMovedTo number told (Ok reply) = (told.answer ≡ Ok reply) × (told.last ≡ Some number)
 IsMovedTo number told (Err fault) = (told.answer ≡ Err fault)
@@ -142,16 +144,17 @@ module _ {R D F S : Type 0} (place leads folder : List ℕ → List ℕ) (syncs 
     Answers request answer = MatchOption (through_of request) (AnswersOnce request answer)
         (λ way. AnswersThrough way.0 way.1 answer)
 
-  -- On a home, which is closed then, a request is answered so, and is printed by a writer that took these bytes before, by
-  -- standard output, which is so then; or there was no memory for it, and nothing was done.
+  -- On a home, which is closed then, a request is answered so, and is printed by a writer that took these bytes before,
+  -- by standard output, which is so then; or there was no memory for it, and nothing was done.
   abbrev pub AnswersOn : DiskHome R D F S → DiskHome R D F S → Option (List ℕ) → Option Out → Request → Answer → Type 0
   AnswersOn old closed taken out request answer = BeforeClosing (λ home. MatchOption out
-      ((answer ≡ Err OutOfMemory) × (home ≡ old)) (λ after. Answers old home (new_out taken) after request answer)) closed
+      ((answer ≡ Err OutOfMemory) × (home ≡ old))
+      (λ after. Answers old home (new_out taken) after request answer)) closed
 
   -- ---- the command line
 
-  -- The request of a line is answered so on a home of its files, on a disk that tells what the first does and works where
-  -- that does, and the home's disk is the last one.
+  -- The request of a line is answered so on a home of its files, on a disk that tells what the first does and works
+  -- where that does, and the home's disk is the last one.
   pub record IsCarriedOut (first last : D) (taken : Option (List ℕ)) (out : Option Out) (line : CommandLine)
       (request : Request) (answer : Answer) : Type 0 where
     pub disk : D
@@ -163,16 +166,16 @@ module _ {R D F S : Type 0} (place leads folder : List ℕ → List ℕ) (syncs 
     pub answered : AnswersOn home closed taken out request answer
     pub last_is : last ≡ closed.disk
 
-  -- A line is answered so, from the first disk to the last, by a writer that took these bytes before, with standard output so
-  -- then: its request is, or there is none, and nothing is changed or printed.
+  -- A line is answered so, from the first disk to the last, by a writer that took these bytes before, with standard
+  -- output so then: its request is, or there is none, and nothing is changed or printed.
   abbrev pub IsDone : D → D → Option (List ℕ) → Option Out → CommandLine → Answer → Type 0
   IsDone first last taken out line answer = (found : Result Request Fault)
       × IsRequestOf leads (story first) line.order found
       × MatchResult found (λ request. IsCarriedOut first last taken out line request answer)
       (λ fault. (answer ≡ Err fault) × (story last ≡ story first) × (out ≡ None))
 
--- The answer to words that are refused: that they are; but to those that ask for help there is no reply, unless it can't be
--- printed.
+-- The answer to words that are refused: that they are; but to those that ask for help there is no reply, unless it
+-- can't be printed.
 abbrev pub IsAnswerToRefused : Refusal → Result (Option Reply) Fault → Type 0
 IsAnswerToRefused refusal (Ok None) = AsksForHelp refusal
 IsAnswerToRefused refusal (Ok (Some reply)) = ⊥

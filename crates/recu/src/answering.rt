@@ -43,8 +43,8 @@ fn answer_to<D: Disk + Drop, W: Write + Drop>(
     request: &Request,
 ) -> Result<Reply, Fault>
     ensures answers { BeforeClosing (λ done. Answers D.place D.leads D.folder D.syncs D.story D.works
-        ⟦<DiskHome<'static, HostRuntime, D> as Home>⟧.goes home.old done (out_of W.contents out.old) (out_of W.contents out.new)
-        request.now result) home.new }
+        ⟦<DiskHome<'static, HostRuntime, D> as Home>⟧.goes home.old done
+        (out_of W.contents out.old) (out_of W.contents out.new) request.now result) home.new }
 {
     match through_of(request) {
         Some((direction, number)) => move_through(rt, home, out, direction, number),
@@ -107,8 +107,8 @@ fn move_through<D: Disk + Drop, W: Write + Drop>(
     number: usize,
 ) -> Result<Reply, Fault>
     ensures answers { BeforeClosing (λ done. AnswersThrough D.place D.leads D.folder D.syncs D.story D.works
-        ⟦<DiskHome<'static, HostRuntime, D> as Home>⟧.goes home.old done (out_of W.contents out.old) (out_of W.contents out.new)
-        direction number result) home.new }
+        ⟦<DiskHome<'static, HostRuntime, D> as Home>⟧.goes home.old done
+        (out_of W.contents out.old) (out_of W.contents out.new) direction number result) home.new }
 {
     let through = run_through(rt.alloc(), home, out, direction, number);
     home.close();

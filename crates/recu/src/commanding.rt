@@ -28,7 +28,8 @@ pub fn status<D: Disk + Drop, W: Write + Drop, S: Sink>(
     ensures status { (answer : Result (Option ReplyOf) FaultOf)
         × IsAnswerTo (IsDone D.place D.leads D.folder D.syncs D.story D.works
         ⟦<DiskHome<'static, HostRuntime, D> as Home>⟧.goes disk result.1 (W.contents out)
-        (option_map (out_of W.contents) result.2)) ((result.1 ≡ disk) × (result.2 ≡ None)) (map string_bytes words.now) answer
+        (option_map (out_of W.contents) result.2)) ((result.1 ≡ disk) × (result.2 ≡ None))
+        (map string_bytes words.now) answer
         × (result.0 ≡ status_of answer) × Says S.contents S.failure_count err.old err.new (line_of answer) }
 {
     let (answer, last, printed) = answer(rt, disk, out, words);
@@ -44,7 +45,8 @@ fn answer<D: Disk + Drop, W: Write + Drop>(
 ) -> (Result<Option<Reply>, Fault>, D, Option<StandardOutput<W>>)
     ensures answer { IsAnswerTo (IsDone D.place D.leads D.folder D.syncs D.story D.works
         ⟦<DiskHome<'static, HostRuntime, D> as Home>⟧.goes disk result.1 (W.contents out)
-        (option_map (out_of W.contents) result.2)) ((result.1 ≡ disk) × (result.2 ≡ None)) (map string_bytes words.now) result.0 }
+        (option_map (out_of W.contents) result.2)) ((result.1 ≡ disk) × (result.2 ≡ None))
+        (map string_bytes words.now) result.0 }
 {
     match parse(rt.alloc(), words) {
         Ok(line) => {

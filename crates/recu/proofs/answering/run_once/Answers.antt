@@ -18,7 +18,8 @@ returns g c =
         taken = Appends-kept _ _ _ _ out.0 c.let_out.ensures.bytes;
         failed = out.1;
         attempts = done;
-        on_disk = request_on g.D.Disk.place g.D.Disk.folder g.D.Disk.syncs (asked_of c.args.request.now) c.run-told.result (g.D.Disk.story c.args.home.now.disk) (g.D.Disk.story c.run-told.new.home.disk)
+        on_disk = request_on g.D.Disk.place g.D.Disk.folder g.D.Disk.syncs (asked_of c.args.request.now) c.run-told.result
+            (g.D.Disk.story c.args.home.now.disk) (g.D.Disk.story c.run-told.new.home.disk)
             (places_by g.D.Disk.leads (option_map string_bytes c.args.home.now.file) (string_bytes c.args.home.now.journal))
             c.run-told.ensures.any_moment c.run-told.ensures.lasting c.run-told.ensures.touches c.run-told.ensures.recovers;
         let_out = subst (λ n. IsLetOut c.run-told.result n (out_of g.W.Write.contents c.let_out.new.out) c.let_out.result)

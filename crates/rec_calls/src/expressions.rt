@@ -1,17 +1,7 @@
-//! Calls of `rec_sex`. One that asks for memory is made again where a growth was refused, as `tests/growth.bats` has it of each
-//! growth in turn.
-pub mod integers;
-pub mod lists;
-pub mod patterns;
-
-use crate::log::Log;
+//! A call of `rec_sex`.
 use rec_sex::Expr;
 use rec_text::{Element, Fault, Kind};
 use std::alloc::Global;
-
-pub fn run(alloc: Global, log: &mut Log) {
-    cases!(alloc, log: growth_of_selects);
-}
 
 fn field(raw: &[u8]) -> Element<'_> {
     Element {
@@ -21,19 +11,16 @@ fn field(raw: &[u8]) -> Element<'_> {
     }
 }
 
-/// Selects a record with some `A` that begins with an x, and two fields `B`, of which the last is yz.
-const EXPRESSION: &[u8] = b"A ~ '^x' && #B = 2 && B[1] = 'y' & 'z'";
-
-fn growth_of_selects(alloc: Global, log: &mut Log) -> Result<(), Fault> {
-    let expr = again!(Expr::parse(alloc, EXPRESSION))?;
-    let selected = [
+/// `Expr::selects`, of a record that is selected and of one that isn't.
+pub fn an_expression_selects(alloc: Global) -> Result<bool, Fault> {
+    let expr = Expr::parse(alloc, b"A ~ '^x' && #B = 2 && B[1] = 'yz'")?;
+    let fields = [
         field(b"A: w\n"),
         field(b"A: x\n"),
         field(b"B: 1\n"),
         field(b"B: y\\\nz\n"),
     ];
-    log.holds("it is selected", again!(expr.selects(alloc, &selected))?);
-    let other = [field(b"A: w\n"), field(b"B: 1\n"), field(b"B: y\\\nz\n")];
-    log.holds("it is not selected", !again!(expr.selects(alloc, &other))?);
-    Ok(())
+    let others = [field(b"A: x\n"), field(b"B: y\\\nz\n")];
+    let is_selected = expr.selects(alloc, &fields)?;
+    Ok(is_selected && !expr.selects(alloc, &others)?)
 }

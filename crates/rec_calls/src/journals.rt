@@ -1,27 +1,10 @@
-//! Calls of `rec_journal` that no request makes, on journals that were written by hand. One that asks for memory is made again
-//! where a growth was refused, as `tests/growth.bats` has it of each growth in turn. `crates/rec_rows` has the journals that
-//! requests read and write.
-ghost use Rattle.std.specs.Prelude.{Ok, IfOk};
+//! Calls of `rec_journal`, on a journal that was written by hand, with the digests that `sha256sum` prints.
+ghost use Rattle.std.specs.Prelude.{◌≢◌, [], Ok, IfOk};
 ghost use Rattle.rec_journal.specs.History.{IsOpening};
 
-pub mod hashes;
-pub mod patches;
-pub mod standing;
-pub mod texts;
-
-use crate::journals::patches::patch_at;
-use crate::log::Log;
-use rec_journal::{Hashed, History, Plan, Tool, plan_edit, plan_redo, plan_undo};
-use rec_text::Fault;
+use rec_journal::{Hashed, History, Hunk, Patch, Plan, Tool, plan_edit, plan_redo, plan_undo};
+use rec_text::{Bytes, Fault};
 use std::alloc::Global;
-
-pub fn run(alloc: Global, log: &mut Log) {
-    cases!(alloc, log:
-        a_history_is_told,
-        growth_of_plan_edit,
-        growth_of_plan_undo,
-        growth_of_plan_redo);
-}
 
 /// Three records.
 const ALL: &[u8] = b"A: 1\n\nB: 2\n\nC: 3\n";
@@ -29,7 +12,7 @@ const ALL: &[u8] = b"A: 1\n\nB: 2\n\nC: 3\n";
 /// The second of them is deleted.
 const WITHOUT_B: &[u8] = b"A: 1\n\nC: 3\n";
 
-/// The journal of that and of its undo, with the digests that `sha256sum` prints.
+/// The journal of that and of its undo.
 const JOURNAL: &[u8] = b"%rec: RecEdit
 %doc: recu journal, format 2
 %key: Number
@@ -53,9 +36,6 @@ After: f95e734b3da4c8cf8de0ce7f1a4b5b8b9e41fd295544c7cdc62300f6cf89ea38
 
 ";
 
-/// How many bytes of it the deletion has.
-const DELETED: usize = 269;
-
 /// What a redo after the undo appends.
 const REDO: &[u8] = b"Number: 3
 Kind: redo
@@ -65,9 +45,39 @@ After: 679372bfd76bf8ed68f70ec527ce4595f05df91c5cab277a112ace73db6cbb3b
 
 ";
 
-/// The journal of the deletion, and what its undo appends.
+/// The journal of the deletion, of 269 bytes, and what its undo appends.
 fn parts() -> (&'static [u8], &'static [u8]) {
-    JOURNAL.split_at_checked(DELETED).unwrap_or((&[], &[]))
+    JOURNAL.split_at_checked(269).unwrap_or((&[], &[]))
+}
+
+/// Whether a plan appends this to a journal, and leads to a file.
+pub fn is_planned(plan: &Plan, journal: &[u8], appended: &[u8], file: &[u8]) -> bool {
+    plan.journal.as_slice().strip_prefix(journal) == Some(appended) && plan.file.as_slice() == file
+}
+
+/// The hunk that takes the second record out.
+fn deletion(alloc: Global) -> Result<Hunk, Fault> {
+    let old = Bytes::copy_of(alloc, b"B: 2\n\n")?;
+    let new = Bytes::copy_of(alloc, b"")?;
+    Ok(Hunk { at: 6, old, new })
+}
+
+/// The patch that takes the second record out.
+fn patch(alloc: Global) -> Result<Patch, Fault>
+    ensures { IfOk result (λ patch. patch ≢ []) }
+{
+    let mut hunks = Vec::new(alloc);
+    hunks.push(deletion(alloc)?)?;
+    match Patch::new(hunks) {
+        Some(patch) => Ok(patch),
+        None => Err(Fault::BadUsage),
+    }
+}
+
+/// `Patch::unapply`.
+pub fn a_patch_leads_back(alloc: Global) -> Result<bool, Fault> {
+    let before = patch(alloc)?.unapply(alloc, WITHOUT_B)?;
+    Ok(before.as_slice() == ALL)
 }
 
 /// The history of a file, which is hashed first.
@@ -77,76 +87,35 @@ fn loaded(alloc: Global, file: &[u8], journal: &[u8]) -> Result<History, Fault>
     History::load(alloc, &Hashed::of(alloc, file)?, journal)
 }
 
-/// A history has these numbers of edits to undo and to redo; its only edit is the deletion.
-fn check_history(log: &mut Log, history: &History, undos: usize, redos: usize, keep: usize) {
-    log.equal("edits to undo", history.undos(), undos);
-    log.equal("edits to redo", history.redos(), redos);
-    log.equal("what counts", history.keep(), keep);
-    log.holds("the file is as it was left", !history.is_drifted());
-    let mut steps = history.steps();
-    match steps.next() {
-        Some(step) => log.holds(
-            "the deletion",
-            step.number == 1 && step.tool == Tool::RecDel && step.done == (undos == 1),
-        ),
-        None => log.holds("there is an edit", false),
-    }
-    log.holds("there is no other", steps.next().is_none());
-}
-
-fn a_history_is_told(alloc: Global, log: &mut Log) -> Result<(), Fault> {
-    let (deleted, _) = parts();
-    check_history(log, &loaded(alloc, WITHOUT_B, deleted)?, 1, 0, DELETED);
-    check_history(log, &loaded(alloc, ALL, JOURNAL)?, 0, 1, JOURNAL.len());
-    let drifted = loaded(alloc, b"A: 7\n", JOURNAL)?;
-    log.holds("the file was changed", drifted.is_drifted());
-    Ok(())
-}
-
-/// A plan appends this to a journal, and leads to a file.
-pub fn check_plan(log: &mut Log, plan: &Plan, journal: &[u8], appended: &[u8], file: &[u8]) {
-    match plan.journal.as_slice().strip_prefix(journal) {
-        Some(rest) => log.same("what is appended", rest, appended),
-        None => log.holds("the journal is kept", false),
-    }
-    log.same("the file", plan.file.as_slice(), file);
-}
-
 /// The plan of the deletion.
-fn deletion(alloc: Global) -> Result<Plan, Fault> {
+fn edited(alloc: Global) -> Result<Plan, Fault> {
     let file = Hashed::of(alloc, ALL)?;
     let history = History::load(alloc, &file, b"")?;
-    let patch = patch_at(alloc, 6, b"B: 2\n\n", b"")?;
+    let patch = patch(alloc)?;
     let text = patch.apply(alloc, ALL)?;
     plan_edit(alloc, &history, &file, b"", Tool::RecDel, patch, text)
 }
 
-fn growth_of_plan_edit(alloc: Global, log: &mut Log) -> Result<(), Fault> {
+/// `plan_edit`.
+pub fn an_edit_is_planned(alloc: Global) -> Result<bool, Fault> {
     let (deleted, _) = parts();
-    let plan = again!(deletion(alloc))?;
-    check_plan(log, &plan, b"", deleted, WITHOUT_B);
-    Ok(())
+    Ok(is_planned(&edited(alloc)?, b"", deleted, WITHOUT_B))
 }
 
-fn undone(alloc: Global, file: &[u8], journal: &[u8]) -> Result<Plan, Fault> {
-    let history = loaded(alloc, file, journal)?;
-    plan_undo(alloc, &history, file, journal)
-}
-
-fn growth_of_plan_undo(alloc: Global, log: &mut Log) -> Result<(), Fault> {
+/// `plan_undo`.
+pub fn an_undo_is_planned(alloc: Global) -> Result<bool, Fault> {
     let (deleted, undo) = parts();
-    let plan = again!(undone(alloc, WITHOUT_B, deleted))?;
-    check_plan(log, &plan, deleted, undo, ALL);
-    Ok(())
+    let history = loaded(alloc, WITHOUT_B, deleted)?;
+    let plan = plan_undo(alloc, &history, WITHOUT_B, deleted)?;
+    Ok(is_planned(&plan, deleted, undo, ALL))
 }
 
-fn redone(alloc: Global, file: &[u8], journal: &[u8]) -> Result<Plan, Fault> {
-    let history = loaded(alloc, file, journal)?;
-    plan_redo(alloc, &history, file, journal)
-}
-
-fn growth_of_plan_redo(alloc: Global, log: &mut Log) -> Result<(), Fault> {
-    let plan = again!(redone(alloc, ALL, JOURNAL))?;
-    check_plan(log, &plan, JOURNAL, REDO, WITHOUT_B);
-    Ok(())
+/// `plan_redo`, and the numbers of edits that a history has.
+pub fn a_redo_is_planned(alloc: Global) -> Result<bool, Fault> {
+    let history = loaded(alloc, ALL, JOURNAL)?;
+    if history.undos() != 0 || history.redos() != 1 || history.keep() != JOURNAL.len() {
+        return Ok(false);
+    }
+    let plan = plan_redo(alloc, &history, ALL, JOURNAL)?;
+    Ok(is_planned(&plan, JOURNAL, REDO, WITHOUT_B))
 }

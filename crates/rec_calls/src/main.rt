@@ -1,99 +1,80 @@
-//! Calls of the public functions of the crates below, and the same calls again where memory was refused: cases with
-//! names. Without a word the program runs all of them, and with names those. It prints a line for all that it finds
-//! otherwise than it is written, and at the end how many cases passed. With the word `list` it prints the names.
+//! A call of each public function of the crates below that no request reaches: cases with names, each of which tells whether
+//! all was as it is written there. Without a word the program runs all of them, and with a name that one. It prints a line for
+//! each that found something else, and at the end how many passed. With the word `list` it prints the names.
+//! A case for which memory ran out is run once more, so each passes with any one of its growths refused.
 #![tactic(auto)]
 
 /// Runs those of the cases that are asked for.
 macro_rules! cases {
-    ($alloc:ident, $log:ident: $($name:ident),+) => {
-        $(if $log.begins(stringify!($name)) {
-            let end = $name($alloc, $log);
-            $log.ends(end);
+    ($alloc:ident, $log:ident: $($file:ident::$name:ident),+) => {
+        $(if $log.is_asked(stringify!($name)) {
+            let end = match $file::$name($alloc) {
+                Err(Fault::OutOfMemory) => $file::$name($alloc),
+                end => end,
+            };
+            $log.end(stringify!($name), end);
         })+
     };
 }
 
-/// The answer of a call, which is made again where memory ran out.
-macro_rules! again {
-    ($call:expr) => {
-        match $call {
-            Err(Fault::OutOfMemory) => $call,
-            answer => answer,
-        }
-    };
-}
-
 mod checks;
-mod diffs;
 mod edits;
 mod expressions;
+mod homes;
 mod journals;
 mod log;
-mod requests;
-mod selections;
 mod texts;
 
-use log::{Choice, Log};
+use log::Log;
+use rec_text::Fault;
 use std::alloc::Global;
 use std::process::ExitCode;
 use std::rt::Env;
 use std::{env, io};
 
-/// Runs the cases that are chosen.
+/// Runs the cases that are asked for.
 fn run(alloc: Global, log: &mut Log) {
-    texts::run(alloc, log);
-    texts::elements::run(alloc, log);
-    texts::values::run(alloc, log);
-    texts::records::run(alloc, log);
-    texts::parts::run(alloc, log);
-    expressions::run(alloc, log);
-    expressions::integers::run(alloc, log);
-    expressions::lists::run(alloc, log);
-    expressions::patterns::run(alloc, log);
-    checks::counters::run(alloc, log);
-    checks::reports::run(alloc, log);
-    selections::run(alloc, log);
-    journals::run(alloc, log);
-    journals::patches::run(alloc, log);
-    journals::hashes::run(alloc, log);
-    journals::texts::run(alloc, log);
-    journals::standing::run(alloc, log);
-    diffs::run(alloc, log);
-    edits::run(alloc, log);
-    edits::batches::run(alloc, log);
-    edits::options::run(alloc, log);
-    edits::rules::run(alloc, log);
-    requests::run(alloc, log);
-    log.close();
+    cases!(alloc, log:
+        texts::a_field_is_put,
+        texts::paragraphs_are_told,
+        expressions::an_expression_selects,
+        checks::a_counter_goes_on,
+        journals::a_patch_leads_back,
+        journals::an_edit_is_planned,
+        journals::an_undo_is_planned,
+        journals::a_redo_is_planned,
+        edits::an_edit_is_made,
+        edits::a_batch_is_made,
+        edits::a_batch_is_planned,
+        homes::a_call_of_a_home_fails);
 }
 
-/// The words of the command line, which are asked for again where memory ran out.
-fn words(rt: &HostRuntime) -> io::Result<env::Args> {
-    match env::args(rt) {
-        Ok(words) => Ok(words),
-        Err(_) => env::args(rt),
-    }
+/// The first word of the command line, which is asked for again where memory ran out.
+fn word(rt: &HostRuntime) -> io::Result<Option<String>> {
+    let words = match env::args(rt) {
+        Ok(words) => words,
+        Err(_) => env::args(rt)?,
+    };
+    Ok(words.skip(1).next())
 }
 
-/// Runs the cases that the words ask for, and tells whether all of them passed.
-fn is_passed(rt: &HostRuntime, log: &mut Log) -> io::Result<bool> {
-    for word in words(rt)?.skip(1) {
-        log.choose(Choice::of(word));
-        run(rt.alloc(), log);
-    }
-    if log.is_new() {
-        run(rt.alloc(), log);
-    }
+/// Prints what was found, and tells whether it is what is wanted.
+fn print(rt: &HostRuntime, log: &Log) -> io::Result<bool> {
     print!(rt; "{}", log.text)?;
     if log.passed > 0 || log.failed > 0 {
         println!(rt; "{} passed, {} failed", log.passed, log.failed)?;
     }
-    Ok(log.failed == 0)
+    Ok(log.failed == 0 && (log.passed > 0 || !log.text.as_str().is_empty()))
+}
+
+fn is_passed(rt: &HostRuntime) -> io::Result<bool> {
+    let mut log = Log::new(rt.alloc(), word(rt)?);
+    run(rt.alloc(), &mut log);
+    print(rt, &log)
 }
 
 fn main(rt: HostRuntime) -> ExitCode {
-    let mut log = Log::new(rt.alloc());
-    match is_passed(&rt, &mut log) {
+    match is_passed(&rt) {
         Ok(true) => ExitCode::SUCCESS,
         Ok(false) => ExitCode::FAILURE,
         Err(error) => {

@@ -1,34 +1,31 @@
-//! Calls of `rec_text`. One that asks for memory is made again where a growth was refused, as `tests/growth.bats` has it of each
-//! growth in turn.
-pub mod elements;
-pub mod parts;
-pub mod records;
-pub mod values;
+//! Calls of `rec_text`.
+use crate::log::are;
+use rec_text::{Fault, put_field, read};
+use std::alloc::Global;
 
-use crate::log::Log;
-use rec_text::{Fault, OrMemory, put_field};
-use std::alloc::{AllocError, Global};
-
-pub fn run(alloc: Global, log: &mut Log) {
-    cases!(alloc, log: lack_of_memory_is_a_refusal, growth_of_put_field);
-}
-
-fn lack_of_memory_is_a_refusal(_: Global, log: &mut Log) -> Result<(), Fault> {
-    let refusal: OrMemory<u8> = OrMemory::from(AllocError);
-    log.holds("memory ran out", matches!(refusal, OrMemory::OutOfMemory));
-    Ok(())
-}
-
-fn growth_of_put_field(alloc: Global, log: &mut Log) -> Result<(), Fault> {
-    let Ok(mut out) = Vec::from_slice(alloc, b"K: 0\n") else {
-        return Ok(());
-    };
-    if let Err(fault) = put_field(&mut out, b"Name", b"a\n\nb and more") {
-        log.holds("memory ran out", fault.number() == 1);
-        log.same("the text that was there", out.as_slice(), b"K: 0\n");
-        put_field(&mut out, b"Name", b"a\n\nb and more")?;
+/// `put_field`, after a field that is there, which stays alone where memory runs out.
+pub fn a_field_is_put(alloc: Global) -> Result<bool, Fault> {
+    let mut out = Vec::from_slice(alloc, b"K: 0\n")?;
+    let answer = put_field(&mut out, b"Name", b"a\n\nb and more");
+    match answer {
+        Ok(()) => Ok(are(out.as_slice(), b"K: 0\nName: a\n+ \n+ b and more\n")),
+        Err(fault) => {
+            if are(out.as_slice(), b"K: 0\n") {
+                Err(fault)
+            } else {
+                Ok(false)
+            }
+        }
     }
-    let wanted = b"K: 0\nName: a\n+ \n+ b and more\n";
-    log.same("the text", out.as_slice(), wanted);
-    Ok(())
+}
+
+/// `Database::paragraphs`: a comment, a record with a comment in it, and one that no newline ends.
+pub fn paragraphs_are_told(alloc: Global) -> Result<bool, Fault> {
+    let database = read(alloc, b"# c\n\nA: 1\n# d\nB: 2\n \nC: 3")?;
+    let mut paragraphs = database.paragraphs();
+    let first = paragraphs.next();
+    let second = paragraphs.next();
+    let third = paragraphs.next();
+    let are_three = first == Some(0..1) && second == Some(2..5) && third == Some(6..7);
+    Ok(are_three && paragraphs.next().is_none())
 }

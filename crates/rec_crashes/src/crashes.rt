@@ -89,11 +89,18 @@ pub fn crash_after_stops(scene: &mut Scene<'_>, number: usize) -> io::Result<u64
 /// that may leave which it might not have left before.
 pub fn crash_unsynced(scene: &mut Scene<'_>) -> io::Result<u64> {
     let story = scene.learn_unsynced()?;
-    let alloc = scene.rt.alloc();
-    let before = lefts_at(alloc, &story, Reading::Weakest, story.begun)?;
-    let lefts = lefts_of(alloc, &story, Reading::Weakest)?;
     check_lasting(scene, &story)?;
-    check_others(scene, &story, &before, &lefts)
+    crash_later(scene, &story)
+}
+
+fn crash_later(scene: &mut Scene<'_>, story: &Story) -> io::Result<u64> {
+    let before = lefts_at(scene.rt.alloc(), story, Reading::Weakest, story.begun)?;
+    crash_but(scene, story, &before)
+}
+
+fn crash_but(scene: &mut Scene<'_>, story: &Story, before: &[Left]) -> io::Result<u64> {
+    let lefts = lefts_of(scene.rt.alloc(), story, Reading::Weakest)?;
+    check_others(scene, story, before, &lefts)
 }
 
 /// Checks of each disk that nothing is lost, but of those that might have been left before.
@@ -117,7 +124,11 @@ fn check_others(
 /// Checks that whatever a crash leaves after a request is what it made.
 fn check_lasting(scene: &mut Scene<'_>, story: &Story) -> io::Result<()> {
     let lefts = lefts_at(scene.rt.alloc(), story, Reading::Weakest, story.log.len())?;
-    for left in &lefts {
+    check_made(scene, story, &lefts)
+}
+
+fn check_made(scene: &mut Scene<'_>, story: &Story, lefts: &[Left]) -> io::Result<()> {
+    for left in lefts {
         lay(scene, story, left)?;
         scene.check_made()?;
     }

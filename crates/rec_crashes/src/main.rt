@@ -19,6 +19,7 @@ use scene::Scene;
 use std::rt::Env;
 use std::{env, io};
 use stops::stop_everywhere;
+use story::Story;
 
 /// What is asked for.
 #[derive(Clone, Copy)]
@@ -110,8 +111,12 @@ fn play_requests(scene: &mut Scene<'_>) -> io::Result<Counts> {
 /// that were not, and of the next edit after a stop.
 fn play_request(scene: &mut Scene<'_>, number: usize) -> io::Result<Counts> {
     let story = scene.learn(number)?;
+    play_story(scene, number, &story)
+}
+
+fn play_story(scene: &mut Scene<'_>, number: usize, story: &Story) -> io::Result<Counts> {
     let stops = stop_everywhere(scene, number)?;
-    let crashes = crash_everywhere(scene, &story)?;
+    let crashes = crash_everywhere(scene, story)?;
     let unsynced = crash_unsynced(scene)?;
     let later = crash_after_stops(scene, number)?;
     Ok(Counts {

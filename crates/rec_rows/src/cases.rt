@@ -1,10 +1,11 @@
 //! The cases of a file: its records.
-use crate::cells::bytes_in;
-use crate::drawn::{Lists, run_lists};
+use crate::cells::{bytes_in, number_in};
+use crate::command::request_of;
 use crate::log::Log;
-use crate::stops::run_stops;
+use crate::stops::Case;
 use crate::trial::{Trial, Way};
 use rec_text::{Element, Fault, read};
+use rec_tools::Request;
 use std::alloc::Global;
 use std::str;
 
@@ -80,7 +81,19 @@ fn ways(log: &Log) -> &'static [Way] {
     }
 }
 
-/// Runs a case once each way, with this row and so much of its journal.
+fn run_trial(
+    alloc: Global,
+    trial: &mut Trial,
+    case: &[Element<'_>],
+    row: Row<'_>,
+    log: &mut Log,
+) -> Result<(), Fault> {
+    take_fields(alloc, trial, case, log)?;
+    take_row(trial, row, log)?;
+    trial.finish(log)
+}
+
+/// Runs a case once each way, with this row and at most so much of its journal.
 fn run_trials(
     alloc: Global,
     case: &[Element<'_>],
@@ -90,9 +103,7 @@ fn run_trials(
 ) -> Result<(), Fault> {
     for way in ways(log) {
         let mut trial = Trial::new(alloc, *way, cut);
-        take_fields(alloc, &mut trial, case, log)?;
-        take_row(&mut trial, row, log)?;
-        trial.finish(log)?;
+        run_trial(alloc, &mut trial, case, row, log)?;
     }
     Ok(())
 }
@@ -109,17 +120,10 @@ fn run_cuts(
         return run_trials(alloc, case, row, usize::MAX, log);
     };
     for cut in number_in(first)?..=number_in(last)? {
-        log.cut = cut;
-        run_trials(alloc, case, row, cut, log)?;
+        log.cut = cut as usize;
+        run_trials(alloc, case, row, cut as usize, log)?;
     }
     Ok(())
-}
-
-fn number_in(text: &str) -> Result<usize, Fault> {
-    match text.parse::<usize>() {
-        Ok(number) => Ok(number),
-        Err(_) => Err(Fault::BadUsage),
-    }
 }
 
 /// Runs a case with each of its rows.
@@ -144,80 +148,64 @@ fn run_rows(
     Ok(())
 }
 
-/// The texts of all fields of a name.
-fn fields(alloc: Global, case: &[Element<'_>], name: &str) -> Result<Vec<String>, Fault> {
-    let mut texts = Vec::new(alloc);
+/// Runs a case by itself or with each of its rows.
+fn run_named(
+    alloc: Global,
+    case: &[Element<'_>],
+    columns: &str,
+    log: &mut Log,
+) -> Result<(), Fault> {
+    let cuts = field(alloc, case, "Cuts")?;
+    if columns.is_empty() {
+        let row = Row { columns, cells: "" };
+        return run_cuts(alloc, case, row, cuts.as_str(), log);
+    }
+    run_rows(alloc, case, columns, cuts.as_str(), log)
+}
+
+/// Adds the requests of a case.
+fn put_requests(
+    alloc: Global,
+    case: &[Element<'_>],
+    requests: &mut Vec<Request>,
+) -> Result<(), Fault> {
     for element in case {
-        if name_of(element) == name {
-            texts.push(text_of(alloc, element)?)?;
+        if name_of(element) == "Request" {
+            let line = text_of(alloc, element)?;
+            requests.push(request_of(alloc, line.as_str(), &[])?)?;
         }
     }
-    Ok(texts)
-}
-
-/// How many lists a case asks for, how long they are, and how many requests follow after each number of edits is forgotten.
-fn lists_of(lists: &str, after: &str) -> Result<Lists, Fault> {
-    let (lists, len) = lists.split_once(' ').unwrap_or((lists, ""));
-    Ok(Lists {
-        lists: number_in(lists)?,
-        len: number_in(len)?,
-        after: if after.is_empty() {
-            0
-        } else {
-            number_in(after)?
-        },
-    })
-}
-
-/// Runs the lists that a case asks for.
-fn run_drawn(alloc: Global, case: &[Element<'_>], lists: &str, log: &mut Log) -> Result<(), Fault> {
-    let after = field(alloc, case, "Forgetting")?;
-    let lists = lists_of(lists, after.as_str())?;
-    let cell = field(alloc, case, "File")?;
-    let file = bytes_in(alloc, cell.as_str())?;
-    let pool = fields(alloc, case, "Pool")?;
-    run_lists(alloc, file.as_slice(), pool.as_slice(), lists, log)
+    Ok(())
 }
 
 /// Runs the requests of a case on homes of whose first calls one or two fail, and on journals that are cut.
 fn run_stopped(
     alloc: Global,
     case: &[Element<'_>],
-    calls: &str,
+    requests: &mut Vec<Request>,
+    calls: u64,
     log: &mut Log,
 ) -> Result<(), Fault> {
-    let calls = number_in(calls)?;
+    put_requests(alloc, case, requests)?;
     let cell = field(alloc, case, "File")?;
     let file = bytes_in(alloc, cell.as_str())?;
-    let lines = fields(alloc, case, "Request")?;
-    run_stops(alloc, file.as_slice(), lines.as_slice(), calls, log)
-}
-
-/// Runs a case whose requests it names.
-fn run_named(alloc: Global, case: &[Element<'_>], log: &mut Log) -> Result<(), Fault> {
-    let columns = field(alloc, case, "Columns")?;
-    let cuts = field(alloc, case, "Cuts")?;
-    if columns.as_str().is_empty() {
-        let row = Row {
-            columns: "",
-            cells: "",
-        };
-        return run_cuts(alloc, case, row, cuts.as_str(), log);
-    }
-    run_rows(alloc, case, columns.as_str(), cuts.as_str(), log)
+    let case = Case {
+        alloc,
+        file: file.as_slice(),
+        requests: requests.as_slice(),
+    };
+    case.run(calls, log)
 }
 
 fn run_case(alloc: Global, case: &[Element<'_>], log: &mut Log) -> Result<(), Fault> {
     log.begin(field(alloc, case, "Case")?);
     let calls = field(alloc, case, "Failing")?;
-    if !calls.as_str().is_empty() {
-        return run_stopped(alloc, case, calls.as_str(), log);
+    if calls.as_str().is_empty() {
+        let columns = field(alloc, case, "Columns")?;
+        return run_named(alloc, case, columns.as_str(), log);
     }
-    let lists = field(alloc, case, "Lists")?;
-    if lists.as_str().is_empty() {
-        return run_named(alloc, case, log);
-    }
-    run_drawn(alloc, case, lists.as_str(), log)
+    let mut requests = Vec::new(alloc);
+    run_stopped(alloc, case, &mut requests, number_in(calls.as_str())?, log)
 }
 
 /// Runs the cases of a text. One that is no case is told of, and the others are run.

@@ -1,5 +1,5 @@
 //! The notation of cells, which `tests/README.md` describes.
-use rec_text::Bytes;
+use rec_text::{Bytes, Fault};
 use std::alloc::{AllocError, Global};
 
 fn digit(byte: u8) -> Option<u8> {
@@ -54,6 +54,14 @@ pub fn bytes_in(alloc: Global, cell: &str) -> Result<Bytes, AllocError> {
     let mut bytes = Vec::new(alloc);
     put_cell(&mut bytes, cell)?;
     Ok(Bytes::from_vec(bytes))
+}
+
+/// The number that a cell is.
+pub fn number_in(cell: &str) -> Result<u64, Fault> {
+    match cell.parse::<u64>() {
+        Ok(number) => Ok(number),
+        Err(_) => Err(Fault::BadUsage),
+    }
 }
 
 /// Adds bytes to a line that is printed, in the notation of cells.

@@ -3,14 +3,11 @@
 //! which a growth was refused is run again.
 #![tactic(auto)]
 
-mod batches;
 mod cases;
 mod cells;
 mod command;
-mod drawn;
 mod log;
 mod narrow;
-mod plain;
 mod stops;
 mod tester;
 mod trial;

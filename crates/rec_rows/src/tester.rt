@@ -18,29 +18,14 @@ pub struct Wanted {
     pub journal: Option<Bytes>,
 }
 
-impl Wanted {
-    /// This, and any journal.
-    pub fn of(
-        alloc: Global,
-        answer: &str,
-        print: &[u8],
-        file: &[u8],
-    ) -> Result<Wanted, AllocError> {
-        Ok(Wanted {
-            answer: String::from_str(alloc, answer)?,
-            print: Bytes::copy_of(alloc, print)?,
-            file: Bytes::copy_of(alloc, file)?,
-            journal: None,
-        })
-    }
-}
-
-/// A home in memory, and what is printed.
+/// A home in memory, and what is answered and printed.
 #[derive(Drop)]
 pub struct Tester {
     alloc: Global,
     pub home: MemoryHome,
     out: Output<Narrow>,
+    /// The last answer, or those of one call, each ended by a newline.
+    said: String,
     /// How often the home is to have failed.
     failures: u64,
     /// Whether a call of the home is to fail.
@@ -83,16 +68,23 @@ impl Tester {
                 writer: Narrow { taken, room: 0 },
                 failed: 0,
             },
+            said: String::new(alloc),
             failures: 0,
             fails: false,
         }
     }
 
+    /// Gives the home these contents.
+    pub fn put(&mut self, file: &[u8], journal: &[u8]) -> Result<(), AllocError> {
+        self.home.file = Bytes::copy_of(self.alloc, file)?;
+        self.home.journal = Bytes::copy_of(self.alloc, journal)?;
+        Ok(())
+    }
+
     /// A home with these contents, none of whose calls fails.
     pub fn with(alloc: Global, file: &[u8], journal: &[u8]) -> Result<Tester, AllocError> {
         let mut tester = Tester::new(alloc);
-        tester.home.file = Bytes::copy_of(alloc, file)?;
-        tester.home.journal = Bytes::copy_of(alloc, journal)?;
+        tester.put(file, journal)?;
         Ok(tester)
     }
 
@@ -108,26 +100,39 @@ impl Tester {
         self.out.writer.taken.clear();
         self.out.writer.room = room;
         self.out.failed = 0;
+        self.said.clear();
     }
 
-    /// What a request answers, in words.
-    pub fn answer(&mut self, request: &Request, room: usize) -> Result<String, AllocError> {
+    /// Runs a request, whose output has so much room.
+    fn answer_in(&mut self, request: &Request, room: usize) -> Result<(), AllocError> {
         self.clear(room);
-        let mut said = String::new(self.alloc);
         let answer = run(self.alloc, &mut self.home, &mut self.out, request);
-        say(&mut said, &answer)?;
-        Ok(said)
+        say(&mut self.said, &answer)
     }
 
-    /// The reply to a request that has ample room for its output.
-    pub fn reply(&mut self, request: &Request) -> Result<Reply, Fault> {
+    pub fn answer(&mut self, request: &Request) -> Result<(), AllocError> {
+        self.answer_in(request, usize::MAX)
+    }
+
+    /// Runs requests in one call.
+    pub fn answer_all(&mut self, requests: &[Request]) -> Result<(), Fault> {
         self.clear(usize::MAX);
-        run(self.alloc, &mut self.home, &mut self.out, request)
+        let answers = run_all(self.alloc, &mut self.home, &mut self.out, requests)?;
+        Ok(say_all(&mut self.said, answers.as_slice())?)
     }
 
-    /// What the last request printed.
+    /// What was answered last.
+    pub fn said(&self) -> &str {
+        self.said.as_str()
+    }
+
+    /// What was printed last.
     pub fn printed(&self) -> &[u8] {
         self.out.writer.taken.as_slice()
+    }
+
+    fn compare_answer(&self, what: &str, answer: &str, log: &mut Log) -> Result<(), AllocError> {
+        log.compare(what, self.said.as_bytes(), answer.as_bytes())
     }
 
     /// Runs a request, whose answer alone is wanted.
@@ -138,8 +143,8 @@ impl Tester {
         log: &mut Log,
     ) -> Result<(), AllocError> {
         log.count();
-        let said = self.answer(request, usize::MAX)?;
-        log.compare("answers", said.as_bytes(), answer.as_bytes())
+        self.answer(request)?;
+        self.compare_answer("answers", answer, log)
     }
 
     /// Runs a request.
@@ -150,30 +155,32 @@ impl Tester {
         log: &mut Log,
     ) -> Result<(), AllocError> {
         self.ask(request, wanted.answer.as_str(), log)?;
+        self.count_failures(wanted, log)?;
+        self.compare(wanted.print.as_slice(), wanted, log)?;
+        self.narrow(request, wanted.print.as_slice(), log)
+    }
+
+    /// The home has failed where it is wanted, and the output hasn't.
+    fn count_failures(&mut self, wanted: &Wanted, log: &mut Log) -> Result<(), AllocError> {
         if wanted.answer.as_str().starts_with("23 ") {
             self.failures = self.failures.saturating_add(1);
         }
-        log.expect(
-            "the failures of the home",
-            self.home.failures() == self.failures,
-        )?;
-        log.expect("the failures of the output", self.out.failures() == 0)?;
-        self.compare(wanted, log)?;
-        self.narrow(request, wanted, log)
+        let has_failed = self.home.failures() == self.failures;
+        log.expect("the failures of the home", has_failed)?;
+        log.expect("the failures of the output", self.out.failures() == 0)
     }
 
     /// Whether a growth was refused: memory ran out, and both contents are as before, or the home or the output had no room.
     fn is_refused(
         &self,
         before: &Tester,
-        answer: &str,
         wanted: &Wanted,
         log: &mut Log,
     ) -> Result<bool, AllocError> {
         let has_failed = self.home.failures() != before.home.failures();
         if has_failed || self.out.failures() > 0 {
-            log.compare("answers", answer.as_bytes(), STORE_FAILED.as_bytes())?;
-        } else if answer != OUT_OF_MEMORY {
+            self.compare_answer("answers", STORE_FAILED, log)?;
+        } else if self.said() != OUT_OF_MEMORY {
             return Ok(false);
         }
         log.compare("the old file", self.home.file(), before.home.file())?;
@@ -198,22 +205,18 @@ impl Tester {
     ) -> Result<(), AllocError> {
         log.count();
         let before = self.copy_of_home()?;
-        let mut answer = self.answer(request, usize::MAX)?;
-        if self.is_refused(&before, answer.as_str(), wanted, log)? {
+        self.answer(request)?;
+        if self.is_refused(&before, wanted, log)? {
             log.count_again();
-            answer = self.answer(request, usize::MAX)?;
+            self.answer(request)?;
         }
-        log.compare("answers", answer.as_bytes(), wanted.answer.as_bytes())?;
-        self.compare(wanted, log)
+        self.compare_answer("answers", wanted.answer.as_str(), log)?;
+        self.compare(wanted.print.as_slice(), wanted, log)
     }
 
     /// Compares what was printed, and both contents.
-    fn compare(&self, wanted: &Wanted, log: &mut Log) -> Result<(), AllocError> {
-        log.compare(
-            "prints",
-            self.out.writer.taken.as_slice(),
-            wanted.print.as_slice(),
-        )?;
+    pub fn compare(&self, print: &[u8], wanted: &Wanted, log: &mut Log) -> Result<(), AllocError> {
+        log.compare("prints", self.printed(), print)?;
         log.compare("the file", self.home.file(), wanted.file.as_slice())?;
         match &wanted.journal {
             Some(journal) => log.compare("the journal", self.home.journal(), journal.as_slice()),
@@ -222,50 +225,19 @@ impl Tester {
     }
 
     /// Runs a request that prints again with each smaller room for its output, where no call of the home is to fail.
-    fn narrow(
-        &mut self,
-        request: &Request,
-        wanted: &Wanted,
-        log: &mut Log,
-    ) -> Result<(), AllocError> {
+    fn narrow(&mut self, request: &Request, print: &[u8], log: &mut Log) -> Result<(), AllocError> {
         if self.fails {
             return Ok(());
         }
-        let print = wanted.print.as_slice();
         for room in 0..print.len() {
-            let said = self.answer(request, room)?;
-            log.compare(
-                "answers in little room",
-                said.as_bytes(),
-                STORE_FAILED.as_bytes(),
-            )?;
+            self.answer_in(request, room)?;
+            self.compare_answer("answers in little room", STORE_FAILED, log)?;
             log.expect("one failure in little room", self.out.failures() == 1)?;
-            let taken = self.out.writer.taken.as_slice();
             log.expect(
                 "the prefix of what is printed",
-                taken.len() == room && print.starts_with(taken),
+                self.printed().len() == room && print.starts_with(self.printed()),
             )?;
         }
-        Ok(())
-    }
-
-    /// Runs requests in one call.
-    pub fn run_all(
-        &mut self,
-        requests: &[Request],
-        wanted: &Wanted,
-        log: &mut Log,
-    ) -> Result<(), Fault> {
-        self.clear(usize::MAX);
-        let answers = run_all(self.alloc, &mut self.home, &mut self.out, requests)?;
-        let mut said = String::new(self.alloc);
-        say_all(&mut said, answers.as_slice())?;
-        log.compare(
-            "answers together",
-            said.as_bytes(),
-            wanted.answer.as_bytes(),
-        )?;
-        self.compare(wanted, log)?;
         Ok(())
     }
 }

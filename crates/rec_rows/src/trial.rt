@@ -1,5 +1,5 @@
 //! One run of a case: its fields are taken in order.
-use crate::cells::bytes_in;
+use crate::cells::{bytes_in, number_in};
 use crate::command::request_of;
 use crate::log::Log;
 use crate::tester::{Tester, Wanted};
@@ -41,13 +41,6 @@ pub struct Trial {
     events: u64,
 }
 
-fn number_in(cell: &str) -> Result<u64, Fault> {
-    match cell.parse::<u64>() {
-        Ok(number) => Ok(number),
-        Err(_) => Err(Fault::BadUsage),
-    }
-}
-
 fn nothing(alloc: Global) -> Bytes {
     Bytes::from_vec(Vec::new(alloc))
 }
@@ -63,6 +56,17 @@ fn is_change(answer: &str) -> bool {
         .any(|prefix| answer.starts_with(prefix) && answer != "forgotten 0")
 }
 
+impl Wanted {
+    fn new(alloc: Global) -> Wanted {
+        Wanted {
+            answer: String::new(alloc),
+            print: nothing(alloc),
+            file: nothing(alloc),
+            journal: Some(nothing(alloc)),
+        }
+    }
+}
+
 impl Taken {
     fn new(alloc: Global) -> Taken {
         Taken {
@@ -76,8 +80,7 @@ impl Taken {
         self.requests.push(request)?;
         self.answers.push_str(wanted.answer.as_str())?;
         self.answers.push('\n')?;
-        self.prints.extend_from_slice(wanted.print.as_slice())?;
-        Ok(())
+        Ok(self.prints.extend_from_slice(wanted.print.as_slice())?)
     }
 }
 
@@ -88,12 +91,7 @@ impl Trial {
             way,
             cut,
             tester: Tester::new(alloc),
-            wanted: Wanted {
-                answer: String::new(alloc),
-                print: nothing(alloc),
-                file: nothing(alloc),
-                journal: Some(nothing(alloc)),
-            },
+            wanted: Wanted::new(alloc),
             word: nothing(alloc),
             line: String::new(alloc),
             taken: Taken::new(alloc),
@@ -104,34 +102,55 @@ impl Trial {
     /// Takes a field of the case.
     pub fn take(&mut self, name: &str, cell: &str, log: &mut Log) -> Result<(), Fault> {
         match name {
-            "File" => self.put_file(cell)?,
-            "Journal" => self.put_journal(cell)?,
-            "Outside" => self.change_outside(cell, log)?,
-            "Fails" => self.fail(cell)?,
-            "Request" => self.begin(cell, log)?,
+            "File" => self.put_file(cell),
+            "Journal" => self.put_journal(cell),
+            "Outside" => self.change_outside(cell, log),
+            "Fails" => self.fail(cell),
+            "Request" => self.begin(cell, log),
+            "Records" => self.delete_each(number_in(cell)?, log),
+            _ if name.starts_with("rec") => self.edit(name, cell, log),
+            _ => self.want(name, cell),
+        }
+    }
+
+    /// Takes a field that says what is wanted of the request, or what its word stands for.
+    fn want(&mut self, name: &str, cell: &str) -> Result<(), Fault> {
+        match name {
+            "Answer" => return self.want_answer(cell),
             "Word" => self.word = bytes_in(self.alloc, cell)?,
-            "Answer" => self.want(cell)?,
             "Prints" => self.wanted.print = bytes_in(self.alloc, cell)?,
             "File_after" => self.wanted.file = bytes_in(self.alloc, cell)?,
             "Journal_after" => self.wanted.journal = Some(bytes_in(self.alloc, cell)?),
-            "Records" => self.delete_each(number_in(cell)?, log)?,
-            _ if name.starts_with("rec") => self.edit(name, cell, log)?,
             _ => return Err(Fault::BadUsage),
         }
         Ok(())
     }
 
-    fn put_file(&mut self, cell: &str) -> Result<(), AllocError> {
-        self.wanted.file = bytes_in(self.alloc, cell)?;
-        self.tester.home.file = Bytes::copy_of(self.alloc, self.wanted.file.as_slice())?;
+    fn want_answer(&mut self, answer: &str) -> Result<(), Fault> {
+        if is_change(answer) {
+            self.wanted.journal = None;
+        }
+        self.wanted.answer = String::from_str(self.alloc, answer)?;
         Ok(())
     }
 
-    fn put_journal(&mut self, cell: &str) -> Result<(), AllocError> {
+    fn put_file(&mut self, cell: &str) -> Result<(), Fault> {
+        self.wanted.file = bytes_in(self.alloc, cell)?;
+        self.tester.home.file = bytes_in(self.alloc, cell)?;
+        Ok(())
+    }
+
+    fn put_journal(&mut self, cell: &str) -> Result<(), Fault> {
         let whole = bytes_in(self.alloc, cell)?;
         let journal = prefix(whole.as_slice(), self.cut);
-        self.wanted.journal = Some(Bytes::copy_of(self.alloc, journal)?);
         self.tester.home.journal = Bytes::copy_of(self.alloc, journal)?;
+        Ok(self.want_journal()?)
+    }
+
+    /// The journal is to stay as it is.
+    fn want_journal(&mut self) -> Result<(), AllocError> {
+        let journal = Bytes::copy_of(self.alloc, self.tester.home.journal())?;
+        self.wanted.journal = Some(journal);
         Ok(())
     }
 
@@ -141,9 +160,9 @@ impl Trial {
         self.line.clear();
         self.taken = Taken::new(self.alloc);
         if self.wanted.journal.is_none() {
-            self.wanted.journal = Some(Bytes::copy_of(self.alloc, self.tester.home.journal())?);
+            self.want_journal()?;
         }
-        Ok(self.put_file(cell)?)
+        self.put_file(cell)
     }
 
     /// Lets a call of the home fail: its number, and how many of its writes are made all the same.
@@ -163,24 +182,16 @@ impl Trial {
         Ok(())
     }
 
-    fn want(&mut self, answer: &str) -> Result<(), AllocError> {
-        if is_change(answer) {
-            self.wanted.journal = None;
-        }
-        self.wanted.answer = String::from_str(self.alloc, answer)?;
-        Ok(())
-    }
-
     /// The request that was begun has all its fields.
     fn end(&mut self, log: &mut Log) -> Result<(), Fault> {
         if self.line.as_str().is_empty() {
             return Ok(());
         }
         let request = request_of(self.alloc, self.line.as_str(), self.word.as_slice())?;
-        match self.way {
-            Way::OneByOne | Way::Again => self.run(&request, log),
-            Way::Together => self.taken.add(request, &self.wanted),
+        if self.way == Way::Together {
+            return self.taken.add(request, &self.wanted);
         }
+        self.run(&request, log)
     }
 
     fn run(&mut self, request: &Request, log: &mut Log) -> Result<(), Fault> {
@@ -190,8 +201,7 @@ impl Trial {
             self.tester.run(request, &self.wanted, log)?;
         }
         if self.wanted.journal.is_none() {
-            let journal = Bytes::copy_of(self.alloc, self.tester.home.journal())?;
-            self.wanted.journal = Some(journal);
+            self.want_journal()?;
         }
         Ok(())
     }
@@ -202,10 +212,13 @@ impl Trial {
         if self.taken.requests.is_empty() {
             return Ok(());
         }
-        self.wanted.answer = String::from_str(self.alloc, self.taken.answers.as_str())?;
-        self.wanted.print = Bytes::copy_of(self.alloc, self.taken.prints.as_slice())?;
-        self.tester
-            .run_all(self.taken.requests.as_slice(), &self.wanted, log)
+        self.tester.answer_all(self.taken.requests.as_slice())?;
+        let said = self.tester.said().as_bytes();
+        log.compare("answers together", said, self.taken.answers.as_bytes())?;
+        Ok(
+            self.tester
+                .compare(self.taken.prints.as_slice(), &self.wanted, log)?,
+        )
     }
 
     fn ask(&mut self, line: &str, answer: &str, log: &mut Log) -> Result<(), Fault> {
@@ -217,56 +230,57 @@ impl Trial {
     /// changes nothing is no edit.
     fn edit(&mut self, line: &str, cell: &str, log: &mut Log) -> Result<(), Fault> {
         let after = bytes_in(self.alloc, cell)?;
-        if after.as_slice() == self.wanted.file.as_slice() {
+        self.edit_to(line, after.as_slice(), log)
+    }
+
+    fn edit_to(&mut self, line: &str, after: &[u8], log: &mut Log) -> Result<(), Fault> {
+        if after == self.wanted.file.as_slice() {
             self.ask(line, "unchanged", log)?;
             return self.is_as_before(true, log);
         }
         self.ask(line, "edited 1", log)?;
-        log.compare(line, self.tester.home.file(), after.as_slice())?;
+        log.compare(line, self.tester.home.file(), after)?;
         self.take_back(log)?;
-        self.make_again(after.as_slice(), log)?;
+        self.make_again(after, log)?;
         self.take_back(log)?;
         self.events = self.events.saturating_add(4);
         Ok(())
     }
 
-    /// The number of the newest edit.
-    fn number(&self) -> u64 {
-        self.events.saturating_add(1)
+    /// Moves by the newest edit.
+    fn move_by(&mut self, request: &Request, moved: &str, log: &mut Log) -> Result<(), Fault> {
+        let number = self.events.saturating_add(1);
+        let answer = format!(in self.alloc; "{moved} {number}")?;
+        Ok(self.tester.ask(request, answer.as_str(), log)?)
     }
 
     /// Takes the newest edit back.
     fn take_back(&mut self, log: &mut Log) -> Result<(), Fault> {
-        let undone = format!(in self.alloc; "undone {}", self.number())?;
-        self.tester.ask(&Request::Undo(None), undone.as_str(), log)?;
+        self.move_by(&Request::Undo(None), "undone", log)?;
         self.is_as_before(true, log)
     }
 
     /// Makes the newest edit again, whose text is this one.
     fn make_again(&mut self, after: &[u8], log: &mut Log) -> Result<(), Fault> {
-        let redone = format!(in self.alloc; "redone {}", self.number())?;
-        self.tester.ask(&Request::Redo(None), redone.as_str(), log)?;
+        self.move_by(&Request::Redo(None), "redone", log)?;
         Ok(log.compare("made again", self.tester.home.file(), after)?)
     }
 
     /// Each of n records is deleted in turn and brought back, and there is no further one.
     fn delete_each(&mut self, records: u64, log: &mut Log) -> Result<(), Fault> {
         for index in 0..records {
-            self.delete_one(index, log)?;
+            self.delete(index, "edited 1", log)?;
+            self.is_as_before(false, log)?;
+            self.take_back(log)?;
+            self.events = self.events.saturating_add(2);
         }
-        let following = format!(in self.alloc; "recdel -n {records}")?;
-        self.ask(following.as_str(), "unchanged", log)?;
+        self.delete(records, "unchanged", log)?;
         self.is_as_before(true, log)
     }
 
-    fn delete_one(&mut self, index: u64, log: &mut Log) -> Result<(), Fault> {
+    fn delete(&mut self, index: u64, answer: &str, log: &mut Log) -> Result<(), Fault> {
         let line = format!(in self.alloc; "recdel -n {index}")?;
-        self.ask(line.as_str(), "edited 1", log)?;
-        self.is_as_before(false, log)?;
-        let number = index.saturating_mul(2).saturating_add(1);
-        let undone = format!(in self.alloc; "undone {number}")?;
-        self.tester.ask(&Request::Undo(None), undone.as_str(), log)?;
-        self.is_as_before(true, log)
+        self.ask(line.as_str(), answer, log)
     }
 
     fn is_as_before(&self, wanted: bool, log: &mut Log) -> Result<(), Fault> {

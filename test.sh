@@ -3,9 +3,10 @@
 #     bash test.sh quick                   what needs no proof, in minutes: for a first look, and after a change of the code
 #     bash test.sh                         all parts
 #     bash test.sh proofs                  every proof from nothing, the gate's wrong bodies, the tests in the crates
-#     bash test.sh edits [--gate] [CRATE|EDIT]
+#     bash test.sh edits [--gate] [--anew] [CRATE|EDIT]
 #                                          wrong bodies, which the proofs must refuse: all, those of a crate, or one;
-#                                          with --gate those that all parts try too
+#                                          with --gate those that all parts try too. What was refused before counts,
+#                                          as long as no source changed; with --anew it doesn't
 #     bash test.sh program [CASE]          runs of the built program, and the sessions of the documents
 #     bash test.sh memory [CASE]           runs of the built program with each of their allocations failing in turn
 #     bash test.sh growth [CASE]           calls of the crates with each of their allocations failing in turn
@@ -23,17 +24,10 @@ usage() {
     exit 2
 }
 
-# Takes over the numbers of the last line of rt ci, which stands in the log.
+# Every proof from nothing, the tests in the crates, and the gate's wrong bodies over the libraries that this built. Takes over
+# the numbers of the last line of rt ci.
 proofs() {
-    local lanes status
-    # Three checks at a time, where there are processors and 5 GB of memory for each; one takes 3 GB for the most part, and 6
-    # at most. The crates stand one above another, so a fourth has little to gain, and makes all of them dearer. By itself
-    # rt counts on more memory, and leaves processors idle.
-    lanes=$(nproc)
-    [ "$lanes" -le 3 ] || lanes=3
-    if [ "$(awk '/^MemAvailable/ { print int($2 / 5000000) }' /proc/meminfo)" -ge "$lanes" ]; then
-        export RT_JOBS="${RT_JOBS:-$lanes}"
-    fi
+    local status
     looks
     rt ci | tee "$folder/log"
     status=${PIPESTATUS[0]}
@@ -44,49 +38,56 @@ proofs() {
     else
         failed=$((failed + 1))
     fi
+    # (where a proof failed, libraries may be missing; and where some were built before, rt ci has put those back)
+    if [ "$status" = 0 ]; then
+        if compgen -G 'crates/*/out/rlib/stamp' > /dev/null; then edits --gate; else tries --gate; fi
+    fi
 }
 
-# Says, in seconds, which wrong body doesn't apply any more, which public function has none, whether docs/calls.md lists the
-# public functions, and which of those that need memory has no test in which it is refused; whether docs/guarantees.md counts
-# what has to be read for a clause; and in which places words stand that are to be avoided.
+# Says, in seconds, which wrong body doesn't apply any more, which public function has none, and which of those that ask for
+# memory no test refuses it; whether docs/guarantees.md counts what has to be read for a clause; which line of a clause, a
+# definition or a proof is too long; and in which places words stand that are to be avoided.
 looks() {
     local look
-    for look in 'wrong-bodies.py applied' 'wrong-bodies.py covered' 'wrong-bodies.py listed' 'wrong-bodies.py grown' \
-        'reading-list.py compare' words.py; do
+    for look in 'wrong-bodies.py applied' 'wrong-bodies.py covered' allocating.py 'reading-list.py compare' lines.py words.py; do
         # (a script, and for most of them a word)
         if python3 tests/$look; then passed=$((passed + 1)); else failed=$((failed + 1)); fi
     done
 }
 
-# edits [--gate] [CRATE|EDIT]: wrong bodies of both places, in a copy of the crates; with --gate those of the gate alone
-edits() {
-    local top=$folder/copy second='tests/wrong-bodies/*' crate status wrong
-    if [ "${1-}" = --gate ]; then
-        second=
-        shift
-    fi
-    mkdir "$top"
-    tar -c --exclude=incremental crates.txt HANDLES crates | tar -x -C "$top"
-    for crate in $second; do
-        mkdir -p "$top/crates/${crate##*/}/must-fail"
-        cp "$crate"/*.edit "$top/crates/${crate##*/}/must-fail"
-    done
-    if [ $# = 1 ] && [ ! -d "crates/$1" ]; then
-        find "$top"/crates/*/must-fail -name '*.edit' ! -name "${1%.edit}.edit" -delete
-        compgen -G "$top/crates/*/must-fail/*.edit" > /dev/null || usage
-        shift
-    fi
-    (cd "$top" && rt must-fail "$@") | tee "$folder/log"
+# tries WORD..: tries the wrong bodies that the words ask for, over the libraries that are built. Each of them counts. Those of
+# the gate have to be all that say so of themselves.
+tries() {
+    local status last
+    python3 tests/wrong-bodies.py try "$@" | tee "$folder/log"
     status=${PIPESTATUS[0]}
-    wrong=$(grep -cE ': (NOT REFUSED|BAD EDIT): ' "$folder/log")
-    passed=$((passed + $(grep -c ': refused, as it must be' "$folder/log")))
-    failed=$((failed + (status != 0 && wrong == 0 ? 1 : wrong)))
+    last=$(tail -n 1 "$folder/log")
+    if [[ $last =~ ([0-9]+)\ refused\ now,\ ([0-9]+)\ earlier,\ ([0-9]+)\ not\ refused$ ]]; then
+        passed=$((passed + BASH_REMATCH[1] + BASH_REMATCH[2]))
+        failed=$((failed + BASH_REMATCH[3]))
+        tried=$((BASH_REMATCH[1] + BASH_REMATCH[2] + BASH_REMATCH[3]))
+    fi
+    if [ "${1-}" = --gate ] && [ "${tried-0}" != "$(cat tests/wrong-bodies/*/*.edit | grep -cx 'gate: yes')" ]; then
+        echo "test.sh: not all wrong bodies of the gate were tried: ${tried-0}"
+        failed=$((failed + 1))
+    elif [ "$status" != 0 ] && [ "${BASH_REMATCH[3]-0}" = 0 ]; then
+        failed=$((failed + 1))
+    fi
+}
+
+# edits [--gate] [--anew] [CRATE|EDIT]: wrong bodies, over the libraries below, which are built first where they changed
+edits() {
+    local crate
+    for crate in $(python3 tests/wrong-bodies.py below "$@"); do
+        (cd "crates/$crate" && rt lib > "$folder/log" 2>&1) || { cat "$folder/log"; failed=1; return; }
+    done
+    tries "$@"
 }
 
 # cases FILTER FILE..: the cases of these files whose names the filter fits
 cases() {
     local status passed_here
-    bats --formatter tap --filter "$1" "${@:2}" | tee "$folder/log"
+    bats --jobs "$(nproc)" --formatter tap --filter "$1" "${@:2}" | tee "$folder/log"
     status=${PIPESTATUS[0]}
     passed_here=$(grep -c '^ok ' "$folder/log")
     passed=$((passed + passed_here))
@@ -106,8 +107,7 @@ layout() {
 }
 
 # unproved CRATE: runs the crate's program on what stands beside its src/, as the gate does, but as rt try builds it:
-# with no proof, and with a check of each index, sum and access as it runs. Of each pool of drawn.rec five lists are run,
-# and in stops.rec the first four calls fail, not all.
+# with no proof, and with a check of each index, sum and access as it runs. In stops.rec the first four calls fail, not all.
 unproved() (
     words=() arguments=() input=/dev/null
     cd "crates/$1" || exit 1
@@ -115,7 +115,6 @@ unproved() (
     [ ! -f stdin ] || input=stdin
     if [ -d data ]; then
         cp -r data "$folder/data"
-        sed -i 's/^Lists: [0-9]*/Lists: 5/' "$folder/data/drawn.rec"
         sed -i 's/^Failing: [0-9]*/Failing: 4/' "$folder/data/stops.rec"
         for name in "${arguments[@]}"; do words+=(--data "$name=$folder/data/$name"); done
     fi
@@ -155,7 +154,7 @@ quick() {
 }
 
 program() {
-    cases "${1-}" tests/{edits,batches,diffs,through,revert,forgetting,usage,explanations,notes,files,folders,rivals,stops,rights,streams,selecting,rules,sessions,manual,completions,installing}.bats
+    cases "${1-}" tests/{edits,batches,diffs,through,revert,forgetting,usage,explanations,notes,files,folders,rivals,stops,rights,streams,selecting,rules,sessions,manual,completions,installing,model,tries}.bats
 }
 
 memory() {
@@ -167,8 +166,8 @@ growth() {
 }
 
 all() {
-    echo 'test.sh: all parts take 250 to 477 processor minutes, by the machine, most of it for the proofs: up to three hours on 4 processors'
-    echo 'test.sh: the parts program, memory and growth take 1 to 17 minutes each, once the proofs have built what they run'
+    echo 'test.sh: all parts take up to three hours on 4 processors, by the machine, most of it for the proofs'
+    echo 'test.sh: the parts program, memory and growth take 1 to 10 minutes each, once the proofs have built what they run'
     proofs
     program
     memory
@@ -177,7 +176,7 @@ all() {
 
 case ${1-all} in
     all | proofs | quick) [ $# -le 1 ] || usage ;;
-    edits) [ $# -le 2 ] || [ "$#$2" = 3--gate ] || usage ;;
+    edits) ;;
     program | memory | growth) [ $# -le 2 ] || usage ;;
     *) usage ;;
 esac

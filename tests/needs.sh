@@ -2,7 +2,7 @@
 # Installs what the tests call and lack from Debian's packages. Only root may; anyone else is told what is missing.
 set -euo pipefail
 missing=()
-for pair in flock:util-linux script:bsdutils setpriv:util-linux cmp:diffutils awk:mawk cc:gcc git:git bats:bats patch:patch mandoc:mandoc zsh:zsh fish:fish strace:strace; do
+for pair in flock:util-linux script:bsdutils setpriv:util-linux cmp:diffutils awk:mawk cc:gcc git:git bats:bats parallel:parallel patch:patch mandoc:mandoc zsh:zsh fish:fish strace:strace; do
     command -v "${pair%%:*}" > /dev/null || missing+=("${pair##*:}")
 done
 if [ ${#missing[@]} = 0 ]; then exit 0; fi

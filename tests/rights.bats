@@ -63,7 +63,9 @@ becomes() {
 attributes() {
     if [ ! -x "$BATS_FILE_TMPDIR/attributes" ]; then
         command -v cc > /dev/null || fail 'no C compiler to build attributes.c with'
-        cc -O1 -o "$BATS_FILE_TMPDIR/attributes" "$top/tests/attributes.c"
+        # (cases run beside one another, and each that needs it may find it half made)
+        cc -O1 -o "$BATS_TEST_TMPDIR/attributes" "$top/tests/attributes.c"
+        mv "$BATS_TEST_TMPDIR/attributes" "$BATS_FILE_TMPDIR/attributes"
     fi
     "$BATS_FILE_TMPDIR/attributes" "$@"
 }

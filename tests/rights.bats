@@ -277,9 +277,19 @@ says() {
     recu 0 recsel db.rec
     recu 0 recfix db.rec
     recu 1 recdel -n 0 db.rec
-    prints '' "db.rec: in use by another recu¶$store_failed"
+    prints '' "db.rec: locked by another program¶$store_failed"
     has db.rec "$three"
     only db.rec held
+}
+
+@test "a script that locks the file itself keeps recu out, and one that locks another file doesn't" {
+    put db.rec "$three"
+    ends 1 flock db.rec "$program" recdel -n 0 db.rec
+    prints '' "db.rec: locked by another program¶$store_failed"
+    has db.rec "$three"
+    ends 0 flock db.lock "$program" recdel -n 0 db.rec
+    prints '' ''
+    has db.rec 'B: 2¶¶C: 3¶'
 }
 
 @test "a lock is met by every path, and by another file with the journal" {
@@ -293,9 +303,9 @@ says() {
     holder=$!
     until [ -e held ]; do sleep 0.01; done
     for path in link hard ./db.rec "$PWD/db.rec"; do
-        fails_to_store "$path: in use by another recu" recdel -n 0 "$path"
+        fails_to_store "$path: locked by another program" recdel -n 0 "$path"
     done
-    fails_to_store 'j: in use by another recu' recdel -n 0 --journal j other.rec
+    fails_to_store 'j: locked by another program' recdel -n 0 --journal j other.rec
     has db.rec "$three"
     has other.rec "$three"
     has j ''

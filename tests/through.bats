@@ -355,7 +355,7 @@ ends_so() {
     between flock 5 eval 'flock -o db.rec sleep 20 & echo $! > holder; until ! flock -n db.rec true; do sleep 0.002; done'
     kill "$(< holder)"
     rm holder
-    ends_so 1 "undone: edit 3¶db.rec: in use by another recu¶$store_failed" ''
+    ends_so 1 "undone: edit 3¶db.rec: locked by another program¶$store_failed" ''
     has db.rec 'A: 3¶'
 }
 
@@ -365,7 +365,7 @@ ends_so() {
     for number in 1 2 3 4 5 6; do
         begin
         between rename "$number" "$program" recset -f A -s 9 db.rec
-        ends_so 0 '' "db.rec: in use by another recu¶$store_failed"
+        ends_so 0 '' "db.rec: locked by another program¶$store_failed"
         has db.rec 'A: 1¶'
         tells 'undone 1 recset¶undone 2 recset¶undone 3 recset¶'
     done

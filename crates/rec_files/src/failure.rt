@@ -97,9 +97,9 @@ pub fn second_name(which: Which) -> Error {
     }
 }
 
-/// Another recu edits it.
+/// Another program has it locked, most often another recu that edits it.
 pub fn locked() -> Error {
-    Error::other("in use by another recu")
+    Error::other("locked by another program")
 }
 
 pub fn changed() -> Error {

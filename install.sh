@@ -46,7 +46,7 @@ prefix=${1:-$HOME/.local}
 
 # What is installed, and its place below PREFIX.
 from=("$program") to=(bin/recu)
-for page in "$top"/man/*.[15]; do
+for page in "$top"/man/*.[157]; do
     from+=("$page") to+=("share/man/man${page##*.}/${page##*/}")
 done
 from+=("$top/completions/recu.bash" "$top/completions/recu.zsh" "$top/completions/recu.fish")

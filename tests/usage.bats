@@ -160,8 +160,8 @@ hints() {
     local words
     each hints hints.rows
     for words in 'recset -f A -s -d f' 'undo -5 f' 'revert -5 f' 'forget -5 f' 'recdel --comment -5 f' 'recfix --check -5' \
-        'recset -n 0 -f A -s --force f' 'recset -f A -s --force=1 f' 'recset -f A -s --help f' 'recset -f A -s -h f' 'recset -f A -s -V f' \
-        'recset -f A -s --journal j f' 'recset -f A -s --journal=-j f' 'recset -f A -s -- f' 'recset -f A -s' 'recset -f A -s -n=0 f' \
+        'recset -n 0 -f A -s --force f' 'recset -f A -s --force=1 f' 'recset -f A -s --journal j f' 'recset -f A -s --journal=-j f' \
+        'recset -f A -s' 'recset -f A -s -n=0 f' \
         'recset -fs -5 f' 'recset -fA -ss -5 f' 'recset -xs -5 f' 'recset -s= -5 f' 'recset -f A -d -x f' 'recset -f A -d --foo f' \
         'recset -f A -s 1 f -5' 'recset -- -s -5' 'recsel --journal -j f' 'recsel -b -5 f' 'batch --batch -5 f' 'batch -b -b f' 'nothing -s -5 f'; do
         recu 1 $words
@@ -193,6 +193,43 @@ hints() {
     only f
 }
 
+# meant WORDS HINT: words that are refused, with the hint in the line before the last one
+meant() {
+    put f "$three"
+    eval "recu 1 $1"
+    is_bad_usage
+    has <(said_before_the_end) "hint: $2¶"
+    [ "$(grep -c '^hint: ' "$BATS_TEST_TMPDIR/err")" = 1 ] || fail "recu $1 has several hints"
+    ! grep -q 'tip: to pass' "$BATS_TEST_TMPDIR/err" || fail 'clap advises another word too'
+    has f "$three"
+    only f
+}
+
+@test "what was most likely meant" {
+    each meant meant.rows
+}
+
+@test "no hint where it isn't clear what was meant" {
+    local words
+    put f "$three"
+    for words in 'revert 0 f' 'revert x f' 'forget x f' 'show 0 f' 'show x f' 'undo --through x f' 'batch -b f' 'recins -f A f' \
+        'recsel -k f' 'recsel --sorted f' 'undo -S f' 'recset -n 0 -f A -S'; do
+        recu 1 $words
+        is_bad_usage
+        ! grep -q '^hint' "$BATS_TEST_TMPDIR/err" || fail "recu $words has a hint"
+    done
+    recu 1 revert $'f\e[1m' 3
+    is_bad_usage
+    ! grep -q '^hint' "$BATS_TEST_TMPDIR/err" || fail 'a hint names a word with a control character'
+}
+
+@test "the nearest command" {
+    recu 1 recse f
+    prints '' "error: unrecognized subcommand 'recse'¶¶  tip: the nearest command is 'recset'¶¶Usage: recu <COMMAND>¶¶For more information, try '--help'.¶recu: bad usage¶"
+    recu 1 hist f
+    prints '' "error: unrecognized subcommand 'hist'¶¶  tip: a similar subcommand exists: 'history'¶¶Usage: recu <COMMAND>¶¶For more information, try '--help'.¶recu: bad usage¶"
+}
+
 @test "a command takes one FILE" {
     local words
     put a.rec "$three"
@@ -200,9 +237,9 @@ hints() {
     recu 1 recsel a.rec b.rec
     prints '' "error: unexpected argument 'b.rec' found¶¶Usage: recu recsel [OPTIONS] [FILE]¶¶For more information, try '--help'.¶hint: a command takes one FILE¶recu: bad usage¶"
     for words in 'recsel -c a.rec b.rec a.rec' 'recsel -- a.rec b.rec' 'recinf a.rec b.rec' 'recfix a.rec b.rec' 'recfix --auto a.rec b.rec' \
-        'recins -f A -v 1 a.rec b.rec' 'recdel -n 0 a.rec b.rec' 'recset -f A -d a.rec b.rec' 'recset -n 0 -f A -s Ada Lovelace a.rec' \
+        'recins -f A -v 1 a.rec b.rec' 'recdel -n 0 a.rec b.rec' 'recset -f A -d a.rec b.rec' 'recset -f A Ada Lovelace a.rec' \
         'batch -b c.rec a.rec b.rec' 'undo a.rec b.rec' 'redo a.rec b.rec' 'history a.rec b.rec' 'history --patch a.rec b.rec' 'show 1 a.rec b.rec' \
-        'undo --dry-run a.rec b.rec' 'revert 1 a.rec b.rec' 'revert 1 2 a.rec' 'forget 1 a.rec b.rec' 'forget 1 2 a.rec' \
+        'undo --dry-run a.rec b.rec' 'revert 1 a.rec b.rec' 'forget 1 a.rec b.rec' 'recset -f A -s Ada Lovelace.rec a.rec' \
         'recset -f A a.rec b.rec -s -5'; do
         recu 1 $words
         is_bad_usage

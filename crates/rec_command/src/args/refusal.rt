@@ -2,7 +2,7 @@
 ghost use Rattle.std.specs.Prelude.{◌≡◌, ◌↔◌, IsTrue};
 ghost use Rattle.rec_command.specs.Refusals.{AsksForHelp, refusal_fault};
 
-use crate::hints::hyphenated_value;
+use crate::hints::{Hint, hint_for};
 use clap::error::ErrorKind;
 use rec_tools::Fault;
 use std::alloc::AllocError;
@@ -51,13 +51,15 @@ impl Refusal {
             Refusal::OutOfMemory => Ok(()),
             Refusal::Usage(help) if !help.use_stderr() => help.print(rt),
             Refusal::Usage(error) => explain_usage(rt, error, words),
-            Refusal::Rule(line) => eprintln!(rt; "{line}"),
+            Refusal::Rule(line) => {
+                eprintln!(rt; "{line}")?;
+                say_hint(rt, hint_for(rt.alloc(), words, ""))
+            }
         }
     }
 }
 
-/// Prints what clap says of the words, and a hint where there is one. What clap advises for a value that begins with a hyphen
-/// is left out then, since it doesn't lead to such a value.
+/// Prints what clap says of the words, and a hint where there is one.
 fn explain_usage<R: Print + Eprint + AllocGlobal, S: AsStr>(
     rt: &R,
     error: &clap::Error,
@@ -66,36 +68,49 @@ fn explain_usage<R: Print + Eprint + AllocGlobal, S: AsStr>(
     let Ok(text) = format!(in rt.alloc(); "{error}") else {
         return error.print(rt);
     };
-    if names_a_file(text.as_str()) {
-        error.print(rt)?;
-        return eprintln!(rt; "hint: a command takes one FILE");
-    }
-    let Some(value) = hyphenated_value(words) else {
+    let hint = hint_for(rt.alloc(), words, text.as_str());
+    if hint.is_none() && !text.contains(SIMILAR) {
         return error.print(rt);
-    };
+    }
     print_without_advice(rt, text.as_str())?;
-    eprintln!(rt; "hint: a value that begins with a hyphen is given as {value}")
+    say_hint(rt, hint)
 }
 
-/// Whether clap's text is of a word too many that is no option: of a second file.
-fn names_a_file(text: &str) -> bool {
-    match text.strip_prefix("error: unexpected argument '") {
-        Some(word) => !word.starts_with('-'),
-        None => false,
+fn say_hint<R: Eprint>(rt: &R, hint: Option<Hint<'_>>) -> io::Result<()> {
+    match hint {
+        Some(hint) => eprintln!(rt; "hint: {hint}"),
+        None => Ok(()),
     }
 }
 
-/// Prints clap's text without what it advises for a value that begins with a hyphen.
+/// How clap begins a line that names several tools with names like the word, the nearest last.
+const SIMILAR: &str = "  tip: some similar subcommands exist: ";
+
+/// Prints clap's text with the nearest tool alone, and without what it advises for a word that begins with a hyphen, since that
+/// leads neither to a value nor to an option.
 fn print_without_advice<R: Eprint>(rt: &R, text: &str) -> io::Result<()> {
     let mut is_after_blank = false;
     for line in text.lines() {
         let is_blank = line.is_empty();
-        if !line.starts_with("  tip: to pass '") && !(is_blank && is_after_blank) {
-            eprintln!(rt; "{line}")?;
-            is_after_blank = is_blank;
+        if line.starts_with("  tip: to pass '") || is_blank && is_after_blank {
+            continue;
         }
+        match nearest(line) {
+            Some(tool) => eprintln!(rt; "  tip: the nearest command is {tool}")?,
+            None => eprintln!(rt; "{line}")?,
+        }
+        is_after_blank = is_blank;
     }
     Ok(())
+}
+
+/// The last tool in a line that names several.
+fn nearest(line: &str) -> Option<&str> {
+    let names = line.strip_prefix(SIMILAR)?;
+    match names.rsplit_once(' ') {
+        Some((_, name)) => Some(name),
+        None => None,
+    }
 }
 
 impl From<AllocError> for Refusal {

@@ -322,6 +322,9 @@ tells() {
     tells 'drifted¶' db.rec
     refuses 'the file was changed outside' undo db.rec
     refuses 'the file was changed outside' redo db.rec
+    recu 0 recset --dry-run -n 0 -f A -s 8 db.rec
+    prints '--- db.rec¶+++ db.rec¶@@ -1,1 +1,1 @@¶-A: 7¶+A: 8¶' "db.rec: it was changed outside; 1 edit before that couldn't be undone any more¶"
+    tells 'drifted¶' db.rec
     recu 0 recset -n 0 -f A -s 8 db.rec
     prints '' "db.rec: it was changed outside; 1 edit before that can't be undone any more¶"
     tells 'done 2 recset¶' db.rec

@@ -42,6 +42,22 @@ load helpers
     told '' recsel f
 }
 
+@test "what is said on a terminal of what may not have been meant" {
+    # told WORDS LINE..: on a terminal standard error gets these lines
+    told() {
+        TERM=dumb script -qec "'$recu' $(bytes "$1") > printed" /dev/null > seen
+        printf '%s\r\n' "${@:2}" | has seen
+    }
+    put f 'A: 1¶¶A: 2¶'
+    told "recins -r '# c¶B: 1' f" '1 record changed (edit 1)' 'comments of the text were left out'
+    told "recins -n 0 -r 'B: 1¶# c' f" '1 record changed (edit 2)' 'comments of the text were left out'
+    told "recins -r 'B: # c' f" '1 record changed (edit 3)'
+    told "recset -q '' -f C -a 1 f" '4 records changed (edit 4)' 'every record has the empty text; undo takes the edit back'
+    told "recdel -q '' f" '4 records changed (edit 5)' 'every record has the empty text; undo takes the edit back'
+    does undo f
+    told "recdel -q 1 f" '4 records changed (edit 7)'
+}
+
 @test "what is said on a terminal of a revert" {
     told() {
         local line=$1
@@ -95,7 +111,7 @@ load helpers
     does recset -f A -s 2 f
     put f 'A: 3¶'
     recu 0 recset --dry-run -f A -s 4 f
-    prints '--- f¶+++ f¶@@ -1,1 +1,1 @@¶-A: 3¶+A: 4¶' ''
+    prints '--- f¶+++ f¶@@ -1,1 +1,1 @@¶-A: 3¶+A: 4¶' "f: $said; 1 edit before that couldn't be undone any more¶"
     recu 0 recset -f A -s 4 f
     prints '' "f: $said; 1 edit before that can't be undone any more¶"
     does recset -f A -s 5 f

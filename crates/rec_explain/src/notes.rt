@@ -5,12 +5,13 @@ ghost use Rattle.rec_explain.specs.Lines.{AreLines, IsShown};
 use crate::explanation::Explanation;
 use crate::lines::shown::plain;
 use itoa::Buffer;
-use rec_tools::{Reply, Request, Tool};
+use rec_text::read;
+use rec_tools::{Ask, EditRequest, NewRecord, Pick, Reply, Request, Tool};
 use std::alloc::{AllocError, Global};
 use std::str;
 
 /// What is said of a command that succeeded: always that it ended the undo of earlier edits, where it did, and on a terminal
-/// what it did, or what it would do where it is a dry run.
+/// what it did. Of a dry run it is said what it would do.
 pub fn explain_done(
     alloc: Global,
     file: &str,
@@ -23,9 +24,7 @@ pub fn explain_done(
 {
     let mut said = Explanation::new(alloc);
     let is_tried = matches!(request, Request::Preview(_, _));
-    if !is_tried {
-        say_what_was_dropped(file, reply, &mut said);
-    }
+    say_what_is_dropped(file, reply, is_tried, &mut said);
     if on_terminal && !is_of_several(request) {
         say(
             if is_tried {
@@ -35,6 +34,9 @@ pub fn explain_done(
             },
             &mut said,
         );
+        if let (Request::Edit { edit, .. }, Reply::Edited { .. }) = (request, reply) {
+            say_what_may_surprise(alloc, edit, &mut said);
+        }
     }
     said.into_lines()
 }
@@ -44,8 +46,8 @@ fn is_of_several(request: &Request) -> bool {
     matches!(request, Request::Undo(Some(_)) | Request::Redo(Some(_)))
 }
 
-/// Says how many edits can't be undone any more, since the file was changed outside.
-fn say_what_was_dropped(file: &str, reply: &Reply, said: &mut Explanation) {
+/// Says how many edits can't be undone any more once this one is made, since the file was changed outside.
+fn say_what_is_dropped(file: &str, reply: &Reply, is_tried: bool, said: &mut Explanation) {
     let Reply::Edited { dropped, .. } = reply else {
         return;
     };
@@ -58,8 +60,48 @@ fn say_what_was_dropped(file: &str, reply: &Reply, said: &mut Explanation) {
         ": it was changed outside; ",
         digits.format(*dropped),
         if *dropped == 1 { " edit" } else { " edits" },
-        " before that can't be undone any more",
+        if is_tried {
+            " before that couldn't be undone any more"
+        } else {
+            " before that can't be undone any more"
+        },
     ]);
+}
+
+/// Says what of an edit that was made may not have been meant.
+fn say_what_may_surprise(alloc: Global, edit: &EditRequest, said: &mut Explanation) {
+    match edit {
+        EditRequest::Insert { fresh, .. } => say_what_was_left_out(alloc, fresh, said),
+        EditRequest::Replace { pick, fresh } => {
+            say_what_was_left_out(alloc, fresh, said);
+            say_what_all_have(pick, said);
+        }
+        EditRequest::Delete(pick) | EditRequest::CommentOut(pick) | EditRequest::Set { pick, .. } =>
+            say_what_all_have(pick, said),
+        EditRequest::AutoFill => {}
+    }
+}
+
+/// Says that comments of a new record's text were left out, if it has any.
+fn say_what_was_left_out(alloc: Global, fresh: &NewRecord, said: &mut Explanation) {
+    if let NewRecord::Text(text) = fresh
+        && let Ok(database) = read(alloc, text.as_slice())
+        && database
+            .elements()
+            .iter()
+            .any(|element| !element.is_field() && !element.is_blank())
+    {
+        said.add(&["comments of the text were left out"]);
+    }
+}
+
+/// Says that the records were selected by a text that all have, if they were.
+fn say_what_all_have(pick: &Pick, said: &mut Explanation) {
+    if let Ask::Quick(text) = &pick.by
+        && text.as_slice().is_empty()
+    {
+        said.add(&["every record has the empty text; undo takes the edit back"]);
+    }
 }
 
 /// Says a line, if it was made and is none that is empty.

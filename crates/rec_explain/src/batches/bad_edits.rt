@@ -12,6 +12,8 @@ use std::str;
 
 const TOOL: &str = "an edit needs a Tool: recins, recdel, recset or recfix";
 
+const CAPITAL: &str = "an edit needs a Tool, with a capital: recins, recdel, recset or recfix";
+
 const TOOLS: &str = "recins, recdel, recset or recfix";
 
 const ACTION: &str = "recset needs one of Set, Add, SetAdd, Rename, Delete and Comment";
@@ -178,7 +180,10 @@ fn say_counts(names: usize, values: usize, said: &mut Explanation) {
 /// Looks through the elements of an edit.
 fn check<'t>(alloc: Global, own: &[Element<'t>]) -> Checked<'t> {
     let Some(field) = first_of(own, &[b"Tool"]) else {
-        return lacks(TOOL);
+        return lacks(match first_of(own, &[b"tool"]) {
+            Some(_) => CAPITAL,
+            None => TOOL,
+        });
     };
     let tool = tool_in(alloc, &field)?;
     check_names(own, tool)?;

@@ -61,6 +61,8 @@ install_all() {
     done
     echo "$named is installed in $prefix"
     [[ :$PATH: == *":$prefix/bin:"* ]] || echo "To find it by its name, add this to PATH: $prefix/bin"
+    [[ :${XDG_DATA_HOME:-$HOME/.local/share}:${XDG_DATA_DIRS:-/usr/local/share:/usr/share}: == *":$prefix/share:"* ]] ||
+        echo "For bash to complete its words, add this to ~/.bashrc: . $(printf %q "$prefix/share/bash-completion/completions/recu")"
     ! command -v zsh > /dev/null || [[ $(zsh -fc 'print -l $fpath') == *"$prefix/share/zsh/site-functions"* ]] ||
         echo "For zsh to complete its words, add this to fpath, before compinit is called: $prefix/share/zsh/site-functions"
 }

@@ -1,5 +1,5 @@
-# Completes the words of recu in bash: its tools and options, as its help names them, and the types and field names of the
-# file on the line.
+# Completes the words of recu in bash: its tools and options, as its help names them, and the types, the field names and the
+# numbers of edits of the file on the line.
 
 # _recu_options TOOL: a line for each option of the tool: its letter, its name, and what its value is called, or - for none
 _recu_options() {
@@ -28,6 +28,16 @@ _recu_names() {
     done | sed -n 's/^\([A-Za-z][A-Za-z0-9_]*\):.*/\1/p' | sort -u
 }
 
+# _recu_numbers TOOL FILE [JOURNAL]: the numbers of the file's edits that the tool can name
+_recu_numbers() {
+    local which='done|undone'
+    case $1 in
+        undo | revert) which=done ;;
+        redo) which=undone ;;
+    esac
+    command recu history ${3:+--journal "$3"} -- "$2" 2> /dev/null | sed -nE "s/^($which) ([0-9]+) .*/\2/p"
+}
+
 _recu() {
     local words=("${COMP_WORDS[@]}")
     # Of a word that is begun between two others there is none yet.
@@ -54,16 +64,18 @@ _recu() {
     done < <(_recu_options "$tool")
 
     # The file is the first word that is one, and no option's value.
-    local index word file= type=
+    local index word file= type= journal= stands_after=
     for ((index = 2; index < ${#words[@]}; index++)); do
         word=${words[index]}
         if [ -n "$word" ] && [ -n "${takes[$word]-}" ]; then
             index=$((index + 1))
             [ "${words[index]-}" != = ] || index=$((index + 1))
             [ "${takes[$word]}" != TYPE ] || type=$(_recu_unquoted "${words[index]-}")
+            [ "$word" != --journal ] || journal=$(_recu_unquoted "${words[index]-}")
         elif [ -z "$file" ]; then
             word=$(_recu_unquoted "$word")
             [ ! -f "$word" ] || file=$word
+            [ "$index" -le "$COMP_CWORD" ] || stands_after=$file
         fi
     done
 
@@ -77,12 +89,18 @@ _recu() {
             [[ $current != *,* ]] || list=${current%,*},
             [ -z "$file" ] || COMPREPLY=($(compgen -P "$list" -W "$(_recu_names "$file" "$type")" -- "${current#"$list"}"))
             ;;
+        N)
+            [ -z "$file" ] || COMPREPLY=($(compgen -W "$(_recu_numbers "$tool" "$file" "$journal")" -- "$current"))
+            ;;
         PATH) compopt -o default ;;
         '')
-            case $current in
-                -*) COMPREPLY=($(compgen -W "${options[*]}" -- "$current")) ;;
-                *) compopt -o default ;;
-            esac
+            if [[ $current == -* ]]; then
+                COMPREPLY=($(compgen -W "${options[*]}" -- "$current"))
+            elif [[ $tool == @(revert|show) && -n $stands_after ]]; then
+                COMPREPLY=($(compgen -W "$(_recu_numbers "$tool" "$file" "$journal")" -- "$current"))
+            else
+                compopt -o default
+            fi
             ;;
     esac
 }

@@ -1,6 +1,6 @@
 #compdef recu
-# Completes the words of recu in zsh: its tools and options, as its help names them, and the types and field names of the
-# file on the line.
+# Completes the words of recu in zsh: its tools and options, as its help names them, and the types, the field names and the
+# numbers of edits of the file on the line.
 
 # The types of the file.
 _recu_types() {
@@ -24,6 +24,21 @@ _recu_names() {
     _wanted fields expl field compadd -a names
 }
 
+# The numbers of the file's edits that the tool can name.
+_recu_numbers() {
+    local -a numbers expl
+    local which='done|undone'
+    case $tool in
+        undo | revert) which=done ;;
+        redo) which=undone ;;
+    esac
+    [[ -z $recu_file ]] || numbers=(${(f)"$(
+        recu history ${recu_journal:+--journal} ${recu_journal:+$recu_journal} -- $recu_file 2> /dev/null |
+            sed -nE "s/^($which) ([0-9]+) .*/\\2/p"
+    )"})
+    _wanted numbers expl 'number of an edit' compadd -a numbers
+}
+
 _recu() {
     local tool=$words[2]
     local -a specs match mbegin mend
@@ -41,7 +56,7 @@ _recu() {
     # A spec for each letter and each name of an option.
     local line letter name value about word often
     local -A takes
-    local -A actions=(TYPE _recu_types FIELDS _recu_names NAME _recu_names PATH _files)
+    local -A actions=(TYPE _recu_types FIELDS _recu_names NAME _recu_names N _recu_numbers PATH _files)
     for line in ${(f)"$(recu $tool -h 2> /dev/null)"}; do
         [[ $line =~ '^ +(-[A-Za-z])?(, )?(--[a-z-]+)?( <([A-Z=]+)>)?  +([^ ].*)$' ]] || continue
         letter=$match[1] name=$match[3] value=$match[5] about=${match[6]//(#m)[\]\[:\\]/\\$MATCH} often=
@@ -58,27 +73,29 @@ _recu() {
             esac
         done
     done
-    case $tool in
-        revert | forget) specs+=(':N: ' ':FILE:_files') ;;
-        # (N may be left out)
-        show) specs+=(':FILE:_files' '::FILE:_files') ;;
-        *) specs+=(':FILE:_files') ;;
-    esac
-
     # The file is the first word that is one, and no option's value.
-    local recu_file recu_type
+    local recu_file recu_type recu_journal stands_after
     local -i index
     for (( index = 3; index <= $#words; index++ )); do
         word=${(Q)words[index]}
         if [[ -n $takes[$word] ]]; then
             (( ++index ))
             [[ $takes[$word] != TYPE ]] || recu_type=${(Q)words[index]}
+            [[ $word != --journal ]] || recu_journal=${(Q)words[index]}
         elif [[ $word == --type=* ]]; then
             recu_type=${word#--type=}
         elif [[ -z $recu_file && -f ${~word} ]]; then
             recu_file=${~word}
+            (( index <= CURRENT )) || stands_after=yes
         fi
     done
+    case $tool/$stands_after in
+        revert/* | show/yes) specs+=(':N:_recu_numbers' ':FILE:_files') ;;
+        # (N may be left out)
+        show/) specs+=(':FILE:_files' '::FILE:_files') ;;
+        forget/*) specs+=(':N: ' ':FILE:_files') ;;
+        *) specs+=(':FILE:_files') ;;
+    esac
 
     shift words
     (( CURRENT-- ))

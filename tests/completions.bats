@@ -49,6 +49,24 @@ completes() {
     completes fish
 }
 
+@test "the numbers of edits" {
+    local shell name
+    begin
+    for name in Ada Bo Cy; do does recset -n 0 -f Name -s $name contacts.rec; done
+    does undo contacts.rec
+    does recset --journal j -n 0 -f Title -s X 'my library.rec'
+    for shell in bash zsh fish; do
+        printf '%s\n' 'recu undo contacts.rec --through ' 'recu redo contacts.rec --through ' \
+            'recu undo --journal j my\ library.rec --through ' 'recu undo library.rec --through ' | offers "$shell" > offered
+        has offered '1 2¶3¶1¶¶'
+    done
+    for shell in bash zsh; do
+        printf '%s\n' 'recu revert ^ contacts.rec' 'recu show ^ contacts.rec' 'recu show 1^ contacts.rec' \
+            'recu show --journal j ^ my\ library.rec' | offers "$shell" > offered
+        has offered '1 2¶1 2 3¶1¶1¶'
+    done
+}
+
 @test "the file may stand after what is completed" {
     local shell
     begin

@@ -27,9 +27,15 @@ usage() {
 # Every proof from nothing, the tests in the crates, and the gate's wrong bodies over the libraries that this built. Takes over
 # the numbers of the last line of rt ci.
 proofs() {
-    local status
+    local status lanes
     looks
-    rt ci | tee "$folder/log"
+    # Where there are more than two processors, a check on each, if there are 5 GB of memory for it: one takes 3 GB for the most
+    # part. By itself rt counts on more, and gives some checks two processors, which helps less than another check beside.
+    lanes=$(nproc)
+    if [ "$lanes" -le 2 ] || [ "$(awk '/^MemAvailable/ { print int($2 / 5000000) }' /proc/meminfo)" -lt "$lanes" ]; then
+        lanes=
+    fi
+    RT_JOBS=${RT_JOBS-$lanes} rt ci | tee "$folder/log"
     status=${PIPESTATUS[0]}
     if [[ $(tail -n 1 "$folder/log") =~ ^([0-9]+)\ passed,\ ([0-9]+)\ failed$ ]]; then
         passed=$((passed + BASH_REMATCH[1]))

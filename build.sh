@@ -5,8 +5,8 @@ set -euo pipefail
 cd "$(dirname "$0")"
 recu=$PWD/crates/recu/out/recu
 folder=$(mktemp -d)
-# From nothing (processors: minutes). On 4 it was measured, on fewer it is what the processor minutes come to.
-minutes=([1]=75 [2]=50 [4]=34)
+# From nothing, on a slow machine (processors: minutes). On 4 it was measured, on fewer it is what the processor minutes come to.
+minutes=([1]=145 [2]=110 [4]=93)
 
 # What runs beside this script ends with it, and what it proved is kept.
 end() {
@@ -117,7 +117,7 @@ most=$(($(nproc) > 3 ? 4 : $(nproc) > 1 ? 2 : 1))
 fit=$(awk '/^MemAvailable/ { print int($2 / 3000000) - 1 }' /proc/meminfo)
 jobs=${JOBS:-$((fit < 1 ? 1 : fit > most ? most : fit))}
 if [ ! -x "$recu" ]; then
-    echo "Building recu. From nothing, all of it proved, it takes ${minutes[most]} minutes on $most processors."
+    echo "Building recu. From nothing, all of it proved, it takes up to ${minutes[most]} minutes on $most processors, and a third of that on a fast machine."
     build rec_text
     beside rec_journal 1 rec_text
     build rec_sex rec_check rec_select

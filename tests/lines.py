@@ -16,9 +16,6 @@ CLAUSE = r"\b(?:ensures|requires)(?: \w+)? {"
 EXCEPTED = {
     "crates/rec_diff/proofs/lemmas/RestLemmas.antt",
     "crates/rec_diff/proofs/reverting/records/keep_records/Answers.antt",
-    "crates/rec_edit/src/insertion/fresh.rt",
-    "crates/rec_edit/src/outcome.rt",
-    "crates/rec_edit/src/sound.rt",
 }
 
 

@@ -45,7 +45,8 @@ fn insert(
     auto: bool,
 ) -> Result<Patched, Fault>
     ensures { (force : Bool)
-        → UnlessMemory result (IsCarriedOutIn file.now force (inserting_one record_type.now (fresh_by fresh.now) auto)) }
+        → UnlessMemory result (IsCarriedOutIn file.now force
+        (inserting_one record_type.now (fresh_by fresh.now) auto)) }
 {
     let pairs = new_record(alloc, record_type, fresh)?;
     let automatic = automatic_fields(alloc, file, record_type, auto, &pairs)?;
@@ -61,7 +62,8 @@ fn replace(
     fresh: &NewRecord,
 ) -> Result<Patched, Fault>
     ensures { (force : Bool)
-        → UnlessMemory result (IsCarriedOutIn file.now force (replacing (wanted_by selection.now) (fresh_by fresh.now))) }
+        → UnlessMemory result (IsCarriedOutIn file.now force
+        (replacing (wanted_by selection.now) (fresh_by fresh.now))) }
 {
     // These are the elements of a text.
     let _text = file.database().text();
@@ -127,7 +129,8 @@ fn set(
     action: &Action,
 ) -> Result<Patched, Fault>
     ensures { (force : Bool)
-        → UnlessMemory result (IsCarriedOutIn file.now force (setting_fields (wanted_by selection.now) list.now action.now)) }
+        → UnlessMemory result (IsCarriedOutIn file.now force
+        (setting_fields (wanted_by selection.now) list.now action.now)) }
 {
     let items = items_for(alloc, action, list)?;
     let chosen = chosen_records(alloc, file, selection)?;

@@ -26,7 +26,8 @@ fn puts_no_descriptor_in(edit: &Edit) -> bool
 /// Whether the text after some edits needn't be checked. That is so where they are forced; and a text without a descriptor
 /// has no rules, and most edits put none in.
 pub(crate) fn keep_rules(file: &RecFile, edits: &[Edit], force: bool) -> bool
-    ensures kept { IsTrue result → (made : Edited) → AreSteps force (map task_of edits.now) (text_of file.now.pieces) (Ok made)
+    ensures kept { IsTrue result → (made : Edited)
+        → AreSteps force (map task_of edits.now) (text_of file.now.pieces) (Ok made)
         → IsSoundUnlessForced force made.text (Ok tt) }
     ensures unforced { result ≡ false → force ≡ false }
 {

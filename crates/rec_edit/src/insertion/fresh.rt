@@ -139,7 +139,8 @@ pub(crate) fn new_record(
     fresh: &NewRecord,
 ) -> Result<Vec<Pair>, Fault>
     ensures found { IfOk result (λ pairs. IsNewRecord record_type.now (fresh_by fresh.now) (Ok pairs.items)) }
-    ensures refused { IfErr result (λ fault. IsMemoryOr fault (IsNewRecord record_type.now (fresh_by fresh.now) (Err fault))) }
+    ensures refused { IfErr result (λ fault. IsMemoryOr fault
+        (IsNewRecord record_type.now (fresh_by fresh.now) (Err fault))) }
 {
     let pairs = given_pairs(alloc, fresh)?;
     let names_are_plain = is_plain_type(record_type) && pairs_have_plain_names(&pairs);

@@ -30,10 +30,15 @@ proofs() {
     local status lanes
     looks
     # Where there are more than two processors, a check on each, if there are 5 GB of memory for it: one takes 3 GB for the most
-    # part. By itself rt counts on more, and gives some checks two processors, which helps less than another check beside.
+    # part. By itself rt counts on more, and gives some checks several processors, which helps less than another check beside.
     lanes=$(nproc)
     if [ "$lanes" -le 2 ] || [ "$(awk '/^MemAvailable/ { print int($2 / 5000000) }' /proc/meminfo)" -lt "$lanes" ]; then
         lanes=
+    fi
+    # The crates up to rec_tools stand one above another, so that nothing is beside most of them: there several processors do help.
+    # (what is proved is kept only where the disk has room)
+    if [ -n "$lanes" ] && [ -z "${RT_JOBS-}" ] && [ "$(df --output=avail -k . | tail -n 1)" -gt 20000000 ]; then
+        rt ci rec_tools | grep --line-buffered -vE '^[0-9]+ passed, [0-9]+ failed'
     fi
     RT_JOBS=${RT_JOBS-$lanes} rt ci | tee "$folder/log"
     status=${PIPESTATUS[0]}

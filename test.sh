@@ -179,7 +179,7 @@ growth() {
 }
 
 all() {
-    echo 'test.sh: all parts take up to three hours on 4 processors, by the machine, most of it for the proofs'
+    echo 'test.sh: all parts take some 100 minutes on 4 processors of 2.5 GHz, most of it for the proofs'
     echo 'test.sh: the parts program, memory and growth take 1 to 10 minutes each, once the proofs have built what they run'
     proofs
     program

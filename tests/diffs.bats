@@ -3,7 +3,8 @@
 
 load helpers
 
-# changes NAME BEFORE AFTER DIFF: patch and git apply lead by the diff from one text to the other, and with -R back
+# changes NAME BEFORE AFTER DIFF [OPTION]: patch and git apply, with that option, lead by the diff from one text to the other, and with
+# -R back
 changes() {
     local way from to
     bytes "$4" > "$BATS_TEST_TMPDIR/diff"
@@ -14,7 +15,7 @@ changes() {
     for way in '' -R; do
         from=before to=after
         [ -z "$way" ] || from=after to=before
-        for tool in 'patch -p0 -s -f --binary --no-backup-if-mismatch' 'git apply -p0 --unidiff-zero'; do
+        for tool in 'patch -p0 -s -f --binary --no-backup-if-mismatch' "git apply -p0 ${5-}"; do
             cp "$BATS_TEST_TMPDIR/$from" "./$1"
             $tool $way < "$BATS_TEST_TMPDIR/diff" || fail "$tool $way refuses:" "$(cat "$BATS_TEST_TMPDIR/diff")"
             # A text without a byte is no file after patch.
@@ -26,50 +27,84 @@ changes() {
     cd "$OLDPWD" || fail 'no way back'
 }
 
-# has_diff BEFORE WORDS HUNKS: the words, tried and made, change the file f so
-has_diff() {
-    local diff="--- f¶+++ f¶$3" after
-    put f "$1"
-    eval "recu 0 $(bytes "${2/ / --dry-run }") f"
+# shows_diff LINES BEFORE WORDS HUNKS: the words, tried and made, change the file f so, with that many lines around the changes
+shows_diff() {
+    local diff="--- f¶+++ f¶$4" after
+    put f "$2"
+    eval "recu 0 $(bytes "${3/ / --dry-run --unified $1 }") f"
     prints "$diff" ''
-    has f "$1"
+    has f "$2"
     only f
-    eval "does $(bytes "$2") f"
-    recu 0 show f
+    eval "does $(bytes "$3") f"
+    recu 0 show --unified "$1" f
     prints "$diff" ''
-    recu 0 show 1 f
+    recu 0 show 1 --unified="$1" f
     prints "$diff" ''
-    recu 0 history --patch f
-    prints "done 1 ${2%% *}¶$diff" ''
+    recu 0 history --patch --unified "$1" f
+    prints "done 1 ${3%% *}¶$diff" ''
     after=$(sed 's/\\/\\x5C/g' f; echo .)
     after=${after%.}
-    changes f "$1" "${after//$'\n'/¶}" "$diff"
+    changes f "$2" "${after//$'\n'/¶}" "$diff" "$([ "$1" != 0 ] || echo --unidiff-zero)"
     does undo f
-    has f "$1"
-    recu 0 redo --dry-run f
+    has f "$2"
+    recu 0 redo --dry-run --unified "$1" f
     prints "$diff" ''
-    recu 0 history --patch f
-    prints "undone 1 ${2%% *}¶$diff" ''
-    has f "$1"
+    recu 0 history --unified "$1" --patch f
+    prints "undone 1 ${3%% *}¶$diff" ''
+    has f "$2"
+}
+
+has_diff() {
+    shows_diff 0 "$@"
 }
 
 @test "what an edit changes" {
     each has_diff diffs.rows
 }
 
+@test "lines around the changes" {
+    each shows_diff contexts.rows
+}
+
+@test "three lines stand around a change where no number is given" {
+    put f 'A: 1¶B: 2¶C: 3¶D: 4¶E: 5¶F: 6¶G: 7¶H: 8¶I: 9¶'
+    does recset -f E -s 0 f
+    recu 0 show f
+    prints '--- f¶+++ f¶@@ -2,7 +2,7 @@ A: 1¶ B: 2¶ C: 3¶ D: 4¶-E: 5¶+E: 0¶ F: 6¶ G: 7¶ H: 8¶' ''
+    recu 0 history --patch f
+    prints 'done 1 recset¶--- f¶+++ f¶@@ -2,7 +2,7 @@ A: 1¶ B: 2¶ C: 3¶ D: 4¶-E: 5¶+E: 0¶ F: 6¶ G: 7¶ H: 8¶' ''
+    recu 0 undo --dry-run f
+    prints '--- f¶+++ f¶@@ -2,7 +2,7 @@ A: 1¶ B: 2¶ C: 3¶ D: 4¶-E: 0¶+E: 5¶ F: 6¶ G: 7¶ H: 8¶' ''
+    recu 0 revert --dry-run 1 f
+    prints '--- f¶+++ f¶@@ -2,7 +2,7 @@ A: 1¶ B: 2¶ C: 3¶ D: 4¶-E: 0¶+E: 5¶ F: 6¶ G: 7¶ H: 8¶' ''
+}
+
+@test "a patch of an edit whose lines were changed since is refused" {
+    put f 'Host: a¶Port: 5432¶¶Host: b¶Port: 13¶¶Host: c¶Port: 1¶'
+    does recset -f Port -s 80 f
+    does recset -n 1 -f Port -s 81 f
+    recu 0 show 1 f
+    cp "$BATS_TEST_TMPDIR/out" diff
+    git init -q .
+    cp f kept
+    ! git apply -p0 -R diff || fail 'git takes it'
+    cmp f kept
+    ! patch -p0 -R -f -s -F0 --dry-run < diff || fail 'patch takes it'
+}
+
 @test "an undo that is tried prints the diff turned round" {
     put f 'A: 1¶B: 2¶¶A: 3'
     does recset -n 0 -f A,C -S 9 f
     recu 0 undo --dry-run f
-    prints '--- f¶+++ f¶@@ -1,1 +1,1 @@¶-A: 9¶+A: 1¶@@ -3,1 +2,0 @@ A: 9¶-C: 9¶' ''
+    prints '--- f¶+++ f¶@@ -1,5 +1,4 @@¶-A: 9¶+A: 1¶ B: 2¶-C: 9¶ ¶ A: 3¶\ No newline at end of file¶' ''
     does recdel -n 1 f
     recu 0 undo --dry-run f
-    prints '--- f¶+++ f¶@@ -4,0 +5,1 @@¶+A: 3¶\ No newline at end of file¶' ''
+    prints '--- f¶+++ f¶@@ -2,3 +2,4 @@¶ B: 2¶ C: 9¶ ¶+A: 3¶\ No newline at end of file¶' ''
     has f 'A: 9¶B: 2¶C: 9¶¶'
     refuses 'nothing to redo' redo --dry-run f
     does undo f
     recu 0 redo --dry-run f
-    prints '--- f¶+++ f¶@@ -5,1 +4,0 @@¶-A: 3¶\ No newline at end of file¶' ''
+    prints '--- f¶+++ f¶@@ -2,4 +2,3 @@¶ B: 2¶ C: 9¶ ¶-A: 3¶\ No newline at end of file¶' ''
 }
 
 # batch_has BEFORE TEXT HUNKS: a batch with this text, tried and made, changes the file f so
@@ -77,12 +112,12 @@ batch_has() {
     put f "$1"
     put b "$2"
     rm -f f.journal
-    recu 0 batch --dry-run -b b f
+    recu 0 batch --dry-run --unified 0 -b b f
     prints "--- f¶+++ f¶$3" ''
     has f "$1"
     only f b
     does batch -b b f
-    recu 0 show f
+    recu 0 show --unified 0 f
     prints "--- f¶+++ f¶$3" ''
 }
 
@@ -123,10 +158,10 @@ batch_has() {
         put "./$name" 'A: 1¶B: 2¶'
         does recset -f B -s 3 -- "$name"
         recu 0 show -- "$name"
-        prints "--- $label¶+++ $label¶@@ -2,1 +2,1 @@ A: 1¶-B: 2¶+B: 3¶" ''
-        changes "$name" 'A: 1¶B: 2¶' 'A: 1¶B: 3¶' "--- $label¶+++ $label¶@@ -2,1 +2,1 @@ A: 1¶-B: 2¶+B: 3¶"
+        prints "--- $label¶+++ $label¶@@ -1,2 +1,2 @@ A: 1¶ A: 1¶-B: 2¶+B: 3¶" ''
+        changes "$name" 'A: 1¶B: 2¶' 'A: 1¶B: 3¶' "--- $label¶+++ $label¶@@ -1,2 +1,2 @@ A: 1¶ A: 1¶-B: 2¶+B: 3¶"
         recu 0 undo --dry-run -- "$name"
-        prints "--- $label¶+++ $label¶@@ -2,1 +2,1 @@ A: 1¶-B: 3¶+B: 2¶" ''
+        prints "--- $label¶+++ $label¶@@ -1,2 +1,2 @@ A: 1¶ A: 1¶-B: 3¶+B: 2¶" ''
     done <<'NAMES'
 a b.rec|a b.rec\x09
  lead|" lead"
@@ -222,7 +257,7 @@ NAMES
         only f
     done
     recu 0 recset --dry-run -n 1 -f Id -s 1 --force f
-    prints '--- f¶+++ f¶@@ -8,1 +8,1 @@¶-Id: 2¶+Id: 1¶' ''
+    prints '--- f¶+++ f¶@@ -5,4 +5,4 @@¶ ¶ Id: 1¶ ¶-Id: 2¶+Id: 1¶' ''
     only f
 }
 

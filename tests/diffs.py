@@ -1,7 +1,7 @@
 #!/usr/bin/env python3
 """diffs.py PROGRAM COUNT [SEED]: draws histories of a file, and compares what the program prints of each edit: the dry run before
 it, `show` after it and at the end, and `history --patch`; the real patch and git apply lead by each diff from the text before the
-edit to the one after, and with -R back."""
+edit to the one after, and with -R back. A diff with lines around the changes is that with none, with these lines."""
 
 import os
 import random
@@ -121,18 +121,71 @@ def leads(words, name, diff, here, there):
     return status == 0 and got == there
 
 
-def is_led_by(name, diff, before, after):
+def is_led_by(name, diff, before, after, has_lines=True):
     kept = text(name)
     for words in (
         ["patch", "-p0", "-s", "-f", "--binary", "--no-backup-if-mismatch"],
-        ["git", "apply", "-p0", "--unidiff-zero"],
+        ["git", "apply", "-p0", *([] if has_lines else ["--unidiff-zero"])],
     ):
         there = leads(words, name, diff, before, after)
         back = leads([*words, "-R"], name, diff, after, before)
         # Without lines around it git may take another last line that has no newline.
-        if not (there and back) and not (words[0] == "git" and is_of_any_program(diff, before, after)):
+        excused = not has_lines and words[0] == "git" and is_of_any_program(diff, before, after)
+        if not (there and back) and not excused:
             wrong(f"{words[0]} leads {'elsewhere back' if there else 'elsewhere'} by", diff, before, after)
     write(name, kept)
+
+
+def lines_of(content):
+    """The lines of a text, each with its newline, if it has one."""
+    lines = content.split(b"\n")
+    return [line + b"\n" for line in lines[:-1]] + ([lines[-1]] if lines[-1] else [])
+
+
+def changes_in(diff):
+    """The changes of a diff with no lines around them: where each begins in the text before, how many lines go and how many come,
+    the heading, and the lines that are shown."""
+    changes = []
+    for line in lines_of(diff)[2:]:
+        if line.startswith(b"@@ "):
+            old, new, heading = line[4:].split(b" ", 1)[0], line.split(b"+", 1)[1].split(b" ", 1)[0], line.split(b" @@", 1)[1]
+            at_line, goes = (int(n) for n in old.split(b","))
+            changes.append((at_line - 1 if goes else at_line, goes, int(new.split(b",")[1]), heading, []))
+        else:
+            changes[-1][4].append(line)
+    return changes
+
+
+def widened(diff, before, count):
+    """The same diff with this number of lines around its changes."""
+    if not diff:
+        return diff
+    lines, changes, groups = lines_of(before), changes_in(diff), []
+    for change in changes:
+        if groups and change[0] - (groups[-1][-1][0] + groups[-1][-1][1]) <= 2 * count:
+            groups[-1].append(change)
+        else:
+            groups.append([change])
+    printed, shift = b"".join(lines_of(diff)[:2]), 0
+
+    def stays(start, end):
+        return b"".join(b" " + line + (b"" if line.endswith(b"\n") else b"\n\\ No newline at end of file\n") for line in lines[start:end])
+
+    def place(start, number):
+        return b"%d,%d" % (start + 1 if number else start, number)
+
+    for group in groups:
+        start = max(0, group[0][0] - count)
+        end = min(len(lines), group[-1][0] + group[-1][1] + count)
+        grown = sum(comes - goes for _, goes, comes, _, _ in group)
+        printed += b"@@ -%s +%s @@" % (place(start, end - start), place(start + shift, end - start + grown)) + group[0][3]
+        here = start
+        for at_line, goes, _, _, shown in group:
+            printed += stays(here, at_line) + b"".join(shown)
+            here = at_line + goes
+        printed += stays(here, end)
+        shift += grown
+    return printed
 
 
 class Machine:
@@ -168,6 +221,12 @@ def history_of(program, name, machine):
             if status != 0 or not diff:
                 wrong(f"show {number} ends with {status}:", err)
             is_led_by(name, diff, before, after)
+            plain = run([program, "show", str(number), "--unified", "0", "--", name])[1]
+            is_led_by(name, plain, before, after, has_lines=False)
+            count = draw.choice([1, 2, 3, 5, 1000])
+            for shown, number_of_lines in ((diff, 3), (run([program, "show", f"--unified={count}", str(number), "--", name])[1], count)):
+                if shown != widened(plain, before, number_of_lines):
+                    wrong(f"{number_of_lines} lines around the changes are others:", shown, widened(plain, before, number_of_lines), before)
             printed += b"%s %d %s\n" % (word, number, tool.encode()) + diff
     status, out, err = run([program, "history", "--patch", "--", name])
     if status != 0 or out != printed:

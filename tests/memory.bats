@@ -440,9 +440,9 @@ with_a_history() {
 @test "memory for what an edit changed" {
     local wanted=0
     with_a_history
-    put printed '--- db.rec¶+++ db.rec¶@@ -3,2 +2,0 @@¶-B: 2¶-¶'
+    put printed '--- db.rec¶+++ db.rec¶@@ -1,5 +1,3 @@¶ A: 1¶ ¶-B: 2¶-¶ C: 3¶\ No newline at end of file¶'
     fast each_allocation is_printed show 1 db.rec
-    put printed '--- db.rec¶+++ db.rec¶@@ -1,1 +1,1 @@¶-A: 1¶+A: 6¶'
+    put printed '--- db.rec¶+++ db.rec¶@@ -1,3 +1,3 @@¶-A: 1¶+A: 6¶ ¶ C: 3¶\ No newline at end of file¶'
     fast each_allocation is_printed show db.rec
     cmp db.rec.journal start/db.rec.journal
 }
@@ -454,21 +454,31 @@ with_a_history() {
 done 1 recdel
 --- db.rec
 +++ db.rec
-@@ -3,2 +2,0 @@
+@@ -1,5 +1,3 @@
+ A: 1
+ 
 -B: 2
 -
+ C: 3
+\ No newline at end of file
 done 2 batch
 --- db.rec
 +++ db.rec
-@@ -1,1 +1,1 @@
+@@ -1,3 +1,3 @@
 -A: 1
 +A: 6
+ 
+ C: 3
+\ No newline at end of file
 undone 3 recset
 --- db.rec
 +++ db.rec
-@@ -1,1 +1,1 @@
+@@ -1,3 +1,3 @@
 -A: 6
 +A: 2
+ 
+ C: 3
+\ No newline at end of file
 DIFFS
     fast each_allocation is_printed history --patch db.rec
     cmp db.rec.journal start/db.rec.journal
@@ -477,14 +487,14 @@ DIFFS
 @test "memory for dry runs" {
     local wanted=0
     with_a_history
-    put printed '--- db.rec¶+++ db.rec¶@@ -3,1 +2,0 @@¶-C: 3¶\ No newline at end of file¶'
+    put printed '--- db.rec¶+++ db.rec¶@@ -1,3 +1,2 @@¶ A: 6¶ ¶-C: 3¶\ No newline at end of file¶'
     fast each_allocation is_printed recdel --dry-run -n 1 db.rec
-    put printed '--- db.rec¶+++ db.rec¶@@ -1,1 +1,1 @@¶-A: 6¶+A: 5¶'
+    put printed '--- db.rec¶+++ db.rec¶@@ -1,3 +1,3 @@¶-A: 6¶+A: 5¶ ¶ C: 3¶\ No newline at end of file¶'
     put changes 'Tool: recset¶Number: 0¶Fields: A¶Set: 4¶¶Tool: recset¶Number: 0¶Fields: A¶Set: 5¶'
     fast each_allocation is_printed batch --dry-run -b changes db.rec
-    put printed '--- db.rec¶+++ db.rec¶@@ -1,1 +1,1 @@¶-A: 6¶+A: 1¶'
+    put printed '--- db.rec¶+++ db.rec¶@@ -1,3 +1,3 @@¶-A: 6¶+A: 1¶ ¶ C: 3¶\ No newline at end of file¶'
     fast each_allocation is_printed undo --dry-run db.rec
-    put printed '--- db.rec¶+++ db.rec¶@@ -1,1 +1,1 @@¶-A: 6¶+A: 2¶'
+    put printed '--- db.rec¶+++ db.rec¶@@ -1,3 +1,3 @@¶-A: 6¶+A: 2¶ ¶ C: 3¶\ No newline at end of file¶'
     fast each_allocation is_printed redo --dry-run db.rec
     cmp db.rec.journal start/db.rec.journal
 }

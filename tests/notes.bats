@@ -12,7 +12,7 @@ load helpers
     }
     put f 'A: 1¶¶A: 2¶'
     told '2 records would change' recset --dry-run -f A -s 3 f
-    has printed '--- f¶+++ f¶@@ -1,1 +1,1 @@¶-A: 1¶+A: 3¶@@ -3,1 +3,1 @@¶-A: 2¶+A: 3¶'
+    has printed '--- f¶+++ f¶@@ -1,3 +1,3 @@¶-A: 1¶+A: 3¶ ¶-A: 2¶+A: 3¶'
     told '2 records changed (edit 1)' recset -f A -s 3 f
     has printed ''
     told 'nothing changed' recset -f A -s 3 f
@@ -70,7 +70,7 @@ load helpers
     does recset -f A -s 2 f
     does recset -f B -s 2 f
     told 'it would revert edit 1, recset' revert --dry-run 1 f
-    has printed '--- f¶+++ f¶@@ -1,1 +1,1 @@¶-A: 2¶+A: 1¶'
+    has printed '--- f¶+++ f¶@@ -1,2 +1,2 @@¶-A: 2¶+A: 1¶ B: 2¶'
     told 'reverted: edit 1, recset (edit 3)' revert 1 f
     has printed ''
     told 'undone: edit 3, recset' undo f

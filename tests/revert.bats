@@ -102,9 +102,9 @@ barred() {
     does recins -f A -v 1 db.rec
     does recins -f A -v 2 db.rec
     recu 0 revert 1 --dry-run db.rec
-    prints '--- db.rec¶+++ db.rec¶@@ -2,2 +1,0 @@¶-¶-A: 1¶' ''
+    prints '--- db.rec¶+++ db.rec¶@@ -1,5 +1,3 @@¶ X: 0¶-¶-A: 1¶ ¶ A: 2¶' ''
     recu 0 revert 2 --dry-run db.rec
-    prints '--- db.rec¶+++ db.rec¶@@ -4,2 +3,0 @@¶-¶-A: 2¶' ''
+    prints '--- db.rec¶+++ db.rec¶@@ -1,5 +1,3 @@¶ X: 0¶ ¶ A: 1¶-¶-A: 2¶' ''
     does revert 1 db.rec
     has db.rec 'X: 0¶¶A: 2¶'
     does revert 2 db.rec
@@ -164,7 +164,7 @@ barred() {
     does revert 3 db.rec
     has db.rec 'A: 2¶B: 3¶'
     recu 0 show db.rec
-    prints '--- db.rec¶+++ db.rec¶@@ -1,1 +1,1 @@¶-A: 1¶+A: 2¶' ''
+    prints '--- db.rec¶+++ db.rec¶@@ -1,2 +1,2 @@¶-A: 1¶+A: 2¶ B: 3¶' ''
     tells 'done 1 recset¶done 2 recset¶done 3 recset¶done 6 recset¶done 7 recset¶'
     does undo --through 2 db.rec
     has db.rec 'A: 2¶B: 1¶'
@@ -183,13 +183,13 @@ barred() {
     does recins -t P -f Id -v 3 db.rec
     cp db.rec db.rec.journal "$BATS_TEST_TMPDIR"
     recu 0 revert 1 --dry-run db.rec
-    prints '--- db.rec¶+++ db.rec¶@@ -5,1 +5,1 @@ Id: 1¶-N: x¶+N: a¶' ''
+    prints '--- db.rec¶+++ db.rec¶@@ -2,7 +2,7 @@ Id: 1¶ %key: Id¶ ¶ Id: 1¶-N: x¶+N: a¶ ¶ Id: 2¶ N: y¶' ''
     cmp db.rec "$BATS_TEST_TMPDIR/db.rec"
     cmp db.rec.journal "$BATS_TEST_TMPDIR/db.rec.journal"
     only db.rec db.rec.journal
     does revert 1 db.rec
     recu 0 show db.rec
-    prints '--- db.rec¶+++ db.rec¶@@ -5,1 +5,1 @@ Id: 1¶-N: x¶+N: a¶' ''
+    prints '--- db.rec¶+++ db.rec¶@@ -2,7 +2,7 @@ Id: 1¶ %key: Id¶ ¶ Id: 1¶-N: x¶+N: a¶ ¶ Id: 2¶ N: y¶' ''
 }
 
 @test "where the text stays there is no event" {
@@ -444,7 +444,7 @@ taken_back() {
     does recins -t Q -f M -v 1 db.rec
     # the set goes with the one record that was put in with it
     recu 0 revert 1 --dry-run db.rec
-    prints '--- db.rec¶+++ db.rec¶@@ -2,4 +1,0 @@¶-¶-%rec: P¶-¶-N: 1¶' ''
+    prints '--- db.rec¶+++ db.rec¶@@ -1,8 +1,4 @@¶ X: 0¶-¶-%rec: P¶-¶-N: 1¶ ¶ %rec: Q¶ ¶' ''
     does recins -t P -f N -v 2 db.rec
     has db.rec 'X: 0¶¶%rec: P¶¶N: 1¶¶N: 2¶¶%rec: Q¶¶M: 1¶'
     barred 1 3 recins
@@ -512,7 +512,7 @@ taken_back() {
     stays "$report" 'violations: 1' revert 1 db.rec
     stays "$report" 'violations: 1' revert 1 --dry-run db.rec
     recu 0 revert 1 --force --dry-run db.rec
-    prints '--- db.rec¶+++ db.rec¶@@ -4,1 +4,1 @@¶-Id: 2¶+Id: 1¶' ''
+    prints '--- db.rec¶+++ db.rec¶@@ -1,6 +1,6 @@¶ %rec: P¶ %key: Id¶ ¶-Id: 2¶+Id: 1¶ ¶ Id: 1¶' ''
     does revert --force 1 db.rec
     has db.rec '%rec: P¶%key: Id¶¶Id: 1¶¶Id: 1¶'
 }

@@ -456,12 +456,12 @@ is_cut() {
     does recset -n 1 -f N -s c --force f
     does undo f
     fast is_cut 0 'done 1 recset¶undone 2 recset¶' history f
-    local one='--- f¶+++ f¶@@ -5,2 +5,1 @@ N: a¶-M: x\¶-y¶+M: z¶' two='--- f¶+++ f¶@@ -7,1 +7,1 @@¶-N: b¶+N: c¶'
+    local one='--- f¶+++ f¶@@ -2,7 +2,6 @@ N: a¶ %mandatory: X¶ ¶ N: a¶-M: x\¶-y¶+M: z¶ ¶ N: b¶' two='--- f¶+++ f¶@@ -4,4 +4,4 @@¶ N: a¶ M: z¶ ¶-N: b¶+N: c¶'
     fast is_cut 0 "$one" show f
     fast is_cut 0 "$two" show 2 f
     fast is_cut 0 "done 1 recset¶${one}undone 2 recset¶$two" history --patch f
     fast is_cut 0 "$two" redo --dry-run f
-    fast is_cut 0 '--- f¶+++ f¶@@ -5,1 +5,2 @@ N: a¶-M: z¶+M: x\¶+y¶' revert --dry-run --force 1 f
+    fast is_cut 0 '--- f¶+++ f¶@@ -2,6 +2,7 @@ N: a¶ %mandatory: X¶ ¶ N: a¶-M: z¶+M: x\¶+y¶ ¶ N: b¶' revert --dry-run --force 1 f
     fast is_cut 0 "$two" recset --dry-run -n 1 -f N -s c --force f
     has f '%rec: P¶%mandatory: X¶¶N: a¶M: z¶¶N: b¶'
     only f f.journal

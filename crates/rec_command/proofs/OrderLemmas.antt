@@ -4,6 +4,7 @@ use Rattle.std.specs.Prelude.{string_bytes, Option, Some}
 use Rattle.std.specs.Option.{unwrap_or}
 use Rattle.clap.specs.Words.{Row, Text, first_of}
 use Rattle.rec_select.specs.declared.info.InfoForm.{InfoForm}
+use Rattle.rec_diff.specs.declared.style.DiffStyle.{DiffStyle}
 use Rattle.rec_tools.specs.declared.request.Ask.TheVariants.{All}
 use Rattle.rec_tools.specs.declared.request.Form.{Form}
 use Rattle.rec_tools.specs.declared.request.Pick.{Pick}
@@ -21,7 +22,7 @@ use Rattle.rec_command.specs.declared.tools.Tool.TheVariants.{Batch as ByBatch, 
 use Rattle.rec_command.specs.declared.tools.Tool.TheVariants.{Revert as ByRevert, History as ByHistory}
 use Rattle.rec_command.specs.declared.tools.Tool.TheVariants.{Show as ByShow, Forget as ByForget}
 use Rattle.rec_command.specs.Words.{has_flag, form_for, form_given, info_form_for, info_form_given, number_given, file_given}
-use Rattle.rec_command.specs.Words.{IsNumber, IsEditGiven, IsThroughGiven, IsPick, AsksEdit, Orders, OrdersOrPreviews}
+use Rattle.rec_command.specs.Words.{IsNumber, IsEditGiven, IsStyle, IsThroughGiven, IsPick, AsksEdit, Orders, OrdersOrPreviews}
 use Rattle.rec_command.specs.Words.{Previews, HasNoJournal, IsEditJournal, IsJournal}
 
 -- what a tool has to be given
@@ -40,10 +41,10 @@ Needs ByUndo options = (number : Option ℕ) × IsThroughGiven options number
 Needs ByRedo options = (number : Option ℕ) × IsThroughGiven options number
 Needs ByRevert options = (number : ℕ) × IsEditGiven (first_of (codes "n") options) (Some number)
 Needs ByHistory options =
-    (has_flag (codes "patch") options ≡ false) ⊎ ((name : Text) × (file_given options ≡ Some name))
+    (has_flag (codes "patch") options ≡ false) ⊎ ((style : DiffStyle) × IsStyle options style)
 Needs ByShow options =
     ((number : Option ℕ) × IsEditGiven (number_given options) number)
-    × ((name : Text) × (file_given options ≡ Some name))
+    × ((style : DiffStyle) × IsStyle options style)
 Needs ByForget options =
     (n : ℕ) × (digits : Text) × (first_of (codes "n") options ≡ Some digits) × IsNumber 32 digits n
 
@@ -80,9 +81,9 @@ order-needs tool options (Whole (Redo number)) is = rw is.0 (number, is.1)
 order-needs tool options (Whole (Revert number force)) is = rw is.0 (number, is.1)
 order-needs tool options (Whole (Forget n)) is = rw is.0 (n, is.1.0, is.1.1, is.1.2)
 order-needs tool options (Whole History) is = rw is.0 (inl is.1)
-order-needs tool options (Whole (Log name)) is = rw is.0 (inr (name, is.2))
-order-needs tool options (Whole (Diff number name)) is = rw is.0 ((number, is.1), (name, is.2))
-order-needs tool options (Whole (Preview' shape own name)) is = absurd is
+order-needs tool options (Whole (Log style)) is = rw is.0 (inr (style, is.2))
+order-needs tool options (Whole (Diff number style)) is = rw is.0 ((number, is.1), (style, is.2))
+order-needs tool options (Whole (Preview' shape own style)) is = absurd is
 
 -- what is asked for is ordered, or its preview is
 pub asked-orders : (tool : Tool) (options : List Row) (order : Order) → OrdersOrPreviews tool options order
@@ -126,9 +127,9 @@ module _ (file given journal : Option Text) where
   journal-by (Whole (Revert number force)) is = is
   journal-by (Whole (Forget n)) is = is
   journal-by (Whole History) is = is
-  journal-by (Whole (Log name)) is = is
-  journal-by (Whole (Diff number name)) is = is
-  journal-by (Whole (Preview' shape own name)) is = is
+  journal-by (Whole (Log style)) is = is
+  journal-by (Whole (Diff number style)) is = is
+  journal-by (Whole (Preview' shape own style)) is = is
 
   journal-from : (order : Order) → JournalBy (prints order) file given journal → IsJournal order file given journal
   journal-from (BatchAt path force preview) is = is
@@ -142,9 +143,9 @@ module _ (file given journal : Option Text) where
   journal-from (Whole (Revert number force)) is = is
   journal-from (Whole (Forget n)) is = is
   journal-from (Whole History) is = is
-  journal-from (Whole (Log name)) is = is
-  journal-from (Whole (Diff number name)) is = is
-  journal-from (Whole (Preview' shape own name)) is = is
+  journal-from (Whole (Log style)) is = is
+  journal-from (Whole (Diff number style)) is = is
+  journal-from (Whole (Preview' shape own style)) is = is
 
 edit-alone : (tool : Tool) (options : List Row) (edit : EditRequest) → AsksEdit tool options edit → is_alone tool options ≡ false
 edit-alone tool options (Insert record_type fresh auto) is = rw is.0 refl
@@ -166,25 +167,25 @@ order-alone tool options (Whole (Redo number)) is = rw is.0 refl
 order-alone tool options (Whole (Revert number force)) is = rw is.0 refl
 order-alone tool options (Whole (Forget n)) is = rw is.0 refl
 order-alone tool options (Whole History) is = rw is.0 refl
-order-alone tool options (Whole (Log name)) is = rw is.0 refl
-order-alone tool options (Whole (Diff number name)) is = rw is.0 refl
-order-alone tool options (Whole (Preview' shape own name)) is = absurd is
+order-alone tool options (Whole (Log style)) is = rw is.0 refl
+order-alone tool options (Whole (Diff number style)) is = rw is.0 refl
+order-alone tool options (Whole (Preview' shape own style)) is = absurd is
 
-preview-prints : (name : Text) (order preview : Order) → Previews name order preview → prints preview ≡ false
-preview-prints file order (BatchAt path force preview) is = refl
-preview-prints file order (Whole (Show pick form collapse)) is = absurd is.2
-preview-prints file order (Whole (Info record_type form)) is = absurd is.2
-preview-prints file order (Whole Check) is = absurd is.2
-preview-prints file order (Whole (Edit edit force)) is = absurd is.2
-preview-prints file order (Whole (Batch text force)) is = absurd is.2
-preview-prints file order (Whole (Undo number)) is = absurd is.2
-preview-prints file order (Whole (Redo number)) is = absurd is.2
-preview-prints file order (Whole (Revert number force)) is = absurd is.2
-preview-prints file order (Whole (Forget n)) is = absurd is.2
-preview-prints file order (Whole History) is = absurd is.2
-preview-prints file order (Whole (Log name)) is = absurd is.2
-preview-prints file order (Whole (Diff number name)) is = absurd is.2
-preview-prints file order (Whole (Preview' shape own name)) is = refl
+preview-prints : (style : DiffStyle) (order preview : Order) → Previews style order preview → prints preview ≡ false
+preview-prints style order (BatchAt path force preview) is = refl
+preview-prints style order (Whole (Show pick form collapse)) is = absurd is.2
+preview-prints style order (Whole (Info record_type form)) is = absurd is.2
+preview-prints style order (Whole Check) is = absurd is.2
+preview-prints style order (Whole (Edit edit force)) is = absurd is.2
+preview-prints style order (Whole (Batch text force)) is = absurd is.2
+preview-prints style order (Whole (Undo number)) is = absurd is.2
+preview-prints style order (Whole (Redo number)) is = absurd is.2
+preview-prints style order (Whole (Revert number force)) is = absurd is.2
+preview-prints style order (Whole (Forget n)) is = absurd is.2
+preview-prints style order (Whole History) is = absurd is.2
+preview-prints style order (Whole (Log named)) is = absurd is.2
+preview-prints style order (Whole (Diff number named)) is = absurd is.2
+preview-prints style order (Whole (Preview' shape own named)) is = refl
 
 -- two orders that the same words ask for both print of the file alone, or neither does
 pub same-prints : (tool : Tool) (options : List Row) (one other : Order) → OrdersOrPreviews tool options one

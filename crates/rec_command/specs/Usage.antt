@@ -41,6 +41,10 @@ through_option = valued [] (codes "through")
 abbrev pub dry_run : Rule
 dry_run = flag [] (codes "dry-run")
 
+-- `--unified N`
+abbrev pub unified_option : Rule
+unified_option = valued [] (codes "unified")
+
 -- `--journal PATH`
 abbrev pub journal_option : Rule
 journal_option = valued [] (codes "journal")
@@ -93,6 +97,7 @@ usage_of RecFix = tool_with (codes "recfix") (
     ∷ flag [] (codes "auto")
     ∷ flag [] (codes "force")
     ∷ dry_run
+    ∷ unified_option
     ∷ journal_option
     ∷ word (codes "file")
     ∷ [])
@@ -104,12 +109,14 @@ usage_of RecIns = tool_with (codes "recins") (
     ∷ flag [] (codes "no-auto")
     ∷ flag [] (codes "force")
     ∷ dry_run
+    ∷ unified_option
     ∷ paths)
 usage_of RecDel = tool_with (codes "recdel") (
     selecting
     ++ flag (codes "c") (codes "comment")
     ∷ flag [] (codes "force")
     ∷ dry_run
+    ∷ unified_option
     ∷ paths)
 usage_of RecSet = tool_with (codes "recset") (
     selecting
@@ -122,20 +129,22 @@ usage_of RecSet = tool_with (codes "recset") (
     ∷ flag (codes "c") (codes "comment")
     ∷ flag [] (codes "force")
     ∷ dry_run
+    ∷ unified_option
     ∷ paths)
-usage_of Batch = tool_with (codes "batch") (batch_option ∷ flag [] (codes "force") ∷ dry_run ∷ paths)
-usage_of Undo = tool_with (codes "undo") (through_option ∷ dry_run ∷ paths)
-usage_of Redo = tool_with (codes "redo") (through_option ∷ dry_run ∷ paths)
+usage_of Batch = tool_with (codes "batch") (batch_option ∷ flag [] (codes "force") ∷ dry_run ∷ unified_option ∷ paths)
+usage_of Undo = tool_with (codes "undo") (through_option ∷ dry_run ∷ unified_option ∷ paths)
+usage_of Redo = tool_with (codes "redo") (through_option ∷ dry_run ∷ unified_option ∷ paths)
 usage_of Revert = tool_with (codes "revert") (
     flag [] (codes "force")
     ∷ dry_run
+    ∷ unified_option
     ∷ journal_option
     ∷ needed_word (codes "n")
     ∷ needed_word (codes "file")
     ∷ [])
-usage_of History = tool_with (codes "history") (flag [] (codes "patch") ∷ paths)
+usage_of History = tool_with (codes "history") (flag [] (codes "patch") ∷ unified_option ∷ paths)
 -- clap wants the word that has to be there first, so which of the two is N is said in `Words`
-usage_of Show = tool_with (codes "show") (paths ++ word (codes "second") ∷ [])
+usage_of Show = tool_with (codes "show") (unified_option ∷ paths ++ word (codes "second") ∷ [])
 usage_of Forget = tool_with (codes "forget") (
     journal_option ∷ needed_word (codes "n") ∷ needed_word (codes "file") ∷ [])
 

@@ -1,5 +1,6 @@
 -- What a command line asks for, and the paths that it names.
-use Rattle.std.specs.Prelude.{◌≡◌, ◌≢◌, ◌⊎◌, ℕ, ◌^◌, ◌<◌, ◌==◌, Bool, true, false, not, List, [], codes, string_bytes}
+use Rattle.std.specs.Prelude.{◌≡◌, ◌≢◌, ◌⊎◌, ℕ, ◌^◌, ◌<◌, ◌≤◌, ◌==◌, ◌||◌, Bool, true, false, not}
+use Rattle.std.specs.Prelude.{List, [], codes, string_bytes}
 use Rattle.std.specs.Prelude.{Option, Some, None, option_map}
 use Rattle.std.specs.List.{list_any}
 use Rattle.std.specs.Option.{option_map_or, unwrap_or}
@@ -10,6 +11,7 @@ use Rattle.rec_text.specs.Ascii.{equals_sign}
 use Rattle.rec_select.specs.declared.info.InfoForm.{InfoForm}
 use Rattle.rec_select.specs.declared.info.InfoForm.TheVariants.{Counts, Names, Descriptors}
 use Rattle.rec_edit.specs.Options.{action_for, new_record_for}
+use Rattle.rec_diff.specs.declared.style.DiffStyle.{DiffStyle}
 use Rattle.rec_tools.specs.declared.request.Ask.{Ask}
 use Rattle.rec_tools.specs.declared.request.Ask.TheVariants.{All}
 use Rattle.rec_tools.specs.declared.request.Form.{Form}
@@ -142,6 +144,27 @@ number_given options = (words_given options).0
 abbrev pub file_given : List Row → Option Text
 file_given options = (words_given options).1
 
+-- ---- diffs
+
+-- how many lines that stay are shown around each change: the number of `--unified`, or three
+abbrev pub IsContextGiven : Option Text → ℕ → Type 0
+IsContextGiven None n = n ≡ 3
+IsContextGiven (Some digits) n = IsNumber 64 digits n × (n ≤ 1000)
+
+-- a diff is printed under the name of FILE
+abbrev pub IsStyle : List Row → DiffStyle → Type 0
+IsStyle options style =
+    (file_given options ≡ Some style.name) × IsContextGiven (first_of (codes "unified") options) style.context
+
+-- whether a tool prints a diff
+abbrev pub prints_diff : Tool → List Row → Bool
+prints_diff ByShow options = true
+prints_diff tool options = has_flag (codes "dry-run") options || has_flag (codes "patch") options
+
+-- lines around changes are asked for only with a diff
+abbrev pub FitsDiff : Tool → List Row → Type 0
+FitsDiff tool options = (first_of (codes "unified") options ≡ None) ⊎ (prints_diff tool options ≡ true)
+
 -- ---- what is asked for
 
 -- the edit of a tool and of the options that are found
@@ -180,11 +203,11 @@ Asks tool options (Revert number force) =
 Asks tool options (Forget n) =
     (tool ≡ ByForget) × ((digits : Text) × (first_of (codes "n") options ≡ Some digits) × IsNumber 32 digits n)
 Asks tool options History = (tool ≡ ByHistory) × (has_flag (codes "patch") options ≡ false)
-Asks tool options (Log name) =
-    (tool ≡ ByHistory) × (has_flag (codes "patch") options ≡ true) × (file_given options ≡ Some name)
-Asks tool options (Diff number name) =
-    (tool ≡ ByShow) × IsEditGiven (number_given options) number × (file_given options ≡ Some name)
-Asks tool options (Preview' shape own name) = ⊥
+Asks tool options (Log style) =
+    (tool ≡ ByHistory) × (has_flag (codes "patch") options ≡ true) × IsStyle options style
+Asks tool options (Diff number style) =
+    (tool ≡ ByShow) × IsEditGiven (number_given options) number × IsStyle options style
+Asks tool options (Preview' shape own style) = ⊥
 
 -- a request, or a batch whose text stands in the file that `-b` names; no dry run
 abbrev pub Orders : Tool → List Row → Order → Type 0
@@ -193,27 +216,27 @@ Orders tool options (BatchAt path force preview) =
     (tool ≡ ByBatch) × (first_of (codes "batch") options ≡ Some (string_bytes path))
     × (force ≡ has_flag (codes "force") options) × (preview ≡ None)
 
--- the preview of a request, of a file of this name
-abbrev pub IsPreview : Text → Request → Request → Type 0
-IsPreview name own (Preview' shape held given) = (held ≡ own) × (given ≡ name)
-IsPreview name own request = ⊥
+-- the preview of a request, in this style
+abbrev pub IsPreview : DiffStyle → Request → Request → Type 0
+IsPreview style own (Preview' shape held given) = (held ≡ own) × (given ≡ style)
+IsPreview style own request = ⊥
 
 -- the preview of an order
-abbrev pub Previews : Text → Order → Order → Type 0
-Previews name order (Whole request) = (own : Request) × (order ≡ Whole own) × IsPreview name own request
-Previews name order (BatchAt path force preview) = (order ≡ BatchAt path force None) × (preview ≡ Some name)
+abbrev pub Previews : DiffStyle → Order → Order → Type 0
+Previews style order (Whole request) = (own : Request) × (order ≡ Whole own) × IsPreview style own request
+Previews style order (BatchAt path force preview) = (order ≡ BatchAt path force None) × (preview ≡ Some style)
 
 -- what the options order but for `--dry-run`, or with that the preview of it
 abbrev pub OrdersOrPreviews : Tool → List Row → Order → Type 0
 OrdersOrPreviews tool options order =
     ((has_flag (codes "dry-run") options ≡ false) × Orders tool options order)
-    ⊎ ((has_flag (codes "dry-run") options ≡ true) × ((own : Order) × (name : Text)
-    × (file_given options ≡ Some name) × Orders tool options own × Previews name own order))
+    ⊎ ((has_flag (codes "dry-run") options ≡ true) × ((own : Order) × (style : DiffStyle)
+    × IsStyle options style × Orders tool options own × Previews style own order))
 
--- the request of a batch with this text, or with the name of FILE the preview of it
-abbrev pub IsBatchOf : Text → Bool → Option Text → Request → Type 0
+-- the request of a batch with this text, or with a style the preview of it
+abbrev pub IsBatchOf : Text → Bool → Option DiffStyle → Request → Type 0
 IsBatchOf text force None request = request ≡ Batch text force
-IsBatchOf text force (Some name) request = IsPreview name (Batch text force) request
+IsBatchOf text force (Some style) request = IsPreview style (Batch text force) request
 
 -- ---- the paths
 
@@ -241,6 +264,7 @@ IsJournal _ file given journal = IsEditJournal file given journal
 -- what a tool and its options ask for
 pub record IsAskedBy (tool : Tool) (options : List Row) (line : CommandLine) : Type 0 where
   pub order : OrdersOrPreviews tool options line.order
+  pub unified : FitsDiff tool options
   pub file : option_map string_bytes line.file ≡ file_given options
   pub journal : IsJournal line.order (file_given options) (first_of (codes "journal") options)
       (option_map string_bytes line.journal)

@@ -19,6 +19,7 @@ mod refusal;
 mod reverting;
 mod selecting;
 mod showing;
+mod style;
 mod usage;
 
 use crate::tools::Tool;
@@ -29,7 +30,7 @@ use moving::{redo_order, undo_order};
 use paths::{Paths, paths_of};
 pub use previewing::batch_request;
 use previewing::or_preview;
-use rec_tools::{Bytes, Fault, Request};
+use rec_tools::{DiffStyle, Fault, Request};
 pub use refusal::Refusal;
 use reverting::revert_order;
 use selecting::{recinf_order, recsel_order};
@@ -38,6 +39,7 @@ use std::alloc::{AllocError, Global};
 use std::convert::AsStr;
 use std::rt::Env;
 use std::{env, io};
+use style::require_diff;
 use usage::command;
 
 /// What a command line asks for, and the two files that it is asked of.
@@ -53,11 +55,11 @@ pub struct CommandLine {
 pub enum Order {
     /// A request that the words give whole.
     Whole(Request),
-    /// A batch, whose text is that of the file of this path. A dry run of it has the name of FILE for what it prints.
+    /// A batch, whose text is that of the file of this path. A dry run of it has how its diff is printed.
     BatchAt {
         path: String,
         force: bool,
-        preview: Option<Bytes>,
+        preview: Option<DiffStyle>,
     },
 }
 
@@ -101,6 +103,7 @@ pub fn parse<S: AsStr>(alloc: Global, words: &[S]) -> Result<CommandLine, Refusa
 fn asked_by(alloc: Global, tool: Tool, options: &ArgMatches) -> Result<CommandLine, Refusal>
     ensures { IsOrRefuses (IsAskedBy tool (rows_of (found_of options.now))) result }
 {
+    require_diff(tool, options)?;
     let order = or_preview(alloc, order_of(alloc, tool, options)?, options)?;
     let Paths { file, journal } = paths_of(alloc, &order, options)?;
     Ok(CommandLine {

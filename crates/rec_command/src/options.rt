@@ -82,6 +82,13 @@ const DRY_RUN: Argument = Argument {
     help: "Print what would change, and change nothing",
 };
 
+const UNIFIED: Argument = Argument {
+    written: Written::Name,
+    name: "unified",
+    takes: Takes::Value("LINES"),
+    help: "Print LINES lines around each change [default: 3]",
+};
+
 const JOURNAL: Argument = Argument {
     written: Written::Name,
     name: "journal",
@@ -164,7 +171,7 @@ pub const RECINF: [Argument; 4] = [
     INPUT,
 ];
 
-pub const RECFIX: [Argument; 6] = [
+pub const RECFIX: [Argument; 7] = [
     Argument {
         written: Written::Name,
         name: "check",
@@ -179,11 +186,12 @@ pub const RECFIX: [Argument; 6] = [
     },
     FORCE,
     DRY_RUN,
+    UNIFIED,
     JOURNAL,
     INPUT,
 ];
 
-pub const RECINS: [Argument; 13] = [
+pub const RECINS: [Argument; 14] = [
     Argument {
         written: Written::Both('t'),
         name: "type",
@@ -220,11 +228,12 @@ pub const RECINS: [Argument; 13] = [
     },
     FORCE,
     DRY_RUN,
+    UNIFIED,
     JOURNAL,
     FILE,
 ];
 
-pub const RECDEL: [Argument; 10] = [
+pub const RECDEL: [Argument; 11] = [
     TYPE,
     EXPRESSION,
     NUMBER,
@@ -243,11 +252,12 @@ pub const RECDEL: [Argument; 10] = [
         help: "Delete even without a selection, or if rules break",
     },
     DRY_RUN,
+    UNIFIED,
     JOURNAL,
     FILE,
 ];
 
-pub const RECSET: [Argument; 16] = [
+pub const RECSET: [Argument; 17] = [
     TYPE,
     EXPRESSION,
     NUMBER,
@@ -297,11 +307,12 @@ pub const RECSET: [Argument; 16] = [
     },
     FORCE,
     DRY_RUN,
+    UNIFIED,
     JOURNAL,
     FILE,
 ];
 
-pub const BATCH: [Argument; 5] = [
+pub const BATCH: [Argument; 6] = [
     Argument {
         written: Written::Letter('b'),
         name: "batch",
@@ -315,11 +326,12 @@ pub const BATCH: [Argument; 5] = [
         help: "Make them even without a selection, or if rules break",
     },
     DRY_RUN,
+    UNIFIED,
     JOURNAL,
     FILE,
 ];
 
-pub const UNDO: [Argument; 4] = [
+pub const UNDO: [Argument; 5] = [
     Argument {
         written: Written::Name,
         name: "through",
@@ -327,11 +339,12 @@ pub const UNDO: [Argument; 4] = [
         help: "Undo every edit from the newest down to edit N",
     },
     DRY_RUN,
+    UNIFIED,
     JOURNAL,
     FILE,
 ];
 
-pub const REDO: [Argument; 4] = [
+pub const REDO: [Argument; 5] = [
     Argument {
         written: Written::Name,
         name: "through",
@@ -339,13 +352,15 @@ pub const REDO: [Argument; 4] = [
         help: "Redo every edit from the nearest up to edit N",
     },
     DRY_RUN,
+    UNIFIED,
     JOURNAL,
     FILE,
 ];
 
-pub const REVERT: [Argument; 5] = [
+pub const REVERT: [Argument; 6] = [
     FORCE,
     DRY_RUN,
+    UNIFIED,
     JOURNAL,
     Argument {
         written: Written::NeededWord,
@@ -356,19 +371,21 @@ pub const REVERT: [Argument; 5] = [
     FILE,
 ];
 
-pub const HISTORY: [Argument; 3] = [
+pub const HISTORY: [Argument; 4] = [
     Argument {
         written: Written::Name,
         name: "patch",
         takes: Takes::Nothing,
         help: "Print under each line what that edit changed",
     },
+    UNIFIED,
     JOURNAL,
     FILE,
 ];
 
 /// A word that has to be there comes first here, and so help lists it; where there are two, the first is N all the same.
-pub const SHOW: [Argument; 3] = [
+pub const SHOW: [Argument; 4] = [
+    UNIFIED,
     JOURNAL,
     FILE,
     Argument {

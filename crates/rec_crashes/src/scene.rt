@@ -4,7 +4,7 @@ use crate::requests::{NEXT, TEXT, first_text, request};
 use crate::story::Story;
 use rec_disk::{Disk, MemoryDisk, MemoryFile};
 use rec_files::{Access, DiskHome, run};
-use rec_tools::{Bytes, Output, Request};
+use rec_tools::{Bytes, DiffStyle, Output, Request};
 use std::alloc::{AllocError, Global};
 use std::io::Error;
 use std::{io, mem};
@@ -183,8 +183,11 @@ impl<'r> Scene<'r> {
 
     /// Prints the edits, without a lock, and says whether the journal could be read.
     fn look(&mut self) -> io::Result<bool> {
-        let name = Bytes::from_vec(Vec::new(self.rt.alloc()));
-        self.run(&Request::Log(name), Access::Look)
+        let style = DiffStyle {
+            name: Bytes::from_vec(Vec::new(self.rt.alloc())),
+            context: 0,
+        };
+        self.run(&Request::Log(style), Access::Look)
     }
 
     /// What stands on the disk.

@@ -9,6 +9,12 @@ pub mod PlaceLemmas
 pub mod LiningLemmas
 pub mod CutLemmas
 pub mod HeadingLemmas
+pub mod ContextLemmas
+pub mod CutPlaceLemmas
+pub mod PassageLemmas
+pub mod ShownLemmas
+pub mod patching
+pub mod PatchedLemmas
 pub mod RestLemmas
 pub mod PrintedExamples
 pub mod DiffLemmas

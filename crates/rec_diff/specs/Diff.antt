@@ -1,4 +1,4 @@
--- The printed text of a change: a unified diff without context.
+-- The printed text of a change: a unified diff, with some of the lines that stay before and after each change.
 use Rattle.std.specs.Prelude.{◌≡◌, ℕ, ◌+◌, ◌/◌, ◌%◌, Bool, true, List, [], ◌∷◌, ◌++◌, ◌==◌, ◌&&◌, ◌||◌, not}
 use Rattle.std.specs.Prelude.{codes, decimal, reverse, nat_lt, Result, Ok, Err, if◌then◌else◌}
 use Rattle.std.specs.List.{list_any, flat_map}
@@ -8,8 +8,9 @@ use Rattle.rec_text.specs.declared.fault.Fault.{Fault}
 use Rattle.rec_text.specs.Bytes.{is_nil, is_blank, begins}
 use Rattle.rec_text.specs.Elements.{colon_of}
 use Rattle.rec_journal.specs.declared.patch.Hunk.{Hunk}
-use Rattle.rec_diff.specs.Lines.{at_line, newlines, line_count, lines}
-use Rattle.rec_diff.specs.Changes.{Stretch, stays, turns}
+use Rattle.rec_diff.specs.declared.style.DiffStyle.{DiffStyle}
+use Rattle.rec_diff.specs.Lines.{at_line, newlines, line_count, lines, first_lines, inner_lines, last_lines}
+use Rattle.rec_diff.specs.Changes.{Stretch, stays, turns, before_of, after_of}
 use Rattle.rec_diff.specs.WholeLines.{IsChange}
 
 -- ---- the heading
@@ -38,9 +39,47 @@ abbrev pub after_space : List ℕ → List ℕ
 after_space [] = []
 after_space (b ∷ bs) = space ∷ b ∷ bs
 
--- of a hunk that shows these lines after a text; a blank line stands in no record
+-- of lines that change after a text; a blank line stands in no record
 abbrev pub heading : List ℕ → List ℕ → List ℕ
 heading before shown = if begins_blank shown then [] else after_space (first_field before)
+
+-- of a hunk of these parts after a text: that of the lines that change first, those that go, else those that come
+abbrev pub heading_of : List ℕ → List Stretch → List ℕ
+heading_of before [] = []
+heading_of before (stays t ∷ parts) = heading_of (before ++ t) parts
+heading_of before (turns old new ∷ parts) = heading before (if is_nil old then new else old)
+
+-- ---- what is shown
+
+-- a part of a hunk, or lines that stay and aren't shown
+pub data View : Type 0 where
+  shows : Stretch → View
+  skips : List ℕ → View
+
+-- lines that stay and are shown, before these views; no line is no view
+abbrev pub put_shown : List ℕ → List View → List View
+put_shown [] views = views
+put_shown (b ∷ bs) views = shows (stays (b ∷ bs)) ∷ views
+
+-- Lines that stay, before these views: the first ones are shown after the change before them, and the last ones before
+-- the next change; where there are no more than these, all are.
+abbrev pub put_stay : ℕ → ℕ → List ℕ → List View → List View
+put_stay first last text views =
+    if nat_lt (first + last) (line_count text)
+    then put_shown (first_lines first text)
+    (skips (inner_lines first last text) ∷ put_shown (last_lines last text) views)
+    else put_shown text views
+
+-- how many lines that stay are shown before these parts
+abbrev pub shown_before : ℕ → List Stretch → ℕ
+shown_before n [] = 0
+shown_before n (first ∷ parts) = n
+
+-- the views of parts of whole lines, with n lines around each change, and at the start this number of first lines
+abbrev pub views_of : ℕ → ℕ → List Stretch → List View
+views_of first n [] = []
+views_of first n (stays t ∷ parts) = put_stay first (shown_before n parts) t (views_of n n parts)
+views_of first n (turns old new ∷ parts) = shows (turns old new) ∷ views_of n n parts
 
 -- ---- hunks
 
@@ -62,17 +101,29 @@ head passed_old passed_new old new heading =
     codes "@@ -" ++ (span passed_old old ++ (codes " +" ++ (span passed_new new
     ++ (codes " @@" ++ (heading ++ newline ∷ [])))))
 
--- the lines that are shown first: those that go, else those that come
-abbrev pub hunk : List ℕ → List ℕ → List ℕ → List ℕ → List ℕ
-hunk before after old new =
-    head (newlines before) (newlines after) old new (heading before (if is_nil old then new else old))
-    ++ (marked (codes "-") old ++ marked (codes "+") new)
+-- the lines of a part: those that stay, or those that go and those that come
+abbrev pub part_text : Stretch → List ℕ
+part_text (stays t) = marked (codes " ") t
+part_text (turns old new) = marked (codes "-") old ++ marked (codes "+") new
 
--- the hunks of a change, after these texts
-abbrev pub hunks : List ℕ → List ℕ → List Stretch → List ℕ
-hunks before after [] = []
-hunks before after (stays t ∷ parts) = hunks (before ++ t) (after ++ t) parts
-hunks before after (turns old new ∷ parts) = hunk before after old new ++ hunks (before ++ old) (after ++ new) parts
+-- a hunk of these parts after these texts
+abbrev pub hunk : List ℕ → List ℕ → List Stretch → List ℕ
+hunk before after parts =
+    head (newlines before) (newlines after) (before_of parts) (after_of parts) (heading_of before parts)
+    ++ flat_map part_text parts
+
+-- the same; of no part nothing
+abbrev pub hunk_if : List ℕ → List ℕ → List Stretch → List ℕ
+hunk_if before after [] = []
+hunk_if before after (first ∷ parts) = hunk before after (first ∷ parts)
+
+-- the hunks of views, after these texts and these parts of a hunk, which goes on as long as all is shown
+abbrev pub hunks : List ℕ → List ℕ → List Stretch → List View → List ℕ
+hunks before after parts [] = hunk_if before after parts
+hunks before after parts (shows next ∷ views) = hunks before after (parts ++ next ∷ []) views
+hunks before after parts (skips t ∷ views) =
+    hunk_if before after parts
+    ++ hunks (before ++ (before_of parts ++ t)) (after ++ (after_of parts ++ t)) [] views
 
 -- ---- the name
 
@@ -107,11 +158,11 @@ abbrev pub named : List ℕ → List ℕ → List ℕ
 named name [] = []
 named name (b ∷ bs) = names name ++ b ∷ bs
 
-abbrev pub diff_text : List ℕ → List Stretch → List ℕ
-diff_text name parts = named name (hunks [] [] parts)
+abbrev pub diff_text : DiffStyle → List Stretch → List ℕ
+diff_text style parts = named style.name (hunks [] [] [] (views_of 0 style.context parts))
 
 -- the text that is printed of what a patch changes; printing alone refuses nothing
-abbrev pub IsChangeText : List ℕ → List Hunk → List ℕ → List ℕ → Result (List ℕ) Fault → Type 0
-IsChangeText name patch before after (Ok text) =
-    (parts : List Stretch) × IsChange patch before after parts × (text ≡ diff_text name parts)
-IsChangeText name patch before after (Err fault) = ⊥
+abbrev pub IsChangeText : DiffStyle → List Hunk → List ℕ → List ℕ → Result (List ℕ) Fault → Type 0
+IsChangeText style patch before after (Ok text) =
+    (parts : List Stretch) × IsChange patch before after parts × (text ≡ diff_text style parts)
+IsChangeText style patch before after (Err fault) = ⊥

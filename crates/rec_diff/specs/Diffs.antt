@@ -5,6 +5,7 @@ use Rattle.rec_journal.specs.declared.patch.Direction.{Direction}
 use Rattle.rec_journal.specs.declared.patch.Direction.TheVariants.{Forward, Backward}
 use Rattle.rec_journal.specs.declared.event.EditStep.{EditStep}
 use Rattle.rec_journal.specs.declared.patch.Hunk.{Hunk}
+use Rattle.rec_diff.specs.declared.style.DiffStyle.{DiffStyle}
 use Rattle.rec_diff.specs.Composing.{ComposesAll, patches_of}
 use Rattle.rec_diff.specs.Diff.{IsChangeText}
 
@@ -20,22 +21,23 @@ abbrev pub turned_hunks : List Hunk → List Hunk
 turned_hunks patch = turned_from 0 0 patch
 
 -- what the steps do as one, from the text before to the text after
-abbrev pub IsDiffBy : List ℕ → List EditStep → List ℕ → List ℕ → List ℕ → Type 0
-IsDiffBy name steps before after printed = (patch : List Hunk) × ComposesAll (patches_of steps) patch
-    × IsChangeText name patch before after (Ok printed)
+abbrev pub IsDiffBy : DiffStyle → List EditStep → List ℕ → List ℕ → List ℕ → Type 0
+IsDiffBy style steps before after printed = (patch : List Hunk) × ComposesAll (patches_of steps) patch
+    × IsChangeText style patch before after (Ok printed)
 
 -- the same, from the text after back to the text before
-abbrev pub IsDiffBack : List ℕ → List EditStep → List ℕ → List ℕ → List ℕ → Type 0
-IsDiffBack name steps before after printed = (patch : List Hunk) × ComposesAll (patches_of steps) patch
-    × IsChangeText name (turned_hunks patch) after before (Ok printed)
+abbrev pub IsDiffBack : DiffStyle → List EditStep → List ℕ → List ℕ → List ℕ → Type 0
+IsDiffBack style steps before after printed = (patch : List Hunk) × ComposesAll (patches_of steps) patch
+    × IsChangeText style (turned_hunks patch) after before (Ok printed)
 
 -- from the text here to the text there, where the steps lead forward or are taken back
-abbrev pub IsDiff : Direction → List ℕ → List EditStep → List ℕ → List ℕ → Result (List ℕ) Fault → Type 0
-IsDiff Forward name steps here there (Ok printed) = IsDiffBy name steps here there printed
-IsDiff Backward name steps here there (Ok printed) = IsDiffBack name steps there here printed
-IsDiff direction name steps here there (Err fault) = ⊥
+abbrev pub IsDiff : Direction → DiffStyle → List EditStep → List ℕ → List ℕ → Result (List ℕ) Fault → Type 0
+IsDiff Forward style steps here there (Ok printed) = IsDiffBy style steps here there printed
+IsDiff Backward style steps here there (Ok printed) = IsDiffBack style steps there here printed
+IsDiff direction style steps here there (Err fault) = ⊥
 
 -- there is one at most
 abbrev pub OneDiff : Type 0
-OneDiff = (direction : Direction) (name : List ℕ) (steps : List EditStep) (here there one other : List ℕ)
-    → IsDiff direction name steps here there (Ok one) → IsDiff direction name steps here there (Ok other) → one ≡ other
+OneDiff = (direction : Direction) (style : DiffStyle) (steps : List EditStep)
+    (here there one other : List ℕ) → IsDiff direction style steps here there (Ok one)
+    → IsDiff direction style steps here there (Ok other) → one ≡ other

@@ -5,6 +5,8 @@ pub mod Composing
 pub mod Lines
 pub mod WholeLines
 pub mod Diff
+-- what it tells
+pub mod Patched
 -- the diff of an edit
 pub mod Diffs
 -- one change taken back

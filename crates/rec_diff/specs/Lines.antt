@@ -1,5 +1,6 @@
 -- The physical lines of a text.
-use Rattle.std.specs.Prelude.{ℕ, ◌+◌, Bool, List, [], ◌∷◌, ◌==◌, ◌||◌, count_by, if◌then◌else◌}
+use Rattle.std.specs.Prelude.{ℕ, ◌+◌, ◌-◌, Bool, List, [], ◌∷◌, ◌==◌, ◌||◌, count_by, take, drop, if◌then◌else◌}
+use Rattle.std.specs.List.{flat_map, between}
 use Rattle.rec_text.specs.Ascii.{newline}
 use Rattle.rec_text.specs.Bytes.{is_nil, ends_newline}
 
@@ -23,3 +24,15 @@ onto_first_line b (line ∷ lines) = (b ∷ line) ∷ lines
 abbrev pub lines : List ℕ → List (List ℕ)
 lines [] = []
 lines (b ∷ bs) = if b == newline then (b ∷ []) ∷ lines bs else onto_first_line b (lines bs)
+
+-- ---- some of them
+
+abbrev pub first_lines : ℕ → List ℕ → List ℕ
+first_lines n text = flat_map (λ line. line) (take n (lines text))
+
+abbrev pub last_lines : ℕ → List ℕ → List ℕ
+last_lines n text = flat_map (λ line. line) (drop (line_count text - n) (lines text))
+
+-- those between the first n and the last m
+abbrev pub inner_lines : ℕ → ℕ → List ℕ → List ℕ
+inner_lines n m text = flat_map (λ line. line) (between n (line_count text - m) (lines text))

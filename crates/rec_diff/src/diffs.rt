@@ -9,6 +9,7 @@ ghost use Rattle.rec_diff.specs.Diffs.{turned_hunks, IsDiff, OneDiff};
 
 use crate::composing::compose;
 use crate::printing::write_change;
+use crate::style::DiffStyle;
 use rec_journal::{Direction, EditStep, Hunk};
 use rec_text::{Fault, Sink};
 use std::alloc::{AllocError, Global};
@@ -48,12 +49,12 @@ fn hunks_on(alloc: Global, direction: Direction, hunks: Vec<Hunk>) -> Result<Vec
     }
 }
 
-/// Writes what steps change, from the text here to the text there, as a diff of a file of this name: forward as they
-/// lead, and back as they are taken back.
+/// Writes what steps change, from the text here to the text there, as a diff: forward as they lead, and back as they are
+/// taken back.
 pub fn write_diff<S: Sink>(
     alloc: Global,
     out: &mut S,
-    name: &[u8],
+    style: &DiffStyle,
     direction: Direction,
     steps: &[EditStep],
     here: &[u8],
@@ -61,12 +62,12 @@ pub fn write_diff<S: Sink>(
 ) -> Result<(), Fault>
     requires leads { Along direction (LeadsBy steps.now) here.now there.now }
     ensures written { PrintsAndCounts S.contents S.failure_count out.old out.new
-        (Puts (IsDiff direction name.now steps.now here.now there.now)) result }
+        (Puts (IsDiff direction style.now steps.now here.now there.now)) result }
     ensures refusals { IsOkUnlessEither result Fault.OutOfMemory Fault.StoreFailed }
 {
     let patch = compose(alloc, steps)?;
     let hunks = hunks_on(alloc, direction, patch)?;
-    write_change(alloc, out, name, &hunks, here, there)
+    write_change(alloc, out, style, &hunks, here, there)
 }
 
 /// Steps make one diff at most.

@@ -2,6 +2,7 @@
 ghost use Rattle.rec_diff.specs.Changes.{HunksSplice};
 ghost use Rattle.rec_diff.specs.Composing.{OneComposition, ComposesSplices, ComposesItself};
 ghost use Rattle.rec_diff.specs.WholeLines.{OneChange, ChangesLeadByLines};
+ghost use Rattle.rec_diff.specs.Patched.{DiffsLead, OneTextAfter};
 
 /// The hunks of parts lead from the text before to the text after.
 pub fn hunks_splice()
@@ -31,4 +32,14 @@ pub fn one_change()
 /// A change leads from the text before to the text after by whole lines, and is as short as can be.
 pub fn changes_lead_by_lines()
     ensures { ChangesLeadByLines }
+{}
+
+/// What is printed of a change makes the text after of the text before.
+pub fn diffs_lead()
+    ensures { DiffsLead }
+{}
+
+/// Changes of one text that print alike lead to one text.
+pub fn one_text_after()
+    ensures { OneTextAfter }
 {}

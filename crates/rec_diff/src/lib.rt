@@ -11,18 +11,21 @@ mod laws;
 mod lines;
 mod lining;
 mod marked;
+mod passages;
 mod passed;
 mod printing;
 mod reverting;
+mod style;
 mod turn;
 
 pub use composing::{compose, compose_all};
 pub use diffs::{one_diff, write_diff};
 pub use laws::{
-    changes_lead_by_lines, composes_itself, composes_splices, hunks_splice, one_change,
-    one_composition,
+    changes_lead_by_lines, composes_itself, composes_splices, diffs_lead, hunks_splice, one_change,
+    one_composition, one_text_after,
 };
 pub use printing::write_change;
 pub use rec_journal::{Hunk, Patch};
 pub use rec_text::{Bytes, Fault, Sink};
 pub use reverting::{one_revert, revert, reverts_leave_the_rest};
+pub use style::DiffStyle;

@@ -1,6 +1,7 @@
 //! Lines at the start and the end of a text.
-ghost use Rattle.std.specs.Prelude.{◌≡◌, ◌≤◌, [], length, MatchOption};
+ghost use Rattle.std.specs.Prelude.{◌≡◌, ◌≤◌, ◌+◌, [], length, nat_lt, MatchOption};
 ghost use Rattle.rec_diff.specs.Lines.{at_line as is_at_line, line_count as count_of_lines, lines};
+ghost use Rattle.rec_diff.specs.Lines.{first_lines as lines_at_start, last_lines as lines_at_end};
 ghost use Rattle.rec_diff.specs.Lines.{newlines as count_of_newlines};
 ghost use Rattle.rec_diff.specs.WholeLines.{same_start as start_of_both, same_end as end_of_both, same_lines};
 ghost use Rattle.rec_diff.specs.proving.Turns.{BeginAlike, EndAlike, IsFirstLine, IsLastLine, IsOpenFrom};
@@ -36,6 +37,13 @@ pub(crate) fn line_count(bytes: &[u8]) -> usize
     }
 }
 
+/// Whether there are more lines than both numbers come to.
+pub(crate) fn has_more_lines(bytes: &[u8], first: usize, last: usize) -> bool
+    ensures { result ≡ nat_lt (first + last) (count_of_lines bytes.now) }
+{
+    line_count(bytes).saturating_sub(first) > last
+}
+
 /// Where the line begins that is open at the end.
 pub(crate) fn open_start(text: &[u8]) -> usize
     ensures { IsOpenFrom text.now result }
@@ -65,6 +73,34 @@ fn last_line(text: &[u8]) -> Option<(&[u8], &[u8])>
 {
     let (_, inner) = text.split_last()?;
     Some(text.split_at(open_start(inner)))
+}
+
+/// How many bytes the first n lines have, or all where there are fewer.
+pub(crate) fn first_lines(text: &[u8], count: usize) -> usize
+    ensures { result ≡ length (lines_at_start count text.now) }
+{
+    let mut rest = text;
+    for _ in 0..count {
+        match first_line(rest) {
+            Some((_, following)) => rest = following,
+            None => return text.len(),
+        }
+    }
+    text.len() - rest.len()
+}
+
+/// How many bytes the last n lines have, or all where there are fewer.
+pub(crate) fn last_lines(text: &[u8], count: usize) -> usize
+    ensures { result ≡ length (lines_at_end count text.now) }
+{
+    let mut rest = text;
+    for _ in 0..count {
+        match last_line(rest) {
+            Some((before, _)) => rest = before,
+            None => return text.len(),
+        }
+    }
+    text.len() - rest.len()
 }
 
 /// Two texts without their first line, where that is the same.

@@ -6,6 +6,7 @@ use Rattle.rec_journal.specs.declared.event.EditStep.{EditStep}
 use Rattle.rec_journal.specs.declared.event.Tool.{Tool}
 use Rattle.rec_journal.specs.History.{Opened, Opens}
 use Rattle.rec_edit.specs.declared.answer.Edited.{Edited}
+use Rattle.rec_diff.specs.declared.style.DiffStyle.{DiffStyle}
 use Rattle.rec_tools.specs.declared.request.Reply.{Reply}
 use Rattle.rec_tools.specs.declared.request.Reply.TheVariants.{Shown, Edited as EditedReply, Redone, Reverted}
 use Rattle.rec_tools.specs.declared.request.Request.{Request, Undo, Redo, Revert, Forget, History}
@@ -43,11 +44,11 @@ MadeAnEdit _ = ⊥
 -- The preview of a request that makes an edit, or makes one again, prints what is shown of the newest edit once the
 -- request is done.
 abbrev pub PreviewIsShowAfter : Type 0
-PreviewIsShowAfter = (c : Contents) (request : Request) (name : List ℕ) (done previewed : Outcome)
+PreviewIsShowAfter = (c : Contents) (request : Request) (style : DiffStyle) (done previewed : Outcome)
     → (WritesNothing (asked_of request) → ⊥) → MadeAnEdit done.reply
     → IsRequestOutcome c (asked_of request) (Ok done)
-    → IsRequestOutcome c (previewing name (asked_of request)) (Ok previewed)
-    → IsRequestOutcome (written c done.writes) (showing None name) (Ok (printing previewed.text Shown))
+    → IsRequestOutcome c (previewing style (asked_of request)) (Ok previewed)
+    → IsRequestOutcome (written c done.writes) (showing None style) (Ok (printing previewed.text Shown))
 
 -- ---- undo and redo
 
@@ -73,7 +74,7 @@ RedoBringsBack = (c : Contents) (through : Option ℕ) (done : Outcome)
 
 -- what is asked for is a preview
 abbrev pub IsPreview : Asked → Type 0
-IsPreview (previewing name asked) = Unit {0}
+IsPreview (previewing style asked) = Unit {0}
 IsPreview _ = ⊥
 
 -- the edits that are asked for make this of a text, told with this tool

@@ -27,6 +27,7 @@ use Rattle.rec_tools.specs.declared.request.Reply.TheVariants.{Reverted, Forgott
 use Rattle.rec_tools.specs.Home.{Contents, Write, writes_by, written}
 use Rattle.rec_tools.specs.Reverting.{IsRevertOf}
 use Rattle.rec_tools.specs.Steps.{Then}
+use Rattle.rec_diff.specs.declared.style.DiffStyle.{DiffStyle}
 use Rattle.rec_diff.specs.Diffs.{IsDiff}
 use Rattle.rec_tools.specs.Printouts.{Printout, IsShownText, printed_history, IsShownEdit, IsWholeLog}
 use Rattle.rec_tools.specs.Requests.{Edits, Asked, looking, listing, showing, listing_changes, editing, moving}
@@ -170,16 +171,16 @@ pub record LeadsAcross (direction : Direction) (e : Revision) (c d : Contents) :
   pub on_top : OnTop direction e here.past there.past
   pub leads : Leads direction e c.file d.file
 
--- what is printed of the way from the one contents to the others, under a name: nothing where the files are the same
-abbrev pub IsPreviewText : List ℕ → Contents → Contents → List ℕ → Type 0
-IsPreviewText name c d printed =
+-- what is printed of the way from the one contents to the others, in a style: nothing where the files are the same
+abbrev pub IsPreviewText : DiffStyle → Contents → Contents → List ℕ → Type 0
+IsPreviewText style c d printed =
     ((d.file ≡ c.file) × (printed ≡ []))
     ⊎ ((direction : Direction) × (e : Revision) × LeadsAcross direction e c d
-    × IsDiff direction name e.steps c.file d.file (Ok printed))
+    × IsDiff direction style e.steps c.file d.file (Ok printed))
 
 -- what is asked for is printed as a change, and not done
-pub record IsPreviewOf (name : List ℕ) (c : Contents) (would outcome : Outcome) : Type 0 where
-  pub text : IsPreviewText name c (written c would.writes) outcome.text
+pub record IsPreviewOf (style : DiffStyle) (c : Contents) (would outcome : Outcome) : Type 0 where
+  pub text : IsPreviewText style c (written c would.writes) outcome.text
   pub writes : outcome.writes ≡ []
   pub reply : outcome.reply ≡ would.reply
 
@@ -197,12 +198,12 @@ IsRequestOutcome c (reverting number force) answer =
 IsRequestOutcome c (moving direction through) answer =
     Then (IsOpening c.file c.journal) (λ o. IsMove direction through o c) answer
 IsRequestOutcome c (forgetting n) answer = Then (IsOpening c.file c.journal) (λ o. IsForgetting n o c) answer
-IsRequestOutcome c (showing number name) answer =
-    IsPrinting (IsShownText (IsShownEdit number name c.file c.journal)) answer
-IsRequestOutcome c (listing_changes name) answer = IsPrinting (IsShownText (IsWholeLog name c.file c.journal)) answer
-IsRequestOutcome c (previewing name asked) (Ok outcome) =
-    (would : Outcome) × IsRequestOutcome c asked (Ok would) × IsPreviewOf name c would outcome
-IsRequestOutcome c (previewing name asked) (Err fault) = IsRequestOutcome c asked (Err fault)
+IsRequestOutcome c (showing number style) answer =
+    IsPrinting (IsShownText (IsShownEdit number style c.file c.journal)) answer
+IsRequestOutcome c (listing_changes style) answer = IsPrinting (IsShownText (IsWholeLog style c.file c.journal)) answer
+IsRequestOutcome c (previewing style asked) (Ok outcome) =
+    (would : Outcome) × IsRequestOutcome c asked (Ok would) × IsPreviewOf style c would outcome
+IsRequestOutcome c (previewing style asked) (Err fault) = IsRequestOutcome c asked (Err fault)
 
 -- an answer with the decision as an outcome
 abbrev pub outcome_in : Result Decision Fault → Result Outcome Fault

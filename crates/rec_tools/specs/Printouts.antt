@@ -20,6 +20,7 @@ use Rattle.rec_select.specs.Printing.{IsPrinted}
 use Rattle.rec_select.specs.Report.{report}
 use Rattle.rec_select.specs.declared.records.Shape.{Shape}
 use Rattle.rec_select.specs.Selection.{Filter, IsSelection}
+use Rattle.rec_diff.specs.declared.style.DiffStyle.{DiffStyle}
 use Rattle.rec_diff.specs.Diffs.{IsDiff}
 use Rattle.rec_tools.specs.declared.request.Form.{Form}
 use Rattle.rec_tools.specs.declared.request.Pick.{Pick}
@@ -105,11 +106,11 @@ IsHistory file journal = Then (IsOpening file journal) (λ o answer. answer ≡ 
 
 -- ---- what edits made
 
--- what the edit of a number made of a file, or the newest that can be undone, as a diff under a name
-abbrev pub IsShownEdit : Option ℕ → List ℕ → List ℕ → List ℕ → Result (List ℕ) Fault → Type 0
-IsShownEdit number name file journal =
+-- what the edit of a number made of a file, or the newest that can be undone, as a diff in a style
+abbrev pub IsShownEdit : Option ℕ → DiffStyle → List ℕ → List ℕ → Result (List ℕ) Fault → Type 0
+IsShownEdit number style file journal =
     Then (IsOpening file journal) (λ o.
-    Then (IsEditTexts o file number) (λ made. IsDiff Forward name made.edit.steps made.before made.after))
+    Then (IsEditTexts o file number) (λ made. IsDiff Forward style made.edit.steps made.before made.after))
 
 -- an edit of the history with its texts
 pub record Told : Type 0 where
@@ -130,24 +131,24 @@ told_of made = record {
   after = made.after;
 }
 
--- of each edit its line in the history, and after it what it made, under a name
-abbrev pub IsLog : List ℕ → List Told → List ℕ → Type 0
-IsLog name [] printed = printed ≡ []
-IsLog name (e ∷ edits) printed = (diff rest : List ℕ)
-    × IsDiff Forward name e.steps e.before e.after (Ok diff) × IsLog name edits rest
+-- of each edit its line in the history, and after it what it made, in a style
+abbrev pub IsLog : DiffStyle → List Told → List ℕ → Type 0
+IsLog style [] printed = printed ≡ []
+IsLog style (e ∷ edits) printed = (diff rest : List ℕ)
+    × IsDiff Forward style e.steps e.before e.after (Ok diff) × IsLog style edits rest
     × (printed ≡ step_line (word_of e.done) (e.number, e.tool) ++ (diff ++ rest))
 
 -- the same of the edits of a history; refused where the file doesn't lead to all their texts
-abbrev pub IsLogOf : List ℕ → List ℕ → Opened → Result (List ℕ) Fault → Type 0
-IsLogOf name file o (Ok printed) =
+abbrev pub IsLogOf : DiffStyle → List ℕ → Opened → Result (List ℕ) Fault → Type 0
+IsLogOf style file o (Ok printed) =
     ((o.drifted ≡ true) × (printed ≡ codes "drifted\n"))
-    ⊎ ((o.drifted ≡ false) × ((all : List WithTexts) × AreEditTexts o file all × IsLog name (map told_of all) printed))
-IsLogOf name file o (Err fault) =
+    ⊎ ((o.drifted ≡ false) × ((all : List WithTexts) × AreEditTexts o file all × IsLog style (map told_of all) printed))
+IsLogOf style file o (Err fault) =
     (fault ≡ Drifted) × (o.drifted ≡ false) × ((all : List WithTexts) → AreEditTexts o file all → ⊥)
 
 -- the history with what its edits made, or why there is none
-abbrev pub IsWholeLog : List ℕ → List ℕ → List ℕ → Result (List ℕ) Fault → Type 0
-IsWholeLog name file journal = Then (IsOpening file journal) (IsLogOf name file)
+abbrev pub IsWholeLog : DiffStyle → List ℕ → List ℕ → Result (List ℕ) Fault → Type 0
+IsWholeLog style file journal = Then (IsOpening file journal) (IsLogOf style file)
 
 -- ---- what went out
 

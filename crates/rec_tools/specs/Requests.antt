@@ -9,6 +9,7 @@ use Rattle.rec_journal.specs.declared.patch.Direction.TheVariants.{Forward, Back
 use Rattle.rec_journal.specs.declared.event.Tool.{Tool}
 use Rattle.rec_journal.specs.declared.event.Tool.TheVariants.{Batch as ByBatch}
 use Rattle.rec_edit.specs.Task.{Wanted, Task, insert, replace, delete, comment_out, set, auto_fill, fresh_by, tool_of}
+use Rattle.rec_diff.specs.declared.style.DiffStyle.{DiffStyle}
 use Rattle.rec_tools.specs.declared.home.Which.{Which}
 use Rattle.rec_tools.specs.declared.home.Which.TheVariants.{Base as TheFile, Journal as TheJournal}
 use Rattle.rec_tools.specs.declared.request.Pick.{Pick}
@@ -34,10 +35,10 @@ pub data Asked : Type 1 where
   looking : (List ℕ → Result Printout Fault → Type 0) → Asked
   -- the history is printed
   listing : Asked
-  -- what an edit made is printed, that of this number or the newest that can be taken back, under this name
-  showing : Option ℕ → List ℕ → Asked
-  -- the history is printed, and after each edit what it made, under this name
-  listing_changes : List ℕ → Asked
+  -- what an edit made is printed, that of this number or the newest that can be taken back, in this style
+  showing : Option ℕ → DiffStyle → Asked
+  -- the history is printed, and after each edit what it made, in this style
+  listing_changes : DiffStyle → Asked
   -- these edits are made, unless they can't be told
   editing : (Result Edits Fault → Type 0) → Asked
   -- the nearest edit that way is taken back or made again; where a number is named, only if one that way has it
@@ -46,8 +47,8 @@ pub data Asked : Type 1 where
   reverting : ℕ → Bool → Asked
   -- all but the newest n of the edits that can be taken back are forgotten
   forgetting : ℕ → Asked
-  -- nothing is done of what is asked for; what it would change of the file is printed, under this name
-  previewing : List ℕ → Asked → Asked
+  -- nothing is done of what is asked for; what it would change of the file is printed, in this style
+  previewing : DiffStyle → Asked → Asked
 
 -- ---- edits
 
@@ -116,9 +117,9 @@ asked_of (Redo through) = moving Forward through
 asked_of (Revert number force) = reverting number force
 asked_of (Forget n) = forgetting n
 asked_of History = listing
-asked_of (Diff number name) = showing number name
-asked_of (Log name) = listing_changes name
-asked_of (Preview' shape request name) = previewing name (asked_of request)
+asked_of (Diff number style) = showing number style
+asked_of (Log style) = listing_changes style
+asked_of (Preview' shape request style) = previewing style (asked_of request)
 
 -- the contents that are read for it, in this order
 abbrev pub reads_of : Asked → List Which
@@ -126,11 +127,11 @@ reads_of (looking IsText) = TheFile ∷ []
 reads_of listing = TheFile ∷ TheJournal ∷ []
 reads_of (editing IsEdit) = TheFile ∷ TheJournal ∷ []
 reads_of (moving direction through) = TheFile ∷ TheJournal ∷ []
-reads_of (showing number name) = TheFile ∷ TheJournal ∷ []
-reads_of (listing_changes name) = TheFile ∷ TheJournal ∷ []
+reads_of (showing number style) = TheFile ∷ TheJournal ∷ []
+reads_of (listing_changes style) = TheFile ∷ TheJournal ∷ []
 reads_of (reverting number force) = TheFile ∷ TheJournal ∷ []
 reads_of (forgetting n) = TheFile ∷ TheJournal ∷ []
-reads_of (previewing name asked) = reads_of asked
+reads_of (previewing style asked) = reads_of asked
 
 -- nothing is printed for it
 abbrev pub IsSilent : Asked → Type 0
@@ -138,11 +139,11 @@ IsSilent (looking IsText) = ⊥
 IsSilent listing = ⊥
 IsSilent (editing IsEdit) = Unit {0}
 IsSilent (moving direction through) = Unit {0}
-IsSilent (showing number name) = ⊥
-IsSilent (listing_changes name) = ⊥
+IsSilent (showing number style) = ⊥
+IsSilent (listing_changes style) = ⊥
 IsSilent (reverting number force) = Unit {0}
 IsSilent (forgetting n) = Unit {0}
-IsSilent (previewing name asked) = ⊥
+IsSilent (previewing style asked) = ⊥
 
 -- nothing is written for it
 abbrev pub WritesNothing : Asked → Type 0
@@ -150,8 +151,8 @@ WritesNothing (looking IsText) = Unit {0}
 WritesNothing listing = Unit {0}
 WritesNothing (editing IsEdit) = ⊥
 WritesNothing (moving direction through) = ⊥
-WritesNothing (showing number name) = Unit {0}
-WritesNothing (listing_changes name) = Unit {0}
+WritesNothing (showing number style) = Unit {0}
+WritesNothing (listing_changes style) = Unit {0}
 WritesNothing (reverting number force) = ⊥
 WritesNothing (forgetting n) = ⊥
-WritesNothing (previewing name asked) = Unit {0}
+WritesNothing (previewing style asked) = Unit {0}

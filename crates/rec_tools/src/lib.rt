@@ -28,6 +28,7 @@ pub use laws::{
 };
 pub use memory::MemoryHome;
 pub use rec_check::RecFile;
+pub use rec_diff::DiffStyle;
 pub use rec_edit::{Action, Edited, NewRecord, Pair, RefusedEdit};
 pub use rec_journal::{Direction, Tool};
 pub use rec_select::InfoForm;

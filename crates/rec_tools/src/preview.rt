@@ -9,48 +9,48 @@ ghost use Rattle.rec_tools.specs.proving.Courses.{LeadsFromFile, IsTextOfChange,
 
 use crate::decision::{Change, decide};
 use crate::request::{Reply, Request};
-use rec_diff::write_diff;
+use rec_diff::{DiffStyle, write_diff};
 use rec_text::{Fault, Sink};
 use std::alloc::Global;
 
-/// Prints what a change makes of a file, as a diff of a file of this name; of none nothing.
+/// Prints what a change makes of a file, as a diff; of none nothing.
 fn write_change<S: Sink>(
     alloc: Global,
     file: &[u8],
     change: Option<&Change>,
-    name: &[u8],
+    style: &DiffStyle,
     out: &mut S,
 ) -> Result<(), Fault>
     requires { LeadsFromFile file.now (option_copied change) }
     ensures written { PrintsAndCounts S.contents S.failure_count out.old out.new
-        (Puts (IsTextOfChange name.now file.now (option_copied change.entry))) result }
+        (Puts (IsTextOfChange style.now file.now (option_copied change.entry))) result }
     ensures refusals { IsOkUnlessEither result Fault.OutOfMemory Fault.StoreFailed }
 {
     match change {
         Some(change) => {
             let steps = change.steps.as_slice();
             let text = change.text.as_slice();
-            write_diff(alloc, out, name, change.direction, steps, file, text)
+            write_diff(alloc, out, style, change.direction, steps, file, text)
         }
         None => Ok(()),
     }
 }
 
-/// Prints what a request would change that prints nothing itself, as a diff of a file of this name.
+/// Prints what a request would change that prints nothing itself, as a diff.
 pub fn print_preview<S: Sink>(
     alloc: Global,
     file: &[u8],
     journal: &[u8],
     previewed: &Request,
-    name: &[u8],
+    style: &DiffStyle,
     out: &mut S,
 ) -> Result<Reply, Fault>
     requires { IsSilent (asked_of previewed.now) }
     ensures written { PrintsAndCounts S.contents S.failure_count out.old out.new
-        (PutsPrintout (IsPreviewed name.now file.now journal.now (asked_of previewed.now))) result }
+        (PutsPrintout (IsPreviewed style.now file.now journal.now (asked_of previewed.now))) result }
     ensures refusals { IfErr result IsRefusal }
 {
     let decision = decide(alloc, file, journal, previewed)?;
-    write_change(alloc, file, decision.change(), name, out)?;
+    write_change(alloc, file, decision.change(), style, out)?;
     Ok(decision.reply())
 }

@@ -1,4 +1,5 @@
 //! What a user asks for, and what is answered.
+use rec_diff::DiffStyle;
 use rec_edit::{Action, NewRecord};
 use rec_journal::Tool;
 use rec_select::InfoForm;
@@ -160,13 +161,12 @@ pub enum Request {
     /// Prints the edits: those that stand, the oldest first, and then those that can be made again, the nearest first; or
     /// that the file was changed outside.
     History,
-    /// Prints what an edit of the history made, that of this number or the newest that can be taken back, as a diff of a file
-    /// of this name.
-    Diff(Option<usize>, Bytes),
+    /// Prints what an edit of the history made, that of this number or the newest that can be taken back, as a diff.
+    Diff(Option<usize>, DiffStyle),
     /// Prints the edits as for `History`, and after each of them what it made.
-    Log(Bytes),
-    /// Prints what a request would change, as a diff of a file of this name, and does nothing.
-    Preview(Box<Request>, Bytes),
+    Log(DiffStyle),
+    /// Prints what a request would change, as a diff, and does nothing.
+    Preview(Box<Request>, DiffStyle),
 }
 
 impl Request {

@@ -4,6 +4,7 @@ ghost use Rattle.std.specs.Prelude.{option_copied, option_map};
 ghost use Rattle.std.specs.List.{AllByRecursion};
 ghost use Rattle.rec_text.specs.Faults.{IsOkUnlessEither};
 ghost use Rattle.rec_journal.specs.History.{IsRegular};
+ghost use Rattle.rec_diff.specs.declared.style.DiffStyle.{DiffStyle as StyleOf};
 ghost use Rattle.rec_tools.specs.Home.{Call, HasFailed, left_by_all, Rose, WentOn};
 ghost use Rattle.rec_tools.specs.Steps.{IsRefusal};
 ghost use Rattle.rec_tools.specs.Printouts.{Printed, WentOut};
@@ -22,6 +23,7 @@ use crate::preview::print_preview;
 use crate::printing::{check, inform, show};
 use crate::request::{Reply, Request};
 use crate::showing::{print_edit, print_log};
+use rec_diff::DiffStyle;
 use rec_text::{Bytes, Fault, Sink};
 use std::alloc::Global;
 
@@ -91,10 +93,10 @@ fn tell_edit<H: Home, S: Sink>(
     home: &mut H,
     out: &mut S,
     number: Option<usize>,
-    name: &Bytes,
+    style: &DiffStyle,
 ) -> Result<Reply, Fault>
     ensures attempts { (calls : List Call) × (p : Printed) × WentOut S.contents S.failure_count out.old out.new p
-        × Attempts H.goes home.old home.new (showing number name.now) result calls p }
+        × Attempts H.goes home.old home.new (showing number style.now) result calls p }
     ensures counted { S.failure_count out.old ≤ S.failure_count out.new }
     ensures refusals { IfErr result IsRefusal }
 {
@@ -104,7 +106,7 @@ fn tell_edit<H: Home, S: Sink>(
         file.as_slice(),
         journal.as_slice(),
         number,
-        name.as_slice(),
+        style,
         out,
     )
 }
@@ -114,21 +116,15 @@ fn tell_log<H: Home, S: Sink>(
     alloc: Global,
     home: &mut H,
     out: &mut S,
-    name: &Bytes,
+    style: &DiffStyle,
 ) -> Result<Reply, Fault>
     ensures attempts { (calls : List Call) × (p : Printed) × WentOut S.contents S.failure_count out.old out.new p
-        × Attempts H.goes home.old home.new (listing_changes name.now) result calls p }
+        × Attempts H.goes home.old home.new (listing_changes style.now) result calls p }
     ensures counted { S.failure_count out.old ≤ S.failure_count out.new }
     ensures refusals { IfErr result IsRefusal }
 {
     let (file, journal) = read_both(alloc, home)?;
-    print_log(
-        alloc,
-        file.as_slice(),
-        journal.as_slice(),
-        name.as_slice(),
-        out,
-    )
+    print_log(alloc, file.as_slice(), journal.as_slice(), style, out)
 }
 
 /// Reads both contents, and prints what a request would change.
@@ -137,11 +133,11 @@ fn tell_preview<H: Home, S: Sink>(
     home: &mut H,
     out: &mut S,
     previewed: &Request,
-    name: &Bytes,
+    style: &DiffStyle,
 ) -> Result<Reply, Fault>
     requires { IsSilent (asked_of previewed.now) }
     ensures attempts { (calls : List Call) × (p : Printed) × WentOut S.contents S.failure_count out.old out.new p
-        × Attempts H.goes home.old home.new (previewing name.now (asked_of previewed.now)) result calls p }
+        × Attempts H.goes home.old home.new (previewing style.now (asked_of previewed.now)) result calls p }
     ensures counted { S.failure_count out.old ≤ S.failure_count out.new }
     ensures refusals { IfErr result IsRefusal }
 {
@@ -151,7 +147,7 @@ fn tell_preview<H: Home, S: Sink>(
         file.as_slice(),
         journal.as_slice(),
         previewed,
-        name.as_slice(),
+        style,
         out,
     )
 }
@@ -187,8 +183,8 @@ fn look<H: Home, S: Sink>(
             check(alloc, file.as_slice(), out)
         }
         Request::History => tell_history(alloc, home, out),
-        Request::Diff(number, name) => tell_edit(alloc, home, out, *number, name),
-        Request::Log(name) => tell_log(alloc, home, out, name),
+        Request::Diff(number, style) => tell_edit(alloc, home, out, *number, style),
+        Request::Log(style) => tell_log(alloc, home, out, style),
         Request::Edit { .. }
         | Request::Batch { .. }
         | Request::Undo(_)
@@ -202,15 +198,15 @@ fn look<H: Home, S: Sink>(
 /// The reply to a request that writes nothing, of which nothing is printed.
 fn reply_alone<H: Home>(alloc: Global, home: &mut H, request: &Request) -> Result<Reply, Fault>
     requires { WritesNothing (asked_of request.now) }
-    ensures attempts { (name : List ℕ)
-        → DoesSilently H.goes home.old home.new (previewing name (asked_of request.now)) result }
+    ensures attempts { (style : StyleOf)
+        → DoesSilently H.goes home.old home.new (previewing style (asked_of request.now)) result }
     ensures refusals { IfErr result IsRefusal }
 {
     match request {
-        Request::Preview(boxed, name) => {
+        Request::Preview(boxed, style) => {
             let previewed: &Request = boxed;
             if previewed.prints_nothing() {
-                return tell_preview(alloc, home, &mut Nowhere, previewed, name);
+                return tell_preview(alloc, home, &mut Nowhere, previewed, style);
             }
             reply_alone(alloc, home, previewed)
         }
@@ -235,15 +231,15 @@ fn preview<H: Home, S: Sink>(
     home: &mut H,
     out: &mut S,
     previewed: &Request,
-    name: &Bytes,
+    style: &DiffStyle,
 ) -> Result<Reply, Fault>
     ensures attempts { (calls : List Call) × (p : Printed) × WentOut S.contents S.failure_count out.old out.new p
-        × Attempts H.goes home.old home.new (previewing name.now (asked_of previewed.now)) result calls p }
+        × Attempts H.goes home.old home.new (previewing style.now (asked_of previewed.now)) result calls p }
     ensures counted { S.failure_count out.old ≤ S.failure_count out.new }
     ensures refusals { IfErr result IsRefusal }
 {
     if previewed.prints_nothing() {
-        return tell_preview(alloc, home, out, previewed, name);
+        return tell_preview(alloc, home, out, previewed, style);
     }
     reply_alone(alloc, home, previewed)
 }
@@ -268,7 +264,7 @@ fn attempt<H: Home, S: Sink>(
         | Request::Redo(_)
         | Request::Revert { .. }
         | Request::Forget(_) => make_change(alloc, home, request),
-        Request::Preview(previewed, name) => preview(alloc, home, out, previewed, name),
+        Request::Preview(previewed, style) => preview(alloc, home, out, previewed, style),
         Request::Show { .. }
         | Request::Info { .. }
         | Request::Check

@@ -10,26 +10,26 @@ ghost use Rattle.rec_tools.specs.proving.Logs.{HasSteps, HaveSteps, IsEditDiff, 
 
 use crate::history::{history_of, write_step};
 use crate::request::Reply;
-use rec_diff::write_diff;
+use rec_diff::{DiffStyle, write_diff};
 use rec_journal::{Direction, EditTexts, EditWalk, History, edit_texts};
 use rec_text::{Fault, Sink, put_all};
 use std::alloc::Global;
 
-/// Prints an edit as a diff of a file of this name.
+/// Prints an edit as a diff.
 fn write_edit<S: Sink>(
     alloc: Global,
     made: &EditTexts<'_>,
-    name: &[u8],
+    style: &DiffStyle,
     out: &mut S,
 ) -> Result<(), Fault>
     requires { HasSteps made.now }
-    ensures printed { PrintsThe S.contents S.failure_count out.old out.new (IsEditDiff name.now made.now) result }
+    ensures printed { PrintsThe S.contents S.failure_count out.old out.new (IsEditDiff style.now made.now) result }
     ensures refusals { IsOkUnlessEither result Fault.OutOfMemory Fault.StoreFailed }
 {
     let steps = made.steps();
     let before = made.before();
     let after = made.after();
-    write_diff(alloc, out, name, Direction::Forward, steps, before, after)
+    write_diff(alloc, out, style, Direction::Forward, steps, before, after)
 }
 
 /// Prints what the edit of a number made, or the newest that can be taken back.
@@ -38,16 +38,16 @@ pub fn print_edit<S: Sink>(
     file: &[u8],
     journal: &[u8],
     number: Option<usize>,
-    name: &[u8],
+    style: &DiffStyle,
     out: &mut S,
 ) -> Result<Reply, Fault>
     ensures written { PrintsAndCounts S.contents S.failure_count out.old out.new
-        (PutsPrintout (IsShownText (IsShownEdit number name.now file.now journal.now))) result }
+        (PutsPrintout (IsShownText (IsShownEdit number style.now file.now journal.now))) result }
     ensures refusals { IfErr result IsRefusal }
 {
     let history = history_of(alloc, file, journal)?;
     let made = edit_texts(alloc, &history, file, journal, number)?;
-    write_edit(alloc, &made, name, out)?;
+    write_edit(alloc, &made, style, out)?;
     Ok(Reply::Shown)
 }
 
@@ -55,32 +55,32 @@ pub fn print_edit<S: Sink>(
 fn write_line<S: Sink>(
     alloc: Global,
     made: &EditTexts<'_>,
-    name: &[u8],
+    style: &DiffStyle,
     out: &mut S,
 ) -> Result<(), Fault>
     requires { HasSteps made.now }
-    ensures printed { PrintsThe S.contents S.failure_count out.old out.new (IsLogged name.now made.now) result }
+    ensures printed { PrintsThe S.contents S.failure_count out.old out.new (IsLogged style.now made.now) result }
     ensures refusals { IsOkUnlessEither result Fault.OutOfMemory Fault.StoreFailed }
 {
     write_step(made.step(), out)?;
-    write_edit(alloc, made, name, out)
+    write_edit(alloc, made, style, out)
 }
 
 /// The same of each edit of a walk.
 fn write_lines<S: Sink>(
     alloc: Global,
     walk: Option<EditWalk<'_>>,
-    name: &[u8],
+    style: &DiffStyle,
     out: &mut S,
 ) -> Result<(), Fault>
     requires { HaveSteps walk }
     ensures printed { (all : List WithTexts) → GoesOver walk.entry all
-        → PrintsThe S.contents S.failure_count out.old out.new (IsLog name.now (map told_of all)) result }
+        → PrintsThe S.contents S.failure_count out.old out.new (IsLog style.now (map told_of all)) result }
     ensures refusals { IsOkUnlessEither result Fault.OutOfMemory Fault.StoreFailed }
 {
     let mut walk = walk;
     while let Some(here) = walk {
-        write_line(alloc, here.texts(), name, out)?;
+        write_line(alloc, here.texts(), style, out)?;
         walk = here.next(alloc)?;
     }
     Ok(())
@@ -102,17 +102,17 @@ fn print_edits<S: Sink>(
     history: &History,
     file: &[u8],
     journal: &[u8],
-    name: &[u8],
+    style: &DiffStyle,
     out: &mut S,
 ) -> Result<Reply, Fault>
     requires opened { IsOpening file.now journal.now (Ok history.now) }
     requires settled { history.now.drifted ≡ false }
     ensures written { PrintsAndCounts S.contents S.failure_count out.old out.new
-        (PutsPrintout (IsShownText (IsLogOf name.now file.now history.now))) result }
+        (PutsPrintout (IsShownText (IsLogOf style.now file.now history.now))) result }
     ensures refusals { IfErr result IsRefusal }
 {
     let walk = EditWalk::begin(alloc, history, file, journal)?;
-    write_lines(alloc, walk, name, out)?;
+    write_lines(alloc, walk, style, out)?;
     Ok(Reply::Shown)
 }
 
@@ -121,16 +121,16 @@ pub fn print_log<S: Sink>(
     alloc: Global,
     file: &[u8],
     journal: &[u8],
-    name: &[u8],
+    style: &DiffStyle,
     out: &mut S,
 ) -> Result<Reply, Fault>
     ensures written { PrintsAndCounts S.contents S.failure_count out.old out.new
-        (PutsPrintout (IsShownText (IsWholeLog name.now file.now journal.now))) result }
+        (PutsPrintout (IsShownText (IsWholeLog style.now file.now journal.now))) result }
     ensures refusals { IfErr result IsRefusal }
 {
     let history = history_of(alloc, file, journal)?;
     if history.is_drifted() {
         return print_drifted(out);
     }
-    print_edits(alloc, &history, file, journal, name, out)
+    print_edits(alloc, &history, file, journal, style, out)
 }

@@ -71,7 +71,7 @@ pub const SHOW_ABOUT: &str =
     "Prints what an edit changed: that with the number N, which recu history FILE\nprints, or without N the newest that can be undone.";
 
 pub const SHOW_HELP: &str =
-    "N stands before FILE. What was undone can be shown too, as long as it can be\nredone. What is printed is a unified diff without context: patch -p0 and\ngit apply -p0 --unidiff-zero make the change, and with -R they take it back.\n\nExamples:\n  recu show contacts.rec\n  recu show 1 --journal edits.rec contacts.rec";
+    "N stands before FILE. What was undone can be shown too, as long as it can be\nredone. What is printed is a unified diff, to read and to send for review;\npatch -p0 and git apply -p0 take it. To take an edit back use recu revert: among\nrecords alike a patch may change another one.\n\nExamples:\n  recu show contacts.rec\n  recu show 1 --unified 0 contacts.rec\n  recu show 1 --journal edits.rec contacts.rec";
 
 pub const FORGET_ABOUT: &str =
     "Forgets all but the newest N of the edits that can be undone, which makes the\njournal shorter. FILE stays as it is. What is forgotten can't be undone any\nmore, and nothing brings it back.";

@@ -6,10 +6,11 @@ ghost use Rattle.rec_command.specs.Refusals.{IsOrRefuses};
 ghost use Rattle.rec_command.specs.Words.{IsBatchOf, IsPreview, Orders, OrdersOrPreviews};
 
 use super::Order;
-use super::found::{file_name, is_given};
+use super::found::is_given;
 use super::refusal::Refusal;
+use super::style::style_of;
 use clap::ArgMatches;
-use rec_tools::{Bytes, Request};
+use rec_tools::{Bytes, DiffStyle, Request};
 use std::alloc::{AllocError, Global};
 
 /// An order, or the preview of it where the options ask for a dry run.
@@ -20,37 +21,37 @@ pub fn or_preview(alloc: Global, order: Order, options: &ArgMatches) -> Result<O
     if !is_given(options, "dry-run") {
         return Ok(order);
     }
-    let name = file_name(alloc, options)?;
+    let style = style_of(alloc, options)?;
     match order {
-        Order::Whole(request) => Ok(Order::Whole(preview_of(alloc, request, name)?)),
+        Order::Whole(request) => Ok(Order::Whole(preview_of(alloc, request, style)?)),
         Order::BatchAt { path, force, .. } => Ok(Order::BatchAt {
             path,
             force,
-            preview: Some(name),
+            preview: Some(style),
         }),
     }
 }
 
-/// The preview of a request, of a file of this name.
-fn preview_of(alloc: Global, own: Request, name: Bytes) -> Result<Request, AllocError>
-    ensures { IfOk result (IsPreview name own) }
+/// The preview of a request.
+fn preview_of(alloc: Global, own: Request, style: DiffStyle) -> Result<Request, AllocError>
+    ensures { IfOk result (IsPreview style own) }
 {
     let own = Box::new(alloc, own)?;
-    Ok(Request::Preview(own, name))
+    Ok(Request::Preview(own, style))
 }
 
-/// The request of a batch with this text, or the preview of it where the name of FILE is given for that.
+/// The request of a batch with this text, or the preview of it where it is given how that is printed.
 pub fn batch_request(
     alloc: Global,
     text: Bytes,
     force: bool,
-    preview: Option<Bytes>,
+    preview: Option<DiffStyle>,
 ) -> Result<Request, AllocError>
     ensures request { IfOk result (IsBatchOf text force preview) }
 {
     let batch = Request::Batch { text, force };
     match preview {
-        Some(name) => preview_of(alloc, batch, name),
+        Some(style) => preview_of(alloc, batch, style),
         None => Ok(batch),
     }
 }

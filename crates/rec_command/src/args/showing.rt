@@ -5,9 +5,10 @@ ghost use Rattle.rec_command.specs.Refusals.{IsOrRefuses};
 ghost use Rattle.rec_command.specs.Words.{Orders};
 
 use super::Order;
-use super::found::{file_name, is_given, number};
+use super::found::{is_given, number};
 use super::numbers::edit_given;
 use super::refusal::Refusal;
+use super::style::style_of;
 use clap::ArgMatches;
 use rec_tools::Request;
 use std::alloc::Global;
@@ -21,8 +22,8 @@ pub fn history_order(alloc: Global, options: &ArgMatches) -> Result<Order, Refus
     if !is_given(options, "patch") {
         return Ok(Order::Whole(Request::History));
     }
-    let name = file_name(alloc, options)?;
-    Ok(Order::Whole(Request::Log(name)))
+    let style = style_of(alloc, options)?;
+    Ok(Order::Whole(Request::Log(style)))
 }
 
 /// What show is asked for.
@@ -30,6 +31,6 @@ pub fn show_order(alloc: Global, options: &ArgMatches) -> Result<Order, Refusal>
     ensures { IsOrRefuses (Orders Show (rows_of (found_of options.now))) result }
 {
     let edit = edit_given(number(options), NO_NUMBER)?;
-    let name = file_name(alloc, options)?;
-    Ok(Order::Whole(Request::Diff(edit, name)))
+    let style = style_of(alloc, options)?;
+    Ok(Order::Whole(Request::Diff(edit, style)))
 }

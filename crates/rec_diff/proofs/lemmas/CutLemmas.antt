@@ -10,7 +10,8 @@ use Rattle.rec_diff.specs.declared.lining.Lining.{Lining}
 use Rattle.rec_diff.specs.Changes.{Stretch, stays, turns, cut_from, hunks_at, before_of, after_of, joined}
 use Rattle.rec_diff.specs.Lines.{at_line}
 use Rattle.rec_diff.specs.WholeLines.{IsChange, OneChange, lined_stay, lined_turn, lined_from, closed, trimmed, whole_lines}
-use Rattle.rec_diff.specs.Diff.{IsChangeText, hunks, named}
+use Rattle.rec_diff.specs.declared.style.DiffStyle.{DiffStyle}
+use Rattle.rec_diff.specs.Diff.{IsChangeText, diff_text}
 use Rattle.rec_diff.specs.proving.Turns.{IsLining, LeadsFrom, Reads, ReadsHunk, Turns, open_new, open_old, so_far}
 use Rattle.rec_diff.proofs.lemmas.PlaceLemmas.{Stands}
 use Rattle.rec_diff.proofs.lemmas.LiningLemmas.{StandsInBoth, lined_stay-append}
@@ -61,10 +62,9 @@ is_change patch before after splices =
     let leads = cut_leads 0 patch before after splices in
     record { cut = cut_from 0 patch before; by_patch = leads.hunks; from = leads.from; to = leads.to; lined = refl }
 
-pub is_change_text : (name : List ℕ) (patch : List Hunk) (before after text : List ℕ) → Splices patch before after
-    → text ≡ hunks [] [] (whole_lines (cut_from 0 patch before)) → IsChangeText name patch before after (Ok (named name text))
-is_change_text name patch before after text splices is =
-    (whole_lines (cut_from 0 patch before), is_change patch before after splices, ap (named name) is)
+pub is_change_text : (style : DiffStyle) (patch : List Hunk) (before after text : List ℕ) → Splices patch before after
+    → text ≡ diff_text style (whole_lines (cut_from 0 patch before)) → IsChangeText style patch before after (Ok text)
+is_change_text style patch before after text splices is = (whole_lines (cut_from 0 patch before), is_change patch before after splices, is)
 
 -- ---- a hunk is read
 

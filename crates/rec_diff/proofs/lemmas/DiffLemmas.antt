@@ -10,6 +10,7 @@ use Rattle.rec_journal.specs.Direction.{that_way, Along}
 use Rattle.rec_journal.specs.Patch.{Splices, SplicesFrom}
 use Rattle.rec_journal.specs.Revisions.{LeadsBy}
 use Rattle.rec_select.specs.Taken.{PrintsAndCounts, Puts}
+use Rattle.rec_diff.specs.declared.style.DiffStyle.{DiffStyle}
 use Rattle.rec_diff.specs.Changes.{cut_from}
 use Rattle.rec_diff.specs.Composing.{ComposesAll, patches_of, all_deeds, deed_hunks}
 use Rattle.rec_diff.specs.Diff.{IsChangeText, diff_text}
@@ -19,22 +20,22 @@ use Rattle.rec_diff.proofs.lemmas.CutLemmas.{is_change, one_change}
 use Rattle.rec_diff.proofs.lemmas.composing.LeadingLemmas.{composes_splices}
 
 -- a diff is never refused
-pub no_refused_diff : (direction : Direction) (name : List ℕ) (steps : List EditStep) (here there : List ℕ) (fault : Fault) → IsDiff direction name steps here there (Err fault) → ⊥
-no_refused_diff Forward name steps here there fault h = h
-no_refused_diff Backward name steps here there fault h = h
+pub no_refused_diff : (direction : Direction) (style : DiffStyle) (steps : List EditStep) (here there : List ℕ) (fault : Fault) → IsDiff direction style steps here there (Err fault) → ⊥
+no_refused_diff Forward style steps here there fault h = h
+no_refused_diff Backward style steps here there fault h = h
 
 -- ---- there is one
 
-one_change_text : (name : List ℕ) (patch : List Hunk) (before after one other : List ℕ) → IsChangeText name patch before after (Ok one) → IsChangeText name patch before after (Ok other)
+one_change_text : (style : DiffStyle) (patch : List Hunk) (before after one other : List ℕ) → IsChangeText style patch before after (Ok one) → IsChangeText style patch before after (Ok other)
     → one ≡ other
-one_change_text name patch before after one other (parts, is, e) (others, is_too, k) = e ∙ ap (diff_text name) (one_change patch before after parts others is is_too) ∙ sym k
+one_change_text style patch before after one other (parts, is, e) (others, is_too, k) = e ∙ ap (diff_text style) (one_change patch before after parts others is is_too) ∙ sym k
 
 pub one_diff : OneDiff
-one_diff Forward name steps here there one other (patch, composed, is) (also, composed_too, is_too) =
-    one_change_text name also here there one other (subst (λ p. IsChangeText name p here there (Ok one)) (composed ∙ sym composed_too) is) is_too
-one_diff Backward name steps here there one other (patch, composed, is) (also, composed_too, is_too) =
-    one_change_text name (turned_hunks also) here there one other
-    (subst (λ p. IsChangeText name (turned_hunks p) here there (Ok one)) (composed ∙ sym composed_too) is) is_too
+one_diff Forward style steps here there one other (patch, composed, is) (also, composed_too, is_too) =
+    one_change_text style also here there one other (subst (λ p. IsChangeText style p here there (Ok one)) (composed ∙ sym composed_too) is) is_too
+one_diff Backward style steps here there one other (patch, composed, is) (also, composed_too, is_too) =
+    one_change_text style (turned_hunks also) here there one other
+    (subst (λ p. IsChangeText style (turned_hunks p) here there (Ok one)) (composed ∙ sym composed_too) is) is_too
 
 -- ---- back
 
@@ -68,27 +69,27 @@ on_leads Backward steps patch on here there leads composed same =
 
 -- ---- where steps lead, there is one
 
-change_text : (name : List ℕ) (patch : List Hunk) (before after : List ℕ) → Splices patch before after → (text : List ℕ) × IsChangeText name patch before after (Ok text)
-change_text name patch before after splices = let parts = whole_lines (cut_from 0 patch before) in (diff_text name parts, (parts, is_change patch before after splices, refl))
+change_text : (style : DiffStyle) (patch : List Hunk) (before after : List ℕ) → Splices patch before after → (text : List ℕ) × IsChangeText style patch before after (Ok text)
+change_text style patch before after splices = let parts = whole_lines (cut_from 0 patch before) in (diff_text style parts, (parts, is_change patch before after splices, refl))
 
-pub some_diff : (direction : Direction) (name : List ℕ) (steps : List EditStep) (here there : List ℕ) → Along direction (LeadsBy steps) here there
-    → (printed : List ℕ) × IsDiff direction name steps here there (Ok printed)
-some_diff Forward name steps here there leads =
+pub some_diff : (direction : Direction) (style : DiffStyle) (steps : List EditStep) (here there : List ℕ) → Along direction (LeadsBy steps) here there
+    → (printed : List ℕ) × IsDiff direction style steps here there (Ok printed)
+some_diff Forward style steps here there leads =
     let patch = deed_hunks (all_deeds (patches_of steps)) in
-    let text = change_text name patch here there (composes_splices steps patch here there leads refl) in
+    let text = change_text style patch here there (composes_splices steps patch here there leads refl) in
     (text.0, (patch, refl, text.1))
-some_diff Backward name steps here there leads =
+some_diff Backward style steps here there leads =
     let patch = deed_hunks (all_deeds (patches_of steps)) in
-    let text = change_text name (turned_hunks patch) here there (turned_splices 0 0 patch there here (composes_splices steps patch there here leads refl)) in
+    let text = change_text style (turned_hunks patch) here there (turned_splices 0 0 patch there here (composes_splices steps patch there here leads refl)) in
     (text.0, (patch, refl, text.1))
 
 -- ---- what is written
 
-diff_on : (direction : Direction) (name : List ℕ) (steps : List EditStep) (patch on : List Hunk) (here there : List ℕ) → ComposesAll (patches_of steps) patch
-    → on ≡ that_way direction (turned_hunks patch) patch → (r : Result (List ℕ) Fault) → IsChangeText name on here there r → IsDiff direction name steps here there r
-diff_on Forward name steps patch on here there composed same (Ok printed) is = (patch, composed, subst (λ hunks. IsChangeText name hunks here there (Ok printed)) same is)
-diff_on Backward name steps patch on here there composed same (Ok printed) is = (patch, composed, subst (λ hunks. IsChangeText name hunks here there (Ok printed)) same is)
-diff_on direction name steps patch on here there composed same (Err fault) is = absurd is
+diff_on : (direction : Direction) (style : DiffStyle) (steps : List EditStep) (patch on : List Hunk) (here there : List ℕ) → ComposesAll (patches_of steps) patch
+    → on ≡ that_way direction (turned_hunks patch) patch → (r : Result (List ℕ) Fault) → IsChangeText style on here there r → IsDiff direction style steps here there r
+diff_on Forward style steps patch on here there composed same (Ok printed) is = (patch, composed, subst (λ hunks. IsChangeText style hunks here there (Ok printed)) same is)
+diff_on Backward style steps patch on here there composed same (Ok printed) is = (patch, composed, subst (λ hunks. IsChangeText style hunks here there (Ok printed)) same is)
+diff_on direction style steps patch on here there composed same (Err fault) is = absurd is
 
 puts_weaker : {X : Type 0} (P Q : Result (List ℕ) Fault → Type 0) → ((r : Result (List ℕ) Fault) → P r → Q r) → (old new : Option (List ℕ)) (result : Result X Fault)
     → Puts P old new result → Puts Q old new result
@@ -98,11 +99,11 @@ puts_weaker P Q f old new (Err OutOfMemory) (inr h) = inr (h.0, f _ h.1, h.2)
 puts_weaker P Q f old new (Err StoreFailed) h = (h.0, f _ h.1, h.2)
 puts_weaker P Q f old new (Err _) h = (f _ h.0, h.1)
 
-pub written : {S X : Type 0} {contents : S → Option (List ℕ)} {failures : S → ℕ} {old new : S} (direction : Direction) (name : List ℕ) (steps : List EditStep) (patch on : List Hunk)
+pub written : {S X : Type 0} {contents : S → Option (List ℕ)} {failures : S → ℕ} {old new : S} (direction : Direction) (style : DiffStyle) (steps : List EditStep) (patch on : List Hunk)
     (here there : List ℕ) → ComposesAll (patches_of steps) patch → on ≡ that_way direction (turned_hunks patch) patch → (result : Result X Fault)
-    → PrintsAndCounts contents failures old new (Puts (IsChangeText name on here there)) result → PrintsAndCounts contents failures old new (Puts (IsDiff direction name steps here there)) result
-written {contents = contents} {old = old} {new = new} direction name steps patch on here there composed same result h = record {
-  printed = puts_weaker (IsChangeText name on here there) (IsDiff direction name steps here there) (diff_on direction name steps patch on here there composed same)
+    → PrintsAndCounts contents failures old new (Puts (IsChangeText style on here there)) result → PrintsAndCounts contents failures old new (Puts (IsDiff direction style steps here there)) result
+written {contents = contents} {old = old} {new = new} direction style steps patch on here there composed same result h = record {
+  printed = puts_weaker (IsChangeText style on here there) (IsDiff direction style steps here there) (diff_on direction style steps patch on here there composed same)
       (contents old) (contents new) result h.printed;
   counted = h.counted;
   told = h.told;

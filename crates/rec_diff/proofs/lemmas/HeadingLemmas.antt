@@ -1,18 +1,17 @@
 -- The first field of the record in which a text ends, found in one pass.
 use Rattle.std.proofs.Common.{◌≡◌, ◌∙◌, ℕ, ◌+◌, ◌-◌, ◌≤◌, eqb, List, [], ◌∷◌, ◌++◌, length, take, drop, refl, sym, ap, ap₂, append_assoc, append-nil, length-append, take-add, arith}
-use Rattle.std.specs.Prelude.{reverse, if◌then◌else◌}
+use Rattle.std.specs.Prelude.{reverse}
 use Rattle.std.specs.List.{between}
 use Rattle.std.proofs.lemmas.Bool.{cond-false, ne_eqb}
 use Rattle.std.proofs.lemmas.List.{take_at, take-append-drop, reverse-append, take-take}
 use Rattle.std.proofs.lemmas.List.Edits.{length-between}
 use Rattle.std.proofs.lemmas.List.Sums.{sum_by-append, count_by-le-length}
-use Rattle.rec_text.specs.Bytes.{is_nil}
 use Rattle.rec_text.specs.Lines.{HasNoNewline, BeginsWithLine}
 use Rattle.rec_diff.specs.declared.passed.Passed.{Passed}
 use Rattle.rec_diff.specs.declared.turn.Place.{Place}
 use Rattle.rec_diff.specs.Lines.{newlines}
-use Rattle.rec_diff.specs.Diff.{found_at, found_in, first_field, head, heading}
-use Rattle.rec_diff.specs.proving.Headings.{IsFoundTo, IsPassed, head_after}
+use Rattle.rec_diff.specs.Diff.{found_at, found_in, first_field}
+use Rattle.rec_diff.specs.proving.Headings.{IsFoundTo, IsPassed}
 use Rattle.rec_diff.proofs.lemmas.PlaceLemmas.{take_then}
 
 reverse_on : (line : List ℕ) (b : ℕ) (bs : List ℕ) → reverse (b ∷ line) ++ bs ≡ reverse line ++ b ∷ bs
@@ -101,11 +100,3 @@ few_newlines place n t e =
     let parts : newlines t ≡ newlines (take place t) + newlines (drop place t) = ap newlines (sym (take-append-drop place t)) ∙ newlines-append (take place t) (drop place t) in
     let all : newlines t ≤ length t = count_by-le-length (λ b. eqb b 10) t in
     omega arith
-
--- the first line of a hunk, from what is known of the texts before it
-pub head_is : (before after : List ℕ) (p : Passed) (old new : List ℕ) → IsPassed before after p
-    → head_after p.old_lines p.new_lines p.field.now old new
-    ≡ head (newlines (take p.place.old before)) (newlines (take p.place.new after)) old new (heading (take p.place.old before) (if is_nil old then new else old))
-head_is before after p old new known =
-    ap₂ (λ m n. head_after m n p.field.now old new) known.old_lines known.new_lines
-    ∙ ap (λ f. head_after (newlines (take p.place.old before)) (newlines (take p.place.new after)) f old new) (sym known.now)

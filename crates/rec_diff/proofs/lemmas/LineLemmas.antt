@@ -5,12 +5,13 @@ use Rattle.std.specs.Prelude.{reverse}
 use Rattle.std.specs.Str.{bytes_eq}
 use Rattle.std.proofs.lemmas.Bool.{cases_Bool, cond-true, cond-false, ne_eqb, false≢true}
 use Rattle.std.proofs.lemmas.List.{take-append-drop, take-append-le, drop-append-le, take_at, drop_at, take_all, drop_all, take_more, get_or-drop, length_push, reverse-append}
+use Rattle.std.proofs.lemmas.List.Sums.{sum_by-cons}
 use Rattle.memchr.specs.Find.{IsLastByte, is_byte}
 use Rattle.rec_text.specs.Bytes.{is_nil}
 use Rattle.rec_text.specs.Lines.{HasNoNewline, BeginsWithLine}
 use Rattle.rec_text.proofs.lemmas.ListLemmas.{is_nil-push}
 use Rattle.rec_text.proofs.lemmas.elements.LogicalLineLemmas.{HasNoNewline-none}
-use Rattle.rec_diff.specs.Lines.{at_line, lines, onto_first_line}
+use Rattle.rec_diff.specs.Lines.{at_line, lines, line_count, newlines, onto_first_line}
 use Rattle.rec_diff.specs.WholeLines.{same_lines, same_end}
 use Rattle.rec_diff.specs.proving.Turns.{IsFirstLine, IsLastLine, IsOpenFrom, BeginAlike, EndAlike}
 
@@ -21,7 +22,7 @@ at_line-last (x ∷ y ∷ ys) b = at_line-last (y ∷ ys) b
 
 -- ---- the lines of two texts, one after the other
 
-lines_line : (line rest : List ℕ) → HasNoNewline line → lines (line ++ 10 ∷ rest) ≡ (line ++ 10 ∷ []) ∷ lines rest
+pub lines_line : (line rest : List ℕ) → HasNoNewline line → lines (line ++ 10 ∷ rest) ≡ (line ++ 10 ∷ []) ∷ lines rest
 lines_line [] rest plain = refl
 lines_line (b ∷ bs) rest plain = cond-false (eqb b 10) _ _ (ne_eqb b 10 plain.0) ∙ ap (onto_first_line b) (lines_line bs rest plain.1)
 
@@ -60,6 +61,40 @@ lines-append (b ∷ c ∷ cs) more ends =
     let some = lines_some c cs in
     byte_before b (lines (c ∷ (cs ++ more))) (lines (c ∷ cs)) (lines more) (lines-append (c ∷ cs) more ends)
     (onto_first_line-append b (lines (c ∷ cs)) (lines more) some.0 some.1 some.2) (eqb b 10)
+
+counted_onto : (b : ℕ) (ls : List (List ℕ)) (first : List ℕ) (others : List (List ℕ)) → ls ≡ first ∷ others → length (onto_first_line b ls) ≡ length ls
+counted_onto b ls first others some = subst (λ x. length (onto_first_line b x) ≡ length x) (sym some) refl
+
+pub newlines-first : (b : ℕ) (bs : List ℕ) → newlines (b ∷ bs) ≡ cond (eqb b 10) 1 0 + newlines bs
+newlines-first b bs = sum_by-cons (λ x. cond (eqb x 10) 1 0) b bs
+
+-- each line is counted
+pub length-lines : (t : List ℕ) → length (lines t) ≡ line_count t
+length-lines [] = refl
+length-lines (b ∷ []) = elim (cases_Bool (eqb b 10)) [
+  | inl e ↦
+      let all : length (lines (b ∷ [])) ≡ 1 = ap length (cond-true (eqb b 10) ((b ∷ []) ∷ []) (onto_first_line b []) e) in
+      let count : line_count (b ∷ []) ≡ 1 = ap (λ x. 0 + cond x 1 0 + cond x 0 1) e in
+      all ∙ sym count
+  | inr e ↦
+      let all : length (lines (b ∷ [])) ≡ 1 = ap length (cond-false (eqb b 10) ((b ∷ []) ∷ []) (onto_first_line b []) e) in
+      let count : line_count (b ∷ []) ≡ 1 = ap (λ x. 0 + cond x 1 0 + cond x 0 1) e in
+      all ∙ sym count
+]
+length-lines (b ∷ c ∷ cs) =
+    let some = lines_some c cs in
+    let later = length-lines (c ∷ cs) in
+    elim (cases_Bool (eqb b 10)) [
+      | inl e ↦
+          let all : length (lines (b ∷ c ∷ cs)) ≡ length ((b ∷ []) ∷ lines (c ∷ cs)) = ap length (cond-true (eqb b 10) _ _ e) in
+          let more : newlines (b ∷ c ∷ cs) ≡ 1 + newlines (c ∷ cs) = newlines-first b (c ∷ cs) ∙ ap (λ x. cond x 1 0 + newlines (c ∷ cs)) e in
+          omega (arith, all, more, later)
+      | inr e ↦
+          let all : length (lines (b ∷ c ∷ cs)) ≡ length (lines (c ∷ cs)) =
+          ap length (cond-false (eqb b 10) _ _ e) ∙ counted_onto b (lines (c ∷ cs)) some.0 some.1 some.2 in
+          let more : newlines (b ∷ c ∷ cs) ≡ 0 + newlines (c ∷ cs) = newlines-first b (c ∷ cs) ∙ ap (λ x. cond x 1 0 + newlines (c ∷ cs)) e in
+          omega (arith, all, more, later)
+    ]
 
 -- ---- the first line
 

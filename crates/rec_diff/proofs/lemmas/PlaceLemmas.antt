@@ -1,7 +1,7 @@
 -- The bytes between two places.
-use Rattle.std.proofs.Common.{◌≡◌, ◌∙◌, ℕ, ◌+◌, ◌-◌, ◌≤◌, List, ◌++◌, length, take, drop, refl, sym, ap, length-append, length-drop, take-add, drop-drop, arith}
+use Rattle.std.proofs.Common.{◌≡◌, ◌∙◌, ℕ, ◌+◌, ◌-◌, ◌<◌, ◌≤◌, List, ◌∷◌, ◌++◌, length, take, drop, get_or, refl, sym, ap, length-append, length-drop, take-add, drop-drop, arith}
 use Rattle.std.specs.List.{between}
-use Rattle.std.proofs.lemmas.List.{take-take, drop-take, take_at, drop_at}
+use Rattle.std.proofs.lemmas.List.{take-take, drop-take, take_at, drop_at, drop_more}
 use Rattle.std.proofs.lemmas.List.Edits.{length-between}
 
 pub take_then : (s l : ℕ) (t : List ℕ) → s ≤ l → take s t ++ between s l t ≡ take l t
@@ -12,6 +12,10 @@ between_then s l h t p q =
     let count : h - s ≡ (l - s) + (h - l) = omega arith in
     let place : drop (l - s) (drop s t) ≡ drop l t = drop-drop (l - s) s t ∙ ap (λ k. drop k t) (let e : s + (l - s) ≡ l = omega arith in e) in
     sym (ap (λ k. take k (drop s t)) count ∙ take-add (l - s) (h - l) (drop s t) ∙ ap (λ u. take (l - s) (drop s t) ++ take (h - l) u) place)
+
+-- the next one of a list
+pub next_item : {X : Type 0} (xs : List X) (i : ℕ) (x d : X) → i < length xs → x ≡ get_or xs i d → drop i xs ≡ x ∷ drop (i + 1) xs
+next_item xs i x d there is = drop_more xs i d there ∙ ap (λ y. y ∷ drop (i + 1) xs) (sym is)
 
 pub between_from : (h k : ℕ) (t : List ℕ) → between h (h + k) t ≡ take k (drop h t)
 between_from h k t = ap (λ n. take n (drop h t)) (let e : h + k - h ≡ k = omega arith in e)

@@ -7,9 +7,14 @@ use Rattle.rec_diff.specs.Changes.{Stretch, stays, turns}
 use Rattle.rec_diff.specs.WholeLines.{whole_lines}
 use Rattle.rec_diff.specs.Diff.{diff_text, label}
 
--- what is printed of a change under the name `f`
+-- what is printed of a change under the name `f`, with n lines around each part of it
+abbrev shown_with : ℕ → List Stretch → List ℕ
+shown_with context cut = diff_text (record { name = codes "f"; context = context }) (whole_lines cut)
+
+-- ---- no lines around them
+
 abbrev shown : List Stretch → List ℕ
-shown cut = diff_text (codes "f") (whole_lines cut)
+shown cut = shown_with 0 cut
 
 -- `A: 1`, `B: 2`
 a_value_within_a_record : shown (stays (codes "A: 1\nB: ") ∷ turns (codes "2") (codes "4") ∷ stays (codes "\n") ∷ [])
@@ -82,6 +87,31 @@ lines_that_are_the_same_at_both_ends : shown (turns (codes "A: 1\nB: 2\nC: 3\n")
     ≡ codes "--- f\n+++ f\n@@ -2,1 +2,1 @@ A: 1\n-B: 2\n+B: 4\n"
 unfolding digits
 lines_that_are_the_same_at_both_ends = refl
+
+-- ---- with lines around them
+
+a_line_on_each_side : shown_with 1 (stays (codes "A: 1\nB: 2\nC: ") ∷ turns (codes "3") (codes "4") ∷ stays (codes "\nD: 5\nE: 6\n") ∷ [])
+    ≡ codes "--- f\n+++ f\n@@ -2,3 +2,3 @@ A: 1\n B: 2\n-C: 3\n+C: 4\n D: 5\n"
+unfolding digits
+a_line_on_each_side = refl
+
+as_many_lines_as_there_are : shown_with 3 (stays (codes "A: 1\nB: ") ∷ turns (codes "2") (codes "4") ∷ stays (codes "\nC: 3") ∷ [])
+    ≡ codes "--- f\n+++ f\n@@ -1,3 +1,3 @@ A: 1\n A: 1\n-B: 2\n+B: 4\n C: 3\n\\ No newline at end of file\n"
+unfolding digits
+as_many_lines_as_there_are = refl
+
+-- two lines between them are shown after the one and before the other
+near_changes_are_one_hunk :
+    shown_with 1 (turns (codes "A: 1") (codes "A: 5") ∷ stays (codes "\nB: 2\nC: 3\nD: ") ∷ turns (codes "4") (codes "6") ∷ stays (codes "\n") ∷ [])
+    ≡ codes "--- f\n+++ f\n@@ -1,4 +1,4 @@\n-A: 1\n+A: 5\n B: 2\n C: 3\n-D: 4\n+D: 6\n"
+unfolding digits
+near_changes_are_one_hunk = refl
+
+three_lines_between_are_too_many :
+    shown_with 1 (turns (codes "A: 1") (codes "A: 5") ∷ stays (codes "\nB: 2\nC: 3\nD: 4\nE: ") ∷ turns (codes "5") (codes "6") ∷ stays (codes "\n") ∷ [])
+    ≡ codes "--- f\n+++ f\n@@ -1,2 +1,2 @@\n-A: 1\n+A: 5\n B: 2\n@@ -4,2 +4,2 @@ A: 1\n D: 4\n-E: 5\n+E: 6\n"
+unfolding digits
+three_lines_between_are_too_many = refl
 
 -- ---- names
 

@@ -1,21 +1,19 @@
 -- From one hunk to the next, and to the end of both texts.
-use Rattle.std.proofs.Common.{◌≡◌, ◌∙◌, ℕ, ◌+◌, ◌-◌, ◌<◌, ◌≤◌, zero, suc, eqb, Bool, true, false, not, List, [], ◌∷◌, ◌++◌, length, map, take, drop, get_or, refl, sym, ap, ap₂, subst}
+use Rattle.std.proofs.Common.{◌≡◌, ◌∙◌, ℕ, ◌+◌, ◌-◌, ◌<◌, ◌≤◌, zero, suc, eqb, Bool, true, false, not, List, [], ◌∷◌, length, map, take, drop, get_or, refl, sym, ap, subst}
 use Rattle.std.proofs.Common.{length-drop, arith, Result, Ok, Err, OnOk}
 use Rattle.std.specs.Prelude.{IfOk}
-use Rattle.std.specs.List.{flat_map, between}
+use Rattle.std.specs.List.{between}
 use Rattle.std.proofs.lemmas.Bool.{false≢true}
-use Rattle.std.proofs.lemmas.List.{drop_all, drop_more, take_all, length-take-le}
+use Rattle.std.proofs.lemmas.List.{drop_all, take_all, length-take-le}
 use Rattle.rec_text.specs.Lines.{BeginsWithLine}
 use Rattle.rec_journal.specs.declared.patch.Hunk.{Hunk}
-use Rattle.rec_diff.specs.declared.turn.Place.{Place}
 use Rattle.rec_diff.specs.declared.turn.Turn.{Turn}
 use Rattle.rec_diff.specs.declared.lining.Lining.{Lining}
-use Rattle.rec_diff.specs.Changes.{Stretch, stays, turns, cut_from, joined}
+use Rattle.rec_diff.specs.Changes.{stays, cut_from, joined}
 use Rattle.rec_diff.specs.WholeLines.{lined_from, whole_lines}
-use Rattle.rec_diff.specs.Diff.{hunk, hunks, named, names}
-use Rattle.rec_diff.specs.proving.Turns.{AreAll, AreIn, Closes, IsLining, IsNext, IsOpenFrom, LeadsFrom, Reads, ReadsHunk, Turns, moved, open_new, open_old, site_of, site_text, sites, so_far, turn_text}
-use Rattle.rec_diff.proofs.lemmas.PlaceLemmas.{between_from}
-use Rattle.rec_diff.proofs.lemmas.LiningLemmas.{AreIn-weaker, in_lines, stands_both, stay_lines}
+use Rattle.rec_diff.specs.proving.Turns.{AreAll, Closes, IsLining, IsNext, IsOpenFrom, LeadsFrom, Reads, ReadsHunk, Turns, moved, open_new, open_old, site_of, sites, so_far}
+use Rattle.rec_diff.proofs.lemmas.PlaceLemmas.{between_from, next_item}
+use Rattle.rec_diff.proofs.lemmas.LiningLemmas.{in_lines, stands_both, stay_lines}
 use Rattle.rec_diff.proofs.lemmas.CutLemmas.{hunk_stands, reads_hunk}
 
 pub not_true : (b : Bool) → not b ≡ true → b ≡ false
@@ -106,11 +104,8 @@ module _ (before after : List ℕ) where
 
   -- ---- one hunk after another
 
-  pub next_hunk : (patch : List Hunk) (i : ℕ) (h : Hunk) → i < length patch → h ≡ get_or patch i h → drop i patch ≡ h ∷ drop (i + 1) patch
-  next_hunk patch i h there is = drop_more patch i h there ∙ ap (λ x. x ∷ drop (i + 1) patch) (sym is)
-
   pub is_next : (patch : List Hunk) (i : ℕ) (l : Lining) (h : Hunk) → LeadsFrom before after l (drop i patch) → i < length patch → h ≡ get_or patch i h → IsNext before after h l
-  is_next patch i l h leads there is = record { later = drop (i + 1) patch; leads = subst (LeadsFrom before after l) (next_hunk patch i h there is) leads }
+  is_next patch i l h leads there is = record { later = drop (i + 1) patch; leads = subst (LeadsFrom before after l) (next_item patch i h h there is) leads }
 
   abbrev pub AllFound : List Hunk → List Hunk → Lining → Type 0
   AllFound patch rest l =
@@ -122,11 +117,11 @@ module _ (before after : List ℕ) where
       → IsLining before after new × LeadsFrom before after new (drop (i + 1) patch) × AllFound patch (drop (i + 1) patch) new
   next_read patch i l new h leads found there is reads = (
     reads.sound,
-    reads.leads (drop (i + 1) patch) (subst (LeadsFrom before after l) (next_hunk patch i h there is) leads),
+    reads.leads (drop (i + 1) patch) (subst (LeadsFrom before after l) (next_item patch i h h there is) leads),
     reads.found (drop (i + 1) patch)
         ∙ ap
         (λ hs. so_far before after l (joined (lined_from (cut_from l.here.old hs (drop l.here.old before)) (open_old before after l) (open_new before after l))))
-        (sym (next_hunk patch i h there is))
+        (sym (next_item patch i h h there is))
         ∙ found,
   )
 
@@ -158,41 +153,3 @@ module _ (before after : List ℕ) where
       ∙ ap (λ t. so_far before after l (joined (lined_from (stays t ∷ []) (open_old before after l) (open_new before after l)))) rest
       ∙ ap (λ hs. so_far before after l (joined (lined_from (cut_from l.here.old hs (drop l.here.old before)) (open_old before after l) (open_new before after l)))) (sym none)
       ∙ found
-
-  -- ---- what is printed of turns
-
-  turns_text : (ts : List Turn) → flat_map (turn_text before after) ts ≡ flat_map site_text (map (site_of before after) ts)
-  turns_text [] = refl
-  turns_text (t ∷ ts) = ap (turn_text before after t ++◌) (turns_text ts)
-
-  sites_text : (f g : List ℕ) (parts : List Stretch) → flat_map site_text (sites f g parts) ≡ hunks f g parts
-  sites_text f g [] = refl
-  sites_text f g (stays t ∷ parts) = sites_text (f ++ t) (g ++ t) parts
-  sites_text f g (turns old new ∷ parts) = ap (hunk f g old new ++◌) (sites_text (f ++ old) (g ++ new) parts)
-
-  pub all_text : (ts : List Turn) (parts : List Stretch) → map (site_of before after) ts ≡ sites [] [] parts → flat_map (turn_text before after) ts ≡ hunks [] [] parts
-  all_text ts parts found = turns_text ts ∙ ap (flat_map site_text) found ∙ sites_text [] [] parts
-
-  pub turn_text_is : (t : Turn) (place : Place) (old new : List ℕ) → place ≡ t.start → old ≡ between t.start.old t.end.old before → new ≡ between t.start.new t.end.new after
-      → hunk (take place.old before) (take place.new after) old new ≡ turn_text before after t
-  turn_text_is t place old new is o n =
-      ap (λ p. hunk (take p.old before) (take p.new after) old new) is ∙ ap₂ (hunk (take t.start.old before) (take t.start.new after)) o n
-
-  pub next_turn : (ts : List Turn) (i : ℕ) (t d : Turn) → i < length ts → t ≡ get_or ts i d → drop i ts ≡ t ∷ drop (i + 1) ts
-  next_turn ts i t d there is = drop_more ts i d there ∙ ap (λ x. x ∷ drop (i + 1) ts) (sym is)
-
-  pub turns_go_on : (old new : ℕ) (ts : List Turn) (i : ℕ) (t d : Turn) (place : Place) → i < length ts → t ≡ get_or ts i d → AreIn before after old new (drop i ts) → place ≡ t.start
-      → AreIn before after place.old place.new (drop (i + 1) ts)
-  turns_go_on old new ts i t d place there is are place_is =
-      let both = subst (AreIn before after old new) (next_turn ts i t d there is) are in
-      let one = both.0 in
-      subst (λ p. AreIn before after p.old p.new (drop (i + 1) ts)) (sym place_is)
-      (AreIn-weaker before after t.start.old t.start.new t.end.old t.end.new one.order_old one.order_new (drop (i + 1) ts) both.1)
-
-  pub named_some : (name : List ℕ) (ts : List Turn) → 0 < length ts → named name (flat_map (turn_text before after) ts) ≡ names name ++ flat_map (turn_text before after) ts
-  named_some name [] some = absurd (omega (arith, some))
-  named_some name (t ∷ ts) some = refl
-
-  pub named_none : (name : List ℕ) (ts : List Turn) → length ts ≡ 0 → named name (flat_map (turn_text before after) ts) ≡ []
-  named_none name [] none = refl
-  named_none name (t ∷ ts) none = absurd (omega (arith, none))

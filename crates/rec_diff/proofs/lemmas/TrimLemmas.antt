@@ -29,12 +29,12 @@ at_line-rest (x ∷ z ∷ zs) (y ∷ ys) ends = at_line-rest (z ∷ zs) (y ∷ y
 -- ---- the lines of a part of a text
 
 -- a line, and those after it
-record IsFirstOf (line : List ℕ) (others : List (List ℕ)) : Type 0 where
-  alone : lines line ≡ line ∷ []
-  later : lines (text_of others) ≡ others
-  ends : others ≢ [] → at_line line ≡ true
+pub record IsFirstOf (line : List ℕ) (others : List (List ℕ)) : Type 0 where
+  pub alone : lines line ≡ line ∷ []
+  pub later : lines (text_of others) ≡ others
+  pub ends : others ≢ [] → at_line line ≡ true
 
-at_line-onto : (b : ℕ) (line : List ℕ) → lines line ≡ line ∷ [] → at_line line ≡ true → at_line (b ∷ line) ≡ true
+pub at_line-onto : (b : ℕ) (line : List ℕ) → lines line ≡ line ∷ [] → at_line line ≡ true → at_line (b ∷ line) ≡ true
 at_line-onto b [] alone ends = cc
 at_line-onto b (x ∷ xs) alone ends = ends
 
@@ -58,7 +58,7 @@ first_onto b bs (first ∷ rest) line others is plain parts later =
       ends = λ some. subst (λ x. at_line x ≡ true) l (at_line-onto b first f.alone (f.ends λ none. some (sym o ∙ none)));
     }
 
-first_of : (t line : List ℕ) (others : List (List ℕ)) → lines t ≡ line ∷ others → IsFirstOf line others
+pub first_of : (t line : List ℕ) (others : List (List ℕ)) → lines t ≡ line ∷ others → IsFirstOf line others
 first_of [] line others is = cc
 first_of (b ∷ bs) line others is = elim (cases_Bool (eqb b 10)) [
   | inl e ↦
@@ -74,10 +74,10 @@ first_of (b ∷ bs) line others is = elim (cases_Bool (eqb b 10)) [
 ]
 
 -- lines of a text, and those after them
-record AreFirstOf (some others : List (List ℕ)) : Type 0 where
-  alone : lines (text_of some) ≡ some
-  later : lines (text_of others) ≡ others
-  ends : others ≢ [] → at_line (text_of some) ≡ true
+pub record AreFirstOf (some others : List (List ℕ)) : Type 0 where
+  pub alone : lines (text_of some) ≡ some
+  pub later : lines (text_of others) ≡ others
+  pub ends : others ≢ [] → at_line (text_of some) ≡ true
 
 some_after : (ls others : List (List ℕ)) → others ≢ [] → ls ++ others ≢ []
 some_after [] others some = some
@@ -87,7 +87,7 @@ lines_then : (line : List ℕ) (ls : List (List ℕ)) → lines line ≡ line �
 lines_then line [] alone ends are = ap lines (append-nil line) ∙ alone
 lines_then line (l ∷ ls) alone ends are = lines-append line (text_of (l ∷ ls)) (ends λ none. cc) ∙ ap₂ (λ x y. x ++ y) alone are
 
-are_first : (some others : List (List ℕ)) (t : List ℕ) → lines t ≡ some ++ others → AreFirstOf some others
+pub are_first : (some others : List (List ℕ)) (t : List ℕ) → lines t ≡ some ++ others → AreFirstOf some others
 are_first [] others t is = record { alone = refl; later = ap (λ x. lines (text_of x)) (sym is) ∙ ap lines (text_of-lines t) ∙ is; ends = λ some. refl }
 are_first (line ∷ ls) others t is =
     let first = first_of t line (ls ++ others) is in

@@ -1,15 +1,8 @@
 -- How far the places, the line numbers and the heading of hunks are known.
-use Rattle.std.specs.Prelude.{◌≡◌, ℕ, ◌≤◌, List, [], ◌++◌, length, take, if◌then◌else◌}
-use Rattle.rec_text.specs.Bytes.{is_nil}
+use Rattle.std.specs.Prelude.{◌≡◌, ℕ, ◌≤◌, List, [], ◌++◌, length, take}
 use Rattle.rec_diff.specs.declared.passed.Passed.{Passed}
 use Rattle.rec_diff.specs.Lines.{newlines}
-use Rattle.rec_diff.specs.Diff.{after_space, begins_blank, found_in, first_field, head}
-
--- the first line of a hunk after this number of lines of each text, and after this field
-abbrev pub head_after : ℕ → ℕ → List ℕ → List ℕ → List ℕ → List ℕ
-head_after old_lines new_lines field old new =
-    head old_lines new_lines old new
-    (if begins_blank (if is_nil old then new else old) then [] else after_space field)
+use Rattle.rec_diff.specs.Diff.{found_in, first_field}
 
 -- this field is found at the end of a text, after `found`; the last line of the text begins at `open`
 pub record IsFoundTo (found text field : List ℕ) (open_at : ℕ) : Type 0 where

@@ -13,7 +13,6 @@ use Rattle.rec_diff.specs.declared.lining.Lining.{Lining}
 use Rattle.rec_diff.specs.Changes.{Stretch, stays, turns, cut_from, put_turns, joined}
 use Rattle.rec_diff.specs.Lines.{at_line, lines}
 use Rattle.rec_diff.specs.WholeLines.{trimmed, same_lines, same_end, lined_stay, lined_turn, lined_from, closed}
-use Rattle.rec_diff.specs.Diff.{hunk}
 
 -- ---- lines at the ends of a text
 
@@ -76,18 +75,11 @@ site_if before after old new = if is_nil old && is_nil new then [] else site bef
 abbrev pub turn_sites : List ℕ → List ℕ → List ℕ → List ℕ → List Site
 turn_sites before after old new = sites before after (joined (trimmed (turns old new)))
 
--- what is printed of a turn
-abbrev pub site_text : Site → List ℕ
-site_text s = hunk s.before s.after s.old s.new
-
 module _ (before after : List ℕ) where
   abbrev pub site_of : Turn → Site
   site_of t =
       site (take t.start.old before) (take t.start.new after)
       (between t.start.old t.end.old before) (between t.start.new t.end.new after)
-
-  abbrev pub turn_text : Turn → List ℕ
-  turn_text t = site_text (site_of t)
 
   -- a turn within the texts, not before these places
   pub record IsIn (old new : ℕ) (t : Turn) : Type 0 where

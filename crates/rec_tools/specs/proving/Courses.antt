@@ -4,6 +4,7 @@ use Rattle.rec_text.specs.declared.fault.Fault.{Fault}
 use Rattle.rec_journal.specs.declared.event.Revision.{Revision}
 use Rattle.rec_journal.specs.Direction.{Along}
 use Rattle.rec_journal.specs.Revisions.{LeadsBy}
+use Rattle.rec_diff.specs.declared.style.DiffStyle.{DiffStyle}
 use Rattle.rec_diff.specs.Diffs.{IsDiff}
 use Rattle.rec_tools.specs.declared.decision.Change.{Change}
 use Rattle.rec_tools.specs.declared.decision.Decision.{Decision}
@@ -34,17 +35,17 @@ LeadsFromFile file None = Unit {0}
 LeadsFromFile file (Some change) = Along change.direction (LeadsBy change.steps) file change.text
 
 -- what is printed of it
-abbrev pub IsTextOfChange : List ℕ → List ℕ → Option Change → Result (List ℕ) Fault → Type 0
-IsTextOfChange name file None answer = answer ≡ Ok []
-IsTextOfChange name file (Some change) answer =
-    IsDiff change.direction name change.steps file change.text answer
+abbrev pub IsTextOfChange : DiffStyle → List ℕ → Option Change → Result (List ℕ) Fault → Type 0
+IsTextOfChange style file None answer = answer ≡ Ok []
+IsTextOfChange style file (Some change) answer =
+    IsDiff change.direction style change.steps file change.text answer
 
 -- what is printed of a decision on a file
-abbrev pub IsDecisionText : List ℕ → List ℕ → Decision → Result (List ℕ) Fault → Type 0
-IsDecisionText name file decision = IsTextOfChange name file (change_in decision)
+abbrev pub IsDecisionText : DiffStyle → List ℕ → Decision → Result (List ℕ) Fault → Type 0
+IsDecisionText style file decision = IsTextOfChange style file (change_in decision)
 
 -- what is printed for a preview, with its reply, or why there is none
-abbrev pub IsPreviewed : List ℕ → List ℕ → List ℕ → Asked → Result Printout Fault → Type 0
-IsPreviewed name file journal asked (Ok p) =
-    IsRequestOutcome (contents file journal) (previewing name asked) (Ok (printing p.text p.reply))
-IsPreviewed name file journal asked (Err fault) = IsRequestOutcome (contents file journal) asked (Err fault)
+abbrev pub IsPreviewed : DiffStyle → List ℕ → List ℕ → Asked → Result Printout Fault → Type 0
+IsPreviewed style file journal asked (Ok p) =
+    IsRequestOutcome (contents file journal) (previewing style asked) (Ok (printing p.text p.reply))
+IsPreviewed style file journal asked (Err fault) = IsRequestOutcome (contents file journal) asked (Err fault)

@@ -6,6 +6,7 @@ use Rattle.rec_journal.specs.declared.patch.Direction.TheVariants.{Forward}
 use Rattle.rec_journal.specs.EditTexts.{WithTexts, WalkAt, GoesOver}
 use Rattle.rec_journal.specs.Revisions.{LeadsBy}
 use Rattle.rec_select.specs.Taken.{Prints}
+use Rattle.rec_diff.specs.declared.style.DiffStyle.{DiffStyle}
 use Rattle.rec_diff.specs.Diffs.{IsDiff}
 use Rattle.rec_tools.specs.Printouts.{step_line, word_of}
 
@@ -13,13 +14,13 @@ use Rattle.rec_tools.specs.Printouts.{step_line, word_of}
 abbrev pub HasSteps : WithTexts → Type 0
 HasSteps made = LeadsBy made.edit.steps made.before made.after
 
--- what the edit made, as a diff under a name
-abbrev pub IsEditDiff : List ℕ → WithTexts → List ℕ → Type 0
-IsEditDiff name made diff = IsDiff Forward name made.edit.steps made.before made.after (Ok diff)
+-- what the edit made, as a diff in a style
+abbrev pub IsEditDiff : DiffStyle → WithTexts → List ℕ → Type 0
+IsEditDiff style made diff = IsDiff Forward style made.edit.steps made.before made.after (Ok diff)
 
 -- the line of the edit in the history, and what it made
-abbrev pub IsLogged : List ℕ → WithTexts → List ℕ → Type 0
-IsLogged name made text = (diff : List ℕ) × IsEditDiff name made diff
+abbrev pub IsLogged : DiffStyle → WithTexts → List ℕ → Type 0
+IsLogged style made text = (diff : List ℕ) × IsEditDiff style made diff
     × (text ≡ step_line (word_of made.done) (made.edit.number, made.edit.tool) ++ diff)
 
 -- the edits of a walk have their steps

@@ -16,8 +16,8 @@ IsLook (Show pick form collapse) = Unit {0}
 IsLook (Info record_type form) = Unit {0}
 IsLook Check = Unit {0}
 IsLook History = Unit {0}
-IsLook (Diff number name) = Unit {0}
-IsLook (Log name) = Unit {0}
+IsLook (Diff number style) = Unit {0}
+IsLook (Log style) = Unit {0}
 IsLook _ = ⊥
 
 -- nothing is printed for it; or nothing is written

@@ -20,5 +20,5 @@ write_change-requires g c =
 
 pub returns-clause-written : goal.returns-clause-written
 returns-clause-written g c =
-    written c.args.direction c.args.name.now c.args.steps.now c.in_ok-patch.patch.items c.in_ok-hunks.hunks.items c.args.here.now c.args.there.now c.in_ok-patch.ensures.composed c.in_ok-hunks.ensures
+    written c.args.direction c.args.style.now c.args.steps.now c.in_ok-patch.patch.items c.in_ok-hunks.hunks.items c.args.here.now c.args.there.now c.in_ok-patch.ensures.composed c.in_ok-hunks.ensures
     c.write_change.result (rw c.deref.ensures.value at c.write_change.ensures.written)

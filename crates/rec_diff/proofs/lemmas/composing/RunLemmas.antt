@@ -9,6 +9,7 @@ use Rattle.rec_diff.specs.declared.composing.run.Run.TheVariants.{Kept, Removed,
 use Rattle.rec_diff.specs.Composing.{Deed, keeps, removes, adds, deeds_from, then_others}
 use Rattle.rec_diff.specs.declared.composing.merging.Ahead.{Ahead}
 use Rattle.rec_diff.specs.proving.Runs.{run_length, deeds_in, run_deeds, CutsRun, CanMeet, met_deeds, weight, amount_left, deeds_ahead}
+use Rattle.rec_diff.proofs.lemmas.PlaceLemmas.{next_item}
 use Rattle.rec_diff.proofs.lemmas.composing.DeedLemmas.{then_others-nil, removed_first, added_first, kept_lets, added_lets, kept_kept, kept_removed, added_kept, added_removed}
 
 -- an empty run does nothing
@@ -31,7 +32,7 @@ run_deeds-push runs run = flat_map-append deeds_in runs (run ∷ []) ∙ ap (run
 
 -- the deeds that are left begin with those of the run at this place
 pub run_deeds-drop : (runs : List Run) (i : ℕ) (run : Run) → i < length runs → run ≡ get_or runs i run → run_deeds (drop i runs) ≡ deeds_in run ++ run_deeds (drop (i + 1) runs)
-run_deeds-drop runs i run below is = ap run_deeds (drop_more runs i run below ∙ ap (λ r. r ∷ drop (i + 1) runs) (sym is))
+run_deeds-drop runs i run below is = ap run_deeds (next_item runs i run run below is)
 
 pub run_deeds-drop_at : (runs : List Run) (i : ℕ) (default : Run) → i < length runs → run_deeds (drop i runs) ≡ deeds_in (get_or runs i default) ++ run_deeds (drop (i + 1) runs)
 run_deeds-drop_at runs i default below = ap run_deeds (drop_more runs i default below)
@@ -51,7 +52,7 @@ pub deeds_from-drop : (hunks : List Hunk) (i place : ℕ) (hunk : Hunk) → i < 
     → deeds_from place (drop i hunks) ≡ hunk_deeds (hunk.at - place) hunk ++ deeds_from (hunk.at + length hunk.old) (drop (i + 1) hunks)
 deeds_from-drop hunks i place hunk below is =
     let rest : List Deed = deeds_from (hunk.at + length hunk.old) (drop (i + 1) hunks) in
-    ap (deeds_from place) (drop_more hunks i hunk below ∙ ap (λ h. h ∷ drop (i + 1) hunks) (sym is))
+    ap (deeds_from place) (next_item hunks i hunk hunk below is)
     ∙ ap (λ d. replicate (hunk.at - place) keeps ++ d) (sym (append_assoc (map removes hunk.old) (map adds hunk.new) rest))
     ∙ sym (append_assoc (replicate (hunk.at - place) keeps) (map removes hunk.old ++ map adds hunk.new) rest)
 
@@ -62,7 +63,7 @@ apart_sooner (hunk ∷ hunks) least apart = let first : least + 1 ≤ hunk.at = 
 pub apart-drop : (hunks : List Hunk) (i place : ℕ) (hunk : Hunk) → i < length hunks → hunk ≡ get_or hunks i hunk → AreApartFrom place (drop i hunks)
     → (place ≤ hunk.at) × AreApartFrom (hunk.at + length hunk.old) (drop (i + 1) hunks)
 apart-drop hunks i place hunk below is apart =
-    let begins : drop i hunks ≡ hunk ∷ drop (i + 1) hunks = drop_more hunks i hunk below ∙ ap (λ h. h ∷ drop (i + 1) hunks) (sym is) in
+    let begins : drop i hunks ≡ hunk ∷ drop (i + 1) hunks = next_item hunks i hunk hunk below is in
     let all : AreApartFrom place (hunk ∷ drop (i + 1) hunks) = subst (AreApartFrom place) begins apart in
     (all.0, apart_sooner (drop (i + 1) hunks) (hunk.at + length hunk.old) all.2)
 

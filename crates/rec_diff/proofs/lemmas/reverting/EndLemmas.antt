@@ -3,7 +3,7 @@ use Rattle.std.proofs.Common.{◌≡◌, ◌≢◌, ◌∙◌, ◌↔◌, ◌⊎
 use Rattle.std.proofs.Common.{Option, Some, None, MatchOption, is_some, inl, inr, refl, sym, ap, ap₂, subst, append_assoc, length-append, length-drop, drop-drop, arith}
 use Rattle.std.specs.List.{flat_map, between}
 use Rattle.std.proofs.lemmas.Bool.{cases_Bool, false≢true}
-use Rattle.std.proofs.lemmas.List.{drop_more, drop_all, drop_at}
+use Rattle.std.proofs.lemmas.List.{drop_all, drop_at}
 use Rattle.rec_journal.specs.declared.patch.Hunk.{Hunk}
 use Rattle.rec_journal.specs.Patch.{Splices, SplicesFrom}
 use Rattle.rec_diff.specs.declared.reverting.standing.Back.{Back}
@@ -13,6 +13,7 @@ use Rattle.rec_diff.specs.Lines.{at_line}
 use Rattle.rec_diff.specs.Reverts.{LeaveLines}
 use Rattle.rec_diff.specs.WholeLines.{AreLines}
 use Rattle.rec_diff.specs.proving.Weaving.{are_ended, back_hunk}
+use Rattle.rec_diff.proofs.lemmas.PlaceLemmas.{next_item}
 
 -- ---- texts that follow one another
 
@@ -114,11 +115,8 @@ lead_from hunks text after leads = record { after = after; leads = leads; fits =
 
 -- ---- one after another
 
-pub next_hunk : (hunks : List Hunk) (i : ℕ) (h d : Hunk) → i < length hunks → h ≡ get_or hunks i d → drop i hunks ≡ h ∷ drop (i + 1) hunks
-next_hunk hunks i h d there is = drop_more hunks i d there ∙ ap (λ x. x ∷ drop (i + 1) hunks) (sym is)
-
 pub next_back : (backs : List Back) (i : ℕ) (b d : Back) → i < length backs → b ≡ get_or backs i d → map back_hunk (drop i backs) ≡ back_hunk b ∷ map back_hunk (drop (i + 1) backs)
-next_back backs i b d there is = ap (map back_hunk) (drop_more backs i d there ∙ ap (λ x. x ∷ drop (i + 1) backs) (sym is))
+next_back backs i b d there is = ap (map back_hunk) (next_item backs i b d there is)
 
 pub ends_both : (ended first : Bool) (kept new : List ℕ) → ((rest : List (List ℕ)) → are_ended ended (kept ∷ rest) ≡ are_ended first rest) → (answer : Option Bool)
     → MatchOption answer ((rest : List (List ℕ)) → are_ended first (new ∷ rest) ≡ false) (λ next. (rest : List (List ℕ)) → are_ended first (new ∷ rest) ≡ are_ended next rest)
@@ -131,7 +129,7 @@ ends_both ended first kept new one (Some next) two = λ rest. one (new ∷ rest)
 
 module _ (hunks : List Hunk) (text : List ℕ) (i : ℕ) (h : Hunk) (place : ℕ) (there : i < length hunks) (is : h ≡ get_or hunks i h) (lead : LeadOn text place (drop i hunks)) where
   lead_here : LeadOn text place (h ∷ drop (i + 1) hunks)
-  lead_here = subst (LeadOn text place) (next_hunk hunks i h h there is) lead
+  lead_here = subst (LeadOn text place) (next_item hunks i h h there is) lead
 
   pub leads_then : LeadOn text (h.at + length h.old) (drop (i + 1) hunks)
   leads_then = next_leads text place h (drop (i + 1) hunks) lead_here
@@ -146,7 +144,7 @@ module _ (hunks : List Hunk) (text : List ℕ) (i : ℕ) (h : Hunk) (place : ℕ
   parts_left = cut_from (h.at + length h.old) (drop (i + 1) hunks) (drop (h.at + length h.old) text)
 
   pub parts_here : cut_from place (drop i hunks) (drop place text) ≡ stays (between place h.at text) ∷ turns h.old h.new ∷ parts_left
-  parts_here = ap (λ hs. cut_from place hs (drop place text)) (next_hunk hunks i h h there is) ∙ parts_next text place h (drop (i + 1) hunks) lead_here
+  parts_here = ap (λ hs. cut_from place hs (drop place text)) (next_item hunks i h h there is) ∙ parts_next text place h (drop (i + 1) hunks) lead_here
 
   module _ (ended : Bool) (so_far : are_ended true (map new_of (cut_from 0 hunks text)) ≡ are_ended ended (map new_of (cut_from place (drop i hunks) (drop place text))))
       (kept new : List ℕ) (kept_is : kept ≡ between place h.at text) (new_is : new ≡ h.new) where

@@ -15,7 +15,7 @@ use Rattle.rec_diff.specs.Reverts.{hunks_back}
 use Rattle.rec_diff.specs.proving.Turns.{AreIn, IsIn, Site, site_of, sites}
 use Rattle.rec_diff.specs.proving.Weaving.{AreInStep, Passes, at_start, by_order, is_beside, is_turn_beside, moved_hunk, onto, order, past, place_of, stand, turn_back, turn_order, turns_past}
 use Rattle.rec_diff.specs.proving.Weaving.{turns_stand}
-use Rattle.rec_diff.proofs.lemmas.RestLemmas.{next_turn}
+use Rattle.rec_diff.proofs.lemmas.PlaceLemmas.{next_item}
 
 -- some before others, if there are any
 abbrev pub all_onto : {X : Type 0} → List X → Option (List X) → Option (List X)
@@ -292,4 +292,4 @@ no_turns (t ∷ ts) none = absurd (omega (arith, none))
 -- the turn that comes next is in both texts, and so are the others after it
 pub turn_in : (before after : List ℕ) (old new : ℕ) (ts : List Turn) (i : ℕ) (t d : Turn) → i < length ts → t ≡ get_or ts i d → AreIn before after old new (drop i ts)
     → IsIn before after old new t × AreIn before after t.end.old t.end.new (drop (i + 1) ts)
-turn_in before after old new ts i t d there is are = subst (AreIn before after old new) (next_turn before after ts i t d there is) are
+turn_in before after old new ts i t d there is are = subst (AreIn before after old new) (next_item ts i t d there is) are

@@ -1,34 +1,34 @@
-use Rattle.std.proofs.Common.{get_or, refl}
-use Rattle.rec_select.proofs.lemmas.printing.PutsLemmas.{HasStopped-as, HasTaken-as, Prints-stopped}
-use Rattle.rec_select.proofs.lemmas.info.InfoLemmas.{one_taken, one_stopped}
-use Rattle.rec_diff.specs.declared.turn.Turn.{Turn}
-use Rattle.rec_diff.specs.proving.Turns.{turn_text}
-use Rattle.rec_diff.proofs.lemmas.RestLemmas.{turn_text_is, turns_go_on}
+use Rattle.std.proofs.Common.{◌≡◌, ◌∙◌, ◌++◌, length, sym, ap}
+use Rattle.std.specs.List.{flat_map}
+use Rattle.std.proofs.lemmas.Bool.{eqb-true}
+use Rattle.rec_select.proofs.lemmas.printing.PutsLemmas.{HasStopped-as, HasStopped-prefix, HasTaken-as, HasTaken-nil, Prints-append, Prints-as, Prints-stopped}
+use Rattle.rec_diff.specs.Diff.{named, names}
+use Rattle.rec_diff.specs.proving.Passages.{passage_text}
+use Rattle.rec_diff.proofs.lemmas.ShownLemmas.{no_hunks, some_hunks}
 use Rattle.rec_diff.proofs.printing.write_turns.Goals as goal
 
-abbrev no_turn : Turn
-no_turn = record { start = record { old = 0; new = 0 }; end = record { old = 0; new = 0 } }
+pub returns-then-is_empty : goal.returns-then-is_empty
+returns-then-is_empty g c =
+    let none : length c.args.turns.now ≡ 0 = eqb-true (length c.args.turns.now) 0 (sym c.is_empty.ensures ∙ c.if-is_empty.true) in
+    HasTaken-as (sym (no_hunks c.args.texts.before.now c.args.texts.after.now c.args.style.now.name c.args.style.now.context c.args.turns.now none)) (HasTaken-nil c.args.out.now)
 
-pub returns-in_err-write_hunk : goal.returns-in_err-write_hunk
-returns-in_err-write_hunk g c =
-    let i = c.loop-turn.turn-index in
-    let turn = get_or c.args.turns.now i no_turn in
-    let is = turn_text_is c.args.texts.before.now c.args.texts.after.now turn _ _ _ c.on_to-passed.ensures.place c.old_of.ensures.part c.new_of.ensures.part in
-    Prints-stopped c.from_residual.result c.from_residual.ensures.1
-    (one_stopped (turn_text c.args.texts.before.now c.args.texts.after.now) c.args.turns.now i no_turn turn c.loop-turn.invariant.taken c.loop-turn-test.true refl
-    (HasStopped-as is c.in_err-write_hunk.ensures))
+pub returns-in_err-write_names : goal.returns-in_err-write_names
+returns-in_err-write_names g c =
+    let before = c.args.texts.before.now in
+    let after = c.args.texts.after.now in
+    let name = c.args.style.now.name in
+    let passages = c.in_ok-passages.passages.items in
+    let is = ap (named name) (sym c.in_ok-passages.ensures.text) ∙ some_hunks before after name passages c.in_ok-passages.ensures.some in
+    Prints-stopped c.from_residual-in_err-write_names.result c.from_residual-in_err-write_names.ensures.1
+    (HasStopped-as (sym is) (HasStopped-prefix (flat_map (passage_text before after) passages) (HasStopped-as (ap names c.as_slice.ensures) c.in_err-write_names.ensures)))
 
-pub loop-turn-preserved : goal.loop-turn-preserved
-loop-turn-preserved g c =
-    let i = c.loop-turn.turn-index in
-    let turn = get_or c.args.turns.now i no_turn in
-    let is = turn_text_is c.args.texts.before.now c.args.texts.after.now turn _ _ _ c.on_to-passed.ensures.place c.old_of.ensures.part c.new_of.ensures.part in
-    record {
-      taken =
-          one_taken (turn_text c.args.texts.before.now c.args.texts.after.now) c.args.turns.now i no_turn turn c.loop-turn.invariant.taken c.loop-turn-test.true refl
-          (HasTaken-as is c.in_ok-write_hunk.ensures);
-      known = c.on_to-passed.ensures.known;
-      order =
-          turns_go_on c.args.texts.before.now c.args.texts.after.now _ _ c.args.turns.now i turn no_turn c.on_to-passed.result.place c.loop-turn-test.true refl
-          c.loop-turn.invariant.order c.on_to-passed.ensures.place;
-    }
+pub returns : goal.returns
+returns g c =
+    let before = c.args.texts.before.now in
+    let after = c.args.texts.after.now in
+    let name = c.args.style.now.name in
+    let passages = c.in_ok-passages.passages.items in
+    let is = ap (named name) (sym c.in_ok-passages.ensures.text) ∙ some_hunks before after name passages c.in_ok-passages.ensures.some in
+    let here = ap (flat_map (passage_text before after)) c.deref.ensures.value in
+    Prints-as _ _ _ _ (ap (names name ++◌) here ∙ sym is) c.write_hunks.result
+    (Prints-append (HasTaken-as (ap names c.as_slice.ensures) c.in_ok-write_names.ensures) _ _ c.write_hunks.result c.write_hunks.ensures)

@@ -70,9 +70,9 @@ stopped-tells (editing IsEdit) calls fault stops = stopped-tells_both calls faul
 stopped-tells (moving direction through) calls fault stops = stopped-tells_both calls fault stops
 stopped-tells (reverting number force) calls fault stops = stopped-tells_both calls fault stops
 stopped-tells (forgetting n) calls fault stops = stopped-tells_both calls fault stops
-stopped-tells (showing number name) calls fault stops = stopped-tells_both calls fault stops
-stopped-tells (listing_changes name) calls fault stops = stopped-tells_both calls fault stops
-stopped-tells (previewing name asked) calls fault stops = stopped-tells asked calls fault stops
+stopped-tells (showing number style) calls fault stops = stopped-tells_both calls fault stops
+stopped-tells (listing_changes style) calls fault stops = stopped-tells_both calls fault stops
+stopped-tells (previewing style asked) calls fault stops = stopped-tells asked calls fault stops
 
 module _ {H : Type 0} (goes : H → Call → H → Type 0) where
   pub silently-unread : (old new : H) (asked : Asked) (fault : Fault) → ByCalls goes old new (λ calls. StopsReading (reads_of asked) calls fault)
@@ -184,11 +184,11 @@ silent-reads_both (looking IsText) silent = absurd silent
 silent-reads_both listing silent = absurd silent
 silent-reads_both (editing IsEdit) silent = refl
 silent-reads_both (moving direction through) silent = refl
-silent-reads_both (showing number name) silent = absurd silent
-silent-reads_both (listing_changes name) silent = absurd silent
+silent-reads_both (showing number style) silent = absurd silent
+silent-reads_both (listing_changes style) silent = absurd silent
 silent-reads_both (reverting number force) silent = refl
 silent-reads_both (forgetting n) silent = refl
-silent-reads_both (previewing name asked) silent = absurd silent
+silent-reads_both (previewing style asked) silent = absurd silent
 
 does-refused : (asked : Asked) (c : Contents) (fault : Fault) (p : Printed) → ReadsBoth asked → IsMemoryOr fault (IsRequestOutcome c asked (Err fault)) → IsSilence p
     → Does c asked (Err fault) (got TheFile c.file ∷ got TheJournal c.journal ∷ []) p

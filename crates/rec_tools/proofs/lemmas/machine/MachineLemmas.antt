@@ -7,6 +7,7 @@ use Rattle.rec_journal.specs.declared.event.Tool.{Tool}
 use Rattle.rec_edit.specs.declared.answer.Edited.{Edited}
 use Rattle.rec_journal.specs.declared.patch.Direction.{Direction}
 use Rattle.rec_journal.specs.declared.patch.Direction.TheVariants.{Forward, Backward}
+use Rattle.rec_diff.specs.declared.style.DiffStyle.{DiffStyle}
 use Rattle.rec_diff.specs.Diffs.{IsDiff}
 use Rattle.rec_diff.proofs.lemmas.DiffLemmas.{one_diff}
 use Rattle.rec_tools.specs.declared.request.Reply.{Reply}
@@ -86,28 +87,28 @@ one_forgetting_step n s one other t u (inr is) (inr is_too) = (is.1 ∙ sym is_t
 
 -- ---- what edits made is printed in one way
 
-one_showing : (number : Option ℕ) (name : List ℕ) (found : Option Told) (one other : Answer) (text printed : List ℕ)
-    → IsShowingStep number name found one text → IsShowingStep number name found other printed → (one ≡ other) × (text ≡ printed)
-one_showing number name None one other text printed is is_too = (is.0 ∙ sym is_too.0, is.1 ∙ sym is_too.1)
-one_showing number name (Some e) one other text printed is is_too =
-    (is.0 ∙ sym is_too.0, one_diff Forward name e.steps e.before e.after text printed is.1 is_too.1)
+one_showing : (number : Option ℕ) (style : DiffStyle) (found : Option Told) (one other : Answer) (text printed : List ℕ)
+    → IsShowingStep number style found one text → IsShowingStep number style found other printed → (one ≡ other) × (text ≡ printed)
+one_showing number style None one other text printed is is_too = (is.0 ∙ sym is_too.0, is.1 ∙ sym is_too.1)
+one_showing number style (Some e) one other text printed is is_too =
+    (is.0 ∙ sym is_too.0, one_diff Forward style e.steps e.before e.after text printed is.1 is_too.1)
 
 not_both_ways : {X : Type 0} (x y : X) (old new : List X) → new ≡ x ∷ old → old ≡ y ∷ new → ⊥
 not_both_ways x y old new is is_too = omega (arith, ap length is, ap length is_too)
 
-one_step_diff : (name : List ℕ) (s t : State) (one other : List ℕ) → IsStepDiff name s t one → IsStepDiff name s t other → one ≡ other
-one_step_diff name s t one other (inl is) (inl is_too) = is.1 ∙ sym is_too.1
-one_step_diff name s t one other (inl is) (inr is_too) = absurd (is_too.0 is.0)
-one_step_diff name s t one other (inr is) (inl is_too) = absurd (is.0 is_too.0)
-one_step_diff name s t one other (inr (differs, (Forward, entry, top, diff))) (inr (differs_too, (Forward, also, top_too, diff_too))) =
-    one_diff Forward name also.steps s.present t.present one other
-    (subst (λ (e : Entry). IsDiff Forward name e.steps s.present t.present (Ok one)) (same_top Forward entry also s.past t.past top top_too) diff) diff_too
-one_step_diff name s t one other (inr (differs, (Backward, entry, top, diff))) (inr (differs_too, (Backward, also, top_too, diff_too))) =
-    one_diff Backward name also.steps s.present t.present one other
-    (subst (λ (e : Entry). IsDiff Backward name e.steps s.present t.present (Ok one)) (same_top Backward entry also s.past t.past top top_too) diff) diff_too
-one_step_diff name s t one other (inr (differs, (Forward, entry, top, diff))) (inr (differs_too, (Backward, also, top_too, diff_too))) =
+one_step_diff : (style : DiffStyle) (s t : State) (one other : List ℕ) → IsStepDiff style s t one → IsStepDiff style s t other → one ≡ other
+one_step_diff style s t one other (inl is) (inl is_too) = is.1 ∙ sym is_too.1
+one_step_diff style s t one other (inl is) (inr is_too) = absurd (is_too.0 is.0)
+one_step_diff style s t one other (inr is) (inl is_too) = absurd (is.0 is_too.0)
+one_step_diff style s t one other (inr (differs, (Forward, entry, top, diff))) (inr (differs_too, (Forward, also, top_too, diff_too))) =
+    one_diff Forward style also.steps s.present t.present one other
+    (subst (λ (e : Entry). IsDiff Forward style e.steps s.present t.present (Ok one)) (same_top Forward entry also s.past t.past top top_too) diff) diff_too
+one_step_diff style s t one other (inr (differs, (Backward, entry, top, diff))) (inr (differs_too, (Backward, also, top_too, diff_too))) =
+    one_diff Backward style also.steps s.present t.present one other
+    (subst (λ (e : Entry). IsDiff Backward style e.steps s.present t.present (Ok one)) (same_top Backward entry also s.past t.past top top_too) diff) diff_too
+one_step_diff style s t one other (inr (differs, (Forward, entry, top, diff))) (inr (differs_too, (Backward, also, top_too, diff_too))) =
     absurd (not_both_ways entry also s.past t.past top top_too)
-one_step_diff name s t one other (inr (differs, (Backward, entry, top, diff))) (inr (differs_too, (Forward, also, top_too, diff_too))) =
+one_step_diff style s t one other (inr (differs, (Backward, entry, top, diff))) (inr (differs_too, (Forward, also, top_too, diff_too))) =
     absurd (not_both_ways also entry s.past t.past top_too top)
 
 -- ---- one step
@@ -121,14 +122,14 @@ module _ (s : State) (one other : Answer) (built : one ≢ Err BadPattern) (buil
       (shown_of_built outcome one text shown built) (shown_of_built also other printed shown_too built_too) in
       let both = one_shown also one other text printed (subst (λ r. ComesOut r one text) same shown) shown_too in
       (both.0, both.1, e ∙ sym k)
-  one_step_of (showing number name) text printed t u means (step, e) (step_too, k) =
-      let both = one_showing number name (told_edit number s) one other text printed step step_too in
+  one_step_of (showing number style) text printed t u means (step, e) (step_too, k) =
+      let both = one_showing number style (told_edit number s) one other text printed step step_too in
       (both.0, both.1, e ∙ sym k)
-  one_step_of (listing_changes name) text printed t u means (is, log, e) (is_too, log_too, k) =
-      (is ∙ sym is_too, one_log name (told_in s) text printed log log_too, e ∙ sym k)
-  one_step_of (previewing name asked) text printed t u means (own, next, step, diff, e) (also, later, step_too, diff_too, k) =
+  one_step_of (listing_changes style) text printed t u means (is, log, e) (is_too, log_too, k) =
+      (is ∙ sym is_too, one_log style (told_in s) text printed log log_too, e ∙ sym k)
+  one_step_of (previewing style asked) text printed t u means (own, next, step, diff, e) (also, later, step_too, diff_too, k) =
       let same = one_step_of asked own also next later means step step_too in
-      (same.0, one_step_diff name s later text printed (subst (λ v. IsStepDiff name s v text) same.2 diff) diff_too, e ∙ sym k)
+      (same.0, one_step_diff style s later text printed (subst (λ v. IsStepDiff style s v text) same.2 diff) diff_too, e ∙ sym k)
   one_step_of listing text printed t u means is is_too = (is.0 ∙ sym is_too.0, is.1 ∙ sym is_too.1, is.2 ∙ sym is_too.2)
   one_step_of (editing IsEdit) text printed t u means (step, e) (step_too, k) =
       let both = one_made_step s (edit_reply s.next 0) (IsMade IsEdit s.present) (one_made IsEdit means s.present) one other t u built built_too step step_too in

@@ -10,6 +10,7 @@ use Rattle.rec_journal.specs.History.{Opened, Opens}
 use Rattle.rec_journal.specs.Revisions.{Leads}
 use Rattle.rec_journal.proofs.lemmas.patches.StepLemmas.{edits_lead_to_one_text}
 use Rattle.rec_journal.proofs.lemmas.texts.AllLemmas.{one_list_of_texts}
+use Rattle.rec_diff.specs.declared.style.DiffStyle.{DiffStyle}
 use Rattle.rec_diff.specs.Diffs.{IsDiff}
 use Rattle.rec_diff.proofs.lemmas.DiffLemmas.{no_refused_diff}
 use Rattle.rec_tools.specs.Home.{Contents, written}
@@ -25,45 +26,45 @@ use Rattle.rec_tools.proofs.lemmas.machine.ToldLemmas.{all_told, shown_edit-told
 -- ---- what edits made
 
 module _ (c : Contents) (s : State) (stands : Stands c s) where
-  shown_text : (number : Option ℕ) (name : List ℕ) (p : Printout) → IsShownText (IsShownEdit number name c.file c.journal) (Ok p)
-      → IsMachineStep s (showing number name) (Ok p.reply) p.text s
-  shown_text number name p (inl (fault, refused, e), shown) = absurd (no_both p.text fault e)
-  shown_text number name p (inr (o, opens, inl (fault, refused, e)), shown) = absurd (no_both p.text fault e)
-  shown_text number name p (inr (o, opens, inr (made, texts, diff)), shown) = (
-    subst (λ found. IsShowingStep number name found (Ok p.reply) p.text) (sym (shown_edit-told o c s (stands_by c s o stands opens) opens number made texts)) (ap Ok shown, diff),
+  shown_text : (number : Option ℕ) (style : DiffStyle) (p : Printout) → IsShownText (IsShownEdit number style c.file c.journal) (Ok p)
+      → IsMachineStep s (showing number style) (Ok p.reply) p.text s
+  shown_text number style p (inl (fault, refused, e), shown) = absurd (no_both p.text fault e)
+  shown_text number style p (inr (o, opens, inl (fault, refused, e)), shown) = absurd (no_both p.text fault e)
+  shown_text number style p (inr (o, opens, inr (made, texts, diff)), shown) = (
+    subst (λ found. IsShowingStep number style found (Ok p.reply) p.text) (sym (shown_edit-told o c s (stands_by c s o stands opens) opens number made texts)) (ap Ok shown, diff),
     refl,
   )
 
-  shown_refused : (number : Option ℕ) (name : List ℕ) (fault : Fault) → IsShownEdit number name c.file c.journal (Err fault)
-      → IsMachineStep s (showing number name) (Err fault) [] s
-  shown_refused number name fault (inl (other, refused, e)) = absurd (can_be_opened c s stands other refused)
-  shown_refused number name fault (inr (o, opens, inl (other, refused, e))) =
+  shown_refused : (number : Option ℕ) (style : DiffStyle) (fault : Fault) → IsShownEdit number style c.file c.journal (Err fault)
+      → IsMachineStep s (showing number style) (Err fault) [] s
+  shown_refused number style fault (inl (other, refused, e)) = absurd (can_be_opened c s stands other refused)
+  shown_refused number style fault (inr (o, opens, inl (other, refused, e))) =
       let none = shown_edit-none o c s (stands_by c s o stands opens) opens number other refused in
-      (subst (λ found. IsShowingStep number name found (Err fault) []) (sym none.0) (ap Err (same_fault fault other e ∙ none.1), refl), refl)
-  shown_refused number name fault (inr (o, opens, inr (made, texts, diff))) = absurd (no_refused_diff Forward name made.edit.steps made.before made.after fault diff)
+      (subst (λ found. IsShowingStep number style found (Err fault) []) (sym none.0) (ap Err (same_fault fault other e ∙ none.1), refl), refl)
+  shown_refused number style fault (inr (o, opens, inr (made, texts, diff))) = absurd (no_refused_diff Forward style made.edit.steps made.before made.after fault diff)
 
-  pub shows_step : (number : Option ℕ) (name : List ℕ) (r : Result Outcome Fault) → IsPrinting (IsShownText (IsShownEdit number name c.file c.journal)) r
-      → StepsAsMachine c s (showing number name) r
-  shows_step number name (Ok outcome) (p, is, e) =
-      subst (λ x. StepsAsMachine c s (showing number name) (Ok x)) (sym e) (s, shown_text number name p is, stands)
-  shows_step number name (Err fault) is = inl (shown_refused number name fault is)
+  pub shows_step : (number : Option ℕ) (style : DiffStyle) (r : Result Outcome Fault) → IsPrinting (IsShownText (IsShownEdit number style c.file c.journal)) r
+      → StepsAsMachine c s (showing number style) r
+  shows_step number style (Ok outcome) (p, is, e) =
+      subst (λ x. StepsAsMachine c s (showing number style) (Ok x)) (sym e) (s, shown_text number style p is, stands)
+  shows_step number style (Err fault) is = inl (shown_refused number style fault is)
 
-  logged_text : (name : List ℕ) (p : Printout) → IsShownText (IsWholeLog name c.file c.journal) (Ok p) → IsMachineStep s (listing_changes name) (Ok p.reply) p.text s
-  logged_text name p (inl (fault, refused, e), shown) = absurd (no_both p.text fault e)
-  logged_text name p (inr (o, opens, inl (drifted, e)), shown) = absurd (false≢true (sym (stands_by c s o stands opens).settled ∙ drifted))
-  logged_text name p (inr (o, opens, inr (settled, (all, are, log))), shown) =
+  logged_text : (style : DiffStyle) (p : Printout) → IsShownText (IsWholeLog style c.file c.journal) (Ok p) → IsMachineStep s (listing_changes style) (Ok p.reply) p.text s
+  logged_text style p (inl (fault, refused, e), shown) = absurd (no_both p.text fault e)
+  logged_text style p (inr (o, opens, inl (drifted, e)), shown) = absurd (false≢true (sym (stands_by c s o stands opens).settled ∙ drifted))
+  logged_text style p (inr (o, opens, inr (settled, (all, are, log))), shown) =
       let told = all_told o c s (stands_by c s o stands opens) in
       let same = (one_list_of_texts c.file o told.all settled told.are).only all are in
-      (ap Ok shown, subst (λ es. IsLog name es p.text) (ap (map told_of) same ∙ told.same) log, refl)
+      (ap Ok shown, subst (λ es. IsLog style es p.text) (ap (map told_of) same ∙ told.same) log, refl)
 
-  log_refused : (name : List ℕ) (fault : Fault) → IsWholeLog name c.file c.journal (Err fault) → ⊥
-  log_refused name fault (inl (other, refused, e)) = can_be_opened c s stands other refused
-  log_refused name fault (inr (o, opens, (e, settled, none))) = let told = all_told o c s (stands_by c s o stands opens) in none told.all told.are
+  log_refused : (style : DiffStyle) (fault : Fault) → IsWholeLog style c.file c.journal (Err fault) → ⊥
+  log_refused style fault (inl (other, refused, e)) = can_be_opened c s stands other refused
+  log_refused style fault (inr (o, opens, (e, settled, none))) = let told = all_told o c s (stands_by c s o stands opens) in none told.all told.are
 
-  pub logs_step : (name : List ℕ) (r : Result Outcome Fault) → IsPrinting (IsShownText (IsWholeLog name c.file c.journal)) r → StepsAsMachine c s (listing_changes name) r
-  logs_step name (Ok outcome) (p, is, e) =
-      subst (λ x. StepsAsMachine c s (listing_changes name) (Ok x)) (sym e) (s, logged_text name p is, stands)
-  logs_step name (Err fault) is = absurd (log_refused name fault is)
+  pub logs_step : (style : DiffStyle) (r : Result Outcome Fault) → IsPrinting (IsShownText (IsWholeLog style c.file c.journal)) r → StepsAsMachine c s (listing_changes style) r
+  logs_step style (Ok outcome) (p, is, e) =
+      subst (λ x. StepsAsMachine c s (listing_changes style) (Ok x)) (sym e) (s, logged_text style p is, stands)
+  logs_step style (Err fault) is = absurd (log_refused style fault is)
 
 -- ---- what would change
 
@@ -84,16 +85,16 @@ top_of e es (entry ∷ entries) others here there are leads others_are =
       steps = are.2;
     }
 
-module _ (c d : Contents) (s t : State) (stands : Stands c s) (reached : Stands d t) (name text : List ℕ) where
+module _ (c d : Contents) (s t : State) (stands : Stands c s) (reached : Stands d t) (style : DiffStyle) (text : List ℕ) where
   -- in the texts of the machine
-  in_states : (direction : Direction) (steps other : List EditStep) → steps ≡ other → IsDiff direction name steps c.file d.file (Ok text)
-      → IsDiff direction name other s.present t.present (Ok text)
+  in_states : (direction : Direction) (steps other : List EditStep) → steps ≡ other → IsDiff direction style steps c.file d.file (Ok text)
+      → IsDiff direction style other s.present t.present (Ok text)
   in_states direction steps other same diff =
-      subst (λ here. IsDiff direction name other here t.present (Ok text)) (sym stands.present)
-      (subst (λ there. IsDiff direction name other c.file there (Ok text)) (sym reached.present)
-      (subst (λ ss. IsDiff direction name ss c.file d.file (Ok text)) same diff))
+      subst (λ here. IsDiff direction style other here t.present (Ok text)) (sym stands.present)
+      (subst (λ there. IsDiff direction style other c.file there (Ok text)) (sym reached.present)
+      (subst (λ ss. IsDiff direction style ss c.file d.file (Ok text)) same diff))
 
-  step_diff : IsPreviewText name c d text → IsStepDiff name s t text
+  step_diff : IsPreviewText style c d text → IsStepDiff style s t text
   step_diff (inl (same, none)) = inl (reached.present ∙ same ∙ sym stands.present, none)
   step_diff (inr (direction, e, across, diff)) =
       let here = stands_by c s across.here stands across.opens_here in
@@ -104,8 +105,8 @@ module _ (c d : Contents) (s t : State) (stands : Stands c s) (reached : Stands 
       )
     where
       entry_of : (direction : Direction) (e : Revision) (o p : Opened) → StandsBy o c s → StandsBy p d t → OnTop direction e o.past p.past → Leads direction e c.file d.file
-          → IsDiff direction name e.steps c.file d.file (Ok text)
-          → (direction : Direction) × (entry : Entry) × OnTop direction entry s.past t.past × IsDiff direction name entry.steps s.present t.present (Ok text)
+          → IsDiff direction style e.steps c.file d.file (Ok text)
+          → (direction : Direction) × (entry : Entry) × OnTop direction entry s.past t.past × IsDiff direction style entry.steps s.present t.present (Ok text)
       entry_of Forward e o p here there top leads diff =
           let has = top_of e o.past t.past s.past d.file c.file (subst (λ es. AreEntries Backward es t.past d.file) top there.past) leads here.past in
           (Forward, has.entry, has.are, in_states Forward e.steps has.entry.steps has.steps diff)
@@ -113,9 +114,9 @@ module _ (c d : Contents) (s t : State) (stands : Stands c s) (reached : Stands 
           let has = top_of e p.past s.past t.past c.file d.file (subst (λ es. AreEntries Backward es s.past c.file) top here.past) leads there.past in
           (Backward, has.entry, has.are, in_states Backward e.steps has.entry.steps has.steps diff)
 
-module _ (c : Contents) (s : State) (stands : Stands c s) (name : List ℕ) (asked : Asked)
+module _ (c : Contents) (s : State) (stands : Stands c s) (style : DiffStyle) (asked : Asked)
     (steps : (r : Result Outcome Fault) → IsRequestOutcome c asked r → StepsAsMachine c s asked r) where
-  pub previews_step : (r : Result Outcome Fault) → IsRequestOutcome c (previewing name asked) r → StepsAsMachine c s (previewing name asked) r
+  pub previews_step : (r : Result Outcome Fault) → IsRequestOutcome c (previewing style asked) r → StepsAsMachine c s (previewing style asked) r
   previews_step (Ok outcome) (would, is, preview) =
       let next = steps (Ok would) is in (
         s,
@@ -123,7 +124,7 @@ module _ (c : Contents) (s : State) (stands : Stands c s) (name : List ℕ) (ask
           would.text,
           next.0,
           subst (λ reply. IsMachineStep s asked (Ok reply) would.text next.0) (sym preview.reply) next.1,
-          step_diff c (written c would.writes) s next.0 stands next.2 name outcome.text preview.text,
+          step_diff c (written c would.writes) s next.0 stands next.2 style outcome.text preview.text,
           refl,
         ),
         subst (λ ws. Stands (written c ws) s) (sym preview.writes) stands,

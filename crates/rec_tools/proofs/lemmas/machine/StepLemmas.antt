@@ -347,9 +347,9 @@ pub outcomes_are_steps : (c : Contents) (s : State) (asked : Asked) (r : Result 
     → Stands c s → IsRequestOutcome c asked r → StepsAsMachine c s asked r
 outcomes_are_steps c s (looking IsText) r stands is = looks_step c s stands IsText r is
 outcomes_are_steps c s listing r stands is = lists_step c s stands r is
-outcomes_are_steps c s (showing number name) r stands is = shows_step c s stands number name r is
-outcomes_are_steps c s (listing_changes name) r stands is = logs_step c s stands name r is
-outcomes_are_steps c s (previewing name asked) r stands is = previews_step c s stands name asked (λ r is. outcomes_are_steps c s asked r stands is) r is
+outcomes_are_steps c s (showing number style) r stands is = shows_step c s stands number style r is
+outcomes_are_steps c s (listing_changes style) r stands is = logs_step c s stands style r is
+outcomes_are_steps c s (previewing style asked) r stands is = previews_step c s stands style asked (λ r is. outcomes_are_steps c s asked r stands is) r is
 outcomes_are_steps c s (editing IsEdit) r stands is = edits_step c s stands IsEdit r is
 outcomes_are_steps c s (moving direction through) r stands is = moves_step c s stands direction through r is
 outcomes_are_steps c s (reverting number force) r stands is = reverts_step c s stands number force r is

@@ -34,6 +34,7 @@ use Rattle.rec_journal.proofs.lemmas.plans.PlanLemmas.{one_move_plan}
 use Rattle.rec_journal.proofs.lemmas.histories.Openings.{one_opening}
 use Rattle.rec_journal.proofs.lemmas.texts.AllLemmas.{one_list_of_texts}
 use Rattle.rec_journal.proofs.lemmas.texts.WayLemmas.{one_edit_texts}
+use Rattle.rec_diff.specs.declared.style.DiffStyle.{DiffStyle}
 use Rattle.rec_diff.specs.Diffs.{IsDiff}
 use Rattle.rec_diff.proofs.lemmas.DiffLemmas.{no_refused_diff, one_diff}
 use Rattle.rec_edit.specs.declared.answer.Edited.{Edited}
@@ -155,10 +156,10 @@ MeansOne listing = Unit {0}
 MeansOne (editing IsEdit) = AgreeLike AreEditsAlike IsEdit IsEdit
 MeansOne (moving direction through) = Unit {0}
 MeansOne (reverting number force) = Unit {0}
-MeansOne (showing number name) = Unit {0}
-MeansOne (listing_changes name) = Unit {0}
+MeansOne (showing number style) = Unit {0}
+MeansOne (listing_changes style) = Unit {0}
 MeansOne (forgetting n) = Unit {0}
-MeansOne (previewing name asked) = MeansOne asked
+MeansOne (previewing style asked) = MeansOne asked
 
 pub one_meaning : (request : Request) → MeansOne (asked_of request)
 one_meaning (Show pick form collapse) = λ file. HasOneBut-shown _ (HasOneBut-show file pick form collapse)
@@ -171,9 +172,9 @@ one_meaning (Redo through) = tt
 one_meaning (Revert number force) = tt
 one_meaning (Forget n) = tt
 one_meaning History = tt
-one_meaning (Diff number name) = tt
-one_meaning (Log name) = tt
-one_meaning (Preview' shape request name) = one_meaning request
+one_meaning (Diff number style) = tt
+one_meaning (Log style) = tt
+one_meaning (Preview' shape request style) = one_meaning request
 
 -- ---- an edit
 
@@ -238,33 +239,33 @@ module _ (n : ℕ) (o : Opened) (c : Contents) where
 
 -- ---- what edits made
 
-HasOne-diff : (direction : Direction) (name : List ℕ) (steps : List EditStep) (here there : List ℕ) → HasOne (IsDiff direction name steps here there)
-HasOne-diff direction name steps here there (Ok one) (Ok other) is is_too = ap Ok (one_diff direction name steps here there one other is is_too)
-HasOne-diff direction name steps here there (Ok one) (Err fault) is is_too = absurd (no_refused_diff direction name steps here there fault is_too)
-HasOne-diff direction name steps here there (Err fault) other is is_too = absurd (no_refused_diff direction name steps here there fault is)
+HasOne-diff : (direction : Direction) (style : DiffStyle) (steps : List EditStep) (here there : List ℕ) → HasOne (IsDiff direction style steps here there)
+HasOne-diff direction style steps here there (Ok one) (Ok other) is is_too = ap Ok (one_diff direction style steps here there one other is is_too)
+HasOne-diff direction style steps here there (Ok one) (Err fault) is is_too = absurd (no_refused_diff direction style steps here there fault is_too)
+HasOne-diff direction style steps here there (Err fault) other is is_too = absurd (no_refused_diff direction style steps here there fault is)
 
-HasOne-shown_edit : (number : Option ℕ) (name file journal : List ℕ) → HasOne (IsShownEdit number name file journal)
-HasOne-shown_edit number name file journal =
+HasOne-shown_edit : (number : Option ℕ) (style : DiffStyle) (file journal : List ℕ) → HasOne (IsShownEdit number style file journal)
+HasOne-shown_edit number style file journal =
     HasOne-Then (IsOpening file journal) _ (one_opening file journal) (λ o opens.
     HasOne-Then (IsEditTexts o file number) _ (one_edit_texts file journal o number opens) (λ made _.
-    HasOne-diff Forward name made.edit.steps made.before made.after))
+    HasOne-diff Forward style made.edit.steps made.before made.after))
 
-HasOne-log_of : (name file journal : List ℕ) (o : Opened) → HasOne (IsLogOf name file o)
-HasOne-log_of name file journal o (Ok one) (Ok other) (inl (drifted, e)) (inl (drifted_too, k)) = ap Ok (e ∙ sym k)
-HasOne-log_of name file journal o (Ok one) (Ok other) (inl (drifted, e)) (inr (settled, is)) = absurd (false≢true (sym settled ∙ drifted))
-HasOne-log_of name file journal o (Ok one) (Ok other) (inr (settled, is)) (inl (drifted, k)) = absurd (false≢true (sym settled ∙ drifted))
-HasOne-log_of name file journal o (Ok one) (Ok other) (inr (settled, (all, are, log))) (inr (settled_too, (others, are_too, log_too))) =
+HasOne-log_of : (style : DiffStyle) (file journal : List ℕ) (o : Opened) → HasOne (IsLogOf style file o)
+HasOne-log_of style file journal o (Ok one) (Ok other) (inl (drifted, e)) (inl (drifted_too, k)) = ap Ok (e ∙ sym k)
+HasOne-log_of style file journal o (Ok one) (Ok other) (inl (drifted, e)) (inr (settled, is)) = absurd (false≢true (sym settled ∙ drifted))
+HasOne-log_of style file journal o (Ok one) (Ok other) (inr (settled, is)) (inl (drifted, k)) = absurd (false≢true (sym settled ∙ drifted))
+HasOne-log_of style file journal o (Ok one) (Ok other) (inr (settled, (all, are, log))) (inr (settled_too, (others, are_too, log_too))) =
     let same = (one_list_of_texts file o others settled are_too).only all are in
-    ap Ok (one_log name (map told_of others) one other (subst (λ es. IsLog name (map told_of es) one) same log) log_too)
-HasOne-log_of name file journal o (Ok one) (Err fault) (inl (drifted, e)) (is_too, settled, none) = absurd (false≢true (sym settled ∙ drifted))
-HasOne-log_of name file journal o (Ok one) (Err fault) (inr (settled, (all, are, log))) (is_too, settled_too, none) = absurd (none all are)
-HasOne-log_of name file journal o (Err fault) (Ok other) (is, settled, none) (inl (drifted, k)) = absurd (false≢true (sym settled ∙ drifted))
-HasOne-log_of name file journal o (Err fault) (Ok other) (is, settled, none) (inr (settled_too, (all, are, log))) = absurd (none all are)
-HasOne-log_of name file journal o (Err fault) (Err other) is is_too = ap Err (is.0 ∙ sym is_too.0)
+    ap Ok (one_log style (map told_of others) one other (subst (λ es. IsLog style (map told_of es) one) same log) log_too)
+HasOne-log_of style file journal o (Ok one) (Err fault) (inl (drifted, e)) (is_too, settled, none) = absurd (false≢true (sym settled ∙ drifted))
+HasOne-log_of style file journal o (Ok one) (Err fault) (inr (settled, (all, are, log))) (is_too, settled_too, none) = absurd (none all are)
+HasOne-log_of style file journal o (Err fault) (Ok other) (is, settled, none) (inl (drifted, k)) = absurd (false≢true (sym settled ∙ drifted))
+HasOne-log_of style file journal o (Err fault) (Ok other) (is, settled, none) (inr (settled_too, (all, are, log))) = absurd (none all are)
+HasOne-log_of style file journal o (Err fault) (Err other) is is_too = ap Err (is.0 ∙ sym is_too.0)
 
-HasOne-whole_log : (name file journal : List ℕ) → HasOne (IsWholeLog name file journal)
-HasOne-whole_log name file journal =
-    HasOne-Then (IsOpening file journal) (IsLogOf name file) (one_opening file journal) (λ o _. HasOne-log_of name file journal o)
+HasOne-whole_log : (style : DiffStyle) (file journal : List ℕ) → HasOne (IsWholeLog style file journal)
+HasOne-whole_log style file journal =
+    HasOne-Then (IsOpening file journal) (IsLogOf style file) (one_opening file journal) (λ o _. HasOne-log_of style file journal o)
 
 -- ---- what would change
 
@@ -273,7 +274,7 @@ pub same_top : {X : Type 0} (direction : Direction) (x y : X) (old new : List X)
 same_top Forward x y old new is is_too = let e = sym is ∙ is_too in cc
 same_top Backward x y old new is is_too = let e = sym is ∙ is_too in cc
 
-module _ (name : List ℕ) (c d : Contents) where
+module _ (style : DiffStyle) (c d : Contents) where
   -- the edit that leads across is one
   same_across : (direction : Direction) (e f : Revision) → LeadsAcross direction e c d → LeadsAcross direction f c d → e ≡ f
   same_across direction e f is is_too =
@@ -288,16 +289,16 @@ module _ (name : List ℕ) (c d : Contents) where
       let there = same_value is.there is_too.there (one_opening d.file d.journal (Ok is.there) (Ok is_too.there) is.opens_there is_too.opens_there) in
       omega (arith, ap length is.on_top, ap length is_too.on_top, ap (λ (o : Opened). length o.past) here, ap (λ (o : Opened). length o.past) there)
 
-  one_preview_text : (one other : List ℕ) → IsPreviewText name c d one → IsPreviewText name c d other → one ≡ other
+  one_preview_text : (one other : List ℕ) → IsPreviewText style c d one → IsPreviewText style c d other → one ≡ other
   one_preview_text one other (inl is) (inl is_too) = is.1 ∙ sym is_too.1
   one_preview_text one other (inl is) (inr (direction, e, across, diff)) = absurd (across.differ is.0)
   one_preview_text one other (inr (direction, e, across, diff)) (inl is_too) = absurd (across.differ is_too.0)
   one_preview_text one other (inr (Forward, e, across, diff)) (inr (Forward, f, across_too, diff_too)) =
-      one_diff Forward name f.steps c.file d.file one other
-      (subst (λ (x : Revision). IsDiff Forward name x.steps c.file d.file (Ok one)) (same_across Forward e f across across_too) diff) diff_too
+      one_diff Forward style f.steps c.file d.file one other
+      (subst (λ (x : Revision). IsDiff Forward style x.steps c.file d.file (Ok one)) (same_across Forward e f across across_too) diff) diff_too
   one_preview_text one other (inr (Backward, e, across, diff)) (inr (Backward, f, across_too, diff_too)) =
-      one_diff Backward name f.steps c.file d.file one other
-      (subst (λ (x : Revision). IsDiff Backward name x.steps c.file d.file (Ok one)) (same_across Backward e f across across_too) diff) diff_too
+      one_diff Backward style f.steps c.file d.file one other
+      (subst (λ (x : Revision). IsDiff Backward style x.steps c.file d.file (Ok one)) (same_across Backward e f across across_too) diff) diff_too
   one_preview_text one other (inr (Forward, e, across, diff)) (inr (Backward, f, across_too, diff_too)) = absurd (not_back_and_forth e f across across_too)
   one_preview_text one other (inr (Backward, e, across, diff)) (inr (Forward, f, across_too, diff_too)) = absurd (not_back_and_forth f e across_too across)
 
@@ -326,20 +327,20 @@ module _ (c : Contents) where
   one_outcome_of listing means one other is is_too built built_too =
       HasOne-Then (IsOpening c.file c.journal) (λ o given. given ≡ Ok (printing (printed_history o) Shown)) (one_opening c.file c.journal)
       (λ o _ a b e k. e ∙ sym k) one other is is_too
-  one_outcome_of (showing number name) means one other is is_too built built_too =
-      HasOneBut-printing _ (HasOneBut-shown _ (HasOneBut-of _ (HasOne-shown_edit number name c.file c.journal))) one other is is_too built built_too
-  one_outcome_of (listing_changes name) means one other is is_too built built_too =
-      HasOneBut-printing _ (HasOneBut-shown _ (HasOneBut-of _ (HasOne-whole_log name c.file c.journal))) one other is is_too built built_too
-  one_outcome_of (previewing name asked) means (Ok one) (Ok other) (would, is, preview) (also, is_too, preview_too) built built_too =
+  one_outcome_of (showing number style) means one other is is_too built built_too =
+      HasOneBut-printing _ (HasOneBut-shown _ (HasOneBut-of _ (HasOne-shown_edit number style c.file c.journal))) one other is is_too built built_too
+  one_outcome_of (listing_changes style) means one other is is_too built built_too =
+      HasOneBut-printing _ (HasOneBut-shown _ (HasOneBut-of _ (HasOne-whole_log style c.file c.journal))) one other is is_too built built_too
+  one_outcome_of (previewing style asked) means (Ok one) (Ok other) (would, is, preview) (also, is_too, preview_too) built built_too =
       let same = same_value would also (one_outcome_of asked means (Ok would) (Ok also) is is_too (no_both would BadPattern) (no_both also BadPattern)) in
       ap Ok (same_outcome one other
-      (one_preview_text name c (written c also.writes) one.text other.text (subst (λ (w : Outcome). IsPreviewText name c (written c w.writes) one.text) same preview.text) preview_too.text)
+      (one_preview_text style c (written c also.writes) one.text other.text (subst (λ (w : Outcome). IsPreviewText style c (written c w.writes) one.text) same preview.text) preview_too.text)
       (preview.writes ∙ sym preview_too.writes) (preview.reply ∙ ap (λ (w : Outcome). w.reply) same ∙ sym preview_too.reply))
-  one_outcome_of (previewing name asked) means (Ok one) (Err fault) (would, is, preview) is_too built built_too =
+  one_outcome_of (previewing style asked) means (Ok one) (Err fault) (would, is, preview) is_too built built_too =
       absurd (no_both would fault (one_outcome_of asked means (Ok would) (Err fault) is is_too (no_both would BadPattern) built_too))
-  one_outcome_of (previewing name asked) means (Err fault) (Ok other) is (would, is_too, preview) built built_too =
+  one_outcome_of (previewing style asked) means (Err fault) (Ok other) is (would, is_too, preview) built built_too =
       absurd (no_both would fault (one_outcome_of asked means (Ok would) (Err fault) is_too is (no_both would BadPattern) built))
-  one_outcome_of (previewing name asked) means (Err fault) (Err other) is is_too built built_too = one_outcome_of asked means (Err fault) (Err other) is is_too built built_too
+  one_outcome_of (previewing style asked) means (Err fault) (Err other) is is_too built built_too = one_outcome_of asked means (Err fault) (Err other) is is_too built built_too
   one_outcome_of (editing IsEdit) means one other is is_too built built_too =
       HasOneBut-put (λ _. IsMade IsEdit c.file) (λ o. edit_reply o.next o.dropped) (λ o opens. one_made IsEdit means c.file) one other is is_too built built_too
   one_outcome_of (reverting number force) means one other is is_too built built_too =

@@ -6,6 +6,7 @@ use Rattle.rec_journal.specs.declared.event.Tool.{Tool}
 use Rattle.rec_journal.specs.EditTexts.{WithTexts, IsEditTexts, none_such}
 use Rattle.rec_journal.specs.History.{Opened, IsOpening}
 use Rattle.rec_edit.specs.declared.answer.Edited.{Edited}
+use Rattle.rec_diff.specs.declared.style.DiffStyle.{DiffStyle}
 use Rattle.rec_diff.specs.Diffs.{IsDiff}
 use Rattle.rec_tools.specs.declared.request.Reply.{Reply}
 use Rattle.rec_tools.specs.declared.request.Reply.TheVariants.{Shown}
@@ -83,14 +84,14 @@ no_store_texts : (number : Option ℕ) (file : List ℕ) (o : Opened) → IsEdit
 no_store_texts number file o (inl drifted) = let e = drifted.0 in cc
 no_store_texts number file o (inr none) = none_such-no_store number none.0
 
-pub no_store_shown : (number : Option ℕ) (name file journal : List ℕ) → IsShownEdit number name file journal (Err StoreFailed) → ⊥
-no_store_shown number name file journal =
-    let diff : WithTexts → Result (List ℕ) Fault → Type 0 = λ made. IsDiff Forward name made.edit.steps made.before made.after in
+pub no_store_shown : (number : Option ℕ) (style : DiffStyle) (file journal : List ℕ) → IsShownEdit number style file journal (Err StoreFailed) → ⊥
+no_store_shown number style file journal =
+    let diff : WithTexts → Result (List ℕ) Fault → Type 0 = λ made. IsDiff Forward style made.edit.steps made.before made.after in
     no_store_then (IsOpening file journal) (λ o. Then (IsEditTexts o file number) diff) (λ h. h) (λ o.
     no_store_then (IsEditTexts o file number) diff (no_store_texts number file o) (λ made h. h))
 
-pub no_store_log : (name file journal : List ℕ) → IsWholeLog name file journal (Err StoreFailed) → ⊥
-no_store_log name file journal = no_store_then (IsOpening file journal) (IsLogOf name file) (λ h. h) (λ o h. let e = h.0 in cc)
+pub no_store_log : (style : DiffStyle) (file journal : List ℕ) → IsWholeLog style file journal (Err StoreFailed) → ⊥
+no_store_log style file journal = no_store_then (IsOpening file journal) (IsLogOf style file) (λ h. h) (λ o h. let e = h.0 in cc)
 
 -- ---- requests
 
@@ -105,9 +106,9 @@ never_store (Undo through) c is = never_moves Backward through c is
 never_store (Redo through) c is = never_moves Forward through c is
 never_store (Revert number force) c is = never_reverts c number force is
 never_store (Forget n) c is = never_forgets n c is
-never_store (Diff number name) c is = no_store_shown number name c.file c.journal is
-never_store (Log name) c is = no_store_log name c.file c.journal is
-never_store (Preview' shape request name) c is = never_store request c is
+never_store (Diff number style) c is = no_store_shown number style c.file c.journal is
+never_store (Log style) c is = no_store_log style c.file c.journal is
+never_store (Preview' shape request style) c is = never_store request c is
 never_store History c is =
     no_store_then (IsOpening c.file c.journal) (λ o given. given ≡ Ok (printing (printed_history o) Shown)) (λ h. h)
     (λ o. ok_is_no_err (printing (printed_history o) Shown) StoreFailed ⊥) is

@@ -15,6 +15,7 @@ use Rattle.rec_journal.specs.EditTexts.{WithTexts, WalkAt, GoOn, GoesOver, AreTe
 use Rattle.rec_journal.specs.History.{Opened}
 use Rattle.rec_journal.specs.Revisions.{Leads}
 use Rattle.rec_select.specs.Taken.{HasTaken, HasStopped, Prints, PrintsAndCounts, Puts}
+use Rattle.rec_diff.specs.declared.style.DiffStyle.{DiffStyle}
 use Rattle.rec_diff.specs.Diffs.{IsDiff}
 use Rattle.rec_diff.proofs.lemmas.DiffLemmas.{one_diff, some_diff}
 use Rattle.rec_tools.specs.Printouts.{Told, told_of, IsLog, step_line, word_of}
@@ -26,12 +27,12 @@ use Rattle.rec_journal.proofs.lemmas.plans.ReplayLemmas.{AllByRecursion-reverse}
 
 -- ---- there is one log
 
-pub one_log : (name : List ℕ) (edits : List Told) (one other : List ℕ) → IsLog name edits one → IsLog name edits other → one ≡ other
-one_log name [] one other is is_too = is ∙ sym is_too
-one_log name (e ∷ edits) one other (diff, rest, is, log, joined) (also, others, is_too, log_too, joined_too) =
+pub one_log : (style : DiffStyle) (edits : List Told) (one other : List ℕ) → IsLog style edits one → IsLog style edits other → one ≡ other
+one_log style [] one other is is_too = is ∙ sym is_too
+one_log style (e ∷ edits) one other (diff, rest, is, log, joined) (also, others, is_too, log_too, joined_too) =
     joined
-    ∙ ap₂ (λ d r. step_line (word_of e.done) (e.number, e.tool) ++ (d ++ r)) (one_diff Forward name e.steps e.before e.after diff also is is_too)
-    (one_log name edits rest others log log_too)
+    ∙ ap₂ (λ d r. step_line (word_of e.done) (e.number, e.tool) ++ (d ++ r)) (one_diff Forward style e.steps e.before e.after diff also is is_too)
+    (one_log style edits rest others log log_too)
     ∙ sym joined_too
 
 -- ---- the edits have their steps
@@ -59,11 +60,11 @@ walk_has_steps o file walk (settled, all, are, goes) = (all, goes, texts_have_st
 
 -- ---- so there is a log
 
-pub some_log : (name : List ℕ) (all : List WithTexts) → AllByRecursion HasSteps all → (text : List ℕ) × IsLog name (map told_of all) text
-some_log name [] steps = ([], refl)
-some_log name (made ∷ all) steps =
-    let diff = some_diff Forward name made.edit.steps made.before made.after steps.0 in
-    let rest = some_log name all steps.1 in
+pub some_log : (style : DiffStyle) (all : List WithTexts) → AllByRecursion HasSteps all → (text : List ℕ) × IsLog style (map told_of all) text
+some_log style [] steps = ([], refl)
+some_log style (made ∷ all) steps =
+    let diff = some_diff Forward style made.edit.steps made.before made.after steps.0 in
+    let rest = some_log style all steps.1 in
     (_, (diff.0, rest.0, diff.1, rest.1, refl))
 
 -- ---- what goes out
@@ -98,20 +99,20 @@ module _ {S X : Type 0} (contents : S → Option (List ℕ)) (failures : S → �
 -- ---- edit by edit
 
 -- of each log of the edits of a walk, what is left is that of another walk
-abbrev pub IsPrintedTo : {S : Type 0} → (S → Option (List ℕ)) → (S → ℕ) → S → S → List ℕ → Option WalkAt → Option WalkAt → Type 0
-IsPrintedTo contents failures old new name start walk = (all : List WithTexts) (text : List ℕ) → GoesOver start all → IsLog name (map told_of all) text
-    → (left : List WithTexts) × (rest : List ℕ) × GoesOver walk left × IsLog name (map told_of left) rest × IsTakenTo contents failures old new text rest
+abbrev pub IsPrintedTo : {S : Type 0} → (S → Option (List ℕ)) → (S → ℕ) → S → S → DiffStyle → Option WalkAt → Option WalkAt → Type 0
+IsPrintedTo contents failures old new style start walk = (all : List WithTexts) (text : List ℕ) → GoesOver start all → IsLog style (map told_of all) text
+    → (left : List WithTexts) × (rest : List ℕ) × GoesOver walk left × IsLog style (map told_of left) rest × IsTakenTo contents failures old new text rest
 
 -- a log of some edits, of which the first is known
-record BeginsWith (name : List ℕ) (made : WithTexts) (others : List WithTexts) (text : List ℕ) : Type 0 where
+record BeginsWith (style : DiffStyle) (made : WithTexts) (others : List WithTexts) (text : List ℕ) : Type 0 where
   first : List ℕ
   rest : List ℕ
-  is_first : IsLogged name made first
-  is_rest : IsLog name (map told_of others) rest
+  is_first : IsLogged style made first
+  is_rest : IsLog style (map told_of others) rest
   parts : text ≡ first ++ rest
 
-log_parts : (name : List ℕ) (made : WithTexts) (others : List WithTexts) (text : List ℕ) → IsLog name (map told_of (made ∷ others)) text → BeginsWith name made others text
-log_parts name made others text (diff, rest, is, log, e) =
+log_parts : (style : DiffStyle) (made : WithTexts) (others : List WithTexts) (text : List ℕ) → IsLog style (map told_of (made ∷ others)) text → BeginsWith style made others text
+log_parts style made others text (diff, rest, is, log, e) =
     let line = step_line (word_of made.done) (made.edit.number, made.edit.tool) in
     record { first = line ++ diff; rest = rest; is_first = (diff, is, refl); is_rest = log; parts = e ∙ sym (append_assoc line diff rest) }
 
@@ -122,45 +123,45 @@ module _ {S : Type 0} {contents : S → Option (List ℕ)} {failures : S → ℕ
   stopped_after {new = new} fault e so_far =
       IsTakenTo-stopped [] _ so_far refl (record { prefix = (0, omega arith, Appends-nil (contents new)); counted = omega arith; cause = inl (e, refl) })
 
-  module _ {old mid : S} (name : List ℕ) (start : Option WalkAt) (walk : WalkAt) (so_far : IsPrintedTo contents failures old mid name start (Some walk)) where
+  module _ {old mid : S} (style : DiffStyle) (start : Option WalkAt) (walk : WalkAt) (so_far : IsPrintedTo contents failures old mid style start (Some walk)) where
     -- the log of each edit from here on
-    here : (all : List WithTexts) (text : List ℕ) → GoesOver start all → IsLog name (map told_of all) text
-        → (others : List WithTexts) × (now : List ℕ) × GoOn walk.left walk.at.after others × BeginsWith name walk.at others now × IsTakenTo contents failures old mid text now
+    here : (all : List WithTexts) (text : List ℕ) → GoesOver start all → IsLog style (map told_of all) text
+        → (others : List WithTexts) × (now : List ℕ) × GoOn walk.left walk.at.after others × BeginsWith style walk.at others now × IsTakenTo contents failures old mid text now
     here all text goes log =
         let (left, now, (others, is, on), log_now, taken) = so_far all text goes log in
-        (others, now, on, log_parts name walk.at others now (subst (λ es. IsLog name (map told_of es) now) is log_now), taken)
+        (others, now, on, log_parts style walk.at others now (subst (λ es. IsLog style (map told_of es) now) is log_now), taken)
 
     module _ {new : S} where
-      pub line-stopped : (all : List WithTexts) (text : List ℕ) → GoesOver start all → IsLog name (map told_of all) text → (fault : Fault)
-          → ((first : List ℕ) → IsLogged name walk.at first → HasStopped contents failures mid new first fault) → HasStopped contents failures old new text fault
+      pub line-stopped : (all : List WithTexts) (text : List ℕ) → GoesOver start all → IsLog style (map told_of all) text → (fault : Fault)
+          → ((first : List ℕ) → IsLogged style walk.at first → HasStopped contents failures mid new first fault) → HasStopped contents failures old new text fault
       line-stopped all text goes log fault stopped =
           let (others, now, on, begins, taken) = here all text goes log in
           IsTakenTo-stopped begins.first begins.rest taken begins.parts (stopped begins.first begins.is_first)
 
-      line-taken : ((first : List ℕ) → IsLogged name walk.at first → HasTaken contents failures mid new first)
-          → (all : List WithTexts) (text : List ℕ) → GoesOver start all → IsLog name (map told_of all) text
-          → (others : List WithTexts) × (rest : List ℕ) × GoOn walk.left walk.at.after others × IsLog name (map told_of others) rest × IsTakenTo contents failures old new text rest
+      line-taken : ((first : List ℕ) → IsLogged style walk.at first → HasTaken contents failures mid new first)
+          → (all : List WithTexts) (text : List ℕ) → GoesOver start all → IsLog style (map told_of all) text
+          → (others : List WithTexts) × (rest : List ℕ) × GoOn walk.left walk.at.after others × IsLog style (map told_of others) rest × IsTakenTo contents failures old new text rest
       line-taken printed all text goes log =
           let (others, now, on, begins, taken) = here all text goes log in
           (others, begins.rest, on, begins.is_rest, IsTakenTo-more begins.first begins.rest taken begins.parts (printed begins.first begins.is_first))
 
       pub line-printed : (next : Option WalkAt) → ((others : List WithTexts) → GoOn walk.left walk.at.after others → GoesOver next others)
-          → ((first : List ℕ) → IsLogged name walk.at first → HasTaken contents failures mid new first) → IsPrintedTo contents failures old new name start next
+          → ((first : List ℕ) → IsLogged style walk.at first → HasTaken contents failures mid new first) → IsPrintedTo contents failures old new style start next
       line-printed next goes_on printed all text goes log =
           let (others, rest, on, log_rest, taken) = line-taken printed all text goes log in
           (others, rest, goes_on others on, log_rest, taken)
 
-      pub next-stopped : (fault : Fault) → fault ≡ OutOfMemory → ((first : List ℕ) → IsLogged name walk.at first → HasTaken contents failures mid new first)
-          → (all : List WithTexts) (text : List ℕ) → GoesOver start all → IsLog name (map told_of all) text → HasStopped contents failures old new text fault
+      pub next-stopped : (fault : Fault) → fault ≡ OutOfMemory → ((first : List ℕ) → IsLogged style walk.at first → HasTaken contents failures mid new first)
+          → (all : List WithTexts) (text : List ℕ) → GoesOver start all → IsLog style (map told_of all) text → HasStopped contents failures old new text fault
       next-stopped fault e printed all text goes log =
           let (others, rest, on, log_rest, taken) = line-taken printed all text goes log in
           stopped_after fault e taken
 
-  pub all_printed : {old new : S} (name : List ℕ) (start : Option WalkAt) → IsPrintedTo contents failures old new name start None
-      → (all : List WithTexts) (text : List ℕ) → GoesOver start all → IsLog name (map told_of all) text → HasTaken contents failures old new text
-  all_printed name start so_far all text goes log =
+  pub all_printed : {old new : S} (style : DiffStyle) (start : Option WalkAt) → IsPrintedTo contents failures old new style start None
+      → (all : List WithTexts) (text : List ℕ) → GoesOver start all → IsLog style (map told_of all) text → HasTaken contents failures old new text
+  all_printed style start so_far all text goes log =
       let (left, rest, none, log_rest, taken) = so_far all text goes log in
-      IsTakenTo-all taken (subst (λ es. IsLog name (map told_of es) rest) none log_rest)
+      IsTakenTo-all taken (subst (λ es. IsLog style (map told_of es) rest) none log_rest)
 
 -- the edits after the first of a walk have their steps
 pub next_have_steps : (walk : WalkAt) (next : Option WalkAt) → ((others : List WithTexts) → GoOn walk.left walk.at.after others → GoesOver next others)

@@ -9,6 +9,7 @@ use Rattle.rec_journal.specs.declared.patch.Direction.TheVariants.{Forward}
 use Rattle.rec_journal.specs.EditTexts.{WithTexts, WalkAt, GoesOver, IsEditTexts, AreEditTexts, IsWalk}
 use Rattle.rec_journal.specs.History.{Opened, IsOpening}
 use Rattle.rec_select.specs.Taken.{HasTaken, HasStopped, PrintsAndCounts}
+use Rattle.rec_diff.specs.declared.style.DiffStyle.{DiffStyle}
 use Rattle.rec_diff.proofs.lemmas.DiffLemmas.{some_diff}
 use Rattle.rec_tools.specs.declared.request.Reply.{Reply}
 use Rattle.rec_tools.specs.declared.request.Reply.TheVariants.{Shown}
@@ -23,99 +24,99 @@ use Rattle.rec_tools.proofs.lemmas.printing.PutsLemmas.{PutsPrintout-weaker, IsS
 -- ---- one edit
 
 -- there is a diff of an edit of the history
-edit_diff : (number : Option ℕ) (name file : List ℕ) (o : Opened) (made : WithTexts) → IsEditTexts o file number (Ok made) → (text : List ℕ) × IsEditDiff name made text
-edit_diff number name file o made is = some_diff Forward name made.edit.steps made.before made.after (texts-steps number file o made is)
+edit_diff : (number : Option ℕ) (style : DiffStyle) (file : List ℕ) (o : Opened) (made : WithTexts) → IsEditTexts o file number (Ok made) → (text : List ℕ) × IsEditDiff style made text
+edit_diff number style file o made is = some_diff Forward style made.edit.steps made.before made.after (texts-steps number file o made is)
 
-module _ {S : Type 0} {contents : S → Option (List ℕ)} {failures : S → ℕ} (number : Option ℕ) (name file journal : List ℕ) where
+module _ {S : Type 0} {contents : S → Option (List ℕ)} {failures : S → ℕ} (number : Option ℕ) (style : DiffStyle) (file journal : List ℕ) where
   pub shown-no_opening : (out : S) (fault : Fault) → IsMemoryOr fault (IsOpening file journal (Err fault))
-      → PrintsAndCounts contents failures out out (PutsPrintout (IsShownText (IsShownEdit number name file journal))) (Err fault)
+      → PrintsAndCounts contents failures out out (PutsPrintout (IsShownText (IsShownEdit number style file journal))) (Err fault)
   shown-no_opening out fault h =
-      refused_before (IsShownText (IsShownEdit number name file journal)) out fault (no_store_shown number name file journal)
+      refused_before (IsShownText (IsShownEdit number style file journal)) out fault (no_store_shown number style file journal)
       (memory_or_weaker fault _ _ (λ refused. inl (fault, refused, refl)) h)
 
   pub shown-no_texts : (o : Opened) → IsOpening file journal (Ok o) → (out : S) (fault : Fault) → IsMemoryOr fault (IsEditTexts o file number (Err fault))
-      → PrintsAndCounts contents failures out out (PutsPrintout (IsShownText (IsShownEdit number name file journal))) (Err fault)
+      → PrintsAndCounts contents failures out out (PutsPrintout (IsShownText (IsShownEdit number style file journal))) (Err fault)
   shown-no_texts o opens out fault h =
-      refused_before (IsShownText (IsShownEdit number name file journal)) out fault (no_store_shown number name file journal)
+      refused_before (IsShownText (IsShownEdit number style file journal)) out fault (no_store_shown number style file journal)
       (memory_or_weaker fault _ _ (λ refused. inr (o, opens, inl (fault, refused, refl))) h)
 
   module _ {old new : S} (o : Opened) (opens : IsOpening file journal (Ok o)) (made : WithTexts) (is : IsEditTexts o file number (Ok made)) where
-    pub edit-cut_short : (fault : Fault) → ((text : List ℕ) → IsEditDiff name made text → HasStopped contents failures old new text fault)
-        → PrintsAndCounts contents failures old new (PutsPrintout (IsShownText (IsShownEdit number name file journal))) (Err fault)
+    pub edit-cut_short : (fault : Fault) → ((text : List ℕ) → IsEditDiff style made text → HasStopped contents failures old new text fault)
+        → PrintsAndCounts contents failures old new (PutsPrintout (IsShownText (IsShownEdit number style file journal))) (Err fault)
     edit-cut_short fault stopped =
-        let diff = edit_diff number name file o made is in
-        shown-cut_short (IsShownEdit number name file journal) diff.0 (inr (o, opens, inr (made, is, diff.1))) (stopped diff.0 diff.1)
+        let diff = edit_diff number style file o made is in
+        shown-cut_short (IsShownEdit number style file journal) diff.0 (inr (o, opens, inr (made, is, diff.1))) (stopped diff.0 diff.1)
 
-    pub edit-whole : ((text : List ℕ) → IsEditDiff name made text → HasTaken contents failures old new text)
-        → PrintsAndCounts contents failures old new (PutsPrintout (IsShownText (IsShownEdit number name file journal))) (Ok Shown)
+    pub edit-whole : ((text : List ℕ) → IsEditDiff style made text → HasTaken contents failures old new text)
+        → PrintsAndCounts contents failures old new (PutsPrintout (IsShownText (IsShownEdit number style file journal))) (Ok Shown)
     edit-whole taken =
-        let diff = edit_diff number name file o made is in
-        shown-whole (IsShownEdit number name file journal) diff.0 (inr (o, opens, inr (made, is, diff.1))) (taken diff.0 diff.1)
+        let diff = edit_diff number style file o made is in
+        shown-whole (IsShownEdit number style file journal) diff.0 (inr (o, opens, inr (made, is, diff.1))) (taken diff.0 diff.1)
 
 -- ---- all edits
 
-no_store_log_of : (name file : List ℕ) (o : Opened) → IsShownText (IsLogOf name file o) (Err StoreFailed) → ⊥
-no_store_log_of name file o h = let e = h.0 in cc
+no_store_log_of : (style : DiffStyle) (file : List ℕ) (o : Opened) → IsShownText (IsLogOf style file o) (Err StoreFailed) → ⊥
+no_store_log_of style file o h = let e = h.0 in cc
 
-no_walk : (name file : List ℕ) (o : Opened) (fault : Fault) → o.drifted ≡ false → IsWalk o file (Err fault) → IsLogOf name file o (Err fault)
-no_walk name file o fault settled (e, inl drifted) = absurd (let both = sym drifted ∙ settled in cc)
-no_walk name file o fault settled (e, inr (opened, none)) = (e, opened, none)
+no_walk : (style : DiffStyle) (file : List ℕ) (o : Opened) (fault : Fault) → o.drifted ≡ false → IsWalk o file (Err fault) → IsLogOf style file o (Err fault)
+no_walk style file o fault settled (e, inl drifted) = absurd (let both = sym drifted ∙ settled in cc)
+no_walk style file o fault settled (e, inr (opened, none)) = (e, opened, none)
 
 -- there is a log of the edits of a walk
-record HasLog (name file : List ℕ) (o : Opened) (walk : Option WalkAt) : Type 0 where
+record HasLog (style : DiffStyle) (file : List ℕ) (o : Opened) (walk : Option WalkAt) : Type 0 where
   all : List WithTexts
   goes : GoesOver walk all
   text : List ℕ
-  log : IsLog name (map told_of all) text
-  logs : IsLogOf name file o (Ok text)
+  log : IsLog style (map told_of all) text
+  logs : IsLogOf style file o (Ok text)
 
-walk_log : (name file : List ℕ) (o : Opened) (walk : Option WalkAt) → IsWalk o file (Ok walk) → HasLog name file o walk
-walk_log name file o walk (settled, all, are, goes) =
-    let some = some_log name all (texts_have_steps o file all are) in
+walk_log : (style : DiffStyle) (file : List ℕ) (o : Opened) (walk : Option WalkAt) → IsWalk o file (Ok walk) → HasLog style file o walk
+walk_log style file o walk (settled, all, are, goes) =
+    let some = some_log style all (texts_have_steps o file all are) in
     record { all = all; goes = goes; text = some.0; log = some.1; logs = inr (settled, (all, are, some.1)) }
 
-module _ {S : Type 0} {contents : S → Option (List ℕ)} {failures : S → ℕ} (name file : List ℕ) (o : Opened) (settled : o.drifted ≡ false) where
+module _ {S : Type 0} {contents : S → Option (List ℕ)} {failures : S → ℕ} (style : DiffStyle) (file : List ℕ) (o : Opened) (settled : o.drifted ≡ false) where
   pub log-refused : (out : S) (fault : Fault) → IsMemoryOr fault (IsWalk o file (Err fault))
-      → PrintsAndCounts contents failures out out (PutsPrintout (IsShownText (IsLogOf name file o))) (Err fault)
+      → PrintsAndCounts contents failures out out (PutsPrintout (IsShownText (IsLogOf style file o))) (Err fault)
   log-refused out fault h =
-      refused_before (IsShownText (IsLogOf name file o)) out fault (no_store_log_of name file o) (memory_or_weaker fault _ _ (no_walk name file o fault settled) h)
+      refused_before (IsShownText (IsLogOf style file o)) out fault (no_store_log_of style file o) (memory_or_weaker fault _ _ (no_walk style file o fault settled) h)
 
   module _ {old new : S} (walk : Option WalkAt) (is : IsWalk o file (Ok walk)) where
     pub log-cut_short : (fault : Fault)
-        → ((all : List WithTexts) → GoesOver walk all → (text : List ℕ) → IsLog name (map told_of all) text → HasStopped contents failures old new text fault)
-        → PrintsAndCounts contents failures old new (PutsPrintout (IsShownText (IsLogOf name file o))) (Err fault)
+        → ((all : List WithTexts) → GoesOver walk all → (text : List ℕ) → IsLog style (map told_of all) text → HasStopped contents failures old new text fault)
+        → PrintsAndCounts contents failures old new (PutsPrintout (IsShownText (IsLogOf style file o))) (Err fault)
     log-cut_short fault stopped =
-        let has = walk_log name file o walk is in
-        shown-cut_short (IsLogOf name file o) has.text has.logs (stopped has.all has.goes has.text has.log)
+        let has = walk_log style file o walk is in
+        shown-cut_short (IsLogOf style file o) has.text has.logs (stopped has.all has.goes has.text has.log)
 
-    pub log-whole : ((all : List WithTexts) → GoesOver walk all → (text : List ℕ) → IsLog name (map told_of all) text → HasTaken contents failures old new text)
-        → PrintsAndCounts contents failures old new (PutsPrintout (IsShownText (IsLogOf name file o))) (Ok Shown)
+    pub log-whole : ((all : List WithTexts) → GoesOver walk all → (text : List ℕ) → IsLog style (map told_of all) text → HasTaken contents failures old new text)
+        → PrintsAndCounts contents failures old new (PutsPrintout (IsShownText (IsLogOf style file o))) (Ok Shown)
     log-whole taken =
-        let has = walk_log name file o walk is in
-        shown-whole (IsLogOf name file o) has.text has.logs (taken has.all has.goes has.text has.log)
+        let has = walk_log style file o walk is in
+        shown-whole (IsLogOf style file o) has.text has.logs (taken has.all has.goes has.text has.log)
 
 -- ---- the whole log
 
-drifted_log : (name file : List ℕ) (o : Opened) → o.drifted ≡ true → (r : Result (List ℕ) Fault) → r ≡ Ok (codes "drifted\n") → IsLogOf name file o r
-drifted_log name file o drifted (Ok text) e = inl (drifted, same_value text (codes "drifted\n") e)
-drifted_log name file o drifted (Err fault) e = absurd (no_both {A = List ℕ} (codes "drifted\n") fault (sym e))
+drifted_log : (style : DiffStyle) (file : List ℕ) (o : Opened) → o.drifted ≡ true → (r : Result (List ℕ) Fault) → r ≡ Ok (codes "drifted\n") → IsLogOf style file o r
+drifted_log style file o drifted (Ok text) e = inl (drifted, same_value text (codes "drifted\n") e)
+drifted_log style file o drifted (Err fault) e = absurd (no_both {A = List ℕ} (codes "drifted\n") fault (sym e))
 
-module _ {S : Type 0} {contents : S → Option (List ℕ)} {failures : S → ℕ} (name file journal : List ℕ) where
+module _ {S : Type 0} {contents : S → Option (List ℕ)} {failures : S → ℕ} (style : DiffStyle) (file journal : List ℕ) where
   pub log-no_opening : (out : S) (fault : Fault) → IsMemoryOr fault (IsOpening file journal (Err fault))
-      → PrintsAndCounts contents failures out out (PutsPrintout (IsShownText (IsWholeLog name file journal))) (Err fault)
+      → PrintsAndCounts contents failures out out (PutsPrintout (IsShownText (IsWholeLog style file journal))) (Err fault)
   log-no_opening out fault h =
-      refused_before (IsShownText (IsWholeLog name file journal)) out fault (no_store_log name file journal) (memory_or_weaker fault _ _ (λ refused. inl (fault, refused, refl)) h)
+      refused_before (IsShownText (IsWholeLog style file journal)) out fault (no_store_log style file journal) (memory_or_weaker fault _ _ (λ refused. inl (fault, refused, refl)) h)
 
   module _ {old new : S} (o : Opened) (opens : IsOpening file journal (Ok o)) (answer : Result Reply Fault) where
-    pub log-opened : PrintsAndCounts contents failures old new (PutsPrintout (IsShownText (IsLogOf name file o))) answer
-        → PrintsAndCounts contents failures old new (PutsPrintout (IsShownText (IsWholeLog name file journal))) answer
+    pub log-opened : PrintsAndCounts contents failures old new (PutsPrintout (IsShownText (IsLogOf style file o))) answer
+        → PrintsAndCounts contents failures old new (PutsPrintout (IsShownText (IsWholeLog style file journal))) answer
     log-opened h =
         printed_weaker h
-        (PutsPrintout-weaker _ _ (contents old) (contents new) answer (IsShownText-weaker (IsLogOf name file o) (IsWholeLog name file journal) (λ r is. inr (o, opens, is))))
+        (PutsPrintout-weaker _ _ (contents old) (contents new) answer (IsShownText-weaker (IsLogOf style file o) (IsWholeLog style file journal) (λ r is. inr (o, opens, is))))
 
     pub log-drifted : o.drifted ≡ true → PrintsAndCounts contents failures old new (PutsPrintout (IsShownText (λ answer. answer ≡ Ok (codes "drifted\n")))) answer
-        → PrintsAndCounts contents failures old new (PutsPrintout (IsShownText (IsWholeLog name file journal))) answer
+        → PrintsAndCounts contents failures old new (PutsPrintout (IsShownText (IsWholeLog style file journal))) answer
     log-drifted drifted h =
         log-opened
         (printed_weaker h
-        (PutsPrintout-weaker _ _ (contents old) (contents new) answer (IsShownText-weaker (λ answer. answer ≡ Ok (codes "drifted\n")) (IsLogOf name file o) (drifted_log name file o drifted))))
+        (PutsPrintout-weaker _ _ (contents old) (contents new) answer (IsShownText-weaker (λ answer. answer ≡ Ok (codes "drifted\n")) (IsLogOf style file o) (drifted_log style file o drifted))))

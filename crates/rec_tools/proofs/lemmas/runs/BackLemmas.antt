@@ -84,9 +84,9 @@ undo_after : (c : Contents) (asked : Asked) (done : Outcome) → done.writes ≢
     → BringsBack (written c done.writes) (moving Backward None) c.file
 undo_after c (looking IsText) done written_some made is = absurd (written_some (writes_nothing c (looking IsText) done tt is))
 undo_after c listing done written_some made is = absurd (written_some (writes_nothing c listing done tt is))
-undo_after c (showing number name) done written_some made is = absurd (written_some (writes_nothing c (showing number name) done tt is))
-undo_after c (listing_changes name) done written_some made is = absurd (written_some (writes_nothing c (listing_changes name) done tt is))
-undo_after c (previewing name asked) done written_some made is = absurd (written_some (writes_nothing c (previewing name asked) done tt is))
+undo_after c (showing number style) done written_some made is = absurd (written_some (writes_nothing c (showing number style) done tt is))
+undo_after c (listing_changes style) done written_some made is = absurd (written_some (writes_nothing c (listing_changes style) done tt is))
+undo_after c (previewing style asked) done written_some made is = absurd (written_some (writes_nothing c (previewing style asked) done tt is))
 undo_after c (editing IsEdit) done written_some made is = undo_after_put c (λ _. IsMade IsEdit c.file) (λ o. edit_reply o.next o.dropped) done written_some is
 undo_after c (reverting number force) done written_some made is =
     undo_after_put c (λ o. IsRevertOf number force o c.file) (λ o. revert_reply number o.next) done written_some is

@@ -90,9 +90,9 @@ module _ (c : Contents) (o : Opened) (opens : Opens c.file c.journal o) (drifted
   begins_anew : (asked : Asked) (outcome : Outcome) → IsRequestOutcome c asked (Ok outcome) → outcome.writes ≢ [] → BeginsAnew c o asked outcome
   begins_anew (looking IsText) outcome is some = absurd (some (writes_nothing c (looking IsText) outcome tt is))
   begins_anew listing outcome is some = absurd (some (writes_nothing c listing outcome tt is))
-  begins_anew (showing number name) outcome is some = absurd (some (writes_nothing c (showing number name) outcome tt is))
-  begins_anew (listing_changes name) outcome is some = absurd (some (writes_nothing c (listing_changes name) outcome tt is))
-  begins_anew (previewing name asked) outcome is some = absurd (some (writes_nothing c (previewing name asked) outcome tt is))
+  begins_anew (showing number style) outcome is some = absurd (some (writes_nothing c (showing number style) outcome tt is))
+  begins_anew (listing_changes style) outcome is some = absurd (some (writes_nothing c (listing_changes style) outcome tt is))
+  begins_anew (previewing style asked) outcome is some = absurd (some (writes_nothing c (previewing style asked) outcome tt is))
   begins_anew (reverting number force) outcome is some = absurd (no_revert number force outcome is)
   begins_anew (editing IsEdit) outcome (inl refused) some = let e = refused.2 in cc
   begins_anew (editing IsEdit) outcome (inr (text, is, inl refused)) some = let e = refused.2 in cc
@@ -143,9 +143,9 @@ module _ (c : Contents) (o : Opened) (opens : Opens c.file c.journal o) (drifted
   unwritten (Forget n) outcome is none made = absurd (ok_is_no_err outcome Drifted ⊥ (sym (nothing_forgotten n (Ok outcome) is)))
   unwritten History outcome is none made =
       absurd (shown-no_edit outcome.reply (ap (λ (x : Outcome). x.reply) (same_value outcome _ (told_drifted (Ok outcome) is))) made)
-  unwritten (Diff number name) outcome is none made = absurd (printed-no_edit (IsShownEdit number name c.file c.journal) outcome is made)
-  unwritten (Log name) outcome is none made = absurd (printed-no_edit (IsWholeLog name c.file c.journal) outcome is made)
-  unwritten (Preview' shape request name) outcome is none made = tt
+  unwritten (Diff number style) outcome is none made = absurd (printed-no_edit (IsShownEdit number style c.file c.journal) outcome is made)
+  unwritten (Log style) outcome is none made = absurd (printed-no_edit (IsWholeLog style c.file c.journal) outcome is made)
+  unwritten (Preview' shape request style) outcome is none made = tt
 
 pub outside_is_noticed : OutsideIsNoticed
 outside_is_noticed c o opens drifted =

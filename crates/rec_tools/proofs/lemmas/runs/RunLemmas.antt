@@ -94,9 +94,9 @@ writes_nothing c (editing IsEdit) o nothing is = absurd nothing
 writes_nothing c (moving direction through) o nothing is = absurd nothing
 writes_nothing c (reverting number force) o nothing is = absurd nothing
 writes_nothing c (forgetting n) o nothing is = absurd nothing
-writes_nothing c (showing number name) o nothing is = ap (λ (x : Outcome). x.writes) is.2
-writes_nothing c (listing_changes name) o nothing is = ap (λ (x : Outcome). x.writes) is.2
-writes_nothing c (previewing name asked) o nothing is = is.2.writes
+writes_nothing c (showing number style) o nothing is = ap (λ (x : Outcome). x.writes) is.2
+writes_nothing c (listing_changes style) o nothing is = ap (λ (x : Outcome). x.writes) is.2
+writes_nothing c (previewing style asked) o nothing is = is.2.writes
 
 none-written : (o : Outcome) (answer : Answer) (calls : List Call) → o.writes ≡ [] → IsAnswered o answer calls → calls ≡ []
 none-written o answer calls none (inl put) = put.1 ∙ ap puts none

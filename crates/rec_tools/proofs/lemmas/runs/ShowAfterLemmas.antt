@@ -12,6 +12,7 @@ use Rattle.rec_journal.specs.History.{Opened, Opens}
 use Rattle.rec_journal.specs.Plans.{after_edit_plan, after_move}
 use Rattle.rec_journal.proofs.lemmas.histories.Countings.{drifted-empty}
 use Rattle.rec_journal.proofs.lemmas.histories.Openings.{one_opening}
+use Rattle.rec_diff.specs.declared.style.DiffStyle.{DiffStyle}
 use Rattle.rec_tools.specs.declared.request.Reply.{Reply}
 use Rattle.rec_tools.specs.declared.request.Reply.TheVariants.{Shown}
 use Rattle.rec_tools.specs.declared.request.Request.{Request}
@@ -54,9 +55,9 @@ grew-put c MakesOf reply_for done made (inr (text, is, inr (o, opens, inr ((tool
 grew : (c : Contents) (asked : Asked) (done : Outcome) → (WritesNothing asked → ⊥) → MadeAnEdit done.reply → IsRequestOutcome c asked (Ok done) → GrewByOne c (written c done.writes)
 grew c (looking IsText) done writes made is = absurd (writes tt)
 grew c listing done writes made is = absurd (writes tt)
-grew c (showing number name) done writes made is = absurd (writes tt)
-grew c (listing_changes name) done writes made is = absurd (writes tt)
-grew c (previewing name asked) done writes made is = absurd (writes tt)
+grew c (showing number style) done writes made is = absurd (writes tt)
+grew c (listing_changes style) done writes made is = absurd (writes tt)
+grew c (previewing style asked) done writes made is = absurd (writes tt)
 grew c (editing IsEdit) done writes made is = grew-put c (λ _. IsMade IsEdit c.file) (λ o. edit_reply o.next o.dropped) done made is
 grew c (reverting number force) done writes made is = grew-put c (λ o. IsRevertOf number force o c.file) (λ o. revert_reply number o.next) done made is
 grew c (moving direction through) done writes made (inl (fault, refused, e)) = absurd (no_both done fault e)
@@ -82,7 +83,7 @@ not_drifted file journal o e others opens past =
       | inr settled ↦ settled
     ]
 
-module _ (c d : Contents) (name text : List ℕ) (grows : GrewByOne c d) where
+module _ (c d : Contents) (style : DiffStyle) (text : List ℕ) (grows : GrewByOne c d) where
   same_before : (o : Opened) → Opens c.file c.journal o → o ≡ grows.before
   same_before o opens = same_value o grows.before (one_opening c.file c.journal (Ok o) (Ok grows.before) opens grows.opens_before)
 
@@ -90,7 +91,7 @@ module _ (c d : Contents) (name text : List ℕ) (grows : GrewByOne c d) where
   same_after o opens = same_value o grows.after (one_opening d.file d.journal (Ok o) (Ok grows.after) opens grows.opens_after)
 
   -- then it is the newest, and is shown so
-  shown_after : IsPreviewText name c d text → IsRequestOutcome d (showing None name) (Ok (printing text Shown))
+  shown_after : IsPreviewText style c d text → IsRequestOutcome d (showing None style) (Ok (printing text Shown))
   shown_after (inr (Forward, e, across, diff)) =
       let made : WithTexts = with_texts Backward e d.file c.file in
       let way : Way = record { direction = Backward; nearer = []; edit = e; farther = across.here.past } in (
@@ -125,7 +126,7 @@ module _ (c d : Contents) (name text : List ℕ) (grows : GrewByOne c d) where
   shown_after (inl (same, none)) = absurd (grows.differ same)
 
 pub preview_is_show_after : PreviewIsShowAfter
-preview_is_show_after c request name done previewed writes made is (would, is_too, preview) =
+preview_is_show_after c request style done previewed writes made is (would, is_too, preview) =
     let same = same_value would done (one_outcome c request (Ok would) (Ok done) is_too is (no_both would BadPattern) (no_both done BadPattern)) in
-    shown_after c (written c done.writes) name previewed.text (grew c (asked_of request) done writes made is)
-    (subst (λ (w : Outcome). IsPreviewText name c (written c w.writes) previewed.text) same preview.text)
+    shown_after c (written c done.writes) style previewed.text (grew c (asked_of request) done writes made is)
+    (subst (λ (w : Outcome). IsPreviewText style c (written c w.writes) previewed.text) same preview.text)

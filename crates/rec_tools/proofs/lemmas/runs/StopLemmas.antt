@@ -103,9 +103,9 @@ module _ (c : Contents) (regular : IsRegular c.journal) where
   leaves : (asked : Asked) (outcome : Outcome) → IsRequestOutcome c asked (Ok outcome) → Leaves c outcome.writes
   leaves (looking IsText) outcome is = leaves-nothing outcome.writes (writes_nothing c (looking IsText) outcome tt is)
   leaves listing outcome is = leaves-nothing outcome.writes (writes_nothing c listing outcome tt is)
-  leaves (showing number name) outcome is = leaves-nothing outcome.writes (writes_nothing c (showing number name) outcome tt is)
-  leaves (listing_changes name) outcome is = leaves-nothing outcome.writes (writes_nothing c (listing_changes name) outcome tt is)
-  leaves (previewing name asked) outcome is = leaves-nothing outcome.writes (writes_nothing c (previewing name asked) outcome tt is)
+  leaves (showing number style) outcome is = leaves-nothing outcome.writes (writes_nothing c (showing number style) outcome tt is)
+  leaves (listing_changes style) outcome is = leaves-nothing outcome.writes (writes_nothing c (listing_changes style) outcome tt is)
+  leaves (previewing style asked) outcome is = leaves-nothing outcome.writes (writes_nothing c (previewing style asked) outcome tt is)
   leaves (editing IsEdit) outcome is = leaves-put (λ _. IsMade IsEdit c.file) (λ o. edit_reply o.next o.dropped) outcome is
   leaves (reverting number force) outcome is = leaves-put (λ o. IsRevertOf number force o c.file) (λ o. revert_reply number o.next) outcome is
   leaves (moving direction through) outcome (inl refused) = let e = refused.2 in cc

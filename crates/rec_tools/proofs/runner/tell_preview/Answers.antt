@@ -9,11 +9,11 @@ pub returns-in_err-file-clause-attempts : goal.returns-in_err-file-clause-attemp
 returns-in_err-file-clause-attempts g c =
     let asked = asked_of c.args.previewed.now in
     rw (refused_with _ _ c.from_residual.ensures.1)
-    (attempted-unread_both _ g.S.Sink.contents g.S.Sink.failure_count _ _ c.args.out.now (previewing c.args.name.now asked) _ (silent-reads_both asked c.requires) c.in_err-file.ensures.calls)
+    (attempted-unread_both _ g.S.Sink.contents g.S.Sink.failure_count _ _ c.args.out.now (previewing c.args.style.now asked) _ (silent-reads_both asked c.requires) c.in_err-file.ensures.calls)
 
 pub returns-clause-attempts : goal.returns-clause-attempts
 returns-clause-attempts g c =
     let asked = asked_of c.args.previewed.now in
-    attempted-both _ g.S.Sink.contents g.S.Sink.failure_count (previewing c.args.name.now asked) (λ f j. IsPreviewed c.args.name.now f j asked) (silent-reads_both asked c.requires)
-    (previewed-outcome c.args.name.now asked) _ _ c.args.out.now c.print_preview.new.out _ _ _ _ _
-    c.in_ok-file.ensures.calls c.as_slice.ensures c.as_slice-2.ensures (rw c.as_slice-3.ensures at c.print_preview.ensures.written)
+    attempted-both _ g.S.Sink.contents g.S.Sink.failure_count (previewing c.args.style.now asked) (λ f j. IsPreviewed c.args.style.now f j asked) (silent-reads_both asked c.requires)
+    (previewed-outcome c.args.style.now asked) _ _ c.args.out.now c.print_preview.new.out _ _ _ _ _
+    c.in_ok-file.ensures.calls c.as_slice.ensures c.as_slice-2.ensures c.print_preview.ensures.written

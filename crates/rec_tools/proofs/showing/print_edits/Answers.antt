@@ -5,7 +5,7 @@ use Rattle.rec_tools.proofs.showing.print_edits.Goals as goal
 
 pub returns-in_err-walk-clause-written : goal.returns-in_err-walk-clause-written
 returns-in_err-walk-clause-written g c =
-    rw (kept_error c.from_residual.ensures.1) (log-refused c.args.name.now c.args.file.now c.args.history.now c.requires.settled _ _ c.in_err-walk.ensures.found)
+    rw (kept_error c.from_residual.ensures.1) (log-refused c.args.style.now c.args.file.now c.args.history.now c.requires.settled _ _ c.in_err-walk.ensures.found)
 
 pub write_lines-requires : goal.write_lines-requires
 write_lines-requires g c = walk_has_steps c.args.history.now c.args.file.now _ c.in_ok-walk.ensures.found
@@ -13,8 +13,8 @@ write_lines-requires g c = walk_has_steps c.args.history.now c.args.file.now _ c
 pub returns-in_err-write_lines-clause-written : goal.returns-in_err-write_lines-clause-written
 returns-in_err-write_lines-clause-written g c =
     rw (kept_error c.from_residual-in_err-write_lines.ensures.1)
-    (log-cut_short c.args.name.now c.args.file.now c.args.history.now c.requires.settled _ c.in_ok-walk.ensures.found _ c.in_err-write_lines.ensures.printed)
+    (log-cut_short c.args.style.now c.args.file.now c.args.history.now c.requires.settled _ c.in_ok-walk.ensures.found _ c.in_err-write_lines.ensures.printed)
 
 pub returns-clause-written : goal.returns-clause-written
 returns-clause-written g c =
-    log-whole c.args.name.now c.args.file.now c.args.history.now c.requires.settled _ c.in_ok-walk.ensures.found c.in_ok-write_lines.ensures.printed
+    log-whole c.args.style.now c.args.file.now c.args.history.now c.requires.settled _ c.in_ok-walk.ensures.found c.in_ok-write_lines.ensures.printed

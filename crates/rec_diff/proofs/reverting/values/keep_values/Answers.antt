@@ -2,7 +2,8 @@ use Rattle.std.proofs.Common.{rules, ◌∙◌, ◌+◌, ◌&&◌, length, drop,
 use Rattle.std.specs.List.{list_all}
 use Rattle.std.proofs.lemmas.List.{take_rest}
 use Rattle.rec_diff.specs.Reverts.{keeps_value}
-use Rattle.rec_diff.proofs.lemmas.reverting.EndLemmas.{end_fits, leads_then, next_hunk}
+use Rattle.rec_diff.proofs.lemmas.PlaceLemmas.{next_item}
+use Rattle.rec_diff.proofs.lemmas.reverting.EndLemmas.{end_fits, leads_then}
 use Rattle.rec_diff.proofs.reverting.values.keep_values.Goals as goal
 
 pub overflow_add-hunk : goal.overflow_add-hunk
@@ -23,7 +24,7 @@ slice_bounds-keeps_value-start c = slice_bounds-keeps_value-count c
 pub loop-hunk-preserved : goal.loop-hunk-preserved
 loop-hunk-preserved c =
     let inv = c.loop-hunk.invariant in
-    let next = next_hunk c.args.hunks.now c.loop-hunk.hunk-index c.hunk-item.result c.hunk-item.result c.loop-hunk-test.true c.hunk-item.is in
+    let next = next_item c.args.hunks.now c.loop-hunk.hunk-index c.hunk-item.result c.hunk-item.result c.loop-hunk-test.true c.hunk-item.is in
     let place = c.hunk-item.result.at + length c.as_slice-old.result.now in
     let kept = rw c.as_slice.ensures at (rw c.as_slice-old.ensures at (rw (take_rest c.args.text.now place) at c.keeps_value.ensures)) in
     record {

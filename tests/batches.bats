@@ -232,7 +232,8 @@ batched() {
     fails_to_store ': No such file or directory (os error 2)' batch -b '' db.rec
     fails_to_store 'd: Is a directory (os error 21)' batch -b d db.rec
     fails_to_store 'changes/x: Not a directory (os error 20)' batch -b changes/x db.rec
-    fails_to_store '-: No such file or directory (os error 2)' batch -b - db.rec
+    fails_to_store './-: No such file or directory (os error 2)' batch -b ./- db.rec
+    input=d fails_to_store '-: Is a directory (os error 21)' batch -b - db.rec
     # It is read first.
     fails_to_store 'missing: No such file or directory (os error 2)' batch -b missing nowhere
     fails_to_store 'nowhere: No such file or directory (os error 2)¶recu makes no file: touch nowhere makes an empty one' batch -b changes nowhere
@@ -266,8 +267,18 @@ is_changed() {
 @test "where a batch may stand" {
     local writer
     put - "$changes"
-    is_changed batch -b - db.rec
-    is_changed batch -b - -- db.rec
+    is_changed batch -b ./- db.rec
+    # `-` is standard input, also where a file has that name, and what is left of it
+    put changes "$changes"
+    put - 'no batch¶'
+    input=changes is_changed batch -b - db.rec
+    input=changes is_changed batch -b - -- db.rec
+    put changes "a line that is read before¶$changes"
+    put db.rec "$two"
+    input=changes ends 0 bash -c 'read -r; exec "$@"' '' "$recu" batch -b - db.rec
+    has db.rec 'A: 5¶¶'
+    put - "$changes"
+    rm changes
     mkfifo pipe
     timeout 20 bash -c 'cat < - > pipe' 3>&- &
     writer=$!

@@ -107,11 +107,31 @@ many_records() {
     only db.rec more.rec
 }
 
-@test "much output that nobody reads" {
+@test "output that nobody reads any more" {
     many_records
-    ends 1 bash -c '"$@" | head -c 1; exit "${PIPESTATUS[0]}"' '' "$recu" recsel db.rec
-    prints 'N' "$store_failed"
+    ends 141 bash -c '"$@" | head -c 1; exit "${PIPESTATUS[0]}"' '' "$recu" recsel db.rec
+    prints 'N' ''
+    # (a reader that is gone before anything is printed)
+    local words
+    for words in 'recsel db.rec' 'recinf db.rec' '--help' 'recset --help' '--version'; do
+        ends 141 bash -c '{ sleep 0.2; "$@"; } | true; exit "${PIPESTATUS[0]}"' '' "$recu" $words
+        prints '' ''
+    done
     only db.rec more.rec
+}
+
+@test "a report and diffs that nobody reads any more" {
+    put db.rec '%rec: A¶%mandatory: N¶¶B: 1¶'
+    local words
+    ends 0 "$recu" recset --force -f B -s 2 db.rec
+    for words in 'recfix db.rec' 'history db.rec' 'show 1 db.rec' 'recset --force --dry-run -f B -s 3 db.rec'; do
+        ends 141 bash -c '{ sleep 0.2; "$@"; } | true; exit "${PIPESTATUS[0]}"' '' "$recu" $words
+        prints '' ''
+    done
+    # what prints nothing has no reader to lose
+    ends 0 bash -c '{ sleep 0.2; "$@"; } | true; exit "${PIPESTATUS[0]}"' '' "$recu" undo db.rec
+    has db.rec '%rec: A¶%mandatory: N¶¶B: 1¶'
+    only db.rec db.rec.journal
 }
 
 @test "a file that is too long to print" {

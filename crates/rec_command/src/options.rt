@@ -317,7 +317,7 @@ pub const BATCH: [Argument; 6] = [
         written: Written::Letter('b'),
         name: "batch",
         takes: Takes::Value("PATH"),
-        help: "The edits, each a record; PATH is read before FILE is",
+        help: "The edits, each a record; - is standard input",
     },
     Argument {
         written: Written::Name,

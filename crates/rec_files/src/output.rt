@@ -1,5 +1,6 @@
 //! Standard output.
-ghost use Rattle.std.specs.Prelude.{◌≡◌, ◌≢◌, ◌<◌, ◌≤◌, [], Some, IfOk, OnOk, IsOkUnless};
+ghost use Rattle.std.specs.Prelude.{◌≡◌, ◌≢◌, ◌↔◌, ◌<◌, ◌≤◌, [], Some, IfOk, IsSomeAnd, IsTrue, OnOk, IsOkUnless};
+ghost use Rattle.std.specs.IoError.{error_kind};
 ghost use Rattle.std.specs.Io.Buffered.{writer_buffer, writer_capacity, writer_contents, writer_inner};
 ghost use Rattle.std.specs.Io.KnownBytes.{Keeps};
 ghost use Rattle.rec_text.specs.Sink.{KeptAtSuccess, RisenAtStoreFailed, one_more};
@@ -59,6 +60,16 @@ impl<W: Write + Drop> StandardOutput<W> {
         match self.writer.flush() {
             Ok(()) => Ok(()),
             Err(error) => Err(self.fail(error)),
+        }
+    }
+
+    /// Whether it failed last because nobody reads its pipe any more.
+    pub fn has_lost_reader(&self) -> bool
+        ensures { IsTrue result ↔ IsSomeAnd self.now.failure (λ error. error_kind error ≡ ErrorKind.BrokenPipe) }
+    {
+        match &self.failure {
+            Some(error) => error.kind() == ErrorKind::BrokenPipe,
+            None => false,
         }
     }
 

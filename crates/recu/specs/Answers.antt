@@ -1,7 +1,9 @@
 -- The answer to a command line: of which request it is, on which home, what becomes of what is printed,
 -- and which disk is left.
-use Rattle.std.specs.Prelude.{◌≡◌, ◌≢◌, ◌⊎◌, ◌↔◌, ℕ, Bool, List, [], Option, Some, None, Result, Ok, Err, IfSome}
-use Rattle.std.specs.Prelude.{MatchOption, MatchResult, option_map, unwrap_or, string_bytes}
+use Rattle.std.specs.Prelude.{◌≡◌, ◌≢◌, ◌⊎◌, ◌↔◌, ℕ, Bool, true, false, List, [], Option, Some, None, Result, Ok, Err}
+use Rattle.std.specs.Prelude.{IfSome, IsSomeAnd, MatchOption, MatchResult, codes, option_map, unwrap_or, string_bytes}
+use Rattle.std.specs.declared.io.ErrorKind.TheVariants.{BrokenPipe}
+use Rattle.std.specs.IoError.{error_kind}
 use Rattle.std.specs.Io.Buffered.{writer_buffer, writer_contents}
 use Rattle.std.specs.Io.KnownBytes.{Appends}
 use Rattle.rec_text.specs.declared.fault.Fault.{Fault}
@@ -28,17 +30,18 @@ use Rattle.rec_command.specs.declared.args.Order.{Order}
 use Rattle.rec_command.specs.declared.args.Order.TheVariants.{Whole, BatchAt}
 use Rattle.rec_command.specs.declared.args.CommandLine.{CommandLine}
 use Rattle.rec_command.specs.declared.args.refusal.Refusal.{Refusal}
+use Rattle.rec_command.specs.Status.{line_of, status_of}
 use Rattle.rec_command.specs.Refusals.{AsksForHelp, IsParsed, refusal_fault}
 use Rattle.rec_command.specs.Words.{IsBatchOf}
 
 -- ---- the request and the home
 
 -- The request of an order: that which it gives whole, or a batch with the text at its path, where the disk tells what
--- stands there; or that text can't be read, or there is no memory for it.
+-- stands there, or of standard input for `-`; or that text can't be read, or there is no memory for it.
 abbrev pub IsRequestOf : (List ℕ → List ℕ) → Option Story → Order → Result Request Fault → Type 0
 IsRequestOf leads story (Whole own) found = found ≡ Ok own
 IsRequestOf leads story (BatchAt path force preview) (Ok request) = (text : List ℕ)
-    × Told story (λ s. shown s.bytes (s.at (leads (string_bytes path))) ≡ Some text)
+    × (string_bytes path ≢ codes "-" → Told story (λ s. shown s.bytes (s.at (leads (string_bytes path))) ≡ Some text))
     × IsBatchOf text force preview request
 IsRequestOf leads story (BatchAt path force preview) (Err fault) = (fault ≡ OutOfMemory) ⊎ (fault ≡ StoreFailed)
 
@@ -81,6 +84,10 @@ out_of contents output = record {
 -- that of a writer which took these bytes, before anything is printed
 abbrev pub new_out : Option (List ℕ) → Out
 new_out taken = record { taken = taken; held = []; failed = 0 }
+
+-- it failed last because nobody reads its pipe any more
+abbrev pub HasLostReader : {W : Type 0} → StandardOutput W → Type 0
+HasLostReader output = IsSomeAnd output.failure (λ error. error_kind error ≡ BrokenPipe)
 
 -- an answer whose reply was not printed: 23, where it isn't refused as it is
 abbrev pub unprinted : Answer → Answer
@@ -192,3 +199,9 @@ IsReplied Done (Err fault) = Done (Err fault)
 abbrev pub IsAnswerTo : (CommandLine → Answer → Type 0) → Type 0 → List (List ℕ) → Result (Option Reply) Fault → Type 0
 IsAnswerTo Done Nothing words answer = (read : Result CommandLine Refusal) × IsParsed words read
     × MatchResult read (λ line. IsReplied (Done line) answer) (λ refusal. IsAnswerToRefused refusal answer × Nothing)
+
+-- The exit status of a command that was answered so, and what it says at the end: nothing where nobody reads what it
+-- prints any more, with the status that shells show for SIGPIPE.
+abbrev pub IsFinished : Bool → Result (Option Reply) Fault → ℕ → (List ℕ → Type 0) → Type 0 → Type 0
+IsFinished true answer status Says silent = (status ≡ 141) × silent
+IsFinished false answer status Says silent = (status ≡ status_of answer) × Says (line_of answer)

@@ -1,9 +1,11 @@
 //! The answer to a command line, on any disk.
-ghost use Rattle.std.specs.Prelude.{◌≡◌, map, option_map, string_bytes, Result, Option, Some, None, Ok, Err, IfOk, IfErr};
+ghost use Rattle.std.specs.Prelude.{◌≡◌, ◌↔◌, map, option_map, string_bytes, Bool, Result, Option, Some, None, Ok, Err};
+ghost use Rattle.std.specs.Prelude.{IfOk, IfErr, IsSomeAnd, IsTrue};
 ghost use Rattle.rec_text.specs.declared.fault.Fault.{Fault as FaultOf};
 ghost use Rattle.rec_tools.specs.declared.request.Reply.{Reply as ReplyOf};
-ghost use Rattle.rec_command.specs.Status.{Says, line_of, status_of};
-ghost use Rattle.recu.specs.Answers.{out_of, IsAnswerTo, IsAnswerToRefused, IsDone, IsHomeFor, IsRequestOf};
+ghost use Rattle.rec_command.specs.Status.{Says};
+ghost use Rattle.recu.specs.Answers.{out_of, HasLostReader, IsAnswerTo, IsAnswerToRefused, IsDone, IsFinished};
+ghost use Rattle.recu.specs.Answers.{IsHomeFor, IsRequestOf};
 
 use crate::answering::answer_by;
 use crate::saying::{say_more, say_waiting};
@@ -15,9 +17,12 @@ use std::io;
 use std::io::Write;
 use std::rt::Runtime;
 
+/// The exit status that shells show for a program that SIGPIPE ended.
+const READER_GONE: u8 = 141;
+
 /// The exit status of the command line, once it is answered, and the disk and standard output as they are then. What a request
 /// prints goes to a writer by standard output, which is made for it, and the line of a fault to a sink; what is said beside it goes to
-/// standard error.
+/// standard error. Where what it prints has no reader any more, it ends silently.
 pub fn status<D: Disk + Drop, W: Write + Drop, S: Sink>(
     rt: &HostRuntime,
     disk: D,
@@ -25,35 +30,63 @@ pub fn status<D: Disk + Drop, W: Write + Drop, S: Sink>(
     err: &mut S,
     words: &[String],
 ) -> (u8, D, Option<StandardOutput<W>>)
-    ensures status { (answer : Result (Option ReplyOf) FaultOf)
-        × IsAnswerTo (IsDone D.place D.leads D.folder D.syncs D.story D.works
+    ensures status { (answer : Result (Option ReplyOf) FaultOf) × (lost : Bool)
+        × IsAnswerTo (λ line told. IsDone D.place D.leads D.folder D.syncs D.story D.works
         ⟦<DiskHome<'static, HostRuntime, D> as Home>⟧.goes disk result.1 (W.contents out)
-        (option_map (out_of W.contents) result.2)) ((result.1 ≡ disk) × (result.2 ≡ None))
+        (option_map (out_of W.contents) result.2) line told × (IsTrue lost ↔ IsSomeAnd result.2 HasLostReader))
+        ((result.1 ≡ disk) × (result.2 ≡ None) × (IsTrue lost → answer ≡ Err Fault.StoreFailed))
         (map string_bytes words.now) answer
-        × (result.0 ≡ status_of answer) × Says S.contents S.failure_count err.old err.new (line_of answer) }
+        × IsFinished lost answer result.0 (λ line. Says S.contents S.failure_count err.old err.new line)
+        (err.new ≡ err.old) }
 {
-    let (answer, last, printed) = answer(rt, disk, out, words);
-    (finish(&answer, err), last, printed)
+    let (answer, last, printed, is_lost) = answer(rt, disk, out, words);
+    let status = if is_lost {
+        READER_GONE
+    } else {
+        finish(&answer, err)
+    };
+    (status, last, printed)
 }
 
-/// The answer to the command line, and the disk and standard output then; to one that asks for help there is no reply.
+/// The answer to the command line, the disk and standard output then, and whether what was printed has no reader any more; to one
+/// that asks for help there is no reply.
 fn answer<D: Disk + Drop, W: Write + Drop>(
     rt: &HostRuntime,
     disk: D,
     out: W,
     words: &[String],
-) -> (Result<Option<Reply>, Fault>, D, Option<StandardOutput<W>>)
-    ensures answer { IsAnswerTo (IsDone D.place D.leads D.folder D.syncs D.story D.works
+) -> (
+    Result<Option<Reply>, Fault>,
+    D,
+    Option<StandardOutput<W>>,
+    bool,
+)
+    ensures answer { IsAnswerTo (λ line told. IsDone D.place D.leads D.folder D.syncs D.story D.works
         ⟦<DiskHome<'static, HostRuntime, D> as Home>⟧.goes disk result.1 (W.contents out)
-        (option_map (out_of W.contents) result.2)) ((result.1 ≡ disk) × (result.2 ≡ None))
+        (option_map (out_of W.contents) result.2) line told × (IsTrue result.3 ↔ IsSomeAnd result.2 HasLostReader))
+        ((result.1 ≡ disk) × (result.2 ≡ None) × (IsTrue result.3 → result.0 ≡ Err Fault.StoreFailed))
         (map string_bytes words.now) result.0 }
 {
     match parse(rt.alloc(), words) {
         Ok(line) => {
             let (answer, last, printed) = carry_out(rt, disk, out, line);
-            (with_reply(answer), last, printed)
+            let is_lost = has_lost_reader(&printed);
+            (with_reply(answer), last, printed, is_lost)
         }
-        Err(refusal) => (explain_words(rt, &refusal, words), disk, None),
+        Err(refusal) => {
+            let (answer, is_lost) = explain_words(rt, &refusal, words);
+            (answer, disk, None, is_lost)
+        }
+    }
+}
+
+/// Whether nobody reads any more what is printed.
+fn has_lost_reader<W: Write + Drop>(printed: &Option<StandardOutput<W>>) -> bool
+    ensures { IsTrue result ↔ IsSomeAnd printed.now HasLostReader }
+{
+    match printed {
+        Some(out) => out.has_lost_reader(),
+        None => false,
     }
 }
 
@@ -65,24 +98,32 @@ fn with_reply(answer: Result<Reply, Fault>) -> Result<Option<Reply>, Fault>
     Ok(Some(answer?))
 }
 
-/// The answer to words that are refused, once it is said what is wrong with them, or the help is printed that they ask for.
+/// The answer to words that are refused, once it is said what is wrong with them, or the help is printed that they ask for; and
+/// whether the help has no reader any more.
 fn explain_words(
     rt: &HostRuntime,
     refusal: &Refusal,
     words: &[String],
-) -> Result<Option<Reply>, Fault>
-    ensures answer { IsAnswerToRefused refusal.now result }
+) -> (Result<Option<Reply>, Fault>, bool)
+    ensures answer { IsAnswerToRefused refusal.now result.0 }
+    ensures lost { IsTrue result.1 → result.0 ≡ Err Fault.StoreFailed }
 {
     let explained = refusal.explain(rt, words);
     if !refusal.asks_for_help() {
-        return Err(refusal.fault());
+        return (Err(refusal.fault()), false);
     }
     match explained {
-        Ok(()) => Ok(None),
-        Err(error) if error.kind() == io::ErrorKind::OutOfMemory => Err(Fault::OutOfMemory),
+        Ok(()) => (Ok(None), false),
+        Err(error) if error.kind() == io::ErrorKind::OutOfMemory => (
+            Err(Fault::OutOfMemory),
+            false,
+        ),
         Err(error) => {
             let _ = explain_output(rt, error);
-            Err(Fault::StoreFailed)
+            (
+                Err(Fault::StoreFailed),
+                error.kind() == io::ErrorKind::BrokenPipe,
+            )
         }
     }
 }

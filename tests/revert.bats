@@ -238,10 +238,11 @@ led() {
     [ "${named[*]}" = "${*:2}" ] || fail "revert $1: ${named[*]}"
 }
 
-# taken_back NUMBER: an edit isn't reverted, since later ones took it back
+# taken_back NUMBER [BY]: an edit isn't reverted, since later ones took it back, or the one of the other number did
 taken_back() {
-    stays "db.rec.journal: edit $1 was taken back already" "$refusal" revert "$1" db.rec
-    stays "db.rec.journal: edit $1 was taken back already" "$refusal" revert "$1" --force --dry-run db.rec
+    local said="db.rec.journal: edit $1 was taken back already${2:+, by edit $2}"
+    stays "$said" "$refusal" revert "$1" db.rec
+    stays "$said" "$refusal" revert "$1" --force --dry-run db.rec
 }
 
 @test "a later edit of the same lines is in the way until it is reverted itself" {
@@ -258,9 +259,9 @@ taken_back() {
     does revert 1 db.rec
     has db.rec 'A: 1¶B: 2¶'
     does recset -f A -s 5 db.rec
-    barred 1 8 recset
+    taken_back 1 7
     does revert 8 db.rec
-    taken_back 1
+    taken_back 1 7
 }
 
 @test "an edit that was in the way and was taken back isn't named" {
@@ -271,12 +272,12 @@ taken_back() {
     does recset -f B -s 2 db.rec
     does recset -f A -s 5 db.rec
     barred 1 5 recset
-    barred 2 5 recset
+    taken_back 2 3
     does revert 5 db.rec
-    taken_back 2
+    taken_back 2 3
     does revert 1 db.rec
     has db.rec 'A: 1¶B: 2¶'
-    taken_back 1
+    taken_back 1 7
 }
 
 @test "what the lines say ends" {
@@ -345,22 +346,52 @@ taken_back() {
     put db.rec 'A: 1¶B: 1¶¶A: 1¶B: 1¶'
     does recset -f A -s 2 db.rec
     does revert 1 db.rec
-    taken_back 1
+    taken_back 1 2
     does recset -f B -s 2 db.rec
     does recins -f A -v 7 db.rec
-    taken_back 1
-    # by other edits
+    taken_back 1 2
+    # by another edit than a revert, and by two
     does recset -n 0 -f A -s 3 db.rec
     does recset -n 0 -f A -s 1 db.rec
-    taken_back 5
-    # a record that was put in
-    does recins -f D -v 1 db.rec
-    does revert 7 db.rec
+    taken_back 5 6
+    does recset -n 0,1 -f A -s 4 db.rec
+    does recset -n 0 -f A -s 1 db.rec
+    does recset -n 1 -f A -s 1 db.rec
     taken_back 7
-    # it is there again
+    # a record that was put in, and another one where it stood
+    does recins -f D -v 1 db.rec
+    does revert 10 db.rec
+    taken_back 10 11
+    does recins -f D -v 2 db.rec
+    taken_back 10 11
+    # it is there again, and it isn't
     does revert 2 db.rec
     does revert 1 db.rec
-    taken_back 1
+    taken_back 1 14
+    does recset -n 0 -f A -s 6 db.rec
+    taken_back 1 14
+}
+
+@test "an edit that was taken back and made again" {
+    put db.rec 'A: 1¶B: 1¶'
+    does recset -f A -s 2 db.rec
+    does revert 1 db.rec
+    does undo db.rec
+    # undone, it takes nothing back
+    does recset -f A -s 3 db.rec
+    barred 1 4 recset
+    does revert 4 db.rec
+    does revert 1 db.rec
+    does revert 6 db.rec
+    # reverted, it doesn't either
+    does recset -f A -s 4 db.rec
+    barred 1 8 recset
+    # the same texts in another record
+    does revert 8 db.rec
+    does recins -f A -v 2 db.rec
+    does recset -n 1 -f A -s 1 db.rec
+    does recset -n 0 -f A -s 9 db.rec
+    barred 1 12 recset
 }
 
 @test "the newest in the way is named, wherever it stands" {

@@ -8,6 +8,7 @@ use crate::notes::{name_of, say};
 use crate::reverts::changes::{change_back, change_of, edit_back, history_of};
 use crate::reverts::in_effect::{is_taken_back, newest_in_effect};
 use crate::reverts::places::places_of;
+use crate::reverts::taken_back::{later_at, reverted_by};
 use rec_journal::{EditStep, Fault, History, Patch, StandingEdit, Step, standing_edit};
 use rec_tools::Request;
 use std::alloc::{AllocError, Global};
@@ -17,8 +18,8 @@ use std::alloc::{AllocError, Global};
 enum Obstacle {
     /// A later edit that is in the way, and can be reverted.
     Edit(Step),
-    /// Later edits took it back.
-    TakenBack,
+    /// Later edits took it back: one that reverted it, if one did.
+    TakenBack(Option<Step>),
     /// The file would not read.
     Text,
     Unknown,
@@ -59,7 +60,13 @@ fn line_of(
             step.number,
             name_of(step.tool)
         ),
-        Obstacle::TakenBack => format!(in alloc; "{journal}: edit {number} was taken back already"),
+        Obstacle::TakenBack(None) => {
+            format!(in alloc; "{journal}: edit {number} was taken back already")
+        }
+        Obstacle::TakenBack(Some(step)) => format!(in alloc;
+            "{journal}: edit {number} was taken back already, by edit {}",
+            step.number
+        ),
         Obstacle::Text => format!(in alloc; "{file}: without edit {number} it would not read"),
         Obstacle::Unknown => Ok(String::new(alloc)),
     }
@@ -77,9 +84,12 @@ fn obstacle_of(
     if edit_back(alloc, &standing)?.is_some() {
         return Ok(Obstacle::Text);
     }
+    if let Some(step) = reverted_by(alloc, &history, file, journal, number)? {
+        return Ok(Obstacle::TakenBack(Some(step)));
+    }
     match place_of(alloc, &standing)? {
-        Place::Later(place) => Ok(later_at(&history, number, place)),
-        Place::TakenBack => Ok(Obstacle::TakenBack),
+        Place::Later(place) => Ok(edit_at(&history, number, place)),
+        Place::TakenBack => Ok(Obstacle::TakenBack(None)),
         Place::Nowhere => Ok(Obstacle::Unknown),
     }
 }
@@ -125,15 +135,9 @@ fn place_among(
 }
 
 /// The edit at a place among those that stand after the edit of a number.
-fn later_at(history: &History, number: usize, place: usize) -> Obstacle {
-    let mut left = place;
-    for step in history.steps() {
-        if step.done && step.number > number {
-            if left == 0 {
-                return Obstacle::Edit(step);
-            }
-            left -= 1;
-        }
+fn edit_at(history: &History, number: usize, place: usize) -> Obstacle {
+    match later_at(history, number, place) {
+        Some(step) => Obstacle::Edit(step),
+        None => Obstacle::Unknown,
     }
-    Obstacle::Unknown
 }

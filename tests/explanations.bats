@@ -17,6 +17,37 @@ explained() {
     each explained explanations.rows
 }
 
+@test "why no edit is left to redo" {
+    local refusal='nothing to redo'
+    put f 'A: 1¶'
+    does recset -f A -s 2 f
+    explains 'f: no edit was undone' "$refusal" redo f
+    does undo f
+    does redo f
+    explains 'f.journal: no edit is left to redo' "$refusal" redo f
+    does undo f
+    does recset -f A -s $'3\nKind: undo\nNumber: 9' f
+    explains 'f: edits that were undone were dropped by edit 5' "$refusal" redo f
+    explains './f: edits that were undone were dropped by edit 5' "$refusal" redo --through 1 --journal f.journal ./f
+    # an edit that drops none tells nothing, and a batch and a revert drop some too
+    does recset -f A -s 4 f
+    explains 'f: edits that were undone were dropped by edit 5' "$refusal" redo --dry-run f
+    does undo f
+    put b 'Tool: recset¶Fields: A¶Set: 5'
+    does batch -b b f
+    explains 'f: edits that were undone were dropped by edit 8' "$refusal" redo f
+    does recset -f A -s 6 f
+    does undo f
+    does revert 8 f
+    explains 'f: edits that were undone were dropped by edit 11' "$refusal" redo f
+    # an undo that was interrupted doesn't count
+    does undo f
+    does recset -f A -s 7 f
+    does undo f
+    put f 'A: 7¶'
+    explains 'f: edits that were undone were dropped by edit 13' "$refusal" redo f
+}
+
 @test "a file changed outside" {
     put f 'A: 1¶'
     does recset -f A -s 2 f

@@ -148,7 +148,7 @@ stays() {
     begin
     stays 'db.rec.journal: edits 1 to 3 can be undone' 'no such edit' undo --through 4 db.rec
     stays 'db.rec.journal: edits 1 to 3 can be undone' 'no such edit' undo --through 18446744073709551615 db.rec
-    stays 'db.rec.journal: no edit is left to redo: an edit after an undo drops those that were undone' 'nothing to redo' redo --through 1 db.rec
+    stays 'db.rec: no edit was undone' 'nothing to redo' redo --through 1 db.rec
     does undo --through 2 db.rec
     stays 'db.rec.journal: edit 1 can be undone' 'no such edit' undo --through 2 db.rec
     stays 'db.rec.journal: edit 1 can be undone' 'no such edit' undo --through 3 db.rec

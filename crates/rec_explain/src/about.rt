@@ -11,7 +11,7 @@ pub struct About<'a> {
     pub text: Option<&'a [u8]>,
     /// The history, as `history` prints it, where a refusal is about one of its edits or about the texts of these.
     pub history: Option<&'a [u8]>,
-    /// The bytes of the journal, where a refusal is about what a revert would leave.
+    /// The bytes of the journal, where a refusal is about what a revert would leave, or about edits that were undone.
     pub events: Option<&'a [u8]>,
     /// Whether the file was not found.
     pub is_missing: bool,

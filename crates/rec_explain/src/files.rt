@@ -39,10 +39,6 @@ pub fn explain_history(about: &About<'_>, fault: &Fault, said: &mut Explanation)
     match fault {
         Fault::BadJournal { line } => explain_journal(about, *line, said),
         Fault::NothingToUndo => said.add(&[journal, ": no edit is left to undo"]),
-        Fault::NothingToRedo => said.add(&[
-            journal,
-            ": no edit is left to redo: an edit after an undo drops those that were undone",
-        ]),
         _ => {}
     }
 }

@@ -17,6 +17,7 @@ mod refusal;
 mod reports;
 mod requests;
 mod reverts;
+mod undone;
 mod waiting;
 
 pub use about::About;

@@ -16,6 +16,7 @@ use crate::requests::names::{explain_name, explain_record};
 use crate::requests::types::{explain_deletion, explain_types};
 use crate::requests::words::Words;
 use crate::reverts::later_edits::explain_later;
+use crate::undone::explain_redo;
 use rec_tools::{EditRequest, Fault, Request};
 use std::alloc::Global;
 
@@ -53,6 +54,7 @@ fn explain_fault(
         (Fault::Drifted, _) => explain_drift(about, request, said),
         (Fault::NoSuchEdit, _) => explain_numbers(alloc, about, request, said),
         (Fault::ChangedLater, _) => explain_later(alloc, about, request, said),
+        (Fault::NothingToRedo, _) => explain_redo(alloc, about, said),
         (_, Request::Edit { edit, .. }) => explain_edit(alloc, about, edit, fault, said),
         (_, Request::Batch { text, force }) => {
             explain_batch(alloc, about, text.as_slice(), *force, fault, said);

@@ -171,19 +171,22 @@ fn history_for<D: Disk + Drop>(
     Some(out.writer)
 }
 
-/// The bytes of the journal, where a refusal is about what a revert would leave.
+/// The bytes of the journal, where a refusal is about what a revert would leave, or about edits that were undone.
 fn events_for<D: Disk + Drop>(
     rt: &HostRuntime,
     home: &DiskHome<'_, HostRuntime, D>,
     request: &Request,
     fault: &Fault,
 ) -> Option<Bytes> {
-    match fault {
-        Fault::ChangedLater | Fault::Integrity(_) if is_revert(request) => {
-            home_again(rt, home)?.read(rt.alloc(), Which::Journal).ok()
-        }
-        _ => None,
+    let is_needed = match fault {
+        Fault::NothingToRedo => true,
+        Fault::ChangedLater | Fault::Integrity(_) => is_revert(request),
+        _ => false,
+    };
+    if !is_needed {
+        return None;
     }
+    home_again(rt, home)?.read(rt.alloc(), Which::Journal).ok()
 }
 
 fn is_revert(request: &Request) -> bool {

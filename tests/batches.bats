@@ -100,7 +100,7 @@ batched() {
     put db.rec "$rules"
     put changes "$delete"
     recu 1 batch -b changes db.rec
-    prints '' '1: size P¶line 1: %rec: P (1 record, %size: >= 2)¶--force makes the edit all the same¶recu: violations: 1¶'
+    prints '' '1: size P¶line 1: %rec: P (1 record, %size: >= 2)¶db.rec: --force makes the edit all the same¶recu: violations: 1¶'
     has db.rec "$rules"
     only changes db.rec
     put changes "$delete¶Tool: recins¶Type: P¶Field: N¶Value: 3¶"
@@ -166,7 +166,7 @@ batched() {
     put broken.rec '%rec: P¶%size: 1¶'
     put changes ''
     recu 1 batch -b changes broken.rec
-    prints '' '1: size P¶line 1: %rec: P (0 records, %size: 1)¶all of these stood before the edit: mend them first, by a batch, by hand, or by edits with --force¶--force makes the edit all the same¶recu: violations: 1¶'
+    prints '' '1: size P¶line 1: %rec: P (0 records, %size: 1)¶all of these stood before the edit: mend them first, by a batch, by hand, or by edits with --force¶broken.rec: --force makes the edit all the same¶recu: violations: 1¶'
     does batch --force -b changes broken.rec
     has broken.rec '%rec: P¶%size: 1¶'
     only broken.rec changes db.rec

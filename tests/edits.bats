@@ -142,7 +142,7 @@ people='# P¶Name:  Ada¶# c¶Mail: a\¶b¶Mail: c¶¶Name: Bo'
 @test "an edit that breaks a rule is refused with its report" {
     put db.rec '%rec: P¶%size: >= 2¶¶N: 1¶¶N: 2¶'
     recu 1 recdel -t P -n 0 db.rec
-    prints '' '1: size P¶line 1: %rec: P (1 record, %size: >= 2)¶--force makes the edit all the same¶recu: violations: 1¶'
+    prints '' '1: size P¶line 1: %rec: P (1 record, %size: >= 2)¶db.rec: --force makes the edit all the same¶recu: violations: 1¶'
     has db.rec '%rec: P¶%size: >= 2¶¶N: 1¶¶N: 2¶'
     only db.rec
     does recdel -t P -n 0 --force db.rec
@@ -153,7 +153,7 @@ people='# P¶Name:  Ada¶# c¶Mail: a\¶b¶Mail: c¶¶Name: Bo'
     has db.rec '%rec: P¶%size: >= 2¶¶N: 1¶¶N: 2¶'
     put keyed.rec '%rec: P¶%key: Id¶¶Id: 1¶¶Id: 2¶¶Id: 3¶'
     recu 1 recset -n 1-2 -f Id -s 1 keyed.rec
-    prints '' '6: key Id¶8: key Id¶line 6: Id: 1 (also in line 4)¶line 8: Id: 1 (also in line 4)¶--force makes the edit all the same¶recu: violations: 2¶'
+    prints '' '6: key Id¶8: key Id¶line 6: Id: 1 (also in line 4)¶line 8: Id: 1 (also in line 4)¶keyed.rec: --force makes the edit all the same¶recu: violations: 2¶'
     only db.rec db.rec.journal keyed.rec
 }
 
@@ -236,7 +236,7 @@ leads_to() {
     local keyed='%rec: P¶%key: Id¶¶Id: 1¶'
     put db.rec "$keyed"
     recu 1 recins -t P -f Id -v 1 db.rec
-    prints '' '6: key Id¶line 6: Id: 1 (also in line 4)¶--force makes the edit all the same¶recu: violations: 1¶'
+    prints '' '6: key Id¶line 6: Id: 1 (also in line 4)¶db.rec: --force makes the edit all the same¶recu: violations: 1¶'
     has db.rec "$keyed"
     only db.rec
     does recins -t P -f Id -v 1 --force db.rec
@@ -278,7 +278,7 @@ leads_to() {
     has db.rec '%rec: P¶%auto: Id¶¶Id: 5¶N: a¶¶Id: 4¶¶Id: 6¶N: b¶'
     put keyed.rec '%rec: P¶%auto: Id¶%mandatory: N¶¶A: 1¶'
     recu 1 recfix --auto keyed.rec
-    prints '' '5: mandatory N¶line 5: Id: 0 (no N)¶all of these stood before the edit: mend them first, by a batch, by hand, or by edits with --force¶--force makes the edit all the same¶recu: violations: 1¶'
+    prints '' '5: mandatory N¶line 5: Id: 0 (no N)¶all of these stood before the edit: mend them first, by a batch, by hand, or by edits with --force¶keyed.rec: --force makes the edit all the same¶recu: violations: 1¶'
     does recfix --auto --force --journal=j keyed.rec
     has keyed.rec '%rec: P¶%auto: Id¶%mandatory: N¶¶Id: 0¶A: 1¶'
     only db.rec db.rec.journal j journal keyed.rec

@@ -105,7 +105,7 @@ explained() {
 @test "the report of a refused edit says what forces it" {
     put f '%rec: P¶%key: Id¶¶Id: 1¶'
     recu 1 recins -t P -f Id -v 1 f
-    prints '' '6: key Id¶line 6: Id: 1 (also in line 4)¶--force makes the edit all the same¶recu: violations: 1¶'
+    prints '' '6: key Id¶line 6: Id: 1 (also in line 4)¶f: --force makes the edit all the same¶recu: violations: 1¶'
     does recins -t P -f Id -v 1 --force f
     recu 1 recfix f
     prints '6: key Id¶' ''
@@ -128,7 +128,7 @@ batch_explained() {
     batch_explained "$set¶# a comment¶Tool: recsel¶" 'changes:6: Tool: recsel¶changes:6: the value of Tool is recins, recdel, recset or recfix' 'batch line 6: not an edit'
     batch_explained "$set¶# all¶Tool: recdel¶" 'changes:6: Tool: recdel' 'no selection given, use --force'
     batch_explained "$set¶Tool: recset¶Fields: A[0]¶Add: 2¶" 'changes:5: Tool: recset¶A[0]¶ ^¶fields are added by their names alone, such as Name,Email' 'field list: error at byte 1'
-    batch_explained "$set¶Tool: recins¶Type: P¶Field: B¶Value: 1¶¶Tool: recset¶Type: Q¶Fields: B¶Delete: yes¶" 'changes:10: Tool: recset¶there is no record type' 'no such record type'
+    batch_explained "$set¶Tool: recins¶Type: P¶Field: B¶Value: 1¶¶Tool: recset¶Type: Q¶Fields: B¶Delete: yes¶" 'changes:10: Tool: recset¶f: there is no record type' 'no such record type'
     batch_explained "$set¶Tool: recins¶Record: B: 1¶+¶+ C: 1¶¶Tool: recdel¶Number: 0¶" 'changes:5: Tool: recins¶the text has to be one record, as it stands in a file' 'not exactly one record'
     batch_explained "$set¶Tool: recset¶Fields: A¶SetAdd: 3\\\\¶¶¶Tool: recfix¶" 'changes:5: Tool: recset' 'a line of the value ends in a backslash'
 }
@@ -193,7 +193,7 @@ batch_told() {
     local report='7: type N¶7: constraint 1¶11: singular M¶16: typedef unknown¶19: mandatory B¶'
     local records='line 7: Id: 1, N: x (int)¶line 7: Id: 1 (N > 0)¶line 11: Id: 2, M: a (also in line 7)¶line 16: %rec: Q, %type: A unknown (nothing defines unknown)¶line 19: A: 2 (no B)¶'
     local stood='all of these stood before the edit: mend them first, by a batch, by hand, or by edits with --force¶'
-    prints '' "${report}${records}${stood}--force makes the edit all the same¶recu: violations: 5¶"
+    prints '' "${report}${records}${stood}f: --force makes the edit all the same¶recu: violations: 5¶"
     # on standard error of a terminal alone
     TERM=dumb script -qec "'$recu' recfix f 2> said" shown > /dev/null || true
     has said "${records/A: 2/A: 1}"
@@ -219,17 +219,17 @@ batch_told() {
 @test "which violations a batch leaves stood before it" {
     put f '%rec: P¶%mandatory: B¶%unique: A¶¶A: 1¶¶A: 2¶B: 1¶'
     put changes 'Tool: recset¶Number: 0¶Fields: A¶Set: 3¶¶Tool: recset¶Number: 1¶Fields: A¶Add: 4¶'
-    explains '5: mandatory B¶7: unique A¶line 5: A: 3 (no B), as before the edit¶line 7: A: 2 (more than one A)¶1 of these stood before the edit¶--force makes the edit all the same' 'violations: 2' batch -b changes f
+    explains '5: mandatory B¶7: unique A¶line 5: A: 3 (no B), as before the edit¶line 7: A: 2 (more than one A)¶1 of these stood before the edit¶f: --force makes the edit all the same' 'violations: 2' batch -b changes f
     put changes 'Tool: recins¶Type: P¶Field: A¶Value: 5¶¶Tool: recset¶Number: 1¶Fields: A¶Set: 4¶'
-    explains '5: mandatory B¶10: mandatory B¶line 5: A: 1 (no B), as before the edit¶line 10: A: 5 (no B)¶1 of these stood before the edit¶--force makes the edit all the same' 'violations: 2' batch -b changes f
+    explains '5: mandatory B¶10: mandatory B¶line 5: A: 1 (no B), as before the edit¶line 10: A: 5 (no B)¶1 of these stood before the edit¶f: --force makes the edit all the same' 'violations: 2' batch -b changes f
     put changes 'Tool: recdel¶Number: 0¶¶Tool: recset¶Number: 0¶Fields: B¶Delete: yes¶'
-    explains '5: mandatory B¶line 5: A: 2 (no B)¶--force makes the edit all the same' 'violations: 1' batch -b changes f
+    explains '5: mandatory B¶line 5: A: 2 (no B)¶f: --force makes the edit all the same' 'violations: 1' batch -b changes f
 }
 
 @test "an edit of a batch that lacks an automatic number" {
     put f '%rec: P¶%auto: Added¶%type: Added date¶'
     put changes 'Tool: recins¶Type: P¶Field: N¶Value: x¶'
-    explains 'changes:1: Tool: recins¶Added: %auto counts, so its type has to be int or range, and is date¶Field: Added and a Value give it, and Auto: no leaves it out' 'no automatic value' batch -b changes f
+    explains 'changes:1: Tool: recins¶f: Added: %auto counts, so its type has to be int or range, and is date¶Field: Added and a Value give it, and Auto: no leaves it out' 'no automatic value' batch -b changes f
     put changes 'Tool: recins¶Type: P¶Field: N¶Value: x¶Auto: no¶'
     does batch -b changes f
     has f '%rec: P¶%auto: Added¶%type: Added date¶¶N: x¶'
@@ -252,7 +252,7 @@ batch_told() {
 }
 
 @test "a CR or a form feed belongs to the word of a type" {
-    local undefined='Id: %auto counts, and the type of Id is not defined¶-f Id -v VALUE gives it, and --no-auto leaves it out'
+    local undefined='f: Id: %auto counts, and the type of Id is not defined¶-f Id -v VALUE gives it, and --no-auto leaves it out'
     local kind
     for kind in 'int\x0D' 'int\x0Dx' '\x0Dint' 'int\x0C' 'int\x0Cx' 'range\x0D0 9'; do
         put f "%rec: P¶%auto: Id¶%type: Id $kind¶"
@@ -275,6 +275,20 @@ batch_told() {
     has seen 'A: 1\x0D¶'
     TERM=dumb script -qec "'$recu' recsel f" /dev/null > seen
     has seen 'A: 1\x0D¶'
+}
+
+@test "an empty path" {
+    local empty=': No such file or directory (os error 2)¶an empty path'
+    put f 'A: 1¶'
+    fails_to_store "$empty" recsel ''
+    fails_to_store "$empty" recset -f A -s 1 ''
+    fails_to_store "$empty" recins -f A -v 1 ''
+    fails_to_store "$empty" undo ''
+    fails_to_store "$empty" recset -f A -s 2 --journal '' f
+    fails_to_store "$empty" history --journal '' f
+    fails_to_store "$empty" redo --through 1 --journal '' f
+    has f 'A: 1¶'
+    only f
 }
 
 @test "a file that is missing" {

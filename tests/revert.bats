@@ -536,7 +536,7 @@ taken_back() {
 }
 
 @test "rules of the file are kept, unless it is forced" {
-    local report='6: key Id¶line 6: Id: 1 (also in line 4)¶--force reverts the edit all the same'
+    local report='6: key Id¶line 6: Id: 1 (also in line 4)¶db.rec: --force reverts the edit all the same'
     put db.rec '%rec: P¶%key: Id¶¶Id: 1¶'
     does recset -t P -f Id -s 2 db.rec
     does recins -t P -f Id -v 1 db.rec
@@ -549,7 +549,7 @@ taken_back() {
 }
 
 @test "violations that stood before" {
-    local stood='7: mandatory N¶line 7: Id: 2 (no N)¶all of these stood before the revert: mend them first, by a batch, by hand, or by edits with --force¶--force reverts the edit all the same'
+    local stood='7: mandatory N¶line 7: Id: 2 (no N)¶all of these stood before the revert: mend them first, by a batch, by hand, or by edits with --force¶db.rec: --force reverts the edit all the same'
     put db.rec '%rec: P¶%mandatory: N¶¶N: a¶Id: 1¶¶Id: 2¶'
     does recset -t P -n 0 -f N -d --force db.rec
     stays "$stood" 'violations: 1' revert 1 db.rec
@@ -557,7 +557,7 @@ taken_back() {
     does recset -t P -n 0 -f N -S b --force db.rec
     does recset -t P -n 1 -f N -S c db.rec
     has db.rec '%rec: P¶%mandatory: N¶¶Id: 1¶N: b¶¶Id: 3¶N: c¶'
-    explains '4: mandatory N¶line 4: Id: 1 (no N)¶--force reverts the edit all the same' 'violations: 1' revert 3 db.rec
+    explains '4: mandatory N¶line 4: Id: 1 (no N)¶db.rec: --force reverts the edit all the same' 'violations: 1' revert 3 db.rec
 }
 
 @test "a file that was changed outside, and one that doesn't read" {

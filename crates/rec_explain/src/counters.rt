@@ -20,16 +20,16 @@ pub fn explain_counter(
     if let Some(text) = about.text
         && let Ok(file) = RecFile::read(alloc, text)
     {
-        explain_in(alloc, &file, edit, about.batch.is_some(), said);
+        explain_in(alloc, about, &file, edit, said);
     }
 }
 
 /// Explains the first automatic field of a file that has too few numbers.
 fn explain_in(
     alloc: Global,
+    about: &About<'_>,
     file: &RecFile<'_>,
     edit: &EditRequest,
-    in_batch: bool,
     said: &mut Explanation,
 ) {
     let (database, schema) = (file.database(), file.schema());
@@ -38,7 +38,7 @@ fn explain_in(
             && let Ok(mut counters) = schema.counters(alloc, database, index)
             && let Some(name) = first_without(alloc, &mut counters, database, set, edit)
         {
-            return explain_name(alloc, database, set, name, edit, in_batch, said);
+            return explain_name(alloc, about, database, set, name, edit, said);
         }
     }
 }
@@ -132,48 +132,57 @@ fn records_without(database: &Database<'_>, set: &Set_, name: &[u8]) -> usize {
 /// Explains a field of a set that a descriptor counts.
 fn explain_name(
     alloc: Global,
+    about: &About<'_>,
     database: &Database<'_>,
     set: &Set_,
     name: &[u8],
     edit: &EditRequest,
-    in_batch: bool,
     said: &mut Explanation,
 ) {
     if let (Some(head), Some(name)) = (set.head, plain(name)) {
-        explain_field(alloc, elements_of(database, head), name, said);
-        explain_ways(name, edit, in_batch, said);
+        explain_field(alloc, about.file, elements_of(database, head), name, said);
+        explain_ways(name, edit, about.batch.is_some(), said);
     }
 }
 
 /// Says why a field has no next number.
-fn explain_field(alloc: Global, descriptor: &[Element<'_>], name: &str, said: &mut Explanation) {
+fn explain_field(
+    alloc: Global,
+    file: &str,
+    descriptor: &[Element<'_>],
+    name: &str,
+    said: &mut Explanation,
+) {
     if name.starts_with('%') {
-        return said.add(&[name, ": %auto gives no fields whose names begin with %"]);
+        let rule = ": %auto gives no fields whose names begin with %";
+        return said.add(&[file, ": ", name, rule]);
     }
     match last_said(alloc, descriptor, b"%type", name.as_bytes()) {
         Ok(Some(kind)) => match meaning_of(alloc, descriptor, kind) {
-            Ok(Some(meaning)) => explain_type(name, meaning.as_slice(), said),
-            Ok(None) => explain_undefined(name, said),
+            Ok(Some(meaning)) => explain_type(file, name, meaning.as_slice(), said),
+            Ok(None) => explain_undefined(file, name, said),
             Err(_) => {}
         },
-        Ok(None) => explain_end(name, said),
+        Ok(None) => explain_end(file, name, said),
         Err(_) => {}
     }
 }
 
 /// Says of a field that its type is none of numbers, or else that its numbers have come to their end.
-fn explain_type<'x>(name: &'x str, meaning: &'x [u8], said: &mut Explanation) {
+fn explain_type<'x>(file: &'x str, name: &'x str, meaning: &'x [u8], said: &mut Explanation) {
     let kind = first_word(meaning);
     if kind == b"int".as_slice() || kind == b"range".as_slice() {
-        return explain_end(name, said);
+        return explain_end(file, name, said);
     }
     let meant = plain(meaning).unwrap_or("another");
     let rule = ": %auto counts, so its type has to be int or range, and is ";
-    said.add(&[name, rule, meant]);
+    said.add(&[file, ": ", name, rule, meant]);
 }
 
-fn explain_undefined(name: &str, said: &mut Explanation) {
+fn explain_undefined<'x>(file: &'x str, name: &'x str, said: &mut Explanation) {
     said.add(&[
+        file,
+        ": ",
         name,
         ": %auto counts, and the type of ",
         name,
@@ -181,8 +190,9 @@ fn explain_undefined(name: &str, said: &mut Explanation) {
     ]);
 }
 
-fn explain_end(name: &str, said: &mut Explanation) {
-    said.add(&[name, ": there is no number after 9223372036854775807"]);
+fn explain_end<'x>(file: &'x str, name: &'x str, said: &mut Explanation) {
+    let rule = ": there is no number after 9223372036854775807";
+    said.add(&[file, ": ", name, rule]);
 }
 
 /// Says how a field can be given, or left out.

@@ -3,8 +3,26 @@ use crate::about::About;
 use crate::explanation::Explanation;
 use rec_tools::{EditRequest, Fault, Request};
 
+/// Says that a path is empty, or else how a file begins, where one that is missing was to get a record.
+pub fn explain_unread(about: &About<'_>, request: &Request, said: &mut Explanation) {
+    if has_empty_path(about) {
+        said.add(&["an empty path"]);
+    } else {
+        explain_missing(about, request, said);
+    }
+}
+
+/// Whether the path of the file or of its journal is empty. That of standard input is empty too, which can't be missing.
+fn has_empty_path(about: &About<'_>) -> bool {
+    if about.file.is_empty() {
+        about.is_missing
+    } else {
+        about.journal.is_empty()
+    }
+}
+
 /// Says how a file begins, where one that is missing was to get a record.
-pub fn explain_missing(about: &About<'_>, request: &Request, said: &mut Explanation) {
+fn explain_missing(about: &About<'_>, request: &Request, said: &mut Explanation) {
     let begins = matches!(
         request,
         Request::Batch { .. }

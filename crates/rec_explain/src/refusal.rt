@@ -9,7 +9,7 @@ use crate::descriptors::fields::{explain_descriptor, explain_unsupported};
 use crate::descriptors::patterns::explain_pattern;
 use crate::edit_numbers::explain_numbers;
 use crate::explanation::Explanation;
-use crate::files::{explain_drift, explain_history, explain_missing};
+use crate::files::{explain_drift, explain_history, explain_unread};
 use crate::lines::bad_lines::{explain_bad_line, explain_open_line};
 use crate::reports::violations::explain_violations;
 use crate::requests::names::{explain_name, explain_record};
@@ -32,7 +32,7 @@ pub fn explain(alloc: Global, about: &About<'_>, request: &Request, fault: &Faul
 }
 
 /// What a dry run tries, which is refused for the same reasons; or the request itself.
-fn tried(request: &Request) -> &Request {
+pub(crate) fn tried(request: &Request) -> &Request {
     match request {
         Request::Preview(own, _) => own,
         _ => request,
@@ -50,7 +50,7 @@ fn explain_fault(
         (Fault::Integrity(violations), _) => {
             explain_violations(alloc, about, request, violations.as_slice(), said);
         }
-        (Fault::StoreFailed, _) => explain_missing(about, request, said),
+        (Fault::StoreFailed, _) => explain_unread(about, request, said),
         (Fault::Drifted, _) => explain_drift(about, request, said),
         (Fault::NoSuchEdit, _) => explain_numbers(alloc, about, request, said),
         (Fault::ChangedLater, _) => explain_later(alloc, about, request, said),

@@ -42,11 +42,14 @@ pub fn explain_violations(
         }
         _ => {}
     }
-    said.add(&[if matches!(request, Request::Revert { .. }) {
-        "--force reverts the edit all the same"
-    } else {
-        "--force makes the edit all the same"
-    }]);
+    said.add(&[
+        about.file,
+        if matches!(request, Request::Revert { .. }) {
+            ": --force reverts the edit all the same"
+        } else {
+            ": --force makes the edit all the same"
+        },
+    ]);
 }
 
 /// Shows the records that edits would leave with violations.

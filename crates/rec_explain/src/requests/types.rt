@@ -2,7 +2,7 @@
 use crate::about::About;
 use crate::explanation::Explanation;
 use itoa::Buffer;
-use rec_check::RecFile;
+use rec_check::{RecFile, Set_};
 use rec_tools::{EditRequest, Pick};
 use std::alloc::{AllocError, Global};
 use std::str;
@@ -13,9 +13,9 @@ pub fn explain_types(alloc: Global, about: &About<'_>, said: &mut Explanation) {
         && let Some(types) = types_in(alloc, text)
     {
         if types.is_empty() {
-            said.add(&["there is no record type"]);
+            said.add(&[about.file, ": there is no record type"]);
         } else {
-            said.add(&["record types: ", types.as_str()]);
+            said.add(&[about.file, ": record types: ", types.as_str()]);
         }
     }
 }
@@ -55,7 +55,8 @@ pub fn explain_deletion(
         let count = count_of_all(&file, pick);
         let mut digits = Buffer::new();
         said.add(&[
-            "--force would ",
+            about.file,
+            ": --force would ",
             verb_of(edit),
             digits.format(count),
             records_for(count),
@@ -83,18 +84,27 @@ fn records_for(count: usize) -> &'static str {
     if count == 1 { " record" } else { " records" }
 }
 
-/// How many records the set has that is meant: that of a type, or the first that isn't empty.
+/// How many records the set has that is meant.
 fn count_of_all(file: &RecFile<'_>, pick: &Pick) -> usize {
-    for set in file.schema().sets() {
-        let count = set.members.end.saturating_sub(set.members.start);
-        let is_meant = match (&pick.kind, &set.kind) {
-            (None, _) => count > 0,
-            (Some(kind), Some(own)) => own.as_slice() == kind.as_slice(),
-            (Some(_), None) => false,
-        };
-        if is_meant {
-            return count;
-        }
+    match meant_set(file, pick) {
+        Some(set) => count_in(set),
+        None => 0,
     }
-    0
+}
+
+fn count_in(set: &Set_) -> usize {
+    set.members.end.saturating_sub(set.members.start)
+}
+
+/// The set that is meant: that of a type, or the first that isn't empty.
+pub fn meant_set<'f>(file: &'f RecFile<'_>, pick: &Pick) -> Option<&'f Set_> {
+    file.schema().sets().iter().find(|set| is_meant(set, pick))
+}
+
+fn is_meant(set: &Set_, pick: &Pick) -> bool {
+    match (&pick.kind, &set.kind) {
+        (None, _) => count_in(set) > 0,
+        (Some(kind), Some(own)) => own.as_slice() == kind.as_slice(),
+        (Some(_), None) => false,
+    }
 }

@@ -15,10 +15,10 @@ load helpers
     has printed '--- f¶+++ f¶@@ -1,3 +1,3 @@¶-A: 1¶+A: 3¶ ¶-A: 2¶+A: 3¶'
     told '2 records changed (edit 1)' recset -f A -s 3 f
     has printed ''
-    told 'nothing changed' recset -f A -s 3 f
-    told 'nothing would change' recset --dry-run -f A -s 3 f
-    told 'no record is selected' recset -n 7 -f A -s 4 f
-    told 'no record is selected' recdel --dry-run -n 7 f
+    told 'f: nothing changed' recset -f A -s 3 f
+    told 'f: nothing would change' recset --dry-run -f A -s 3 f
+    told 'f: no record is selected' recset -n 7 -f A -s 4 f
+    told 'f: no record is selected' recdel --dry-run -n 7 f
     told '1 record changed (edit 2)' recdel -n 1 f
     told 'it would undo edit 2, recdel' undo --dry-run f
     told 'undone: edit 2, recdel' undo f
@@ -55,7 +55,85 @@ load helpers
     told "recset -q '' -f C -a 1 f" '4 records changed (edit 4)' 'every record has the empty text; undo takes the edit back'
     told "recdel -q '' f" '4 records changed (edit 5)' 'every record has the empty text; undo takes the edit back'
     does undo f
-    told "recdel -q 1 f" '4 records changed (edit 7)'
+    told "recdel -q 1 f" '4 records changed (edit 7)' "1 edit that was undone can't be redone any more"
+}
+
+@test "why an edit changes nothing" {
+    # told WORDS LINE..: on a terminal standard error gets these lines
+    told() {
+        TERM=dumb script -qec "'$recu' $1 > printed" /dev/null > seen
+        printf '%s\r\n' "${@:2}" | has seen
+        has printed ''
+    }
+    local none='f: no record is selected'
+    put f 'A: 1¶B: 1¶¶A: 2¶¶%rec: P¶¶C: 1¶'
+    told "recset -n 0 -f A -s 1 f" 'f: nothing changed'
+    told "recset -f C -s 1 f" 'f: nothing changed' 'f: no record that is selected has a field C; -S adds it'
+    told "recset --dry-run -n 1 -f B,C -s 1 f" 'f: nothing would change' 'f: no record that is selected has a field B,C; -S adds it'
+    told "recset -n 0 -f 'A[1]' -d f" 'f: nothing changed' 'f: no record that is selected has a field A[1]'
+    told "recset -t P -f C -s 1 f" 'f: nothing changed'
+    told "recset -n 0 -f B -S 1 f" 'f: nothing changed'
+    told "recset -e \"A = 3 && Aa[0] = 'A1 \\\\' B1' || #A_1 = 0x1F && Aa != A\" -f A,C -s 1 f" "$none" \
+        'f: no record of the set has a field Aa' 'f: no record of the set has a field A_1' 'f: no record of the set has a field C'
+    told "recset --where A=3 -f B -s 1 ./f" './f: no record is selected'
+    told "recset --where a=3 -f B -s 1 f" "$none" 'f: no record of the set has a field a'
+    told "recset -t P --where A=1 -f A -a 1 f" "$none" 'f: no record of the set has a field A'
+    told "recdel -e 'Aa = 1' f" "$none" 'f: no record of the set has a field Aa'
+    told "recins -q x -f A -v 1 f" "$none"
+    told "recset -n 7 -f D -r E f" "$none" 'f: no record of the set has a field D'
+    only f printed seen
+}
+
+@test "edits that can't be redone any more are told of on a terminal" {
+    # told WORDS LINE..: on a terminal standard error gets these lines
+    told() {
+        TERM=dumb script -qec "'$recu' $1 > printed" /dev/null > seen
+        printf '%s\r\n' "${@:2}" | has seen
+    }
+    put f 'A: 1¶B: 1¶'
+    does recset -f A -s 2 f
+    does recset -f A -s 3 f
+    does recset -f A -s 4 f
+    does undo f
+    told 'recset --dry-run -f A -s 5 f' '1 record would change' "1 edit that was undone couldn't be redone any more"
+    does undo f
+    told 'recset --dry-run -f A -s 5 f' '1 record would change' "2 edits that were undone couldn't be redone any more"
+    told 'recset --dry-run -f A -s 2 f' 'f: nothing would change'
+    recu 0 recset --dry-run -f A -s 5 f
+    prints '--- f¶+++ f¶@@ -1,2 +1,2 @@¶-A: 2¶+A: 5¶ B: 1¶' ''
+    told 'redo --dry-run f' 'it would redo edit 2, recset'
+    told 'recset -f A -s 2 f' 'f: nothing changed'
+    told 'recset -f A -s 5 f' '1 record changed (edit 6)' "2 edits that were undone can't be redone any more"
+    told 'recset -f A -s 6 f' '1 record changed (edit 7)'
+    does undo f
+    told "recset -q '' -f B -s 2 f" '1 record changed (edit 9)' 'every record has the empty text; undo takes the edit back' \
+        "1 edit that was undone can't be redone any more"
+    does recset -f B -s 3 f
+    does undo f
+    told 'revert --dry-run 9 f' 'it would revert edit 9, recset' "1 edit that was undone couldn't be redone any more"
+    told 'revert 9 f' 'reverted: edit 9, recset (edit 12)' "1 edit that was undone can't be redone any more"
+}
+
+@test "a journal that may be another file's" {
+    local said='f: it was changed outside; 1 edit before that'
+    put f 'A: 1¶'
+    put g 'A: 1¶B: 1¶'
+    does recset -f A -s 2 --journal j g
+    recu 0 recset --dry-run -f A -s 2 --journal j f
+    prints '--- f¶+++ f¶@@ -1,1 +1,1 @@¶-A: 1¶+A: 2¶' "$said couldn't be undone any more¶"
+    recu 0 recset -f A -s 2 --journal j f
+    prints '' "$said can't be undone any more¶j: it may be the journal of another file¶"
+    # an earlier text of the file, and the journal beside it
+    does recset -f A -s 3 --journal j f
+    put f 'A: 1¶'
+    recu 0 recset -f A -s 4 --journal j f
+    prints '' "f: it was changed outside; 2 edits before that can't be undone any more¶"
+    put f 'A: 9¶'
+    recu 0 recset -f A -s 5 --journal f.journal f
+    prints '' ''
+    put f 'A: 8¶'
+    recu 0 recset -f A -s 5 --journal f.journal f
+    prints '' "$said can't be undone any more¶"
 }
 
 @test "what is said on a terminal of a revert" {
@@ -79,8 +157,8 @@ load helpers
     told 'reverted: edit 6, batch (edit 7)' revert 6 f
     does undo f
     does recset -f B -d f
-    told 'nothing would change' revert --dry-run 6 f
-    told 'nothing changed' revert 6 f
+    told 'f: nothing would change' revert --dry-run 6 f
+    told 'f: nothing changed' revert 6 f
     has f 'A: 1¶'
 }
 

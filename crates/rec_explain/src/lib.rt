@@ -7,6 +7,7 @@ mod about;
 mod batches;
 mod counters;
 mod descriptors;
+mod dropped;
 mod edit_numbers;
 mod explanation;
 mod files;
@@ -17,6 +18,7 @@ mod refusal;
 mod reports;
 mod requests;
 mod reverts;
+mod unchanged;
 mod undone;
 mod waiting;
 

@@ -2,19 +2,21 @@
 ghost use Rattle.std.specs.Prelude.{All};
 ghost use Rattle.rec_explain.specs.Lines.{AreLines, IsShown};
 
+use crate::about::About;
+use crate::dropped::{say_what_is_dropped, say_what_was_undone};
 use crate::explanation::Explanation;
-use crate::lines::shown::plain;
-use itoa::Buffer;
+use crate::refusal::tried;
+use crate::unchanged::explain_unchanged;
 use rec_text::read;
 use rec_tools::{Ask, EditRequest, NewRecord, Pick, Reply, Request, Tool};
 use std::alloc::{AllocError, Global};
 use std::str;
 
 /// What is said of a command that succeeded: always that it ended the undo of earlier edits, where it did, and on a terminal
-/// what it did. Of a dry run it is said what it would do.
+/// what it did, or why it changed nothing. Of a dry run it is said what it would do.
 pub fn explain_done(
     alloc: Global,
-    file: &str,
+    about: &About<'_>,
     request: &Request,
     reply: &Reply,
     on_terminal: bool,
@@ -24,7 +26,7 @@ pub fn explain_done(
 {
     let mut said = Explanation::new(alloc);
     let is_tried = matches!(request, Request::Preview(_, _));
-    say_what_is_dropped(file, reply, is_tried, &mut said);
+    say_what_is_dropped(about, reply, is_tried, &mut said);
     if on_terminal && !is_of_several(request) {
         say(
             if is_tried {
@@ -34,9 +36,13 @@ pub fn explain_done(
             },
             &mut said,
         );
+        if let Reply::Unchanged { chosen } = reply {
+            explain_unchanged(alloc, about, tried(request), *chosen, is_tried, &mut said);
+        }
         if let (Request::Edit { edit, .. }, Reply::Edited { .. }) = (request, reply) {
             say_what_may_surprise(alloc, edit, &mut said);
         }
+        say_what_was_undone(about, reply, is_tried, &mut said);
     }
     said.into_lines()
 }
@@ -44,28 +50,6 @@ pub fn explain_done(
 /// Whether `explain_through` says what was done.
 fn is_of_several(request: &Request) -> bool {
     matches!(request, Request::Undo(Some(_)) | Request::Redo(Some(_)))
-}
-
-/// Says how many edits can't be undone any more once this one is made, since the file was changed outside.
-fn say_what_is_dropped(file: &str, reply: &Reply, is_tried: bool, said: &mut Explanation) {
-    let Reply::Edited { dropped, .. } = reply else {
-        return;
-    };
-    if *dropped == 0 {
-        return;
-    }
-    let mut digits = Buffer::new();
-    said.add(&[
-        plain(file.as_bytes()).unwrap_or("the file"),
-        ": it was changed outside; ",
-        digits.format(*dropped),
-        if *dropped == 1 { " edit" } else { " edits" },
-        if is_tried {
-            " before that couldn't be undone any more"
-        } else {
-            " before that can't be undone any more"
-        },
-    ]);
 }
 
 /// Says what of an edit that was made may not have been meant.
@@ -113,7 +97,7 @@ pub fn say(line: Result<String, AllocError>, said: &mut Explanation) {
     }
 }
 
-/// What was done. Nothing is said of what only prints.
+/// What was done. Nothing is said of what only prints, and here of what changes nothing.
 pub fn done(alloc: Global, reply: &Reply) -> Result<String, AllocError> {
     match reply {
         Reply::Edited {
@@ -121,10 +105,6 @@ pub fn done(alloc: Global, reply: &Reply) -> Result<String, AllocError> {
             number,
             ..
         } => format!(in alloc; "{changed} {} changed (edit {number})", records(*changed)),
-        Reply::Unchanged { chosen } => String::from_str(
-            alloc,
-            unchanged(*chosen, "nothing changed"),
-        ),
         Reply::Undone(number, tool) => format!(in alloc;
             "undone: edit {number}, {}",
             name_of(*tool)
@@ -140,7 +120,7 @@ pub fn done(alloc: Global, reply: &Reply) -> Result<String, AllocError> {
         Reply::Forgotten(0) => String::from_str(alloc, "nothing forgotten"),
         Reply::Forgotten(1) => String::from_str(alloc, "1 edit forgotten"),
         Reply::Forgotten(count) => format!(in alloc; "{count} edits forgotten"),
-        Reply::Shown | Reply::Violated(_) => Ok(String::new(alloc)),
+        Reply::Shown | Reply::Violated(_) | Reply::Unchanged { .. } => Ok(String::new(alloc)),
     }
 }
 
@@ -149,9 +129,6 @@ fn would(alloc: Global, reply: &Reply) -> Result<String, AllocError> {
     match reply {
         Reply::Edited { changed, .. } => {
             format!(in alloc; "{changed} {} would change", records(*changed))
-        }
-        Reply::Unchanged { chosen } => {
-            String::from_str(alloc, unchanged(*chosen, "nothing would change"))
         }
         Reply::Undone(number, tool) => {
             format!(in alloc; "it would undo edit {number}, {}", name_of(*tool))
@@ -162,15 +139,9 @@ fn would(alloc: Global, reply: &Reply) -> Result<String, AllocError> {
         Reply::Reverted { edit, tool, .. } => {
             format!(in alloc; "it would revert edit {edit}, {}", name_of(*tool))
         }
-        Reply::Shown | Reply::Violated(_) | Reply::Forgotten(_) => Ok(String::new(alloc)),
-    }
-}
-
-/// Why an edit changes nothing: no record is selected, or what is said of others.
-fn unchanged(chosen: Option<usize>, other: &'static str) -> &'static str {
-    match chosen {
-        Some(0) => "no record is selected",
-        _ => other,
+        Reply::Shown | Reply::Violated(_) | Reply::Unchanged { .. } | Reply::Forgotten(_) => {
+            Ok(String::new(alloc))
+        }
     }
 }
 

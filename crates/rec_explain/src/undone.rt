@@ -11,7 +11,7 @@ use std::str;
 pub enum Undone {
     /// None was undone.
     Never,
-    /// As many as this can be redone; the others were redone.
+    /// The number of those that can be redone; the others were redone.
     Left(usize),
     /// An edit dropped those that were left.
     Dropped { count: usize, by: usize },

@@ -96,12 +96,40 @@ fn say_done<D: Disk + Drop>(
     request: &Request,
     reply: &Reply,
 ) {
-    let file = home.path(Which::Base);
     let on_terminal = rt.stderr().is_terminal();
+    let text = match reply {
+        Reply::Unchanged { .. } if on_terminal => text_again(rt, home),
+        _ => None,
+    };
+    let (history, events) = match reply {
+        Reply::Edited { dropped, .. } => {
+            history_before(rt, home, request, on_terminal, *dropped > 0)
+        }
+        Reply::Reverted { .. } => history_before(rt, home, request, on_terminal, false),
+        _ => (None, None),
+    };
+    let about = about(home, &None, &text, &history, &events);
     say(
         rt,
-        &explain_done(rt.alloc(), file, request, reply, on_terminal),
+        &explain_done(rt.alloc(), &about, request, reply, on_terminal),
     );
+}
+
+/// The history of a dry run of an edit, as `history` prints it, or else the bytes of the journal with the edit: on a terminal, or
+/// where edits were dropped.
+fn history_before<D: Disk + Drop>(
+    rt: &HostRuntime,
+    home: &DiskHome<'_, HostRuntime, D>,
+    request: &Request,
+    on_terminal: bool,
+    has_dropped: bool,
+) -> (Option<Vec<u8>>, Option<Bytes>) {
+    match request {
+        Request::Preview(_, _) if on_terminal => (history_again(rt, home), None),
+        Request::Preview(_, _) => (None, None),
+        _ if on_terminal || has_dropped => (None, events_again(rt, home)),
+        _ => (None, None),
+    }
 }
 
 /// Prints the report for which an edit was refused, and gives the text of the file, where a refusal can be about it.
@@ -159,9 +187,17 @@ fn history_for<D: Disk + Drop>(
     home: &DiskHome<'_, HostRuntime, D>,
     fault: &Fault,
 ) -> Option<Vec<u8>> {
-    let (Fault::NoSuchEdit | Fault::Drifted) = fault else {
-        return None;
-    };
+    match fault {
+        Fault::NoSuchEdit | Fault::Drifted => history_again(rt, home),
+        _ => None,
+    }
+}
+
+/// The history as it is now, as `history` prints it.
+fn history_again<D: Disk + Drop>(
+    rt: &HostRuntime,
+    home: &DiskHome<'_, HostRuntime, D>,
+) -> Option<Vec<u8>> {
     let mut again = home_again(rt, home)?;
     let mut out = Output {
         writer: Vec::new(rt.alloc()),
@@ -183,9 +219,18 @@ fn events_for<D: Disk + Drop>(
         Fault::ChangedLater | Fault::Integrity(_) => is_revert(request),
         _ => false,
     };
-    if !is_needed {
-        return None;
+    if is_needed {
+        events_again(rt, home)
+    } else {
+        None
     }
+}
+
+/// The bytes of the journal as they are now.
+fn events_again<D: Disk + Drop>(
+    rt: &HostRuntime,
+    home: &DiskHome<'_, HostRuntime, D>,
+) -> Option<Bytes> {
     home_again(rt, home)?.read(rt.alloc(), Which::Journal).ok()
 }
 

@@ -287,6 +287,7 @@ batch_told() {
     fails_to_store "$empty" recset -f A -s 2 --journal '' f
     fails_to_store "$empty" history --journal '' f
     fails_to_store "$empty" redo --through 1 --journal '' f
+    fails_to_store 'an empty path¶: No such file or directory (os error 2)' batch -b '' f
     has f 'A: 1¶'
     only f
 }

@@ -1,24 +1,50 @@
 //! The file and its journal: one that isn't there or is none, and a history that has no such edit.
+ghost use Rattle.std.specs.Prelude.{All};
+ghost use Rattle.rec_explain.specs.Lines.{AreLines, IsShown};
+
 use crate::about::About;
 use crate::explanation::Explanation;
 use rec_tools::{EditRequest, Fault, Request};
+use std::alloc::Global;
+
+/// What is said of an empty path.
+const EMPTY: &str = "an empty path";
+
+/// A line that says that a path is empty.
+pub fn explain_empty(alloc: Global) -> Vec<u8>
+    ensures shown { All IsShown result.items }
+    ensures whole { AreLines result.items }
+{
+    let mut said = Explanation::new(alloc);
+    said.add(&[EMPTY]);
+    said.into_lines()
+}
 
 /// Says that a path is empty, or else how a file begins, where one that is missing was to get a record.
 pub fn explain_unread(about: &About<'_>, request: &Request, said: &mut Explanation) {
-    if has_empty_path(about) {
-        said.add(&["an empty path"]);
+    if has_empty_path(about, request) {
+        said.add(&[EMPTY]);
     } else {
         explain_missing(about, request, said);
     }
 }
 
-/// Whether the path of the file or of its journal is empty. That of standard input is empty too, which can't be missing.
-fn has_empty_path(about: &About<'_>) -> bool {
+/// Whether the path of the file or of its journal is empty. So is that of standard input, which can't be missing, and that of the
+/// journal where a request needs none.
+fn has_empty_path(about: &About<'_>, request: &Request) -> bool {
     if about.file.is_empty() {
         about.is_missing
     } else {
-        about.journal.is_empty()
+        about.journal.is_empty() && !is_of_file(request)
     }
+}
+
+/// Whether a request is on the file alone.
+fn is_of_file(request: &Request) -> bool {
+    matches!(
+        request,
+        Request::Show { .. } | Request::Info { .. } | Request::Check
+    )
 }
 
 /// Says how a file begins, where one that is missing was to get a record.

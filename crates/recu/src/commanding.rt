@@ -8,7 +8,7 @@ ghost use Rattle.recu.specs.Answers.{out_of, HasLostReader, IsAnswerTo, IsAnswer
 ghost use Rattle.recu.specs.Answers.{IsHomeFor, IsRequestOf};
 
 use crate::answering::answer_by;
-use crate::saying::{say_more, say_waiting};
+use crate::saying::{say_empty, say_more, say_waiting};
 use rec_command::{CommandLine, Order, Refusal, batch_request, finish, parse};
 use rec_disk::Disk;
 use rec_files::{DiskHome, StandardOutput, access_of, batch_text, explain_output};
@@ -175,6 +175,7 @@ fn request_of<D: Disk>(
             force,
             preview,
         } => {
+            say_empty(rt, path.as_str());
             let text = batch_text(rt, disk, path.as_str())?;
             let request = batch_request(rt.alloc(), text, force, preview)?;
             Ok((request, Some(path)))

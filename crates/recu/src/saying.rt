@@ -4,7 +4,8 @@ ghost use Rattle.rec_files.specs.Succeeding.{IsShut};
 
 use rec_disk::{Disk, HostDisk};
 use rec_explain::{
-    About, explain, explain_done, explain_endings, explain_report, explain_through, explain_waiting,
+    About, explain, explain_done, explain_empty, explain_endings, explain_report, explain_through,
+    explain_waiting,
 };
 use rec_files::{Access, DiskHome};
 use rec_select::write_report;
@@ -16,6 +17,13 @@ use std::rt::Runtime;
 pub fn say_waiting(rt: &HostRuntime, request: &Request) {
     if rt.stdin().is_terminal() && rt.stderr().is_terminal() {
         say(rt, &explain_waiting(rt.alloc(), request));
+    }
+}
+
+/// Says that the path of a batch is empty, if it is: then no file is found.
+pub fn say_empty(rt: &HostRuntime, path: &str) {
+    if path.is_empty() {
+        say(rt, &explain_empty(rt.alloc()));
     }
 }
 

@@ -52,16 +52,19 @@ pub fn explain_deletion(
     if let Some(text) = about.text
         && let Ok(file) = RecFile::read(alloc, text)
     {
-        let count = count_of_all(&file, pick);
-        let mut digits = Buffer::new();
-        said.add(&[
-            about.file,
-            ": --force would ",
-            verb_of(edit),
-            digits.format(count),
-            records_for(count),
-        ]);
+        say_count(about.file, verb_of(edit), count_of_all(&file, pick), said);
     }
+}
+
+fn say_count<'x>(file: &'x str, verb: &'x str, count: usize, said: &mut Explanation) {
+    let mut digits = Buffer::new();
+    said.add(&[
+        file,
+        ": --force would ",
+        verb,
+        digits.format(count),
+        if count == 1 { " record" } else { " records" },
+    ]);
 }
 
 /// The records that an edit deletes or comments out.
@@ -78,10 +81,6 @@ fn verb_of(edit: &EditRequest) -> &'static str {
         EditRequest::CommentOut(_) => "comment out ",
         _ => "delete ",
     }
-}
-
-fn records_for(count: usize) -> &'static str {
-    if count == 1 { " record" } else { " records" }
 }
 
 /// How many records the set has that is meant.

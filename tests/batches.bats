@@ -229,7 +229,7 @@ batched() {
     put changes "$changes"
     mkdir d
     fails_to_store 'missing: No such file or directory (os error 2)' batch -b missing db.rec
-    fails_to_store ': No such file or directory (os error 2)' batch -b '' db.rec
+    fails_to_store 'an empty path¶: No such file or directory (os error 2)' batch -b '' db.rec
     fails_to_store 'd: Is a directory (os error 21)' batch -b d db.rec
     fails_to_store 'changes/x: Not a directory (os error 20)' batch -b changes/x db.rec
     fails_to_store './-: No such file or directory (os error 2)' batch -b ./- db.rec

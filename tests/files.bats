@@ -11,8 +11,8 @@ teardown() {
     put db.rec "$three"
     mkdir d
     fails_to_store 'missing: No such file or directory (os error 2)' undo missing
-    fails_to_store ': No such file or directory (os error 2)' recdel -n 0 ''
-    fails_to_store ': No such file or directory (os error 2)' recdel -n 0 --journal '' db.rec
+    fails_to_store ': No such file or directory (os error 2)¶an empty path' recdel -n 0 ''
+    fails_to_store ': No such file or directory (os error 2)¶an empty path' recdel -n 0 --journal '' db.rec
     fails_to_store 'd: Is a directory (os error 21)' recdel -n 0 d
     fails_to_store 'd: not a regular file' undo --journal d db.rec
     fails_to_store 'db.rec/x: Not a directory (os error 20)' undo db.rec/x

@@ -9,7 +9,7 @@ error='No such file or directory (os error 2)'
     local tool
     for tool in recsel recinf; do
         fails_to_store "missing: $error" "$tool" missing
-        fails_to_store ": $error" "$tool" ''
+        fails_to_store ": $error¶an empty path" "$tool" ''
         fails_to_store 'd: Is a directory (os error 21)' "$tool" d
         input=d fails_to_store 'standard input: Is a directory (os error 21)' "$tool"
     done

@@ -319,7 +319,7 @@ flag() {
 # is_missing NAME WORDS: where no file is, the words ask for that one
 is_missing() {
     eval "recu 1 $2"
-    [ "$(head -n 1 "$BATS_TEST_TMPDIR/err")" = "$1: No such file or directory (os error 2)" ] ||
+    grep -qxF -- "$1: No such file or directory (os error 2)" "$BATS_TEST_TMPDIR/err" ||
         fail "it is not that $1 is missing:" "$(cat "$BATS_TEST_TMPDIR/err")"
     is_refused 'a file could not be read or written'
     only

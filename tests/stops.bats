@@ -467,8 +467,8 @@ closed() {
     exec 4<> pipe 5> pipe 4<&-
     rm pipe
     for tool in 'recsel db.rec' 'recinf db.rec' 'history db.rec' 'recfix rules.rec'; do
-        closed 1 $tool
-        has err "$store_failed"
+        closed 141 $tool
+        has err ''
         cmp db.rec before/db.rec
         cmp db.rec.journal before/db.rec.journal
     done

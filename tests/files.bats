@@ -13,7 +13,7 @@ teardown() {
     fails_to_store 'missing: No such file or directory (os error 2)' undo missing
     fails_to_store ': No such file or directory (os error 2)¶an empty path' recdel -n 0 ''
     fails_to_store ': No such file or directory (os error 2)¶an empty path' recdel -n 0 --journal '' db.rec
-    fails_to_store 'd: Is a directory (os error 21)' recdel -n 0 d
+    fails_to_store 'd: not a regular file' recdel -n 0 d
     fails_to_store 'd: not a regular file' undo --journal d db.rec
     fails_to_store 'db.rec/x: Not a directory (os error 20)' undo db.rec/x
     fails_to_store 'db.rec/x: Not a directory (os error 20)' undo --journal db.rec/x db.rec
@@ -167,18 +167,54 @@ have_modes() {
     only db.rec link
 }
 
-@test "pipes and devices are not replaced" {
+# reads_journal RUN: each command that reads a journal is run so, with what stands in its line of `words`, and then with --dry-run
+# where it has one
+reads_journal() {
+    local words
+    put changes 'Tool: recdel¶Number: 0¶'
+    for words in 'recins -f A -v 4' 'recdel -n 0' 'recset -n 0 -f A -s 9' 'recfix --auto' 'batch -b changes' 'revert 1' undo redo; do
+        "$@" $words
+        "$@" $words --dry-run
+    done
+    for words in 'undo --through 1' 'redo --through 1' 'forget 0' history 'history --patch' show 'show 1'; do
+        "$@" $words
+    done
+    rm changes
+}
+
+# A pipe that nobody writes would keep its reader waiting.
+@test "what is no regular file is no file to edit, and no journal, and is refused at once" {
+    local name
+    as_user=(timeout 20)
     put db.rec "$three"
+    mkdir folder
     mkfifo pipe
-    timeout 20 bash -c 'cat db.rec > pipe' 3>&- &
-    local writer=$!
-    fails_to_store 'pipe: not a regular file' recdel -n 0 pipe
-    wait "$writer"
-    fails_to_store 'pipe: not a regular file' recdel -n 0 --journal pipe db.rec
-    ln -s /dev/null device
-    refuses 'nothing to undo' undo device
+    ln -s pipe link
+    ln -s /dev/zero device
+    python3 -c 'import socket; socket.socket(socket.AF_UNIX).bind("socket")'
+    as_file() {
+        fails_to_store "$name: not a regular file" "$@" "$name"
+    }
+    as_journal() {
+        fails_to_store "$name: not a regular file" "$@" --journal "$name" db.rec
+    }
+    for name in folder pipe link device socket; do
+        reads_journal fast as_file
+        reads_journal fast as_journal
+    done
     has db.rec "$three"
-    only db.rec device pipe
+    only db.rec device folder link pipe socket
+}
+
+@test "standard input is no file to edit" {
+    put db.rec "$three"
+    as_piped() {
+        ends 1 timeout 20 bash -c 'cat db.rec | "$@" /dev/stdin' '' "$recu" "$@"
+        prints '' "/dev/stdin: not a regular file¶$store_failed"
+    }
+    reads_journal fast as_piped
+    has db.rec "$three"
+    only db.rec
 }
 
 @test "a file that may not be written" {

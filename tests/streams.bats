@@ -66,14 +66,22 @@ error='No such file or directory (os error 2)'
     only db.rec
 }
 
+# from_pipe OUT WORD..: what is written into a named pipe is read by these words, which print that
+from_pipe() {
+    timeout 20 bash -c 'cat db.rec > pipe' 3>&- &
+    local writer=$!
+    recu 0 "${@:2}" pipe
+    wait "$writer"
+    prints "$1" ''
+}
+
 @test "a named pipe is read" {
     put db.rec 'A: 1¶'
     mkfifo pipe
-    timeout 20 bash -c 'cat db.rec > pipe' 3>&- &
-    local writer=$!
-    recu 0 recsel pipe
-    wait "$writer"
-    prints 'A: 1¶' ''
+    from_pipe 'A: 1¶' recsel
+    from_pipe '1¶' recinf
+    from_pipe '' recfix
+    from_pipe '' recfix --check
     only db.rec pipe
 }
 

@@ -249,6 +249,16 @@ NotesRead leads regular old new story (got Journal bytes) = (new.old_file ≡ ol
     × IsSomeAnd new.old_journal (λ journal. Told story (IsReadFree leads regular old.journal journal.look))
 NotesRead leads regular old new story _ = Unit {0}
 
+-- what stands at a path is a regular file, or nothing does
+abbrev pub IsRegularAt : (List ℕ → List ℕ) → (ℕ → Bool) → List ℕ → State → Type 0
+IsRegularAt leads regular path s = IfSome (s.at (leads path)) (λ n. regular n ≡ true)
+
+-- a home with a journal reads regular files alone, standard input aside; one without one reads a pipe too
+abbrev pub ReadsRegular : (List ℕ → List ℕ) → (ℕ → Bool) → Kept → Option Story → Call → Type 0
+ReadsRegular leads regular kept story (got which bytes) = kept.journal ≢ [] → IfSome kept.file (λ _.
+    Told story (IsRegularAt leads regular (path_of kept.file kept.journal which)))
+ReadsRegular leads regular kept story _ = Unit {0}
+
 -- both stand as it is noted of them
 abbrev pub AreAsNoted : (List ℕ → List ℕ) → Kept → State → Type 0
 AreAsNoted leads kept s =
@@ -261,11 +271,12 @@ ReplacesNoted leads kept old (put_all writes) new = Told old (AreAsNoted leads k
 ReplacesNoted leads kept old (put_some writes k) new = (new ≡ old) ⊎ Told old (AreAsNoted leads kept)
 ReplacesNoted leads kept old _ new = Unit {0}
 
--- what a home may do stays; one that may write reads nothing that another program has locked, and notes what it reads;
--- and nothing is replaced but what is noted
+-- what a home may do stays; one with a journal reads regular files alone; one that may write reads nothing that another
+-- program has locked, and notes what it reads; and nothing is replaced but what is noted
 pub record IsCareful (leads : List ℕ → List ℕ) (regular : ℕ → Bool) (kept now : Kept) (old : Option Story) (call : Call)
     (new : Option Story) : Type 0 where
   pub access : now.access ≡ kept.access
+  pub only_regular : ReadsRegular leads regular kept old call
   pub reads : kept.access ≡ Changes → NotesRead leads regular kept now old call
   pub puts : ReplacesNoted leads kept old call new
 

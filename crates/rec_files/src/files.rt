@@ -12,6 +12,7 @@ ghost use Rattle.rec_tools.specs.Home.{got};
 ghost use Rattle.rec_files.specs.OnDisk.{or_empty, contents_on, places_by, IsReadOf};
 ghost use Rattle.rec_files.specs.Paths.{path_of};
 ghost use Rattle.rec_files.specs.Succeeding.{HomeGoes, IsTold, IsShort, IsThere, IsReadable, IsShut, NotesRead, kept};
+ghost use Rattle.rec_files.specs.Succeeding.{IsRegularAt, ReadsRegular};
 ghost use Rattle.rec_files.specs.proving.Succeeding.{Succeeds, IsOwnJournal};
 
 use crate::access::Access;
@@ -174,6 +175,8 @@ impl<'r, R: Input + AllocGlobal, D: Disk + Drop> DiskHome<'r, R, D> {
             (option_and_then (λ file. option_map (λ opened. D.tells opened.seen) file.old) self.old.both.file) which))
             result }
         ensures access { self.new.access ≡ self.old.access }
+        ensures regular { IfOk result (λ bytes. ReadsRegular D.leads D.regular (kept D.number D.tells self.old)
+            (D.story self.old.disk) (got which bytes.items)) }
         ensures noted { self.old.access ≡ Access.Change → IfOk result (λ bytes. NotesRead D.leads D.regular
             (kept D.number D.tells self.old) (kept D.number D.tells self.new) (D.story self.old.disk)
             (got which bytes.items)) }
@@ -182,8 +185,9 @@ impl<'r, R: Input + AllocGlobal, D: Disk + Drop> DiskHome<'r, R, D> {
             return read_rest(which, Vec::new(alloc), self.rt.reader());
         }
         let path = path_in(&self.file, &self.journal, which);
+        let only_regular = !self.journal.is_empty();
         match self.access {
-            Access::Look => look_at(&mut self.disk, alloc, which, path, &self.file),
+            Access::Look => look_at(&mut self.disk, alloc, which, path, &self.file, only_regular),
             Access::Change => self.both.read(&mut self.disk, alloc, which, path),
         }
     }
@@ -197,10 +201,7 @@ impl<'r, R: Files<File = File> + Input + AllocGlobal + Copy> DiskHome<'r, R, Hos
     {
         let path = self.file.as_ref()?.as_str();
         let mut disk = HostDisk::new(*self.rt);
-        if !HostDisk::<R>::is_regular(&disk.status_after_links(path).ok()?) {
-            return None;
-        }
-        look_at(&mut disk, alloc, Which::Base, path, &self.file).ok()
+        look_at(&mut disk, alloc, Which::Base, path, &self.file, true).ok()
     }
 }
 
@@ -286,16 +287,20 @@ fn look_at<D: Disk>(
     which: Which,
     path: &str,
     other: &Option<String>,
+    only_regular: bool,
 ) -> io::Result<Vec<u8>>
     ensures same { D.story disk.new ≡ D.story disk.old }
     ensures whole { IfOk result (λ bytes. Told (D.story disk.old)
         (λ s. bytes.items ≡ or_empty (shown s.bytes (s.at (D.leads path.now))))) }
     ensures there { which ≡ Which.Base → OnOk result (Told (D.story disk.old) (λ s. IsSome (s.at (D.leads path.now)))) }
+    ensures regular { only_regular ≡ true
+        → OnOk result (Told (D.story disk.old) (IsRegularAt D.leads D.regular path.now)) }
     ensures succeeds { Succeeds IsMemory (D.works disk.old) (D.works disk.new) (IsTold (D.story disk.old)
-        (λ s. IsThere which path.now (λ n. IsShort s n × (which ≡ Which.Journal → IsOwnJournal D.regular
+        (λ s. (only_regular ≡ true → IsRegularAt D.leads D.regular path.now s)
+        × IsThere which path.now (λ n. IsShort s n × (which ≡ Which.Journal → IsOwnJournal
         (option_map (λ file. s.at (D.leads (string_bytes file))) other.now) n)) (s.at (D.leads path.now)))) result }
 {
-    match open(disk, which, path) {
+    match open(disk, path, only_regular) {
         Ok(file) => {
             if is_the_file(disk, which, other, &file)? {
                 return Err(one_file());
@@ -309,18 +314,20 @@ fn look_at<D: Disk>(
     }
 }
 
-/// Opens a file to read it. A journal is one of recu's own files, so it is no pipe that keeps a reader waiting.
-fn open<D: Disk>(disk: &mut D, which: Which, path: &str) -> io::Result<D::File>
+/// Opens a file to read it. Where only a regular one is wanted, no other is opened: a pipe would keep the reader waiting.
+fn open<D: Disk>(disk: &mut D, path: &str, only_regular: bool) -> io::Result<D::File>
     ensures same { D.story disk.new ≡ D.story disk.old }
     ensures opened { IfOk result (λ file. Told (D.story disk.old)
         (λ s. s.at (D.leads path.now) ≡ Some (D.number file))) }
+    ensures regular { only_regular ≡ true
+        → OnOk result (Told (D.story disk.old) (IsRegularAt D.leads D.regular path.now)) }
     ensures missing { IfErr result (λ error. error_kind error ≡ ErrorKind.NotFound
         → Told (D.story disk.old) (λ s. s.at (D.leads path.now) ≡ None)) }
     ensures succeeds { Succeeds (λ error. IsMemory error ⊎ (error_kind error ≡ ErrorKind.NotFound)) (D.works disk.old)
         (D.works disk.new) (IsTold (D.story disk.old)
-        (λ s. which ≡ Which.Journal → IfSome (s.at (D.leads path.now)) (λ n. D.regular n ≡ true))) result }
+        (λ s. only_regular ≡ true → IsRegularAt D.leads D.regular path.now s)) result }
 {
-    if which == Which::Journal && !D::is_regular(&disk.status_after_links(path)?) {
+    if only_regular && !D::is_regular(&disk.status_after_links(path)?) {
         return Err(not_regular());
     }
     disk.open(path)

@@ -21,7 +21,7 @@ if_some (Some n) Q all = all n refl
 pub fault_careful : (leads : List ℕ → List ℕ) (regular : ℕ → Bool) (kept now : Kept) (o n : Option Story) (which : Which) (fault : Fault) → fault ≡ StoreFailed → now.access ≡ kept.access
     → IsCareful leads regular kept now o (read_call which (Err fault)) n
 fault_careful leads regular kept now o n which fault is access =
-    subst (λ fault. IsCareful leads regular kept now o (read_call which (Err fault)) n) (sym is) (record { access = access; reads = λ changes. tt; puts = tt })
+    subst (λ fault. IsCareful leads regular kept now o (read_call which (Err fault)) n) (sym is) (record { access = access; only_regular = tt; reads = λ changes. tt; puts = tt })
 
 module _ {X : Type 0} (knows : X → Known) (leads : List ℕ → List ℕ) (access : Access) (journal_path : List ℕ) where
   abbrev home : Option (List ℕ) → Option X → Option X → Kept

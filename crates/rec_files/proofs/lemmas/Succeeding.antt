@@ -16,7 +16,7 @@ use Rattle.rec_files.specs.declared.failure.Failure.{Failure}
 use Rattle.rec_files.specs.declared.open_file.OpenFile.{OpenFile}
 use Rattle.rec_files.specs.declared.target.Target.{Target}
 use Rattle.rec_files.specs.Succeeding.{FailedForMemory, Kept, IsExcused, IsTold, Known, known, HasSeen, SawAnother, SawRegular, StandsAsSeen, AreUnchanged, AreApart, IsOther, IsShort}
-use Rattle.rec_files.specs.Succeeding.{CanPut, CanCompare, CanClear, CanPrepare, IsThere, IsReadable}
+use Rattle.rec_files.specs.Succeeding.{CanPut, CanCompare, CanClear, CanPrepare, IsThere, IsReadable, IsRegularAt}
 use Rattle.rec_tools.specs.declared.home.Which.{Which}
 use Rattle.rec_tools.specs.declared.home.Which.TheVariants.{Base, Journal}
 use Rattle.rec_files.specs.declared.access.Access.{Access}
@@ -507,32 +507,56 @@ module _ {X : Type 0} (number : X → ℕ) (seen : X → Option Look) (which : W
 
 -- ---- a look
 
+-- what could not be opened is missing, which only a journal may be, or memory ran out
+pub look_failed : (which : Which) (path : List ℕ) (R : State → Type 0) (P : State → ℕ → Type 0) (p : List ℕ) (o : Option Story) (M N : Type 0)
+    → IsTold o (λ s. R s × IsThere which path (P s) (s.at p)) → (IsTold o R → M ⊎ N) → (N → Told o (λ s. s.at p ≡ None)) → (which ≡ Journal → path ≢ [] → N → ⊥) → M
+look_failed which path R P p None M N given failed missing taken = absurd given
+look_failed Base path R P p (Some a) M N given failed missing taken =
+    elim (failed given.0) [
+      | inl memory ↦ memory
+      | inr gone ↦ absurd (subst (λ found. IsSomeAnd found (P a.now)) (missing gone) given.1)
+    ]
+look_failed Journal path R P p (Some a) M N given failed missing taken =
+    elim (failed given.0) [
+      | inl memory ↦ memory
+      | inr gone ↦ absurd (taken refl (subst (IsThere Journal path (P a.now)) (missing gone) given.1) gone)
+    ]
+
 module _ {X : Type 0} (text : X → List ℕ) (leads : List ℕ → List ℕ) (link : List ℕ → Option (List ℕ)) (regular : ℕ → Bool) (seen : Option (Option Look)) (journal : List ℕ) where
   -- what `look_at` asks of what stands there
   abbrev IsLooked : Which → Option X → State → ℕ → Type 0
-  IsLooked which file s n = IsShort s n × (which ≡ Journal → IsOwnJournal regular (option_map (λ x. s.at (leads (text x))) file) n)
+  IsLooked which file s n = IsShort s n × (which ≡ Journal → IsOwnJournal (option_map (λ x. s.at (leads (text x))) file) n)
 
-  own : (file : Option X) (s : State) (n : ℕ) → regular n ≡ true → IfSome (option_map text file) (λ p. IsSomeAnd (s.at (leads p)) (λ m. m ≢ n))
-      → IsOwnJournal regular (option_map (λ x. s.at (leads (text x))) file) n
-  own None s n is apart = record { is_regular = is; no_file = tt }
-  own (Some x) s n is apart = record { is_regular = is; no_file = apart }
+  abbrev CanLook : Bool → Which → Option X → List ℕ → State → Type 0
+  CanLook only which file path s = (only ≡ true → IsRegularAt leads regular path s) × IsThere which path (IsLooked which file s) (s.at (leads path))
+
+  own : (file : Option X) (s : State) (n : ℕ) → IfSome (option_map text file) (λ p. IsSomeAnd (s.at (leads p)) (λ m. m ≢ n))
+      → IsOwnJournal (option_map (λ x. s.at (leads (text x))) file) n
+  own None s n apart = tt
+  own (Some x) s n apart = apart
 
   own_there : (file : Option X) (s : State) (p : List ℕ) (found : Option ℕ) → IsThere Journal p (λ n. IsShort s n × (regular n ≡ true)) found
       → IfSome found (λ n. IfSome (option_map text file) (λ p. IsSomeAnd (s.at (leads p)) (λ m. m ≢ n))) → IsThere Journal p (IsLooked Journal file s) found
   own_there file s p None there apart = there
-  own_there file s p (Some n) there apart = (there.0, λ _. own file s n there.1 apart)
+  own_there file s p (Some n) there apart = (there.0, λ _. own file s n apart)
+
+  regular_there : (which : Which) (s : State) (p : List ℕ) (found : Option ℕ) → IsThere which p (λ n. IsShort s n × (regular n ≡ true)) found → IfSome found (λ n. regular n ≡ true)
+  regular_there Base s p None there = absurd there
+  regular_there Base s p (Some n) there = there.1
+  regular_there Journal s p None there = tt
+  regular_there Journal s p (Some n) there = there.1
 
   looked : (which : Which) (file : Option X) (s : State) → IsReadable leads link regular Looks (option_map text file) journal seen which s
       → IsThere which (path_of (option_map text file) journal which) (IsLooked which file s) (s.at (leads (path_of (option_map text file) journal which)))
   looked Base file s may = some_so _ _ (IsLooked Base file s) (λ n is. (is.0, λ never. cc)) may.there
   looked Journal file s may = own_there file s _ _ may.there (may.apart refl refl)
 
-  pub readable_looked : (which : Which) (file : Option X) (path : List ℕ) (access : Access) (o : Option Story) → path ≡ path_of (option_map text file) journal which → access ≡ Looks
-      → IsTold o (IsReadable leads link regular access (option_map text file) journal seen which)
-      → IsTold o (λ s. IsThere which path (IsLooked which file s) (s.at (leads path)))
-  readable_looked which file path access o is looks given =
-      subst (λ path. IsTold o (λ s. IsThere which path (IsLooked which file s) (s.at (leads path)))) (sym is)
-      (still_so _ _ o (looked which file) (subst (λ access. IsTold o (IsReadable leads link regular access (option_map text file) journal seen which)) looks given))
+  pub readable_looked : (only : Bool) (which : Which) (file : Option X) (path : List ℕ) (access : Access) (o : Option Story) → path ≡ path_of (option_map text file) journal which
+      → access ≡ Looks → IsTold o (IsReadable leads link regular access (option_map text file) journal seen which) → IsTold o (CanLook only which file path)
+  readable_looked only which file path access o is looks given =
+      subst (λ path. IsTold o (CanLook only which file path)) (sym is)
+      (still_so _ _ o (λ s may. (λ _. regular_there which s _ _ may.there, looked which file s may))
+      (subst (λ access. IsTold o (IsReadable leads link regular access (option_map text file) journal seen which)) looks given))
 
 -- ---- a call of the home
 

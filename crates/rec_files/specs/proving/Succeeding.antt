@@ -74,7 +74,6 @@ pub record IsNoted (place leads : List ℕ → List ℕ) (link : List ℕ → Op
   pub stands : StandsAsSeen place leads known s
   pub ends : end_of link 40 path ≡ Some known.path
 
--- a journal to look at: a regular file, which is not the file itself; and that one stands there, where it has a path
-pub record IsOwnJournal (regular : ℕ → Bool) (file : Option (Option ℕ)) (n : ℕ) : Type 0 where
-  pub is_regular : regular n ≡ true
-  pub no_file : IfSome file (λ found. IsSomeAnd found (λ m. m ≢ n))
+-- a journal to look at is not the file itself; and that one stands there, where it has a path
+abbrev pub IsOwnJournal : Option (Option ℕ) → ℕ → Type 0
+IsOwnJournal file n = IfSome file (λ found. IsSomeAnd found (λ m. m ≢ n))

@@ -23,6 +23,7 @@ returns-in-Ok-clause-call g c = (
       },
       record {
         access = refl;
+        only_regular = tt;
         reads = λ changes. tt;
         puts =
             finds_noted (known g.D.Disk.number g.D.Disk.tells) g.D.Disk.leads c.args.self.now.access (string_bytes c.args.self.now.journal)
@@ -56,6 +57,7 @@ returns-in-Err-clause-call g c =
       },
       record {
         access = c.fail.ensures.access;
+        only_regular = tt;
         reads = λ changes. tt;
         puts =
             only_noted (known g.D.Disk.number g.D.Disk.tells) g.D.Disk.leads c.args.self.now.access (string_bytes c.args.self.now.journal)

@@ -3,7 +3,7 @@ use Rattle.std.proofs.Common.{ap, subst, sym, ◌∙◌}
 use Rattle.rec_disk.specs.Disk.{Told}
 use Rattle.rec_tools.specs.Home.{got, CountsOne}
 use Rattle.rec_files.specs.OnDisk.{places_by, IsReadOf}
-use Rattle.rec_files.specs.Succeeding.{IsTold, IsReadable, NotesRead, kept, known}
+use Rattle.rec_files.specs.Succeeding.{IsTold, IsReadable, NotesRead, ReadsRegular, kept, known}
 use Rattle.rec_files.proofs.lemmas.Home.{if_mapped, read_got, read_lacked, read_unread}
 use Rattle.rec_files.proofs.lemmas.Noting.{fault_careful}
 use Rattle.rec_files.proofs.lemmas.Succeeding.{read_excused, noted_memory, seen_file, told_fact}
@@ -26,6 +26,9 @@ returns-in-Ok-clause-call g c =
         record { works_still = λ works. (c.bytes_of.ensures.succeeds works).0; for_memory = λ works had. absurd (told_fact ⊥ _ had) },
         record {
           access = c.bytes_of.ensures.access;
+          only_regular =
+              subst (λ bytes. ReadsRegular g.D.Disk.leads g.D.Disk.regular (kept g.D.Disk.number g.D.Disk.tells home) (g.D.Disk.story home.disk) (got c.args.which bytes)) (sym is)
+              c.in-Ok.ensures.regular;
           reads = λ changes.
               subst (λ bytes.
               NotesRead g.D.Disk.leads g.D.Disk.regular (kept g.D.Disk.number g.D.Disk.tells home) (kept g.D.Disk.number g.D.Disk.tells after)
@@ -48,7 +51,7 @@ returns-in-Err-clause-call g c =
           c.bytes_of.ensures.same c.bytes_of.ensures.kept,
       (
         record { works_still = λ works. (c.bytes_of.ensures.succeeds works).0; for_memory = λ works had. absurd (told_fact ⊥ _ had) },
-        record { access = c.bytes_of.ensures.access; reads = λ changes. tt; puts = tt },
+        record { access = c.bytes_of.ensures.access; only_regular = tt; reads = λ changes. tt; puts = tt },
       ),
     )
 

@@ -1,6 +1,6 @@
-//! A call of `rec_check`.
-use rec_check::RecFile;
-use rec_text::Fault;
+//! Calls of `rec_check`.
+use rec_check::{RecFile, type_named};
+use rec_text::{Fault, read};
 use std::alloc::Global;
 
 /// `Schema::next_auto`, of a set whose greatest integer stands in two joined lines.
@@ -11,4 +11,13 @@ pub fn a_counter_goes_on(alloc: Global) -> Result<bool, Fault> {
         return Ok(false);
     }
     Ok(schema.next_auto(alloc, file.database(), 1, b"A")? == 13)
+}
+
+/// `type_named`, of a record with two names, of which the first has two words.
+pub fn a_record_names_a_type(alloc: Global) -> Result<bool, Fault> {
+    let text = read(alloc, b"A: 1\n%rec:  P  http://x\n%rec: Q\n")?;
+    match type_named(alloc, text.elements())? {
+        Some(named) => Ok(named.as_slice() == b"P".as_slice()),
+        None => Ok(false),
+    }
 }

@@ -39,6 +39,7 @@ fn run(alloc: Global, log: &mut Log) {
         texts::paragraphs_are_told,
         expressions::an_expression_selects,
         checks::a_counter_goes_on,
+        checks::a_record_names_a_type,
         journals::a_patch_leads_back,
         journals::an_edit_is_planned,
         journals::an_undo_is_planned,

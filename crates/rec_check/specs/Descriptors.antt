@@ -59,6 +59,10 @@ type_of pieces = option_map (λ piece. first_word (words (value_of piece))) (fin
 abbrev pub types_of : List Piece → List (Range ℕ) → List (Option (List ℕ))
 types_of pieces records = map (λ own_range. type_of (elements_in pieces own_range)) records
 
+-- the type that a record's elements name, or else the one of the record before it
+abbrev pub type_after : Option (List ℕ) → List Piece → Option (List ℕ)
+type_after record_type own = elim (type_of own) [ None ↦ record_type | Some named ↦ Some named ]
+
 -- ---- sizes
 
 -- the operator that comes first, the longest one, and what follows it

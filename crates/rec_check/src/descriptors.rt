@@ -1,5 +1,5 @@
 //! Reads descriptors: their words, their types and their rules.
-mod descriptor;
+pub mod descriptor;
 pub mod descriptor_fault;
 pub mod draft;
 pub mod patterns;

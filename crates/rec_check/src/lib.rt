@@ -13,6 +13,7 @@ mod schema;
 mod set;
 
 pub use automatic::counter::Counter;
+pub use descriptors::descriptor::type_named;
 pub use laws::{new_descriptor, one_check, one_meaning, one_report, one_schema, same_descriptors};
 pub use rec_file::RecFile;
 pub use rec_text::{Bytes, Database, Element, Fault, Rule, Violation};

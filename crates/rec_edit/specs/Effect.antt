@@ -10,7 +10,8 @@ use Rattle.rec_sex.specs.declared.lists.field_list.Item.{Item}
 use Rattle.rec_sex.specs.Lists.{picks}
 use Rattle.rec_check.specs.declared.set.Set_.{Set_}
 use Rattle.rec_check.specs.Automatic.{automatic_names}
-use Rattle.rec_check.specs.Descriptors.{rec_name, holds_index, type_of}
+use Rattle.rec_check.specs.Descriptors.{rec_name, holds_index}
+pub use Rattle.rec_check.specs.Descriptors.{type_after}
 use Rattle.rec_check.specs.Schemas.{Described}
 use Rattle.rec_check.specs.Sets.{is_of_type}
 use Rattle.rec_check.specs.Violations.{names_of}
@@ -29,10 +30,6 @@ use Rattle.rec_edit.specs.Automatic.{AreAutomatic, lacking}
 pub record TypedRecord : Type 0 where
   pub record_type : Option (List ℕ)
   pub own : List Piece
-
--- the type that this record names, or else the one of the record before it
-abbrev pub type_after : Option (List ℕ) → List Piece → Option (List ℕ)
-type_after record_type own = elim (type_of own) [ None ↦ record_type | Some named ↦ Some named ]
 
 abbrev pub typed_records : Option (List ℕ) → List (List Piece) → List TypedRecord
 typed_records record_type [] = []

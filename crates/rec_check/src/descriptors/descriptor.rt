@@ -1,9 +1,11 @@
 //! The fields of a descriptor.
-ghost use Rattle.std.specs.Prelude.{◌≡◌, ◌++◌, [], false, Some, option_map, slice_get, unwrap_or};
+ghost use Rattle.std.specs.Prelude.{◌≡◌, ◌++◌, [], false, Some, find, option_map, slice_get, unwrap_or, IfOk, IfErr};
+ghost use Rattle.rec_text.specs.declared.fault.Fault.TheVariants.{OutOfMemory};
 ghost use Rattle.std.specs.List.{list_all};
 ghost use Rattle.std.specs.Option.{is_some};
 ghost use Rattle.rec_text.specs.Canonical.{is_field_name as may_name_a_field};
 ghost use Rattle.rec_text.specs.Places.{piece_of, pieces_of};
+ghost use Rattle.rec_text.specs.Values.{value_of};
 ghost use Rattle.rec_sex.specs.Expressions.{ExpressionMayBeRefused};
 ghost use Rattle.rec_text.specs.Elements.{has_name};
 ghost use Rattle.rec_check.specs.Descriptors.{bad_unless, rec_flaw, first_word, rec_name, type_of, bound_in, special_flaw};
@@ -45,6 +47,43 @@ pub(crate) fn is_descriptor(fields: &[Element]) -> bool
     ensures { result ≡ is_some (type_of (pieces_of fields.now)) }
 {
     fields.iter().any(is_rec)
+}
+
+/// The first field that makes a record a descriptor, if there is one.
+fn rec_field<'f, 't>(fields: &'f [Element<'t>]) -> Option<&'f Element<'t>>
+    ensures { option_map (λ f. f.now) result ≡ find (λ e. has_name rec_name (piece_of e)) fields.now }
+{
+    fields.iter().find(|field| is_rec(field))
+}
+
+/// The first word of a value; nothing where there is none.
+fn first_word_of(value: &[u8]) -> &[u8]
+    ensures { result.now ≡ first_word (words value.now) }
+{
+    match split_word(value) {
+        Some((word, _)) => word,
+        None => &value[..0],
+    }
+}
+
+/// The type that a field names.
+fn type_by(alloc: Global, field: &Element) -> Result<Bytes, Fault>
+    ensures found { IfOk result (λ named. named ≡ first_word (words (value_of (piece_of field.now)))) }
+    ensures refusals { IfErr result (λ fault. fault ≡ OutOfMemory) }
+{
+    let value = field.value(alloc)?;
+    Ok(Bytes::copy_of(alloc, first_word_of(value.bytes()))?)
+}
+
+/// The type that a record's elements name, where they make it a descriptor.
+pub fn type_named(alloc: Global, fields: &[Element]) -> Result<Option<Bytes>, Fault>
+    ensures found { IfOk result (λ named. named ≡ type_of (pieces_of fields.now)) }
+    ensures refusals { IfErr result (λ fault. fault ≡ OutOfMemory) }
+{
+    match rec_field(fields) {
+        Some(field) => Ok(Some(type_by(alloc, field)?)),
+        None => Ok(None),
+    }
 }
 
 /// Takes the type that a `%rec` field names, where these are named before.

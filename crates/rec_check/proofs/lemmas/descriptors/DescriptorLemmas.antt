@@ -6,7 +6,7 @@ use Rattle.std.proofs.lemmas.List.{append-nil, take_more, take_all}
 use Rattle.std.proofs.lemmas.List.Concat.{flat_map-append}
 use Rattle.std.proofs.lemmas.Option.{slice_get-get_or, slice_get_past, slice_get_within, get_or_from_slice_get, slice_get-map}
 use Rattle.std.proofs.lemmas.Slice.Eq.{bytes_eq-Decides}
-use Rattle.std.specs.Prelude.{codes}
+use Rattle.std.specs.Prelude.{codes, find}
 use Rattle.std.specs.List.{AllByRecursion, AllZip, list_any, flat_map, slice_get}
 use Rattle.std.specs.Option.{IfSome, is_some, option_map, option_and_then}
 use Rattle.std.specs.Str.{bytes_eq}
@@ -133,6 +133,15 @@ is_some-type_of-pieces [] = refl
 is_some-type_of-pieces (field ∷ fields) = elim (cases_Bool (has_name rec_name (piece_of field))) [
   | inl here ↦ rw here refl
   | inr past ↦ rw past (is_some-type_of-pieces fields)
+]
+
+-- the type that the first field names which makes a record a descriptor
+pub type_of-found : (fields : List Element) → type_of (pieces_of fields)
+    ≡ option_map (λ (e : Element). first_word (words (value_of (piece_of e)))) (find (λ (e : Element). has_name rec_name (piece_of e)) fields)
+type_of-found [] = refl
+type_of-found (field ∷ fields) = elim (cases_Bool (has_name rec_name (piece_of field))) [
+  | inl here ↦ rw here refl
+  | inr past ↦ rw past (type_of-found fields)
 ]
 
 -- the first value of the name gives the type

@@ -20,6 +20,11 @@ is() {
     [ "$(stat -c %a:%u:%g "$2")" = "$1" ] || fail "$2 has $(stat -c %a:%u:%g "$2"), not $1"
 }
 
+# is_mode MODE FILE
+is_mode() {
+    [ "$(stat -c %a "$2")" = "$1" ] || fail "$2 has $(stat -c %a "$2"), not $1"
+}
+
 # becomes OWNER GROUP MODE NEW: another user edits such a file, which has these rights then
 becomes() {
     rm -f db.rec db.rec.journal
@@ -346,10 +351,12 @@ edited_twice() {
 }
 
 # What is forgotten changes the journal alone, so that has to be one that may be replaced; the file need not be.
-@test "a journal that is written anew keeps its rights" {
+@test "a journal that is written anew has the owner and the group of the file, and no more rights than before" {
     [ "$(id -u)" = 0 ] || skip 'only root can give files away'
     edited_twice
-    chown 1234:12345 db.rec.journal
+    chown 1234:12345 db.rec
+    chmod 644 db.rec
+    chown 4321:54321 db.rec.journal
     chmod 640 db.rec.journal
     cp -p db.rec "$BATS_TEST_TMPDIR/file"
     does forget 1 db.rec
@@ -365,6 +372,29 @@ edited_twice() {
     chmod 664 db.rec.journal
     does forget 1 db.rec
     is 644:65534:65534 db.rec.journal
+}
+
+@test "a journal never gives more rights than its file, and none to run it" {
+    put db.rec "$three"
+    chmod 755 db.rec
+    does recset -n 0 -f A -s 4 db.rec
+    is_mode 755 db.rec
+    is_mode 644 db.rec.journal
+    chmod 600 db.rec
+    does recset -n 0 -f A -s secret db.rec
+    is_mode 600 db.rec.journal
+    chmod 664 db.rec
+    chmod 666 db.rec.journal
+    does undo db.rec
+    is_mode 664 db.rec.journal
+    chmod 2664 db.rec
+    chmod 640 db.rec.journal
+    does redo db.rec
+    is_mode 640 db.rec.journal
+    chmod 600 db.rec
+    chmod 666 db.rec.journal
+    does forget 1 db.rec
+    is_mode 600 db.rec.journal
 }
 
 @test "a file that may only be read, and what is forgotten of its journal" {

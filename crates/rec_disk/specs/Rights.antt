@@ -32,3 +32,7 @@ most mode owner_kept group_kept = bit_and (most_by_group mode group_kept) (most_
 abbrev pub special_left : ℕ → Bool → Bool → ℕ
 special_left bits owner_kept group_kept = (if owner_kept then bits / 4 else 0) * 4 + (if group_kept then bits / 2 % 2
     else 0) * 2 + bits % 2
+
+-- to read and to write, for all three
+abbrev pub read_or_write : ℕ
+read_or_write = (6 * 8 + 6) * 8 + 6

@@ -140,6 +140,17 @@ pub trait Disk {
         ensures same { story self.new ≡ story self.old }
         ensures excused { IsExcused (works self.old) (works self.new) result (λ error. ⊥) };
 
+    /// Gives a file the owner and the group of a model, as far as the system lets it, and of the rights of that those to read
+    /// and to write; where it takes the place of an old file, no more than that had.
+    fn give_narrow_rights(
+        &mut self,
+        file: &Self::File,
+        model: &Self::Status,
+        old: Option<&Self::Status>,
+    ) -> io::Result<()>
+        ensures same { story self.new ≡ story self.old }
+        ensures excused { IsExcused (works self.old) (works self.new) result (λ error. ⊥) };
+
     /// Checks that a file that was made beside the one at a path may take its place.
     fn check_replaceable(
         &mut self,

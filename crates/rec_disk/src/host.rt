@@ -151,6 +151,15 @@ impl<R: Files<File = File>> Disk for HostDisk<R> {
         rights::give_rights(file, old)
     }
 
+    fn give_narrow_rights(
+        &mut self,
+        file: &File,
+        model: &Metadata,
+        old: Option<&Metadata>,
+    ) -> io::Result<()> {
+        rights::give_narrow_rights(file, model, old)
+    }
+
     fn check_replaceable(
         &mut self,
         alloc: Global,

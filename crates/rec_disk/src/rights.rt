@@ -1,6 +1,6 @@
 //! Owner, group and mode of a new file, and whether it may take the place of the old one.
-ghost use Rattle.std.specs.Prelude.{◌≡◌, ◌<◌, bit_and};
-ghost use Rattle.rec_disk.specs.Rights.{owner_of, group_of, others_of, special_of, most, special_left};
+ghost use Rattle.std.specs.Prelude.{◌≡◌, ◌<◌, bit_and, unwrap_or};
+ghost use Rattle.rec_disk.specs.Rights.{owner_of, group_of, others_of, special_of, most, read_or_write, special_left};
 
 use crate::folders::folder_of;
 use std::alloc::Global;
@@ -10,6 +10,9 @@ use std::os::fd::AsRawFd;
 use std::os::unix::fs::{MetadataExt, PermissionsExt, fchown};
 use std::rt::Files;
 use std::{fs, io};
+
+/// To read and to write, for the owner, the group and others.
+const READ_OR_WRITE: u32 = 0o666;
 
 /// The mode of a new file, by the old one's and by what of its owner and group could be kept. Its octal digits are the
 /// special bits and the rights of the owner, of the group and of others.
@@ -40,12 +43,34 @@ fn special(bits: u32, owner_kept: bool, group_kept: bool) -> u32
     as_owner * 4 + as_group * 2 + bits % 2
 }
 
+/// The rights to read and to write that a mode gives, and of these, where another one is given, those that it gives too.
+pub fn narrow_mode(mode: u32, held: Option<u32>) -> u32
+    ensures narrow { result ≡ bit_and (bit_and mode read_or_write) (unwrap_or held read_or_write) }
+{
+    mode & READ_OR_WRITE & held.unwrap_or(READ_OR_WRITE)
+}
+
 /// Gives a new file the owner, the group and the mode of the old one, as far as the system lets it.
 pub fn give_rights(file: &File, old: &Metadata) -> io::Result<()> {
-    let _ = fchown(file, Some(old.uid()), None);
-    let _ = fchown(file, None, Some(old.gid()));
+    give_mode(file, old, old.mode())
+}
+
+/// Gives a new file the owner and the group of a model, as far as the system lets it, and of its rights those to read and to
+/// write; where it takes the place of an old file, no more than that had.
+pub fn give_narrow_rights(file: &File, model: &Metadata, old: Option<&Metadata>) -> io::Result<()> {
+    let held = match old {
+        Some(old) => Some(old.mode()),
+        None => None,
+    };
+    give_mode(file, model, narrow_mode(model.mode(), held))
+}
+
+/// Gives a new file the owner and the group of another one, as far as the system lets it, and of a mode what goes with these.
+fn give_mode(file: &File, model: &Metadata, mode: u32) -> io::Result<()> {
+    let _ = fchown(file, Some(model.uid()), None);
+    let _ = fchown(file, None, Some(model.gid()));
     let own = file.metadata()?;
-    let mode = kept_mode(old.mode(), own.uid() == old.uid(), own.gid() == old.gid());
+    let mode = kept_mode(mode, own.uid() == model.uid(), own.gid() == model.gid());
     file.set_permissions(Permissions::from_mode(mode))
 }
 

@@ -27,25 +27,25 @@ explained() {
     explains 'f.journal: no edit is left to redo' "$refusal" redo f
     does undo f
     does recset -f A -s $'3\nKind: undo\nNumber: 9' f
-    explains 'f: edits that were undone were dropped by edit 5' "$refusal" redo f
-    explains './f: edits that were undone were dropped by edit 5' "$refusal" redo --through 1 --journal f.journal ./f
+    explains 'f: edits that were undone were dropped by edit 5¶f.journal: it holds them until recu forget N --dropped' "$refusal" redo f
+    explains './f: edits that were undone were dropped by edit 5¶f.journal: it holds them until recu forget N --dropped' "$refusal" redo --through 1 --journal f.journal ./f
     # an edit that drops none tells nothing, and a batch and a revert drop some too
     does recset -f A -s 4 f
-    explains 'f: edits that were undone were dropped by edit 5' "$refusal" redo --dry-run f
+    explains 'f: edits that were undone were dropped by edit 5¶f.journal: it holds them until recu forget N --dropped' "$refusal" redo --dry-run f
     does undo f
     put b 'Tool: recset¶Fields: A¶Set: 5'
     does batch -b b f
-    explains 'f: edits that were undone were dropped by edit 8' "$refusal" redo f
+    explains 'f: edits that were undone were dropped by edit 8¶f.journal: it holds them until recu forget N --dropped' "$refusal" redo f
     does recset -f A -s 6 f
     does undo f
     does revert 8 f
-    explains 'f: edits that were undone were dropped by edit 11' "$refusal" redo f
+    explains 'f: edits that were undone were dropped by edit 11¶f.journal: it holds them until recu forget N --dropped' "$refusal" redo f
     # an undo that was interrupted doesn't count
     does undo f
     does recset -f A -s 7 f
     does undo f
     put f 'A: 7¶'
-    explains 'f: edits that were undone were dropped by edit 13' "$refusal" redo f
+    explains 'f: edits that were undone were dropped by edit 13¶f.journal: it holds them until recu forget N --dropped' "$refusal" redo f
 }
 
 @test "a file changed outside" {
@@ -106,7 +106,7 @@ explained() {
     put f '%rec: P¶%key: Id¶¶Id: 1¶'
     recu 1 recins -t P -f Id -v 1 f
     prints '' '6: key Id¶line 6: Id: 1 (also in line 4)¶f: --force makes the edit all the same¶recu: violations: 1¶'
-    does recins -t P -f Id -v 1 --force f
+    forces 'f:6: key Id¶' recins -t P -f Id -v 1 --force f
     recu 1 recfix f
     prints '6: key Id¶' ''
 }

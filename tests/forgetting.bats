@@ -130,6 +130,85 @@ forgets_nothing() {
     only db.rec db.rec.journal
 }
 
+# A text that was written and undone stays in the journal after the next edit, until dropped edits are forgotten.
+@test "dropped edits are forgotten too" {
+    local number events after
+    put db.rec 'A: 1¶'
+    sets 2 secret
+    does undo db.rec
+    sets 4 5
+    does undo db.rec
+    tells 'done 1 recset¶done 4 recset¶undone 5 recset¶' db.rec
+    forgets_nothing forget 2 db.rec
+    grep -q secret db.rec.journal || fail 'the journal has no such edit'
+    cp db.rec.journal before
+    after="$(edit 3 'A: 4' 'A: 5')$(move 4 undo 3 'A: 5¶' 'A: 4¶')"
+    for number in 2 3 4294967295; do
+        cp before db.rec.journal
+        does forget "$number" --dropped db.rec
+        ! grep -q secret db.rec.journal || fail 'a dropped edit is left'
+        has db.rec 'A: 4¶'
+        has db.rec.journal "$header$(edit 1 'A: 1' 'A: 2')$(edit 2 'A: 2' 'A: 4')$after"
+        forgets_nothing forget "$number" --dropped db.rec
+    done
+    tells 'done 1 recset¶done 2 recset¶undone 3 recset¶' db.rec
+    does redo db.rec
+    has db.rec 'A: 5¶'
+    does undo --through 1 db.rec
+    has db.rec 'A: 1¶'
+    does redo --through 2 db.rec
+    has db.rec 'A: 4¶'
+    does redo db.rec
+    has db.rec 'A: 5¶'
+    # with older ones
+    put db.rec 'A: 4¶'
+    cp before db.rec.journal
+    does forget --dropped 1 db.rec
+    has db.rec.journal "$header$(edit 1 'A: 2' 'A: 4')$(edit 2 'A: 4' 'A: 5')$(move 3 undo 2 'A: 5¶' 'A: 4¶')"
+    cp before db.rec.journal
+    does forget --dropped 0 db.rec
+    has db.rec.journal "$header$(edit 1 'A: 4' 'A: 5')$(move 2 undo 1 'A: 5¶' 'A: 4¶')"
+    has db.rec 'A: 4¶'
+    rm before
+    only db.rec db.rec.journal
+}
+
+@test "where no edit was dropped nothing is written" {
+    local number
+    to_four
+    does redo db.rec
+    does undo db.rec
+    for number in 2 3 4294967295; do
+        forgets_nothing forget --dropped "$number" db.rec
+    done
+    does forget --dropped 1 db.rec
+    has db.rec.journal "$header$(edit 1 'A: 2' 'A: 3')$(edit 2 'A: 3' 'A: 4')$(move 3 undo 2 'A: 4¶' 'A: 3¶')"
+    forgets_nothing forget --dropped 1 db.rec
+    rm db.rec.journal
+    does forget --dropped 0 db.rec
+    only db.rec
+    put db.rec.journal "$header"
+    forgets_nothing forget --dropped 0 db.rec
+    only db.rec db.rec.journal
+}
+
+# All edits were undone, and a new one too: of two edits that were made neither can be undone.
+@test "an edit was dropped, and none can be undone" {
+    put db.rec 'A: 1¶'
+    sets secret
+    does undo db.rec
+    sets 2
+    does undo db.rec
+    forgets_nothing forget 0 db.rec
+    does forget 0 --dropped db.rec
+    has db.rec 'A: 1¶'
+    has db.rec.journal "$header$(edit 1 'A: 1' 'A: 2')$(move 2 undo 1 'A: 2¶' 'A: 1¶')"
+    refuses 'nothing to undo' undo db.rec
+    does redo db.rec
+    has db.rec 'A: 2¶'
+    only db.rec db.rec.journal
+}
+
 # Several edits that were undone keep their order, the nearest first.
 @test "edits that were undone, one after another" {
     put db.rec 'A: 1¶'
@@ -235,6 +314,7 @@ with_batch() {
     cp db.rec.journal before
     for number in 0 1 2 5; do
         refuses 'the file was changed outside' forget "$number" db.rec
+        refuses 'the file was changed outside' forget "$number" --dropped db.rec
     done
     has db.rec 'A: 7¶'
     has db.rec.journal < before
@@ -257,6 +337,11 @@ with_batch() {
     sets 9
     tells 'done 3 recset¶done 4 recset¶' db.rec
     forgets_nothing forget 2 db.rec
+    cp db.rec.journal before
+    does forget 2 --dropped db.rec
+    has db.rec.journal "$header$(edit 1 'A: 7' 'A: 8')$(edit 2 'A: 8' 'A: 9')"
+    forgets_nothing forget 2 --dropped db.rec
+    mv before db.rec.journal
     does forget 1 db.rec
     has db.rec.journal "$header$(edit 1 'A: 8' 'A: 9')"
     does undo db.rec
@@ -288,6 +373,7 @@ with_batch() {
         put db.rec.journal "$header$events$rest"
         tells 'done 1 recset¶done 2 recset¶' db.rec
         forgets_nothing forget 2 db.rec
+        forgets_nothing forget 2 --dropped db.rec
         does forget 1 db.rec
         has db.rec 'A: 3¶'
         has db.rec.journal "$header$(edit 1 'A: 2' 'A: 3')"

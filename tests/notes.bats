@@ -34,12 +34,31 @@ load helpers
     has printed ''
     told '1 edit forgotten' forget 1 f
     told 'nothing forgotten' forget 1 f
+    told 'nothing forgotten' forget 1 --dropped f
     put b 'Tool: recins¶Field: A¶Value: 5¶¶Tool: recset¶Fields: A¶Set: 6¶'
     told '3 records changed (edit 2)' batch -b b f
     told 'undone: edit 2, batch' undo f
     told '' history f
     told '' show f
     told '' recsel f
+    # an edit after an undo drops what was undone
+    does recset -f A -s 7 f
+    told 'nothing forgotten' forget 5 f
+    told '1 dropped edit forgotten' forget 5 --dropped f
+    told 'nothing forgotten' forget 5 --dropped f
+    does recset -f A -s 8 f
+    does recset -f A -s 9 f
+    does undo --through 3 f
+    does recset -f A -s 10 f
+    told '2 dropped edits forgotten' forget 5 --dropped f
+    does undo f
+    does recset -f A -s 11 f
+    told '1 edit forgotten, 1 dropped edit forgotten' forget 2 --dropped f
+    does recset -f A -s 12 f
+    does undo --through 2 f
+    does recset -f A -s 13 f
+    does recset -f A -s 14 f
+    told '2 edits forgotten, 2 dropped edits forgotten' forget 1 --dropped f
 }
 
 @test "what is said on a terminal of what may not have been meant" {

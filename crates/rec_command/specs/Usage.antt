@@ -146,7 +146,7 @@ usage_of History = tool_with (codes "history") (flag [] (codes "patch") ∷ unif
 -- clap wants the word that has to be there first, so which of the two is N is said in `Words`
 usage_of Show = tool_with (codes "show") (unified_option ∷ paths ++ word (codes "second") ∷ [])
 usage_of Forget = tool_with (codes "forget") (
-    journal_option ∷ needed_word (codes "n") ∷ needed_word (codes "file") ∷ [])
+    flag [] (codes "dropped") ∷ journal_option ∷ needed_word (codes "n") ∷ needed_word (codes "file") ∷ [])
 
 -- its name
 abbrev pub name_of : Tool → Text

@@ -200,8 +200,9 @@ Asks tool options (Redo number) = (tool ≡ ByRedo) × IsThroughGiven options nu
 Asks tool options (Revert number force) =
     (tool ≡ ByRevert) × IsEditGiven (first_of (codes "n") options) (Some number)
     × (force ≡ has_flag (codes "force") options)
-Asks tool options (Forget n) =
-    (tool ≡ ByForget) × ((digits : Text) × (first_of (codes "n") options ≡ Some digits) × IsNumber 32 digits n)
+Asks tool options (Forget newest dropped) =
+    (tool ≡ ByForget) × ((digits : Text) × (first_of (codes "n") options ≡ Some digits) × IsNumber 32 digits newest)
+    × (dropped ≡ has_flag (codes "dropped") options)
 Asks tool options History = (tool ≡ ByHistory) × (has_flag (codes "patch") options ≡ false)
 Asks tool options (Log style) =
     (tool ≡ ByHistory) × (has_flag (codes "patch") options ≡ true) × IsStyle options style

@@ -396,7 +396,13 @@ pub const SHOW: [Argument; 4] = [
     },
 ];
 
-pub const FORGET: [Argument; 3] = [
+pub const FORGET: [Argument; 4] = [
+    Argument {
+        written: Written::Name,
+        name: "dropped",
+        takes: Takes::Nothing,
+        help: "Also forget edits that can be neither undone nor redone",
+    },
     JOURNAL,
     Argument {
         written: Written::NeededWord,

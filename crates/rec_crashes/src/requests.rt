@@ -24,7 +24,12 @@ pub fn request(alloc: Global, number: usize) -> Result<Request, AllocError> {
         1 => "Tool: recdel\nNumber: 1\n",
         2 => return Ok(Request::Undo(None)),
         3 => return Ok(Request::Redo(None)),
-        FORGETTING => return Ok(Request::Forget(1)),
+        FORGETTING => {
+            return Ok(Request::Forget {
+                newest: 1,
+                dropped: false,
+            });
+        }
         _ => "Tool: recins\nField: B\nValue: 3\n",
     };
     Ok(Request::Batch {

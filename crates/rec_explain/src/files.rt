@@ -122,7 +122,7 @@ pub fn explain_drift(about: &About<'_>, request: &Request, said: &mut Explanatio
             ": a text in it was changed; move it away to go on without the history",
         ]);
     }
-    if matches!(request, Request::Forget(_)) {
+    if matches!(request, Request::Forget { .. }) {
         said.add(&[
             about.journal,
             ": deleting this file removes all texts that it holds",

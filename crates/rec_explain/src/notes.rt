@@ -117,10 +117,22 @@ pub fn done(alloc: Global, reply: &Reply) -> Result<String, AllocError> {
             "reverted: edit {edit}, {} (edit {number})",
             name_of(*tool)
         ),
-        Reply::Forgotten(0) => String::from_str(alloc, "nothing forgotten"),
-        Reply::Forgotten(1) => String::from_str(alloc, "1 edit forgotten"),
-        Reply::Forgotten(count) => format!(in alloc; "{count} edits forgotten"),
+        Reply::Forgotten { older, dropped } => forgotten(alloc, *older, *dropped),
         Reply::Shown | Reply::Violated(_) | Reply::Unchanged { .. } => Ok(String::new(alloc)),
+    }
+}
+
+/// What was forgotten: edits that could be undone, and dropped ones.
+fn forgotten(alloc: Global, older: usize, dropped: usize) -> Result<String, AllocError> {
+    match (older, dropped) {
+        (0, 0) => String::from_str(alloc, "nothing forgotten"),
+        (_, 0) => format!(in alloc; "{older} {} forgotten", edits(older)),
+        (0, _) => format!(in alloc; "{dropped} dropped {} forgotten", edits(dropped)),
+        (_, _) => format!(in alloc;
+            "{older} {} forgotten, {dropped} dropped {} forgotten",
+            edits(older),
+            edits(dropped)
+        ),
     }
 }
 
@@ -139,10 +151,14 @@ fn would(alloc: Global, reply: &Reply) -> Result<String, AllocError> {
         Reply::Reverted { edit, tool, .. } => {
             format!(in alloc; "it would revert edit {edit}, {}", name_of(*tool))
         }
-        Reply::Shown | Reply::Violated(_) | Reply::Unchanged { .. } | Reply::Forgotten(_) => {
+        Reply::Shown | Reply::Violated(_) | Reply::Unchanged { .. } | Reply::Forgotten { .. } => {
             Ok(String::new(alloc))
         }
     }
+}
+
+fn edits(count: usize) -> &'static str {
+    if count == 1 { "edit" } else { "edits" }
 }
 
 fn records(count: usize) -> &'static str {

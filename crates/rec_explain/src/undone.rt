@@ -70,17 +70,21 @@ fn number_of(digits: &[u8]) -> usize {
 pub fn explain_redo(alloc: Global, about: &About<'_>, said: &mut Explanation) {
     match undone_by(alloc, about) {
         Some(Undone::Never) => said.add(&[about.file, ": no edit was undone"]),
-        Some(Undone::Dropped { by, .. }) => say_dropped(about.file, by, said),
+        Some(Undone::Dropped { by, .. }) => say_dropped(about, by, said),
         Some(Undone::Left(_)) | None => said.add(&[about.journal, ": no edit is left to redo"]),
     }
 }
 
-fn say_dropped(file: &str, by: usize, said: &mut Explanation) {
+fn say_dropped(about: &About<'_>, by: usize, said: &mut Explanation) {
     let mut digits = Buffer::new();
     said.add(&[
-        file,
+        about.file,
         ": edits that were undone were dropped by edit ",
         digits.format(by),
+    ]);
+    said.add(&[
+        about.journal,
+        ": it holds them until recu forget N --dropped",
     ]);
 }
 

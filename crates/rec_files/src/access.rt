@@ -30,6 +30,6 @@ pub fn access_of(request: &Request) -> Access
         | Request::Undo(_)
         | Request::Redo(_)
         | Request::Revert { .. }
-        | Request::Forget(_) => Access::Change,
+        | Request::Forget { .. } => Access::Change,
     }
 }

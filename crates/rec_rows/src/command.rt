@@ -139,7 +139,7 @@ impl<'w> Cells<'w> {
             | Request::Undo(_)
             | Request::Redo(_)
             | Request::Revert { .. }
-            | Request::Forget(_)
+            | Request::Forget { .. }
             | Request::History
             | Request::Diff(_, _)
             | Request::Log(_)

@@ -42,7 +42,11 @@ fn say(said: &mut String, answer: &Result<Reply, Fault>) -> Result<(), AllocErro
         Ok(Reply::Undone(number, _)) => write!(said, "undone {number}"),
         Ok(Reply::Redone(number, _)) => write!(said, "redone {number}"),
         Ok(Reply::Reverted { edit, .. }) => write!(said, "reverted {edit}"),
-        Ok(Reply::Forgotten(count)) => write!(said, "forgotten {count}"),
+        Ok(Reply::Forgotten { older, dropped: 0 }) => write!(said, "forgotten {older}"),
+        Ok(Reply::Forgotten { older, dropped }) => write!(
+            said,
+            "forgotten {older}, dropped {dropped}"
+        ),
         Err(fault) => write!(said, "{} {fault}", fault.number()),
     }
 }

@@ -89,6 +89,7 @@ outside_state c o tool steps text = record {
   present = text;
   future = [];
   next = o.next + 1;
+  made = o.made + 1;
 }
 
 -- the history begins anew with the edits that are asked for, as they are made of the outside text
@@ -107,7 +108,8 @@ pub record IsNoticed (c : Contents) (o : Opened) : Type 0 where
       → r ≡ Err Drifted
   pub revert : (number : ℕ) (force : Bool) (outcome : Outcome)
       → IsRequestOutcome c (asked_of (Revert number force)) (Ok outcome) → ⊥
-  pub forgetting : (n : ℕ) (r : Result Outcome Fault) → IsRequestOutcome c (asked_of (Forget n)) r → r ≡ Err Drifted
+  pub forgetting : (newest : ℕ) (dropped : Bool) (r : Result Outcome Fault)
+      → IsRequestOutcome c (asked_of (Forget newest dropped)) r → r ≡ Err Drifted
   pub history : (r : Result Outcome Fault) → IsRequestOutcome c (asked_of History) r
       → r ≡ Ok (printing (codes "drifted\n") Shown)
   pub edits : (request : Request) (outcome : Outcome) → IsRequestOutcome c (asked_of request) (Ok outcome)

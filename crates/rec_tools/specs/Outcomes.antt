@@ -1,7 +1,7 @@
 -- What a request comes to on any two contents: its refusals in their order, or what it prints, what it writes, and its
 -- reply.
-use Rattle.std.specs.Prelude.{◌≡◌, ◌≢◌, ◌⊎◌, ℕ, ◌-◌, ◌≤◌, ◌<◌, true, false, List, [], ◌∷◌, length, Option, Some, None}
-use Rattle.std.specs.Prelude.{option_map, Result, Ok, Err}
+use Rattle.std.specs.Prelude.{◌≡◌, ◌≢◌, ◌⊎◌, ℕ, ◌+◌, ◌-◌, ◌<◌, Bool, true, false, List, [], ◌∷◌, length, Option, Some}
+use Rattle.std.specs.Prelude.{None, option_map, Result, Ok, Err, if◌then◌else◌}
 use Rattle.rec_text.specs.declared.fault.Fault.{Fault}
 use Rattle.rec_text.specs.declared.fault.Fault.TheVariants.{BadPattern, DigestClash, Drifted, NoSuchEdit}
 use Rattle.rec_journal.specs.declared.patch.Direction.{Direction}
@@ -9,7 +9,7 @@ use Rattle.rec_journal.specs.declared.patch.Direction.TheVariants.{Forward, Back
 use Rattle.rec_journal.specs.declared.event.Revision.{Revision}
 use Rattle.rec_journal.specs.declared.event.Tool.{Tool}
 use Rattle.rec_journal.specs.declared.plan.Plan.{Plan}
-use Rattle.rec_journal.specs.History.{Opened, Opens, IsOpening, IsRegular}
+use Rattle.rec_journal.specs.History.{Opened, Opens, IsOpening, IsRegular, lost_edits}
 use Rattle.rec_journal.specs.Revisions.{LeadsBy, Leads}
 use Rattle.rec_journal.specs.Plans.{ShareDigest, IsEditPlan, after_edit_plan, MovesByNearest, after_move, IsMovePlan}
 use Rattle.rec_journal.specs.Numbers.{numbers_on, is_missing}
@@ -135,17 +135,26 @@ IsMove direction through o c (Err fault) =
 
 -- ---- forgetting
 
--- the journal is written anew: with the file it stands for the history without what is forgotten, and it is regular
-pub record Forgets (n : ℕ) (o : Opened) (c : Contents) (outcome : Outcome) : Type 0 where
+-- The journal is written anew, with the newest n of the edits that can be taken back: with the file it stands for the
+-- history without what is forgotten, and it is regular.
+pub record Forgets (n : ℕ) (o : Opened) (c : Contents) (reply : Reply) (outcome : Outcome) : Type 0 where
   pub opens : Opens c.file (forgotten_journal n o) (after_forgetting n o)
   pub regular : IsRegular (forgotten_journal n o)
-  pub is : outcome ≡ replacing (forgotten_journal n o) None (Forgotten (length o.past - n))
+  pub is : outcome ≡ replacing (forgotten_journal n o) None reply
 
--- refused where the file has drifted; where no more than n edits can be taken back, nothing is written
-abbrev pub IsForgetting : ℕ → Opened → Contents → Result Outcome Fault → Type 0
-IsForgetting n o c (Ok outcome) = (o.drifted ≡ false)
-    × (((length o.past ≤ n) × (outcome ≡ staying (Forgotten 0))) ⊎ ((n < length o.past) × Forgets n o c outcome))
-IsForgetting n o c (Err fault) = (fault ≡ Drifted) × (o.drifted ≡ true)
+-- Of the edits that can be taken back this number of the oldest go, and this number of those that can be neither taken
+-- back nor made again any more. Nothing is written where both are 0.
+abbrev pub IsLetGo : ℕ → ℕ → Opened → Contents → Outcome → Type 0
+IsLetGo older dropped o c outcome =
+    ((older + dropped ≡ 0) × (outcome ≡ staying (Forgotten older dropped)))
+    ⊎ ((0 < older + dropped) × Forgets (length o.past - older) o c (Forgotten older dropped) outcome)
+
+-- All but the newest n of the edits that can be taken back go; and the dropped ones, if they are to. Refused where the
+-- file has drifted.
+abbrev pub IsForgetting : ℕ → Bool → Opened → Contents → Result Outcome Fault → Type 0
+IsForgetting n dropping o c (Ok outcome) = (o.drifted ≡ false)
+    × IsLetGo (length o.past - n) (if dropping then lost_edits o else 0) o c outcome
+IsForgetting n dropping o c (Err fault) = (fault ≡ Drifted) × (o.drifted ≡ true)
 
 -- ---- a look
 
@@ -197,7 +206,8 @@ IsRequestOutcome c (reverting number force) answer =
     IsPutBy (λ o. IsRevertOf number force o c.file) (λ o. revert_reply number o.next) c answer
 IsRequestOutcome c (moving direction through) answer =
     Then (IsOpening c.file c.journal) (λ o. IsMove direction through o c) answer
-IsRequestOutcome c (forgetting n) answer = Then (IsOpening c.file c.journal) (λ o. IsForgetting n o c) answer
+IsRequestOutcome c (forgetting n dropping) answer =
+    Then (IsOpening c.file c.journal) (λ o. IsForgetting n dropping o c) answer
 IsRequestOutcome c (showing number style) answer =
     IsPrinting (IsShownText (IsShownEdit number style c.file c.journal)) answer
 IsRequestOutcome c (listing_changes style) answer = IsPrinting (IsShownText (IsWholeLog style c.file c.journal)) answer

@@ -45,8 +45,9 @@ pub data Asked : Type 1 where
   moving : Direction → Option ℕ → Asked
   -- the edit of a number is taken back alone, with force or without
   reverting : ℕ → Bool → Asked
-  -- all but the newest n of the edits that can be taken back are forgotten
-  forgetting : ℕ → Asked
+  -- all but the newest n of the edits that can be taken back are forgotten; and, or not, those that can be neither
+  -- taken back nor made again any more
+  forgetting : ℕ → Bool → Asked
   -- nothing is done of what is asked for; what it would change of the file is printed, in this style
   previewing : DiffStyle → Asked → Asked
 
@@ -115,7 +116,7 @@ asked_of (Batch text force) = editing (IsBatch text force)
 asked_of (Undo through) = moving Backward through
 asked_of (Redo through) = moving Forward through
 asked_of (Revert number force) = reverting number force
-asked_of (Forget n) = forgetting n
+asked_of (Forget newest dropped) = forgetting newest dropped
 asked_of History = listing
 asked_of (Diff number style) = showing number style
 asked_of (Log style) = listing_changes style
@@ -130,7 +131,7 @@ reads_of (moving direction through) = TheFile ∷ TheJournal ∷ []
 reads_of (showing number style) = TheFile ∷ TheJournal ∷ []
 reads_of (listing_changes style) = TheFile ∷ TheJournal ∷ []
 reads_of (reverting number force) = TheFile ∷ TheJournal ∷ []
-reads_of (forgetting n) = TheFile ∷ TheJournal ∷ []
+reads_of (forgetting n dropping) = TheFile ∷ TheJournal ∷ []
 reads_of (previewing style asked) = reads_of asked
 
 -- nothing is printed for it
@@ -142,7 +143,7 @@ IsSilent (moving direction through) = Unit {0}
 IsSilent (showing number style) = ⊥
 IsSilent (listing_changes style) = ⊥
 IsSilent (reverting number force) = Unit {0}
-IsSilent (forgetting n) = Unit {0}
+IsSilent (forgetting n dropping) = Unit {0}
 IsSilent (previewing style asked) = ⊥
 
 -- nothing is written for it
@@ -154,5 +155,5 @@ WritesNothing (moving direction through) = ⊥
 WritesNothing (showing number style) = Unit {0}
 WritesNothing (listing_changes style) = Unit {0}
 WritesNothing (reverting number force) = ⊥
-WritesNothing (forgetting n) = ⊥
+WritesNothing (forgetting n dropping) = ⊥
 WritesNothing (previewing style asked) = Unit {0}

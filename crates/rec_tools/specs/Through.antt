@@ -80,12 +80,14 @@ state_through Backward s nearer entry farther = record {
   present = entry.text;
   future = reverse (entries_back s.present (nearer ++ entry ∷ [])) ++ s.future;
   next = s.next + length (nearer ++ entry ∷ []);
+  made = s.made;
 }
 state_through Forward s nearer entry farther = record {
   past = reverse (entries_back s.present (nearer ++ entry ∷ [])) ++ s.past;
   present = entry.text;
   future = farther;
   next = s.next + length (nearer ++ entry ∷ []);
+  made = s.made;
 }
 
 -- the entry of the number lies that way, and the machine moves by those before it, and by it

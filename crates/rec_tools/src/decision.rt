@@ -1,8 +1,8 @@
 //! What a request makes of a file and a journal, before anything is put in place.
-ghost use Rattle.std.specs.Prelude.{◌≡◌, Some, Ok, IfOk, IfErr};
+ghost use Rattle.std.specs.Prelude.{◌≡◌, Some, Ok, IfOk, IfErr, if◌then◌else◌};
 ghost use Rattle.rec_text.specs.Elements.{text_of};
 ghost use Rattle.rec_text.specs.Faults.{UnlessMemory};
-ghost use Rattle.rec_journal.specs.History.{IsOpening};
+ghost use Rattle.rec_journal.specs.History.{IsOpening, lost_edits};
 ghost use Rattle.rec_tools.specs.Steps.{IsRefusal};
 ghost use Rattle.rec_tools.specs.Requests.{editing, moving, reverting, forgetting, asked_of, IsSilent};
 ghost use Rattle.rec_tools.specs.Outcomes.{IsMade, IsEditOutcome, Decides, outcome_in, reply_of};
@@ -257,14 +257,22 @@ fn decide_move(
     }
 }
 
+/// How many edits go that can be neither taken back nor made again any more.
+fn dropped_of(history: &History, dropping: bool) -> usize
+    ensures { result ≡ (if dropping then lost_edits history.now else 0) }
+{
+    if dropping { history.lost() } else { 0 }
+}
+
 /// Decides what is forgotten, on a file and a journal.
 fn decide_forgetting(
     alloc: Global,
     file: &[u8],
     journal: &[u8],
-    n: usize,
+    newest: usize,
+    dropping: bool,
 ) -> Result<Decision, Fault>
-    ensures found { UnlessMemory result (Decides file.now journal.now (forgetting n)) }
+    ensures found { UnlessMemory result (Decides file.now journal.now (forgetting newest dropping)) }
     ensures course { IfOk result (HasCourse file.now journal.now) }
     ensures refusals { IfErr result IsRefusal }
 {
@@ -273,14 +281,17 @@ fn decide_forgetting(
         return Err(Fault::Drifted);
     }
     let undos = history.undos();
-    if undos <= n {
-        return Ok(Decision::Stay(Reply::Forgotten(0)));
+    let older = undos.saturating_sub(newest);
+    let dropped = dropped_of(&history, dropping);
+    let reply = Reply::Forgotten { older, dropped };
+    if older == 0 && dropped == 0 {
+        return Ok(Decision::Stay(reply));
     }
-    let left = plan_forget(alloc, &history, file, journal, n)?;
+    let left = plan_forget(alloc, &history, file, journal, undos - older)?;
     Ok(Decision::Put {
         journal: left,
         file: None,
-        reply: Reply::Forgotten(undos - n),
+        reply,
     })
 }
 
@@ -311,7 +322,9 @@ pub fn decide(
         Request::Revert { number, force } => {
             decide_revert(alloc, file, journal, *number, *force)
         }
-        Request::Forget(n) => decide_forgetting(alloc, file, journal, *n as usize),
+        Request::Forget { newest, dropped } => {
+            decide_forgetting(alloc, file, journal, *newest as usize, *dropped)
+        }
         Request::Show { .. }
         | Request::Info { .. }
         | Request::Check

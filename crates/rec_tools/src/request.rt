@@ -156,8 +156,12 @@ pub enum Request {
         number: usize,
         force: bool,
     },
-    /// Forgets all but the newest n of the edits that can be taken back; those that can be made again stay.
-    Forget(u32),
+    /// Forgets all but the newest of the edits that can be taken back; those that can be made again stay. With `dropped`
+    /// the edits go too that can be neither taken back nor made again any more.
+    Forget {
+        newest: u32,
+        dropped: bool,
+    },
     /// Prints the edits: those that stand, the oldest first, and then those that can be made again, the nearest first; or
     /// that the file was changed outside.
     History,
@@ -183,7 +187,7 @@ impl Request {
             | Request::Undo(_)
             | Request::Redo(_)
             | Request::Revert { .. }
-            | Request::Forget(_) => true,
+            | Request::Forget { .. } => true,
             Request::Show { .. }
             | Request::Info { .. }
             | Request::Check
@@ -228,6 +232,11 @@ pub enum Reply {
         /// The number of the edit by which it was.
         number: usize,
     },
-    /// The number of edits that were forgotten.
-    Forgotten(usize),
+    /// Edits were forgotten.
+    Forgotten {
+        /// The number of those that could be taken back.
+        older: usize,
+        /// The number of those that could be neither taken back nor made again any more.
+        dropped: usize,
+    },
 }

@@ -190,7 +190,7 @@ fn look<H: Home, S: Sink>(
         | Request::Undo(_)
         | Request::Redo(_)
         | Request::Revert { .. }
-        | Request::Forget(_)
+        | Request::Forget { .. }
         | Request::Preview(_, _) => unreachable!(),
     }
 }
@@ -221,7 +221,7 @@ fn reply_alone<H: Home>(alloc: Global, home: &mut H, request: &Request) -> Resul
         | Request::Undo(_)
         | Request::Redo(_)
         | Request::Revert { .. }
-        | Request::Forget(_) => unreachable!(),
+        | Request::Forget { .. } => unreachable!(),
     }
 }
 
@@ -263,7 +263,7 @@ fn attempt<H: Home, S: Sink>(
         | Request::Undo(_)
         | Request::Redo(_)
         | Request::Revert { .. }
-        | Request::Forget(_) => make_change(alloc, home, request),
+        | Request::Forget { .. } => make_change(alloc, home, request),
         Request::Preview(previewed, style) => preview(alloc, home, out, previewed, style),
         Request::Show { .. }
         | Request::Info { .. }

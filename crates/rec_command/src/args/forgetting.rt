@@ -6,12 +6,12 @@ ghost use Rattle.rec_command.specs.Refusals.{IsOrRefuses};
 ghost use Rattle.rec_command.specs.Words.{IsNumber, Orders};
 
 use super::Order;
-use super::found::given;
+use super::found::{given, is_given};
 use super::refusal::Refusal;
 use clap::ArgMatches;
 use rec_tools::Request;
 
-/// What forget is asked for: how many of the edits that can be undone it keeps.
+/// What forget is asked for: how many of the edits that can be undone it keeps, and whether dropped edits go too.
 pub fn forget_order(options: &ArgMatches) -> Result<Order, Refusal>
     ensures { IsOrRefuses (Orders Forget (rows_of (found_of options.now))) result }
 {
@@ -19,7 +19,10 @@ pub fn forget_order(options: &ArgMatches) -> Result<Order, Refusal>
         return Err(Refusal::Rule("forget: N is needed"));
     };
     match number_of(digits) {
-        Some(n) => Ok(Order::Whole(Request::Forget(n))),
+        Some(newest) => Ok(Order::Whole(Request::Forget {
+            newest,
+            dropped: is_given(options, "dropped"),
+        })),
         None => Err(Refusal::Rule(
             "forget: N must be a number from 0 to 4294967295, in digits alone",
         )),

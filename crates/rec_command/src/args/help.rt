@@ -77,4 +77,4 @@ pub const FORGET_ABOUT: &str =
     "Forgets all but the newest N of the edits that can be undone, which makes the\njournal shorter. FILE stays as it is. What is forgotten can't be undone any\nmore, and nothing brings it back.";
 
 pub const FORGET_HELP: &str =
-    "All edits that can be redone are kept too. What is kept is numbered from 1 on.\nWhere no more than N edits can be undone, nothing is forgotten, and nothing is\nwritten.\n\nExamples:\n  recu forget 100 contacts.rec\n  recu forget 0 --journal edits.rec contacts.rec";
+    "All edits that can be redone are kept too. What is kept is numbered from 1 on.\nWhere no more than N edits can be undone, nothing is forgotten, and nothing is\nwritten.\n\nAn edit that can be neither undone nor redone, as one that was undone before a\nnew edit, stays in the journal with its texts. --dropped forgets all of these\ntoo, however large N is.\n\nExamples:\n  recu forget 100 contacts.rec\n  recu forget 100 --dropped contacts.rec\n  recu forget 0 --journal edits.rec contacts.rec";

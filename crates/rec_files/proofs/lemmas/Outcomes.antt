@@ -1,5 +1,5 @@
 -- What a request puts can be told to be left over, where a stop comes within the put.
-use Rattle.std.proofs.Common.{◌≡◌, ◌⊎◌, inl, inr, refl, sym, ap, subst, ◌∙◌, arith, ℕ, ◌+◌, ◌<◌, ◌≤◌, ◌==◌, ◌&&◌, Bool, false, if◌then◌else◌}
+use Rattle.std.proofs.Common.{◌≡◌, ◌⊎◌, inl, inr, refl, sym, ap, subst, ◌∙◌, arith, ℕ, ◌+◌, ◌-◌, ◌<◌, ◌≤◌, ◌==◌, ◌&&◌, Bool, false, if◌then◌else◌}
 use Rattle.std.proofs.Common.{List, [], ◌++◌, length, length-append, Option, Some, None, IfSome, Ok}
 use Rattle.std.specs.Prelude.{codes, nat_le}
 use Rattle.std.proofs.lemmas.Bool.{ne_eqb, cases_eq, cases_Bool}
@@ -131,13 +131,13 @@ module _ (c : Contents) (regular : IsRegular c.journal) where
   puts (moving direction through) outcome (inr (o, opens, (settled, here, m))) =
       by_writes outcome (writes_by m.plan.journal (Some m.plan.file)) (ap (λ (x : Outcome). x.writes) m.is)
       (plan_puts o _ opens m.plan m.safe (Moved direction (move_of direction o m.moves.nearest)) m.moves.recorded refl refl)
-  puts (forgetting n) outcome (inl refused) = let e = refused.2 in cc
-  puts (forgetting n) outcome (inr (o, opens, (settled, inl (few, e)))) = inl (ap (λ (x : Outcome). x.writes) e)
-  puts (forgetting n) outcome (inr (o, opens, (settled, inr (more, f)))) = inr (record {
-    journal = forgotten_journal n o;
+  puts (forgetting n dropping) outcome (inl refused) = let e = refused.2 in cc
+  puts (forgetting n dropping) outcome (inr (o, opens, (settled, inl (few, e)))) = inl (ap (λ (x : Outcome). x.writes) e)
+  puts (forgetting n dropping) outcome (inr (o, opens, (settled, inr (more, f)))) = inr (record {
+    journal = forgotten_journal (length o.past - (length o.past - n)) o;
     file = None;
     are = ap (λ (x : Outcome). x.writes) f.is;
-    begins = begins c.file (forgotten_journal n o) _ f.opens;
+    begins = begins c.file (forgotten_journal (length o.past - (length o.past - n)) o) _ f.opens;
     between = tt;
   })
 

@@ -69,7 +69,7 @@ stopped-tells listing calls fault stops = stopped-tells_both calls fault stops
 stopped-tells (editing IsEdit) calls fault stops = stopped-tells_both calls fault stops
 stopped-tells (moving direction through) calls fault stops = stopped-tells_both calls fault stops
 stopped-tells (reverting number force) calls fault stops = stopped-tells_both calls fault stops
-stopped-tells (forgetting n) calls fault stops = stopped-tells_both calls fault stops
+stopped-tells (forgetting n dropping) calls fault stops = stopped-tells_both calls fault stops
 stopped-tells (showing number style) calls fault stops = stopped-tells_both calls fault stops
 stopped-tells (listing_changes style) calls fault stops = stopped-tells_both calls fault stops
 stopped-tells (previewing style asked) calls fault stops = stopped-tells asked calls fault stops
@@ -187,7 +187,7 @@ silent-reads_both (moving direction through) silent = refl
 silent-reads_both (showing number style) silent = absurd silent
 silent-reads_both (listing_changes style) silent = absurd silent
 silent-reads_both (reverting number force) silent = refl
-silent-reads_both (forgetting n) silent = refl
+silent-reads_both (forgetting n dropping) silent = refl
 silent-reads_both (previewing style asked) silent = absurd silent
 
 does-refused : (asked : Asked) (c : Contents) (fault : Fault) (p : Printed) → ReadsBoth asked → IsMemoryOr fault (IsRequestOutcome c asked (Err fault)) → IsSilence p

@@ -104,4 +104,5 @@ stands_after_forgetting n o c s by opens = record {
   past = entries_left n o s c.file by.past;
   future = entries_numbered_from Forward (n + 1) o.future s.future c.file by.future;
   next = ap (λ k. n + 2 * k + 1) (sym (as_many_edits Forward o.future s.future c.file by.future));
+  made = ap (λ k. n + k) (sym (as_many_edits Forward o.future s.future c.file by.future));
 }

@@ -1,5 +1,5 @@
 -- The machine's step is a function of the state and the request.
-use Rattle.std.proofs.Common.{arith, ◌≡◌, ◌≢◌, inl, inr, ℕ, Bool, List, [], ◌∷◌, length, Option, Some, None, Result, Ok, Err, ap, sym, subst, ◌∙◌}
+use Rattle.std.proofs.Common.{arith, ◌≡◌, ◌≢◌, inl, inr, ℕ, ◌-◌, Bool, List, [], ◌∷◌, length, if◌then◌else◌, Option, Some, None, Result, Ok, Err, ap, sym, subst, ◌∙◌}
 use Rattle.std.proofs.lemmas.Bool.{false≢true}
 use Rattle.rec_text.specs.declared.fault.Fault.{Fault}
 use Rattle.rec_text.specs.declared.fault.Fault.TheVariants.{BadPattern}
@@ -16,7 +16,7 @@ use Rattle.rec_tools.specs.Requests.{Asked, looking, listing, showing, listing_c
 use Rattle.rec_tools.specs.Reverting.{Standing}
 use Rattle.rec_tools.specs.Outcomes.{IsMade, edit_reply, revert_reply}
 use Rattle.rec_tools.specs.Attempts.{Answer}
-use Rattle.rec_tools.specs.Machine.{Entry, State, IsMachineStep, IsEditStep, IsMadeStep, IsRevertIn, IsMoveStep, IsForgettingStep, IsShowingStep, IsStepDiff}
+use Rattle.rec_tools.specs.Machine.{Entry, State, IsMachineStep, IsEditStep, IsMadeStep, IsRevertIn, IsMoveStep, LetsGo, lost_entries, IsShowingStep, IsStepDiff}
 use Rattle.rec_tools.specs.Machine.{standing_at, entries_on, told_edit, told_in}
 use Rattle.rec_tools.specs.Laws.{OneStep}
 use Rattle.rec_text.proofs.lemmas.FaultLemmas.{no_both}
@@ -78,12 +78,12 @@ one_move_step direction through s (nearest ∷ others) one other t u (inr is) (i
 
 -- ---- forgetting steps in one way
 
-one_forgetting_step : (n : ℕ) (s : State) (one other : Answer) (t u : State)
-    → IsForgettingStep n s one t → IsForgettingStep n s other u → (one ≡ other) × (t ≡ u)
-one_forgetting_step n s one other t u (inl is) (inl is_too) = (is.1 ∙ sym is_too.1, is.2 ∙ sym is_too.2)
-one_forgetting_step n s one other t u (inl is) (inr is_too) = absurd (omega (arith, is.0, is_too.0))
-one_forgetting_step n s one other t u (inr is) (inl is_too) = absurd (omega (arith, is.0, is_too.0))
-one_forgetting_step n s one other t u (inr is) (inr is_too) = (is.1 ∙ sym is_too.1, is.2 ∙ sym is_too.2)
+one_letting_go : (older dropped : ℕ) (s : State) (one other : Answer) (t u : State)
+    → LetsGo older dropped s one t → LetsGo older dropped s other u → (one ≡ other) × (t ≡ u)
+one_letting_go older dropped s one other t u (e, inl is) (k, inl is_too) = (e ∙ sym k, is.1 ∙ sym is_too.1)
+one_letting_go older dropped s one other t u (e, inl is) (k, inr is_too) = absurd (omega (arith, is.0, is_too.0))
+one_letting_go older dropped s one other t u (e, inr is) (k, inl is_too) = absurd (omega (arith, is.0, is_too.0))
+one_letting_go older dropped s one other t u (e, inr is) (k, inr is_too) = (e ∙ sym k, is.1 ∙ sym is_too.1)
 
 -- ---- what edits made is printed in one way
 
@@ -141,8 +141,8 @@ module _ (s : State) (one other : Answer) (built : one ≢ Err BadPattern) (buil
   one_step_of (moving direction through) text printed t u means (step, e) (step_too, k) =
       let both = one_move_step direction through s (entries_on direction s) one other t u step step_too in
       (both.0, e ∙ sym k, both.1)
-  one_step_of (forgetting n) text printed t u means (step, e) (step_too, k) =
-      let both = one_forgetting_step n s one other t u step step_too in
+  one_step_of (forgetting n dropping) text printed t u means (step, e) (step_too, k) =
+      let both = one_letting_go (length s.past - n) (if dropping then lost_entries s else 0) s one other t u step step_too in
       (both.0, e ∙ sym k, both.1)
 
 pub one_step : OneStep

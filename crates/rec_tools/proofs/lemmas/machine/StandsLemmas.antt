@@ -25,6 +25,7 @@ pub record StandsBy (o : Opened) (c : Contents) (s : State) : Type 0 where
   pub past : AreEntries Backward o.past s.past c.file
   pub future : AreEntries Forward o.future s.future c.file
   pub next : s.next ≡ o.next
+  pub made : s.made ≡ o.made
   pub none_dropped : o.dropped ≡ 0
 
 -- contents open in one way, so they stand by the history that they open with
@@ -37,6 +38,7 @@ stands_by c s o stands opens =
       past = stands.past;
       future = stands.future;
       next = stands.next;
+      made = stands.made;
       none_dropped = settled-none_dropped c.file c.journal stands.opened stands.opens stands.settled;
     })
 
@@ -65,13 +67,13 @@ one_list_of_entries direction (e ∷ es) (x ∷ xs) (y ∷ ys) here are are_too 
     (one_list_of_entries direction es xs ys x.text are.4 following)
 
 pub same_state : (one other : State) → one.past ≡ other.past → one.present ≡ other.present → one.future ≡ other.future → one.next ≡ other.next
-    → one ≡ other
-same_state one other past present future next =
-    let made : List Entry → List ℕ → List Entry → ℕ → State = λ p t f n. record { past = p; present = t; future = f; next = n } in
-    ap (λ p. made p one.present one.future one.next) past
-    ∙ ap (λ t. made other.past t one.future one.next) present
-    ∙ ap (λ f. made other.past other.present f one.next) future
-    ∙ ap (made other.past other.present other.future) next
+    → one.made ≡ other.made → one ≡ other
+same_state one other past present future next made =
+    let state : List Entry → List ℕ → List Entry → ℕ → ℕ → State = λ p t f n m. record { past = p; present = t; future = f; next = n; made = m } in
+    ap (λ p. state p one.present one.future one.next one.made) past
+    ∙ ap (λ t. state other.past t one.future one.next one.made) present
+    ∙ ap (λ f. state other.past other.present f one.next one.made) future
+    ∙ ap₂ (state other.past other.present other.future) next made
 
 pub one_state : OneState
 one_state c s t stands stands_too =
@@ -81,6 +83,7 @@ one_state c s t stands stands_too =
     (stands.present ∙ sym by.present)
     (one_list_of_entries Forward stands.opened.future s.future t.future c.file stands.future by.future)
     (stands.next ∙ sym by.next)
+    (stands.made ∙ sym by.made)
 
 -- ---- the first state
 
@@ -96,6 +99,7 @@ first_stands file = record {
   past = tt;
   future = tt;
   next = refl;
+  made = refl;
 }
 
 -- no header fits in an empty journal

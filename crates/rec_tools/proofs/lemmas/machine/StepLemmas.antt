@@ -9,7 +9,7 @@ use Rattle.rec_journal.specs.declared.patch.Direction.{Direction}
 use Rattle.rec_journal.specs.declared.patch.Direction.TheVariants.{Forward, Backward}
 use Rattle.rec_journal.specs.declared.event.Tool.{Tool}
 use Rattle.rec_journal.specs.declared.plan.Plan.{Plan}
-use Rattle.rec_journal.specs.History.{Opened, Opens, IsOpening}
+use Rattle.rec_journal.specs.History.{Opened, Opens, IsOpening, lost_edits}
 use Rattle.rec_journal.specs.Revisions.{Leads}
 use Rattle.rec_journal.specs.Plans.{ShareDigest, edit_to, after_edit_plan, edits_on, after_move, LeadsNowhere}
 use Rattle.rec_journal.specs.Numbers.{numbers_on, is_missing}
@@ -24,10 +24,10 @@ use Rattle.rec_tools.specs.Steps.{Then}
 use Rattle.rec_tools.specs.Printouts.{Printout, history_text, printed_history}
 use Rattle.rec_tools.specs.Requests.{Edits, Asked, looking, listing, showing, listing_changes, editing, moving, reverting, forgetting, previewing, asked_of}
 use Rattle.rec_tools.specs.Reverting.{IsRevertOf}
-use Rattle.rec_tools.specs.Outcomes.{Outcome, IsRequestOutcome, IsPrinting, IsMade, IsEditOutcome, IsPutBy, IsPlanned, IsMove, IsMoveOutcome, IsForgetting, Forgets}
-use Rattle.rec_tools.specs.Outcomes.{edit_reply, revert_reply, printing, putting, reply_of}
+use Rattle.rec_tools.specs.Outcomes.{Outcome, IsRequestOutcome, IsPrinting, IsMade, IsEditOutcome, IsPutBy, IsPlanned, IsMove, IsMoveOutcome, IsLetGo, IsForgetting, Forgets}
+use Rattle.rec_tools.specs.Outcomes.{edit_reply, revert_reply, printing, staying, putting, reply_of}
 use Rattle.rec_tools.specs.Machine.{Entry, State, AreEntries, Stands, IsMachineStep, IsMadeStep, IsRevertIn, IsMoveStep, Clashes, standing_at, itself, entries_on, numbers_in}
-use Rattle.rec_tools.specs.Machine.{state_history, state_after_edit, state_after_move, state_after_forgetting}
+use Rattle.rec_tools.specs.Machine.{state_history, state_after_edit, state_after_move, state_after_forgetting, lost_entries}
 use Rattle.rec_tools.specs.Guarantee.{StepsAsMachine, OutcomesAreSteps}
 use Rattle.rec_text.proofs.lemmas.FaultLemmas.{ok_is_no_err}
 use Rattle.rec_tools.proofs.lemmas.machine.StandsLemmas.{StandsBy, stands_by, can_be_opened}
@@ -126,6 +126,7 @@ stands_after_move Backward o c after s nearest others by has text opens = record
     subst (λ t. AreEntries Forward o.future s.future t) (sym by.present) by.future,
   );
   next = ap (λ n. n + 1) by.next;
+  made = by.made;
 }
 stands_after_move Forward o c after s nearest others by has text opens = record {
   opened = after_move Forward o c.journal nearest others;
@@ -142,6 +143,7 @@ stands_after_move Forward o c after s nearest others by has text opens = record 
   );
   future = subst (λ t. AreEntries Forward others has.entries t) (sym text) has.after;
   next = ap (λ n. n + 1) by.next;
+  made = by.made;
 }
 
 -- ---- what is asked for, on contents that stand for a state
@@ -222,6 +224,7 @@ module _ (c : Contents) (s : State) (stands : Stands c s) where
             );
             future = tt;
             next = ap (λ n. n + 1) by.next;
+            made = ap (λ n. n + 1) by.made;
           }
 
       edit_steps : (o : Opened) (reply : Reply) → reply ≡ reply_for tool made → (r : Result Outcome Fault) → Opens c.file c.journal o → IsEditOutcome o c tool made reply r
@@ -316,31 +319,55 @@ module _ (c : Contents) (s : State) (stands : Stands c s) where
 
   -- ---- forgetting
 
-  module _ (n : ℕ) (o : Opened) (opens : Opens c.file c.journal o) where
+  module _ (n : ℕ) (dropping : Bool) (o : Opened) (opens : Opens c.file c.journal o) where
     history : StandsBy o c s
     history = by_opening o opens
 
     as_many : length o.past ≡ length s.past
     as_many = as_many_edits Backward o.past s.past c.file history.past
 
-    forgotten : (outcome : Outcome) → n < length o.past → Forgets n o c outcome → StepsAsMachine c s (forgetting n) (Ok outcome)
-    forgotten outcome more f =
-        subst (λ x. StepsAsMachine c s (forgetting n) (Ok x)) (sym f.is) (
-          state_after_forgetting n s,
-          (inr (omega (arith, more, as_many), ap (λ k. Ok (Forgotten (k - n))) as_many, refl), refl),
-          stands_after_forgetting n o c s history f.opens,
-        )
+    abbrev older : ℕ
+    older = length s.past - n
 
-    forgetting_steps : (r : Result Outcome Fault) → IsForgetting n o c r → StepsAsMachine c s (forgetting n) r
-    forgetting_steps (Ok outcome) (settled, inl (few, e)) =
-        subst (λ x. StepsAsMachine c s (forgetting n) (Ok x)) (sym e) (s, (inl (omega (arith, few, as_many), refl, refl), refl), stands)
-    forgetting_steps (Ok outcome) (settled, inr (more, f)) = forgotten outcome more f
+    abbrev dropped : ℕ
+    dropped = if dropping then lost_entries s else 0
+
+    abbrev left : ℕ
+    left = length s.past - older
+
+    lost_alike : lost_edits o ≡ lost_entries s
+    lost_alike =
+        ap (λ k. k - (length o.past + length o.future)) (sym history.made)
+        ∙ ap₂ (λ past future. s.made - (past + future)) as_many (as_many_edits Forward o.future s.future c.file history.future)
+
+    -- the same edits go of the history and of the machine
+    let_go_alike : (outcome : Outcome) → IsLetGo (length o.past - n) (if dropping then lost_edits o else 0) o c outcome
+        → ((older + dropped ≡ 0) × (outcome ≡ staying (Forgotten older dropped))) ⊎ ((0 < older + dropped) × Forgets left o c (Forgotten older dropped) outcome)
+    let_go_alike outcome goes =
+        let of_dropped = subst (λ k. IsLetGo (length o.past - n) (if dropping then k else 0) o c outcome) lost_alike goes in
+        subst (λ k. ((k - n + dropped ≡ 0) × (outcome ≡ staying (Forgotten (k - n) dropped))) ⊎ ((0 < k - n + dropped) × Forgets (k - (k - n)) o c (Forgotten (k - n) dropped) outcome))
+        as_many of_dropped
+
+    forgotten : (outcome : Outcome) → 0 < older + dropped → Forgets left o c (Forgotten older dropped) outcome → StepsAsMachine c s (forgetting n dropping) (Ok outcome)
+    forgotten outcome some f =
+        subst (λ x. StepsAsMachine c s (forgetting n dropping) (Ok x)) (sym f.is)
+        (state_after_forgetting left s, ((refl, inr (some, refl)), refl), stands_after_forgetting left o c s history f.opens)
+
+    stayed : (outcome : Outcome) → older + dropped ≡ 0 → outcome ≡ staying (Forgotten older dropped) → StepsAsMachine c s (forgetting n dropping) (Ok outcome)
+    stayed outcome none e = subst (λ x. StepsAsMachine c s (forgetting n dropping) (Ok x)) (sym e) (s, ((refl, inl (none, refl)), refl), stands)
+
+    forgetting_steps : (r : Result Outcome Fault) → IsForgetting n dropping o c r → StepsAsMachine c s (forgetting n dropping) r
+    forgetting_steps (Ok outcome) (settled, goes) =
+        elim (let_go_alike outcome goes) [
+          | inl stays ↦ stayed outcome stays.0 stays.1
+          | inr writes ↦ forgotten outcome writes.0 writes.1
+        ]
     forgetting_steps (Err fault) (e, drifted) = absurd (false≢true (sym history.settled ∙ drifted))
 
-  forgets_step : (n : ℕ) (r : Result Outcome Fault) → Then (IsOpening c.file c.journal) (λ o. IsForgetting n o c) r
-      → StepsAsMachine c s (forgetting n) r
-  forgets_step n r (inl (fault, refused, e)) = absurd (no_refusal fault refused)
-  forgets_step n r (inr (o, opens, forgets)) = forgetting_steps n o opens r forgets
+  forgets_step : (n : ℕ) (dropping : Bool) (r : Result Outcome Fault) → Then (IsOpening c.file c.journal) (λ o. IsForgetting n dropping o c) r
+      → StepsAsMachine c s (forgetting n dropping) r
+  forgets_step n dropping r (inl (fault, refused, e)) = absurd (no_refusal fault refused)
+  forgets_step n dropping r (inr (o, opens, forgets)) = forgetting_steps n dropping o opens r forgets
 
 -- whatever it comes to on contents that stand for a state, the machine steps so
 pub outcomes_are_steps : (c : Contents) (s : State) (asked : Asked) (r : Result Outcome Fault)
@@ -353,7 +380,7 @@ outcomes_are_steps c s (previewing style asked) r stands is = previews_step c s 
 outcomes_are_steps c s (editing IsEdit) r stands is = edits_step c s stands IsEdit r is
 outcomes_are_steps c s (moving direction through) r stands is = moves_step c s stands direction through r is
 outcomes_are_steps c s (reverting number force) r stands is = reverts_step c s stands number force r is
-outcomes_are_steps c s (forgetting n) r stands is = forgets_step c s stands n r is
+outcomes_are_steps c s (forgetting n dropping) r stands is = forgets_step c s stands n dropping r is
 
 pub of_requests : OutcomesAreSteps
 of_requests c s request r stands is = outcomes_are_steps c s (asked_of request) r stands is

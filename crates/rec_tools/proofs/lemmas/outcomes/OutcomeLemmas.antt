@@ -158,7 +158,7 @@ MeansOne (moving direction through) = Unit {0}
 MeansOne (reverting number force) = Unit {0}
 MeansOne (showing number style) = Unit {0}
 MeansOne (listing_changes style) = Unit {0}
-MeansOne (forgetting n) = Unit {0}
+MeansOne (forgetting n dropping) = Unit {0}
 MeansOne (previewing style asked) = MeansOne asked
 
 pub one_meaning : (request : Request) → MeansOne (asked_of request)
@@ -170,7 +170,7 @@ one_meaning (Batch text force) = agree_on_batch text force
 one_meaning (Undo through) = tt
 one_meaning (Redo through) = tt
 one_meaning (Revert number force) = tt
-one_meaning (Forget n) = tt
+one_meaning (Forget n dropped) = tt
 one_meaning History = tt
 one_meaning (Diff number style) = tt
 one_meaning (Log style) = tt
@@ -227,8 +227,8 @@ module _ (direction : Direction) (through : Option ℕ) (o : Opened) (c : Conten
 
 -- ---- forgetting
 
-module _ (n : ℕ) (o : Opened) (c : Contents) where
-  HasOne-forgetting : HasOne (IsForgetting n o c)
+module _ (n : ℕ) (dropping : Bool) (o : Opened) (c : Contents) where
+  HasOne-forgetting : HasOne (IsForgetting n dropping o c)
   HasOne-forgetting (Ok one) (Ok other) (settled, inl (few, e)) (settled_too, inl (few_too, k)) = ap Ok (e ∙ sym k)
   HasOne-forgetting (Ok one) (Ok other) (settled, inl (few, e)) (settled_too, inr (more, f)) = absurd (omega (arith, few, more))
   HasOne-forgetting (Ok one) (Ok other) (settled, inr (more, f)) (settled_too, inl (few, k)) = absurd (omega (arith, few, more))
@@ -349,8 +349,8 @@ module _ (c : Contents) where
   one_outcome_of (moving direction through) means one other is is_too built built_too =
       HasOne-Then (IsOpening c.file c.journal) (λ o. IsMove direction through o c) (one_opening c.file c.journal) (λ o _. HasOne-move direction through o c)
       one other is is_too
-  one_outcome_of (forgetting n) means one other is is_too built built_too =
-      HasOne-Then (IsOpening c.file c.journal) (λ o. IsForgetting n o c) (one_opening c.file c.journal) (λ o _. HasOne-forgetting n o c)
+  one_outcome_of (forgetting n dropping) means one other is is_too built built_too =
+      HasOne-Then (IsOpening c.file c.journal) (λ o. IsForgetting n dropping o c) (one_opening c.file c.journal) (λ o _. HasOne-forgetting n dropping o c)
       one other is is_too
 
 pub one_outcome : OneOutcome

@@ -68,11 +68,12 @@ never_moves direction through c =
 
 -- ---- forgetting
 
-no_store_forgetting : (n : ℕ) (o : Opened) (c : Contents) → IsForgetting n o c (Err StoreFailed) → ⊥
-no_store_forgetting n o c h = let e = h.0 in cc
+no_store_forgetting : (n : ℕ) (dropping : Bool) (o : Opened) (c : Contents) → IsForgetting n dropping o c (Err StoreFailed) → ⊥
+no_store_forgetting n dropping o c h = let e = h.0 in cc
 
-never_forgets : (n : ℕ) (c : Contents) → IsRequestOutcome c (forgetting n) (Err StoreFailed) → ⊥
-never_forgets n c = no_store_then (IsOpening c.file c.journal) (λ o. IsForgetting n o c) (λ h. h) (λ o. no_store_forgetting n o c)
+never_forgets : (n : ℕ) (dropping : Bool) (c : Contents) → IsRequestOutcome c (forgetting n dropping) (Err StoreFailed) → ⊥
+never_forgets n dropping c =
+    no_store_then (IsOpening c.file c.journal) (λ o. IsForgetting n dropping o c) (λ h. h) (λ o. no_store_forgetting n dropping o c)
 
 -- ---- what edits made
 
@@ -105,7 +106,7 @@ never_store (Batch text force) c is = never_edits c (IsBatch text force) (no_sto
 never_store (Undo through) c is = never_moves Backward through c is
 never_store (Redo through) c is = never_moves Forward through c is
 never_store (Revert number force) c is = never_reverts c number force is
-never_store (Forget n) c is = never_forgets n c is
+never_store (Forget n dropped) c is = never_forgets n dropped c is
 never_store (Diff number style) c is = no_store_shown number style c.file c.journal is
 never_store (Log style) c is = no_store_log style c.file c.journal is
 never_store (Preview' shape request style) c is = never_store request c is

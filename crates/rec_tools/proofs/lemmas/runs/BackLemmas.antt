@@ -93,9 +93,9 @@ undo_after c (reverting number force) done written_some made is =
 undo_after c (moving Forward through) done written_some made is = undo_after_redo c through done is
 undo_after c (moving Backward through) done written_some made (inl (fault, refused, e)) = absurd (no_both done fault e)
 undo_after c (moving Backward through) done written_some made (inr (o, opens, (settled, here, m))) = absurd (subst (λ (x : Outcome). MadeAnEdit x.reply) m.is made)
-undo_after c (forgetting n) done written_some made (inl (fault, refused, e)) = absurd (no_both done fault e)
-undo_after c (forgetting n) done written_some made (inr (o, opens, (settled, inl (few, e)))) = absurd (subst (λ (x : Outcome). MadeAnEdit x.reply) e made)
-undo_after c (forgetting n) done written_some made (inr (o, opens, (settled, inr (more, f)))) = absurd (subst (λ (x : Outcome). MadeAnEdit x.reply) f.is made)
+undo_after c (forgetting n dropping) done written_some made (inl (fault, refused, e)) = absurd (no_both done fault e)
+undo_after c (forgetting n dropping) done written_some made (inr (o, opens, (settled, inl (few, e)))) = absurd (subst (λ (x : Outcome). MadeAnEdit x.reply) e made)
+undo_after c (forgetting n dropping) done written_some made (inr (o, opens, (settled, inr (more, f)))) = absurd (subst (λ (x : Outcome). MadeAnEdit x.reply) f.is made)
 
 pub undo_brings_back : UndoBringsBack
 undo_brings_back c request done written_some made is = undo_after c (asked_of request) done written_some made is

@@ -160,12 +160,12 @@ one_nearer : (direction : Direction) (s : State) (x : Entry) (nearer farther : L
 one_nearer Backward s x nearer farther entry =
     same_state _ _ refl refl
     (ap (λ l. l ++ entry_back s x ∷ s.future) refl ∙ sym (regrouped (entry_back s x) (entries_back x.text (nearer ++ entry ∷ [])) s.future))
-    (omega arith)
+    (omega arith) refl
   where
     regrouped : (y : Entry) (ys zs : List Entry) → reverse (y ∷ ys) ++ zs ≡ reverse ys ++ y ∷ zs
     regrouped y ys zs = ap (λ l. l ++ zs) (reverse-append (y ∷ []) ys) ∙ append_assoc (reverse ys) (y ∷ []) zs
 one_nearer Forward s x nearer farther entry =
-    same_state _ _ (sym (regrouped (entry_back s x) (entries_back x.text (nearer ++ entry ∷ [])) s.past)) refl refl (omega arith)
+    same_state _ _ (sym (regrouped (entry_back s x) (entries_back x.text (nearer ++ entry ∷ [])) s.past)) refl refl (omega arith) refl
   where
     regrouped : (y : Entry) (ys zs : List Entry) → reverse (y ∷ ys) ++ zs ≡ reverse ys ++ y ∷ zs
     regrouped y ys zs = ap (λ l. l ++ zs) (reverse-append (y ∷ []) ys) ∙ append_assoc (reverse ys) (y ∷ []) zs

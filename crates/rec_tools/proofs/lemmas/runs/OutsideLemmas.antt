@@ -47,10 +47,10 @@ module _ (c : Contents) (o : Opened) (opens : Opens c.file c.journal o) (drifted
   no_move direction through (Err fault) (inr (p, opened, inr (here, inl (is, why)))) = ap Err is
   no_move direction through (Err fault) (inr (p, opened, inr (here, inr (is, settled, none)))) = absurd (not_settled p opened settled)
 
-  nothing_forgotten : (n : ℕ) (r : Result Outcome Fault) → IsRequestOutcome c (forgetting n) r → r ≡ Err Drifted
-  nothing_forgotten n r (inl (fault, refused, e)) = absurd (no_refusal fault refused)
-  nothing_forgotten n (Ok outcome) (inr (p, opened, (settled, forgets))) = absurd (not_settled p opened settled)
-  nothing_forgotten n (Err fault) (inr (p, opened, (is, why))) = ap Err is
+  nothing_forgotten : (n : ℕ) (dropping : Bool) (r : Result Outcome Fault) → IsRequestOutcome c (forgetting n dropping) r → r ≡ Err Drifted
+  nothing_forgotten n dropping r (inl (fault, refused, e)) = absurd (no_refusal fault refused)
+  nothing_forgotten n dropping (Ok outcome) (inr (p, opened, (settled, forgets))) = absurd (not_settled p opened settled)
+  nothing_forgotten n dropping (Err fault) (inr (p, opened, (is, why))) = ap Err is
 
   told_drifted : (r : Result Outcome Fault) → IsRequestOutcome c listing r → r ≡ Ok (printing (codes "drifted\n") Shown)
   told_drifted r (inl (fault, refused, e)) = absurd (no_refusal fault refused)
@@ -76,6 +76,7 @@ module _ (c : Contents) (o : Opened) (opens : Opens c.file c.journal o) (drifted
         );
         future = tt;
         next = refl;
+        made = refl;
       }
 
   -- nothing is reverted
@@ -107,7 +108,7 @@ module _ (c : Contents) (o : Opened) (opens : Opens c.file c.journal o) (drifted
         stands = subst (λ (x : Outcome). Stands (written c x.writes) (outside_state c o tool made.steps made.text)) (sym e) (begun tool made plan here);
       }
   begins_anew (moving direction through) outcome is some = absurd (ok_is_no_err outcome Drifted ⊥ (sym (no_move direction through (Ok outcome) is)))
-  begins_anew (forgetting n) outcome is some = absurd (ok_is_no_err outcome Drifted ⊥ (sym (nothing_forgotten n (Ok outcome) is)))
+  begins_anew (forgetting n dropping) outcome is some = absurd (ok_is_no_err outcome Drifted ⊥ (sym (nothing_forgotten n dropping (Ok outcome) is)))
 
   -- what is shown, or reported, is no edit that was made
   shown-no_edit : (reply : Reply) → reply ≡ Shown → MadeAnEdit reply → ⊥
@@ -140,7 +141,7 @@ module _ (c : Contents) (o : Opened) (opens : Opens c.file c.journal o) (drifted
   unwritten (Undo through) outcome is none made = absurd (ok_is_no_err outcome Drifted ⊥ (sym (no_move Backward through (Ok outcome) is)))
   unwritten (Redo through) outcome is none made = absurd (ok_is_no_err outcome Drifted ⊥ (sym (no_move Forward through (Ok outcome) is)))
   unwritten (Revert number force) outcome is none made = absurd (no_revert number force outcome is)
-  unwritten (Forget n) outcome is none made = absurd (ok_is_no_err outcome Drifted ⊥ (sym (nothing_forgotten n (Ok outcome) is)))
+  unwritten (Forget n dropped) outcome is none made = absurd (ok_is_no_err outcome Drifted ⊥ (sym (nothing_forgotten n dropped (Ok outcome) is)))
   unwritten History outcome is none made =
       absurd (shown-no_edit outcome.reply (ap (λ (x : Outcome). x.reply) (same_value outcome _ (told_drifted (Ok outcome) is))) made)
   unwritten (Diff number style) outcome is none made = absurd (printed-no_edit (IsShownEdit number style c.file c.journal) outcome is made)

@@ -71,9 +71,9 @@ grew c (moving Forward through) done writes made (inr (o, opens, (settled, here,
       opens_after = m.safe.next;
       one_more = omega arith;
     })
-grew c (forgetting n) done writes made (inl (fault, refused, e)) = absurd (no_both done fault e)
-grew c (forgetting n) done writes made (inr (o, opens, (settled, inl (few, e)))) = absurd (subst (λ (x : Outcome). MadeAnEdit x.reply) e made)
-grew c (forgetting n) done writes made (inr (o, opens, (settled, inr (more, f)))) = absurd (subst (λ (x : Outcome). MadeAnEdit x.reply) f.is made)
+grew c (forgetting n dropping) done writes made (inl (fault, refused, e)) = absurd (no_both done fault e)
+grew c (forgetting n dropping) done writes made (inr (o, opens, (settled, inl (few, e)))) = absurd (subst (λ (x : Outcome). MadeAnEdit x.reply) e made)
+grew c (forgetting n dropping) done writes made (inr (o, opens, (settled, inr (more, f)))) = absurd (subst (λ (x : Outcome). MadeAnEdit x.reply) f.is made)
 
 -- a history with an edit hasn't drifted
 not_drifted : (file journal : List ℕ) (o : Opened) (e : Revision) (others : List Revision) → Opens file journal o → o.past ≡ e ∷ others → o.drifted ≡ false

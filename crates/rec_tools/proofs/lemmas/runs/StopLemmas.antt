@@ -1,5 +1,5 @@
 -- What an outcome writes, where a write fails and where none does.
-use Rattle.std.proofs.Common.{◌≡◌, ◌⊎◌, inl, inr, ℕ, ◌+◌, zero, suc, List, [], ◌∷◌, length, take, Some, Result, Ok, ap, sym, subst, refl, ◌∙◌, arith}
+use Rattle.std.proofs.Common.{◌≡◌, ◌⊎◌, inl, inr, ℕ, ◌+◌, ◌-◌, zero, suc, List, [], ◌∷◌, length, take, Some, Result, Ok, ap, sym, subst, refl, ◌∙◌, arith}
 use Rattle.std.proofs.lemmas.List.{take_all}
 use Rattle.rec_journal.specs.declared.plan.Plan.{Plan}
 use Rattle.rec_journal.specs.History.{Opened, Opens, IsRegular}
@@ -76,6 +76,7 @@ module _ (c : Contents) (regular : IsRegular c.journal) where
           past = by.past;
           future = by.future;
           next = by.next;
+          made = by.made;
         }
 
     abbrev writes : List Write
@@ -111,10 +112,10 @@ module _ (c : Contents) (regular : IsRegular c.journal) where
   leaves (moving direction through) outcome (inl refused) = let e = refused.2 in cc
   leaves (moving direction through) outcome (inr (o, opens, (settled, here, m))) =
       subst (λ (x : Outcome). Leaves c x.writes) (sym m.is) (leaves-plan o _ opens m.plan m.safe)
-  leaves (forgetting n) outcome (inl refused) = let e = refused.2 in cc
-  leaves (forgetting n) outcome (inr (o, opens, (settled, inl (few, e)))) = leaves-nothing outcome.writes (ap (λ (x : Outcome). x.writes) e)
-  leaves (forgetting n) outcome (inr (o, opens, (settled, inr (more, f)))) =
-      subst (λ (x : Outcome). Leaves c x.writes) (sym f.is) (leaves-journal (forgotten_journal n o) f.regular)
+  leaves (forgetting n dropping) outcome (inl refused) = let e = refused.2 in cc
+  leaves (forgetting n dropping) outcome (inr (o, opens, (settled, inl (few, e)))) = leaves-nothing outcome.writes (ap (λ (x : Outcome). x.writes) e)
+  leaves (forgetting n dropping) outcome (inr (o, opens, (settled, inr (more, f)))) =
+      subst (λ (x : Outcome). Leaves c x.writes) (sym f.is) (leaves-journal (forgotten_journal (length o.past - (length o.past - n)) o) f.regular)
 
 -- ---- an outcome's writes
 

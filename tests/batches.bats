@@ -109,7 +109,7 @@ batched() {
     does undo db.rec
     has db.rec "$rules"
     put changes "$delete"
-    does batch -b changes --force db.rec
+    forces 'db.rec:1: size P¶' batch -b changes --force db.rec
     has db.rec '%rec: P¶%size: >= 2¶¶N: 2¶'
     does undo db.rec
     has db.rec "$rules"

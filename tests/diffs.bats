@@ -257,7 +257,7 @@ NAMES
         only f
     done
     recu 0 recset --dry-run -n 1 -f Id -s 1 --force f
-    prints '--- f¶+++ f¶@@ -5,4 +5,4 @@¶ ¶ Id: 1¶ ¶-Id: 2¶+Id: 1¶' ''
+    prints '--- f¶+++ f¶@@ -5,4 +5,4 @@¶ ¶ Id: 1¶ ¶-Id: 2¶+Id: 1¶' 'f:8: key Id¶'
     only f
 }
 

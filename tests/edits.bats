@@ -145,7 +145,7 @@ people='# P¶Name:  Ada¶# c¶Mail: a\¶b¶Mail: c¶¶Name: Bo'
     prints '' '1: size P¶line 1: %rec: P (1 record, %size: >= 2)¶db.rec: --force makes the edit all the same¶recu: violations: 1¶'
     has db.rec '%rec: P¶%size: >= 2¶¶N: 1¶¶N: 2¶'
     only db.rec
-    does recdel -t P -n 0 --force db.rec
+    forces 'db.rec:1: size P¶' recdel -t P -n 0 --force db.rec
     has db.rec '%rec: P¶%size: >= 2¶¶N: 2¶'
     recu 1 recfix db.rec
     prints '1: size P¶' ''
@@ -239,13 +239,30 @@ leads_to() {
     prints '' '6: key Id¶line 6: Id: 1 (also in line 4)¶db.rec: --force makes the edit all the same¶recu: violations: 1¶'
     has db.rec "$keyed"
     only db.rec
-    does recins -t P -f Id -v 1 --force db.rec
+    forces 'db.rec:6: key Id¶' recins -t P -f Id -v 1 --force db.rec
     has db.rec "$keyed¶Id: 1¶"
     recu 1 recfix db.rec
     prints '6: key Id¶' ''
     does undo db.rec
     has db.rec "$keyed"
     only db.rec db.rec.journal
+}
+
+@test "of a forced edit it is said which rules it breaks, and not which were broken before" {
+    local keyed='%rec: P¶%key: Id¶%mandatory: N¶¶Id: 1¶¶Id: 2¶N: b¶'
+    put db.rec "$keyed"
+    does recset --force -t P -n 0 -f A -s 1 db.rec
+    does recset --force -t P -n 0 -f A -S 1 db.rec
+    has db.rec '%rec: P¶%key: Id¶%mandatory: N¶¶Id: 1¶A: 1¶¶Id: 2¶N: b¶'
+    recu 0 recset --force --dry-run -n 1 -f Id -s 1 db.rec
+    prints '--- db.rec¶+++ db.rec¶@@ -5,5 +5,5 @@¶ Id: 1¶ A: 1¶ ¶-Id: 2¶+Id: 1¶ N: b¶' 'db.rec:8: key Id¶'
+    forces 'db.rec:8: key Id¶' recset --force -n 1 -f Id -s 1 db.rec
+    forces 'db.rec:11: mandatory N¶' recins --force -t P -f Id -v 3 db.rec
+    put changes 'Tool: recdel¶Number: 0-1¶¶Tool: recins¶Type: P¶Field: Id¶Value: 3¶'
+    recu 0 batch --force --dry-run -b changes db.rec
+    has "$BATS_TEST_TMPDIR/err" 'db.rec:7: key Id¶db.rec:7: mandatory N¶'
+    forces 'db.rec:7: key Id¶db.rec:7: mandatory N¶' batch --force -b changes db.rec
+    does recdel --force -t P db.rec
 }
 
 @test "records that are refused" {

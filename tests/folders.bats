@@ -207,10 +207,10 @@ gets_rights() {
     chmod 604 db.rec.journal
     traced undo db.rec
     gets_rights db.rec.new 0640
-    gets_rights db.rec.journal.new 0604
+    gets_rights db.rec.journal.new 0600
     does recset -n 0 -f A -s 9 db.rec
     traced forget 0 db.rec
-    gets_rights db.rec.journal.new 0604
+    gets_rights db.rec.journal.new 0600
     rm calls
     only db.rec db.rec.journal
 }

@@ -85,6 +85,12 @@ does() {
     prints '' ''
 }
 
+# forces SAID WORD..: recu does it, prints nothing, and says which rules it breaks
+forces() {
+    recu 0 "${@:2}"
+    prints '' "$1"
+}
+
 # is_refused REFUSAL: the last run printed nothing but why it was refused: what it is about, and then the line of the refusal
 is_refused() {
     has "$BATS_TEST_TMPDIR/out" ''

@@ -543,15 +543,15 @@ taken_back() {
     stays "$report" 'violations: 1' revert 1 db.rec
     stays "$report" 'violations: 1' revert 1 --dry-run db.rec
     recu 0 revert 1 --force --dry-run db.rec
-    prints '--- db.rec¶+++ db.rec¶@@ -1,6 +1,6 @@¶ %rec: P¶ %key: Id¶ ¶-Id: 2¶+Id: 1¶ ¶ Id: 1¶' ''
-    does revert --force 1 db.rec
+    prints '--- db.rec¶+++ db.rec¶@@ -1,6 +1,6 @@¶ %rec: P¶ %key: Id¶ ¶-Id: 2¶+Id: 1¶ ¶ Id: 1¶' 'db.rec:6: key Id¶'
+    forces 'db.rec:6: key Id¶' revert --force 1 db.rec
     has db.rec '%rec: P¶%key: Id¶¶Id: 1¶¶Id: 1¶'
 }
 
 @test "violations that stood before" {
     local stood='7: mandatory N¶line 7: Id: 2 (no N)¶all of these stood before the revert: mend them first, by a batch, by hand, or by edits with --force¶db.rec: --force reverts the edit all the same'
     put db.rec '%rec: P¶%mandatory: N¶¶N: a¶Id: 1¶¶Id: 2¶'
-    does recset -t P -n 0 -f N -d --force db.rec
+    forces 'db.rec:4: mandatory N¶' recset -t P -n 0 -f N -d --force db.rec
     stays "$stood" 'violations: 1' revert 1 db.rec
     does recset -t P -n 1 -f Id -s 3 --force db.rec
     does recset -t P -n 0 -f N -S b --force db.rec

@@ -11,6 +11,7 @@ mod dropped;
 mod edit_numbers;
 mod explanation;
 mod files;
+mod forced;
 mod lines;
 mod moves;
 mod notes;

@@ -5,6 +5,7 @@ ghost use Rattle.rec_explain.specs.Lines.{AreLines, IsShown};
 use crate::about::About;
 use crate::dropped::{say_what_is_dropped, say_what_was_undone};
 use crate::explanation::Explanation;
+use crate::forced::say_what_is_broken;
 use crate::refusal::tried;
 use crate::unchanged::explain_unchanged;
 use rec_text::read;
@@ -12,8 +13,9 @@ use rec_tools::{Ask, EditRequest, NewRecord, Pick, Reply, Request, Tool};
 use std::alloc::{AllocError, Global};
 use std::str;
 
-/// What is said of a command that succeeded: always that it ended the undo of earlier edits, where it did, and on a terminal
-/// what it did, or why it changed nothing. Of a dry run it is said what it would do.
+/// What is said of a command that succeeded: always that it ended the undo of earlier edits, where it did, and which rules an
+/// edit broke, where it was forced and so has a text; and on a terminal what it did, or why it changed nothing. Of a dry run it
+/// is said what it would do.
 pub fn explain_done(
     alloc: Global,
     about: &About<'_>,
@@ -27,6 +29,7 @@ pub fn explain_done(
     let mut said = Explanation::new(alloc);
     let is_tried = matches!(request, Request::Preview(_, _));
     say_what_is_dropped(about, reply, is_tried, &mut said);
+    say_what_is_broken(alloc, about, request, reply, &mut said);
     if on_terminal && !is_of_several(request) {
         say(
             if is_tried {

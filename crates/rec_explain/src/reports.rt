@@ -4,5 +4,5 @@ mod reasons;
 mod record_numbers;
 pub mod reported;
 mod shared_values;
-mod standing;
+pub mod standing;
 pub mod violations;

@@ -105,17 +105,9 @@ fn say_done<D: Disk + Drop>(
     reply: &Reply,
 ) {
     let on_terminal = rt.stderr().is_terminal();
-    let text = match reply {
-        Reply::Unchanged { .. } if on_terminal => text_again(rt, home),
-        _ => None,
-    };
-    let (history, events) = match reply {
-        Reply::Edited { dropped, .. } => {
-            history_before(rt, home, request, on_terminal, *dropped > 0)
-        }
-        Reply::Reverted { .. } => history_before(rt, home, request, on_terminal, false),
-        _ => (None, None),
-    };
+    let text = done_text(rt, home, request, reply, on_terminal);
+    let history = history_tried(rt, home, request, reply, on_terminal);
+    let events = done_events(rt, home, request, reply, on_terminal);
     let about = about(home, &None, &text, &history, &events);
     say(
         rt,
@@ -123,20 +115,61 @@ fn say_done<D: Disk + Drop>(
     );
 }
 
-/// The history of a dry run of an edit, as `history` prints it, or else the bytes of the journal with the edit: on a terminal, or
-/// where edits were dropped.
-fn history_before<D: Disk + Drop>(
+/// The text of the file, where on a terminal it is said why nothing was changed; and where rules may be broken by force.
+fn done_text<D: Disk + Drop>(
     rt: &HostRuntime,
     home: &DiskHome<'_, HostRuntime, D>,
     request: &Request,
+    reply: &Reply,
     on_terminal: bool,
-    has_dropped: bool,
-) -> (Option<Vec<u8>>, Option<Bytes>) {
-    match request {
-        Request::Preview(_, _) if on_terminal => (history_again(rt, home), None),
-        Request::Preview(_, _) => (None, None),
-        _ if on_terminal || has_dropped => (None, events_again(rt, home)),
-        _ => (None, None),
+) -> Option<Vec<u8>> {
+    let is_needed = match reply {
+        Reply::Unchanged { .. } => on_terminal,
+        Reply::Edited { .. } | Reply::Reverted { .. } => is_forced(request),
+        _ => false,
+    };
+    if is_needed {
+        text_again(rt, home)
+    } else {
+        None
+    }
+}
+
+/// The history, where on a terminal an edit was tried.
+fn history_tried<D: Disk + Drop>(
+    rt: &HostRuntime,
+    home: &DiskHome<'_, HostRuntime, D>,
+    request: &Request,
+    reply: &Reply,
+    on_terminal: bool,
+) -> Option<Vec<u8>> {
+    match (request, reply) {
+        (Request::Preview(_, _), Reply::Edited { .. } | Reply::Reverted { .. }) if on_terminal => {
+            history_again(rt, home)
+        }
+        _ => None,
+    }
+}
+
+/// The bytes of the journal with an edit that was made: on a terminal, and where edits were dropped or rules may be broken by
+/// force; and those from which a forced revert was tried.
+fn done_events<D: Disk + Drop>(
+    rt: &HostRuntime,
+    home: &DiskHome<'_, HostRuntime, D>,
+    request: &Request,
+    reply: &Reply,
+    on_terminal: bool,
+) -> Option<Bytes> {
+    let is_needed = match (request, reply) {
+        (Request::Preview(_, _), _) => is_forced(request) && is_revert(request),
+        (_, Reply::Edited { dropped, .. }) => on_terminal || *dropped > 0 || is_forced(request),
+        (_, Reply::Reverted { .. }) => on_terminal || is_forced(request),
+        _ => false,
+    };
+    if is_needed {
+        events_again(rt, home)
+    } else {
+        None
     }
 }
 
@@ -243,10 +276,24 @@ fn events_again<D: Disk + Drop>(
 }
 
 fn is_revert(request: &Request) -> bool {
-    match request {
-        Request::Revert { .. } => true,
-        Request::Preview(own, _) => matches!(**own, Request::Revert { .. }),
+    matches!(own_of(request), Request::Revert { .. })
+}
+
+/// Whether a request may break rules of the file, or one that is tried.
+fn is_forced(request: &Request) -> bool {
+    match own_of(request) {
+        Request::Edit { force, .. }
+        | Request::Batch { force, .. }
+        | Request::Revert { force, .. } => *force,
         _ => false,
+    }
+}
+
+/// The request that a dry run tries, or else the request.
+fn own_of(request: &Request) -> &Request {
+    match request {
+        Request::Preview(own, _) => own,
+        _ => request,
     }
 }
 

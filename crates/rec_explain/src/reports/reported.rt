@@ -92,6 +92,23 @@ fn show_violation(
     ]);
 }
 
+/// Says in which line of a file a violation stands, and what it breaks, as a report does.
+pub fn list_violation(file: &str, violation: &Violation, said: &mut Explanation) {
+    let file = plain(file.as_bytes()).unwrap_or("the file");
+    let broken = rule_and_name(violation);
+    said.add_at(file, violation.line, &broken);
+}
+
+/// The word of the rule that is broken, and the name for which it is.
+fn rule_and_name<'v>(violation: &'v Violation) -> [&'v str; 3] {
+    let name = plain(violation.name.as_slice()).unwrap_or("");
+    [word_of(violation), " ", name]
+}
+
+fn word_of<'v>(violation: &'v Violation) -> &'v str {
+    violation.rule.word()
+}
+
 /// The first line of the field by which a record is known: its key, or else its first field.
 fn known_by<'t>(place: &Place<'_, 't>) -> &'t [u8] {
     if let Some(key) = said_by(place.descriptor, b"%key")

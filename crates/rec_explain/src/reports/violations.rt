@@ -28,19 +28,15 @@ pub fn explain_violations(
     violations: &[Violation],
     said: &mut Explanation,
 ) {
-    match (request, about.text) {
-        (Request::Edit { edit, .. }, Some(text)) => {
-            show_forced(alloc, text, slice::from_ref(edit), violations, said);
-        }
-        (Request::Batch { text: batch, .. }, Some(text)) => {
-            if let Ok(edits) = batch_edits(alloc, batch.as_slice()) {
-                show_forced(alloc, text, &edits, violations, said);
-            }
-        }
-        (Request::Revert { number, .. }, Some(text)) => {
-            show_reverted(alloc, about, text, *number, violations, said);
-        }
-        _ => {}
+    if let Some(before) = about.text
+        && let Some(after) = left_by(alloc, about, before, request)
+    {
+        let change = Change {
+            before,
+            is_in_place: are_in_place(alloc, request),
+            named: named(request),
+        };
+        show_after(alloc, change, after.as_slice(), violations, said);
     }
     said.add(&[
         about.file,
@@ -52,41 +48,56 @@ pub fn explain_violations(
     ]);
 }
 
-/// Shows the records that edits would leave with violations.
-fn show_forced(
-    alloc: Global,
-    before: &[u8],
-    edits: &[EditRequest],
-    violations: &[Violation],
-    said: &mut Explanation,
-) {
-    if let Some(after) = forced(alloc, before, edits) {
-        let change = Change {
-            before,
-            is_in_place: edits.iter().all(keeps_places),
-            named: "the edit",
-        };
-        show_after(alloc, change, after.as_slice(), violations, said);
+fn named(request: &Request) -> &'static str {
+    if matches!(request, Request::Revert { .. }) {
+        "the revert"
+    } else {
+        "the edit"
     }
 }
 
-/// Shows those that a revert would leave with them.
-fn show_reverted(
+/// The text that a request leaves, whatever rules it breaks then; none where that isn't known, or it asks for no edit.
+pub fn left_by(
     alloc: Global,
     about: &About<'_>,
     before: &[u8],
-    number: usize,
-    violations: &[Violation],
-    said: &mut Explanation,
-) {
-    if let Some(left) = left_without(alloc, about, number) {
-        let change = Change {
-            before,
-            is_in_place: false,
-            named: "the revert",
-        };
-        show_after(alloc, change, left.as_slice(), violations, said);
+    request: &Request,
+) -> Option<Bytes> {
+    match request {
+        Request::Edit { edit, .. } => forced(alloc, before, slice::from_ref(edit)),
+        Request::Batch { text, .. } => {
+            forced(alloc, before, &batch_edits(alloc, text.as_slice()).ok()?)
+        }
+        Request::Revert { number, .. } => left_without(alloc, about, *number),
+        _ => None,
     }
+}
+
+/// Whether a request leaves each record in its place, and changes no more than fields.
+pub fn are_in_place(alloc: Global, request: &Request) -> bool {
+    match request {
+        Request::Edit { edit, .. } => keeps_places(edit),
+        Request::Batch { text, .. } => match batch_edits(alloc, text.as_slice()) {
+            Ok(edits) => edits.iter().all(keeps_places),
+            Err(_) => false,
+        },
+        _ => false,
+    }
+}
+
+/// Whether an edit leaves each record in its place, and changes no more than fields.
+fn keeps_places(edit: &EditRequest) -> bool {
+    matches!(
+        edit,
+        EditRequest::Set { .. } | EditRequest::Replace { .. } | EditRequest::AutoFill
+    )
+}
+
+/// What edits make of a text, whatever rules it breaks then.
+fn forced(alloc: Global, text: &[u8], edits: &[EditRequest]) -> Option<Bytes> {
+    let file = RecFile::read(alloc, text).ok()?;
+    let edited = make(alloc, file, edits, true).ok()?;
+    Some(edited.text)
 }
 
 fn show_after(
@@ -99,21 +110,6 @@ fn show_after(
     if let Ok(after) = RecFile::read(alloc, after) {
         show_edited(alloc, change, &after, violations, said);
     }
-}
-
-/// What edits make of a text, whatever rules it breaks then.
-fn forced(alloc: Global, text: &[u8], edits: &[EditRequest]) -> Option<Bytes> {
-    let file = RecFile::read(alloc, text).ok()?;
-    let edited = make(alloc, file, edits, true).ok()?;
-    Some(edited.text)
-}
-
-/// Whether an edit leaves each record in its place, and changes no more than fields.
-fn keeps_places(edit: &EditRequest) -> bool {
-    matches!(
-        edit,
-        EditRequest::Set { .. } | EditRequest::Replace { .. } | EditRequest::AutoFill
-    )
 }
 
 /// Shows the records of an edited text in which violations stand, and says which of these stood before.

@@ -13,9 +13,7 @@ import definitions
 
 TOP = os.path.dirname(os.path.dirname(os.path.abspath(__file__)))
 CLAUSE = r"\b(?:ensures|requires)(?: \w+)? {"
-EXCEPTED = {
-    "crates/rec_diff/proofs/reverting/records/keep_records/Answers.antt",
-}
+EXCEPTED = set()
 
 
 def files():

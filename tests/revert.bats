@@ -515,24 +515,62 @@ taken_back() {
     does recset -f Note -s $'z\ny' db.rec
     does revert 3 db.rec
     has db.rec 'Name: Ada¶Note: x¶+ y¶'
-    # a line of the value comes back among the others
+    # nobody wrote the value that would be left
     does recset -f Note -s $'x\na\ny' db.rec
     does recset -f Note -s $'x\ny' db.rec
     does recset -f Note -s $'x\ny\nz' db.rec
-    does revert 6 db.rec
-    has db.rec 'Name: Ada¶Note: x¶+ a¶+ y¶+ z¶'
+    barred 6 7 recset
+    led 6 7
+    has db.rec 'Name: Ada¶Note: x¶+ a¶+ y¶'
 }
 
 @test "a line of a value that begins as a descriptor does" {
     put db.rec 'C: a\¶%rec: Z¶B: 1¶'
     does recset -f C -s 2 db.rec
-    # the newest edit can always be reverted
-    recu 0 revert 1 --dry-run db.rec
     does recins -f D -v 1 db.rec
-    barred 1 2 recins
+    does revert 1 db.rec
+    has db.rec 'C: a\¶%rec: Z¶B: 1¶¶D: 1¶'
+}
+
+@test "a field stays in its record" {
+    # a field comes back into its own record, or not at all
+    put db.rec 'X: 0¶¶B: 2¶A: 1¶¶C: 3¶'
+    does recset -n 1 -f B -d db.rec
+    does recdel -n 1 db.rec
+    barred 1 2 recdel
     does revert 2 db.rec
     does revert 1 db.rec
-    has db.rec 'C: a\¶%rec: Z¶B: 1¶'
+    has db.rec 'X: 0¶¶B: 2¶A: 1¶¶C: 3¶'
+    # one that was put into a record goes with it, or stands against its going
+    rm db.rec.journal
+    put db.rec "''"
+    does recins -f A -v 1 db.rec
+    does recset -f C -a 2 db.rec
+    barred 1 2 recset
+    led 1 2
+    has db.rec "''"
+    # what is left of a record and what comes back to it are one record again
+    rm db.rec.journal
+    put db.rec 'A: 1¶B: 1¶'
+    put changes 'Tool: recdel¶Number: 0¶¶Tool: recins¶Field: A¶Value: 1¶¶Tool: recins¶Field: B¶Value: 1¶'
+    does batch -b changes db.rec
+    rm changes
+    does recins -f D -v 4 db.rec
+    has db.rec 'A: 1¶¶B: 1¶¶D: 4¶'
+    does revert 1 db.rec
+    has db.rec 'A: 1¶B: 1¶¶D: 4¶'
+}
+
+@test "what came back doesn't come back twice" {
+    put db.rec 'C: 1¶¶A: 4¶¶B: 5¶¶'
+    does recdel -n 2 db.rec
+    does recdel -n 1 db.rec
+    does revert 1 db.rec
+    has db.rec 'C: 1¶¶B: 5¶¶'
+    taken_back 1
+    does revert 3 db.rec
+    does revert 1 db.rec
+    has db.rec 'C: 1¶¶B: 5¶¶'
 }
 
 @test "rules of the file are kept, unless it is forced" {

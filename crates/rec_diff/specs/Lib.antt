@@ -10,6 +10,10 @@ pub mod Patched
 -- the diff of an edit
 pub mod Diffs
 -- one change taken back
+pub mod Strands
+pub mod Placed
+pub mod Making
+pub mod Keeping
 pub mod Reverts
 -- what serves proofs
 pub mod proving

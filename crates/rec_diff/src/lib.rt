@@ -27,5 +27,5 @@ pub use laws::{
 pub use printing::write_change;
 pub use rec_journal::{Hunk, Patch};
 pub use rec_text::{Bytes, Fault, Sink};
-pub use reverting::{one_revert, revert, reverts_leave_the_rest};
+pub use reverting::{fields_are_kept, newest_reverts, one_revert, revert, reverts_leave_the_rest};
 pub use style::DiffStyle;

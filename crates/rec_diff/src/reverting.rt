@@ -1,89 +1,133 @@
-//! One change of a text, made before later ones, is taken back alone.
-ghost use Rattle.std.specs.Prelude.{◌≡◌, ◌↔◌, ℕ, List, IfOk, IsTrue, MatchOption};
-ghost use Rattle.rec_journal.specs.Patch.{Splices};
-ghost use Rattle.rec_diff.specs.Reverts.{KeepPlaces, NothingReverts, OneRevert, Reverts, RevertsLeaveTheRest};
-ghost use Rattle.rec_diff.specs.proving.Weaving.{LeaveTheRest};
+//! One edit of a text, made before later ones, is taken back alone.
+ghost use Rattle.std.specs.Prelude.{◌≡◌, ◌≢◌, false, ℕ, List, [], IfOk, IfErr, IsTrue, MatchOption};
+ghost use Rattle.rec_text.specs.declared.fault.Fault.TheVariants.{OutOfMemory};
+ghost use Rattle.rec_journal.specs.Revisions.{LeadsBy, joined_steps, step_lists};
+ghost use Rattle.rec_diff.specs.Reverts.{FieldsAreKept, NewestReverts, NothingReverts, OneRevert, Reverts};
+ghost use Rattle.rec_diff.specs.Reverts.{RevertsLeaveTheRest};
+ghost use Rattle.rec_diff.specs.proving.Keeping.{later_steps};
+ghost use Rattle.rec_diff.specs.proving.Taking.{IsTakenBack, TakenKeeps};
 
 mod answer;
-mod records;
-mod sets;
+mod edits;
+mod keeping;
+mod making;
+mod numbering;
+mod reading;
+mod spread;
 mod standing;
-mod values;
+mod weaving;
 
-use crate::lining::turns_of;
-use crate::reverting::answer::{leave_lines, patch_of};
-use crate::reverting::records::keep_records;
-use crate::reverting::sets::keep_sets;
+use crate::reverting::answer::patch_of;
+use crate::reverting::edits::Edits;
+use crate::reverting::keeping::keeps_places;
 use crate::reverting::standing::standing_of;
-use crate::reverting::values::keep_values;
-use crate::turn::{Place, Texts};
-use rec_journal::Hunk;
+use crate::reverting::weaving::{Woven, weave};
+use crate::turn::Place;
+use rec_journal::{EditStep, Hunk, Patch};
+use rec_text::Fault;
 use std::alloc::{AllocError, Global};
 
-/// Whether hunks leave what stays in its set, its record and its value.
-fn keep_places(hunks: &[Hunk], text: &[u8]) -> bool
-    requires leads { (after : List ℕ) × Splices hunks.now text.now after }
-    ensures { IsTrue result ↔ KeepPlaces hunks.now text.now }
-{
-    keep_sets(hunks, text) && keep_records(hunks, text) && keep_values(hunks, text)
+/// What takes an edit back, and the changes among the texts with it and without it.
+#[derive(Drop)]
+struct TakenBack {
+    hunks: Vec<Hunk>,
+    woven: Woven,
 }
 
-/// Whether hunks leave no line without its end before others, and, where later ones were made, what stays in its place.
-fn leave_the_rest(later: &[Hunk], hunks: &[Hunk], text: &[u8]) -> bool
-    requires leads { (after : List ℕ) × Splices hunks.now text.now after }
-    ensures { IsTrue result ↔ LeaveTheRest later.now hunks.now text.now }
+/// What takes an edit back; none where a later change overlaps it, or nobody knows which comes first.
+fn taken_back(alloc: Global, edits: Edits<'_>) -> Result<Option<TakenBack>, AllocError>
+    requires own { LeadsBy edits.steps.now edits.before.now edits.after.now }
+    requires later { LeadsBy (later_steps edits) edits.after.now edits.here.now }
+    ensures { IfOk result (λ answer. MatchOption answer
+        (NothingReverts edits.entry.steps.now edits.entry.before.now edits.entry.after.now (later_steps edits.entry)
+        edits.entry.here.now)
+        (λ taken. IsTakenBack edits.entry taken.hunks.items taken.woven)) }
 {
-    leave_lines(hunks, text) && (later.is_empty() || keep_places(hunks, text))
-}
-
-/// The hunks that take a change back out of the text that later ones led to, and leave those; none where they can't be
-/// told apart, where a line would lack its end, or where what stays might move to another set, another record or
-/// another value. The last change can always be taken back.
-pub fn revert(
-    alloc: Global,
-    change: &[Hunk],
-    before: &[u8],
-    after: &[u8],
-    later: &[Hunk],
-    here: &[u8],
-) -> Result<Option<Vec<Hunk>>, AllocError>
-    requires change { Splices change.now before.now after.now }
-    requires later { Splices later.now after.now here.now }
-    ensures hunks { IfOk result (λ answer. MatchOption answer
-        (NothingReverts change.now before.now after.now later.now here.now)
-        (λ hunks. Reverts change.now before.now after.now later.now here.now hunks.items)) }
-{
-    let texts = Texts { before, after };
-    let turns = turns_of(alloc, change, texts)?;
-    let others = turns_of(
-        alloc,
-        later,
-        Texts {
-            before: after,
-            after: here,
-        },
-    )?;
+    let change = edits.own_turns(alloc)?;
+    let later = edits.later_turns(alloc)?;
     let last = Place {
-        old: after.len(),
-        new: here.len(),
+        old: edits.after.len(),
+        new: edits.here.len(),
     };
-    let Some(backs) = standing_of(alloc, texts, &turns, &others, last)? else {
+    let Some(backs) = standing_of(alloc, edits.own_texts(), &change, &later, last)? else {
         return Ok(None);
     };
     let hunks = patch_of(alloc, &backs)?;
-    if leave_the_rest(later, &hunks, here) {
-        Ok(Some(hunks))
+    let woven = weave(alloc, change, later, &backs)?;
+    Ok(Some(TakenBack { hunks, woven }))
+}
+
+/// Whether a patch leaves a text that keeps its places; nothing is asked where it changes nothing.
+fn is_kept(alloc: Global, edits: Edits<'_>, woven: &Woven, patch: &Patch) -> Result<bool, Fault>
+    requires own { LeadsBy edits.steps.now edits.before.now edits.after.now }
+    requires later { LeadsBy (later_steps edits) edits.after.now edits.here.now }
+    requires taken { IsTakenBack edits patch.now woven.now }
+    ensures kept { IfOk result (λ kept. IsTrue kept → patch.now ≢ []
+        → (taken : IsTakenBack edits.entry patch.now woven.now) → TakenKeeps edits.entry patch.now woven.now taken) }
+    ensures lost { IfOk result (λ kept. kept ≡ false → (taken : IsTakenBack edits.entry patch.now woven.now)
+        → (patch.now ≢ []) × (TakenKeeps edits.entry patch.now woven.now taken → ⊥)) }
+    ensures refusals { IfErr result (λ fault. fault ≡ OutOfMemory) }
+{
+    if patch.hunks().is_empty() {
+        return Ok(true);
+    }
+    let left = patch.apply(alloc, edits.here)?;
+    keeps_places(alloc, edits, woven, left.as_slice())
+}
+
+/// The patch that takes an edit back out of the text to which later ones led, and leaves those; none where they can't be
+/// told apart, or where what is left would not keep its places.
+pub fn revert(
+    alloc: Global,
+    steps: &[EditStep],
+    before: &[u8],
+    after: &[u8],
+    later: &[&[EditStep]],
+    here: &[u8],
+) -> Result<Option<Patch>, Fault>
+    requires steps { LeadsBy steps.now before.now after.now }
+    requires later { LeadsBy (joined_steps (step_lists later.now)) after.now here.now }
+    ensures patch { IfOk result (λ answer. MatchOption answer
+        (NothingReverts steps.now before.now after.now (joined_steps (step_lists later.now)) here.now)
+        (λ patch. Reverts steps.now before.now after.now (joined_steps (step_lists later.now)) here.now patch)) }
+    ensures refusals { IfErr result (λ fault. fault ≡ OutOfMemory) }
+{
+    let edits = Edits {
+        steps,
+        before,
+        after,
+        later,
+        here,
+    };
+    let Some(TakenBack { hunks, woven }) = taken_back(alloc, edits)? else {
+        return Ok(None);
+    };
+    let Some(patch) = Patch::new(hunks) else {
+        unreachable!()
+    };
+    if is_kept(alloc, edits, &woven, &patch)? {
+        Ok(Some(patch))
     } else {
         Ok(None)
     }
 }
 
-/// A change can be taken back in one way at most.
+/// An edit can be taken back in one way at most.
 pub fn one_revert()
     ensures { OneRevert }
 {}
 
-/// What takes a change back is a patch, and leaves the text that there would be without it.
+/// What takes an edit back is a patch, and leaves the text that there would be without it.
 pub fn reverts_leave_the_rest()
     ensures { RevertsLeaveTheRest }
+{}
+
+/// What keeps its places keeps fields together and records of their types, and joins no lines.
+pub fn fields_are_kept()
+    ensures { FieldsAreKept }
+{}
+
+/// The newest edit can be taken back wherever its texts read.
+pub fn newest_reverts()
+    ensures { NewestReverts }
 {}

@@ -4,9 +4,14 @@ use Rattle.std.specs.Borrow.{Bor}
 use Rattle.std.proofs.lemmas.List.{map-append, take-append-drop}
 use Rattle.std.proofs.lemmas.Grind.{flat_map-append}
 use Rattle.rec_journal.specs.declared.event.EditStep.{EditStep}
+use Rattle.rec_journal.specs.declared.patch.Hunk.{Hunk}
 use Rattle.rec_journal.specs.Revisions.{LeadsBy, joined_steps, step_lists}
 use Rattle.rec_journal.specs.Patch.{Splices}
 use Rattle.rec_journal.proofs.lemmas.patches.SplicingLemmas.{leads_to_one_text}
+use Rattle.rec_diff.specs.Composing.{ComposesAll, patches_of}
+use Rattle.rec_diff.specs.Reverts.{changing}
+use Rattle.rec_diff.proofs.lemmas.composing.LeadingLemmas.{composes_splices}
+use Rattle.rec_diff.proofs.lemmas.reverting.PatchLemmas.{changing_leads}
 use Rattle.rec_explain.specs.Later.{LeadOn}
 
 LeadsBy-append : (steps others : List EditStep) (text file : List ℕ) → LeadsBy (steps ++ others) text file → (between : List ℕ) × LeadsBy steps text between
@@ -51,3 +56,11 @@ rest_lead_on here edits edit others slice after leads split same passed =
 pub LeadsBy-join : (steps others : List EditStep) (text between file : List ℕ) → LeadsBy steps text between → LeadsBy others between file → LeadsBy (steps ++ others) text file
 LeadsBy-join [] others text between file first second = subst (λ (t : List ℕ). LeadsBy others t file) (sym first) second
 LeadsBy-join (step ∷ steps) others text between file first second = (first.0, first.1, LeadsBy-join steps others first.0 between file first.2 second)
+
+-- they lead to the text that the patch makes which does the same
+pub lead_to : (text : List ℕ) (edits : List (Bor (List EditStep))) (hunks : List Hunk) (here : List ℕ) → LeadOn text edits
+    → ComposesAll (patches_of (joined_steps (step_lists edits))) hunks → Splices (changing hunks) text here → LeadsBy (joined_steps (step_lists edits)) text here
+lead_to text edits hunks here (file, leads) composed spliced =
+    let steps = joined_steps (step_lists edits) in
+    let to_file = changing_leads 0 hunks text file (composes_splices steps hunks text file leads composed) in
+    subst (λ (t : List ℕ). LeadsBy steps text t) (leads_to_one_text.forward (changing hunks) text file here to_file spliced) leads

@@ -10,7 +10,6 @@ use Rattle.rec_journal.specs.EditTexts.{WithLater, IsStandingEdit}
 use Rattle.rec_journal.specs.History.{Opened}
 use Rattle.rec_journal.specs.Patch.{Splices}
 use Rattle.rec_journal.specs.Revisions.{single_step, joined_steps}
-use Rattle.rec_diff.specs.Composing.{patches_of, ComposesAll}
 use Rattle.rec_diff.specs.Reverts.{Reverts}
 use Rattle.rec_check.specs.DescribedTexts.{DescribedText, IsDescribedText}
 use Rattle.rec_edit.specs.declared.answer.Edited.{Edited}
@@ -35,13 +34,9 @@ standing_of found = record {
 
 -- ---- the text without an edit
 
--- what the edit changed, as one patch, and what all later ones did to that; and the hunks that take it back
-pub record TakesBack (e : Standing) (here : List ℕ) (hunks : List Hunk) : Type 0 where
-  pub change : List Hunk
-  pub change_is : ComposesAll (patches_of e.steps) change
-  pub others : List Hunk
-  pub others_are : ComposesAll (patches_of e.later) others
-  pub reverts : Reverts change e.before e.after others here hunks
+-- the hunks that take the edit back
+abbrev pub TakesBack : Standing → List ℕ → List Hunk → Type 0
+TakesBack e here hunks = Reverts e.steps e.before e.after e.later here hunks
 
 -- they are these, or a later edit changed the same lines
 abbrev pub AreHunksBack : Standing → List ℕ → Result (List Hunk) Fault → Type 0

@@ -11,7 +11,7 @@ ghost use Rattle.rec_tools.specs.proving.Editing.{HasSteps};
 ghost use Rattle.rec_tools.specs.proving.Reverting.{StandsBefore};
 
 use rec_check::RecFile;
-use rec_diff::{compose, compose_all, revert};
+use rec_diff::revert;
 use rec_edit::{Edited, require_rules};
 use rec_journal::{EditStep, EditSteps, History, Patch, StandingEdit, Tool, standing_edit};
 use rec_text::Fault;
@@ -34,17 +34,18 @@ fn patch_back(alloc: Global, standing: &StandingEdit<'_>, file: &[u8]) -> Result
     ensures refusals { IfErr result IsRefusal }
 {
     let texts = standing.texts();
-    let before = texts.before();
-    let after = texts.after();
-    let change = compose(alloc, texts.steps())?;
     let later = standing.later(alloc)?;
-    let others = compose_all(alloc, &later)?;
-    let Some(hunks) = revert(alloc, &change, before, after, &others, file)? else {
-        return Err(Fault::ChangedLater);
-    };
-    match Patch::new(hunks) {
+    let back = revert(
+        alloc,
+        texts.steps(),
+        texts.before(),
+        texts.after(),
+        &later,
+        file,
+    )?;
+    match back {
         Some(patch) => Ok(patch),
-        None => unreachable!(),
+        None => Err(Fault::ChangedLater),
     }
 }
 

@@ -1,17 +1,19 @@
 -- How the turns of a change and those of later ones are told apart.
-use Rattle.std.specs.Prelude.{◌≡◌, ◌≢◌, ℕ, ◌+◌, ◌-◌, ◌≤◌, Bool, true, false, ◌&&◌, ◌||◌, not, ◌==◌, nat_le}
-use Rattle.std.specs.Prelude.{List, [], ◌∷◌, length, Option, Some, None, if◌then◌else◌}
+use Rattle.std.specs.Prelude.{◌≡◌, ℕ, ◌+◌, ◌-◌, ◌≤◌, Bool, true, false, ◌&&◌, ◌||◌, not, ◌==◌, nat_le}
+use Rattle.std.specs.Prelude.{List, [], ◌∷◌, length, map, Option, Some, None, if◌then◌else◌}
 use Rattle.std.specs.List.{between}
 use Rattle.rec_text.specs.Bytes.{is_nil}
+use Rattle.rec_journal.specs.declared.event.EditStep.{EditStep}
+use Rattle.rec_journal.specs.Patch.{Splices}
 use Rattle.rec_journal.specs.declared.patch.Hunk.{Hunk}
 use Rattle.rec_diff.specs.declared.turn.Place.{Place}
 use Rattle.rec_diff.specs.declared.turn.Turn.{Turn}
 use Rattle.rec_diff.specs.declared.reverting.standing.Ahead.{Ahead}
 use Rattle.rec_diff.specs.declared.reverting.standing.Back.{Back}
-use Rattle.rec_diff.specs.Changes.{Stretch}
-use Rattle.rec_diff.specs.Lines.{at_line}
-use Rattle.rec_diff.specs.Reverts.{KeepPlaces, LeaveLines}
-use Rattle.rec_diff.specs.Reverts.{begin_with_blank, begin_with_set, keep_records, keep_sets}
+use Rattle.rec_diff.specs.Changes.{cut_from}
+use Rattle.rec_diff.specs.Composing.{all_deeds, deed_hunks, patches_of}
+use Rattle.rec_diff.specs.WholeLines.{whole_lines}
+use Rattle.rec_diff.specs.proving.Turns.{AreIn, site_of, sites}
 
 -- ---- hunks
 
@@ -93,6 +95,17 @@ module _ (before after : List ℕ) where
   turn_back t at =
       record { at = at; old = between t.start.new t.end.new after; new = between t.start.old t.end.old before }
 
+  -- the hunk of a turn, as it leads on, and as it leads back
+  abbrev pub hunk_on : Turn → Hunk
+  hunk_on t = record {
+    at = t.start.old;
+    old = between t.start.old t.end.old before;
+    new = between t.start.new t.end.new after;
+  }
+
+  abbrev pub hunk_back : Turn → Hunk
+  hunk_back t = turn_back t t.start.new
+
   abbrev pub turns_stand : List Turn → List Turn → Place → Option (List Hunk)
   turns_stand [] others place = Some []
   turns_stand (turn ∷ turns) others place =
@@ -101,6 +114,13 @@ module _ (before after : List ℕ) where
 -- at the start of both texts
 abbrev pub at_start : Place
 at_start = record { old = 0; new = 0 }
+
+-- the other way
+abbrev pub place_turned : Place → Place
+place_turned place = record { old = place.new; new = place.old }
+
+abbrev pub turn_turned : Turn → Turn
+turn_turned t = record { start = place_turned t.start; end = place_turned t.end }
 
 abbrev pub back_hunk : Back → Hunk
 back_hunk b = record { at = b.at; old = b.old.now; new = b.new.now }
@@ -119,31 +139,14 @@ pub record Passes (last : Place) (turn : Turn) (ahead next : Ahead) : Type 0 whe
   pub reached : next.place.old ≤ turn.start.new
   pub fits : place_of turn next.place ≤ last.new
 
--- ---- lines
-
--- no text follows one that has an open line at its end; the flag tells whether those before have none
-abbrev pub are_ended : Bool → List (List ℕ) → Bool
-are_ended ended [] = true
-are_ended ended (t ∷ ts) = if is_nil t then are_ended ended ts else ended && are_ended (at_line t) ts
-
--- ---- sets
-
--- parts keep their sets, and begin with one where that is wanted
-abbrev pub keep_on : Bool → List Stretch → Bool
-keep_on wanted parts = (not wanted || begin_with_set parts) && keep_sets parts
-
--- ---- records
-
--- parts begin with a blank line where that is wanted
-abbrev pub blank_on : Bool → List Stretch → Bool
-blank_on wanted parts = not wanted || begin_with_blank parts
-
--- and keep their records
-abbrev pub records_on : Bool → List Stretch → Bool
-records_on wanted parts = blank_on wanted parts && keep_records parts
-
 -- ---- the whole
 
--- no line is left without its end before others, and after later hunks what stays is left in its place
-abbrev pub LeaveTheRest : List Hunk → List Hunk → List ℕ → Type 0
-LeaveTheRest later hunks text = LeaveLines hunks text × (later ≢ [] → KeepPlaces hunks text)
+-- the hunks of one patch that does what steps do
+abbrev pub patch_by : List EditStep → List Hunk
+patch_by steps = deed_hunks (all_deeds (patches_of steps))
+
+-- the turns of what steps change, taken together, in whole lines
+pub record AreTurnsBy (steps : List EditStep) (before after : List ℕ) (turns : List Turn) : Type 0 where
+  pub leads : Splices (patch_by steps) before after
+  pub are : map (site_of before after) turns ≡ sites [] [] (whole_lines (cut_from 0 (patch_by steps) before))
+  pub order : AreIn before after 0 0 turns

@@ -17,7 +17,7 @@ use std::ops::Range;
 fn places_of_all(alloc: Global, text: &[u8], edits: &[&[EditStep]]) -> Result<Places, Fault>
     requires { LeadOn text.now edits.now }
 {
-    let patch = patch_of(compose_all(alloc, edits)?)?;
+    let patch = patch_of(alloc, compose_all(alloc, edits)?)?;
     let after = patch.apply(alloc, text)?;
     Ok(places_of(alloc, patch.hunks(), text, after.as_slice())?)
 }

@@ -5,11 +5,11 @@ ghost use Rattle.rec_explain.specs.Later.{LeadOn, Stands};
 use crate::about::About;
 use crate::explanation::Explanation;
 use crate::notes::{name_of, say};
-use crate::reverts::changes::{change_back, change_of, edit_back, history_of};
+use crate::reverts::changes::{change_of, edit_back, edit_back_of, history_of};
 use crate::reverts::in_effect::{is_taken_back, newest_in_effect};
 use crate::reverts::places::places_of;
 use crate::reverts::taken_back::{later_at, reverted_by};
-use rec_journal::{EditStep, Fault, History, Patch, StandingEdit, Step, standing_edit};
+use rec_journal::{EditStep, Fault, History, StandingEdit, Step, standing_edit};
 use rec_tools::Request;
 use std::alloc::{AllocError, Global};
 
@@ -90,7 +90,7 @@ fn obstacle_of(
     match place_of(alloc, &standing)? {
         Place::Later(place) => Ok(edit_at(&history, number, place)),
         Place::TakenBack => Ok(Obstacle::TakenBack(None)),
-        Place::Nowhere => Ok(Obstacle::Unknown),
+        Place::Nowhere => Ok(Obstacle::Text),
     }
 }
 
@@ -109,24 +109,22 @@ fn place_of(alloc: Global, standing: &StandingEdit<'_>) -> Result<Place, Fault>
     if let Some(place) = newest {
         return Ok(Place::Later(place));
     }
-    place_among(alloc, &change, texts.before(), texts.after(), &later)
+    place_among(alloc, standing, &later)
 }
 
 /// The same of a change whose lines no later edit changed: the edit since which it can't be taken back.
 fn place_among(
     alloc: Global,
-    change: &Patch,
-    before: &[u8],
-    after: &[u8],
+    standing: &StandingEdit<'_>,
     later: &[&[EditStep]],
 ) -> Result<Place, Fault>
-    requires change { Splices change.now before.now after.now }
-    requires later { LeadOn after.now later.now }
+    requires stands { Stands standing.now }
+    requires later { LeadOn standing.now.made.after later.now }
 {
     let mut count = later.len();
     while count > 0 {
         count -= 1;
-        let back = change_back(alloc, change, before, after, &later[..count])?;
+        let back = edit_back_of(alloc, standing, &later[..count])?;
         if back.is_some() {
             return Ok(Place::Later(count));
         }

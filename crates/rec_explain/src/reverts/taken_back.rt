@@ -1,11 +1,10 @@
 //! The later edit by which an edit was reverted.
 ghost use Rattle.std.specs.Prelude.{Ok};
 ghost use Rattle.rec_journal.specs.History.{IsOpening};
-ghost use Rattle.rec_journal.specs.Patch.{Splices};
-ghost use Rattle.rec_explain.specs.Later.{LeadOn};
+ghost use Rattle.rec_explain.specs.Later.{LeadOn, Stands};
 
-use crate::reverts::changes::{change_back, change_of};
-use rec_journal::{EditStep, Fault, History, Hunk, Patch, Step, standing_edit};
+use crate::reverts::changes::edit_back_of;
+use rec_journal::{EditStep, Fault, History, Hunk, StandingEdit, Step, standing_edit};
 use std::alloc::{AllocError, Global};
 
 /// How many later edits are tried that have the texts of a revert: each takes a look at all edits before it.
@@ -42,10 +41,8 @@ fn newest_revert(
     requires opened { IsOpening file.now journal.now (Ok history.now) }
 {
     let standing = standing_edit(alloc, history, file, journal, number)?;
-    let change = change_of(alloc, &standing)?;
     let later = standing.later(alloc)?;
-    let texts = standing.texts();
-    match revert_among(alloc, &change, texts.before(), texts.after(), &later)? {
+    match revert_among(alloc, &standing, &later)? {
         Some(place) => Ok(later_at(history, number, place)),
         None => Ok(None),
     }
@@ -68,20 +65,18 @@ pub fn later_at(history: &History, number: usize, place: usize) -> Option<Step> 
 /// The place of the newest of these edits that takes a change back, and does nothing else.
 fn revert_among(
     alloc: Global,
-    change: &Patch,
-    before: &[u8],
-    after: &[u8],
+    standing: &StandingEdit<'_>,
     later: &[&[EditStep]],
 ) -> Result<Option<usize>, Fault>
-    requires change { Splices change.now before.now after.now }
-    requires later { LeadOn after.now later.now }
+    requires stands { Stands standing.now }
+    requires later { LeadOn standing.now.made.after later.now }
 {
-    let Some(back) = change_back(alloc, change, before, after, &later[..0])? else {
+    let Some(back) = edit_back_of(alloc, standing, &later[..0])? else {
         return Ok(None);
     };
     let places = places_with(alloc, back.hunks(), later)?;
     for place in places.iter().rev().take(TRIED) {
-        if takes_back(alloc, change, before, after, later, *place)? {
+        if takes_back(alloc, standing, later, *place)? {
             return Ok(Some(*place));
         }
     }
@@ -108,19 +103,17 @@ fn places_with(
 /// Whether the edit of a place changes what takes a change back there.
 fn takes_back(
     alloc: Global,
-    change: &Patch,
-    before: &[u8],
-    after: &[u8],
+    standing: &StandingEdit<'_>,
     later: &[&[EditStep]],
     place: usize,
 ) -> Result<bool, Fault>
-    requires change { Splices change.now before.now after.now }
-    requires later { LeadOn after.now later.now }
+    requires stands { Stands standing.now }
+    requires later { LeadOn standing.now.made.after later.now }
 {
     if place >= later.len() {
         return Ok(false);
     }
-    let back = change_back(alloc, change, before, after, &later[..place])?;
+    let back = edit_back_of(alloc, standing, &later[..place])?;
     match (back, only_hunks(later[place])) {
         (Some(back), Some(own)) => Ok(are_those_of(own, back.hunks())),
         _ => Ok(false),

@@ -61,7 +61,7 @@ kept_more place kept (h ∷ hunks) before after (first, rest_before, rest_after,
   more,
 )
 
-changing_leads : (place : ℕ) (hunks : List Hunk) (before after : List ℕ) → SplicesFrom place hunks before after → SplicesFrom place (changing hunks) before after
+pub changing_leads : (place : ℕ) (hunks : List Hunk) (before after : List ℕ) → SplicesFrom place hunks before after → SplicesFrom place (changing hunks) before after
 changing_leads place [] before after same = same
 changing_leads place (h ∷ hunks) before after (kept, rest_before, rest_after, at, before_is, after_is, more) =
     let rest = changing_leads (h.at + length h.old) hunks rest_before rest_after more in

@@ -1,14 +1,18 @@
 -- A change is taken back in one way at most, and what is left is the text without it.
-use Rattle.std.proofs.Common.{◌≡◌, ◌∙◌, ℕ, ◌+◌, Bool, true, false, List, [], ◌∷◌, ◌++◌, length, map, Some, None, refl, sym, ap, ap₂, subst, arith}
+use Rattle.std.proofs.Common.{◌≡◌, ◌≢◌, ◌∙◌, ℕ, ◌+◌, Bool, true, false, List, [], ◌∷◌, ◌++◌, length, map, Some, None, refl, sym, ap, ap₂, subst, arith}
 use Rattle.std.specs.List.{flat_map}
+use Rattle.rec_journal.specs.declared.event.EditStep.{EditStep}
 use Rattle.rec_journal.specs.declared.patch.Hunk.{Hunk}
 use Rattle.rec_journal.specs.Patch.{Splices}
 use Rattle.rec_journal.proofs.lemmas.patches.SplicingLemmas.{leads_to_one_text}
 use Rattle.rec_diff.specs.Changes.{Stretch, stays, turns, turned, old_of, new_of, before_of, after_of, hunks_at, cut_from, joined}
 use Rattle.rec_diff.specs.WholeLines.{IsChange, lined_from, trimmed, whole_lines}
-use Rattle.rec_diff.specs.Reverts.{AreSettled, AreWoven, IsWithout, NothingReverts, OneRevert, Reverts, RevertsLeaveTheRest, Strand, as_patch, hunks_back}
-use Rattle.rec_diff.specs.Reverts.{same, mine, later, later_part, mine_part, texts_of, woven, woven_one}
-use Rattle.rec_diff.specs.proving.Weaving.{AreSpaced, LeaveTheRest, stand}
+use Rattle.rec_diff.specs.Keeping.{IsChangeBy, KeepsPlaces}
+use Rattle.rec_diff.specs.Strands.{AreSettled, AreWoven, Strand, ahead_in, back_in, hunks_back}
+use Rattle.rec_diff.specs.Reverts.{IsWithout, NothingReverts, OneRevert, Reverts, RevertsLeaveTheRest, as_patch}
+use Rattle.rec_diff.specs.Strands.{same, mine, later, later_part, mine_part, woven, woven_one}
+use Rattle.rec_diff.specs.Reverts.{texts_of}
+use Rattle.rec_diff.specs.proving.Weaving.{AreSpaced, patch_by, stand}
 use Rattle.rec_diff.proofs.lemmas.ChangeLemmas.{hunks_splice}
 use Rattle.rec_diff.proofs.lemmas.CutLemmas.{is_change, one_change}
 use Rattle.rec_diff.proofs.lemmas.WholeLineLemmas.{changes_lead_by_lines}
@@ -56,33 +60,33 @@ module _ (patch : List Hunk) (before after : List ℕ) (parts : List Stretch) (i
 
 -- ---- the texts of strands
 
-parts_before : (part : Strand → Stretch) (text : Strand → List ℕ) → ((s : Strand) → old_of (part s) ≡ text s) → (strands : List Strand)
+pub parts_before : (part : Strand → Stretch) (text : Strand → List ℕ) → ((s : Strand) → old_of (part s) ≡ text s) → (strands : List Strand)
     → before_of (map part strands) ≡ flat_map text strands
 parts_before part text each [] = refl
 parts_before part text each (s ∷ strands) = ap₂ (λ x y. x ++ y) (each s) (parts_before part text each strands)
 
-parts_after : (part : Strand → Stretch) (text : Strand → List ℕ) → ((s : Strand) → new_of (part s) ≡ text s) → (strands : List Strand)
+pub parts_after : (part : Strand → Stretch) (text : Strand → List ℕ) → ((s : Strand) → new_of (part s) ≡ text s) → (strands : List Strand)
     → after_of (map part strands) ≡ flat_map text strands
 parts_after part text each [] = refl
 parts_after part text each (s ∷ strands) = ap₂ (λ x y. x ++ y) (each s) (parts_after part text each strands)
 
 module _ (made : Bool) where
-  mine_old : (s : Strand) → old_of (mine_part made s) ≡ woven_one false made s
+  pub mine_old : (s : Strand) → old_of (mine_part made s) ≡ woven_one false made s
   mine_old (same t) = refl
   mine_old (mine old new) = refl
   mine_old (later old new) = refl
 
-  mine_new : (s : Strand) → new_of (mine_part made s) ≡ woven_one true made s
+  pub mine_new : (s : Strand) → new_of (mine_part made s) ≡ woven_one true made s
   mine_new (same t) = refl
   mine_new (mine old new) = refl
   mine_new (later old new) = refl
 
-  later_old : (s : Strand) → old_of (later_part made s) ≡ woven_one made false s
+  pub later_old : (s : Strand) → old_of (later_part made s) ≡ woven_one made false s
   later_old (same t) = refl
   later_old (mine old new) = refl
   later_old (later old new) = refl
 
-  later_new : (s : Strand) → new_of (later_part made s) ≡ woven_one made true s
+  pub later_new : (s : Strand) → new_of (later_part made s) ≡ woven_one made true s
   later_new (same t) = refl
   later_new (mine old new) = refl
   later_new (later old new) = refl
@@ -136,24 +140,39 @@ woven_is_found backs others between strands far woven =
     ap₂ (λ x y. stand x y 0 0) (sym woven.mine_is) (sym woven.later_is)
     ∙ woven_stand strands 0 0 0 0 (omega arith) refl settled (subst (λ hs. hs) refl (spaced_some 0 (others_at 0 strands) (subst (AreSpaced 0) (sym woven.later_is) far)))
 
-module _ (change : List Hunk) (before after : List ℕ) (after_hunks : List Hunk) (here : List ℕ) where
-  pub reverts_stand : (hunks : List Hunk) → (reverts : Reverts change before after after_hunks here hunks)
+-- by the composition of the steps
+pub change_by : (steps : List EditStep) (before after : List ℕ) (parts : List Stretch) → IsChangeBy steps before after parts → IsChange (patch_by steps) before after parts
+change_by steps before after parts is = subst (λ patch. IsChange patch before after parts) is.composed is.change
+
+pub by_change : (steps : List EditStep) (before after : List ℕ) (parts : List Stretch) → IsChange (patch_by steps) before after parts → IsChangeBy steps before after parts
+by_change steps before after parts is = record { patch = patch_by steps; composed = refl; change = is }
+
+module _ (steps : List EditStep) (before after : List ℕ) (later_steps : List EditStep) (here : List ℕ) where
+  abbrev change : List Hunk
+  change = patch_by steps
+
+  abbrev after_hunks : List Hunk
+  after_hunks = patch_by later_steps
+
+  pub reverts_stand : (hunks : List Hunk) → (reverts : Reverts steps before after later_steps here hunks)
       → stand (hunks_back reverts.parts) (hunks_at 0 reverts.others) 0 0 ≡ Some (standing_at 0 reverts.strands)
   reverts_stand hunks reverts =
-      woven_is_found (hunks_back reverts.parts) (hunks_at 0 reverts.others) after reverts.strands (change_spaced after_hunks after here reverts.others reverts.later_is) reverts.woven
+      woven_is_found (hunks_back reverts.parts) (hunks_at 0 reverts.others) after reverts.strands
+      (change_spaced after_hunks after here reverts.others (change_by later_steps after here reverts.others reverts.later_is)) reverts.woven
 
   -- it is told by any parts of whole lines, since there are no others
   pub reverts_found : (hunks : List Hunk) (parts others : List Stretch) → IsChange change before after parts → IsChange after_hunks after here others
-      → (reverts : Reverts change before after after_hunks here hunks) → stand (hunks_back parts) (hunks_at 0 others) 0 0 ≡ Some (standing_at 0 reverts.strands)
+      → (reverts : Reverts steps before after later_steps here hunks) → stand (hunks_back parts) (hunks_at 0 others) 0 0 ≡ Some (standing_at 0 reverts.strands)
   reverts_found hunks parts others change_is later_is reverts =
-      ap₂ (λ x y. stand (hunks_back x) (hunks_at 0 y) 0 0) (one_change change before after parts reverts.parts change_is reverts.change_is)
-      (one_change after_hunks after here others reverts.others later_is reverts.later_is)
+      ap₂ (λ x y. stand (hunks_back x) (hunks_at 0 y) 0 0) (one_change change before after parts reverts.parts change_is (change_by steps before after reverts.parts reverts.change_is))
+      (one_change after_hunks after here others reverts.others later_is (change_by later_steps after here reverts.others reverts.later_is))
       ∙ reverts_stand hunks reverts
 
-  pub one_revert_of : (one other : List Hunk) → Reverts change before after after_hunks here one → Reverts change before after after_hunks here other → one ≡ other
+  pub one_revert_of : (one other : List Hunk) → Reverts steps before after later_steps here one → Reverts steps before after later_steps here other → one ≡ other
   one_revert_of one other reverts also =
       let first = reverts_stand one reverts in
-      let second = reverts_found other reverts.parts reverts.others reverts.change_is reverts.later_is also in
+      let second = reverts_found other reverts.parts reverts.others (change_by steps before after reverts.parts reverts.change_is)
+      (change_by later_steps after here reverts.others reverts.later_is) also in
       let found : Some (standing_at 0 reverts.strands) ≡ Some (standing_at 0 also.strands) = sym first ∙ second in
       let same : standing_at 0 reverts.strands ≡ standing_at 0 also.strands = cc in
       reverts.is ∙ ap as_patch same ∙ sym also.is
@@ -162,14 +181,14 @@ module _ (change : List Hunk) (before after : List ℕ) (after_hunks : List Hunk
 
   module _ (parts others : List Stretch) (change_is : IsChange change before after parts) (later_is : IsChange after_hunks after here others) (strands : List Strand)
       (are : AreWoven (hunks_back parts) (hunks_at 0 others) after strands) where
-    here_is : woven true true strands ≡ here
+    pub here_is : woven true true strands ≡ here
     here_is =
         leads_to_one_text.forward (hunks_at 0 others) after (woven true true strands) here
         (subst (λ hs. Splices hs after (woven true true strands)) are.later_is
         (subst (λ t. Splices (others_at 0 strands) t (woven true true strands)) are.text (later_leads true strands)))
         (change_leads after_hunks after here others later_is)
 
-    before_is : woven false false strands ≡ before
+    pub before_is : woven false false strands ≡ before
     before_is =
         leads_to_one_text.forward (hunks_back parts) after (woven false false strands) before
         (subst (λ hs. Splices hs after (woven false false strands)) are.mine_is
@@ -190,81 +209,88 @@ module _ (change : List Hunk) (before after : List ℕ) (after_hunks : List Hunk
     }
 
 pub one_revert : OneRevert
-one_revert change before after later_hunks here one other reverts also = one_revert_of change before after later_hunks here one other reverts also
+one_revert steps before after later_steps here one other reverts also = one_revert_of steps before after later_steps here one other reverts also
 
 pub reverts_leave_the_rest : RevertsLeaveTheRest
-reverts_leave_the_rest change before after later_hunks here hunks reverts =
+reverts_leave_the_rest steps before after later_steps here hunks reverts =
     let strands = reverts.strands in
-    let leads = standing_leads change before after later_hunks here reverts.parts reverts.others reverts.change_is reverts.later_is strands reverts.woven in
+    let change_is = change_by steps before after reverts.parts reverts.change_is in
+    let later_is = change_by later_steps after here reverts.others reverts.later_is in
+    let leads = standing_leads steps before after later_steps here reverts.parts reverts.others change_is later_is strands reverts.woven in
     record {
       left = woven false true strands;
       leads = subst (λ hs. Splices hs here (woven false true strands)) (sym reverts.is) (as_patch_leads (standing_at 0 strands) here (woven false true strands) leads);
       is_patch = rw reverts.is (as_patch_is (standing_at 0 strands));
-      without = is_without change before after later_hunks here reverts.parts reverts.others reverts.change_is reverts.later_is strands reverts.woven;
+      without = is_without steps before after later_steps here reverts.parts reverts.others change_is later_is strands reverts.woven;
     }
 
 -- ---- what is found
 
-module _ (change : List Hunk) (before after : List ℕ) (later_hunks : List Hunk) (here : List ℕ) (leads : Splices change before after) (later_lead : Splices later_hunks after here) where
+module _ (steps : List EditStep) (before after : List ℕ) (later_steps : List EditStep) (here : List ℕ) (leads : Splices (patch_by steps) before after)
+    (later_lead : Splices (patch_by later_steps) after here) where
   abbrev pub parts_of : List Stretch
-  parts_of = whole_lines (cut_from 0 change before)
+  parts_of = whole_lines (cut_from 0 (patch_by steps) before)
 
   abbrev pub others_of : List Stretch
-  others_of = whole_lines (cut_from 0 later_hunks after)
+  others_of = whole_lines (cut_from 0 (patch_by later_steps) after)
 
-  pub parts_are : IsChange change before after parts_of
-  parts_are = is_change change before after leads
+  pub parts_are : IsChange (patch_by steps) before after parts_of
+  parts_are = is_change (patch_by steps) before after leads
 
-  pub others_are : IsChange later_hunks after here others_of
-  others_are = is_change later_hunks after here later_lead
+  pub others_are : IsChange (patch_by later_steps) after here others_of
+  others_are = is_change (patch_by later_steps) after here later_lead
 
-  found_woven : (found : List Hunk) → stand (hunks_back parts_of) (hunks_at 0 others_of) 0 0 ≡ Some found → IsWoven 0 0 (hunks_back parts_of) (hunks_at 0 others_of) after found
+  pub found_woven : (found : List Hunk) → stand (hunks_back parts_of) (hunks_at 0 others_of) 0 0 ≡ Some found → IsWoven 0 0 (hunks_back parts_of) (hunks_at 0 others_of) after found
   found_woven found is =
-      stand_woven (hunks_back parts_of) (hunks_at 0 others_of) 0 0 0 0 after before here (omega arith) refl (back_leads change before after parts_of parts_are)
-      (change_leads later_hunks after here others_of others_are) found is
+      stand_woven (hunks_back parts_of) (hunks_at 0 others_of) 0 0 0 0 after before here (omega arith) refl (back_leads (patch_by steps) before after parts_of parts_are)
+      (change_leads (patch_by later_steps) after here others_of others_are) found is
 
-  strands_woven : (found : List Hunk) → stand (hunks_back parts_of) (hunks_at 0 others_of) 0 0 ≡ Some found → (w : IsWoven 0 0 (hunks_back parts_of) (hunks_at 0 others_of) after found)
+  pub strands_woven : (found : List Hunk) → stand (hunks_back parts_of) (hunks_at 0 others_of) 0 0 ≡ Some found → (w : IsWoven 0 0 (hunks_back parts_of) (hunks_at 0 others_of) after found)
       → AreWoven (hunks_back parts_of) (hunks_at 0 others_of) after w.strands
   strands_woven found is w = record {
     mine_is = w.mine_is;
     later_is = w.later_is;
     text = w.text_is;
-    settled = stand_settled (hunks_back parts_of) 0 (back_spaced change before after parts_of parts_are) (hunks_at 0 others_of) 0 0 0
-        (change_spaced later_hunks after here others_of others_are) found is;
+    settled = stand_settled (hunks_back parts_of) 0 (back_spaced (patch_by steps) before after parts_of parts_are) (hunks_at 0 others_of) 0 0 0
+        (change_spaced (patch_by later_steps) after here others_of others_are) found is;
   }
+
+  -- the strands that are found
+  abbrev pub found_strands : (found : List Hunk) → (is : stand (hunks_back parts_of) (hunks_at 0 others_of) 0 0 ≡ Some found) → List Strand
+  found_strands found is = (found_woven found is).strands
 
   pub found_leads : (found : List Hunk) → stand (hunks_back parts_of) (hunks_at 0 others_of) 0 0 ≡ Some found → (left : List ℕ) × Splices found here left
   found_leads found is =
       let w = found_woven found is in (
         woven false true w.strands,
         subst (λ hs. Splices hs here (woven false true w.strands)) w.found_is
-            (standing_leads change before after later_hunks here parts_of others_of parts_are others_are w.strands (strands_woven found is w)),
+            (standing_leads steps before after later_steps here parts_of others_of parts_are others_are w.strands (strands_woven found is w)),
       )
 
-  pub found_reverts : (found hunks : List Hunk) → stand (hunks_back parts_of) (hunks_at 0 others_of) 0 0 ≡ Some found → hunks ≡ as_patch found
-      → LeaveTheRest later_hunks hunks here → Reverts change before after later_hunks here hunks
-  found_reverts found hunks is hunks_is (lines, places) =
+  pub found_reverts : (found hunks : List Hunk) (is : stand (hunks_back parts_of) (hunks_at 0 others_of) 0 0 ≡ Some found) → hunks ≡ as_patch found
+      → (hunks ≢ [] → KeepsPlaces steps later_steps parts_of others_of (ahead_in (found_strands found is)) (back_in (found_strands found is))) → Reverts steps before after later_steps here hunks
+  found_reverts found hunks is hunks_is places =
       let w = found_woven found is in
       record {
         parts = parts_of;
-        change_is = parts_are;
+        change_is = by_change steps before after parts_of parts_are;
         others = others_of;
-        later_is = others_are;
+        later_is = by_change later_steps after here others_of others_are;
         strands = w.strands;
         woven = strands_woven found is w;
         is = hunks_is ∙ ap as_patch (sym w.found_is);
-        lines = lines;
         places = places;
       }
 
-  pub none_reverts : stand (hunks_back parts_of) (hunks_at 0 others_of) 0 0 ≡ None → NothingReverts change before after later_hunks here
+  pub none_reverts : stand (hunks_back parts_of) (hunks_at 0 others_of) 0 0 ≡ None → NothingReverts steps before after later_steps here
   none_reverts is = λ hunks reverts.
-      let found : None ≡ Some (standing_at 0 reverts.strands) = sym is ∙ reverts_found change before after later_hunks here hunks parts_of others_of parts_are others_are reverts in cc
+      let found : None ≡ Some (standing_at 0 reverts.strands) = sym is ∙ reverts_found steps before after later_steps here hunks parts_of others_of parts_are others_are reverts in cc
 
-  pub unkept_reverts : (found hunks : List Hunk) → stand (hunks_back parts_of) (hunks_at 0 others_of) 0 0 ≡ Some found → hunks ≡ as_patch found
-      → (LeaveTheRest later_hunks hunks here → ⊥) → NothingReverts change before after later_hunks here
-  unkept_reverts found hunks is hunks_is unkept = λ other reverts.
-      let both : Some found ≡ Some (standing_at 0 reverts.strands) = sym is ∙ reverts_found change before after later_hunks here other parts_of others_of parts_are others_are reverts in
+  -- hunks that take it back are these, by strands that tell both changes apart
+  pub other_reverts : (found hunks other : List Hunk) → stand (hunks_back parts_of) (hunks_at 0 others_of) 0 0 ≡ Some found → hunks ≡ as_patch found
+      → (reverts : Reverts steps before after later_steps here other)
+      → (other ≡ hunks) × (standing_at 0 reverts.strands ≡ found)
+  other_reverts found hunks other is hunks_is reverts =
+      let both : Some found ≡ Some (standing_at 0 reverts.strands) = sym is ∙ reverts_found steps before after later_steps here other parts_of others_of parts_are others_are reverts in
       let same : found ≡ standing_at 0 reverts.strands = cc in
-      let others : other ≡ hunks = reverts.is ∙ ap as_patch (sym same) ∙ sym hunks_is in
-      unkept (subst (λ hs. LeaveTheRest later_hunks hs here) others (reverts.lines, reverts.places))
+      (reverts.is ∙ ap as_patch (sym same) ∙ sym hunks_is, sym same)

@@ -11,10 +11,10 @@ use Rattle.rec_diff.specs.declared.turn.Place.{Place}
 use Rattle.rec_diff.specs.declared.turn.Turn.{Turn}
 use Rattle.rec_diff.specs.declared.reverting.standing.Ahead.{Ahead}
 use Rattle.rec_diff.specs.Changes.{Stretch, stays, turns, turned, before_of, after_of, hunks_at}
-use Rattle.rec_diff.specs.Reverts.{hunks_back}
+use Rattle.rec_diff.specs.Strands.{hunks_back}
 use Rattle.rec_diff.specs.proving.Turns.{AreIn, IsIn, Site, site_of, sites}
-use Rattle.rec_diff.specs.proving.Weaving.{AreInStep, Passes, at_start, by_order, is_beside, is_turn_beside, moved_hunk, onto, order, past, place_of, stand, turn_back, turn_order, turns_past}
-use Rattle.rec_diff.specs.proving.Weaving.{turns_stand}
+use Rattle.rec_diff.specs.proving.Weaving.{AreInStep, Passes, at_start, by_order, hunk_back, hunk_on, is_beside, is_turn_beside, moved_hunk, onto, order, past, place_of, stand, turn_back, turn_order}
+use Rattle.rec_diff.specs.proving.Weaving.{turns_past, turns_stand}
 use Rattle.rec_diff.proofs.lemmas.PlaceLemmas.{next_item}
 
 -- some before others, if there are any
@@ -31,14 +31,6 @@ all_onto-none None = refl
 all_onto-none (Some ys) = refl
 
 -- ---- the hunks of turns
-
--- the hunk of a turn, as it leads on, and as it leads back
-module _ (before after : List ℕ) where
-  abbrev pub hunk_on : Turn → Hunk
-  hunk_on t = record { at = t.start.old; old = between t.start.old t.end.old before; new = between t.start.new t.end.new after }
-
-  abbrev pub hunk_back : Turn → Hunk
-  hunk_back t = turn_back before after t t.start.new
 
 abbrev site_on : Site → Hunk
 site_on s = record { at = length s.before; old = s.old; new = s.new }

@@ -8,7 +8,7 @@ use Rattle.rec_text.specs.Bytes.{is_nil}
 use Rattle.rec_journal.specs.declared.patch.Hunk.{Hunk}
 use Rattle.rec_journal.specs.Patch.{SplicesFrom}
 use Rattle.rec_diff.specs.Changes.{Stretch, stays, turns, turned, hunks_at}
-use Rattle.rec_diff.specs.Reverts.{Strand, same, mine, later, woven, mine_part, later_part, DontMeet, AreSettled}
+use Rattle.rec_diff.specs.Strands.{Strand, same, mine, later, woven, mine_part, later_part, DontMeet, AreSettled}
 use Rattle.rec_diff.specs.proving.Weaving.{AreSpaced, onto, by_order, is_beside, order, past, moved_hunk, stand}
 
 -- the hunks of strands: those that take the change back, those of the later ones, and those that take it back here
@@ -133,7 +133,7 @@ stand_by back backs o others b h which =
 
 -- ---- woven strands are found
 
-settled_tail : (backs : List Hunk) (o : Hunk) (others : List Hunk) → AreSettled backs (o ∷ others) → AreSettled backs others
+pub settled_tail : (backs : List Hunk) (o : Hunk) (others : List Hunk) → AreSettled backs (o ∷ others) → AreSettled backs others
 settled_tail [] o others settled = tt
 settled_tail (back ∷ backs) o others settled = (settled.0.1, settled_tail backs o others settled.1)
 

@@ -1,9 +1,9 @@
 -- What is left of a file without an edit, as it is found: the hunks, the steps, and what must hold of the text.
-use Rattle.std.proofs.Common.{arith, ◌≡◌, ◌≢◌, inl, inr, ℕ, Bool, true, false, List, [], ◌∷◌, append-nil, Option, Some, None, Result, Ok, Err, ap, ap₂, sym, subst, refl, ◌∙◌}
+use Rattle.std.proofs.Common.{arith, ◌≡◌, ◌≢◌, inl, inr, ℕ, Bool, true, false, List, [], ◌∷◌, append-nil, Some, None, Result, Ok, Err, ap, ap₂, sym, subst, refl, ◌∙◌}
 use Rattle.std.specs.List.{AllByRecursion}
 use Rattle.std.specs.Prelude.{◌-◌, length, slice_get}
 use Rattle.rec_text.specs.declared.fault.Fault.{Fault}
-use Rattle.rec_text.specs.declared.fault.Fault.TheVariants.{OutOfMemory, BadPattern, Drifted, ChangedLater}
+use Rattle.rec_text.specs.declared.fault.Fault.TheVariants.{OutOfMemory, BadPattern, Drifted}
 use Rattle.rec_text.specs.Faults.{IsMemoryOr, UnlessMemory}
 use Rattle.rec_text.proofs.lemmas.FaultLemmas.{memory_or_weaker}
 use Rattle.rec_journal.specs.declared.patch.Hunk.{Hunk}
@@ -13,50 +13,21 @@ use Rattle.rec_journal.specs.declared.event.Tool.TheVariants.{RecIns, RecDel, Re
 use Rattle.rec_journal.specs.EditTexts.{WithLater, IsStandingEdit}
 use Rattle.rec_journal.specs.Event.{AreStepsBy}
 use Rattle.rec_journal.specs.History.{Opened}
-use Rattle.rec_journal.specs.Patch.{IsPatch, Splices, FindsOnly}
-use Rattle.rec_journal.specs.Revisions.{single_step, all_hunks, is_batch, joined_steps, AreDone, LeadsBy}
-use Rattle.rec_diff.specs.Composing.{patches_of, ComposesAll}
-use Rattle.rec_diff.specs.Reverts.{Reverts, NothingReverts, LeavesTheRest}
-use Rattle.rec_diff.proofs.lemmas.composing.LeadingLemmas.{composes_splices, one_composition}
+use Rattle.rec_journal.specs.Patch.{Splices, FindsOnly}
+use Rattle.rec_journal.specs.Revisions.{single_step, all_hunks, is_batch}
 use Rattle.rec_diff.proofs.lemmas.reverting.RevertLemmas.{reverts_leave_the_rest}
 use Rattle.rec_check.specs.DescribedTexts.{DescribedText, IsDescribedText}
 use Rattle.rec_edit.specs.declared.answer.Edited.{Edited}
 use Rattle.rec_edit.specs.Outcome.{IsSoundUnlessForced}
-use Rattle.rec_tools.specs.Reverting.{Standing, TakesBack, AreHunksBack, IsLeft, IsReadable, IsKept, IsReverted, IsRevertOf, edited_back, last_tool, standing_of, unread}
+use Rattle.rec_tools.specs.Reverting.{Standing, TakesBack, AreHunksBack, IsLeft, IsReadable, IsKept, IsRevertOf, edited_back, last_tool, standing_of, unread}
 use Rattle.rec_tools.specs.proving.Editing.{HasSteps}
-use Rattle.rec_tools.specs.proving.Reverting.{StandsBefore}
 
 -- ---- the hunks
-
-module _ (found : WithLater) (here : List ℕ) (stands : StandsBefore here found) where
-  abbrev e : Standing
-  e = standing_of found
-
-  module _ (change others : List Hunk) (composed : ComposesAll (patches_of e.steps) change) (composed_too : ComposesAll (patches_of e.later) others) where
-    pub change_leads : Splices change e.before e.after
-    change_leads = composes_splices e.steps change e.before e.after stands.leads composed
-
-    pub others_lead : Splices others e.after here
-    others_lead = composes_splices e.later others e.after here stands.later composed_too
-
-    pub nothing_back : NothingReverts change e.before e.after others here → AreHunksBack e here (Err ChangedLater)
-    nothing_back none = (
-      refl,
-      λ hunks back. none hunks
-          (subst (λ hs. Reverts change e.before e.after hs here hunks) (one_composition (patches_of e.later) back.others others back.others_are composed_too)
-          (subst (λ hs. Reverts hs e.before e.after back.others here hunks) (one_composition (patches_of e.steps) back.change change back.change_is composed) back.reverts)),
-    )
-
-    pub are_back : (hunks : List Hunk) → Reverts change e.before e.after others here hunks → AreHunksBack e here (Ok hunks)
-    are_back hunks reverts = record { change = change; change_is = composed; others = others; others_are = composed_too; reverts = reverts }
-
-    pub is_patch_back : (hunks : List Hunk) → Reverts change e.before e.after others here hunks → IsPatch hunks
-    is_patch_back hunks reverts = (reverts_leave_the_rest change e.before e.after others here hunks reverts).is_patch
 
 -- they lead from the text here to one that is left
 pub back_leads : (e : Standing) (here : List ℕ) (hunks : List Hunk) → TakesBack e here hunks → (left : List ℕ) × Splices hunks here left
 back_leads e here hunks back =
-    let rest = reverts_leave_the_rest back.change e.before e.after back.others here hunks back.reverts in
+    let rest = reverts_leave_the_rest e.steps e.before e.after e.later here hunks back in
     (rest.left, rest.leads)
 
 -- ---- the steps

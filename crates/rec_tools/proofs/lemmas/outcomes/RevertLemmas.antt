@@ -12,9 +12,6 @@ use Rattle.rec_journal.specs.History.{Opened, Opens}
 use Rattle.rec_journal.specs.Patch.{Splices}
 use Rattle.rec_journal.proofs.lemmas.patches.SplicingLemmas.{leads_to_one_text}
 use Rattle.rec_journal.proofs.lemmas.texts.StandingLemmas.{one_standing_edit}
-use Rattle.rec_diff.specs.Composing.{patches_of}
-use Rattle.rec_diff.specs.Reverts.{Reverts}
-use Rattle.rec_diff.proofs.lemmas.composing.LeadingLemmas.{one_composition}
 use Rattle.rec_diff.proofs.lemmas.reverting.RevertLemmas.{one_revert}
 use Rattle.rec_check.specs.DescribedTexts.{IsDescribedText}
 use Rattle.rec_check.specs.Violations.{AreViolationsOf}
@@ -30,11 +27,7 @@ use Rattle.rec_tools.proofs.lemmas.printing.PutsLemmas.{no_store_then, no_store_
 
 module _ (e : Standing) (here : List ℕ) where
   one_back : (one other : List Hunk) → TakesBack e here one → TakesBack e here other → one ≡ other
-  one_back one other a b =
-      let change = one_composition (patches_of e.steps) a.change b.change a.change_is b.change_is in
-      let others = one_composition (patches_of e.later) a.others b.others a.others_are b.others_are in
-      one_revert b.change e.before e.after b.others here one other
-      (subst (λ hunks. Reverts b.change e.before e.after hunks here one) others (subst (λ hunks. Reverts hunks e.before e.after a.others here one) change a.reverts)) b.reverts
+  one_back one other a b = one_revert e.steps e.before e.after e.later here one other a b
 
   HasOne-back : HasOne (AreHunksBack e here)
   HasOne-back (Ok one) (Ok other) is is_too = ap Ok (one_back one other is is_too)

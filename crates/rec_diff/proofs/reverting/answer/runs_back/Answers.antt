@@ -3,7 +3,7 @@ use Rattle.rec_diff.specs.Composing.{deeds_from, deeds_of}
 use Rattle.rec_diff.specs.proving.Runs.{run_deeds}
 use Rattle.rec_diff.specs.proving.Weaving.{back_hunk}
 use Rattle.rec_diff.proofs.lemmas.composing.RunLemmas.{hunk_deeds, one_goes_over}
-use Rattle.rec_diff.proofs.lemmas.reverting.EndLemmas.{back_deeds, back_ends, backs_lead, no_back}
+use Rattle.rec_diff.proofs.lemmas.reverting.LeadLemmas.{back_deeds, back_ends, backs_lead, no_back}
 use Rattle.rec_diff.proofs.reverting.answer.runs_back.Goals as goal
 
 pub overflow_add-place : goal.overflow_add-place

@@ -2,7 +2,7 @@ use Rattle.std.proofs.Common.{◌≡◌, ◌<◌, ◌^◌, ℕ, List, ◌++◌, 
 use Rattle.rec_diff.specs.Composing.{deeds_from, deeds_of}
 use Rattle.rec_diff.specs.proving.Runs.{run_deeds}
 use Rattle.rec_diff.specs.proving.Weaving.{back_hunk}
-use Rattle.rec_diff.proofs.lemmas.reverting.EndLemmas.{LeadOn}
+use Rattle.rec_diff.proofs.lemmas.reverting.LeadLemmas.{LeadOn}
 use Rattle.rec_diff.proofs.reverting.answer.runs_back.Given as goal
 
 -- what is done so far, and what is left

@@ -319,6 +319,24 @@ taken_back() {
     has db.rec 'A: 1¶'
 }
 
+@test "records in a set that only the edit made" {
+    local number
+    put db.rec ''
+    for number in 1 2 3 4; do
+        does recins -t T -f A -v "$number" db.rec
+    done
+    led 1 2 3 4
+    has db.rec ''
+    # one of another set isn't named, nor again one that was taken back
+    rm db.rec.journal
+    does recins -t P -f A -v 1 db.rec
+    does recset -t P -n 0 -f B -S 2 db.rec
+    does recins -f A -v 3 db.rec
+    does recins -t P -f A -v 4 db.rec
+    led 1 2 4
+    has db.rec 'A: 3¶¶'
+}
+
 @test "edits beside the lines aren't named" {
     put db.rec 'A: 1¶B: 1¶C: 1¶¶D: 1¶'
     does recset -f B -s 2 db.rec
@@ -567,7 +585,7 @@ taken_back() {
     does recdel -n 1 db.rec
     does revert 1 db.rec
     has db.rec 'C: 1¶¶B: 5¶¶'
-    taken_back 1
+    taken_back 1 3
     does revert 3 db.rec
     does revert 1 db.rec
     has db.rec 'C: 1¶¶B: 5¶¶'

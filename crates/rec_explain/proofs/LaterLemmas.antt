@@ -20,19 +20,6 @@ LeadsBy-append (step ∷ steps) others text file h =
     let found = LeadsBy-append steps others h.0 file h.2 in
     (found.0, (h.0, h.1, found.1))
 
-steps_of-append : (first rest : List (Bor (List EditStep))) → joined_steps (step_lists (first ++ rest)) ≡ joined_steps (step_lists first) ++ joined_steps (step_lists rest)
-steps_of-append first rest =
-    ap joined_steps (map-append (λ (one : Bor (List EditStep)). one.now) first rest)
-    ∙ flat_map-append (λ (steps : List EditStep). steps) (step_lists first) (step_lists rest)
-
-pub first_lead_on : (text : List ℕ) (edits : List (Bor (List EditStep))) (count : ℕ) → LeadOn text edits → LeadOn text (take count edits)
-first_lead_on text edits count leads =
-    let first = take count edits in
-    let rest = drop count edits in
-    let split = ap (λ (all : List (Bor (List EditStep))). joined_steps (step_lists all)) (sym (take-append-drop count edits)) ∙ steps_of-append first rest in
-    LeadsBy-append (joined_steps (step_lists first)) (joined_steps (step_lists rest)) text leads.0
-    (subst (λ (steps : List EditStep). LeadsBy steps text leads.0) split leads.1)
-
 -- what all steps lead to from a text, with others after them, those that are left lead to from the text so far
 abbrev pub AreLeft : List EditStep → List ℕ → List EditStep → List ℕ → Type 0
 AreLeft steps text left here = (others : List EditStep) (file : List ℕ) → LeadsBy (steps ++ others) text file → LeadsBy (left ++ others) here file
@@ -45,6 +32,13 @@ one_less steps text left here so_far slice step rest next same split spliced oth
     let from_here = subst (λ (t : List ℕ). Splices step.patch t next) same spliced in
     subst (λ (t : List ℕ). LeadsBy (rest ++ others) t file) (leads_to_one_text.forward step.patch here all.0 next all.1 from_here) all.2
 
+pub first_leads : (here : List ℕ) (edits : List (Bor (List EditStep))) (edit : Bor (List EditStep)) (others : List (Bor (List EditStep))) (slice : List ℕ)
+    → LeadOn here edits → edits ≡ edit ∷ others → slice ≡ here → (file : List ℕ) × LeadsBy edit.now slice file
+first_leads here edits edit others slice leads split same =
+    let all = subst (λ (some : List (Bor (List EditStep))). LeadsBy (joined_steps (step_lists some)) here leads.0) split leads.1 in
+    LeadsBy-append edit.now (joined_steps (step_lists others)) slice leads.0
+    (subst (λ (t : List ℕ). LeadsBy (edit.now ++ joined_steps (step_lists others)) t leads.0) (sym same) all)
+
 pub rest_lead_on : (here : List ℕ) (edits : List (Bor (List EditStep))) (edit : Bor (List EditStep)) (others : List (Bor (List EditStep))) (slice after : List ℕ)
     → LeadOn here edits → edits ≡ edit ∷ others → slice ≡ here
     → ((more : List EditStep) (file : List ℕ) → LeadsBy (edit.now ++ more) slice file → LeadsBy more after file)
@@ -56,11 +50,3 @@ rest_lead_on here edits edit others slice after leads split same passed =
 pub LeadsBy-join : (steps others : List EditStep) (text between file : List ℕ) → LeadsBy steps text between → LeadsBy others between file → LeadsBy (steps ++ others) text file
 LeadsBy-join [] others text between file first second = subst (λ (t : List ℕ). LeadsBy others t file) (sym first) second
 LeadsBy-join (step ∷ steps) others text between file first second = (first.0, first.1, LeadsBy-join steps others first.0 between file first.2 second)
-
--- they lead to the text that the patch makes which does the same
-pub lead_to : (text : List ℕ) (edits : List (Bor (List EditStep))) (hunks : List Hunk) (here : List ℕ) → LeadOn text edits
-    → ComposesAll (patches_of (joined_steps (step_lists edits))) hunks → Splices (changing hunks) text here → LeadsBy (joined_steps (step_lists edits)) text here
-lead_to text edits hunks here (file, leads) composed spliced =
-    let steps = joined_steps (step_lists edits) in
-    let to_file = changing_leads 0 hunks text file (composes_splices steps hunks text file leads composed) in
-    subst (λ (t : List ℕ). LeadsBy steps text t) (leads_to_one_text.forward (changing hunks) text file here to_file spliced) leads

@@ -22,25 +22,27 @@ pub fn say_what_is_broken(
     let (Reply::Edited { number, .. } | Reply::Reverted { number, .. }) = reply else {
         return;
     };
+    let Some(text) = about.text else {
+        return;
+    };
     let is_in_place = are_in_place(alloc, tried(request));
     if matches!(request, Request::Preview(_, _)) {
-        list_tried(alloc, about, tried(request), is_in_place, said);
+        list_tried(alloc, about, text, tried(request), is_in_place, said);
     } else {
-        list_made(alloc, about, *number, is_in_place, said);
+        list_made(alloc, about, text, *number, is_in_place, said);
     }
 }
 
-/// Lists the violations that a request would add.
+/// Lists the violations that a request would add to a text.
 fn list_tried(
     alloc: Global,
     about: &About<'_>,
+    before: &[u8],
     request: &Request,
     is_in_place: bool,
     said: &mut Explanation,
 ) {
-    if let Some(before) = about.text
-        && let Some(after) = left_by(alloc, about, before, request)
-    {
+    if let Some(after) = left_by(alloc, about, before, request) {
         list_added(
             alloc,
             about.file,
@@ -52,16 +54,16 @@ fn list_tried(
     }
 }
 
-/// Lists those that the edit of a number added.
+/// Lists those that the edit of a number added, which made a text.
 fn list_made(
     alloc: Global,
     about: &About<'_>,
+    after: &[u8],
     number: usize,
     is_in_place: bool,
     said: &mut Explanation,
 ) {
-    if let Some(after) = about.text
-        && let Some(events) = about.events
+    if let Some(events) = about.events
         && let Ok(history) = history_of(alloc, after, events)
         && let Ok(texts) = edit_texts(alloc, &history, after, events, Some(number))
     {

@@ -4,4 +4,3 @@ mod in_effect;
 pub mod later_edits;
 pub mod left;
 mod places;
-mod taken_back;

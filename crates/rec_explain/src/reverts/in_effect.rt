@@ -1,25 +1,97 @@
-//! The newest of later edits that is in effect on the lines of an edit.
-ghost use Rattle.std.specs.Prelude.{◌≡◌, ◌∷◌, ◌++◌, ℕ, List, map, IfOk};
+//! Which edits are in effect, and which of them made what stands at some places of a text.
+ghost use Rattle.std.specs.Prelude.{◌++◌, List, ℕ, IfOk};
 ghost use Rattle.rec_journal.specs.declared.event.EditStep.{EditStep};
-ghost use Rattle.rec_journal.specs.Revisions.{LeadsBy, step_lists};
-ghost use Rattle.rec_explain.specs.Later.{LeadOn, Stands};
+ghost use Rattle.rec_journal.specs.Revisions.{LeadsBy};
+ghost use Rattle.rec_explain.specs.Later.{LeadOn};
 
-use crate::reverts::changes::patch_of;
-use crate::reverts::places::{
-    Places, are_changed, changed_lines, lines_around, moved_lines, places_of,
-};
-use rec_diff::compose_all;
-use rec_journal::{Bytes, EditStep, Fault, StandingEdit};
+use crate::reverts::places::{Places, Toward, is_changed, lines_at, moved, places_of};
+use rec_diff::compose;
+use rec_journal::{Bytes, EditStep, Fault};
 use std::alloc::{AllocError, Global};
+use std::hash::{DefaultHasher, Hasher};
 use std::ops::Range;
 
-/// The places of what these edits do, taken together. What they take back themselves doesn't count.
-fn places_of_all(alloc: Global, text: &[u8], edits: &[&[EditStep]]) -> Result<Places, Fault>
-    requires { LeadOn text.now edits.now }
+/// What an edit did, and what became of that.
+#[derive(Drop)]
+pub struct Deed {
+    pub places: Places,
+    /// What the hashes of the lines that it put in add up to, less those of the lines that it took out.
+    lines: u64,
+    /// The earlier edit that it takes back, by its place among all.
+    target: Option<usize>,
+    /// The later edit by which it is taken back.
+    pub taken_back_by: Option<usize>,
+}
+
+/// Which edits are looked for.
+#[derive(Clone, Copy)]
+enum Sought<'d> {
+    /// Those in effect that take none of the others back.
+    Standing,
+    /// Those in effect that this one turns: it takes out what they put in, and puts in what they took out.
+    TurnedBy(&'d Deed),
+}
+
+impl Deed {
+    /// Whether it is in effect, and takes no other edit back.
+    fn stands(&self) -> bool {
+        self.taken_back_by.is_none() && self.target.is_none()
+    }
+
+    /// Whether it is in effect, and a later one takes out the lines that it put in, and puts in those that it took out.
+    fn is_turned_by(&self, later: &Deed) -> bool {
+        self.taken_back_by.is_none() && self.lines.wrapping_add(later.lines) == 0
+    }
+
+    /// Whether it changed something at one of these places of the text after it.
+    fn changed_any(&self, places: &[Range<usize>]) -> bool {
+        places
+            .iter()
+            .any(|place| is_changed(place, &self.places, Toward::Before))
+    }
+
+    fn is_sought(&self, sought: Sought<'_>) -> bool {
+        match sought {
+            Sought::Standing => self.stands(),
+            Sought::TurnedBy(later) => self.is_turned_by(later),
+        }
+    }
+}
+
+fn hash_of(line: &[u8]) -> u64 {
+    let mut hasher = DefaultHasher::new();
+    hasher.write(line);
+    hasher.finish()
+}
+
+/// What the hashes of the lines of a text add up to in which these places are, which stand in order.
+fn sum_of_lines(alloc: Global, text: &[u8], places: &[Range<usize>]) -> Result<u64, AllocError> {
+    let mut sum: u64 = 0;
+    let mut end: usize = 0;
+    for place in lines_at(alloc, text, places)? {
+        let lines = text.get(place.start.max(end)..place.end).unwrap_or(&[]);
+        for line in lines.split_inclusive(|byte| *byte == b'\n') {
+            sum = sum.wrapping_add(hash_of(line));
+        }
+        end = place.end.max(end);
+    }
+    Ok(sum)
+}
+
+/// What the steps of an edit do.
+fn deed_of(alloc: Global, before: &[u8], after: &[u8], steps: &[EditStep]) -> Result<Deed, Fault>
+    requires { (file : List ℕ) × LeadsBy steps.now before.now file }
 {
-    let patch = patch_of(alloc, compose_all(alloc, edits)?)?;
-    let after = patch.apply(alloc, text)?;
-    Ok(places_of(alloc, patch.hunks(), text, after.as_slice())?)
+    let hunks = compose(alloc, steps)?;
+    let places = places_of(alloc, &hunks)?;
+    let old = sum_of_lines(alloc, before, &places.old)?;
+    let new = sum_of_lines(alloc, after, &places.new)?;
+    Ok(Deed {
+        places,
+        lines: new.wrapping_sub(old),
+        target: None,
+        taken_back_by: None,
+    })
 }
 
 /// The text after the steps of an edit.
@@ -36,91 +108,120 @@ fn text_after(alloc: Global, text: &[u8], steps: &[EditStep]) -> Result<Bytes, F
     Ok(here)
 }
 
-/// The steps of an edit, and those of the later ones.
-fn edit_and_later<'s>(
-    alloc: Global,
-    steps: &'s [EditStep],
-    later: &[&'s [EditStep]],
-) -> Result<Vec<&'s [EditStep]>, AllocError>
-    ensures { IfOk result (λ all. step_lists all.items ≡ steps.now ∷ step_lists later.now) }
-{
-    let mut all = Vec::new(alloc);
-    all.push(steps)?;
-    all.extend_from_slice(later)?;
-    Ok(all)
-}
-
-/// Whether the later edits took an edit back: with them, nothing is changed any more where it changed something.
-pub fn is_taken_back(
-    alloc: Global,
-    standing: &StandingEdit<'_>,
-    own: &Places,
-    later: &[&[EditStep]],
-) -> Result<bool, Fault>
-    requires stands { Stands standing.now }
-    requires later { step_lists later.now ≡ standing.now.later }
-{
-    let texts = standing.texts();
-    let all = edit_and_later(alloc, texts.steps(), later)?;
-    let changed = places_of_all(alloc, texts.before(), &all)?;
-    Ok(
-        own.old
-            .iter()
-            .all(|lines| !are_changed(lines, &changed.old)),
-    )
-}
-
-/// Of these lines, those of which the edits change something, where they stand after the first edit.
-fn lines_after(
-    alloc: Global,
-    text: &[u8],
-    edits: &[&[EditStep]],
-    lines: &[Range<usize>],
-) -> Result<Vec<Range<usize>>, Fault>
+/// What edits did, one after another, and which of them take others back.
+pub fn deeds_of(alloc: Global, text: &[u8], edits: &[&[EditStep]]) -> Result<Vec<Deed>, Fault>
     requires { LeadOn text.now edits.now }
 {
-    let changed = places_of_all(alloc, text, edits)?;
-    let next = places_of_all(alloc, text, &edits[..edits.len().min(1)])?;
-    Ok(moved_lines(alloc, lines, &changed, &next)?)
-}
-
-/// How many of these edits, from the first on, change something of these lines together with those after them.
-fn count_in_effect(
-    alloc: Global,
-    text: &[u8],
-    edits: &[&[EditStep]],
-    lines: Vec<Range<usize>>,
-) -> Result<usize, Fault>
-    requires { LeadOn text.now edits.now }
-{
-    let mut lines = lines;
+    let mut deeds = Vec::new(alloc);
     let mut here = Bytes::copy_of(alloc, text)?;
     let mut count = 0;
     while count < edits.len() {
-        lines = lines_after(alloc, here.as_slice(), &edits[count..], &lines)?;
-        if lines.is_empty() {
-            return Ok(count);
-        }
-        here = text_after(alloc, here.as_slice(), edits[count])?;
+        let next = text_after(alloc, here.as_slice(), edits[count])?;
+        let deed = deed_of(alloc, here.as_slice(), next.as_slice(), edits[count])?;
+        add(alloc, &mut deeds, deed)?;
+        here = next;
         count += 1;
     }
-    Ok(count)
+    Ok(deeds)
 }
 
-/// The place among the later edits of the newest that is in effect on the lines of an edit; none where these are as it left them.
-pub fn newest_in_effect(
-    alloc: Global,
-    after: &[u8],
-    own: &Places,
-    later: &[&[EditStep]],
-) -> Result<Option<usize>, Fault>
-    requires { LeadOn after.now later.now }
-{
-    let all = places_of_all(alloc, after, later)?;
-    let mut lines = changed_lines(alloc, &own.new, &all.old)?;
-    if lines.is_empty() {
-        lines = lines_around(alloc, &own.new, &all)?;
+/// Adds what a later edit did.
+fn add(alloc: Global, deeds: &mut Vec<Deed>, deed: Deed) -> Result<(), AllocError> {
+    let target = target_of(alloc, deeds, &deed)?;
+    let place = deeds.len();
+    deeds.push(deed)?;
+    if let Some(target) = target {
+        take_back(deeds, target, place);
     }
-    let count = count_in_effect(alloc, after, later, lines)?;
-    Ok(count.checked_sub(1))
+    Ok(())
+}
+
+/// The place of the edit that a later one takes back: it wrote what that one takes out, at its places.
+fn target_of(alloc: Global, deeds: &[Deed], later: &Deed) -> Result<Option<usize>, AllocError> {
+    if !deeds.iter().any(|deed| deed.is_turned_by(later)) {
+        return Ok(None);
+    }
+    let found = newest_of(alloc, deeds, &later.places.old, Sought::TurnedBy(later))?;
+    Ok(found.map(|place| first_made(deeds, place)))
+}
+
+fn target_at(deeds: &[Deed], place: usize) -> Option<usize> {
+    deeds.get(place)?.target
+}
+
+/// The place of the edit that one made again, if it took back what had taken that back; else its own.
+fn first_made(deeds: &[Deed], place: usize) -> usize {
+    match target_at(deeds, place).and_then(|back| target_at(deeds, back)) {
+        Some(first) => first,
+        None => place,
+    }
+}
+
+/// Notes that one edit takes another one back. What that one took back is in effect again.
+fn take_back(deeds: &mut Vec<Deed>, target: usize, by: usize) {
+    if let Some(deed) = deeds.get_mut(by) {
+        deed.target = Some(target);
+    }
+    if let Some(deed) = deeds.get_mut(target) {
+        deed.taken_back_by = Some(by);
+    }
+    if let Some(again) = target_at(deeds, target)
+        && let Some(deed) = deeds.get_mut(again)
+    {
+        deed.taken_back_by = None;
+    }
+}
+
+/// The place of the newest of these edits that stands, and changed something at these places of the text after them all.
+pub fn newest_at(
+    alloc: Global,
+    deeds: &[Deed],
+    places: &[Range<usize>],
+) -> Result<Option<usize>, AllocError> {
+    newest_of(alloc, deeds, places, Sought::Standing)
+}
+
+/// Where some places are after edits, with all that came in their place.
+pub fn places_after(
+    alloc: Global,
+    deeds: &[Deed],
+    places: Vec<Range<usize>>,
+) -> Result<Vec<Range<usize>>, AllocError> {
+    let mut here = places;
+    for deed in deeds {
+        here = moved(alloc, &here, &deed.places, Toward::After)?;
+    }
+    Ok(here)
+}
+
+/// The place of the newest of these edits that stands.
+pub fn newest_standing(deeds: &[Deed]) -> Option<usize> {
+    deeds.iter().rposition(|deed| deed.stands())
+}
+
+/// The place of the newest of these edits that is sought, and changed something at these places of the text after them all.
+fn newest_of(
+    alloc: Global,
+    deeds: &[Deed],
+    places: &[Range<usize>],
+    sought: Sought<'_>,
+) -> Result<Option<usize>, AllocError> {
+    let mut here = copy_of(alloc, places)?;
+    let mut count = deeds.len();
+    for deed in deeds.iter().rev() {
+        count = count.saturating_sub(1);
+        if deed.is_sought(sought) && deed.changed_any(&here) {
+            return Ok(Some(count));
+        }
+        here = moved(alloc, &here, &deed.places, Toward::Before)?;
+    }
+    Ok(None)
+}
+
+fn copy_of(alloc: Global, places: &[Range<usize>]) -> Result<Vec<Range<usize>>, AllocError> {
+    let mut copy = Vec::new(alloc);
+    for place in places {
+        copy.push(place.start..place.end)?;
+    }
+    Ok(copy)
 }

@@ -1,17 +1,18 @@
 //! Which later edit is in the way of a revert.
-ghost use Rattle.rec_journal.specs.Patch.{Splices};
-ghost use Rattle.rec_explain.specs.Later.{LeadOn, Stands};
+ghost use Rattle.std.specs.Prelude.{◌≡◌, ◌∷◌, IfOk};
+ghost use Rattle.rec_journal.specs.Revisions.{step_lists};
+ghost use Rattle.rec_explain.specs.Later.{StandsBefore};
 
 use crate::about::About;
 use crate::explanation::Explanation;
 use crate::notes::{name_of, say};
-use crate::reverts::changes::{change_of, edit_back, edit_back_of, history_of};
-use crate::reverts::in_effect::{is_taken_back, newest_in_effect};
-use crate::reverts::places::places_of;
-use crate::reverts::taken_back::{later_at, reverted_by};
+use crate::reverts::changes::{edit_back, history_of};
+use crate::reverts::in_effect::{Deed, deeds_of, newest_at, newest_standing, places_after};
+use crate::reverts::places::{lines_at, paragraphs_at};
 use rec_journal::{EditStep, Fault, History, StandingEdit, Step, standing_edit};
 use rec_tools::Request;
 use std::alloc::{AllocError, Global};
+use std::ops::Range;
 
 /// Why an edit can't be reverted.
 #[derive(Clone, Copy)]
@@ -30,8 +31,8 @@ enum Obstacle {
 enum Place {
     /// At an edit among the later ones.
     Later(usize),
-    /// The later ones took the edit back.
-    TakenBack,
+    /// The later ones took the edit back: one alone, if one did.
+    TakenBack(Option<usize>),
     /// At none of them.
     Nowhere,
 }
@@ -81,55 +82,88 @@ fn obstacle_of(
 ) -> Result<Obstacle, Fault> {
     let history = history_of(alloc, file, journal)?;
     let standing = standing_edit(alloc, &history, file, journal, number)?;
-    if edit_back(alloc, &standing)?.is_some() {
+    if edit_back(alloc, &standing, file)?.is_some() {
         return Ok(Obstacle::Text);
     }
-    if let Some(step) = reverted_by(alloc, &history, file, journal, number)? {
-        return Ok(Obstacle::TakenBack(Some(step)));
-    }
-    match place_of(alloc, &standing)? {
+    match place_of(alloc, &standing, file)? {
         Place::Later(place) => Ok(edit_at(&history, number, place)),
-        Place::TakenBack => Ok(Obstacle::TakenBack(None)),
+        Place::TakenBack(None) => Ok(Obstacle::TakenBack(None)),
+        Place::TakenBack(Some(place)) => {
+            Ok(Obstacle::TakenBack(later_at(&history, number, place)))
+        }
         Place::Nowhere => Ok(Obstacle::Text),
     }
 }
 
-/// Where the obstacle to the revert of an edit is.
-fn place_of(alloc: Global, standing: &StandingEdit<'_>) -> Result<Place, Fault>
-    requires { Stands standing.now }
+/// The steps of an edit, and those of the later ones.
+fn edit_and_later<'s>(
+    alloc: Global,
+    steps: &'s [EditStep],
+    later: &[&'s [EditStep]],
+) -> Result<Vec<&'s [EditStep]>, AllocError>
+    ensures { IfOk result (λ all. step_lists all.items ≡ steps.now ∷ step_lists later.now) }
 {
-    let change = change_of(alloc, standing)?;
-    let later = standing.later(alloc)?;
-    let texts = standing.texts();
-    let own = places_of(alloc, change.hunks(), texts.before(), texts.after())?;
-    if is_taken_back(alloc, standing, &own, &later)? {
-        return Ok(Place::TakenBack);
-    }
-    let newest = newest_in_effect(alloc, texts.after(), &own, &later)?;
-    if let Some(place) = newest {
-        return Ok(Place::Later(place));
-    }
-    place_among(alloc, standing, &later)
+    let mut all = Vec::new(alloc);
+    all.push(steps)?;
+    all.extend_from_slice(later)?;
+    Ok(all)
 }
 
-/// The same of a change whose lines no later edit changed: the edit since which it can't be taken back.
-fn place_among(
-    alloc: Global,
-    standing: &StandingEdit<'_>,
-    later: &[&[EditStep]],
-) -> Result<Place, Fault>
-    requires stands { Stands standing.now }
-    requires later { LeadOn standing.now.made.after later.now }
+/// Where the obstacle to the revert of an edit is.
+fn place_of(alloc: Global, standing: &StandingEdit<'_>, here: &[u8]) -> Result<Place, Fault>
+    requires { StandsBefore here.now standing.now }
 {
-    let mut count = later.len();
-    while count > 0 {
-        count -= 1;
-        let back = edit_back_of(alloc, standing, &later[..count])?;
-        if back.is_some() {
-            return Ok(Place::Later(count));
-        }
+    let texts = standing.texts();
+    let before = texts.before();
+    let later = standing.later(alloc)?;
+    let all = edit_and_later(alloc, texts.steps(), &later)?;
+    let deeds = deeds_of(alloc, before, &all)?;
+    let Some((own, others)) = deeds.split_first() else {
+        return Ok(Place::Nowhere);
+    };
+    if let Some(by) = own.taken_back_by {
+        return Ok(Place::TakenBack(by.checked_sub(1)));
     }
-    Ok(Place::Nowhere)
+    let old = lines_at(alloc, before, &own.places.old)?;
+    let new = lines_at(alloc, texts.after(), &own.places.new)?;
+    let left = places_after(alloc, others, new)?;
+    if have_texts_of(before, &old, here, &left) {
+        return Ok(Place::TakenBack(None));
+    }
+    match newest_in_the_way(alloc, here, others, &left)? {
+        Some(place) => Ok(Place::Later(place)),
+        None => Ok(Place::Nowhere),
+    }
+}
+
+/// Whether some places of a text have the bytes of as many places of another.
+fn have_texts_of(
+    text: &[u8],
+    places: &[Range<usize>],
+    other: &[u8],
+    others: &[Range<usize>],
+) -> bool {
+    places.len() == others.len()
+        && places.iter().zip(others).all(|(one, two)| text.get(one.start..one.end)
+            == other.get(two.start..two.end))
+}
+
+/// The place of the newest of some edits that stands, and changed something at these places of the text after them all; or else
+/// in the paragraphs around; or else anywhere.
+fn newest_in_the_way(
+    alloc: Global,
+    here: &[u8],
+    edits: &[Deed],
+    places: &[Range<usize>],
+) -> Result<Option<usize>, AllocError> {
+    if let Some(place) = newest_at(alloc, edits, places)? {
+        return Ok(Some(place));
+    }
+    let paragraphs = paragraphs_at(alloc, here, places)?;
+    if let Some(place) = newest_at(alloc, edits, &paragraphs)? {
+        return Ok(Some(place));
+    }
+    Ok(newest_standing(edits))
 }
 
 /// The edit at a place among those that stand after the edit of a number.
@@ -138,4 +172,18 @@ fn edit_at(history: &History, number: usize, place: usize) -> Obstacle {
         Some(step) => Obstacle::Edit(step),
         None => Obstacle::Unknown,
     }
+}
+
+/// The edit at a place among those that stand after the edit of a number.
+fn later_at(history: &History, number: usize, place: usize) -> Option<Step> {
+    let mut left = place;
+    for step in history.steps() {
+        if step.done && step.number > number {
+            if left == 0 {
+                return Some(step);
+            }
+            left -= 1;
+        }
+    }
+    None
 }

@@ -17,7 +17,7 @@ fn left_in(
 ) -> Result<Option<Bytes>, Fault> {
     let history = history_of(alloc, file, journal)?;
     let standing = standing_edit(alloc, &history, file, journal, number)?;
-    match edit_back(alloc, &standing)? {
+    match edit_back(alloc, &standing, file)? {
         Some(patch) => Ok(Some(patch.apply(alloc, file)?)),
         None => Ok(None),
     }

@@ -1,6 +1,0 @@
-use Rattle.std.proofs.Common.{◌-◌}
-use Rattle.rec_explain.proofs.LaterLemmas.{first_lead_on}
-use Rattle.rec_explain.proofs.reverts.later_edits.place_among.Goals as goal
-
-pub edit_back_of-requires-clause-later : goal.edit_back_of-requires-clause-later
-edit_back_of-requires-clause-later c = first_lead_on c.args.standing.now.made.after c.args.later.now (c.loop-count.count - 1) c.requires.later

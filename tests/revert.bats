@@ -668,3 +668,7 @@ taken_back() {
     does revert 1 db.rec
     has db.rec 'A: 0¶B: 60¶'
 }
+
+@test "drawn histories" {
+    python3 "$top/tests/reverts.py" "$program" 300 4
+}

@@ -36,9 +36,11 @@ proofs() {
         lanes=
     fi
     # The crates up to rec_tools stand one above another, so that nothing is beside most of them: there several processors do help.
-    # (what is proved is kept only where the disk has room)
+    # (What is proved is kept only where the disk has room. An older kit keeps nothing, takes no names, and says how it is called:
+    # it gives a crate that is proved alone several processors by itself.)
     if [ -n "$lanes" ] && [ -z "${RT_JOBS-}" ] && [ "$(df --output=avail -k . | tail -n 1)" -gt 20000000 ]; then
-        rt ci rec_tools | grep --line-buffered -vE '^[0-9]+ passed, [0-9]+ failed'
+        rt ci rec_tools 2>&1 | tee "$folder/log" | sed -u '/^usage: /,$d; /^[0-9]* passed, [0-9]* failed$/d'
+        ! grep -q '^usage: ' "$folder/log" || lanes=
     fi
     RT_JOBS=${RT_JOBS-$lanes} rt ci | tee "$folder/log"
     status=${PIPESTATUS[0]}

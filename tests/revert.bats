@@ -429,6 +429,26 @@ taken_back() {
     done
 }
 
+@test "what was deleted is there again, and no later edit stands" {
+    put db.rec 'A: 1¶¶A: 1¶'
+    does recdel -n 0 db.rec
+    does recset -f A -s 2 db.rec
+    does recset -f A -s 1 db.rec
+    local line="db.rec.journal: edit 1 can't be taken back alone any more"
+    stays "$line; undo --through 1 takes it back with all later ones" "$refusal" revert 1 db.rec
+    does undo --through 1 db.rec
+    has db.rec 'A: 1¶¶A: 1¶'
+}
+
+@test "a descriptor that would be left is none" {
+    local events=
+    events+=$(edit 1 '%rec: T¶%key:¶¶A: 1¶' '%rec: T¶%key: A¶¶A: 1¶' "$(line 8 '%key:' '%key: A')")
+    events+=$(edit 2 '%rec: T¶%key: A¶¶A: 1¶' '%rec: T¶%key: A¶¶A: 2¶' "$(line 17 'A: 1' 'A: 2')")
+    put db.rec '%rec: T¶%key: A¶¶A: 2¶'
+    put db.rec.journal "$header$events"
+    stays 'db.rec: without edit 1 it would not read' "$refusal" revert 1 db.rec
+}
+
 @test "a batch in the way" {
     put db.rec 'A: 1¶'
     put changes 'Tool: recset¶Fields: A¶Set: 3¶¶Tool: recset¶Fields: A¶Set: 4¶'

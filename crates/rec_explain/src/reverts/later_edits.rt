@@ -23,6 +23,8 @@ enum Obstacle {
     TakenBack(Option<Step>),
     /// The file would not read.
     Text,
+    /// No later edit stands, and yet it can't be told apart from those that were made and taken back.
+    Inseparable,
     Unknown,
 }
 
@@ -69,6 +71,9 @@ fn line_of(
             step.number
         ),
         Obstacle::Text => format!(in alloc; "{file}: without edit {number} it would not read"),
+        Obstacle::Inseparable => format!(in alloc;
+            "{journal}: edit {number} can't be taken back alone any more; undo --through {number} takes it back with all later ones"
+        ),
         Obstacle::Unknown => Ok(String::new(alloc)),
     }
 }
@@ -91,7 +96,7 @@ fn obstacle_of(
         Place::TakenBack(Some(place)) => {
             Ok(Obstacle::TakenBack(later_at(&history, number, place)))
         }
-        Place::Nowhere => Ok(Obstacle::Text),
+        Place::Nowhere => Ok(Obstacle::Inseparable),
     }
 }
 

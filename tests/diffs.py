@@ -1,6 +1,6 @@
 #!/usr/bin/env python3
 """diffs.py PROGRAM COUNT [SEED]: draws histories of a file, and compares what the program prints of each edit: the dry run before
-it, `show` after it and at the end, and `history --patch`; the real patch and git apply lead by each diff from the text before the
+it, `show` after it and at the end, `history --patch`, and dry runs of several moves; the real patch and git apply lead by each diff from the text before the
 edit to the one after, and with -R back. A diff with lines around the changes is that with none, with these lines."""
 
 import os
@@ -234,6 +234,21 @@ def history_of(program, name, machine):
     return len(machine.past) + len(machine.future)
 
 
+def moves_of(program, name, machine):
+    """What a dry run of several moves prints leads from text to text, one move after another, as far as the edit of each number."""
+    for way, edits in (("undo", machine.past[::-1]), ("redo", machine.future)):
+        printed = b""
+        for number, _, before, after in edits:
+            status, out, err = run([program, way, "--dry-run", "--through", str(number), "--", name])
+            if status != 0 or not out.startswith(printed):
+                wrong(f"{way} --dry-run --through {number} ends with {status}:", out, err, printed)
+            here, there = (after, before) if way == "undo" else (before, after)
+            is_led_by(name, out[len(printed):], here, there)
+            printed = out
+    if text(name) != machine.present:
+        wrong("a dry run of several moves changes the file")
+
+
 def drawn_history(program, name):
     start = drawn_text()
     write(name, start)
@@ -261,6 +276,7 @@ def drawn_history(program, name):
             shown = run([program, "show", "--", name])
             if shown[1] != tried[1]:
                 wrong("show prints something else than the dry run:", words, tried, shown)
+    moves_of(program, name, machine)
     return history_of(program, name, machine)
 
 

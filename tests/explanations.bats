@@ -241,13 +241,22 @@ batch_told() {
     recu 1 recfix f
     prints '7: mandatory B¶' "f:5: $ends"
     input=f recu 1 recfix
-    prints '7: mandatory B¶' ''
+    prints '7: mandatory B¶' "standard input:5: $ends"
+    ends 1 bash -c 'cat f | "$1" recfix' '' "$recu"
+    prints '7: mandatory B¶' "standard input:5: $ends"
     put f 'A: 1¶B: 2\x0D¶'
     does recfix f
+    input=f does recfix
     TERM=dumb script -qec "'$recu' recfix f" /dev/null > seen
     has seen "f:2: ${ends%¶}\x0D¶"
+    TERM=dumb script -qec "'$recu' recfix < f" /dev/null > seen
+    has seen "standard input:2: ${ends%¶}\x0D¶"
+    TERM=dumb script -qec "'$recu' recsel < f" /dev/null > seen
+    has seen 'A: 1\x0D¶B: 2\x0D\x0D¶'
     put f '# a\x0Db¶A: 1\x0D'
     TERM=dumb script -qec "'$recu' recfix f" /dev/null > seen
+    has seen ''
+    TERM=dumb script -qec "'$recu' recfix < f" /dev/null > seen
     has seen ''
 }
 

@@ -64,12 +64,20 @@ have_modes() {
     recu 0 recdel -n 0 link
     [ "$(readlink link)" = files/db.rec ] || fail 'the link is gone'
     has files/db.rec 'B: 2¶¶C: 3¶'
-    mv link.journal files/j
-    ln -s files/j link.journal
+    mv files/db.rec.journal files/j
+    ln -s j files/db.rec.journal
     recu 0 undo link
-    [ "$(readlink link.journal)" = files/j ] || fail "the journal's link is gone"
+    [ "$(readlink files/db.rec.journal)" = j ] || fail "the journal's link is gone"
+    has files/db.rec "$three"
+    # one that is given
+    recu 0 recdel -n 0 --journal link.journal link
+    mv link.journal files/i
+    ln -s files/i link.journal
+    recu 0 undo --journal link.journal link
+    [ "$(readlink link link.journal)" = $'files/db.rec\nfiles/i' ] || fail 'a link is gone'
     has files/db.rec "$three"
     only files link link.journal
+    [ "$(ls -A files | tr '\n' ' ')" = 'db.rec db.rec.journal i j ' ] || fail "$(ls -A files)"
 }
 
 @test "links with whole paths are followed and kept" {
@@ -78,12 +86,183 @@ have_modes() {
     ln -s "$PWD/files/db.rec" links/db.rec
     does recdel -n 0 links/db.rec
     has files/db.rec 'B: 2¶¶C: 3¶'
-    mv links/db.rec.journal files/j
-    ln -s "$PWD/files/j" links/db.rec.journal
+    mv files/db.rec.journal links/j
+    ln -s "$PWD/links/j" files/db.rec.journal
     does undo links/db.rec
     has files/db.rec "$three"
-    [ "$(readlink links/db.rec links/db.rec.journal)" = "$PWD/files/db.rec"$'\n'"$PWD/files/j" ] || fail 'a link is gone'
-    [ "$(ls -A files links | tr '\n' ' ')" = 'files: db.rec j  links: db.rec db.rec.journal ' ] || fail "$(ls -A files links)"
+    [ "$(readlink links/db.rec files/db.rec.journal)" = "$PWD/files/db.rec"$'\n'"$PWD/links/j" ] || fail 'a link is gone'
+    [ "$(ls -A files links | tr '\n' ' ')" = 'files: db.rec db.rec.journal  links: db.rec j ' ] || fail "$(ls -A files links)"
+}
+
+# real/db.rec, which has two records of three, and a link to it
+linked() {
+    mkdir real
+    put real/db.rec "$three"
+    ln -s real/db.rec l.rec
+    does recdel -n 0 "$@" l.rec
+}
+
+# only_real NAME..: what stands in the folder of the file
+only_real() {
+    [ "$(ls -A real | tr '\n' ' ')" = "$* " ] || fail "$(ls -A real)"
+}
+
+# prints_as_the_file WORD..: by the link it prints what it does by the file
+prints_as_the_file() {
+    recu 0 "$@" real/db.rec
+    mv "$BATS_TEST_TMPDIR/out" "$BATS_TEST_TMPDIR/wanted"
+    recu 0 "$@" l.rec
+    sed -i 's|l\.rec|real/db.rec|' "$BATS_TEST_TMPDIR/out"
+    cmp "$BATS_TEST_TMPDIR/wanted" "$BATS_TEST_TMPDIR/out" || fail "$* prints something else"
+}
+
+@test "an edit through a link is one of the file's history" {
+    linked
+    does recset -n 0 -f B -s 7 real/db.rec
+    has real/db.rec 'B: 7¶¶C: 3¶'
+    tells() {
+        recu 0 history "$1"
+        prints "$2" ''
+    }
+    for path in l.rec real/db.rec; do tells "$path" 'done 1 recdel¶done 2 recset¶'; done
+    only l.rec real
+    only_real db.rec db.rec.journal
+    does undo l.rec
+    does undo real/db.rec
+    has real/db.rec "$three"
+    for path in l.rec real/db.rec; do tells "$path" 'undone 1 recdel¶undone 2 recset¶'; done
+    does redo --through 2 l.rec
+    has real/db.rec 'B: 7¶¶C: 3¶'
+    put changes 'Tool: recset¶Number: 0¶Fields: B¶Set: 8¶'
+    does batch -b changes l.rec
+    does revert 7 l.rec
+    has real/db.rec 'B: 7¶¶C: 3¶'
+    tells real/db.rec 'done 1 recdel¶done 2 recset¶done 7 batch¶done 8 batch¶'
+    does forget 1 l.rec
+    tells real/db.rec 'done 1 batch¶'
+    [ -L l.rec ] || fail 'the link is gone'
+    only changes l.rec real
+    only_real db.rec db.rec.journal
+}
+
+@test "what is printed by a link is that of the file, under the link's name" {
+    linked
+    local words
+    for words in history 'history --patch' show 'show 1' 'recset -n 0 -f B -s 9 --dry-run' 'undo --dry-run' 'revert 1 --dry-run'; do
+        prints_as_the_file $words
+    done
+    recu 0 show l.rec
+    head -n 1 "$BATS_TEST_TMPDIR/out" | grep -q '^--- l.rec' || fail "$(cat "$BATS_TEST_TMPDIR/out")"
+    does undo l.rec
+    prints_as_the_file redo --dry-run
+    explains 'real/db.rec.journal: no edit is left to undo' 'nothing to undo' undo l.rec
+    # what is said names the file as it was given
+    bytes 'D: 4¶' >> real/db.rec
+    recu 1 redo l.rec
+    grep -q '^l.rec: ' "$BATS_TEST_TMPDIR/err" || fail "$(cat "$BATS_TEST_TMPDIR/err")"
+    only l.rec real
+    only_real db.rec db.rec.journal
+}
+
+@test "what is said of a journal is the same by a link" {
+    linked
+    bytes 'D: 4¶' >> real/db.rec
+    recu 0 recdel -n 0 l.rec
+    prints '' "l.rec: it was changed outside; 1 edit before that can't be undone any more¶"
+    put real/db.rec.journal 'no journal¶'
+    explains 'real/db.rec.journal: move it away, and the next edit begins a new journal' 'journal line 1: not a journal of recu' undo l.rec
+}
+
+@test "a journal beside a link is not passed over" {
+    local clash='l.rec.journal: a journal beside a link, and the file'"'"'s is real/db.rec.journal: give --journal l.rec.journal to go on with this one, or move it away'
+    linked --journal l.rec.journal
+    cp l.rec.journal before
+    clashes() {
+        fails_to_store "$clash" "$@" l.rec
+    }
+    reads_journal clashes
+    has real/db.rec 'B: 2¶¶C: 3¶'
+    has l.rec.journal < before
+    only before l.rec l.rec.journal real
+    only_real db.rec
+    # also where the file has one
+    does recset -n 0 -f B -s 9 real/db.rec
+    cp real/db.rec.journal real/before
+    reads_journal clashes
+    has real/db.rec 'B: 9¶¶C: 3¶'
+    has l.rec.journal < before
+    has real/db.rec.journal < real/before
+    does undo real/db.rec
+    # by its name it goes on, by whichever path
+    does undo --journal l.rec.journal l.rec
+    does redo --journal l.rec.journal real/db.rec
+    has real/db.rec 'B: 2¶¶C: 3¶'
+    # and so does the other
+    recu 0 history --journal real/db.rec.journal l.rec
+    prints 'undone 1 recset¶' ''
+    # and without it the file's own is taken
+    mv l.rec.journal j
+    recu 0 history l.rec
+    prints 'undone 1 recset¶' ''
+    does redo l.rec
+    has real/db.rec 'B: 9¶¶C: 3¶'
+    only before j l.rec real
+    # what reads the file alone looks at none
+    mv j l.rec.journal
+    recu 0 recsel -c l.rec
+    recu 0 recinf l.rec
+    recu 0 recfix l.rec
+}
+
+@test "anything under the name of a link's journal is one, but the file's own" {
+    local clash='l.rec.journal: a journal beside a link, and the file'"'"'s is real/db.rec.journal: give --journal l.rec.journal to go on with this one, or move it away'
+    linked
+    # the file's own, by a link and by a second name
+    ln -s real/db.rec.journal l.rec.journal
+    does undo l.rec
+    does redo l.rec
+    [ -L l.rec.journal ] || fail "the journal's link is gone"
+    rm l.rec.journal
+    ln real/db.rec.journal l.rec.journal
+    does undo l.rec
+    has real/db.rec "$three"
+    # which keeps the old text then
+    fails_to_store "$clash" redo l.rec
+    rm l.rec.journal
+    ln -s gone l.rec.journal
+    fails_to_store "$clash" redo l.rec
+    rm l.rec.journal
+    mkdir l.rec.journal
+    fails_to_store "$clash" redo l.rec
+    rmdir l.rec.journal
+    ln -s l.rec.journal l.rec.journal
+    fails_to_store 'l.rec.journal: Too many levels of symbolic links (os error 40)' redo l.rec
+    rm l.rec.journal
+    put l.rec.journal ''
+    fails_to_store "$clash" redo l.rec
+    rm l.rec.journal
+    does redo l.rec
+    has real/db.rec 'B: 2¶¶C: 3¶'
+    # beside the file itself anything is its journal
+    mv real/db.rec.journal real/j
+    ln -s gone real/db.rec.journal
+    fails_to_store 'real/db.rec.journal: No such file or directory (os error 2)' recdel -n 0 real/db.rec
+    fails_to_store 'real/db.rec.journal: No such file or directory (os error 2)' recdel -n 0 l.rec
+    has real/db.rec 'B: 2¶¶C: 3¶'
+}
+
+@test "a link in a folder that is a link" {
+    mkdir real
+    put real/db.rec "$three"
+    ln -s real folder
+    ln -s db.rec real/l.rec
+    does recdel -n 0 folder/l.rec
+    does recdel -n 0 folder/db.rec
+    does undo real/l.rec
+    does undo real/db.rec
+    has real/db.rec "$three"
+    only folder real
+    only_real db.rec db.rec.journal l.rec
 }
 
 @test "links in a row, and in a ring" {
@@ -98,15 +277,32 @@ have_modes() {
     has db.rec "$three"
     ln -s one two
     ln -s two one
-    fails_to_store 'one: Too many levels of symbolic links (os error 40)' recdel -n 0 one
-    only db.rec files first first.journal one two
+    ringed() {
+        fails_to_store 'one: Too many levels of symbolic links (os error 40)' "$@" one
+    }
+    reads_journal ringed
+    only db.rec db.rec.journal files first one two
+    # a row of 39, which is followed, and of one more
+    local number
+    ln -s db.rec 1
+    for ((number = 2; number <= 40; number++)); do
+        ln -s "$((number - 1))" "$number"
+    done
+    does redo 39
+    has db.rec 'B: 2¶¶C: 3¶'
+    fails_to_store '40: Too many levels of symbolic links (os error 40)' undo 40
+    rm {1..40}
+    only db.rec db.rec.journal files first one two
 }
 
 @test "names that are no text, and long ones" {
     put $'\xFF' "$three"
     ln -s $'\xFF' link
     recu 0 recsel -c link
-    fails_to_store 'link: a symbolic link with a target that is not UTF-8' recdel -n 0 link
+    nameless() {
+        fails_to_store 'link: a symbolic link with a target that is not UTF-8' "$@" link
+    }
+    reads_journal nameless
     has $'\xFF' "$three"
     only link $'\xFF'
     local name depth
@@ -164,6 +360,8 @@ have_modes() {
     ln -s gone link
     fails_to_store 'link: No such file or directory (os error 2)' recdel -n 0 --journal link db.rec
     has db.rec "$three"
+    fails_to_store 'link: No such file or directory (os error 2)' recdel -n 0 link
+    fails_to_store 'link: No such file or directory (os error 2)' history link
     only db.rec link
 }
 
@@ -278,6 +476,39 @@ reads_journal() {
     has d/db.rec.journal.new ''
     has db.rec "$three"
     has db.rec.journal "$header"
+}
+
+# What stands in a name of a file doesn't steer a terminal.
+@test "control characters of paths are told by the octal digits of their bytes" {
+    local missing='No such file or directory (os error 2)' way='recu writes under this name, so move it away'
+    local name=$'a\e[31m\n\r\tb\x7f\xc2\x80\xc2\x9f\\ \xc2\xa0\xc3\xa9\xe2\x82\xac'
+    local told='a\033[31m\012\015\011b\177\302\200\302\237\ \xC2\xA0é€'
+    fails_to_store "$told: $missing" recsel "$name"
+    fails_to_store "$told: $missing" recset -n 0 -f A -s 1 "$name"
+    fails_to_store "$told: $missing¶recu makes no file: touch makes an empty one" recins -f A -v 1 "$name"
+    put f "$three"
+    fails_to_store "$told: $missing" batch -b "$name" f
+    mkdir "$name"
+    fails_to_store "$told: not a regular file" history "$name"
+    fails_to_store "$told: not a regular file" history --journal "$name" f
+    put "$name/f" "$three"
+    mkdir "$name/f.new"
+    fails_to_store "$told/f.new: not a regular file: $way" recdel -n 0 "$name/f"
+    put "$name/bad" 'A: 1¶b¶'
+    explains "$told/bad:2: b¶a field needs a colon after its name, as in Name: value" 'line 2: not a field, comment or blank line' recsel "$name/bad"
+    explains "$told/f.journal: no edit is left to undo" 'nothing to undo' undo "$name/f"
+    has "$name/f" "$three"
+}
+
+@test "control characters of a folder that may not be written" {
+    as_nobody
+    mkdir $'d\e\n'
+    put $'d\e\n/db.rec' "$three"
+    chmod 666 $'d\e\n/db.rec'
+    chmod 555 $'d\e\n'
+    fails_to_store "d\\033\\012: the folder isn't writable, and recu writes a new file in it: Permission denied (os error 13)" \
+        recdel -n 0 $'d\e\n/db.rec'
+    chmod 755 $'d\e\n'
 }
 
 # It can't be opened, so it isn't synced.

@@ -173,11 +173,16 @@ goes_in_order() {
     names=(d/db.rec d e/j e)
     fast goes_in_order two --journal e/j d/db.rec
     rm e/j
-    # a link into another folder, beside which the journal stands
+    # a link into another folder, beside which the journal is to stand
     ln -s d/db.rec link
     names=(d/db.rec d link.journal .)
     spelled='s|look link$|look d/db.rec|'
-    fast goes_in_order two link
+    fast goes_in_order two --journal link.journal link
+    # that of the file, by the link
+    rm link.journal
+    names=(d/db.rec d d/db.rec.journal d)
+    fast goes_in_order one link
+    mv d/db.rec.journal link.journal
     # the journal is such a link
     mv link.journal e/j
     ln -s ../e/j d/db.rec.journal

@@ -442,17 +442,17 @@ with_batch() {
     mkdir files
     put files/db.rec 'A: 1¶'
     ln -s files/db.rec link
-    ln -s files/j link.journal
+    ln -s j files/db.rec.journal
     put files/j ''
     does recset -f A -s 2 link
     does recset -f A -s 3 link
     does forget 1 link
-    [ "$(readlink link link.journal)" = $'files/db.rec\nfiles/j' ] || fail 'a link is gone'
+    [ "$(readlink link files/db.rec.journal)" = $'files/db.rec\nj' ] || fail 'a link is gone'
     has files/db.rec 'A: 3¶'
     has files/j "$header$(edit 1 'A: 2' 'A: 3')"
-    only files link link.journal
+    only files link
     cd files
-    only db.rec j
+    only db.rec db.rec.journal j
 }
 
 # What is removed under the working names, and what stays, is as for an edit. Nothing is made under the file's.

@@ -70,6 +70,7 @@ is_edited() {
     put start/db.rec "$three"
     put after.rec 'A: 1¶¶C: 3¶'
     ln -s db.rec link.rec
+    fast each_allocation is_edited recdel -n 1 link.rec
     fast each_allocation is_edited recdel -n 1 --journal db.rec.journal link.rec
 }
 
@@ -327,6 +328,15 @@ is_printed() {
         "$program" "$@" > out 2> err || status=$?
         [ "$status" = "$wanted" ] && cmp -s out printed || wrong 'the same again prints another text'
     fi
+}
+
+@test "memory for a dry run of several undos" {
+    local wanted=0
+    mkdir start
+    put start/db.rec 'A: 1¶'
+    (cd start && "$program" recset -f A -s 2 db.rec && "$program" recset -f A -s 3 db.rec)
+    put printed '--- db.rec¶+++ db.rec¶@@ -1,1 +1,1 @@¶-A: 3¶+A: 2¶--- db.rec¶+++ db.rec¶@@ -1,1 +1,1 @@¶-A: 2¶+A: 1¶'
+    fast each_allocation is_printed undo --dry-run --through 1 db.rec
 }
 
 # prints_people PRINTED WORD..: with each failing allocation the words print this of a file of people, or a prefix of it

@@ -24,6 +24,7 @@ load helpers
     told 'undone: edit 2, recdel' undo f
     told 'it would redo edit 2, recdel' redo --dry-run f
     told 'redone: edit 2, recdel' redo f
+    told '' undo --dry-run --through 1 f
     told 'undone: edits 2 to 1' undo --through 1 f
     has printed ''
     told 'redone: edit 1, recset' redo --through 1 f

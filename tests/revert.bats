@@ -669,7 +669,7 @@ taken_back() {
     ln -s real d/db.rec
     does recset --journal e/j -f A -s 2 d/db.rec
     does recset --journal e/j -f B -s 2 d/db.rec
-    explains 'd/db.rec.journal: no edit can be undone' 'no such edit' revert 1 d/db.rec
+    explains 'd/real.journal: no edit can be undone' 'no such edit' revert 1 d/db.rec
     does revert 1 --journal e/j d/db.rec
     has d/real 'A: 1¶B: 2¶'
     [ -L d/db.rec ]

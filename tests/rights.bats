@@ -154,7 +154,7 @@ says() {
     has db.rec "$three"
     as_user=()
     chown 1234 .
-    chown 1234:1234 db.rec
+    chown 1234:1234 db.rec db.rec.journal
     does redo db.rec
     has db.rec 'B: 2¶¶C: 3¶'
     only db.rec db.rec.journal
@@ -424,4 +424,221 @@ edited_twice() {
     says ".: the folder isn't writable, and recu writes a new file in it: Permission denied (os error 13)"
     has db.rec.journal < "$BATS_TEST_TMPDIR/journal"
     only db.rec db.rec.journal
+}
+
+foreign_journal="another user's, in a folder that anyone may write: move it, or give --journal"
+foreign_link="a link of another user, in a folder that anyone may write: it isn't followed"
+
+# shared MODE: a folder of user 5678 with this mode, and in it a file of user 4321 that was edited once
+shared() {
+    [ "$(id -u)" = 0 ] || skip 'only root can give files away'
+    mkdir d
+    chown 5678:5678 d
+    chmod "$1" d
+    put d/db.rec "$three"
+    recu 0 recdel -n 0 d/db.rec
+    chown 4321:4321 d/db.rec d/db.rec.journal
+    chmod 666 d/db.rec d/db.rec.journal
+    cp d/db.rec.journal "$BATS_TEST_TMPDIR/journal"
+}
+
+# refuses_journal WORD..: recu doesn't read the journal, and all is as it was
+refuses_journal() {
+    fails_to_store "d/db.rec.journal: $foreign_journal" "$@"
+    has d/db.rec 'B: 2¶¶C: 3¶'
+    has d/db.rec.journal < "$BATS_TEST_TMPDIR/journal"
+    is 666:1234:1234 d/db.rec.journal
+    (cd d && only db.rec db.rec.journal)
+}
+
+# takes_journal OWNER: recu reads the journal, where it belongs to this user, and writes it
+takes_journal() {
+    chown "$1:$1" d/db.rec.journal
+    recu 0 history d/db.rec
+    prints 'done 1 recdel¶' ''
+    does undo d/db.rec
+    has d/db.rec "$three"
+    does redo d/db.rec
+    does forget 0 d/db.rec
+    cp "$BATS_TEST_TMPDIR/journal" d/db.rec.journal
+}
+
+@test "another user's journal in a folder that anyone may write" {
+    shared 1777
+    chown 1234:1234 d/db.rec.journal
+    local words
+    for words in 'recdel -n 0' 'recdel -n 0 --dry-run' undo redo 'revert 1' 'forget 0' history 'history --patch' 'show 1'; do
+        refuses_journal $words d/db.rec
+    done
+    recu 0 recsel d/db.rec
+    prints 'B: 2¶¶C: 3¶' ''
+    as_nobody
+    for words in 'recdel -n 0' undo 'forget 0' history; do
+        refuses_journal $words d/db.rec
+    done
+}
+
+@test "a journal of a known user in a folder that anyone may write" {
+    shared 1777
+    takes_journal 4321
+    takes_journal 5678
+    takes_journal 0
+    # the caller, who owns neither the file nor the folder, and may forget what he wrote
+    as_nobody
+    chown 65534 d/db.rec.journal
+    recu 0 history d/db.rec
+    prints 'done 1 recdel¶' ''
+    does forget 0 d/db.rec
+    is 666:65534:65534 d/db.rec.journal
+}
+
+@test "another user's journal in other folders" {
+    local mode
+    for mode in 777 1775 1757 755; do
+        shared "$mode"
+        case $mode in
+            1757)
+                chown 1234:1234 d/db.rec.journal
+                refuses_journal undo d/db.rec
+                ;;
+            *) takes_journal 1234 ;;
+        esac
+        rm -r d
+    done
+}
+
+@test "a link to another user's journal in a folder that anyone may write" {
+    shared 1777
+    chown 1234:1234 d/db.rec.journal
+    put db.rec 'B: 2¶¶C: 3¶'
+    ln -s d/db.rec.journal db.rec.journal
+    local words
+    for words in 'recdel -n 0' undo history 'show 1'; do
+        fails_to_store "db.rec.journal: $foreign_journal" $words db.rec
+    done
+    has db.rec 'B: 2¶¶C: 3¶'
+    has d/db.rec.journal < "$BATS_TEST_TMPDIR/journal"
+    only d db.rec db.rec.journal
+    chown 5678 d/db.rec.journal
+    does undo db.rec
+    has db.rec "$three"
+}
+
+# linked TEXT: a folder of user 5678, which anyone may write, and beside it a third file with this text
+linked() {
+    [ "$(id -u)" = 0 ] || skip 'only root can give files away'
+    mkdir d
+    chown 5678:5678 d
+    chmod 1777 d
+    put third "$1"
+}
+
+# links OWNER TO FROM: makes a link of this user
+links() {
+    rm -f "$3"
+    ln -s "$2" "$3"
+    chown -h "$1:$1" "$3"
+}
+
+# leaves PATH WORD..: recu doesn't follow the link, and the third file stays. Where the system is set to, it refuses first.
+leaves() {
+    cp third "$BATS_TEST_TMPDIR/third"
+    recu 1 "${@:2}"
+    if ! grep -qxF "$1: Permission denied (os error 13)" "$BATS_TEST_TMPDIR/err"; then
+        prints '' "$1: $foreign_link¶$store_failed"
+    fi
+    has third < "$BATS_TEST_TMPDIR/third"
+}
+
+@test "another user's link in a folder that anyone may write" {
+    linked "$three"
+    links 1234 ../third d/db.rec
+    leaves d/db.rec recdel -n 0 --journal j d/db.rec
+    leaves d/db.rec undo --journal j d/db.rec
+    leaves d/db.rec recdel -n 0 --journal "$PWD/j" d/db.rec
+    links 1234 "$PWD/third" d/db.rec
+    leaves d/db.rec recdel -n 0 --journal j d/db.rec
+    only d third
+    (cd d && only db.rec)
+    # those of the caller and of the folder's owner are followed
+    links 0 ../third d/db.rec
+    does recdel -n 0 --journal j d/db.rec
+    links 5678 ../third d/db.rec
+    does undo --journal j d/db.rec
+    has third "$three"
+    [ "$(readlink d/db.rec)" = ../third ] || fail 'the link is gone'
+    rm j
+    chmod 666 third
+    chmod 777 .
+    as_nobody
+    # to another caller root is another user too
+    links 0 ../third d/db.rec
+    leaves d/db.rec recdel -n 0 --journal j d/db.rec
+    links 65534 ../third d/db.rec
+    does recdel -n 0 --journal j d/db.rec
+    has third 'B: 2¶¶C: 3¶'
+}
+
+@test "another user's link under a journal's name in a folder that anyone may write" {
+    linked ''
+    put d/db.rec "$three"
+    links 1234 ../third d/db.rec.journal
+    leaves d/db.rec.journal recdel -n 0 d/db.rec
+    leaves d/db.rec.journal undo d/db.rec
+    leaves d/db.rec.journal forget 0 d/db.rec
+    has d/db.rec "$three"
+    links 1234 ../nothing d/db.rec.journal
+    recu 1 recdel -n 0 d/db.rec
+    has d/db.rec "$three"
+    only d third
+    links 0 ../third d/db.rec.journal
+    does recdel -n 0 d/db.rec
+    links 5678 ../third d/db.rec.journal
+    does undo d/db.rec
+    has d/db.rec "$three"
+    [ -s third ] || fail 'the journal is empty'
+}
+
+@test "links in a row, of which another user's stands in a folder that anyone may write" {
+    linked "$three"
+    links 0 d/second first
+    links 1234 ../third d/second
+    leaves first recdel -n 0 --journal j first
+    # the caller's own link leads to another's
+    links 0 second d/first
+    leaves d/first recdel -n 0 --journal j d/first
+    # in this folder not everyone may write
+    links 1234 third second
+    links 0 ../second d/first
+    does recdel -n 0 --journal j d/first
+    links 5678 ../third d/second
+    does undo --journal j first
+    has third "$three"
+}
+
+@test "another user's link in other folders" {
+    linked "$three"
+    local mode
+    links 1234 ../third d/db.rec
+    for mode in 777 1775 755; do
+        chmod "$mode" d
+        does recdel -n 0 --journal j d/db.rec
+        does undo --journal j d/db.rec
+    done
+    has third "$three"
+    chmod 1757 d
+    leaves d/db.rec recdel -n 0 --journal j d/db.rec
+}
+
+@test "the caller's own link where nothing tells who the caller is" {
+    linked "$three"
+    as_user=(unshare --mount sh -c 'mount -t tmpfs none /proc && exec "$@"' sh)
+    "${as_user[@]}" true 2> "$BATS_TEST_TMPDIR/mount" || skip "no mount can be made here: $(cat "$BATS_TEST_TMPDIR/mount")"
+    links 0 ../third d/db.rec
+    recu 1 recdel -n 0 --journal j d/db.rec
+    says "d/db.rec: $foreign_link"
+    has third "$three"
+    links 5678 ../third d/db.rec
+    recu 0 recdel -n 0 --journal j d/db.rec
+    has third 'B: 2¶¶C: 3¶'
 }

@@ -269,11 +269,36 @@ leads_elsewhere() {
     esac
 }
 
+@test "a link to the file leads elsewhere meanwhile, and the journal is given" {
+    mkdir start
+    put start/real "$three"
+    ln -s real start/db.rec
+    words+=(--journal db.rec.journal)
+    fast each_pause link leads_elsewhere
+}
+
+# The edit is one of the file to which the link leads now, or of that to which it led, and stands in the journal of that one.
+has_its_journal() {
+    local edited_one=real other_one=other
+    [ "$(readlink db.rec)" = other ] || wrong 'the link leads elsewhere'
+    [ "$status" = 0 ] || wrong 'it is refused'
+    if fast has other "$edited_save" > /dev/null 2>&1; then
+        edited_one=other other_one=real
+        fast has real "$three" || wrong 'both were written'
+    else
+        fast has real "$edited" && fast has other "$saved" || wrong 'neither has the edit'
+    fi
+    [ "$(ls -- *.journal)" = "$edited_one.journal" ] || wrong "the journals are $(ls -- *.journal)"
+    "$program" undo "$edited_one" || wrong 'it could not be taken back'
+    fast has real "$three" && fast has other "$saved" || wrong "not the first text of $edited_one again, or $other_one was written"
+    rm "$edited_one.journal"
+}
+
 @test "a link to the file leads elsewhere meanwhile" {
     mkdir start
     put start/real "$three"
     ln -s real start/db.rec
-    fast each_pause link leads_elsewhere
+    fast each_pause link has_its_journal
 }
 
 remove() {

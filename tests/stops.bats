@@ -127,6 +127,9 @@ wrong() {
     fail "call $number ($call), status $status: $*" $'\n'"$(cat err)" $'\n'"$(ls -A)" $'\n'"$(head -c 300 db.rec | cat -A)" $'\n'"$(tail -c 600 db.rec.journal | cat -A)"
 }
 
+# The journal that is given: in two folders that beside the link.
+given=()
+
 # begin: the contents before the command. In two folders the file is a link into another one.
 begin() {
     rm -rf db.rec db.rec.journal db.rec.new db.rec.journal.new hit d
@@ -135,6 +138,7 @@ begin() {
         mkdir d
         mv db.rec d/db.rec
         ln -s d/db.rec db.rec
+        given=(--journal db.rec.journal)
     fi
 }
 
@@ -179,7 +183,7 @@ is_told() {
 # judge WHAT: what stands after a run is the state before or the one after; the next edit goes through, and leaves nothing else
 judge() {
     local stands=before
-    "$program" history db.rec > history 2> err.history || wrong "the history is refused: $(cat err.history)"
+    "$program" history "${given[@]}" db.rec > history 2> err.history || wrong "the history is refused: $(cat err.history)"
     if are "$after"; then
         stands=after
     elif ! are_on_the_way; then
@@ -192,12 +196,12 @@ judge() {
     esac
     [ "${#passed[@]}" = 0 ] || [ "$1" = end ] || [ "$1" = half ] || is_told
     if [ "$stands" = before ]; then
-        "$program" "${words[@]}" db.rec > out 2> err || wrong 'the same again is refused'
-        "$program" history db.rec > history
+        "$program" "${words[@]}" "${given[@]}" db.rec > out 2> err || wrong 'the same again is refused'
+        "$program" history "${given[@]}" db.rec > history
         are "$after" || wrong 'the same again leads elsewhere'
         cleared 'left by the next edit'
     else
-        "$program" recset -n 0 -f A -s 5 db.rec > out 2> err || wrong 'the next edit is refused'
+        "$program" recset -n 0 -f A -s 5 "${given[@]}" db.rec > out 2> err || wrong 'the next edit is refused'
         cleared 'left by the next edit'
     fi
     undone
@@ -210,7 +214,7 @@ cleared() {
 
 # undone: each edit that is done is undone, and that gives the first text
 undone() {
-    while "$program" undo db.rec > out 2> err; do :; done
+    while "$program" undo "${given[@]}" db.rec > out 2> err; do :; done
     [ "$(tail -n 1 err)" = 'recu: nothing to undo' ] || wrong 'an edit could not be undone'
     cmp -s db.rec first.rec || wrong 'not the first text'
     cleared 'left by an undo'
@@ -222,7 +226,7 @@ each_call() {
     for ((number = 1; number <= 1000; number++)); do
         begin
         status=0
-        at "$number" "$2" "${words[@]}" db.rec || status=$?
+        at "$number" "$2" "${words[@]}" "${given[@]}" db.rec || status=$?
         if ! met; then
             [ "$number" -gt "${3-10}" ] || fail "there are $number calls"
             return 0

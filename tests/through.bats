@@ -1,5 +1,5 @@
 # Several moves, `undo --through` and `redo --through`: both contents, byte for byte; how far they go where one is refused or
-# fails, or another program comes in between; and what is said of it.
+# fails, or another program comes in between; what is said of it; and what a dry run of them prints.
 
 load helpers
 load calls
@@ -173,6 +173,124 @@ stays() {
     refuses 'journal line 1: not a journal of recu' undo --through 1 db.rec
     fails_to_store 'nothing: No such file or directory (os error 2)' undo --through 1 nothing
     only db.rec db.rec.journal
+}
+
+# changed OLD NEW: the diff of a move that leads from a file of the one line to a file of the other
+changed() {
+    echo "--- db.rec¶+++ db.rec¶@@ -1,1 +1,1 @@¶-$1¶+$2¶"
+}
+
+@test "a dry run prints what each of the moves would change, and changes nothing" {
+    begin
+    recu 0 undo --dry-run --through 3 db.rec
+    prints "$(changed 'A: 4' 'A: 3')" ''
+    recu 0 undo --through 2 --dry-run db.rec
+    prints "$(changed 'A: 4' 'A: 3')$(changed 'A: 3' 'A: 2')" ''
+    recu 0 undo --through=1 --unified 0 --dry-run db.rec
+    prints "$(changed 'A: 4' 'A: 3')$(changed 'A: 3' 'A: 2')$(changed 'A: 2' 'A: 1')" ''
+    stands 'A: 4¶' "$three_edits"
+    # from the middle, each way
+    does undo --through 2 db.rec
+    recu 0 undo --dry-run --through 1 db.rec
+    prints "$(changed 'A: 2' 'A: 1')" ''
+    recu 0 redo --dry-run --through 2 db.rec
+    prints "$(changed 'A: 2' 'A: 3')" ''
+    recu 0 redo --dry-run --through 3 db.rec
+    prints "$(changed 'A: 2' 'A: 3')$(changed 'A: 3' 'A: 4')" ''
+    stands 'A: 2¶' "$three_edits$two_undone"
+}
+
+# as_single TOOL NUMBER WORD..: with these words a dry run of the moves as far as the edit of the number prints what those of single
+# moves print between them
+as_single() {
+    local tool=$1 number=$2
+    shift 2
+    rm -rf one
+    mkdir one
+    cp db.rec db.rec.journal one
+    : > wanted
+    until (cd one && "$program" history db.rec | grep -qx "$([ "$tool" = redo ] || echo un)done $number [a-z]*"); do
+        (cd one && "$program" "$tool" --dry-run "$@" db.rec >> ../wanted && "$program" "$tool" db.rec) || fail 'a single move is refused'
+    done
+    [ -s wanted ] || fail 'there was no move'
+    cp db.rec db.rec.journal "$BATS_TEST_TMPDIR"
+    recu 0 "$tool" --dry-run --through "$number" "$@" db.rec
+    cmp "$BATS_TEST_TMPDIR/out" wanted
+    cmp db.rec "$BATS_TEST_TMPDIR/db.rec"
+    cmp db.rec.journal "$BATS_TEST_TMPDIR/db.rec.journal"
+}
+
+@test "a dry run of several moves prints what dry runs of single ones print between them" {
+    local number
+    put db.rec '# c¶A:\x091¶¶¶B: x\\¶y¶C: \xFF'
+    put changes 'Tool: recset¶Number: 0¶Fields: A¶Set: 7¶¶Tool: recdel¶Number: 1¶'
+    does recset -n 0 -f A -s 6 db.rec
+    does recins -f D -v 1 db.rec
+    does undo db.rec
+    does recset -f A -s 5 db.rec
+    does batch -b changes db.rec
+    does recins -f E -v 2 db.rec
+    tells 'done 1 recset¶done 4 recset¶done 5 batch¶done 6 recins¶'
+    for number in 6 5 4 1; do
+        as_single undo "$number"
+        as_single undo "$number" --unified 0
+    done
+    does undo --through 4 db.rec
+    for number in 4 5 6; do
+        as_single redo "$number"
+        as_single redo "$number" --unified 1
+    done
+    as_single undo 1
+}
+
+@test "a dry run of several moves is refused as they are, before anything is printed" {
+    local outside='db.rec: if the text of the last edit is brought back to the byte, it can be undone; the next edit begins a new history'
+    begin
+    stays 'db.rec.journal: edits 1 to 3 can be undone' 'no such edit' undo --dry-run --through 4 db.rec
+    stays 'db.rec: no edit was undone' 'nothing to redo' redo --dry-run --through 1 db.rec
+    does undo --through 2 db.rec
+    stays 'db.rec.journal: edit 1 can be undone' 'no such edit' undo --through 2 --dry-run db.rec
+    stays 'db.rec.journal: edits 2 to 3 can be redone' 'no such edit' redo --through 1 --dry-run db.rec
+    put db.rec 'A: 5¶'
+    stays "$outside" 'the file was changed outside' undo --through 1 --dry-run db.rec
+    put db.rec.journal 'hello¶'
+    refuses 'journal line 1: not a journal of recu' undo --through 1 --dry-run db.rec
+    only db.rec db.rec.journal
+}
+
+@test "a dry run prints the moves before one that doesn't fit its texts" {
+    local edited='db.rec.journal: a text in it was changed; move it away to go on without the history'
+    local events
+    begin
+    # the text that edit 1 put in, changed by hand
+    events=${three_edits/New: A: 2/New: A: 7}
+    put db.rec.journal "$header$events"
+    recu 1 undo --dry-run --through 1 db.rec
+    prints "$(changed 'A: 4' 'A: 3')$(changed 'A: 3' 'A: 2')" "$edited¶recu: the file was changed outside¶"
+    recu 0 undo --dry-run --through 2 db.rec
+    prints "$(changed 'A: 4' 'A: 3')$(changed 'A: 3' 'A: 2')" ''
+    stands 'A: 4¶' "$events"
+    # the one that edit 3 took out
+    events=${three_edits/Old: A: 3/Old: A: 7}$(move 4 undo 3 'A: 4' 'A: 3')$(move 5 undo 2 'A: 3' 'A: 2')$(move 6 undo 1 'A: 2' 'A: 1')
+    put db.rec 'A: 1¶'
+    put db.rec.journal "$header$events"
+    recu 1 redo --dry-run --through 3 db.rec
+    prints "$(changed 'A: 1' 'A: 2')$(changed 'A: 2' 'A: 3')" "$edited¶recu: the file was changed outside¶"
+    stands 'A: 1¶' "$events"
+}
+
+@test "a dry run of several moves takes no lock, writes nothing, and says where it can't print" {
+    begin
+    put db.rec.new 'somebody'
+    put db.rec.journal.new 'somebody'
+    chmod 444 db.rec db.rec.journal
+    flock db.rec flock db.rec.journal "$recu" undo --through 2 --dry-run db.rec > out
+    has out "$(changed 'A: 4' 'A: 3')$(changed 'A: 3' 'A: 2')"
+    ends 1 bash -c '"$@" > /dev/full' '' "$recu" undo --through 2 --dry-run db.rec
+    prints '' "standard output: No space left on device (os error 28)¶$store_failed"
+    has db.rec 'A: 4¶'
+    has db.rec.journal "$header$three_edits"
+    only db.rec db.rec.journal db.rec.new db.rec.journal.new out
 }
 
 @test "how far it went is said where an edit on the way doesn't fit its texts" {

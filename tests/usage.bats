@@ -223,6 +223,31 @@ meant() {
     ! grep -q '^hint' "$BATS_TEST_TMPDIR/err" || fail 'a hint names a word with a control character'
 }
 
+@test "control characters of words are told by the octal digits of their bytes" {
+    local more="For more information, try '--help'.¶recu: bad usage¶"
+    local word=$'q\e[1m\nb\x7f\xc2\x9b' told='q\033[1m\012b\177\302\233'
+    put f "$three"
+    recu 1 "$word"
+    prints '' "error: unrecognized subcommand '$told'¶¶Usage: recu <COMMAND>¶¶$more"
+    recu 1 help "$word"
+    prints '' "error: unrecognized subcommand '$told'¶¶Usage: recu <COMMAND>¶¶$more"
+    recu 1 recsel f "$word"
+    prints '' "error: unexpected argument '$told' found¶¶Usage: recu recsel [OPTIONS] [FILE]¶¶$more"
+    recu 1 recsel --"$word"=1 f
+    prints '' "error: unexpected argument '--$told' found¶¶  tip: to pass '--$told' as a value, use '-- --$told'¶¶Usage: recu recsel [OPTIONS] [FILE]¶¶$more"
+    recu 1 recsel --count="$word" f
+    prints '' "error: unexpected value '$told' for '--count' found; no more were expected¶¶Usage: recu recsel --count [FILE]¶¶$more"
+    # a number, and a value that isn't repeated
+    recu 1 forget "$word" f
+    is_bad_usage
+    ! LC_ALL=C grep -q '[[:cntrl:]]' "$BATS_TEST_TMPDIR/err" || fail 'a control character is told'
+    recu 1 recset -n 0 -f A -s "$word" -s "$word" f
+    is_bad_usage
+    ! LC_ALL=C grep -q '[[:cntrl:]]' "$BATS_TEST_TMPDIR/err" || fail 'a control character is told'
+    has f "$three"
+    only f
+}
+
 @test "the nearest command" {
     recu 1 recse f
     prints '' "error: unrecognized subcommand 'recse'¶¶  tip: the nearest command is 'recset'¶¶Usage: recu <COMMAND>¶¶For more information, try '--help'.¶recu: bad usage¶"

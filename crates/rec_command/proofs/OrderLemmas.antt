@@ -13,7 +13,8 @@ use Rattle.rec_tools.specs.declared.request.EditRequest.TheVariants.{Insert, Rep
 use Rattle.rec_tools.specs.declared.request.Request.{Show, Info, Check, Edit, Batch, Undo, Redo, Forget}
 use Rattle.rec_tools.specs.declared.request.Request.{Revert, History}
 use Rattle.rec_tools.specs.declared.request.Request.{Diff, Log, Preview'}
-use Rattle.rec_disk.specs.Paths.{AreApart, journal_of}
+use Rattle.rec_disk.specs.Paths.{AreApart}
+use Rattle.rec_command.specs.declared.args.JournalPath.{JournalPath}
 use Rattle.rec_command.specs.declared.args.Order.{Order}
 use Rattle.rec_command.specs.declared.args.Order.TheVariants.{Whole, BatchAt}
 use Rattle.rec_command.specs.declared.tools.Tool.{Tool}
@@ -22,7 +23,7 @@ use Rattle.rec_command.specs.declared.tools.Tool.TheVariants.{Batch as ByBatch, 
 use Rattle.rec_command.specs.declared.tools.Tool.TheVariants.{Revert as ByRevert, History as ByHistory}
 use Rattle.rec_command.specs.declared.tools.Tool.TheVariants.{Show as ByShow, Forget as ByForget}
 use Rattle.rec_command.specs.Words.{has_flag, form_for, form_given, info_form_for, info_form_given, number_given, file_given}
-use Rattle.rec_command.specs.Words.{IsNumber, IsEditGiven, IsStyle, IsThroughGiven, IsPick, AsksEdit, Orders, OrdersOrPreviews}
+use Rattle.rec_command.specs.Words.{IsNumber, IsEditGiven, IsStyle, IsPick, AsksEdit, Orders, OrdersOrPreviews}
 use Rattle.rec_command.specs.Words.{Previews, HasNoJournal, IsEditJournal, IsJournal}
 
 -- what a tool has to be given
@@ -37,8 +38,8 @@ Needs RecIns options = (edit : EditRequest) × AsksEdit RecIns options edit
 Needs RecDel options = (edit : EditRequest) × AsksEdit RecDel options edit
 Needs RecSet options = (edit : EditRequest) × AsksEdit RecSet options edit
 Needs ByBatch options = (path : Text) × (first_of (codes "batch") options ≡ Some path)
-Needs ByUndo options = (number : Option ℕ) × IsThroughGiven options number
-Needs ByRedo options = (number : Option ℕ) × IsThroughGiven options number
+Needs ByUndo options = (number : Option ℕ) × IsEditGiven (first_of (codes "through") options) number
+Needs ByRedo options = (number : Option ℕ) × IsEditGiven (first_of (codes "through") options) number
 Needs ByRevert options = (number : ℕ) × IsEditGiven (first_of (codes "n") options) (Some number)
 Needs ByHistory options =
     (has_flag (codes "patch") options ≡ false) ⊎ ((style : DiffStyle) × IsStyle options style)
@@ -104,7 +105,7 @@ is_alone RecFix options = not (has_flag (codes "auto") options)
 is_alone _ options = false
 
 -- the journal of an order that prints of the file alone, and of another
-abbrev JournalBy : Bool → Option Text → Option Text → Option Text → Type 0
+abbrev JournalBy : Bool → Option Text → Option Text → JournalPath → Type 0
 JournalBy true file given journal = HasNoJournal file given journal
 JournalBy false file given journal = IsEditJournal file given journal
 
@@ -114,7 +115,7 @@ prints (Whole (Info record_type form)) = true
 prints (Whole Check) = true
 prints _ = false
 
-module _ (file given journal : Option Text) where
+module _ (file given : Option Text) (journal : JournalPath) where
   journal-by : (order : Order) → IsJournal order file given journal → JournalBy (prints order) file given journal
   journal-by (BatchAt path force preview) is = is
   journal-by (Whole (Show pick form collapse)) is = is
@@ -198,7 +199,7 @@ same-prints tool options one other (inr is) (inr too) =
 
 -- so they have the same journal
 pub same-journal : (tool : Tool) (options : List Row) (one other : Order) → OrdersOrPreviews tool options one
-    → OrdersOrPreviews tool options other → (file given journal : Option Text) → IsJournal other file given journal
+    → OrdersOrPreviews tool options other → (file given : Option Text) (journal : JournalPath) → IsJournal other file given journal
     → IsJournal one file given journal
 same-journal tool options one other is too file given journal has =
     journal-from file given journal one
@@ -207,20 +208,12 @@ same-journal tool options one other is too file given journal has =
 
 -- ---- paths that are apart
 
-apart-by : (alone : Bool) (file given : Text) (journal : Option Text) → JournalBy alone (Some file) (Some given) journal → AreApart file given
+apart-by : (alone : Bool) (file given : Text) (journal : JournalPath) → JournalBy alone (Some file) (Some given) journal → AreApart file given
 apart-by true file given journal is = is.1
 apart-by false file given journal is =
     subst (λ path. AreApart path given) (sym (ap (λ x. unwrap_or x file) is.file_given)) is.apart
 
 -- where both paths are given they are apart, whatever is ordered
-pub apart-given : (order : Order) (file given : Text) (journal : Option Text) → IsJournal order (Some file) (Some given) journal → AreApart file given
+pub apart-given : (order : Order) (file given : Text) (journal : JournalPath) → IsJournal order (Some file) (Some given) journal → AreApart file given
 apart-given order file given journal is =
     apart-by (prints order) file given journal (journal-by (Some file) (Some given) journal order is)
-
--- and of an order that doesn't print of the file alone the file and its journal are
-pub apart-edited : (order : Order) (file : Text) (given journal : Option Text) → prints order ≡ false → IsJournal order (Some file) given journal
-    → AreApart file (journal_of file given)
-apart-edited order file given journal edits is =
-    let by : JournalBy false (Some file) given journal =
-    subst (λ b. JournalBy b (Some file) given journal) edits (journal-by (Some file) given journal order is) in
-    subst (λ path. AreApart path (journal_of path given)) (sym (ap (λ x. unwrap_or x file) by.file_given)) by.apart

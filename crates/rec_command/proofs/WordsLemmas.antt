@@ -5,6 +5,7 @@ use Rattle.std.specs.Str.{bytes_eq}
 use Rattle.std.specs.Str.Parse.{ParsesBool}
 use Rattle.std.proofs.lemmas.Slice.Eq.{bytes_eq-Decides}
 use Rattle.clap.specs.Words.{ReadsOne, Text}
+use Rattle.rec_command.specs.declared.args.JournalPath.{JournalPath}
 use Rattle.rec_command.specs.declared.args.Order.{Order}
 use Rattle.rec_command.specs.Words.{IsJournal}
 
@@ -27,7 +28,7 @@ flag_read E (Some t) (Some true) none some = rw (some t refl) refl
 flag_read E (Some t) (Some false) none some = rw (some t refl) refl
 flag_read E (Some t) None none some = false_unless (bytes_eq t (codes "true")) (λ same. (some t refl).1.0 ((bytes_eq-Decides t (codes "true")).0 same))
 
-pub journal_of_same : (order : Order) (file found_file given found_given kept : Option Text) → file ≡ found_file → given ≡ found_given
-    → IsJournal order file given kept → IsJournal order found_file found_given kept
-journal_of_same order file found_file given found_given kept file_is given_is is =
-    subst (λ path. IsJournal order path found_given kept) file_is (subst (λ path. IsJournal order file path kept) given_is is)
+pub journal_of_same : (order : Order) (file found_file given found_given : Option Text) (journal : JournalPath) → file ≡ found_file → given ≡ found_given
+    → IsJournal order file given journal → IsJournal order found_file found_given journal
+journal_of_same order file found_file given found_given journal file_is given_is is =
+    subst (λ path. IsJournal order path found_given journal) file_is (subst (λ path. IsJournal order file path journal) given_is is)

@@ -1,7 +1,7 @@
 -- What a command line asks for, and the paths that it names.
 use Rattle.std.specs.Prelude.{◌≡◌, ◌≢◌, ◌⊎◌, ℕ, ◌^◌, ◌<◌, ◌≤◌, ◌==◌, ◌||◌, Bool, true, false, not}
 use Rattle.std.specs.Prelude.{List, [], codes, string_bytes}
-use Rattle.std.specs.Prelude.{Option, Some, None, option_map}
+use Rattle.std.specs.Prelude.{Option, Some, None, option_map, IfSome}
 use Rattle.std.specs.List.{list_any}
 use Rattle.std.specs.Option.{option_map_or, unwrap_or}
 use Rattle.std.specs.Str.{bytes_eq}
@@ -23,10 +23,12 @@ use Rattle.rec_tools.specs.declared.request.Request.{Request, Show, Info, Check,
 use Rattle.rec_tools.specs.declared.request.Request.{Revert, History}
 use Rattle.rec_tools.specs.declared.request.Request.{Diff, Log, Preview'}
 use Rattle.rec_tools.specs.Asking.{selection_for}
-use Rattle.rec_disk.specs.Paths.{journal_of, AreApart}
+use Rattle.rec_disk.specs.Paths.{AreApart}
 use Rattle.rec_command.specs.declared.args.Order.{Order}
 use Rattle.rec_command.specs.declared.args.Order.TheVariants.{Whole, BatchAt}
 use Rattle.rec_command.specs.declared.args.CommandLine.{CommandLine}
+use Rattle.rec_command.specs.declared.args.JournalPath.{JournalPath}
+use Rattle.rec_command.specs.declared.args.JournalPath.TheVariants.{Unused, Default, Given}
 use Rattle.rec_command.specs.declared.tools.Tool.{Tool}
 use Rattle.rec_command.specs.declared.tools.Tool.TheVariants.{RecSel, RecInf, RecFix, RecIns, RecDel, RecSet}
 use Rattle.rec_command.specs.declared.tools.Tool.TheVariants.{Batch as ByBatch, Undo as ByUndo, Redo as ByRedo}
@@ -121,12 +123,6 @@ abbrev pub IsEditGiven : Option Text → Option ℕ → Type 0
 IsEditGiven None number = number ≡ None
 IsEditGiven (Some digits) number = (n : ℕ) × (number ≡ Some n) × IsNumber 64 digits n × (0 < n)
 
--- the number of `--through`, with which no dry run is asked for; or none is given
-abbrev pub IsThroughGiven : List Row → Option ℕ → Type 0
-IsThroughGiven options number =
-    IsEditGiven (first_of (codes "through") options) number
-    × ((number ≡ None) ⊎ (has_flag (codes "dry-run") options ≡ false))
-
 -- ---- the words in their places
 
 -- N and FILE, by the first and the second word: of two words the first is N. No tool but `show` takes two
@@ -195,8 +191,8 @@ Asks tool options Check =
     (tool ≡ RecFix) × (has_flag (codes "auto") options ≡ false) × (has_flag (codes "dry-run") options ≡ false)
 Asks tool options (Edit edit force) = AsksEdit tool options edit × (force ≡ has_flag (codes "force") options)
 Asks tool options (Batch text force) = ⊥
-Asks tool options (Undo number) = (tool ≡ ByUndo) × IsThroughGiven options number
-Asks tool options (Redo number) = (tool ≡ ByRedo) × IsThroughGiven options number
+Asks tool options (Undo number) = (tool ≡ ByUndo) × IsEditGiven (first_of (codes "through") options) number
+Asks tool options (Redo number) = (tool ≡ ByRedo) × IsEditGiven (first_of (codes "through") options) number
 Asks tool options (Revert number force) =
     (tool ≡ ByRevert) × IsEditGiven (first_of (codes "n") options) (Some number)
     × (force ≡ has_flag (codes "force") options)
@@ -241,20 +237,26 @@ IsBatchOf text force (Some style) request = IsPreview style (Batch text force) r
 
 -- ---- the paths
 
+-- the path of the journal is given, or none is, and the default one is meant
+abbrev pub IsGivenOrDefault : Option (List ℕ) → JournalPath → Type 0
+IsGivenOrDefault given Unused = ⊥
+IsGivenOrDefault given Default = given ≡ None
+IsGivenOrDefault given (Given path) = given ≡ Some (string_bytes path)
+
 -- the journal of a file that is edited, or whose history is asked for, by the two paths that are given
-pub record IsEditJournal (file given journal : Option (List ℕ)) : Type 0 where
+pub record IsEditJournal (file given : Option (List ℕ)) (journal : JournalPath) : Type 0 where
   pub path : List ℕ
   pub file_given : file ≡ Some path
-  pub kept : journal ≡ Some (journal_of path given)
-  pub apart : AreApart path (journal_of path given)
+  pub meant : IsGivenOrDefault given journal
+  pub apart : IfSome given (AreApart path)
 
 -- What prints of the file alone has no journal. Where both paths are given, they are apart all the same.
-abbrev pub HasNoJournal : Option (List ℕ) → Option (List ℕ) → Option (List ℕ) → Type 0
-HasNoJournal (Some file) (Some given) journal = (journal ≡ None) × AreApart file given
-HasNoJournal _ _ journal = journal ≡ None
+abbrev pub HasNoJournal : Option (List ℕ) → Option (List ℕ) → JournalPath → Type 0
+HasNoJournal (Some file) (Some given) journal = (journal ≡ Unused) × AreApart file given
+HasNoJournal _ _ journal = journal ≡ Unused
 
 -- the journal of an order, by the two paths that are given
-abbrev pub IsJournal : Order → Option (List ℕ) → Option (List ℕ) → Option (List ℕ) → Type 0
+abbrev pub IsJournal : Order → Option (List ℕ) → Option (List ℕ) → JournalPath → Type 0
 IsJournal (Whole (Show pick form collapse)) file given journal = HasNoJournal file given journal
 IsJournal (Whole (Info record_type form)) file given journal = HasNoJournal file given journal
 IsJournal (Whole Check) file given journal = HasNoJournal file given journal
@@ -267,8 +269,7 @@ pub record IsAskedBy (tool : Tool) (options : List Row) (line : CommandLine) : T
   pub order : OrdersOrPreviews tool options line.order
   pub unified : FitsDiff tool options
   pub file : option_map string_bytes line.file ≡ file_given options
-  pub journal : IsJournal line.order (file_given options) (first_of (codes "journal") options)
-      (option_map string_bytes line.journal)
+  pub journal : IsJournal line.order (file_given options) (first_of (codes "journal") options) line.journal
 
 -- what the words ask for: what the tool that they name does, with its options, where clap has no fault at the words
 pub record IsAsked (words : List Text) (line : CommandLine) : Type 0 where

@@ -47,7 +47,18 @@ use usage::command;
 pub struct CommandLine {
     pub order: Order,
     pub file: Option<String>,
-    pub journal: Option<String>,
+    pub journal: JournalPath,
+}
+
+/// Which journal is meant.
+#[derive(Drop)]
+pub enum JournalPath {
+    /// None: what prints of FILE alone has no journal.
+    Unused,
+    /// That of the file to which FILE leads.
+    Default,
+    /// That of `--journal`.
+    Given(String),
 }
 
 /// What is asked for.

@@ -122,7 +122,7 @@ impl fmt::Display for Hint<'_> {
 pub fn hint_for<'w, S: AsStr>(alloc: Global, words: &'w [S], text: &str) -> Option<Hint<'w>> {
     let (first, given) = words.split_first()?;
     let tool = Tool::named(first.as_str())?;
-    if given.iter().any(|word| has_control(word.as_str())) {
+    if have_control(given) {
         return None;
     }
     if text.starts_with("error: a value is required for '") {
@@ -168,6 +168,11 @@ fn refused_word(text: &str) -> Option<&str> {
         Some((word, _)) => Some(word),
         None => None,
     }
+}
+
+/// Whether one of the words has a control character.
+pub fn have_control<S: AsStr>(words: &[S]) -> bool {
+    words.iter().any(|word| has_control(word.as_str()))
 }
 
 fn has_control(word: &str) -> bool {

@@ -146,7 +146,7 @@ impl<'r> Scene<'r> {
         let file = String::from_str(alloc, self.paths.file)?;
         let journal = String::from_str(alloc, self.paths.journal)?;
         let disk = mem::replace(&mut self.disk, MemoryDisk::new(alloc));
-        let mut home = DiskHome::new(self.rt, disk, Some(file), Some(journal), access);
+        let mut home = DiskHome::new(self.rt, disk, None, Some(file), Some(journal), access);
         self.out.writer.clear();
         let is_made = run(alloc, &mut home, &mut self.out, request).is_ok();
         self.disk = home.into_disk();

@@ -4,4 +4,6 @@ pub mod Moments
 pub mod Calls
 pub mod Fresh
 pub mod Memory
+pub mod Escapes
 mod LeavingExamples
+mod EscapeExamples

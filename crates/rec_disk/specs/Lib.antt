@@ -8,6 +8,8 @@ pub mod Rights
 pub mod Folders
 -- the paths of a file and its journal
 pub mod Paths
+-- how paths and words are told
+pub mod Escapes
 -- a disk in memory
 pub mod Memory
 -- what serves proofs

@@ -1,14 +1,13 @@
 -- The paths of a file and its journal, and the names under which they are written. A path is its bytes.
-use Rattle.std.specs.Prelude.{◌≢◌, ℕ, List, ◌++◌, codes, Option, Some, None}
+use Rattle.std.specs.Prelude.{◌≢◌, ℕ, List, ◌++◌, codes}
 
 -- the name under which a file is written before it takes its place
 abbrev pub working_name : List ℕ → List ℕ
 working_name path = path ++ codes ".new"
 
--- the journal of a file: the path that is given, or else the file's with `.journal` appended
-abbrev pub journal_of : List ℕ → Option (List ℕ) → List ℕ
-journal_of file (Some given) = given
-journal_of file None = file ++ codes ".journal"
+-- the journal of a file, where no other one is given
+abbrev pub journal_of : List ℕ → List ℕ
+journal_of file = file ++ codes ".journal"
 
 -- the two paths differ, and neither is the other's working name
 pub record AreApart (file journal : List ℕ) : Type 0 where

@@ -162,6 +162,18 @@ pub trait Disk {
         ensures same { story self.new ≡ story self.old }
         ensures excused { IsExcused (works self.old) (works self.new) result (λ error. ⊥) };
 
+    /// Checks that a journal, which was opened at a path, isn't a stranger's: where anyone may put files, it belongs to the
+    /// owner of its file, to the caller, to the folder's owner or to root.
+    fn check_owner(
+        &mut self,
+        alloc: Global,
+        path: &str,
+        journal: &Self::Status,
+        file: &Self::Status,
+    ) -> io::Result<()>
+        ensures same { story self.new ≡ story self.old }
+        ensures excused { IsExcused (works self.old) (works self.new) result (λ error. ⊥) };
+
     /// Writes all the bytes of a file that was made.
     fn write(&mut self, file: &Self::File, bytes: &[u8]) -> io::Result<()>
         ensures goes { Goes (story self.old) (story self.new) result (IsWrite (number file.now) bytes.now result) }

@@ -3,7 +3,7 @@ ghost use Rattle.std.specs.Prelude.{[], None, false, true, refl};
 
 use crate::disk::Disk;
 use crate::folders::folder_of;
-use crate::rights;
+use crate::{owners, rights};
 use std::alloc::Global;
 use std::fs::{File, Metadata, OpenOptions, TryLockError};
 use std::io::{Error, ErrorKind, Read, Seek, SeekFrom, Write};
@@ -11,6 +11,9 @@ use std::os::unix::fs::{MetadataExt, OpenOptionsExt};
 use std::path::Path;
 use std::rt::Files;
 use std::{fs, io};
+
+/// How many links in a row may lead to a journal.
+const LINKS: u32 = 40;
 
 #[derive(Clone, Copy)]
 pub struct HostDisk<R> {
@@ -94,6 +97,7 @@ impl<R: Files<File = File>> Disk for HostDisk<R> {
 
     /// A target that isn't absolute is seen from the folder in which the link stands.
     fn follow(&mut self, alloc: Global, path: &str) -> io::Result<String> {
+        owners::check_link(&self.rt, path)?;
         let target = self
             .rt
             .read_link(alloc, path)
@@ -168,6 +172,28 @@ impl<R: Files<File = File>> Disk for HostDisk<R> {
         new: &File,
     ) -> io::Result<()> {
         rights::check_replaceable(&self.rt, alloc, path, old, new)
+    }
+
+    /// The folder is asked for of a journal alone that doesn't belong to its file's owner or to root: of a link, the one in
+    /// which that stands to which it leads.
+    fn check_owner(
+        &mut self,
+        alloc: Global,
+        path: &str,
+        journal: &Metadata,
+        file: &Metadata,
+    ) -> io::Result<()> {
+        if owners::is_known(journal, file) {
+            return Ok(());
+        }
+        let mut path = String::from_str(alloc, path)?;
+        for _ in 0..LINKS {
+            if !self.status(path.as_str())?.is_symlink() {
+                return owners::check_journal(&self.rt, path.as_str(), journal);
+            }
+            path = self.follow(alloc, path.as_str())?;
+        }
+        Err(Error::from_raw_os_error(40))
     }
 
     fn write(&mut self, mut file: &File, bytes: &[u8]) -> io::Result<()> {

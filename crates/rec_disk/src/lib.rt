@@ -4,14 +4,17 @@
 #![tactic(auto)]
 
 mod disk;
+mod escaped;
 mod folders;
 mod host;
 mod log;
 mod memory;
+mod owners;
 mod paths;
 mod rights;
 
 pub use disk::Disk;
+pub use escaped::Escaped;
 pub use folders::folder_of;
 pub use host::HostDisk;
 pub use log::Step;

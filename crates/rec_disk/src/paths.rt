@@ -1,18 +1,14 @@
 //! The paths of a file and its journal, and the names under which they are written.
-ghost use Rattle.std.specs.Prelude.{◌≡◌, true, false, IfOk, string_bytes, option_map};
+ghost use Rattle.std.specs.Prelude.{◌≡◌, true, false, IfOk, string_bytes};
 ghost use Rattle.rec_disk.specs.Paths.{AreApart, journal_of, working_name};
 
 use std::alloc::{AllocError, Global};
 
-/// The path of a file's journal.
-pub fn journal_path(alloc: Global, file: &str, given: Option<&str>) -> Result<String, AllocError>
-    ensures { IfOk result (λ path.
-        string_bytes path ≡ journal_of file.now (option_map (λ path. path.now) given.entry)) }
+/// The path of a file's journal, where no other one is given.
+pub fn journal_path(alloc: Global, file: &str) -> Result<String, AllocError>
+    ensures { IfOk result (λ path. string_bytes path ≡ journal_of file.now) }
 {
-    match given {
-        Some(path) => String::from_str(alloc, path),
-        None => format!(in alloc; "{file}.journal"),
-    }
+    format!(in alloc; "{file}.journal")
 }
 
 /// The name under which a file is written.

@@ -5,7 +5,9 @@
 pub struct About<'a> {
     /// The path of a batch.
     pub batch: Option<&'a str>,
+    /// What the file is called, and its path, which is another one where it is called by a link.
     pub file: &'a str,
+    pub path: &'a str,
     pub journal: &'a str,
     /// The text of the file as it is now. There is none where it can't be read again, as standard input.
     pub text: Option<&'a [u8]>,

@@ -43,7 +43,7 @@ fn say_count(file: &str, dropped: usize, is_tried: bool, said: &mut Explanation)
 
 /// Whether a journal was named in which no event before the last one knows the text from which that one begins.
 fn is_of_another_file(about: &About<'_>) -> bool {
-    let is_named = about.journal.strip_suffix(".journal") != Some(about.file);
+    let is_named = about.journal.strip_suffix(".journal") != Some(about.path);
     match about.events {
         Some(events) if is_named => begins_anew(events),
         _ => false,

@@ -91,7 +91,7 @@ pub fn explain_history(about: &About<'_>, fault: &Fault, said: &mut Explanation)
 /// `--journal` names it: it may be any file.
 fn explain_journal(about: &About<'_>, line: usize, said: &mut Explanation) {
     let journal = about.journal;
-    if journal.strip_suffix(".journal") == Some(about.file) || line > 1 {
+    if journal.strip_suffix(".journal") == Some(about.path) || line > 1 {
         return said.add(&[
             journal,
             ": move it away, and the next edit begins a new journal",

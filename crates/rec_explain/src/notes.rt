@@ -50,9 +50,12 @@ pub fn explain_done(
     said.into_lines()
 }
 
-/// Whether `explain_through` says what was done.
+/// Whether `explain_through` says what was done, or a dry run prints each of several moves.
 fn is_of_several(request: &Request) -> bool {
-    matches!(request, Request::Undo(Some(_)) | Request::Redo(Some(_)))
+    matches!(
+        tried(request),
+        Request::Undo(Some(_)) | Request::Redo(Some(_))
+    )
 }
 
 /// Says what of an edit that was made may not have been meant.

@@ -1,5 +1,7 @@
 -- The paths of the contents, and what links lead to. A path is its bytes.
-use Rattle.std.specs.Prelude.{ℕ, zero, suc, List, [], Option, Some, None, option_map, unwrap_or}
+use Rattle.std.specs.Prelude.{◌≡◌, ◌⊎◌, ℕ, zero, suc, List, [], Option, Some, None, IsSomeAnd, option_map, unwrap_or}
+use Rattle.rec_disk.specs.Disk.{State}
+use Rattle.rec_disk.specs.Paths.{journal_of}
 use Rattle.rec_tools.specs.declared.home.Which.{Which}
 use Rattle.rec_tools.specs.declared.home.Which.TheVariants.{Base, Journal}
 
@@ -13,3 +15,20 @@ path_of file journal Journal = journal
 abbrev pub end_of : (List ℕ → Option (List ℕ)) → ℕ → List ℕ → Option (List ℕ)
 end_of link zero path = None
 end_of link (suc n) path = unwrap_or (option_map (end_of link n) (link path)) (Some path)
+
+-- two paths lead to one file
+abbrev pub LeadToOne : (List ℕ → List ℕ) → List ℕ → List ℕ → State → Type 0
+LeadToOne leads first second s = IsSomeAnd (s.at (leads first)) (λ n. s.at (leads second) ≡ Some n)
+
+-- A path that leads to a file has no other journal than the file: it is the file's path, or nothing stands
+-- where its own journal would, or that is the file's journal.
+abbrev pub HasNoOtherJournal : (List ℕ → List ℕ) → (List ℕ → List ℕ) → List ℕ → List ℕ → State → Type 0
+HasNoOtherJournal place leads path file s = (file ≡ path)
+    ⊎ ((s.at (place (journal_of path)) ≡ None) ⊎ LeadToOne leads (journal_of path) (journal_of file) s)
+
+-- where no journal is given, a path is that of this file, after its links, with this journal
+pub record AreDefaultPaths (place leads : List ℕ → List ℕ) (link : List ℕ → Option (List ℕ))
+    (path file journal : List ℕ) (s : State) : Type 0 where
+  pub file_is : end_of link 40 path ≡ Some file
+  pub journal_is : journal ≡ journal_of file
+  pub alone : HasNoOtherJournal place leads path file s

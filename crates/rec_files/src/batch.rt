@@ -9,7 +9,7 @@ ghost use Rattle.rec_files.specs.proving.Succeeding.{Succeeds};
 use crate::files::is_out_of_memory;
 use crate::open_file::OpenFile;
 use crate::reading::{LIMIT, read_rest};
-use rec_disk::Disk;
+use rec_disk::{Disk, Escaped};
 use rec_tools::{Bytes, Fault, Which};
 use std::alloc::Global;
 use std::io;
@@ -35,7 +35,7 @@ pub fn batch_text<R: Input + Eprint + AllocGlobal, D: Disk>(
         Ok(bytes) => Ok(Bytes::from_vec(bytes)),
         Err(error) if is_out_of_memory(&error) => Err(Fault::OutOfMemory),
         Err(error) => {
-            let _ = eprintln!(rt; "{path}: {error}");
+            let _ = eprintln!(rt; "{}: {error}", Escaped(path));
             Err(Fault::StoreFailed)
         }
     }

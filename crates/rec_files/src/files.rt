@@ -10,6 +10,7 @@ ghost use Rattle.rec_disk.specs.Disk.{Told, IsMemory};
 ghost use Rattle.rec_disk.specs.Lasting.{shown};
 ghost use Rattle.rec_tools.specs.Home.{got};
 ghost use Rattle.rec_files.specs.OnDisk.{or_empty, contents_on, places_by, IsReadOf};
+ghost use Rattle.rec_files.specs.Endings.{IsFirstEnding};
 ghost use Rattle.rec_files.specs.Paths.{path_of};
 ghost use Rattle.rec_files.specs.Succeeding.{HomeGoes, IsTold, IsShort, IsThere, IsReadable, IsShut, NotesRead, kept};
 ghost use Rattle.rec_files.specs.Succeeding.{IsRegularAt, ReadsRegular};
@@ -17,11 +18,12 @@ ghost use Rattle.rec_files.specs.proving.Succeeding.{Succeeds, IsOwnJournal};
 
 use crate::access::Access;
 use crate::both::Both;
+use crate::endings::first_ending;
 use crate::failure::{Cause, Failure, not_regular, one_file};
 use crate::reading::{read_rest, read_whole};
 use crate::replacing::Paths;
 use crate::target::may_be_missing;
-use rec_disk::{Disk, HostDisk, folder_of};
+use rec_disk::{Disk, Escaped, HostDisk, folder_of};
 use rec_tools::{Bytes, Fault, Home, Which};
 use std::alloc::Global;
 use std::fs::File;
@@ -34,6 +36,8 @@ use std::rt::Files;
 pub struct DiskHome<'r, R, D: Disk + Drop> {
     rt: &'r R,
     disk: D,
+    /// What is said calls the file so; where it is missing, by its path.
+    name: Option<String>,
     /// Standard input, where it is missing.
     file: Option<String>,
     journal: String,
@@ -42,19 +46,23 @@ pub struct DiskHome<'r, R, D: Disk + Drop> {
     both: Both<D>,
     failed: u64,
     failure: Option<Failure>,
+    /// The first line of standard input that ends in CR LF, as it was read.
+    ending: Option<usize>,
 }
 
 impl<'r, R: Input + AllocGlobal, D: Disk + Drop> DiskHome<'r, R, D> {
     /// Where no file is given, standard input is read in its place, once. A journal that isn't given has the empty path,
-    /// which names nothing.
+    /// which names nothing. A name calls the file otherwise than by its path.
     pub fn new(
         rt: &'r R,
         disk: D,
+        name: Option<String>,
         file: Option<String>,
         journal: Option<String>,
         access: Access,
     ) -> DiskHome<'r, R, D>
         ensures disk { result.disk ≡ disk }
+        ensures name { result.name ≡ name }
         ensures file { result.file ≡ file }
         ensures journal { string_bytes result.journal ≡ unwrap_or (option_map string_bytes journal) [] }
         ensures access { result.access ≡ access }
@@ -64,12 +72,14 @@ impl<'r, R: Input + AllocGlobal, D: Disk + Drop> DiskHome<'r, R, D> {
         DiskHome {
             rt,
             disk,
+            name,
             file,
             journal: journal.unwrap_or(String::new(rt.alloc())),
             access,
             both: Both::new(),
             failed: 0,
             failure: None,
+            ending: None,
         }
     }
 
@@ -84,9 +94,12 @@ impl<'r, R: Input + AllocGlobal, D: Disk + Drop> DiskHome<'r, R, D> {
         };
         let name = match failure.which {
             Which::Base if self.file.is_none() => "standard input",
-            which => self.path(which),
+            Which::Base => self.name(),
+            Which::Journal => self.path(Which::Journal),
         };
         let working = self.both.working(failure.which).unwrap_or(name);
+        let folder = Escaped(folder_of(working));
+        let (name, working) = (Escaped(name), Escaped(working));
         match failure.cause {
             Cause::Itself(error) => eprintln!(err; "{name}: {error}"),
             Cause::Working(error) => eprintln!(err; "{working}: {error}"),
@@ -95,7 +108,7 @@ impl<'r, R: Input + AllocGlobal, D: Disk + Drop> DiskHome<'r, R, D> {
             }
             Cause::Folder(error) => {
                 let what = "the folder isn't writable, and recu writes a new file in it";
-                eprintln!(err; "{}: {what}: {error}", folder_of(working))
+                eprintln!(err; "{folder}: {what}: {error}")
             }
             Cause::Unsynced(error) => eprintln!(err;
                 "{name}: {}: {error}",
@@ -146,6 +159,24 @@ impl<'r, R: Input + AllocGlobal, D: Disk + Drop> DiskHome<'r, R, D> {
         path_in(&self.file, &self.journal, which)
     }
 
+    /// What the file is called, where something is said of it.
+    pub fn name(&self) -> &str
+        ensures name { result.now ≡ unwrap_or (option_map string_bytes self.now.name)
+            (path_of (option_map string_bytes self.now.file) (string_bytes self.now.journal) Which.Base) }
+    {
+        match &self.name {
+            Some(name) => name.as_str(),
+            None => self.path(Which::Base),
+        }
+    }
+
+    /// The first line of standard input that ends in CR LF, counted from 1, where that was read instead of a file.
+    pub fn ending_of_input(&self) -> Option<usize>
+        ensures ending { result ≡ self.now.ending }
+    {
+        self.ending
+    }
+
     fn fail(&mut self, failure: Failure) -> Fault
         ensures fault { result ≡ Fault.StoreFailed }
         ensures counted { self.old.failed ≤ self.new.failed }
@@ -180,9 +211,13 @@ impl<'r, R: Input + AllocGlobal, D: Disk + Drop> DiskHome<'r, R, D> {
         ensures noted { self.old.access ≡ Access.Change → IfOk result (λ bytes. NotesRead D.leads D.regular
             (kept D.number D.tells self.old) (kept D.number D.tells self.new) (D.story self.old.disk)
             (got which bytes.items)) }
+        ensures ending { which ≡ Which.Base → IsNone self.old.file
+            → IfOk result (λ bytes. IsFirstEnding bytes.items self.new.ending) }
     {
         if which == Which::Base && self.file.is_none() {
-            return read_rest(which, Vec::new(alloc), self.rt.reader());
+            let bytes = read_rest(which, Vec::new(alloc), self.rt.reader())?;
+            self.ending = first_ending(bytes.as_slice());
+            return Ok(bytes);
         }
         let path = path_in(&self.file, &self.journal, which);
         let only_regular = !self.journal.is_empty();
@@ -302,7 +337,7 @@ fn look_at<D: Disk>(
 {
     match open(disk, path, only_regular) {
         Ok(file) => {
-            if is_the_file(disk, which, other, &file)? {
+            if is_the_file(disk, alloc, which, path, other, &file)? {
                 return Err(one_file());
             }
             read_whole(disk, alloc, which, &file)
@@ -333,24 +368,28 @@ fn open<D: Disk>(disk: &mut D, path: &str, only_regular: bool) -> io::Result<D::
     disk.open(path)
 }
 
-/// Whether the journal is the file itself, under another path.
+/// Whether the journal is the file itself, under another path. Of another one it is checked that it is no stranger's.
 fn is_the_file<D: Disk>(
     disk: &mut D,
+    alloc: Global,
     which: Which,
-    path: &Option<String>,
+    path: &str,
+    other: &Option<String>,
     file: &D::File,
 ) -> io::Result<bool>
     ensures same { D.story disk.new ≡ D.story disk.old }
     ensures the_file { IfOk result (λ is. Told (D.story disk.old) (λ s. IsTrue is ↔ ((which ≡ Which.Journal)
-        × IsSomeAnd path.now (λ path. s.at (D.leads (string_bytes path)) ≡ Some (D.number file.now))))) }
+        × IsSomeAnd other.now (λ path. s.at (D.leads (string_bytes path)) ≡ Some (D.number file.now))))) }
     ensures succeeds { Succeeds IsMemory (D.works disk.old) (D.works disk.new) (IsTold (D.story disk.old)
-        (λ s. which ≡ Which.Journal → IfSome path.now (λ path. IsSome (s.at (D.leads (string_bytes path)))))) result }
+        (λ s. which ≡ Which.Journal → IfSome other.now (λ path. IsSome (s.at (D.leads (string_bytes path)))))) result }
 {
-    match (which, path) {
-        (Which::Journal, Some(path)) => Ok(D::are_one(
-            &disk.status_after_links(path.as_str())?,
-            &disk.status_of(file)?,
-        )),
+    match (which, other) {
+        (Which::Journal, Some(other)) => {
+            let there = disk.status_after_links(other.as_str())?;
+            let own = disk.status_of(file)?;
+            disk.check_owner(alloc, path, &own, &there)?;
+            Ok(D::are_one(&there, &own))
+        }
         _ => Ok(false),
     }
 }

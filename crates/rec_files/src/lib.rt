@@ -5,6 +5,8 @@
 mod access;
 mod batch;
 mod both;
+mod defaults;
+mod endings;
 mod failure;
 mod files;
 mod leftover;
@@ -20,6 +22,8 @@ mod working_file;
 
 pub use access::{Access, access_of};
 pub use batch::batch_text;
+pub use defaults::{DefaultPaths, default_paths};
+pub use endings::first_ending;
 pub use files::DiskHome;
 pub use output::{StandardOutput, explain_output, room_for};
-pub use running::{run, run_through};
+pub use running::{preview_through, run, run_through};

@@ -5,14 +5,14 @@ ghost use Rattle.rec_tools.specs.Steps.{IsRefusal};
 ghost use Rattle.rec_tools.specs.Printouts.{Printed, WentOut};
 ghost use Rattle.rec_tools.specs.Requests.{asked_of, IsSilent};
 ghost use Rattle.rec_tools.specs.Attempts.{Answer, Attempts, AttemptsAll};
-ghost use Rattle.rec_tools.specs.Through.{move_through, moves_through, EndsThrough};
+ghost use Rattle.rec_tools.specs.Through.{move_through, moves_through, EndsThrough, PreviewsThrough};
 ghost use Rattle.rec_files.specs.Succeeding.{HomeGoes};
 ghost use Rattle.rec_files.specs.OnDisk.{places_by, SecureRequest, LastingRequest, TouchesOwn, RecoversRequest};
 ghost use Rattle.rec_files.specs.OnDisk.{AreRequestsAt};
 
 use crate::files::DiskHome;
 use rec_disk::Disk;
-use rec_tools::{Direction, Fault, Reply, Request, Sink, Through, stops_are_steps};
+use rec_tools::{DiffStyle, Direction, Fault, Reply, Request, Sink, Through, stops_are_steps};
 use std::alloc::Global;
 
 /// Runs one request on a home on a disk: what `run` of `rec_tools` does.
@@ -76,4 +76,26 @@ pub fn run_through<'r, R: Input + AllocGlobal, D: Disk + Drop, S: Sink>(
 {
     stops_are_steps();
     rec_tools::run_through(alloc, home, out, direction, number)
+}
+
+/// Prints what each of those moves would change, one after another: what `preview_through` of `rec_tools` does.
+pub fn preview_through<'r, R: Input + AllocGlobal, D: Disk + Drop, S: Sink>(
+    alloc: Global,
+    home: &mut DiskHome<'r, R, D>,
+    out: &mut S,
+    direction: Direction,
+    number: usize,
+    style: &DiffStyle,
+) -> Through
+    // One answer for each move, and what went out, by calls that read both contents.
+    ensures attempts { (answers : List Answer) × EndsThrough direction number answers result
+        × (p : Printed) × WentOut S.contents S.failure_count out.old out.new p
+        × PreviewsThrough (HomeGoes D.place D.leads D.link D.folder D.syncs D.regular D.number D.tells D.story D.works)
+        home.old home.new style.now direction number answers p }
+
+    // Nothing is changed on the disk.
+    ensures still { IfSome (places_by D.leads (option_map string_bytes home.old.file) (string_bytes home.old.journal))
+        (λ p. D.story home.new.disk ≡ D.story home.old.disk) }
+{
+    rec_tools::preview_through(alloc, home, out, direction, number, style)
 }

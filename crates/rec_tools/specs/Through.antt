@@ -1,17 +1,21 @@
--- Moves through the history as far as the edit of a number: which answers they come to.
+-- Moves through the history as far as the edit of a number: which answers they come to, and what a dry run prints.
 use Rattle.std.specs.Prelude.{◌≡◌, ◌≢◌, ℕ, ◌+◌, Bool, true, false, nat_lt, ◌&&◌, List, [], ◌∷◌, ◌++◌, length, map}
-use Rattle.std.specs.Prelude.{replicate, reverse, filter_map, slice_get, Option, Some, None, Ok, Err}
+use Rattle.std.specs.Prelude.{replicate, reverse, filter_map, slice_get, Option, Some, None, Result, Ok, Err, IfOk}
 use Rattle.std.specs.List.{AllByRecursion}
 use Rattle.rec_text.specs.declared.fault.Fault.{Fault}
 use Rattle.rec_journal.specs.declared.patch.Direction.{Direction}
 use Rattle.rec_journal.specs.declared.patch.Direction.TheVariants.{Forward, Backward}
+use Rattle.rec_diff.specs.declared.style.DiffStyle.{DiffStyle}
+use Rattle.rec_tools.specs.declared.home.Which.TheVariants.{Base as TheFile, Journal as TheJournal}
 use Rattle.rec_tools.specs.declared.request.Request.{Request, Undo, Redo}
+use Rattle.rec_tools.specs.declared.request.Reply.{Reply}
 use Rattle.rec_tools.specs.declared.request.Reply.TheVariants.{Undone, Redone}
 use Rattle.rec_tools.specs.declared.through.Through.{Through}
-use Rattle.rec_tools.specs.Home.{Contents}
-use Rattle.rec_tools.specs.Requests.{Asked, moving}
-use Rattle.rec_tools.specs.Outcomes.{reply_of}
-use Rattle.rec_tools.specs.Attempts.{Answer}
+use Rattle.rec_tools.specs.Home.{Contents, written, Call, Went}
+use Rattle.rec_tools.specs.Printouts.{Printed, IsBoth, IsSilence}
+use Rattle.rec_tools.specs.Requests.{Asked, moving, previewing, asked_of}
+use Rattle.rec_tools.specs.Outcomes.{Outcome, IsRequestOutcome, reply_of}
+use Rattle.rec_tools.specs.Attempts.{Answer, AreRead, Does, gots}
 use Rattle.rec_tools.specs.Machine.{Entry, State, IsMachineStep, entries_on, Stands}
 
 -- a move that way, where the edit of this number lies that way
@@ -115,3 +119,39 @@ abbrev pub MovesLeadThere : Type 0
 MovesLeadThere = (c : Contents) (direction : Direction) (number : ℕ) (s t : State) (answers : List Answer) → Stands c s
     → StepsAgain s (moving direction (Some number)) answers t → LeadThrough direction number None answers
     → LeadThere direction number s t answers
+
+-- ---- a dry run
+
+-- what is asked for on the one contents would be answered so, and leave the others
+abbrev pub WouldLeave : Contents → Asked → Reply → Contents → Type 0
+WouldLeave c asked reply d = (would : Outcome) × IsRequestOutcome c asked (Ok would) × (reply ≡ would.reply)
+    × (d ≡ written c would.writes)
+
+-- On contents in memory what is asked for is previewed, with this answer; and again on those that it would leave, as
+-- far as the last ones. What is printed is what each preview prints, one after another.
+abbrev pub PreviewsAgain : DiffStyle → Asked → Contents → List Answer → Printed → Contents → Type 0
+PreviewsAgain style asked c [] p last = IsSilence p × (last ≡ c)
+PreviewsAgain style asked c (answer ∷ answers) p last = (d : Contents) × (first rest : Printed) × IsBoth p first rest
+    × Does c (previewing style asked) answer (gots c (TheFile ∷ TheJournal ∷ [])) first
+    × IfOk answer (λ reply. WouldLeave c asked reply d) × PreviewsAgain style asked d answers rest last
+
+-- so it is on both contents, as they were read; or they couldn't be read, and that is the answer
+abbrev pub PreviewsRead : DiffStyle → Asked → Result (List ℕ × List ℕ) Fault → List Answer → Printed → Type 0
+PreviewsRead style asked (Ok (file, journal)) answers p =
+    (last : Contents) × PreviewsAgain style asked (record { file = file; journal = journal }) answers p last
+PreviewsRead style asked (Err fault) answers p = (answers ≡ Err fault ∷ []) × IsSilence p
+
+-- by calls that read both contents, and no others, the one home became the other
+abbrev pub PreviewsThrough : {H : Type 0} → (H → Call → H → Type 0) → H → H → DiffStyle → Direction → ℕ → List Answer
+    → Printed → Type 0
+PreviewsThrough goes old new style direction number answers p = (read : Result (List ℕ × List ℕ) Fault)
+    × (calls : List Call) × Went goes old calls new × AreRead read calls
+    × PreviewsRead style (asked_of (move_through direction number)) read answers p
+
+-- the machine would step again and again by what is asked for, with these answers; what is printed is what it prints
+-- for the preview of each step, one after another
+abbrev pub PreviewSteps : DiffStyle → State → Asked → List Answer → List ℕ → State → Type 0
+PreviewSteps style s asked [] printed t = (printed ≡ []) × (t ≡ s)
+PreviewSteps style s asked (answer ∷ answers) printed t = (mid : State) × (first rest : List ℕ)
+    × (printed ≡ first ++ rest) × IsMachineStep s (previewing style asked) answer first s
+    × IsMachineStep s asked answer [] mid × PreviewSteps style mid asked answers rest t

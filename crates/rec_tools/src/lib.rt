@@ -4,6 +4,7 @@
 
 mod batches;
 mod decision;
+mod dry;
 mod editing;
 mod history;
 mod home;
@@ -20,6 +21,7 @@ mod showing;
 mod through;
 
 pub use batches::{batch_edits, names_for, tool_by};
+pub use dry::preview_through;
 pub use editing::make;
 pub use home::{Home, Which};
 pub use laws::{

@@ -1,13 +1,14 @@
 //! Prints what a request would change, without doing it.
-ghost use Rattle.std.specs.Prelude.{IfErr, option_copied};
+ghost use Rattle.std.specs.Prelude.{Ok, IfOk, IfErr, option_copied};
 ghost use Rattle.rec_text.specs.Faults.{IsOkUnlessEither};
 ghost use Rattle.rec_select.specs.Taken.{PrintsAndCounts, Puts};
 ghost use Rattle.rec_tools.specs.Steps.{IsRefusal};
 ghost use Rattle.rec_tools.specs.Printouts.{PutsPrintout};
 ghost use Rattle.rec_tools.specs.Requests.{asked_of, IsSilent};
-ghost use Rattle.rec_tools.specs.proving.Courses.{LeadsFromFile, IsTextOfChange, IsPreviewed};
+ghost use Rattle.rec_tools.specs.Outcomes.{Decides};
+ghost use Rattle.rec_tools.specs.proving.Courses.{LeadsFromFile, IsTextOfChange, IsPreviewed, replied};
 
-use crate::decision::{Change, decide};
+use crate::decision::{Change, Decision, decide};
 use crate::request::{Reply, Request};
 use rec_diff::{DiffStyle, write_diff};
 use rec_text::{Fault, Sink};
@@ -36,6 +37,26 @@ fn write_change<S: Sink>(
     }
 }
 
+/// Prints what a request would change that prints nothing itself, as a diff, and gives the decision.
+pub(crate) fn print_decision<S: Sink>(
+    alloc: Global,
+    file: &[u8],
+    journal: &[u8],
+    previewed: &Request,
+    style: &DiffStyle,
+    out: &mut S,
+) -> Result<Decision, Fault>
+    requires { IsSilent (asked_of previewed.now) }
+    ensures written { PrintsAndCounts S.contents S.failure_count out.old out.new
+        (PutsPrintout (IsPreviewed style.now file.now journal.now (asked_of previewed.now))) (replied result) }
+    ensures found { IfOk result (λ decision. Decides file.now journal.now (asked_of previewed.now) (Ok decision)) }
+    ensures refusals { IfErr result IsRefusal }
+{
+    let decision = decide(alloc, file, journal, previewed)?;
+    write_change(alloc, file, decision.change(), style, out)?;
+    Ok(decision)
+}
+
 /// Prints what a request would change that prints nothing itself, as a diff.
 pub fn print_preview<S: Sink>(
     alloc: Global,
@@ -50,7 +71,6 @@ pub fn print_preview<S: Sink>(
         (PutsPrintout (IsPreviewed style.now file.now journal.now (asked_of previewed.now))) result }
     ensures refusals { IfErr result IsRefusal }
 {
-    let decision = decide(alloc, file, journal, previewed)?;
-    write_change(alloc, file, decision.change(), style, out)?;
+    let decision = print_decision(alloc, file, journal, previewed, style, out)?;
     Ok(decision.reply())
 }

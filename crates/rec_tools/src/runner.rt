@@ -28,7 +28,7 @@ use rec_text::{Bytes, Fault, Sink};
 use std::alloc::Global;
 
 /// Reads the file and the journal.
-fn read_both<H: Home>(alloc: Global, home: &mut H) -> Result<(Bytes, Bytes), Fault>
+pub(crate) fn read_both<H: Home>(alloc: Global, home: &mut H) -> Result<(Bytes, Bytes), Fault>
     ensures calls { ByCalls H.goes home.old home.new (AreRead result) }
     ensures refusals { IsOkUnlessEither result Fault.OutOfMemory Fault.StoreFailed }
 {

@@ -29,7 +29,7 @@ pub struct Through {
 }
 
 /// The request for a move by the nearest edit that way, where the edit of this number lies that way too.
-fn move_through(direction: Direction, number: usize) -> Request
+pub(crate) fn move_through(direction: Direction, number: usize) -> Request
     ensures { result ≡ move_through direction number }
 {
     match direction {
@@ -55,7 +55,7 @@ fn move_once<H: Home, S: Sink>(
 }
 
 /// The number of the edit that was taken back or made again, if one was.
-fn moved_by(answer: &Result<Reply, Fault>) -> Option<usize>
+pub(crate) fn moved_by(answer: &Result<Reply, Fault>) -> Option<usize>
     ensures moved { result ≡ moved_by answer.now }
     ensures bounded { IfSome result (λ n. n < 2 ^ 64) }
 {
@@ -77,7 +77,12 @@ fn comes_before(direction: Direction, one: usize, other: usize) -> bool
 }
 
 /// Whether a move is to follow the one by an edit, which came after the one by the last.
-fn leads_on(direction: Direction, number: usize, last: Option<usize>, moved: Option<usize>) -> bool
+pub(crate) fn leads_on(
+    direction: Direction,
+    number: usize,
+    last: Option<usize>,
+    moved: Option<usize>,
+) -> bool
     ensures { result ≡ leads_on direction number last moved }
 {
     match (last, moved) {

@@ -11,24 +11,29 @@ use Rattle.rec_text.specs.declared.fault.Fault.TheVariants.{OutOfMemory, StoreFa
 use Rattle.rec_text.specs.Sink.{HasRisen}
 use Rattle.rec_disk.specs.Disk.{Story, Told}
 use Rattle.rec_disk.specs.Lasting.{shown}
+use Rattle.rec_disk.specs.Paths.{journal_of}
 use Rattle.rec_journal.specs.declared.patch.Direction.{Direction}
 use Rattle.rec_journal.specs.declared.patch.Direction.TheVariants.{Forward, Backward}
-use Rattle.rec_tools.specs.declared.request.Request.{Request, Undo, Redo}
+use Rattle.rec_diff.specs.declared.style.DiffStyle.{DiffStyle}
+use Rattle.rec_tools.specs.declared.request.Request.{Request, Undo, Redo, Preview'}
 use Rattle.rec_tools.specs.declared.request.Reply.{Reply}
 use Rattle.rec_tools.specs.declared.through.Through.{Through}
 use Rattle.rec_tools.specs.Home.{Call}
 use Rattle.rec_tools.specs.Printouts.{Printed, WentOut}
 use Rattle.rec_tools.specs.Requests.{asked_of, WritesNothing}
 use Rattle.rec_tools.specs.Attempts.{Answer, Attempts, AttemptsAll}
-use Rattle.rec_tools.specs.Through.{move_through, moves_through, EndsThrough}
+use Rattle.rec_tools.specs.Through.{move_through, moves_through, EndsThrough, PreviewsThrough}
 use Rattle.rec_files.specs.declared.access.Access.TheVariants.{Look}
 use Rattle.rec_files.specs.declared.files.DiskHome.{DiskHome}
 use Rattle.rec_files.specs.declared.output.StandardOutput.{StandardOutput}
 use Rattle.rec_files.specs.OnDisk.{Places, places_by, IsRequestAt, AreRequestsAt}
+use Rattle.rec_files.specs.Paths.{AreDefaultPaths}
 use Rattle.rec_files.specs.Succeeding.{IsShut}
 use Rattle.rec_command.specs.declared.args.Order.{Order}
 use Rattle.rec_command.specs.declared.args.Order.TheVariants.{Whole, BatchAt}
 use Rattle.rec_command.specs.declared.args.CommandLine.{CommandLine}
+use Rattle.rec_command.specs.declared.args.JournalPath.{JournalPath}
+use Rattle.rec_command.specs.declared.args.JournalPath.TheVariants.{Unused, Default, Given}
 use Rattle.rec_command.specs.declared.args.refusal.Refusal.{Refusal}
 use Rattle.rec_command.specs.Status.{line_of, status_of}
 use Rattle.rec_command.specs.Refusals.{AsksForHelp, IsParsed, refusal_fault}
@@ -44,6 +49,27 @@ IsRequestOf leads story (BatchAt path force preview) (Ok request) = (text : List
     × (string_bytes path ≢ codes "-" → Told story (λ s. shown s.bytes (s.at (leads (string_bytes path))) ≡ Some text))
     × IsBatchOf text force preview request
 IsRequestOf leads story (BatchAt path force preview) (Err fault) = (fault ≡ OutOfMemory) ⊎ (fault ≡ StoreFailed)
+
+-- The paths of the file and the journal of a home, by those that are given: these; but where the default journal of a
+-- file is meant, that of the file to which its path leads, and its journal, where the disk tells what stands there; or
+-- these can't be told, or another journal is in the way, or there is no memory for them.
+abbrev pub ArePathsOf : (List ℕ → List ℕ) → (List ℕ → List ℕ) → (List ℕ → Option (List ℕ)) → Option Story
+    → Option (List ℕ) → JournalPath → Result (Option (List ℕ) × Option (List ℕ)) Fault → Type 0
+ArePathsOf place leads link story (Some path) Default (Ok at) = (file : List ℕ)
+    × (at ≡ (Some file, Some (journal_of file)))
+    × Told story (AreDefaultPaths place leads link path file (journal_of file))
+ArePathsOf place leads link story (Some path) Default (Err fault) = (fault ≡ OutOfMemory) ⊎ (fault ≡ StoreFailed)
+ArePathsOf place leads link story file (Given path) found = found ≡ Ok (file, Some (string_bytes path))
+ArePathsOf place leads link story file journal found = found ≡ Ok (file, None)
+
+-- what a line asks for, with the paths of the file and the journal of the home; or there is none, or no such paths
+abbrev pub IsFoundFor : (List ℕ → List ℕ) → (List ℕ → List ℕ) → (List ℕ → Option (List ℕ)) → Option Story
+    → CommandLine → Result (Request × Option (List ℕ) × Option (List ℕ)) Fault → Type 0
+IsFoundFor place leads link story line (Ok found) = IsRequestOf leads story line.order (Ok found.0)
+    × ArePathsOf place leads link story (option_map string_bytes line.file) line.journal (Ok (found.1, found.2))
+IsFoundFor place leads link story line (Err fault) = IsRequestOf leads story line.order (Err fault)
+    ⊎ ((request : Request) × IsRequestOf leads story line.order (Ok request)
+    × ArePathsOf place leads link story (option_map string_bytes line.file) line.journal (Err fault))
 
 -- a home of the two files on a disk, which may write them only for a request that writes
 pub record IsHomeFor {R D F S : Type 0} (disk : D) (file journal : Option (List ℕ)) (request : Request)
@@ -108,6 +134,11 @@ through_of (Undo (Some number)) = Some (Backward, number)
 through_of (Redo (Some number)) = Some (Forward, number)
 through_of request = None
 
+-- the same of a dry run, and the style in which it prints
+abbrev pub dry_through_of : Request → Option ((Direction × ℕ) × DiffStyle)
+dry_through_of (Preview' shape request style) = option_map (λ way. (way, style)) (through_of request)
+dry_through_of request = None
+
 -- An answer to moves as far as the edit of a number: that of the last one; but where it isn't refused and not by that
 -- edit, another program came in between, and the answer is 23.
 abbrev pub IsMovedTo : ℕ → Through → Answer → Type 0
@@ -147,8 +178,27 @@ module _ {R D F S : Type 0} (place leads folder : List ℕ → List ℕ) (syncs 
           (asked_of (move_through direction number)) answers (story old.disk) (story new.disk))
       pub moved : IsMovedTo number told answer
 
+    -- it is that of a dry run of such moves, once what it printed is let out; nothing is changed on the disk
+    pub record AnswersDry (direction : Direction) (number : ℕ) (style : DiffStyle) (answer : Answer) : Type 0 where
+      pub told : Through
+      pub answers : List Answer
+      pub ends : EndsThrough direction number answers told
+      pub printed : Printed
+      pub taken : Appends before.taken after.taken printed.text
+      pub failed : printed.before ≡ before.failed
+      pub previews : PreviewsThrough goes old new style direction number answers printed
+      pub still : IfSome (places_of old) (λ at. story new.disk ≡ story old.disk)
+      pub reached : Answer
+      pub moved : IsMovedTo number told reached
+      pub let_out : IsLetOut reached printed.after after answer
+
+    -- it is that of a request that doesn't move as far as an edit, or of a dry run of one that does
+    abbrev pub AnswersAlone : Request → Answer → Type 0
+    AnswersAlone request answer = MatchOption (dry_through_of request) (AnswersOnce request answer)
+        (λ way. AnswersDry way.0.0 way.0.1 way.1 answer)
+
     abbrev pub Answers : Request → Answer → Type 0
-    Answers request answer = MatchOption (through_of request) (AnswersOnce request answer)
+    Answers request answer = MatchOption (through_of request) (AnswersAlone request answer)
         (λ way. AnswersThrough way.0 way.1 answer)
 
   -- On a home, which is closed then, a request is answered so, and is printed by a writer that took these bytes before,
@@ -160,25 +210,25 @@ module _ {R D F S : Type 0} (place leads folder : List ℕ → List ℕ) (syncs 
 
   -- ---- the command line
 
-  -- The request of a line is answered so on a home of its files, on a disk that tells what the first does and works
+  -- A request is answered so on a home of the files at two paths, on a disk that tells what the first does and works
   -- where that does, and the home's disk is the last one.
-  pub record IsCarriedOut (first last : D) (taken : Option (List ℕ)) (out : Option Out) (line : CommandLine)
-      (request : Request) (answer : Answer) : Type 0 where
+  pub record IsCarriedOut (first last : D) (taken : Option (List ℕ)) (out : Option Out)
+      (file journal : Option (List ℕ)) (request : Request) (answer : Answer) : Type 0 where
     pub disk : D
     pub same : story disk ≡ story first
     pub works_still : works first → works disk
     pub home : DiskHome R D F S
-    pub home_is : IsHomeFor disk (option_map string_bytes line.file) (option_map string_bytes line.journal) request home
+    pub home_is : IsHomeFor disk file journal request home
     pub closed : DiskHome R D F S
     pub answered : AnswersOn home closed taken out request answer
     pub last_is : last ≡ closed.disk
 
   -- A line is answered so, from the first disk to the last, by a writer that took these bytes before, with standard
-  -- output so then: its request is, or there is none, and nothing is changed or printed.
-  abbrev pub IsDone : D → D → Option (List ℕ) → Option Out → CommandLine → Answer → Type 0
-  IsDone first last taken out line answer = (found : Result Request Fault)
-      × IsRequestOf leads (story first) line.order found
-      × MatchResult found (λ request. IsCarriedOut first last taken out line request answer)
+  -- output so then: its request is, on its files; or what it asks for isn't found, and nothing is changed or printed.
+  abbrev pub IsDone : (List ℕ → Option (List ℕ)) → D → D → Option (List ℕ) → Option Out → CommandLine → Answer → Type 0
+  IsDone link first last taken out line answer = (found : Result (Request × Option (List ℕ) × Option (List ℕ)) Fault)
+      × IsFoundFor place leads link (story first) line found
+      × MatchResult found (λ task. IsCarriedOut first last taken out task.1 task.2 task.0 answer)
       (λ fault. (answer ≡ Err fault) × (story last ≡ story first) × (out ≡ None))
 
 -- The answer to words that are refused: that they are; but to those that ask for help there is no reply, unless it

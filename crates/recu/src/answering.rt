@@ -3,13 +3,14 @@ ghost use Rattle.std.specs.Prelude.{◌≡◌, option_map};
 ghost use Rattle.std.specs.Io.Buffered.{writer_contents};
 ghost use Rattle.std.specs.Io.KnownBytes.{Keeps};
 ghost use Rattle.rec_files.specs.Succeeding.{IsShut};
-ghost use Rattle.recu.specs.Answers.{through_of, IsMovedTo, out_of, IsLetOut, AnswersOnce, AnswersThrough, Answers, BeforeClosing};
+ghost use Rattle.recu.specs.Answers.{through_of, dry_through_of, IsMovedTo, out_of, IsLetOut, AnswersOnce, AnswersDry};
+ghost use Rattle.recu.specs.Answers.{AnswersAlone, AnswersThrough, Answers, BeforeClosing};
 ghost use Rattle.recu.specs.Answers.{AnswersOn};
 
 use crate::saying::say_how_far;
 use rec_disk::Disk;
-use rec_files::{DiskHome, StandardOutput, access_of, room_for, run_through};
-use rec_tools::{Direction, Fault, Home, Reply, Request, Through};
+use rec_files::{DiskHome, StandardOutput, access_of, preview_through, room_for, run_through};
+use rec_tools::{DiffStyle, Direction, Fault, Home, Reply, Request, Through};
 use std::io::Write;
 
 /// The answer to a request, which is printed by a writer, once the files are closed, and standard output as it is then, where
@@ -49,7 +50,7 @@ fn answer_to<D: Disk + Drop, W: Write + Drop>(
     match through_of(request) {
         Some((direction, number)) => move_through(rt, home, out, direction, number),
         None => {
-            let answer = run_once(rt, home, out, request);
+            let answer = run_alone(rt, home, out, request);
             home.close();
             let _ = home.explain(rt);
             answer
@@ -66,6 +67,53 @@ fn through_of(request: &Request) -> Option<(Direction, usize)>
         Request::Redo(Some(number)) => Some((Direction::Forward, *number)),
         _ => None,
     }
+}
+
+/// The same of a dry run, and the style in which it prints.
+fn dry_through_of(request: &Request) -> Option<((Direction, usize), &DiffStyle)>
+    ensures { option_map (λ (way, style). (way, style.now)) result ≡ dry_through_of request.now }
+{
+    match request {
+        Request::Preview(previewed, style) => {
+            let way = through_of(previewed)?;
+            Some((way, style))
+        }
+        _ => None,
+    }
+}
+
+/// The answer to a request that doesn't move as far as an edit, or to a dry run of one that does.
+fn run_alone<D: Disk + Drop, W: Write + Drop>(
+    rt: &HostRuntime,
+    home: &mut DiskHome<'_, HostRuntime, D>,
+    out: &mut StandardOutput<W>,
+    request: &Request,
+) -> Result<Reply, Fault>
+    ensures answers { AnswersAlone D.place D.leads D.folder D.syncs D.story D.works
+        ⟦<DiskHome<'static, HostRuntime, D> as Home>⟧.goes home.old home.new (out_of W.contents out.old)
+        (out_of W.contents out.new) request.now result }
+{
+    match dry_through_of(request) {
+        Some(((direction, number), style)) => { run_dry(rt, home, out, direction, number, style) }
+        None => run_once(rt, home, out, request),
+    }
+}
+
+/// The answer to a dry run of moves from the nearest edit to that of a number, once what it prints is let out.
+fn run_dry<D: Disk + Drop, W: Write + Drop>(
+    rt: &HostRuntime,
+    home: &mut DiskHome<'_, HostRuntime, D>,
+    out: &mut StandardOutput<W>,
+    direction: Direction,
+    number: usize,
+    style: &DiffStyle,
+) -> Result<Reply, Fault>
+    ensures answers { AnswersDry D.place D.leads D.folder D.syncs D.story D.works
+        ⟦<DiskHome<'static, HostRuntime, D> as Home>⟧.goes home.old home.new (out_of W.contents out.old)
+        (out_of W.contents out.new) direction number style.now result }
+{
+    let through = preview_through(rt.alloc(), home, out, direction, number, style);
+    let_out(out, answer_of(through, number))
 }
 
 /// The answer to a request, once what it prints is let out, before a refusal too.

@@ -5,13 +5,15 @@ ghost use Rattle.rec_text.specs.declared.fault.Fault.{Fault as FaultOf};
 ghost use Rattle.rec_tools.specs.declared.request.Reply.{Reply as ReplyOf};
 ghost use Rattle.rec_command.specs.Status.{Says};
 ghost use Rattle.recu.specs.Answers.{out_of, HasLostReader, IsAnswerTo, IsAnswerToRefused, IsDone, IsFinished};
-ghost use Rattle.recu.specs.Answers.{IsHomeFor, IsRequestOf};
+ghost use Rattle.recu.specs.Answers.{ArePathsOf, IsCarriedOut, IsFoundFor, IsHomeFor, IsRequestOf};
 
 use crate::answering::answer_by;
 use crate::saying::{say_empty, say_more, say_waiting};
-use rec_command::{CommandLine, Order, Refusal, batch_request, finish, parse};
+use rec_command::{CommandLine, JournalPath, Order, Refusal, batch_request, finish, parse};
 use rec_disk::Disk;
-use rec_files::{DiskHome, StandardOutput, access_of, batch_text, explain_output};
+use rec_files::{
+    DefaultPaths, DiskHome, StandardOutput, access_of, batch_text, default_paths, explain_output,
+};
 use rec_tools::{Fault, Home, Reply, Request, Sink};
 use std::io;
 use std::io::Write;
@@ -19,6 +21,23 @@ use std::rt::Runtime;
 
 /// The exit status that shells show for a program that SIGPIPE ended.
 const READER_GONE: u8 = 141;
+
+/// The paths of a home, and what its file is called, where that isn't its path.
+#[derive(Drop)]
+struct Paths {
+    name: Option<String>,
+    file: Option<String>,
+    journal: Option<String>,
+}
+
+/// What a line asks for, and of which files.
+#[derive(Drop)]
+struct Task {
+    request: Request,
+    /// The path of the text of a batch.
+    batch: Option<String>,
+    paths: Paths,
+}
 
 /// The exit status of the command line, once it is answered, and the disk and standard output as they are then. What a request
 /// prints goes to a writer by standard output, which is made for it, and the line of a fault to a sink; what is said beside it goes to
@@ -32,7 +51,7 @@ pub fn status<D: Disk + Drop, W: Write + Drop, S: Sink>(
 ) -> (u8, D, Option<StandardOutput<W>>)
     ensures status { (answer : Result (Option ReplyOf) FaultOf) × (lost : Bool)
         × IsAnswerTo (λ line told. IsDone D.place D.leads D.folder D.syncs D.story D.works
-        ⟦<DiskHome<'static, HostRuntime, D> as Home>⟧.goes disk result.1 (W.contents out)
+        ⟦<DiskHome<'static, HostRuntime, D> as Home>⟧.goes D.link disk result.1 (W.contents out)
         (option_map (out_of W.contents) result.2) line told × (IsTrue lost ↔ IsSomeAnd result.2 HasLostReader))
         ((result.1 ≡ disk) × (result.2 ≡ None) × (IsTrue lost → answer ≡ Err Fault.StoreFailed))
         (map string_bytes words.now) answer
@@ -62,7 +81,7 @@ fn answer<D: Disk + Drop, W: Write + Drop>(
     bool,
 )
     ensures answer { IsAnswerTo (λ line told. IsDone D.place D.leads D.folder D.syncs D.story D.works
-        ⟦<DiskHome<'static, HostRuntime, D> as Home>⟧.goes disk result.1 (W.contents out)
+        ⟦<DiskHome<'static, HostRuntime, D> as Home>⟧.goes D.link disk result.1 (W.contents out)
         (option_map (out_of W.contents) result.2) line told × (IsTrue result.3 ↔ IsSomeAnd result.2 HasLostReader))
         ((result.1 ≡ disk) × (result.2 ≡ None) × (IsTrue result.3 → result.0 ≡ Err Fault.StoreFailed))
         (map string_bytes words.now) result.0 }
@@ -136,25 +155,61 @@ fn carry_out<D: Disk + Drop, W: Write + Drop>(
     line: CommandLine,
 ) -> (Result<Reply, Fault>, D, Option<StandardOutput<W>>)
     ensures answer { IsDone D.place D.leads D.folder D.syncs D.story D.works
-        ⟦<DiskHome<'static, HostRuntime, D> as Home>⟧.goes disk result.1 (W.contents out)
+        ⟦<DiskHome<'static, HostRuntime, D> as Home>⟧.goes D.link disk result.1 (W.contents out)
         (option_map (out_of W.contents) result.2) line result.0 }
+{
+    match task_of(rt, &mut disk, line) {
+        Ok(task) => do_task(rt, disk, out, task),
+        Err(fault) => (Err(fault), disk, None),
+    }
+}
+
+/// The answer to a task, with what is said of it, and the disk and standard output then.
+fn do_task<D: Disk + Drop, W: Write + Drop>(
+    rt: &HostRuntime,
+    disk: D,
+    out: W,
+    task: Task,
+) -> (Result<Reply, Fault>, D, Option<StandardOutput<W>>)
+    ensures answer { IsCarriedOut D.place D.leads D.folder D.syncs D.story D.works
+        ⟦<DiskHome<'static, HostRuntime, D> as Home>⟧.goes disk result.1 (W.contents out)
+        (option_map (out_of W.contents) result.2) (option_map string_bytes task.paths.file)
+        (option_map string_bytes task.paths.journal) task.request result.0 }
+{
+    let Task {
+        request,
+        batch,
+        paths,
+    } = task;
+    if paths.file.is_none() {
+        say_waiting(rt, &request);
+    }
+    let mut home = home_for(rt, disk, paths, &request);
+    let (answer, printed) = answer_by(rt, &mut home, &request, out);
+    say_more(rt, &home, &request, &batch, &answer);
+    (answer, home.into_disk(), printed)
+}
+
+/// What a line asks for, and the paths of the home for it.
+fn task_of<D: Disk>(rt: &HostRuntime, disk: &mut D, line: CommandLine) -> Result<Task, Fault>
+    ensures same { D.story disk.new ≡ D.story disk.old }
+    ensures works { D.works disk.old → D.works disk.new }
+    ensures found { IfOk result (λ task. IsFoundFor D.place D.leads D.link (D.story disk.old) line
+        (Ok (task.request, option_map string_bytes task.paths.file, option_map string_bytes task.paths.journal))) }
+    ensures refused { IfErr result (λ fault. IsFoundFor D.place D.leads D.link (D.story disk.old) line (Err fault)) }
 {
     let CommandLine {
         order,
         file,
         journal,
     } = line;
-    let (request, batch) = match request_of(rt, &mut disk, order) {
-        Ok(found) => found,
-        Err(fault) => return (Err(fault), disk, None),
-    };
-    if file.is_none() {
-        say_waiting(rt, &request);
-    }
-    let mut home = home_for(rt, disk, file, journal, &request);
-    let (answer, printed) = answer_by(rt, &mut home, &request, out);
-    say_more(rt, &home, &request, &batch, &answer);
-    (answer, home.into_disk(), printed)
+    let (request, batch) = request_of(rt, disk, order)?;
+    let paths = paths_of(rt, disk, file, journal)?;
+    Ok(Task {
+        request,
+        batch,
+        paths,
+    })
 }
 
 /// The request of an order, and the path of its text where it is a batch.
@@ -183,15 +238,59 @@ fn request_of<D: Disk>(
     }
 }
 
+/// The paths of the home of a file and a journal. For the default journal the links at the end of the file's path are followed
+/// here, once: were they followed for each of the two, one that leads elsewhere meanwhile would bring the edit of a file into the
+/// journal of another.
+fn paths_of<D: Disk>(
+    rt: &HostRuntime,
+    disk: &mut D,
+    file: Option<String>,
+    journal: JournalPath,
+) -> Result<Paths, Fault>
+    ensures same { D.story disk.new ≡ D.story disk.old }
+    ensures works { D.works disk.old → D.works disk.new }
+    ensures paths { IfOk result (λ paths. ArePathsOf D.place D.leads D.link (D.story disk.old)
+        (option_map string_bytes file) journal
+        (Ok (option_map string_bytes paths.file, option_map string_bytes paths.journal))) }
+    ensures refused { IfErr result (λ fault. ArePathsOf D.place D.leads D.link (D.story disk.old)
+        (option_map string_bytes file) journal (Err fault)) }
+{
+    match (file, journal) {
+        (Some(link), JournalPath::Default) => {
+            let DefaultPaths { file, journal } = default_paths(rt, disk, link.as_str())?;
+            Ok(Paths {
+                name: Some(link),
+                file: Some(file),
+                journal: Some(journal),
+            })
+        }
+        (file, JournalPath::Given(path)) => Ok(Paths {
+            name: None,
+            file,
+            journal: Some(path),
+        }),
+        (file, _) => Ok(Paths {
+            name: None,
+            file,
+            journal: None,
+        }),
+    }
+}
+
 /// The home of a file and its journal for a request.
 fn home_for<'r, D: Disk + Drop>(
     rt: &'r HostRuntime,
     disk: D,
-    file: Option<String>,
-    journal: Option<String>,
+    paths: Paths,
     request: &Request,
 ) -> DiskHome<'r, HostRuntime, D>
-    ensures home { IsHomeFor disk (option_map string_bytes file) (option_map string_bytes journal) request.now result }
+    ensures home { IsHomeFor disk (option_map string_bytes paths.file) (option_map string_bytes paths.journal)
+        request.now result }
 {
-    DiskHome::new(rt, disk, file, journal, access_of(request))
+    let Paths {
+        name,
+        file,
+        journal,
+    } = paths;
+    DiskHome::new(rt, disk, name, file, journal, access_of(request))
 }

@@ -2,12 +2,12 @@
 ghost use Rattle.std.specs.Prelude.{◌≡◌, IfSome};
 ghost use Rattle.rec_files.specs.Succeeding.{IsShut};
 
-use rec_disk::{Disk, HostDisk};
+use rec_disk::{Disk, Escaped, HostDisk};
 use rec_explain::{
     About, explain, explain_done, explain_empty, explain_endings, explain_report, explain_through,
     explain_waiting,
 };
-use rec_files::{Access, DiskHome};
+use rec_files::{Access, DiskHome, first_ending};
 use rec_select::write_report;
 use rec_tools::{Bytes, Direction, Fault, Home, Output, Reply, Request, Through, Which};
 use std::io::{IsTerminal, Write};
@@ -38,7 +38,10 @@ pub fn say_how_far<D: Disk + Drop>(
 )
     requires shut { IsShut home.now.both }
 {
-    let file = home.path(Which::Base);
+    let Some(file) = told(rt, home.name()) else {
+        return;
+    };
+    let file = file.as_str();
     let on_terminal = rt.stderr().is_terminal();
     say(
         rt,
@@ -57,19 +60,52 @@ pub fn say_more<D: Disk + Drop>(
 )
     requires shut { IsShut home.now.both }
 {
+    let Some(names) = names_told(rt, home, batch) else {
+        return;
+    };
     match answer {
         Ok(reply) => {
-            explain_reply(rt, home, request, batch, reply);
-            say_done(rt, home, request, reply);
+            explain_reply(rt, home, request, &names, reply);
+            say_done(rt, home, request, &names, reply);
         }
         Err(fault) => {
             let text = text_for(rt, home, fault);
             let history = history_for(rt, home, fault);
             let events = events_for(rt, home, request, fault);
-            let about = about(home, batch, &text, &history, &events);
+            let about = about(home, &names, &text, &history, &events);
             say(rt, &explain(rt.alloc(), &about, request, fault));
         }
     }
+}
+
+/// What a batch, the file and its journal are called, and the file's path, as they are told.
+#[derive(Drop)]
+struct Names {
+    batch: Option<String>,
+    file: String,
+    path: String,
+    journal: String,
+}
+
+fn names_told<D: Disk + Drop>(
+    rt: &HostRuntime,
+    home: &DiskHome<'_, HostRuntime, D>,
+    batch: &Option<String>,
+) -> Option<Names> {
+    Some(Names {
+        batch: match batch {
+            Some(path) => Some(told(rt, path.as_str())?),
+            None => None,
+        },
+        file: told(rt, home.name())?,
+        path: told(rt, home.path(Which::Base))?,
+        journal: told(rt, home.path(Which::Journal))?,
+    })
+}
+
+/// A path as it is told, if there is memory for it.
+fn told(rt: &HostRuntime, path: &str) -> Option<String> {
+    format!(in rt.alloc(); "{}", Escaped(path)).ok()
 }
 
 fn say(rt: &HostRuntime, lines: &[u8]) {
@@ -82,7 +118,7 @@ fn explain_reply<D: Disk + Drop>(
     rt: &HostRuntime,
     home: &DiskHome<'_, HostRuntime, D>,
     request: &Request,
-    batch: &Option<String>,
+    names: &Names,
     reply: &Reply,
 ) {
     let is_report = matches!(reply, Reply::Violated(_));
@@ -90,11 +126,24 @@ fn explain_reply<D: Disk + Drop>(
         return;
     }
     let text = text_again(rt, home);
-    let about = about(home, batch, &text, &None, &None);
     if is_report && rt.stdout().is_terminal() {
+        let about = about(home, names, &text, &None, &None);
         say(rt, &explain_report(rt.alloc(), &about));
     }
-    say(rt, &explain_endings(rt.alloc(), &about));
+    if let Some(line) = ending_in(home, &text) {
+        say(rt, &explain_endings(rt.alloc(), names.file.as_str(), line));
+    }
+}
+
+/// The first line that ends in CR LF: of the file as it is now, or of standard input as it was read.
+fn ending_in<D: Disk + Drop>(
+    home: &DiskHome<'_, HostRuntime, D>,
+    text: &Option<Vec<u8>>,
+) -> Option<usize> {
+    match text {
+        Some(text) => first_ending(text.as_slice()),
+        None => home.ending_of_input(),
+    }
 }
 
 /// Says what was done: on a terminal, and that earlier edits can't be undone any more always.
@@ -102,13 +151,14 @@ fn say_done<D: Disk + Drop>(
     rt: &HostRuntime,
     home: &DiskHome<'_, HostRuntime, D>,
     request: &Request,
+    names: &Names,
     reply: &Reply,
 ) {
     let on_terminal = rt.stderr().is_terminal();
     let text = done_text(rt, home, request, reply, on_terminal);
     let history = history_tried(rt, home, request, reply, on_terminal);
     let events = done_events(rt, home, request, reply, on_terminal);
-    let about = about(home, &None, &text, &history, &events);
+    let about = about(home, names, &text, &history, &events);
     say(
         rt,
         &explain_done(rt.alloc(), &about, request, reply, on_terminal),
@@ -205,6 +255,7 @@ fn home_again<'r, D: Disk + Drop>(
     Some(DiskHome::new(
         rt,
         HostDisk::new(*rt),
+        None,
         Some(file),
         Some(journal),
         Access::Look,
@@ -298,16 +349,17 @@ fn own_of(request: &Request) -> &Request {
 }
 
 fn about<'a, D: Disk + Drop>(
-    home: &'a DiskHome<'_, HostRuntime, D>,
-    batch: &'a Option<String>,
+    home: &DiskHome<'_, HostRuntime, D>,
+    names: &'a Names,
     text: &'a Option<Vec<u8>>,
     history: &'a Option<Vec<u8>>,
     events: &'a Option<Bytes>,
 ) -> About<'a> {
     About {
-        batch: batch.as_deref(),
-        file: home.path(Which::Base),
-        journal: home.path(Which::Journal),
+        batch: names.batch.as_deref(),
+        file: names.file.as_str(),
+        path: names.path.as_str(),
+        journal: names.journal.as_str(),
         text: text.as_deref(),
         history: history.as_deref(),
         events: bytes_in(events),

@@ -51,10 +51,10 @@ pub const BATCH_HELP: &str =
     "PATH is a rec file, and each of its records is an edit:\n\n  Tool: recset\n  Expression: Name ~ 'Ada'\n  Fields: Phone\n  SetAdd: 555 0199\n\n  Tool: recdel\n  Number: 1\n\nTool is recins, recdel, recset, or recfix, which gives automatic fields. The\nother fields are named like the tool's options: Type and one of Expression,\nNumber and Quick; for recins Field and Value, or Record, and Auto: no; for\nrecdel Comment: yes; for recset Fields and one of Set, Add, SetAdd, Rename,\nDelete: yes and Comment: yes. With --force it is forced as a whole.\n\nExamples:\n  recu batch -b changes.rec contacts.rec\n  recu batch -b changes.rec --force --journal edits.rec contacts.rec";
 
 pub const UNDO_HELP: &str =
-    "recu history FILE prints which edits there are, recu show FILE what the newest\nchanged, and recu redo FILE makes again what was undone. After a change by\nanother program nothing can be undone.\n\n--through undoes one edit after another, edit N last. Where one is refused,\nthose before it stay undone, and a line says which they are.\n\nExamples:\n  recu undo contacts.rec\n  recu undo --through 1 contacts.rec\n  recu undo --journal edits.rec contacts.rec";
+    "recu history FILE prints which edits there are, recu show FILE what the newest\nchanged, and recu redo FILE makes again what was undone. After a change by\nanother program nothing can be undone.\n\n--through undoes one edit after another, edit N last. Where one is refused,\nthose before it stay undone, and a line says which they are. With --dry-run what\neach would change is printed.\n\nExamples:\n  recu undo contacts.rec\n  recu undo --through 1 contacts.rec\n  recu undo --journal edits.rec contacts.rec";
 
 pub const REDO_HELP: &str =
-    "--through redoes one edit after another, edit N last. Where one is refused,\nthose before it stay redone, and a line says which they are.\n\nExamples:\n  recu redo contacts.rec\n  recu redo --through 1 contacts.rec\n  recu redo --journal edits.rec contacts.rec";
+    "--through redoes one edit after another, edit N last. Where one is refused,\nthose before it stay redone, and a line says which they are. With --dry-run what\neach would change is printed.\n\nExamples:\n  recu redo contacts.rec\n  recu redo --through 1 contacts.rec\n  recu redo --journal edits.rec contacts.rec";
 
 pub const REVERT_ABOUT: &str =
     "Takes the edit with the number N back, which recu history FILE prints, and\nleaves the later ones: FILE becomes what it would be without that edit.";

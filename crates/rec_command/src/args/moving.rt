@@ -1,11 +1,12 @@
 //! What undo and redo are asked for.
-ghost use Rattle.clap.specs.Words.{found_of, rows_of};
+ghost use Rattle.std.specs.Prelude.{codes};
+ghost use Rattle.clap.specs.Words.{first_of, found_of, rows_of};
 ghost use Rattle.rec_command.specs.declared.tools.Tool.TheVariants.{Undo, Redo};
 ghost use Rattle.rec_command.specs.Refusals.{IsOrRefuses};
-ghost use Rattle.rec_command.specs.Words.{IsThroughGiven, Orders};
+ghost use Rattle.rec_command.specs.Words.{IsEditGiven, Orders};
 
 use super::Order;
-use super::found::{given, is_given};
+use super::found::given;
 use super::numbers::edit_given;
 use super::refusal::Refusal;
 use clap::ArgMatches;
@@ -28,13 +29,9 @@ pub fn redo_order(options: &ArgMatches) -> Result<Order, Refusal>
     Ok(Order::Whole(Request::Redo(through(options)?)))
 }
 
-/// The number of the last edit that is undone or redone, where it is given. There is no dry run of several.
+/// The number of the last edit that is undone or redone, where it is given.
 fn through(options: &ArgMatches) -> Result<Option<usize>, Refusal>
-    ensures { IsOrRefuses (IsThroughGiven (rows_of (found_of options.now))) result }
+    ensures { IsOrRefuses (IsEditGiven (first_of (codes "through") (rows_of (found_of options.now)))) result }
 {
-    let number = edit_given(given(options, "through"), NO_NUMBER)?;
-    if number.is_some() && is_given(options, "dry-run") {
-        return Err(Refusal::Rule("only one of --through and --dry-run can be given"));
-    }
-    Ok(number)
+    edit_given(given(options, "through"), NO_NUMBER)
 }

@@ -5,11 +5,11 @@ ghost use Rattle.rec_disk.specs.Paths.{AreApart};
 ghost use Rattle.rec_command.specs.Refusals.{IsOrRefuses};
 ghost use Rattle.rec_command.specs.Words.{file_given, IsJournal};
 
-use super::Order;
 use super::found::{file, given};
 use super::refusal::Refusal;
+use super::{JournalPath, Order};
 use clap::ArgMatches;
-use rec_disk::{are_apart, journal_path};
+use rec_disk::are_apart;
 use rec_tools::Request;
 use std::alloc::{AllocError, Global};
 
@@ -19,7 +19,7 @@ const CLASH: &str = "--journal: FILE and PATH are one path, or one is the other 
 #[derive(Drop)]
 pub struct Paths {
     pub file: Option<String>,
-    pub journal: Option<String>,
+    pub journal: JournalPath,
 }
 
 /// The paths that the options give an order.
@@ -27,7 +27,7 @@ pub fn paths_of(alloc: Global, order: &Order, options: &ArgMatches) -> Result<Pa
     ensures file { IfOk result (λ paths. option_map string_bytes paths.file
         ≡ file_given (rows_of (found_of options.now))) }
     ensures journal { IsOrRefuses (λ paths. IsJournal order.now (file_given (rows_of (found_of options.now)))
-        (first_of (codes "journal") (rows_of (found_of options.now))) (option_map string_bytes paths.journal)) result }
+        (first_of (codes "journal") (rows_of (found_of options.now))) paths.journal) result }
 {
     let file = file(options);
     let journal = journal(alloc, order, file, given(options, "journal"))?;
@@ -51,22 +51,24 @@ fn journal(
     order: &Order,
     file: Option<&str>,
     given: Option<&str>,
-) -> Result<Option<String>, Refusal>
-    ensures { IsOrRefuses (λ journal. IsJournal order.now (option_map (λ path. path.now) file.entry)
-        (option_map (λ path. path.now) given.entry) (option_map string_bytes journal)) result }
+) -> Result<JournalPath, Refusal>
+    ensures { IsOrRefuses (IsJournal order.now (option_map (λ path. path.now) file.entry)
+        (option_map (λ path. path.now) given.entry)) result }
 {
     if let Order::Whole(Request::Show { .. } | Request::Info { .. } | Request::Check) = order {
         if let (Some(file), Some(given)) = (file, given) {
             require_apart(alloc, file, given)?;
         }
-        return Ok(None);
+        return Ok(JournalPath::Unused);
     }
     let Some(file) = file else {
         return Err(Refusal::Rule("FILE is needed"));
     };
-    let journal = journal_path(alloc, file, given)?;
-    require_apart(alloc, file, journal.as_str())?;
-    Ok(Some(journal))
+    let Some(given) = given else {
+        return Ok(JournalPath::Default);
+    };
+    require_apart(alloc, file, given)?;
+    Ok(JournalPath::Given(String::from_str(alloc, given)?))
 }
 
 /// Refuses the paths of a file and a journal that are one path, or of which one is the other's working name.

@@ -2,10 +2,12 @@
 ghost use Rattle.std.specs.Prelude.{◌≡◌, ◌↔◌, IsTrue};
 ghost use Rattle.rec_command.specs.Refusals.{AsksForHelp, refusal_fault};
 
-use crate::hints::{Hint, hint_for};
+use super::usage::command;
+use crate::hints::{Hint, have_control, hint_for};
 use clap::error::ErrorKind;
+use rec_disk::Escaped;
 use rec_tools::Fault;
-use std::alloc::AllocError;
+use std::alloc::{AllocError, Global};
 use std::convert::AsStr;
 use std::io;
 
@@ -50,6 +52,7 @@ impl Refusal {
         match self {
             Refusal::OutOfMemory => Ok(()),
             Refusal::Usage(help) if !help.use_stderr() => help.print(rt),
+            Refusal::Usage(_) if have_control(words) => explain_escaped(rt, words),
             Refusal::Usage(error) => explain_usage(rt, error, words),
             Refusal::Rule(line) => {
                 eprintln!(rt; "{line}")?;
@@ -74,6 +77,31 @@ fn explain_usage<R: Print + Eprint + AllocGlobal, S: AsStr>(
     }
     print_without_advice(rt, text.as_str())?;
     say_hint(rt, hint)
+}
+
+/// Prints what clap says of the words as they are told, since it repeats them. Where memory runs out, nothing is said.
+fn explain_escaped<R: Print + Eprint + AllocGlobal, S: AsStr>(
+    rt: &R,
+    words: &[S],
+) -> io::Result<()> {
+    match refused_as_told(rt.alloc(), words) {
+        Some(error) if error.use_stderr() => explain_usage(rt, &error, words),
+        _ => Ok(()),
+    }
+}
+
+/// Why clap refuses the words without what would steer a terminal. It refuses each in which that is escaped: no tool, option
+/// or number has a backslash.
+fn refused_as_told<S: AsStr>(alloc: Global, words: &[S]) -> Option<clap::Error> {
+    let mut told = Vec::new(alloc);
+    for word in words {
+        let word = format!(in alloc; "{}", Escaped(word.as_str())).ok()?;
+        told.push(word).ok()?;
+    }
+    match command(alloc).ok()?.try_get_matches_from(told.as_slice()) {
+        Ok(_) => None,
+        Err(error) => Some(error),
+    }
 }
 
 fn say_hint<R: Eprint>(rt: &R, hint: Option<Hint<'_>>) -> io::Result<()> {

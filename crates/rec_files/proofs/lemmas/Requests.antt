@@ -1,6 +1,6 @@
 -- A request on a disk: its calls, and what is left at any moment of them.
 use Rattle.std.proofs.Common.{◌≡◌, ◌⊎◌, inl, inr, refl, sym, ◌∙◌, ap, subst, arith, ℕ, zero, suc, ◌≤◌, Bool, false}
-use Rattle.std.proofs.Common.{List, [], ◌∷◌, ◌++◌, length, take, length-append, append-nil, replicate, Option, Some, None, IfSome, IsSomeAnd, Ok, Err}
+use Rattle.std.proofs.Common.{List, [], ◌∷◌, ◌++◌, length, take, length-append, append-nil, replicate, Option, Some, None, IfSome, IsSomeAnd, Result, Ok, Err}
 use Rattle.rec_disk.specs.Disk.{State, Story, Told, AtAnyMoment}
 use Rattle.rec_disk.specs.Lasting.{Left, shown}
 use Rattle.rec_disk.proofs.lemmas.Moments.{told_so, told_both}
@@ -8,13 +8,15 @@ use Rattle.rec_text.specs.declared.fault.Fault.{Fault}
 use Rattle.rec_text.specs.declared.fault.Fault.TheVariants.{StoreFailed}
 use Rattle.rec_journal.specs.History.{IsRegular}
 use Rattle.rec_tools.specs.declared.home.Which.{Which}
+use Rattle.rec_tools.specs.declared.home.Which.TheVariants.{Base as TheFile, Journal as TheJournal}
 use Rattle.rec_tools.specs.declared.request.Request.{Request}
 use Rattle.rec_tools.specs.Home.{Contents, Write, Call, got, lacked, unread, put_all, put_some, written, writes_by, left_by, TellsOf, TellAll, Went, content_of}
 use Rattle.rec_tools.specs.Printouts.{Printed}
 use Rattle.rec_tools.specs.Requests.{Asked, asked_of, reads_of}
 use Rattle.rec_tools.specs.Outcomes.{Outcome, IsRequestOutcome}
-use Rattle.rec_tools.specs.Attempts.{Answer, gots, puts, StopsReading, StopsWriting, Does, Attempts, AttemptsAll}
-use Rattle.rec_tools.specs.Through.{move_through, moves_through}
+use Rattle.rec_tools.specs.Attempts.{Answer, gots, puts, StopsReading, AreRead, StopsWriting, Does, Attempts, AttemptsAll}
+use Rattle.rec_tools.specs.Through.{move_through, moves_through, PreviewsThrough}
+use Rattle.rec_diff.specs.declared.style.DiffStyle.{DiffStyle}
 use Rattle.rec_journal.specs.declared.patch.Direction.{Direction}
 use Rattle.rec_tools.specs.Machine.{State as Machine, IsOldOrNext, Stands}
 use Rattle.rec_tools.specs.Guarantee.{StopsAreSteps}
@@ -413,3 +415,18 @@ module _ {H : Type 0} (place folder : List ℕ → List ℕ) (syncs : List ℕ �
   moves_at laws direction number o n None e answers calls printed done = tt
   moves_at laws direction number o n (Some p) e answers calls printed done =
       all_at laws (move_through direction number) p answers o n calls printed e done
+
+  -- ---- a dry run of moves
+
+  -- calls that read both contents change nothing
+  reads_still : (read : Result (List ℕ × List ℕ) Fault) (calls : List Call) → AreRead read calls → AreCalls [] ⊥ calls
+  reads_still (Ok (file, journal)) calls e =
+      subst (AreCalls [] ⊥) (sym e) (gots_alone (record { file = file; journal = journal }) (TheFile ∷ TheJournal ∷ []) ⊥)
+  reads_still (Err fault) calls stops = stopped (TheFile ∷ TheJournal ∷ []) calls fault ⊥ stops
+
+  pub previews_still : (style : DiffStyle) (direction : Direction) (number : ℕ) (o n : H) (x : Option Places) → at o ≡ x → (answers : List Answer) (printed : Printed)
+      → PreviewsThrough (Goes place folder syncs at story fails more) o n style direction number answers printed → IfSome x (λ p. story n ≡ story o)
+  previews_still style direction number o n None e answers printed done = tt
+  previews_still style direction number o n (Some p) e answers printed (read, calls, went, are, previews) =
+      let known = reads_still read calls are in
+      went_still place folder syncs at story fails more p calls o n e went known.reads known.writes_are

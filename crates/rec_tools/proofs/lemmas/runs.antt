@@ -9,3 +9,4 @@ pub mod ThroughLemmas
 pub mod LeadingLemmas
 pub mod ReachedLemmas
 pub mod BackLemmas
+pub mod DryLemmas

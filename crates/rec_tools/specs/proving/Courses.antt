@@ -12,7 +12,8 @@ use Rattle.rec_tools.specs.declared.decision.Decision.TheVariants.{Stay, Put}
 use Rattle.rec_tools.specs.Home.{Contents}
 use Rattle.rec_tools.specs.Printouts.{Printout}
 use Rattle.rec_tools.specs.Requests.{Asked, previewing}
-use Rattle.rec_tools.specs.Outcomes.{LeadsAcross, IsRequestOutcome, printing}
+use Rattle.rec_tools.specs.Outcomes.{LeadsAcross, IsRequestOutcome, printing, reply_in}
+use Rattle.rec_tools.specs.Attempts.{Answer}
 
 abbrev pub contents : List ℕ → List ℕ → Contents
 contents file journal = record { file = file; journal = journal }
@@ -49,3 +50,8 @@ abbrev pub IsPreviewed : DiffStyle → List ℕ → List ℕ → Asked → Resul
 IsPreviewed style file journal asked (Ok p) =
     IsRequestOutcome (contents file journal) (previewing style asked) (Ok (printing p.text p.reply))
 IsPreviewed style file journal asked (Err fault) = IsRequestOutcome (contents file journal) asked (Err fault)
+
+-- a decision's reply, or why it is refused
+abbrev pub replied : Result Decision Fault → Answer
+replied (Ok decision) = Ok (reply_in decision)
+replied (Err fault) = Err fault

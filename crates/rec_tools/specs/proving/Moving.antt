@@ -1,11 +1,15 @@
 -- Moves through the edit of a number, on a home and a sink.
-use Rattle.std.specs.Prelude.{ℕ, List, Option}
+use Rattle.std.specs.Prelude.{ℕ, ◌≤◌, List, [], ◌∷◌, Option, Some, None, IfOk}
 use Rattle.rec_journal.specs.declared.patch.Direction.{Direction}
+use Rattle.rec_tools.specs.declared.decision.Change.{Change}
+use Rattle.rec_tools.specs.declared.home.Which.TheVariants.{Base as TheFile, Journal as TheJournal}
 use Rattle.rec_tools.specs.declared.through.Through.{Through}
-use Rattle.rec_tools.specs.Home.{Call}
 use Rattle.rec_tools.specs.Printouts.{Printed, WentOut}
-use Rattle.rec_tools.specs.Attempts.{Answer, AttemptsAll}
-use Rattle.rec_tools.specs.Through.{moves_through, EndsThrough}
+use Rattle.rec_diff.specs.declared.style.DiffStyle.{DiffStyle}
+use Rattle.rec_tools.specs.Home.{Contents, Call}
+use Rattle.rec_tools.specs.Requests.{Asked, previewing, asked_of}
+use Rattle.rec_tools.specs.Attempts.{Answer, AttemptsAll, Does, gots}
+use Rattle.rec_tools.specs.Through.{move_through, moves_through, EndsThrough, WouldLeave, PreviewsAgain}
 
 -- by calls of the home they were answered so, and this is told of them
 abbrev pub GoesThrough : {H S : Type 0} → (H → Call → H → Type 0) → (S → Option (List ℕ)) → (S → ℕ) → Direction → ℕ
@@ -14,3 +18,25 @@ GoesThrough goes contents failures direction number old new out now told =
     (answers : List Answer) × EndsThrough direction number answers told
     × (calls : List Call) × (p : Printed) × WentOut contents failures out now p
     × AttemptsAll goes old new (moves_through direction number answers) answers calls p
+
+-- a file, once it is changed, if it is
+abbrev pub turned : List ℕ → Option Change → List ℕ
+turned file None = file
+turned file (Some change) = change.text
+
+-- What is asked for was previewed on the one contents, with this answer; where it isn't refused, it would leave the
+-- others. The count of failures of the sink didn't fall.
+abbrev pub IsDryMove : {S : Type 0} → (S → Option (List ℕ)) → (S → ℕ) → DiffStyle → Asked → Contents → Contents → S → S
+    → Answer → Type 0
+IsDryMove told failures style asked c d out now answer = (p : Printed) × WentOut told failures out now p
+    × (p.before ≤ p.after)
+    × Does c (previewing style asked) answer (gots c (TheFile ∷ TheJournal ∷ [])) p
+    × IfOk answer (λ reply. WouldLeave c asked reply d)
+
+-- on contents in memory, which became the last, they were previewed so, and this is told of them
+abbrev pub GoesDry : {S : Type 0} → (S → Option (List ℕ)) → (S → ℕ) → DiffStyle → Direction → ℕ → Contents → Contents
+    → S → S → Through → Type 0
+GoesDry told failures style direction number c last out now ended =
+    (answers : List Answer) × EndsThrough direction number answers ended
+    × (p : Printed) × WentOut told failures out now p
+    × PreviewsAgain style (asked_of (move_through direction number)) c answers p last

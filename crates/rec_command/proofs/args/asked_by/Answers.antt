@@ -1,5 +1,4 @@
-use Rattle.std.proofs.Common.{option_map, codes}
-use Rattle.std.specs.Prelude.{string_bytes}
+use Rattle.std.proofs.Common.{codes}
 use Rattle.clap.specs.Words.{first_of, found_of, rows_of}
 use Rattle.rec_command.specs.declared.args.CommandLine.{CommandLine}
 use Rattle.rec_command.specs.declared.args.paths.Paths.{Paths}
@@ -41,7 +40,7 @@ returns-in_err-file c =
     let rows = rows_of (found_of c.args.options.now) in
     let order = c.in_ok-order.order in
     refuses-passed
-    (λ (paths : Paths). IsJournal order (file_given rows) (first_of (codes "journal") rows) (option_map string_bytes paths.journal))
+    (λ (paths : Paths). IsJournal order (file_given rows) (first_of (codes "journal") rows) paths.journal)
     (IsAskedBy c.args.tool rows) _ c.from_residual-in_err-file.result c.from_residual-in_err-file.ensures.1
     c.in_err-file.ensures.journal
     (λ (line : CommandLine) is. (

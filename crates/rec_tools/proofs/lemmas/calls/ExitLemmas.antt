@@ -169,7 +169,7 @@ listed-outcome file journal (Err fault) (inr (o, opens, e)) = ok_is_no_err (prin
 -- ---- a decision on both contents
 
 -- the reads of both contents tell of these alone
-both_got : (file journal : List ℕ) (later : List Call) (c : Contents) → TellAll c (got TheFile file ∷ got TheJournal journal ∷ later)
+pub both_got : (file journal : List ℕ) (later : List Call) (c : Contents) → TellAll c (got TheFile file ∷ got TheJournal journal ∷ later)
     → record { file = file; journal = journal } ≡ c
 both_got file journal later c tells =
     ap (λ f. record { file = f; journal = journal }) tells.0 ∙ ap (λ j. record { file = c.file; journal = j }) tells.1.0
@@ -232,6 +232,27 @@ TellAll-answered : (c : Contents) (o : Outcome) (answer : Answer) (calls : List 
 TellAll-answered c o answer calls (inl done) = rw done.1 (TellAll-puts c o.writes)
 TellAll-answered c o answer calls (inr stopped) = TellAll-stopped c o.writes calls stopped.1
 
+-- a text was printed of both contents
+module _ {S : Type 0} (told : S → Option (List ℕ)) (failures : S → ℕ) (asked : Asked) (IsText : List ℕ → List ℕ → Result Printout Fault → Type 0) (both : ReadsBoth asked)
+    (is : (file journal : List ℕ) (r : Result Outcome Fault) → IsPrinting (IsText file journal) r → IsRequestOutcome (record { file = file; journal = journal }) asked r) where
+  pub does-both : (out out_new : S) (file journal f j : List ℕ) (answer : Answer) → f ≡ file → j ≡ journal
+      → PrintsAndCounts told failures out out_new (PutsPrintout (IsText f j)) answer
+      → (p : Printed) × WentOut told failures out out_new p
+      × Does (record { file = file; journal = journal }) asked answer (got TheFile file ∷ got TheJournal journal ∷ []) p
+  does-both out out_new file journal f j answer e h written =
+      let here : Contents = record { file = file; journal = journal } in
+      let on : PutsPrintout (IsText file journal) (told out) (told out_new) answer =
+      subst (λ b. PutsPrintout (IsText file b) (told out) (told out_new) answer) h
+      (subst (λ b. PutsPrintout (IsText b j) (told out) (told out_new) answer) e written.printed) in
+      let done = printed_of asked (got TheFile file ∷ got TheJournal journal ∷ []) (λ c. here ≡ c) (IsText file journal)
+      (λ c same. ap (λ (d : Contents). got TheFile d.file ∷ got TheJournal d.journal ∷ []) same ∙ ap (gots c) (sym both))
+      (λ c same r text. subst (λ d. IsRequestOutcome d asked r) same (is file journal r text))
+      (told out) (told out_new) (failures out) (failures out_new) answer on written.told written.store_failed in (
+        record { text = done.0; before = failures out; after = failures out_new },
+        (done.1, refl, refl),
+        done.2 here refl,
+      )
+
 module _ {H S : Type 0} (goes : H → Call → H → Type 0) (told : S → Option (List ℕ)) (failures : S → ℕ) where
   pub attempted-printed : (old new : H) (out out_new : S) (IsText : List ℕ → Result Printout Fault → Type 0) (bytes file : List ℕ) (answer : Answer)
       → goes old (got TheFile bytes) new → file ≡ bytes → PrintsAndCounts told failures out out_new (PutsPrintout (IsText file)) answer
@@ -254,19 +275,15 @@ module _ {H S : Type 0} (goes : H → Call → H → Type 0) (told : S → Optio
         → PrintsAndCounts told failures out out_new (PutsPrintout (IsText f j)) answer
         → Attempted goes told failures old new out out_new asked answer
     attempted-both old new out out_new file journal f j answer read e h written =
-        let calls : List Call = got TheFile file ∷ got TheJournal journal ∷ [] in
-        let here : Contents = record { file = file; journal = journal } in
-        let on : PutsPrintout (IsText file journal) (told out) (told out_new) answer =
-        subst (λ b. PutsPrintout (IsText file b) (told out) (told out_new) answer) h
-        (subst (λ b. PutsPrintout (IsText b j) (told out) (told out_new) answer) e written.printed) in
-        let done = printed_of asked calls (λ c. here ≡ c) (IsText file journal)
-        (λ c same. ap (λ (d : Contents). got TheFile d.file ∷ got TheJournal d.journal ∷ []) same ∙ ap (gots c) (sym both))
-        (λ c same r text. subst (λ d. IsRequestOutcome d asked r) same (is file journal r text))
-        (told out) (told out_new) (failures out) (failures out_new) answer on written.told written.store_failed in (
-          calls,
-          record { text = done.0; before = failures out; after = failures out_new },
-          (done.1, refl, refl),
-          (subst (λ calls. Went goes old calls new) read.2 read.1, (here, (refl, (refl, tt))), λ c tells. done.2 c (both_got file journal [] c tells)),
+        let (p, went_out, done) = does-both told failures asked IsText both is out out_new file journal f j answer e h written in (
+          got TheFile file ∷ got TheJournal journal ∷ [],
+          p,
+          went_out,
+          (
+            subst (λ calls. Went goes old calls new) read.2 read.1,
+            (record { file = file; journal = journal }, (refl, (refl, tt))),
+            of_told file journal [] (λ c calls. Does c asked answer calls p) done,
+          ),
         )
 
   -- the two contents weren't read for it

@@ -26,7 +26,7 @@ use Rattle.rec_tools.proofs.lemmas.runs.LeadingLemmas.{moves_lead_there}
 
 -- ---- answers without a refusal
 
-abbrev IsDone : Answer → Type 0
+abbrev pub IsDone : Answer → Type 0
 IsDone answer = (reply : Reply) × (answer ≡ Ok reply)
 
 done_where_moved : (answer : Answer) (direction : Direction) (number : ℕ) (last : Option ℕ) → leads_on direction number last (moved_by answer) ≡ true → IsDone answer
@@ -34,14 +34,14 @@ done_where_moved (Ok reply) direction number last leads = (reply, refl)
 done_where_moved (Err fault) direction number last leads = absurd (false≢true leads)
 
 -- where the last isn't refused, none is
-all_done : (direction : Direction) (number : ℕ) (last : Option ℕ) (answers : List Answer) (answer : Answer) → IsDone answer
+pub all_done : (direction : Direction) (number : ℕ) (last : Option ℕ) (answers : List Answer) (answer : Answer) → IsDone answer
     → LeadThrough direction number last (answers ++ answer ∷ []) → AllByRecursion IsDone (answers ++ answer ∷ [])
 all_done direction number last [] answer done lead = (done, tt)
 all_done direction number last (a ∷ []) answer done lead = (done_where_moved a direction number last lead.0, (done, tt))
 all_done direction number last (a ∷ (b ∷ answers)) answer done lead =
     (done_where_moved a direction number last lead.0, all_done direction number (moved_by a) (b ∷ answers) answer done lead.1)
 
-asked_through : (direction : Direction) (number : ℕ) → asked_of (move_through direction number) ≡ moving direction (Some number)
+pub asked_through : (direction : Direction) (number : ℕ) → asked_of (move_through direction number) ≡ moving direction (Some number)
 asked_through Backward number = refl
 asked_through Forward number = refl
 
@@ -102,7 +102,7 @@ module _ {H : Type 0} (goes : H → Call → H → Type 0) (direction : Directio
       subst (λ o. IsSomeAnd o (λ d. Stands d t)) (sym follow.1) (subst (Stands (left_by_all c calls)) there.1 steps.2)
 
 -- the answers end with the one that is told
-last_told : (answers : List Answer) (answer : Answer) → Some answer ≡ slice_get (reverse answers) 0 → (earlier : List Answer) × (answers ≡ earlier ++ answer ∷ [])
+pub last_told : (answers : List Answer) (answer : Answer) → Some answer ≡ slice_get (reverse answers) 0 → (earlier : List Answer) × (answers ≡ earlier ++ answer ∷ [])
 last_told answers answer told = split (reverse answers) refl told where
   split : (back : List Answer) → reverse answers ≡ back → Some answer ≡ slice_get back 0 → (earlier : List Answer) × (answers ≡ earlier ++ answer ∷ [])
   split [] is told = let e = told in cc

@@ -20,18 +20,18 @@ use Rattle.rec_tools.proofs.lemmas.runs.GuaranteeLemmas.{attempts_all-runs, atte
 -- ---- what went out, one after another
 
 -- the one, and then the other
-abbrev both : Printed → Printed → Printed
+abbrev pub both : Printed → Printed → Printed
 both first rest = record { text = first.text ++ rest.text; before = first.before; after = rest.after }
 
-IsBoth-silence_first : (p none next : Printed) → IsBoth p none next → IsSilence none → next.before ≤ next.after → IsBoth p next (silence next.after)
+pub IsBoth-silence_first : (p none next : Printed) → IsBoth p none next → IsSilence none → next.before ≤ next.after → IsBoth p next (silence next.after)
 IsBoth-silence_first p none next h nothing le =
     (h.0 ∙ ap (λ t. t ++ next.text) nothing.0 ∙ sym (append-nil next.text), h.2 ∙ nothing.1 ∙ h.1, refl, h.3, le)
 
-both-is : (first rest : Printed) → first.before ≤ first.after → rest.before ≡ first.after → IsBoth (both first rest) first rest
+pub both-is : (first rest : Printed) → first.before ≤ first.after → rest.before ≡ first.after → IsBoth (both first rest) first rest
 both-is first rest le e = (refl, refl, e, refl, le)
 
 -- `some` and `most` are what went out so far, and then `next`
-IsBoth-regrouped : (p so_far next some most : Printed) → IsBoth p so_far next → IsBoth so_far some most → IsBoth p some (both most next)
+pub IsBoth-regrouped : (p so_far next some most : Printed) → IsBoth p so_far next → IsBoth so_far some most → IsBoth p some (both most next)
 IsBoth-regrouped p so_far next some most h parts =
     (h.0 ∙ ap (λ t. t ++ next.text) parts.0 ∙ append_assoc some.text most.text next.text, parts.1 ∙ h.1, parts.2, h.3, parts.4)
 
@@ -85,29 +85,34 @@ abbrev pub AttemptedAll : {H S : Type 0} → (H → Call → H → Type 0) → (
 AttemptedAll goes told failures old new out out_new requests answers =
     (calls : List Call) × (p : Printed) × WentOut told failures out out_new p × AttemptsAll goes old new requests answers calls p
 
+-- the counts of a sink never fell
+module _ {S : Type 0} (told : S → Option (List ℕ)) (sink_failures : S → ℕ) (out mid out_new : S) (first_counted : sink_failures out ≤ sink_failures mid)
+    (then_counted : sink_failures mid ≤ sink_failures out_new) where
+  pub went_out-both : (first rest : Printed) → WentOut told sink_failures out mid first → WentOut told sink_failures mid out_new rest → WentOut told sink_failures out out_new (both first rest)
+  went_out-both first rest h then = (Appends-trans (told out) (told mid) (told out_new) first.text rest.text h.0 then.0, h.1, then.2)
+
+  pub are_both : (first rest : Printed) → WentOut told sink_failures out mid first → WentOut told sink_failures mid out_new rest → IsBoth (both first rest) first rest
+  are_both first rest h then = both-is first rest (omega (arith, first_counted, h.1, h.2)) (then.1 ∙ sym h.2)
+
+  pub rest_counted : (rest : Printed) → WentOut told sink_failures mid out_new rest → rest.before ≤ rest.after
+  rest_counted rest then = omega (arith, then_counted, then.1, then.2)
+
 module _ {H S : Type 0} (goes : H → Call → H → Type 0) (told : S → Option (List ℕ)) (sink_failures : S → ℕ) where
   pub attempted_all-none : (home : H) (out : S) → AttemptedAll goes told sink_failures home home out out [] []
   attempted_all-none home out = ([], silence (sink_failures out), went_silently told sink_failures out, (refl, refl, (refl, refl)))
 
   -- the counts of the sink never fell
   module _ (out mid out_new : S) (first_counted : sink_failures out ≤ sink_failures mid) (then_counted : sink_failures mid ≤ sink_failures out_new) where
-    went_out-both : (first rest : Printed) → WentOut told sink_failures out mid first → WentOut told sink_failures mid out_new rest → WentOut told sink_failures out out_new (both first rest)
-    went_out-both first rest h then = (Appends-trans (told out) (told mid) (told out_new) first.text rest.text h.0 then.0, h.1, then.2)
-
-    are_both : (first rest : Printed) → WentOut told sink_failures out mid first → WentOut told sink_failures mid out_new rest → IsBoth (both first rest) first rest
-    are_both first rest h then = both-is first rest (omega (arith, first_counted, h.1, h.2)) (then.1 ∙ sym h.2)
-
-    rest_counted : (rest : Printed) → WentOut told sink_failures mid out_new rest → rest.before ≤ rest.after
-    rest_counted rest then = omega (arith, then_counted, then.1, then.2)
-
     pub attempted_all-more : (old home new : H) (requests : List Request) (answers : List Answer) (request : Request) (answer : Answer)
         → AttemptedAll goes told sink_failures old home out mid requests answers → Attempted goes told sink_failures home new mid out_new (asked_of request) answer
         → AttemptedAll goes told sink_failures old new out out_new (requests ++ request ∷ []) (answers ++ answer ∷ [])
     attempted_all-more old home new requests answers request answer (calls, p, went_out, done) (now, next, next_out, tried) = (
       calls ++ now,
       both p next,
-      went_out-both p next went_out next_out,
-      AttemptsAll-more goes old home new requests answers calls request answer now (both p next) p next (are_both p next went_out next_out) (rest_counted next next_out) done tried,
+      went_out-both told sink_failures out mid out_new first_counted then_counted p next went_out next_out,
+      AttemptsAll-more goes old home new requests answers calls request answer now (both p next) p next
+          (are_both told sink_failures out mid out_new first_counted then_counted p next went_out next_out)
+          (rest_counted told sink_failures out mid out_new first_counted then_counted next next_out) done tried,
     )
 
   -- ---- the machine

@@ -87,29 +87,59 @@ led-last : (direction : Direction) (number : ℕ) (last moved : Option ℕ) → 
 led-last direction number last None leads = absurd (false≢true leads)
 led-last direction number last (Some n) leads = refl
 
+-- ---- answers that led on so far, and one more
+
+-- each led on, and this is the first and the last edit that was moved
+pub record HaveLed (direction : Direction) (number : ℕ) (answers : List Answer) (first last : Option ℕ) : Type 0 where
+  pub led : AllLeadOn direction number None answers
+  pub to : last ≡ led_to None answers
+  pub first_is : first ≡ slice_get (all_moved answers) 0
+  pub last_is : last ≡ slice_get (reverse (all_moved answers)) 0
+
+pub none_led : (direction : Direction) (number : ℕ) → HaveLed direction number [] None None
+none_led direction number = record { led = tt; to = refl; first_is = refl; last_is = refl }
+
+module _ (direction : Direction) (number : ℕ) (answers : List Answer) (first last moved : Option ℕ) (answer : Answer)
+    (so_far : HaveLed direction number answers first last) (is : moved ≡ moved_by answer) where
+  the_first : option_or first moved ≡ slice_get (all_moved (answers ++ answer ∷ [])) 0
+  the_first = ap (λ f. option_or f moved) so_far.first_is ∙ ap (option_or (slice_get (all_moved answers) 0)) is ∙ first_more answers answer
+
+  the_last : option_or moved last ≡ slice_get (reverse (all_moved (answers ++ answer ∷ []))) 0
+  the_last = ap (option_or moved) so_far.last_is ∙ ap (λ m. option_or m (slice_get (reverse (all_moved answers)) 0)) is ∙ last_more answers answer
+
+  leads_here : leads_on direction number last moved ≡ leads_on direction number (led_to None answers) (moved_by answer)
+  leads_here = ap (λ l. leads_on direction number l moved) so_far.to ∙ ap (leads_on direction number (led_to None answers)) is
+
+  pub led_more : leads_on direction number last moved ≡ true → HaveLed direction number (answers ++ answer ∷ []) (option_or first moved) (option_or moved last)
+  led_more leads = record {
+    led = AllLeadOn-more direction number None answers answer so_far.led (sym leads_here ∙ leads);
+    to = led-last direction number last moved leads ∙ is ∙ sym (led_to-more None answers answer);
+    first_is = the_first;
+    last_is = the_last;
+  }
+
+  pub led_ended : leads_on direction number last moved ≡ false
+      → EndsThrough direction number (answers ++ answer ∷ []) (record { first = option_or first moved; last = option_or moved last; answer = answer })
+  led_ended ends = record {
+    lead = LeadThrough-end direction number None answers answer so_far.led (sym leads_here ∙ ends);
+    first = the_first;
+    last = the_last;
+    answer = last_answer answers answer;
+  }
+
 -- ---- on a home and a sink
 
 module _ {H S : Type 0} (goes : H → Call → H → Type 0) (told : S → Option (List ℕ)) (sink_failures : S → ℕ) where
   -- moves through the edit of a number were asked for, and each led on
   pub record SoFar (direction : Direction) (number : ℕ) (old home : H) (out now : S) (first last : Option ℕ) : Type 0 where
     pub answers : List Answer
-    pub led : AllLeadOn direction number None answers
-    pub to : last ≡ led_to None answers
-    pub first_is : first ≡ slice_get (all_moved answers) 0
-    pub last_is : last ≡ slice_get (reverse (all_moved answers)) 0
+    pub led : HaveLed direction number answers first last
     pub silent : now ≡ out
     pub done : AttemptedAll goes told sink_failures old home out now (replicate (length answers) (move_through direction number)) answers
 
   pub none_so_far : (direction : Direction) (number : ℕ) (home : H) (out : S) → SoFar direction number home home out out None None
-  none_so_far direction number home out = record {
-    answers = [];
-    led = tt;
-    to = refl;
-    first_is = refl;
-    last_is = refl;
-    silent = refl;
-    done = attempted_all-none goes told sink_failures home out;
-  }
+  none_so_far direction number home out =
+      record { answers = []; led = none_led direction number; silent = refl; done = attempted_all-none goes told sink_failures home out }
 
   module _ (direction : Direction) (number : ℕ) (old home new : H) (out mid now : S) (first last moved : Option ℕ) (answer : Answer)
       (so_far : SoFar direction number old home out mid first last) (is : moved ≡ moved_by answer) (silent : now ≡ mid)
@@ -126,41 +156,18 @@ module _ {H S : Type 0} (goes : H → Call → H → Type 0) (told : S → Optio
         (attempted_all-more goes told sink_failures out mid now (omega (arith, ap sink_failures so_far.silent)) (omega (arith, ap sink_failures silent))
         old home new (replicate (length so_far.answers) the_request) so_far.answers the_request answer so_far.done tried)
 
-    the_first : option_or first moved ≡ slice_get (all_moved all_answers) 0
-    the_first = ap (λ f. option_or f moved) so_far.first_is ∙ ap (option_or (slice_get (all_moved so_far.answers) 0)) is ∙ first_more so_far.answers answer
-
-    the_last : option_or moved last ≡ slice_get (reverse (all_moved all_answers)) 0
-    the_last = ap (option_or moved) so_far.last_is ∙ ap (λ m. option_or m (slice_get (reverse (all_moved so_far.answers)) 0)) is ∙ last_more so_far.answers answer
-
-    leads_here : leads_on direction number last moved ≡ leads_on direction number (led_to None so_far.answers) (moved_by answer)
-    leads_here = ap (λ l. leads_on direction number l moved) so_far.to ∙ ap (leads_on direction number (led_to None so_far.answers)) is
-
     pub one_led : leads_on direction number last moved ≡ true → SoFar direction number old new out now (option_or first moved) (option_or moved last)
     one_led leads = record {
       answers = all_answers;
-      led = AllLeadOn-more direction number None so_far.answers answer so_far.led (sym leads_here ∙ leads);
-      to = led-last direction number last moved leads ∙ is ∙ sym (led_to-more None so_far.answers answer);
-      first_is = the_first;
-      last_is = the_last;
+      led = led_more direction number so_far.answers first last moved answer so_far.led is leads;
       silent = silent ∙ so_far.silent;
       done = done_more;
     }
 
     pub one_ended : leads_on direction number last moved ≡ false
         → GoesThrough goes told sink_failures direction number old new out now (record { first = option_or first moved; last = option_or moved last; answer = answer })
-    one_ended ends = (
-      all_answers,
-      record {
-        lead = LeadThrough-end direction number None so_far.answers answer so_far.led (sym leads_here ∙ ends);
-        first = the_first;
-        last = the_last;
-        answer = last_answer so_far.answers answer;
-      },
-      done_more.0,
-      done_more.1,
-      done_more.2,
-      done_more.3,
-    )
+    one_ended ends =
+        (all_answers, led_ended direction number so_far.answers first last moved answer so_far.led is ends, done_more.0, done_more.1, done_more.2, done_more.3)
 
   -- ---- the machine
 

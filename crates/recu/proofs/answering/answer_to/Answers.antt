@@ -15,8 +15,8 @@ returns-in-Some g c = record {
 pub returns-in-None : goal.returns-in-None
 returns-in-None g c = record {
   answers = (
-    c.run_once-answer.new.home,
-    match-none _ _ _ (sym c.through_of.ensures ∙ c.in-None.is) c.run_once-answer.ensures.answers,
+    c.run_alone-answer.new.home,
+    match-none _ _ _ (sym c.through_of.ensures ∙ c.in-None.is) c.run_alone-answer.ensures.answers,
     record {
       shut = c.close.ensures.shut;
       disk = c.close.ensures.same;

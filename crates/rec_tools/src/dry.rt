@@ -1,0 +1,175 @@
+//! A dry run of the moves through the history as far as an edit: what each of them would change, one after another.
+ghost use Rattle.std.specs.Prelude.{◌≡◌, List, [], ◌∷◌, ◌++◌, Some, IfOk, IfSome};
+ghost use Rattle.rec_tools.specs.Home.{written};
+ghost use Rattle.rec_tools.specs.Printouts.{Printed, WentOut};
+ghost use Rattle.rec_tools.specs.Requests.{moving, asked_of, IsSilent};
+ghost use Rattle.rec_tools.specs.Outcomes.{outcome_of, reply_in};
+ghost use Rattle.rec_tools.specs.Attempts.{Answer};
+ghost use Rattle.rec_tools.specs.Machine.{State, Stands};
+ghost use Rattle.rec_tools.specs.Through.{move_through, answers_of, EndsThrough, IsThrough, PreviewsThrough, PreviewSteps};
+ghost use Rattle.rec_tools.specs.proving.Courses.{contents};
+ghost use Rattle.rec_tools.specs.proving.Moving.{turned, GoesDry, IsDryMove};
+
+use crate::decision::{Change, Decision};
+use crate::home::Home;
+use crate::preview::print_decision;
+use crate::request::{Reply, Request};
+use crate::runner::read_both;
+use crate::through::{Through, leads_on, move_through, moved_by};
+use rec_diff::DiffStyle;
+use rec_journal::Direction;
+use rec_text::{Bytes, Fault, Sink};
+use std::alloc::Global;
+
+/// The new text of a file.
+fn text_in(change: Change) -> Bytes
+    ensures { result ≡ change.text }
+{
+    let Change { text, .. } = change;
+    text
+}
+
+/// Makes a file what a change makes of it, if there is one.
+fn turn(file: &mut Bytes, change: Option<Change>)
+    ensures { file.new ≡ turned file.old change }
+{
+    match change {
+        Some(change) => *file = text_in(change),
+        None => {}
+    }
+}
+
+/// Makes both contents what a decision would leave, and gives its reply.
+fn leave(decision: Decision, file: &mut Bytes, journal: &mut Bytes) -> Reply
+    ensures left { contents file.new journal.new
+        ≡ written (contents file.old journal.old) (outcome_of decision).writes }
+    ensures reply { result ≡ reply_in decision }
+{
+    match decision {
+        Decision::Stay(reply) => reply,
+        Decision::Put {
+            journal: put,
+            file: change,
+            reply,
+        } => {
+            *journal = put;
+            turn(file, change);
+            reply
+        }
+    }
+}
+
+/// Prints what a request would change that prints nothing itself, and makes both contents what it would leave.
+fn preview_on<S: Sink>(
+    alloc: Global,
+    file: &mut Bytes,
+    journal: &mut Bytes,
+    out: &mut S,
+    request: &Request,
+    style: &DiffStyle,
+) -> Result<Reply, Fault>
+    requires { IsSilent (asked_of request.now) }
+    ensures { IsDryMove S.contents S.failure_count style.now (asked_of request.now)
+        (contents file.old journal.old) (contents file.new journal.new) out.old out.new result }
+{
+    let decision = print_decision(
+        alloc,
+        file.as_slice(),
+        journal.as_slice(),
+        request,
+        style,
+        out,
+    )?;
+    Ok(leave(decision, file, journal))
+}
+
+/// The dry run of a move by the nearest edit that way, where the edit of this number lies that way too.
+fn preview_once<S: Sink>(
+    alloc: Global,
+    file: &mut Bytes,
+    journal: &mut Bytes,
+    out: &mut S,
+    direction: Direction,
+    number: usize,
+    style: &DiffStyle,
+) -> Result<Reply, Fault>
+    ensures { IsDryMove S.contents S.failure_count style.now (asked_of (move_through direction number))
+        (contents file.old journal.old) (contents file.new journal.new) out.old out.new result }
+{
+    let request = move_through(direction, number);
+    preview_on(alloc, file, journal, out, &request, style)
+}
+
+/// The moves of `preview_through`.
+fn go_dry<S: Sink>(
+    alloc: Global,
+    file: &mut Bytes,
+    journal: &mut Bytes,
+    out: &mut S,
+    direction: Direction,
+    number: usize,
+    style: &DiffStyle,
+) -> Through
+    ensures { GoesDry S.contents S.failure_count style.now direction number
+        (contents file.old journal.old) (contents file.new journal.new) out.old out.new result }
+{
+    let mut first = None;
+    let mut last = None;
+    loop {
+        let answer = preview_once(alloc, file, journal, out, direction, number, style);
+        let moved = moved_by(&answer);
+        let ends = !leads_on(direction, number, last, moved);
+        first = first.or(moved);
+        last = moved.or(last);
+        if ends {
+            return Through {
+                first,
+                last,
+                answer,
+            };
+        }
+    }
+}
+
+/// Prints what each of the moves would change that `run_through` makes, one after another, from both contents as they are
+/// read once. Nothing is written.
+pub fn preview_through<H: Home, S: Sink>(
+    alloc: Global,
+    home: &mut H,
+    out: &mut S,
+    direction: Direction,
+    number: usize,
+    style: &DiffStyle,
+) -> Through
+    // One answer for each move, as its preview has it on the contents that the moves before it would leave.
+    ensures attempts { (answers : List Answer) × EndsThrough direction number answers result
+        × (p : Printed) × WentOut S.contents S.failure_count out.old out.new p
+        × PreviewsThrough H.goes home.old home.new style.now direction number answers p }
+
+    // Where the last answer is no refusal, then from contents that stand for a state it is printed what each step of the
+    // machine changes on the way to that edit, if it lies that way.
+    ensures previewed { IfOk result.answer (λ reply. IfSome (H.contents home.old) (λ c. (s t : State) → Stands c s
+        → (through : IsThrough direction number s t)
+        → (p : Printed) × WentOut S.contents S.failure_count out.old out.new p
+        × PreviewSteps style.now s (moving direction (Some number))
+        (answers_of direction (through.nearer ++ through.entry ∷ [])) p.text t)) }
+
+    ensures looks { IfSome (H.contents home.old) (λ c. H.contents home.new ≡ Some c) }
+{
+    match read_both(alloc, home) {
+        Ok((mut file, mut journal)) => go_dry(
+            alloc,
+            &mut file,
+            &mut journal,
+            out,
+            direction,
+            number,
+            style,
+        ),
+        Err(fault) => Through {
+            first: None,
+            last: None,
+            answer: Err(fault),
+        },
+    }
+}

@@ -397,12 +397,15 @@ unheard() {
     only db.rec db.rec.journal
 }
 
-# between CALL NUMBER WORD..: the words are run while `undo --through 1` is held up at its call of this name and number, and then
-# it goes on
+# The moves that are held up.
+moves=(undo --through 1)
+
+# between CALL NUMBER WORD..: the words are run while the moves are held up at their call of this name and number, and then they
+# go on
 between() {
     local pid tries
     rm -f paused go hit
-    ONLY=$1 at "$2" pause undo --through 1 db.rec &
+    ONLY=$1 at "$2" pause "${moves[@]}" db.rec &
     pid=$!
     for ((tries = 0; tries < 4000; tries++)); do
         if [ -e paused ] || ! kill -0 "$pid" 2> /dev/null; then break; fi
@@ -455,6 +458,87 @@ ends_so() {
     ends_so 1 "undone: edit 3 first, and edit 2 last¶db.rec: edited by another program meanwhile¶$store_failed" ''
     tells 'done 1 recset¶undone 2 recset¶undone 3 recset¶'
     has db.rec 'A: 2¶'
+}
+
+# forgets WORD..: recu forgets by these words, and then makes more edits than were there
+forgets() {
+    local number
+    "$program" forget "$@" db.rec
+    for number in 11 12 13 14 15 16 17 18; do
+        "$program" recset -f A -s "$number" db.rec
+    done
+}
+
+@test "edits that another recu numbers anew between two moves end them" {
+    local meanwhile="db.rec: edited by another program meanwhile¶$store_failed"
+    # edit 1 is then another one: what was edit 2
+    begin
+    between flock 5 "$program" forget 1 db.rec
+    ends_so 1 "undone: edit 3¶$meanwhile" ''
+    tells 'done 1 recset¶undone 2 recset¶'
+    has db.rec 'A: 3¶'
+    # all that could be undone is forgotten, and what was edit 3 is edit 1
+    begin
+    between flock 5 "$program" forget 0 db.rec
+    ends_so 1 "undone: edit 3¶$meanwhile" ''
+    tells 'undone 1 recset¶'
+    has db.rec 'A: 3¶'
+    # later, where edit 1 alone is left, and is forgotten
+    begin
+    between flock 9 "$program" forget 0 db.rec
+    ends_so 1 "undone: edits 3 to 2¶$meanwhile" ''
+    tells 'undone 1 recset¶undone 2 recset¶'
+    has db.rec 'A: 2¶'
+    does redo --through 2 db.rec
+    has db.rec 'A: 4¶'
+    # the same way forward
+    moves=(redo --through 3)
+    begin
+    does undo --through 1 db.rec
+    between flock 9 "$program" forget 0 db.rec
+    ends_so 1 "redone: edits 1 to 2¶$meanwhile" ''
+    tells 'undone 1 recset¶'
+    has db.rec 'A: 3¶'
+}
+
+@test "numbers are anew in a journal that grew again, too" {
+    local meanwhile="db.rec: edited by another program meanwhile¶$store_failed"
+    begin
+    between flock 5 forgets 1
+    ends_so 1 "undone: edit 3¶$meanwhile" ''
+    has db.rec 'A: 18¶'
+    begin
+    between flock 9 forgets 0
+    ends_so 1 "undone: edits 3 to 2¶$meanwhile" ''
+    has db.rec 'A: 18¶'
+    # dropped edits alone are forgotten: edits keep their texts, and one gets another number
+    begin
+    does undo --through 3 db.rec
+    does recset -f A -s 7 db.rec
+    does recset -f A -s 8 db.rec
+    moves=(undo --through 5)
+    between flock 5 "$program" forget 9 --dropped db.rec
+    ends_so 1 "undone: edit 6¶$meanwhile" ''
+    tells 'done 1 recset¶done 2 recset¶done 3 recset¶undone 4 recset¶'
+    has db.rec 'A: 7¶'
+}
+
+@test "a journal that is written as it was between two moves ends nothing" {
+    begin
+    # nothing is forgotten
+    between flock 5 "$program" forget 2 db.rec
+    ends_so 0 '' ''
+    tells 'undone 1 recset¶undone 2 recset¶undone 3 recset¶'
+    # a copy of the journal
+    begin
+    between flock 5 eval 'cp db.rec.journal copy; mv copy db.rec.journal'
+    ends_so 0 '' ''
+    has db.rec 'A: 1¶'
+    # edits that were taken back
+    begin
+    between flock 5 eval '"$program" recset -f A -s 9 db.rec; "$program" undo db.rec'
+    ends_so 0 '' ''
+    has db.rec 'A: 1¶'
 }
 
 @test "a save of another program between two moves is noticed" {

@@ -7,6 +7,7 @@ pub mod Steps
 pub mod Links
 pub mod Succeeding
 pub mod Noting
+pub mod GoingOn
 pub mod Replacing
 pub mod Home
 pub mod Requests

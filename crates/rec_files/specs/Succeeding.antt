@@ -1,6 +1,6 @@
 -- What a call of the home needs, so that on a disk that works it fails for memory alone;
 -- and what becomes of a home by a call.
-use Rattle.std.specs.Prelude.{◌≡◌, ◌≢◌, ◌⊎◌, ◌≤◌, ℕ, Bool, true, false, List, [], length, Option, Some, None}
+use Rattle.std.specs.Prelude.{◌≡◌, ◌≢◌, ◌⊎◌, ◌≤◌, ℕ, Bool, true, false, List, [], ◌++◌, length, Option, Some, None}
 use Rattle.std.specs.Prelude.{IfSome, IsSome, IsSomeAnd, option_map, string_bytes}
 use Rattle.std.specs.List.{AllByRecursion}
 use Rattle.std.specs.Option.{option_and_then}
@@ -14,12 +14,15 @@ use Rattle.rec_files.specs.declared.access.Access.TheVariants.{Look as Looks, Ch
 use Rattle.rec_files.specs.declared.failure.Cause.{Cause}
 use Rattle.rec_files.specs.declared.failure.Cause.TheVariants.{Itself, Working, Folder, Foreign, Unsynced}
 use Rattle.rec_files.specs.declared.failure.Failure.{Failure}
+use Rattle.rec_files.specs.declared.last_put.LastPut.{LastPut}
+use Rattle.rec_files.specs.declared.last_put.LastPut.TheVariants.{Nothing, Locked, LetGo}
 use Rattle.rec_files.specs.declared.target.Target.{Target}
 use Rattle.rec_files.specs.declared.both.Both.{Both}
 use Rattle.rec_files.specs.declared.files.DiskHome.{DiskHome}
 use Rattle.rec_disk.specs.Paths.{working_name}
 use Rattle.rec_files.specs.Paths.{path_of, end_of}
-use Rattle.rec_files.specs.OnDisk.{Sites, sites_of, AreLeft, IsHomeCall, places_by}
+use Rattle.rec_files.specs.OnDisk.{Sites, sites_of, AreLeft, IsHomeCall, places_by, or_empty}
+use Rattle.rec_disk.specs.Lasting.{shown}
 
 -- the disk tells its story, and this holds of its state
 abbrev pub IsTold : Option Story → (State → Type 0) → Type 0
@@ -193,11 +196,53 @@ pub record IsReadable (leads : List ℕ → List ℕ) (link : List ℕ → Optio
   pub free : access ≡ Changes → IfSome (s.at (leads (path_of file journal which)))
       (λ n. IsUnlocked (other_for which seen) s n × IsSome (end_of link 40 (path_of file journal which)))
 
--- what a home was given, and what it knows of what it read
+-- ---- the journal that was put last
+
+-- this holds, where the journal that was put last is still locked
+abbrev pub IfLocked : LastPut → Type 0 → Type 0
+IfLocked Nothing P = Unit {0}
+IfLocked Locked P = P
+IfLocked (LetGo bytes) P = Unit {0}
+
+-- the bytes that stood there when its lock was let go, if it was
+abbrev pub let_go : LastPut → Option (List ℕ)
+let_go Nothing = None
+let_go Locked = None
+let_go (LetGo bytes) = Some bytes.items
+
+-- the one text comes first in the other
+abbrev pub BeginsWith : List ℕ → List ℕ → Type 0
+BeginsWith first text = (rest : List ℕ) × (text ≡ first ++ rest)
+
+-- these bytes stand at a path, or none are there and nothing stands there
+abbrev pub IsStanding : (List ℕ → List ℕ) → List ℕ → List ℕ → State → Type 0
+IsStanding leads path bytes s = bytes ≡ or_empty (shown s.bytes (s.at (leads path)))
+
+-- it can be read before its lock is let go: a regular file that is not too long, or it is missing
+abbrev pub CanLetGo : (List ℕ → List ℕ) → (ℕ → Bool) → List ℕ → LastPut → State → Type 0
+CanLetGo leads regular journal last s = IfLocked last (IsThere Journal journal (λ n. IsShort s n × (regular n ≡ true))
+    (s.at (leads journal)))
+
+-- a read of the file can let go of the journal that was put last, and for a read of the journal the one that was let go
+-- still comes first in what stands there
+abbrev pub CanGoOn : (List ℕ → List ℕ) → (ℕ → Bool) → List ℕ → LastPut → Which → State → Type 0
+CanGoOn leads regular journal last Base s = CanLetGo leads regular journal last s
+CanGoOn leads regular journal last Journal s = IfSome (let_go last)
+    (λ last. BeginsWith last (or_empty (shown s.bytes (s.at (leads journal)))))
+
+-- what was let go is what was before, or it is what stands at the journal's path
+abbrev pub IsLastOf : (List ℕ → List ℕ) → List ℕ → LastPut → LastPut → Option Story → Type 0
+IsLastOf leads journal old new story = IfSome (let_go new)
+    (λ last. (let_go old ≡ Some last) ⊎ Told story (IsStanding leads journal last))
+
+-- ---- what a home needs
+
+-- what a home was given, and what it knows of what it read, and of what it put last
 pub record Kept : Type 0 where
   pub access : Access
   pub file : Option (List ℕ)
   pub journal : List ℕ
+  pub last : LastPut
   pub old_file : Option Known
   pub old_journal : Option Known
 
@@ -206,6 +251,7 @@ kept number tells home = record {
   access = home.access;
   file = option_map string_bytes home.file;
   journal = string_bytes home.journal;
+  last = home.last;
   old_file = option_map (known number tells) home.both.file;
   old_journal = option_map (known number tells) home.both.journal;
 }
@@ -222,7 +268,7 @@ abbrev pub HadAll : (List ℕ → List ℕ) → (List ℕ → List ℕ) → (Lis
     → State → Type 0
 HadAll place leads link regular kept (unread which) s =
     IsReadable leads link regular kept.access kept.file kept.journal
-    (option_and_then (λ known. known.look) kept.old_file) which s
+    (option_and_then (λ known. known.look) kept.old_file) which s × CanGoOn leads regular kept.journal kept.last which s
 HadAll place leads link regular kept (put_some writes k) s = CanPut place leads link regular kept writes s
 HadAll place leads link regular kept _ s = ⊥
 
@@ -271,14 +317,26 @@ ReplacesNoted leads kept old (put_all writes) new = Told old (AreAsNoted leads k
 ReplacesNoted leads kept old (put_some writes k) new = (new ≡ old) ⊎ Told old (AreAsNoted leads kept)
 ReplacesNoted leads kept old _ new = Unit {0}
 
+-- A home that put a journal holds it locked; the next read of the file notes what stands there of it, before its lock
+-- is let go; and the next one of the journal finds this at its beginning: who wrote there meanwhile only added to it.
+abbrev pub GoesOn : (List ℕ → List ℕ) → Kept → Kept → Option Story → Call → Type 0
+GoesOn leads kept now story (got Base bytes) = IfLocked kept.last (IsSomeAnd (let_go now.last)
+    (λ last. Told story (IsStanding leads kept.journal last)))
+GoesOn leads kept now story (got Journal bytes) = IfSome (let_go kept.last) (λ last. BeginsWith last bytes)
+GoesOn leads kept now story (put_all writes) = now.last ≡ Locked
+GoesOn leads kept now story _ = Unit {0}
+
 -- what a home may do stays; one with a journal reads regular files alone; one that may write reads nothing that another
--- program has locked, and notes what it reads; and nothing is replaced but what is noted
+-- program has locked, and notes what it reads; nothing is replaced but what is noted; and what is read after a put goes
+-- on from the journal that was put
 pub record IsCareful (leads : List ℕ → List ℕ) (regular : ℕ → Bool) (kept now : Kept) (old : Option Story) (call : Call)
     (new : Option Story) : Type 0 where
   pub access : now.access ≡ kept.access
   pub only_regular : ReadsRegular leads regular kept old call
   pub reads : kept.access ≡ Changes → NotesRead leads regular kept now old call
   pub puts : ReplacesNoted leads kept old call new
+  pub goes_on : GoesOn leads kept now old call
+  pub last : IsLastOf leads kept.journal kept.last now.last old
 
 -- what becomes of a home by a call
 abbrev pub HomeGoes : {R D F S : Type 0} → (List ℕ → List ℕ) → (List ℕ → List ℕ) → (List ℕ → Option (List ℕ))

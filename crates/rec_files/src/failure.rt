@@ -102,6 +102,11 @@ pub fn locked() -> Error {
     Error::other("locked by another program")
 }
 
+/// Between two moves another recu numbered the edits anew.
+pub fn edited() -> Error {
+    Error::other("edited by another program meanwhile")
+}
+
 pub fn changed() -> Error {
     Error::other("changed by another program meanwhile")
 }

@@ -1,25 +1,27 @@
 //! The home of files on a disk. A request that only looks reads them as they stand; one that may write locks them.
 //! What opens files stands in `target`, `open_file`, `working_file` and `links`, what replaces them in `replacing`; standard
 //! input is read here alone.
-ghost use Rattle.std.specs.Prelude.{◌≡◌, ◌≤◌, ◌↔◌, [], IsTrue, IsNone, None, Some, Ok, IfOk, IfErr, ◌⊎◌, IsSome};
+ghost use Rattle.std.specs.Prelude.{◌≡◌, ◌≤◌, ◌↔◌, [], IsTrue, IsNone, None, Some, Ok, Err, IfOk, IfErr, ◌⊎◌, IsSome};
 ghost use Rattle.std.specs.Prelude.{IfSome, OnOk, true, IsSomeAnd, option_map, string_bytes, unwrap_or};
 ghost use Rattle.std.specs.Option.{option_and_then};
 ghost use Rattle.std.specs.IoError.{error_kind, raw_os_error};
 ghost use Rattle.rec_text.specs.Sink.{one_more};
 ghost use Rattle.rec_disk.specs.Disk.{Told, IsMemory};
 ghost use Rattle.rec_disk.specs.Lasting.{shown};
-ghost use Rattle.rec_tools.specs.Home.{got};
+ghost use Rattle.rec_tools.specs.Home.{got, unread};
 ghost use Rattle.rec_files.specs.OnDisk.{or_empty, contents_on, places_by, IsReadOf};
 ghost use Rattle.rec_files.specs.Endings.{IsFirstEnding};
 ghost use Rattle.rec_files.specs.Paths.{path_of};
 ghost use Rattle.rec_files.specs.Succeeding.{HomeGoes, IsTold, IsShort, IsThere, IsReadable, IsShut, NotesRead, kept};
-ghost use Rattle.rec_files.specs.Succeeding.{IsRegularAt, ReadsRegular};
+ghost use Rattle.rec_files.specs.Succeeding.{IsRegularAt, ReadsRegular, FailedForMemory, HadAll, GoesOn, IsLastOf};
+ghost use Rattle.rec_files.specs.Succeeding.{IfLocked, let_go, IsStanding, CanGoOn};
 ghost use Rattle.rec_files.specs.proving.Succeeding.{Succeeds, IsOwnJournal};
 
 use crate::access::Access;
 use crate::both::Both;
 use crate::endings::first_ending;
 use crate::failure::{Cause, Failure, not_regular, one_file};
+use crate::last_put::LastPut;
 use crate::reading::{read_rest, read_whole};
 use crate::replacing::Paths;
 use crate::target::may_be_missing;
@@ -44,6 +46,8 @@ pub struct DiskHome<'r, R, D: Disk + Drop> {
     access: Access,
     /// What is locked, where the request may write.
     both: Both<D>,
+    /// What becomes of the journal that was put last, where the request moves several times.
+    last: LastPut,
     failed: u64,
     failure: Option<Failure>,
     /// The first line of standard input that ends in CR LF, as it was read.
@@ -68,6 +72,7 @@ impl<'r, R: Input + AllocGlobal, D: Disk + Drop> DiskHome<'r, R, D> {
         ensures access { result.access ≡ access }
         ensures sound { result.failed ≡ 0 }
         ensures shut { IsShut result.both }
+        ensures fresh { result.last ≡ LastPut.Nothing }
     {
         DiskHome {
             rt,
@@ -77,6 +82,7 @@ impl<'r, R: Input + AllocGlobal, D: Disk + Drop> DiskHome<'r, R, D> {
             journal: journal.unwrap_or(String::new(rt.alloc())),
             access,
             both: Both::new(),
+            last: LastPut::Nothing,
             failed: 0,
             failure: None,
             ending: None,
@@ -184,6 +190,7 @@ impl<'r, R: Input + AllocGlobal, D: Disk + Drop> DiskHome<'r, R, D> {
         ensures noted { self.new.failure ≡ Some failure }
         ensures paths { (self.new.file ≡ self.old.file) × (self.new.journal ≡ self.old.journal) }
         ensures access { self.new.access ≡ self.old.access }
+        ensures last { self.new.last ≡ self.old.last }
         ensures same { D.story self.new.disk ≡ D.story self.old.disk }
         ensures works { D.works self.old.disk → D.works self.new.disk }
     {
@@ -192,7 +199,41 @@ impl<'r, R: Input + AllocGlobal, D: Disk + Drop> DiskHome<'r, R, D> {
         Fault::StoreFailed
     }
 
+    /// What a read gives: of a journal, one that goes on from the journal that was put last.
+    fn next_bytes(&mut self, alloc: Global, which: Which) -> Result<Vec<u8>, Failure>
+        ensures kept { self.new.failed ≡ self.old.failed }
+        ensures paths { (self.new.file ≡ self.old.file) × (self.new.journal ≡ self.old.journal) }
+        ensures same { D.story self.new.disk ≡ D.story self.old.disk }
+        ensures read { IfOk result (λ bytes. IsReadOf D.leads (option_map string_bytes self.old.file)
+            (string_bytes self.old.journal) (D.story self.old.disk) which bytes.items) }
+        ensures there { which ≡ Which.Base → OnOk result (IfSome self.old.file (λ file. Told (D.story self.old.disk)
+            (λ s. IsSome (s.at (D.leads (string_bytes file)))))) }
+        ensures succeeds { Succeeds FailedForMemory (D.works self.old.disk) (D.works self.new.disk)
+            (IsTold (D.story self.old.disk) (HadAll D.place D.leads D.link D.regular
+            (kept D.number D.tells self.old) (unread which))) result }
+        ensures access { self.new.access ≡ self.old.access }
+        ensures regular { IfOk result (λ bytes. ReadsRegular D.leads D.regular (kept D.number D.tells self.old)
+            (D.story self.old.disk) (got which bytes.items)) }
+        ensures noted { self.old.access ≡ Access.Change → IfOk result (λ bytes. NotesRead D.leads D.regular
+            (kept D.number D.tells self.old) (kept D.number D.tells self.new) (D.story self.old.disk)
+            (got which bytes.items)) }
+        ensures goes_on { IfOk result (λ bytes. GoesOn D.leads (kept D.number D.tells self.old)
+            (kept D.number D.tells self.new) (D.story self.old.disk) (got which bytes.items)) }
+        ensures last { IsLastOf D.leads (string_bytes self.old.journal) self.old.last self.new.last
+            (D.story self.old.disk) }
+    {
+        let journal = self.journal.as_str();
+        let noted = let_go(&mut self.disk, alloc, which, journal, &mut self.last);
+        told(Which::Journal, noted)?;
+        let bytes = told(which, self.bytes_of(alloc, which))?;
+        self.last.check(which, &bytes)?;
+        Ok(bytes)
+    }
+
     fn bytes_of(&mut self, alloc: Global, which: Which) -> io::Result<Vec<u8>>
+        ensures last { self.new.last ≡ self.old.last }
+        ensures journal { which ≡ Which.Journal → IfOk result (λ bytes. Told (D.story self.old.disk)
+            (IsStanding D.leads (string_bytes self.old.journal) bytes.items)) }
         ensures kept { self.new.failed ≡ self.old.failed }
         ensures paths { (self.new.file ≡ self.old.file) × (self.new.journal ≡ self.old.journal) }
         ensures same { D.story self.new.disk ≡ D.story self.old.disk }
@@ -255,13 +296,10 @@ impl<'r, R: Input + AllocGlobal, D: Disk + Drop> Home for DiskHome<'r, R, D> {
     ghost counts = { λ old new call h. h.0.counts };
 
     fn read(&mut self, alloc: Global, which: Which) -> Result<Bytes, Fault> {
-        match self.bytes_of(alloc, which) {
+        match self.next_bytes(alloc, which) {
             Ok(bytes) => Ok(Bytes::from_vec(bytes)),
-            Err(error) if is_out_of_memory(&error) => Err(Fault::OutOfMemory),
-            Err(error) => Err(self.fail(Failure {
-                which,
-                cause: Cause::Itself(error),
-            })),
+            Err(unread) if is_for_memory(&unread) => Err(Fault::OutOfMemory),
+            Err(unread) => Err(self.fail(unread)),
         }
     }
 
@@ -274,7 +312,10 @@ impl<'r, R: Input + AllocGlobal, D: Disk + Drop> Home for DiskHome<'r, R, D> {
             .both
             .put(&mut self.disk, self.rt.alloc(), paths, journal, file)
         {
-            Ok(()) => Ok(()),
+            Ok(()) => {
+                self.last = LastPut::Locked;
+                Ok(())
+            }
             Err(failure) => Err(self.fail(failure)),
         }
     }
@@ -295,6 +336,29 @@ fn path_in<'p>(file: &'p Option<String>, journal: &'p String, which: Which) -> &
     }
 }
 
+/// What an answer tells of one of the two.
+fn told<T: Drop>(which: Which, answer: io::Result<T>) -> Result<T, Failure>
+    ensures value { IfOk result (λ value. answer ≡ Ok value) }
+    ensures memory { IfErr answer IsMemory → IfErr result FailedForMemory }
+    ensures failure { IfErr answer (λ error. result ≡ Err (record { which = which; cause = Cause.Itself error })) }
+{
+    match answer {
+        Ok(value) => Ok(value),
+        Err(error) => Err(Failure {
+            which,
+            cause: Cause::Itself(error),
+        }),
+    }
+}
+
+/// Memory was refused to read one of the two.
+fn is_for_memory(failure: &Failure) -> bool {
+    match &failure.cause {
+        Cause::Itself(error) => is_out_of_memory(error),
+        _ => false,
+    }
+}
+
 /// Memory was refused here, and not in the system.
 pub fn is_out_of_memory(error: &Error) -> bool
     ensures { IsTrue result ↔ ((error_kind error.now ≡ ErrorKind.OutOfMemory) × IsNone (raw_os_error error.now)) }
@@ -312,6 +376,36 @@ fn done_unsynced(which: Which) -> &'static str {
         Which::Journal => {
             "the edits are forgotten, but its folder could not be synced, so a power cut may bring them back"
         }
+    }
+}
+
+/// Before a read of the file lets go of the lock of a journal that was put, notes what stands there.
+fn let_go<D: Disk>(
+    disk: &mut D,
+    alloc: Global,
+    which: Which,
+    journal: &str,
+    last: &mut LastPut,
+) -> io::Result<()>
+    ensures same { D.story disk.new ≡ D.story disk.old }
+    ensures noted { which ≡ Which.Base → IfLocked last.old (OnOk result (IsSomeAnd (let_go last.new)
+        (λ bytes. Told (D.story disk.old) (IsStanding D.leads journal.now bytes)))) }
+    ensures still { which ≡ Which.Journal → last.new ≡ last.old }
+    ensures last { IsLastOf D.leads journal.now last.old last.new (D.story disk.old) }
+    ensures succeeds { Succeeds IsMemory (D.works disk.old) (D.works disk.new) (IsTold (D.story disk.old)
+        (CanGoOn D.leads D.regular journal.now last.old which)) result }
+{
+    match which {
+        Which::Journal => Ok(()),
+        Which::Base => match last {
+            LastPut::Nothing => Ok(()),
+            LastPut::LetGo(_) => Ok(()),
+            LastPut::Locked => {
+                let bytes = look_at(disk, alloc, Which::Journal, journal, &None, true)?;
+                *last = LastPut::LetGo(bytes);
+                Ok(())
+            }
+        },
     }
 }
 

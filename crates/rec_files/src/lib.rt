@@ -9,6 +9,7 @@ mod defaults;
 mod endings;
 mod failure;
 mod files;
+mod last_put;
 mod leftover;
 mod links;
 mod names;

@@ -10,22 +10,33 @@ use Rattle.rec_tools.specs.declared.home.Which.{Which}
 use Rattle.rec_tools.specs.declared.home.Which.TheVariants.{Base, Journal}
 use Rattle.rec_files.specs.declared.access.Access.{Access}
 use Rattle.rec_files.specs.Paths.{path_of}
-use Rattle.rec_files.specs.Succeeding.{Known, Kept, HasSeen, IsAsSeen, IsReadFree, NotesRead, AreAsNoted, IsCareful}
+use Rattle.rec_files.specs.Succeeding.{Known, Kept, HasSeen, IsAsSeen, IsReadFree, NotesRead, AreAsNoted, IsCareful, IsLastOf, IsStanding, let_go}
+use Rattle.rec_files.specs.declared.last_put.LastPut.{LastPut}
 use Rattle.rec_files.specs.proving.Replacing.{led, AreAsSeen, OnlyWhere}
 
 if_some : (x : Option ℕ) (Q : ℕ → Type 0) → ((n : ℕ) → x ≡ Some n → Q n) → IfSome x Q
 if_some None Q all = tt
 if_some (Some n) Q all = all n refl
 
+if_itself : (x : Option (List ℕ)) (Q : List ℕ → Type 0) → IfSome x (λ one. (x ≡ Some one) ⊎ Q one)
+if_itself None Q = tt
+if_itself (Some one) Q = inl refl
+
 -- a read that a store refused
 pub fault_careful : (leads : List ℕ → List ℕ) (regular : ℕ → Bool) (kept now : Kept) (o n : Option Story) (which : Which) (fault : Fault) → fault ≡ StoreFailed → now.access ≡ kept.access
-    → IsCareful leads regular kept now o (read_call which (Err fault)) n
-fault_careful leads regular kept now o n which fault is access =
-    subst (λ fault. IsCareful leads regular kept now o (read_call which (Err fault)) n) (sym is) (record { access = access; only_regular = tt; reads = λ changes. tt; puts = tt })
+    → IsLastOf leads kept.journal kept.last now.last o → IsCareful leads regular kept now o (read_call which (Err fault)) n
+fault_careful leads regular kept now o n which fault is access last =
+    subst (λ fault. IsCareful leads regular kept now o (read_call which (Err fault)) n) (sym is)
+    (record { access = access; only_regular = tt; reads = λ changes. tt; puts = tt; goes_on = tt; last = last })
 
-module _ {X : Type 0} (knows : X → Known) (leads : List ℕ → List ℕ) (access : Access) (journal_path : List ℕ) where
+-- a home that is as it was knows the same of what was put last
+pub last_stays : (leads : List ℕ → List ℕ) (journal : List ℕ) (last then : LastPut) (o : Option Story) → then ≡ last → IsLastOf leads journal last then o
+last_stays leads journal last then o is =
+    subst (λ then. IsLastOf leads journal last then o) (sym is) (if_itself (let_go last) (λ bytes. Told o (IsStanding leads journal bytes)))
+
+module _ {X : Type 0} (knows : X → Known) (leads : List ℕ → List ℕ) (access : Access) (journal_path : List ℕ) (last : LastPut) where
   abbrev home : Option (List ℕ) → Option X → Option X → Kept
-  home file x y = record { access = access; file = file; journal = journal_path; old_file = option_map knows x; old_journal = option_map knows y }
+  home file x y = record { access = access; file = file; journal = journal_path; last = last; old_file = option_map knows x; old_journal = option_map knows y }
 
   -- ---- a read
 

@@ -11,12 +11,13 @@ use Rattle.rec_disk.specs.proving.Places.{IsUnmoved}
 use Rattle.rec_disk.proofs.lemmas.Moments.{told_kept, told_both, told_so}
 use Rattle.rec_text.specs.declared.fault.Fault.{Fault}
 use Rattle.rec_text.specs.declared.fault.Fault.TheVariants.{StoreFailed}
-use Rattle.rec_tools.specs.Home.{Call, read_call, writes_by}
+use Rattle.rec_tools.specs.Home.{Call, read_call, unread, writes_by}
 use Rattle.rec_files.specs.declared.failure.Failure.{Failure}
 use Rattle.rec_files.specs.declared.open_file.OpenFile.{OpenFile}
 use Rattle.rec_files.specs.declared.target.Target.{Target}
 use Rattle.rec_files.specs.Succeeding.{FailedForMemory, Kept, IsExcused, IsTold, Known, known, HasSeen, SawAnother, SawRegular, StandsAsSeen, AreUnchanged, AreApart, IsOther, IsShort}
-use Rattle.rec_files.specs.Succeeding.{CanPut, CanCompare, CanClear, CanPrepare, IsThere, IsReadable, IsRegularAt}
+use Rattle.rec_files.specs.declared.last_put.LastPut.{LastPut}
+use Rattle.rec_files.specs.Succeeding.{HadAll, CanPut, CanCompare, CanClear, CanPrepare, IsThere, IsReadable, IsRegularAt}
 use Rattle.rec_tools.specs.declared.home.Which.{Which}
 use Rattle.rec_tools.specs.declared.home.Which.TheVariants.{Base, Journal}
 use Rattle.rec_files.specs.declared.access.Access.{Access}
@@ -572,7 +573,7 @@ module _ (place leads : List ℕ → List ℕ) (link : List ℕ → Option (List
   Excused call = IsExcused place leads link regular kept works still failure story call
 
   pub read_excused : (which : Which) (fault : Fault) → fault ≡ StoreFailed → (works → still)
-      → (works → IsTold story (IsReadable leads link regular kept.access kept.file kept.journal (option_and_then (λ known. known.look) kept.old_file) which) → IsSomeAnd failure FailedForMemory)
+      → (works → IsTold story (HadAll place leads link regular kept (unread which)) → IsSomeAnd failure FailedForMemory)
       → Excused (read_call which (Err fault))
   read_excused which fault is works_still memory =
       subst (λ fault. Excused (read_call which (Err fault))) (sym is) (record { works_still = works_still; for_memory = memory })
@@ -590,9 +591,9 @@ all_short journal None all = (all.0, tt)
 all_short journal (Some bytes) all = (all.0, all.1.0)
 
 module _ {X : Type 0} (knows : X → Known) (place leads : List ℕ → List ℕ) (link : List ℕ → Option (List ℕ)) (regular : ℕ → Bool)
-    (access : Access) (file_path : Option (List ℕ)) (journal_path : List ℕ) (x y : Option X) (journal : List ℕ) (file : Option (List ℕ)) where
+    (access : Access) (file_path : Option (List ℕ)) (journal_path : List ℕ) (last : LastPut) (x y : Option X) (journal : List ℕ) (file : Option (List ℕ)) where
   abbrev home_kept : Kept
-  home_kept = record { access = access; file = file_path; journal = journal_path; old_file = option_map knows x; old_journal = option_map knows y }
+  home_kept = record { access = access; file = file_path; journal = journal_path; last = last; old_file = option_map knows x; old_journal = option_map knows y }
 
   abbrev pub Begins : List ℕ → List ℕ → State → Type 0
   Begins given_file given_journal s = IsSomeAnd x (λ x. IsSomeAnd y (λ y. CanPrepare place leads link regular given_file given_journal (knows x) (knows y) s))

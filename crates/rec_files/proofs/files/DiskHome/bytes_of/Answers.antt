@@ -15,6 +15,7 @@ returns-in-Look-clause-succeeds g c works =
 
 pub returns-in-Change-clause-noted : goal.returns-in-Change-clause-noted
 returns-in-Change-clause-noted g c changes =
-    notes_ok (known g.D.Disk.number g.D.Disk.tells) g.D.Disk.leads c.args.self.now.access (string_bytes c.args.self.now.journal) g.D.Disk.regular _ c.path_in-path.result.now (λ bytes. bytes.items)
-    c.read.result c.args.which (option_map string_bytes c.args.self.now.file) c.args.self.now.both.file c.args.self.now.both.journal c.read.new.self.file c.read.new.self.journal c.path_in-path.ensures
+    notes_ok (known g.D.Disk.number g.D.Disk.tells) g.D.Disk.leads c.args.self.now.access (string_bytes c.args.self.now.journal) c.args.self.now.last g.D.Disk.regular _
+    c.path_in-path.result.now (λ bytes. bytes.items) c.read.result c.args.which (option_map string_bytes c.args.self.now.file) c.args.self.now.both.file c.args.self.now.both.journal
+    c.read.new.self.file c.read.new.self.journal c.path_in-path.ensures
     c.read.ensures.noted_file c.read.ensures.noted_journal c.read.ensures.locked c.read.ensures.kept

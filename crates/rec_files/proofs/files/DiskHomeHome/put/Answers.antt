@@ -4,7 +4,7 @@ use Rattle.rec_tools.specs.Home.{writes_by, put_all}
 use Rattle.rec_files.specs.OnDisk.{places_by}
 use Rattle.rec_files.specs.Succeeding.{IsExcused, IsCareful, kept, known}
 use Rattle.rec_files.proofs.lemmas.Home.{put_done, put_failed, noted_call}
-use Rattle.rec_files.proofs.lemmas.Noting.{finds_noted, only_noted}
+use Rattle.rec_files.proofs.lemmas.Noting.{finds_noted, only_noted, last_stays}
 use Rattle.rec_files.proofs.lemmas.Succeeding.{told_fact, noted_memory, put_needs}
 use Rattle.rec_files.proofs.files.DiskHomeHome.put.Goals as goal
 
@@ -26,9 +26,11 @@ returns-in-Ok-clause-call g c = (
         only_regular = tt;
         reads = λ changes. tt;
         puts =
-            finds_noted (known g.D.Disk.number g.D.Disk.tells) g.D.Disk.leads c.args.self.now.access (string_bytes c.args.self.now.journal)
+            finds_noted (known g.D.Disk.number g.D.Disk.tells) g.D.Disk.leads c.args.self.now.access (string_bytes c.args.self.now.journal) c.args.self.now.last
             (option_map string_bytes c.args.self.now.file) c.path_in.result.now
             c.as_str.result.now c.path_in.ensures c.as_str.ensures.value c.args.self.now.both.file c.args.self.now.both.journal _ c.in-Ok.ensures.noticed;
+        goes_on = refl;
+        last = tt;
       },
     ),
   ),
@@ -52,17 +54,19 @@ returns-in-Err-clause-call g c =
             noted_memory _ _ c.fail.ensures.noted
             ((c.in-Err.ensures.succeeds works).1
             (put_needs (known g.D.Disk.number g.D.Disk.tells) g.D.Disk.place g.D.Disk.leads g.D.Disk.link g.D.Disk.regular c.args.self.now.access (option_map string_bytes c.args.self.now.file)
-            (string_bytes c.args.self.now.journal) c.args.self.now.both.file c.args.self.now.both.journal c.args.journal.now (option_copied c.args.file) c.path_in.result.now c.as_str.result.now _
-            c.path_in.ensures c.as_str.ensures.value had));
+            (string_bytes c.args.self.now.journal) c.args.self.now.last c.args.self.now.both.file c.args.self.now.both.journal c.args.journal.now (option_copied c.args.file)
+            c.path_in.result.now c.as_str.result.now _ c.path_in.ensures c.as_str.ensures.value had));
       },
       record {
         access = c.fail.ensures.access;
         only_regular = tt;
         reads = λ changes. tt;
         puts =
-            only_noted (known g.D.Disk.number g.D.Disk.tells) g.D.Disk.leads c.args.self.now.access (string_bytes c.args.self.now.journal)
+            only_noted (known g.D.Disk.number g.D.Disk.tells) g.D.Disk.leads c.args.self.now.access (string_bytes c.args.self.now.journal) c.args.self.now.last
             (option_map string_bytes c.args.self.now.file) c.path_in.result.now
             c.as_str.result.now c.path_in.ensures c.as_str.ensures.value c.args.self.now.both.file c.args.self.now.both.journal _ _ _ c.fail.ensures.same c.put.ensures.unchanged;
+        goes_on = tt;
+        last = last_stays g.D.Disk.leads (string_bytes c.args.self.now.journal) c.args.self.now.last c.fail.new.self.last _ c.fail.ensures.last;
       },
     ))
     (put_failed g.D.Disk.place g.D.Disk.folder g.D.Disk.syncs g.D.Disk.leads c.args.journal.now (option_copied c.args.file) (string_bytes c.args.self.now.journal) c.path_in.result.now

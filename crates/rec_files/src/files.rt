@@ -18,6 +18,7 @@ ghost use Rattle.rec_files.specs.Succeeding.{IfLocked, let_go, IsStanding, CanGo
 ghost use Rattle.rec_files.specs.proving.Succeeding.{Succeeds, IsOwnJournal};
 
 use crate::access::Access;
+use crate::ahead::Ahead;
 use crate::both::Both;
 use crate::endings::first_ending;
 use crate::failure::{Cause, Failure, not_regular, one_file};
@@ -37,7 +38,7 @@ use std::rt::Files;
 #[derive(Drop)]
 pub struct DiskHome<'r, R, D: Disk + Drop> {
     rt: &'r R,
-    disk: D,
+    disk: Ahead<D>,
     /// What is said calls the file so; where it is missing, by its path.
     name: Option<String>,
     /// Standard input, where it is missing.
@@ -76,7 +77,7 @@ impl<'r, R: Input + AllocGlobal, D: Disk + Drop> DiskHome<'r, R, D> {
     {
         DiskHome {
             rt,
-            disk,
+            disk: Ahead::new(disk),
             name,
             file,
             journal: journal.unwrap_or(String::new(rt.alloc())),
@@ -154,7 +155,7 @@ impl<'r, R: Input + AllocGlobal, D: Disk + Drop> DiskHome<'r, R, D> {
         ensures { result ≡ self.entry.disk }
     {
         let DiskHome { disk, .. } = self;
-        disk
+        disk.into_disk()
     }
 
     /// The path of the file or of its journal; standard input has none.
@@ -223,7 +224,8 @@ impl<'r, R: Input + AllocGlobal, D: Disk + Drop> DiskHome<'r, R, D> {
             (D.story self.old.disk) }
     {
         let journal = self.journal.as_str();
-        let noted = let_go(&mut self.disk, alloc, which, journal, &mut self.last);
+        let disk = &mut self.disk;
+        let noted = let_go(&mut disk.disk, alloc, which, journal, &mut self.last);
         told(Which::Journal, noted)?;
         let bytes = told(which, self.bytes_of(alloc, which))?;
         self.last.check(which, &bytes)?;
@@ -261,10 +263,16 @@ impl<'r, R: Input + AllocGlobal, D: Disk + Drop> DiskHome<'r, R, D> {
             return Ok(bytes);
         }
         let path = path_in(&self.file, &self.journal, which);
-        let only_regular = !self.journal.is_empty();
         match self.access {
-            Access::Look => look_at(&mut self.disk, alloc, which, path, &self.file, only_regular),
-            Access::Change => self.both.read(&mut self.disk, alloc, which, path),
+            Access::Look => {
+                let disk = &mut self.disk;
+                disk.look_at(alloc, which, path, &self.file, &self.journal)
+            }
+            Access::Change => {
+                let disk = &mut self.disk;
+                disk.journal = None;
+                self.both.read(&mut disk.disk, alloc, which, path)
+            }
         }
     }
 }
@@ -308,9 +316,11 @@ impl<'r, R: Input + AllocGlobal, D: Disk + Drop> Home for DiskHome<'r, R, D> {
             file: path_in(&self.file, &self.journal, Which::Base),
             journal: self.journal.as_str(),
         };
+        let disk = &mut self.disk;
+        disk.journal = None;
         match self
             .both
-            .put(&mut self.disk, self.rt.alloc(), paths, journal, file)
+            .put(&mut disk.disk, self.rt.alloc(), paths, journal, file)
         {
             Ok(()) => {
                 self.last = LastPut::Locked;
@@ -410,7 +420,7 @@ fn let_go<D: Disk>(
 }
 
 /// Reads without a lock. A journal that is missing is empty.
-fn look_at<D: Disk>(
+pub fn look_at<D: Disk>(
     disk: &mut D,
     alloc: Global,
     which: Which,

@@ -3,6 +3,7 @@
 #![tactic(auto)]
 
 mod access;
+mod ahead;
 mod batch;
 mod both;
 mod defaults;

@@ -1,5 +1,5 @@
 -- What is noted of what was read, and what a put finds of it.
-use Rattle.std.proofs.Common.{◌≡◌, ◌⊎◌, inl, inr, ◌∙◌, refl, sym, ap, subst, ℕ, Bool, true, false, List, Option, Some, None, IfSome, IsSomeAnd, Result}
+use Rattle.std.proofs.Common.{◌≡◌, ◌≢◌, ◌⊎◌, [], inl, inr, ◌∙◌, refl, sym, ap, subst, ℕ, Bool, true, false, List, Option, Some, None, IfSome, IsSomeAnd, Result}
 use Rattle.std.specs.Prelude.{option_map, Ok, Err, IfOk}
 use Rattle.rec_text.specs.declared.fault.Fault.{Fault}
 use Rattle.rec_text.specs.declared.fault.Fault.TheVariants.{StoreFailed}
@@ -10,7 +10,7 @@ use Rattle.rec_tools.specs.declared.home.Which.{Which}
 use Rattle.rec_tools.specs.declared.home.Which.TheVariants.{Base, Journal}
 use Rattle.rec_files.specs.declared.access.Access.{Access}
 use Rattle.rec_files.specs.Paths.{path_of}
-use Rattle.rec_files.specs.Succeeding.{Known, Kept, HasSeen, IsAsSeen, IsReadFree, NotesRead, AreAsNoted, IsCareful, IsLastOf, IsStanding, let_go}
+use Rattle.rec_files.specs.Succeeding.{Known, Kept, HasSeen, IsAsSeen, IsReadFree, IsRegularAt, NotesRead, ReadsRegular, AreAsNoted, IsCareful, IsLastOf, IsStanding, let_go}
 use Rattle.rec_files.specs.declared.last_put.LastPut.{LastPut}
 use Rattle.rec_files.specs.proving.Replacing.{led, AreAsSeen, OnlyWhere}
 
@@ -21,6 +21,18 @@ if_some (Some n) Q all = all n refl
 if_itself : (x : Option (List ℕ)) (Q : List ℕ → Type 0) → IfSome x (λ one. (x ≡ Some one) ⊎ Q one)
 if_itself None Q = tt
 if_itself (Some one) Q = inl refl
+
+if_any : (x : Option (List ℕ)) (P : Type 0) → P → IfSome x (λ one. P)
+if_any None P so = tt
+if_any (Some one) P so = so
+
+-- a look at a file or a journal
+pub looks_regular : {V E : Type 0} (items : V → List ℕ) (leads : List ℕ → List ℕ) (regular : ℕ → Bool) (kept : Kept) (which : Which) (path : List ℕ) (o : Option Story) (result : Result V E)
+    → path ≡ path_of kept.file kept.journal which → (kept.journal ≢ [] → IfOk result (λ _. Told o (IsRegularAt leads regular path)))
+    → IfOk result (λ bytes. ReadsRegular leads regular kept o (got which (items bytes)))
+looks_regular items leads regular kept which path o (Ok bytes) at told =
+    λ some. if_any kept.file (Told o (IsRegularAt leads regular (path_of kept.file kept.journal which))) (subst (λ p. Told o (IsRegularAt leads regular p)) at (told some))
+looks_regular items leads regular kept which path o (Err error) at told = tt
 
 -- a read that a store refused
 pub fault_careful : (leads : List ℕ → List ℕ) (regular : ℕ → Bool) (kept now : Kept) (o n : Option Story) (which : Which) (fault : Fault) → fault ≡ StoreFailed → now.access ≡ kept.access
@@ -64,11 +76,14 @@ module _ {X : Type 0} (knows : X → Known) (leads : List ℕ → List ℕ) (acc
     notes_read Journal file x y now then bytes at saw_file saw_journal free kept =
         (ap (option_map knows) (kept refl), subst (Noted then) at (noted then (saw_journal refl) free))
 
-    pub notes_ok : {V E : Type 0} (items : V → List ℕ) (result : Result V E) (which : Which) (file : Option (List ℕ)) (x y now then : Option X) → path ≡ path_of file journal_path which
+    pub notes_ok : {V E : Type 0} (items : V → List ℕ) (result : Result V E) (which : Which) (file : Option (List ℕ)) (x y now then : Option X) (told : Option Story)
+        → path ≡ path_of file journal_path which → o ≡ told
         → (which ≡ Base → IfOk result (λ bytes. Saw now)) → (which ≡ Journal → IfOk result (λ bytes. Saw then)) → IfOk result (λ bytes. Told o Free) → (which ≡ Journal → now ≡ x)
-        → IfOk result (λ bytes. NotesRead leads regular (home file x y) (home file now then) o (got which (items bytes)))
-    notes_ok items (Ok bytes) which file x y now then at saw_file saw_journal free kept = notes_read which file x y now then (items bytes) at saw_file saw_journal free kept
-    notes_ok items (Err error) which file x y now then at saw_file saw_journal free kept = tt
+        → IfOk result (λ bytes. NotesRead leads regular (home file x y) (home file now then) told (got which (items bytes)))
+    notes_ok items (Ok bytes) which file x y now then told at same saw_file saw_journal free kept =
+        subst (λ told. NotesRead leads regular (home file x y) (home file now then) told (got which (items bytes))) same
+        (notes_read which file x y now then (items bytes) at saw_file saw_journal free kept)
+    notes_ok items (Err error) which file x y now then told at same saw_file saw_journal free kept = tt
 
   -- ---- a put
 

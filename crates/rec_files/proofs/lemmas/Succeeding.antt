@@ -17,13 +17,13 @@ use Rattle.rec_files.specs.declared.open_file.OpenFile.{OpenFile}
 use Rattle.rec_files.specs.declared.target.Target.{Target}
 use Rattle.rec_files.specs.Succeeding.{FailedForMemory, Kept, IsExcused, IsTold, Known, known, HasSeen, SawAnother, SawRegular, StandsAsSeen, AreUnchanged, AreApart, IsOther, IsShort}
 use Rattle.rec_files.specs.declared.last_put.LastPut.{LastPut}
-use Rattle.rec_files.specs.Succeeding.{HadAll, CanPut, CanCompare, CanClear, CanPrepare, IsThere, IsReadable, IsRegularAt}
+use Rattle.rec_files.specs.Succeeding.{HadAll, CanPut, CanCompare, CanClear, CanPrepare, IsThere, IsReadable, IsRegularAt, IsUnlocked, other_for}
 use Rattle.rec_tools.specs.declared.home.Which.{Which}
 use Rattle.rec_tools.specs.declared.home.Which.TheVariants.{Base, Journal}
 use Rattle.rec_files.specs.declared.access.Access.{Access}
-use Rattle.rec_files.specs.declared.access.Access.TheVariants.{Look as Looks}
+use Rattle.rec_files.specs.declared.access.Access.TheVariants.{Look as Looks, Change as Changes}
 use Rattle.rec_files.specs.proving.Replacing.{SparesBut, SparesButNew, IsFreeAt, IsFound, IsMadeAt, AreMade}
-use Rattle.rec_files.specs.proving.Succeeding.{CanRead, AreFree, CanSettle, MayWrite, CanReplace, CanPlace, CanPlaceJournal, IsOwnJournal, IsNoted}
+use Rattle.rec_files.specs.proving.Succeeding.{CanRead, AreFree, CanSettle, MayWrite, CanReplace, CanPlace, CanPlaceJournal, IsOwnJournal, IsNoted, IsLockable}
 use Rattle.rec_files.specs.Leftovers.{IsLeftJournal, IsLeftText}
 use Rattle.rec_disk.specs.Paths.{working_name}
 use Rattle.rec_files.specs.Paths.{path_of, end_of}
@@ -528,8 +528,8 @@ module _ {X : Type 0} (text : X → List ℕ) (leads : List ℕ → List ℕ) (l
   abbrev IsLooked : Which → Option X → State → ℕ → Type 0
   IsLooked which file s n = IsShort s n × (which ≡ Journal → IsOwnJournal (option_map (λ x. s.at (leads (text x))) file) n)
 
-  abbrev CanLook : Bool → Which → Option X → List ℕ → State → Type 0
-  CanLook only which file path s = (only ≡ true → IsRegularAt leads regular path s) × IsThere which path (IsLooked which file s) (s.at (leads path))
+  abbrev CanLook : Type 0 → Which → Option X → List ℕ → State → Type 0
+  CanLook only which file path s = (only → IsRegularAt leads regular path s) × IsThere which path (IsLooked which file s) (s.at (leads path))
 
   own : (file : Option X) (s : State) (n : ℕ) → IfSome (option_map text file) (λ p. IsSomeAnd (s.at (leads p)) (λ m. m ≢ n))
       → IsOwnJournal (option_map (λ x. s.at (leads (text x))) file) n
@@ -552,12 +552,31 @@ module _ {X : Type 0} (text : X → List ℕ) (leads : List ℕ → List ℕ) (l
   looked Base file s may = some_so _ _ (IsLooked Base file s) (λ n is. (is.0, λ never. cc)) may.there
   looked Journal file s may = own_there file s _ _ may.there (may.apart refl refl)
 
-  pub readable_looked : (only : Bool) (which : Which) (file : Option X) (path : List ℕ) (access : Access) (o : Option Story) → path ≡ path_of (option_map text file) journal which
+  pub readable_looked : (only : Type 0) (which : Which) (file : Option X) (path : List ℕ) (access : Access) (o : Option Story) → path ≡ path_of (option_map text file) journal which
       → access ≡ Looks → IsTold o (IsReadable leads link regular access (option_map text file) journal seen which) → IsTold o (CanLook only which file path)
   readable_looked only which file path access o is looks given =
       subst (λ path. IsTold o (CanLook only which file path)) (sym is)
       (still_so _ _ o (λ s may. (λ _. regular_there which s _ _ may.there, looked which file s may))
       (subst (λ access. IsTold o (IsReadable leads link regular access (option_map text file) journal seen which)) looks given))
+
+  -- what stands there can be locked too
+  abbrev CanLock : Which → List ℕ → State → Type 0
+  CanLock which path s = IsThere which path (λ n. IsShort s n × IsLockable link regular path (other_for which seen) s n) (s.at (leads path))
+
+  lockable : (which : Which) (path : List ℕ) (s : State) (found : Option ℕ) → IsThere which path (λ n. IsShort s n × (regular n ≡ true)) found
+      → IfSome found (λ n. IsUnlocked (other_for which seen) s n × IsSome (end_of link 40 path))
+      → IsThere which path (λ n. IsShort s n × IsLockable link regular path (other_for which seen) s n) found
+  lockable Base path s None there free = absurd there
+  lockable Base path s (Some n) there free = (there.0, record { few_links = free.1; is_regular = there.1; unlocked = free.0 })
+  lockable Journal path s None there free = there
+  lockable Journal path s (Some n) there free = (there.0, record { few_links = free.1; is_regular = there.1; unlocked = free.0 })
+
+  pub readable_locked : (which : Which) (file : Option X) (path : List ℕ) (access : Access) (o : Option Story) → path ≡ path_of (option_map text file) journal which
+      → access ≡ Changes → IsTold o (IsReadable leads link regular access (option_map text file) journal seen which) → IsTold o (CanLock which path)
+  readable_locked which file path access o is changes given =
+      subst (λ path. IsTold o (CanLock which path)) (sym is)
+      (still_so _ _ o (λ s may. lockable which _ s _ may.there (may.free refl))
+      (subst (λ access. IsTold o (IsReadable leads link regular access (option_map text file) journal seen which)) changes given))
 
 -- ---- a call of the home
 

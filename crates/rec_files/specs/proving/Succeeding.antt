@@ -6,6 +6,7 @@ use Rattle.rec_disk.specs.Paths.{working_name}
 use Rattle.rec_files.specs.Paths.{end_of}
 use Rattle.rec_files.specs.OnDisk.{Sites, sites_of}
 use Rattle.rec_files.specs.Succeeding.{Known, SawRegular, HasSeen, StandsAsSeen, IsUnlocked, AreApart}
+use Rattle.rec_files.specs.Succeeding.{IsRegularAt, IsStanding, IsShort}
 use Rattle.rec_files.specs.proving.Replacing.{AreMade, IsMadeAt}
 
 -- A disk that works, before and then after the call; where this is given, the call succeeds,
@@ -77,3 +78,11 @@ pub record IsNoted (place leads : List ℕ → List ℕ) (link : List ℕ → Op
 -- a journal to look at is not the file itself; and that one stands there, where it has a path
 abbrev pub IsOwnJournal : Option (Option ℕ) → ℕ → Type 0
 IsOwnJournal file n = IfSome file (λ found. IsSomeAnd found (λ m. m ≢ n))
+
+-- these bytes stand at a path, in a regular file, or none are there and nothing stands there
+abbrev pub IsAhead : (List ℕ → List ℕ) → (ℕ → Bool) → List ℕ → List ℕ → State → Type 0
+IsAhead leads regular path bytes s = IsRegularAt leads regular path s × IsStanding leads path bytes s
+
+-- a regular file stands at a path, and is not too long
+abbrev pub CanLook : (List ℕ → List ℕ) → (ℕ → Bool) → List ℕ → State → Type 0
+CanLook leads regular path s = IsSomeAnd (s.at (leads path)) (λ n. IsShort s n × (regular n ≡ true))

@@ -6,7 +6,7 @@ use Rattle.rec_files.proofs.lemmas.Succeeding.{seen_file}
 use Rattle.rec_files.proofs.files.DiskHome.next_bytes.Goals as goal
 
 pub returns-in_err-told-clause-succeeds : goal.returns-in_err-told-clause-succeeds
-returns-in_err-told-clause-succeeds g c = λ works.
+returns-in_err-told-clause-succeeds g c = rw (← c.disk.view_is) λ works.
     let noted = c.let_go-noted.ensures.succeeds works in (
       noted.0,
       λ had.
@@ -16,7 +16,7 @@ returns-in_err-told-clause-succeeds g c = λ works.
     )
 
 pub returns-in_err-bytes-clause-succeeds : goal.returns-in_err-bytes-clause-succeeds
-returns-in_err-bytes-clause-succeeds g c = λ works.
+returns-in_err-bytes-clause-succeeds g c = rw (← c.disk.view_is) λ works.
     let read = c.bytes_of.ensures.succeeds (c.let_go-noted.ensures.succeeds works).0 in (
       read.0,
       λ had.

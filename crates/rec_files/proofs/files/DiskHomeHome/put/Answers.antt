@@ -9,7 +9,7 @@ use Rattle.rec_files.proofs.lemmas.Succeeding.{told_fact, noted_memory, put_need
 use Rattle.rec_files.proofs.files.DiskHomeHome.put.Goals as goal
 
 pub returns-in-Ok-clause-call : goal.returns-in-Ok-clause-call
-returns-in-Ok-clause-call g c = (
+returns-in-Ok-clause-call g c = rw (← c.disk.view_is) (
   put_all (writes_by c.args.journal.now (option_copied c.args.file)),
   refl,
   (
@@ -38,11 +38,12 @@ returns-in-Ok-clause-call g c = (
 
 pub returns-in-Err-clause-call : goal.returns-in-Err-clause-call
 returns-in-Err-clause-call g c =
-    noted_call g.D.Disk.place g.D.Disk.folder g.D.Disk.syncs (writes_by c.args.journal.now (option_copied c.args.file)) _ _ _ _ _ _ _ _
+    rw (← c.disk.view_is)
+    (noted_call g.D.Disk.place g.D.Disk.folder g.D.Disk.syncs (writes_by c.args.journal.now (option_copied c.args.file)) _ _ _ _ _ _ _ _
     (λ call.
     IsExcused g.D.Disk.place g.D.Disk.leads g.D.Disk.link g.D.Disk.regular (kept g.D.Disk.number g.D.Disk.tells c.args.self.now)
-    (g.D.Disk.works c.args.self.now.disk) (g.D.Disk.works c.fail.new.self.disk) c.fail.new.self.failure (g.D.Disk.story c.args.self.now.disk) call
-    × IsCareful g.D.Disk.leads g.D.Disk.regular (kept g.D.Disk.number g.D.Disk.tells c.args.self.now) (kept g.D.Disk.number g.D.Disk.tells c.fail.new.self) (g.D.Disk.story c.args.self.now.disk) call
+    (g.D.Disk.works c.disk.inside.disk) (g.D.Disk.works c.fail.new.self.disk) c.fail.new.self.failure (g.D.Disk.story c.disk.inside.disk) call
+    × IsCareful g.D.Disk.leads g.D.Disk.regular (kept g.D.Disk.number g.D.Disk.tells c.args.self.now) (kept g.D.Disk.number g.D.Disk.tells c.fail.new.self) (g.D.Disk.story c.disk.inside.disk) call
     (g.D.Disk.story c.fail.new.self.disk))
     (ap (λ file. places_by g.D.Disk.leads (option_map string_bytes file) (string_bytes c.fail.new.self.journal)) c.fail.ensures.paths.0
     ∙ ap (λ journal. places_by g.D.Disk.leads (option_map string_bytes c.args.self.now.file) (string_bytes journal)) c.fail.ensures.paths.1)
@@ -71,4 +72,4 @@ returns-in-Err-clause-call g c =
     ))
     (put_failed g.D.Disk.place g.D.Disk.folder g.D.Disk.syncs g.D.Disk.leads c.args.journal.now (option_copied c.args.file) (string_bytes c.args.self.now.journal) c.path_in.result.now
     c.as_str.result.now _ _ _ _ c.put.ensures.moments c.put.ensures.alone c.put.ensures.touches c.put.ensures.recovers
-    (option_map string_bytes c.args.self.now.file) (c.path_in.ensures, c.as_str.ensures.value) (λ k. (c.fail.ensures.counted, c.fail.ensures.once)))
+    (option_map string_bytes c.args.self.now.file) (c.path_in.ensures, c.as_str.ensures.value) (λ k. (c.fail.ensures.counted, c.fail.ensures.once))))
